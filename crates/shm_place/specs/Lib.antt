@@ -1,0 +1,4 @@
+pub mod Limits
+pub mod Home
+pub mod Page
+pub mod Offset
