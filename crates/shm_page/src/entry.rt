@@ -1,0 +1,33 @@
+ghost use Rattle.std.specs.Prelude.{◌≡◌, IsTrue, IfOk, IsOk};
+ghost use Rattle.shm_page.specs.Blank.{blank};
+
+use crate::copy::CopyPage;
+use crate::handed::HandedPage;
+use crate::nil::NilPage;
+use crate::own_read::OwnReadPage;
+use crate::own_write::OwnWritePage;
+use std::alloc::{AllocError, Allocator, Global};
+
+/// What a site has of one page.
+#[derive(Drop)]
+pub enum Entry<A: Allocator + Copy = Global> {
+    Nil(NilPage),
+    Copy(CopyPage<A>),
+    OwnRead(OwnReadPage<A>),
+    OwnWrite(OwnWritePage<A>),
+    Handed(HandedPage<A>),
+}
+
+impl<A: Allocator + Copy> Entry<A> {
+    /// What a site has of a page before anything happened: at first the page's manager owns it. Elsewhere this takes no memory.
+    pub fn opening(alloc: A, is_manager: bool) -> Result<Entry<A>, AllocError>
+        ensures here { IsTrue is_manager → IfOk result (λ entry. entry ≡ Entry.OwnWrite (record { seen = 0; bytes = blank })) }
+        ensures elsewhere { ¬ IsTrue is_manager → result ≡ Ok (Entry.Nil (record { seen = 0 })) }
+    {
+        if !is_manager {
+            return Ok(Entry::Nil(NilPage::new()));
+        }
+        let page = OwnWritePage::blank(alloc)?;
+        Ok(Entry::OwnWrite(page))
+    }
+}
