@@ -1,0 +1,15 @@
+//! What a reader has to believe about Leddwyfan: plain data that code and definitions share is declared here, and
+//! `specs/` says what pages, managers, segment calls, sites and the world are.
+#![tactic(auto)]
+
+mod answer;
+mod call;
+mod event;
+mod kind;
+mod mode;
+
+pub use answer::{Access, Answer, Shown, State};
+pub use call::{Attached, Cred, Errno, Op, Reply, Request, Stat};
+pub use event::Event;
+pub use kind::Kind;
+pub use mode::{GetFlags, Mode};
