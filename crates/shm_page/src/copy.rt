@@ -1,7 +1,12 @@
-ghost use Rattle.std.specs.Prelude.{◌≡◌};
+ghost use Rattle.std.specs.Prelude.{◌≡◌, ◌<◌, slice_index, IfOk, MatchResult};
 
+use crate::handed::WriteGrant;
+use crate::nil::NilPage;
+use crate::own_write::OwnWritePage;
+use crate::read_grant::ReadGrant;
 use bytes::Bytes;
-use std::alloc::{Allocator, Global};
+use shm_place::PAGE_BYTES;
+use std::alloc::{AllocError, Allocator, Global};
 use std::marker::Model;
 
 /// A copy of a page that another site owns: it can be read.
@@ -24,10 +29,69 @@ impl<A: Allocator + Copy> Model for CopyPage<A> {
 }
 
 impl<A: Allocator + Copy> CopyPage<A> {
+    /// The copy that a grant brings.
+    pub(crate) fn granted(grant: ReadGrant<A>) -> CopyPage<A>
+        ensures { result ≡ record { seen = grant.number; bytes = grant.bytes } }
+    {
+        let seen = grant.number();
+        CopyPage { seen, bytes: grant.into_bytes() }
+    }
+
     /// The greatest transaction number that the site has met for this page.
     pub fn seen(&self) -> u64
         ensures { result ≡ self.now.seen }
     {
         self.seen
+    }
+
+    /// The byte at this offset in the page.
+    pub fn load(&self, at: usize) -> u8
+        requires { at < PAGE_BYTES }
+        ensures { result ≡ slice_index self.now.bytes at }
+    {
+        self.bytes.as_slice()[at]
+    }
+
+    /// Takes the copy away: another site is to write.
+    pub fn clear(self, number: u64) -> NilPage
+        requires { self.seen < number }
+        ensures { result ≡ record { seen = number } }
+    {
+        NilPage::after(number)
+    }
+
+    /// Drops the copy to make room for others. No transaction is met by that.
+    pub fn forget(self) -> NilPage
+        ensures { result ≡ record { seen = self.seen } }
+    {
+        NilPage::after(self.seen)
+    }
+
+    /// A newer copy comes.
+    pub fn install_read(self, grant: ReadGrant<A>) -> CopyPage<A>
+        requires { self.seen < grant.number }
+        ensures { result ≡ record { seen = grant.number; bytes = grant.bytes } }
+    {
+        CopyPage::granted(grant)
+    }
+
+    /// The page comes, and this site owns it. Where memory is refused, page and grant come back.
+    pub fn install_write(self, grant: WriteGrant<A>) -> Result<OwnWritePage<A>, (CopyPage<A>, WriteGrant<A>, AllocError)>
+        requires { self.seen < grant.number }
+        ensures { MatchResult result (λ page. page ≡ record { seen = grant.number; bytes = grant.bytes })
+            (λ e. (e.0 ≡ self) × (e.1 ≡ grant)) }
+    {
+        match OwnWritePage::granted(&grant) {
+            Ok(page) => Ok(page),
+            Err(error) => Err((self, grant, error)),
+        }
+    }
+
+    /// An equal page.
+    pub fn copy(&self) -> Result<CopyPage<A>, AllocError>
+        ensures { IfOk result (λ page. page ≡ self.now) }
+    {
+        let bytes = self.bytes.clone()?;
+        Ok(CopyPage { seen: self.seen, bytes })
     }
 }

@@ -1,4 +1,4 @@
-ghost use Rattle.std.specs.Prelude.{◌≡◌, IsTrue, IfOk, IsOk};
+ghost use Rattle.std.specs.Prelude.{◌≡◌, IsTrue, IfOk};
 ghost use Rattle.shm_page.specs.Blank.{blank};
 
 use crate::copy::CopyPage;
@@ -25,9 +25,22 @@ impl<A: Allocator + Copy> Entry<A> {
         ensures elsewhere { ¬ IsTrue is_manager → result ≡ Ok (Entry.Nil (record { seen = 0 })) }
     {
         if !is_manager {
-            return Ok(Entry::Nil(NilPage::new()));
+            return Ok(Entry::Nil(NilPage::after(0)));
         }
         let page = OwnWritePage::blank(alloc)?;
         Ok(Entry::OwnWrite(page))
+    }
+
+    /// An equal entry.
+    pub fn copy(&self) -> Result<Entry<A>, AllocError>
+        ensures { IfOk result (λ entry. entry ≡ self.now) }
+    {
+        match self {
+            Entry::Nil(page) => Ok(Entry::Nil(page.copy())),
+            Entry::Copy(page) => Ok(Entry::Copy(page.copy()?)),
+            Entry::OwnRead(page) => Ok(Entry::OwnRead(page.copy()?)),
+            Entry::OwnWrite(page) => Ok(Entry::OwnWrite(page.copy()?)),
+            Entry::Handed(page) => Ok(Entry::Handed(page.copy()?)),
+        }
     }
 }

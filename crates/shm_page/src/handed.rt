@@ -1,8 +1,13 @@
-ghost use Rattle.std.specs.Prelude.{◌≡◌};
+ghost use Rattle.std.specs.Prelude.{◌≡◌, ◌<◌, length, IfOk, MatchResult};
+ghost use Rattle.shm_place.specs.Limits.{page_bytes};
 
+use crate::copy::CopyPage;
+use crate::nil::NilPage;
+use crate::own_write::OwnWritePage;
+use crate::read_grant::ReadGrant;
 use bytes::Bytes;
 use shm_place::SiteId;
-use std::alloc::{Allocator, Global};
+use std::alloc::{AllocError, Allocator, Global};
 use std::marker::Model;
 
 /// A page that the owner handed to another site, with the bytes kept until they are needed no more: it can be neither read nor written.
@@ -26,11 +31,125 @@ impl<A: Allocator + Copy> Model for HandedPage<A> {
     ghost invariant = { λ page. length page.bytes ≡ page_bytes };
 }
 
+/// A page on its way to the site that asked to write, which becomes its owner. Only an owner that hands its page over makes one.
+#[derive(Drop)]
+pub struct WriteGrant<A: Allocator + Copy = Global> {
+    number: u64,
+    bytes: Bytes<A>,
+    alloc: A,
+}
+
+impl<A: Allocator + Copy> Model for WriteGrant<A> {
+    ghost use Rattle.std.specs.Prelude.{◌≡◌, length};
+    ghost use Rattle.shm_place.specs.Limits.{page_bytes};
+    ghost use Rattle.shm_page.specs.State.{Granted};
+
+    ghost Value = { Granted };
+
+    ghost view = { λ grant. record { number = grant.number; bytes = grant.bytes } };
+
+    ghost invariant = { λ grant. length grant.bytes ≡ page_bytes };
+}
+
 impl<A: Allocator + Copy> HandedPage<A> {
+    /// What an owner becomes that hands these bytes over, and the grant.
+    pub(crate) fn with_grant(number: u64, to: SiteId, bytes: Bytes<A>, alloc: A) -> Result<(HandedPage<A>, WriteGrant<A>), AllocError>
+        requires { length bytes ≡ page_bytes }
+        ensures page { IfOk result (λ r. r.0 ≡ record { seen = number; to = to; bytes = bytes }) }
+        ensures grant { IfOk result (λ r. r.1 ≡ record { number = number; bytes = bytes }) }
+    {
+        let sent = bytes.clone()?;
+        let grant = WriteGrant { number, bytes: sent, alloc };
+        Ok((HandedPage { seen: number, to, bytes, alloc }, grant))
+    }
+
     /// The greatest transaction number that the site has met for this page.
     pub fn seen(&self) -> u64
         ensures { result ≡ self.now.seen }
     {
         self.seen
+    }
+
+    /// The site that the page was handed to.
+    pub fn to(&self) -> SiteId
+        ensures { result ≡ self.now.to }
+    {
+        self.to
+    }
+
+    /// The same grant once more, for where the first was lost.
+    pub fn again(&self) -> Result<WriteGrant<A>, AllocError>
+        ensures { IfOk result (λ grant. grant ≡ record { number = self.now.seen; bytes = self.now.bytes }) }
+    {
+        let bytes = self.bytes.clone()?;
+        Ok(WriteGrant { number: self.seen, bytes, alloc: self.alloc })
+    }
+
+    /// Takes the kept bytes away.
+    pub fn clear(self, number: u64) -> NilPage
+        requires { self.seen < number }
+        ensures { result ≡ record { seen = number } }
+    {
+        NilPage::after(number)
+    }
+
+    /// The right to read comes back.
+    pub fn install_read(self, grant: ReadGrant<A>) -> CopyPage<A>
+        requires { self.seen < grant.number }
+        ensures { result ≡ record { seen = grant.number; bytes = grant.bytes } }
+    {
+        CopyPage::granted(grant)
+    }
+
+    /// The page comes back, and this site owns it again. Where memory is refused, page and grant come back.
+    pub fn install_write(self, grant: WriteGrant<A>) -> Result<OwnWritePage<A>, (HandedPage<A>, WriteGrant<A>, AllocError)>
+        requires { self.seen < grant.number }
+        ensures { MatchResult result (λ page. page ≡ record { seen = grant.number; bytes = grant.bytes })
+            (λ e. (e.0 ≡ self) × (e.1 ≡ grant)) }
+    {
+        match OwnWritePage::granted(&grant) {
+            Ok(page) => Ok(page),
+            Err(error) => Err((self, grant, error)),
+        }
+    }
+
+    /// An equal page.
+    pub fn copy(&self) -> Result<HandedPage<A>, AllocError>
+        ensures { IfOk result (λ page. page ≡ self.now) }
+    {
+        let bytes = self.bytes.clone()?;
+        Ok(HandedPage { seen: self.seen, to: self.to, bytes, alloc: self.alloc })
+    }
+}
+
+impl<A: Allocator + Copy> WriteGrant<A> {
+    /// The transaction's number.
+    pub fn number(&self) -> u64
+        ensures { result ≡ self.now.number }
+    {
+        self.number
+    }
+
+    /// The page's bytes.
+    pub fn bytes(&self) -> &[u8]
+        ensures { result.now ≡ self.now.bytes }
+    {
+        self.bytes.as_slice()
+    }
+
+    /// The bytes in memory of their own, for an owner.
+    pub(crate) fn to_vec(&self) -> Result<Vec<u8, A>, AllocError>
+        ensures value { IfOk result (λ own. own.items ≡ self.now.bytes) }
+        ensures whole { IfOk result (λ own. length own.items ≡ page_bytes) }
+    {
+        Vec::from_slice(self.alloc, self.bytes.as_slice())
+    }
+
+    /// An equal grant, as a network makes one when it hands a message over twice.
+    pub fn copy(&self) -> Result<WriteGrant<A>, AllocError>
+        ensures { IfOk result (λ grant. grant ≡ self.now) }
+    {
+        let bytes = self.bytes.clone()?;
+        Ok(WriteGrant { number: self.number, bytes, alloc: self.alloc })
     }
 }

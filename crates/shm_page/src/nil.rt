@@ -1,5 +1,10 @@
-ghost use Rattle.std.specs.Prelude.{◌≡◌};
+ghost use Rattle.std.specs.Prelude.{◌≡◌, ◌<◌, MatchResult};
 
+use crate::copy::CopyPage;
+use crate::handed::WriteGrant;
+use crate::own_write::OwnWritePage;
+use crate::read_grant::ReadGrant;
+use std::alloc::{AllocError, Allocator};
 use std::marker::Model;
 
 /// Nothing of the page is here: it can be neither read nor written.
@@ -17,11 +22,11 @@ impl Model for NilPage {
 }
 
 impl NilPage {
-    /// The state before anything was met.
-    pub(crate) fn new() -> NilPage
-        ensures { result.seen ≡ 0 }
+    /// The state of a site without the page that has met this number; 0 where it has met none.
+    pub(crate) fn after(number: u64) -> NilPage
+        ensures { result ≡ record { seen = number } }
     {
-        NilPage { seen: 0 }
+        NilPage { seen: number }
     }
 
     /// The greatest transaction number that the site has met for this page.
@@ -29,5 +34,40 @@ impl NilPage {
         ensures { result ≡ self.now.seen }
     {
         self.seen
+    }
+
+    /// Nothing is taken away, but the number is met.
+    pub fn clear(self, number: u64) -> NilPage
+        requires { self.seen < number }
+        ensures { result ≡ record { seen = number } }
+    {
+        NilPage::after(number)
+    }
+
+    /// The right to read comes.
+    pub fn install_read<A: Allocator + Copy>(self, grant: ReadGrant<A>) -> CopyPage<A>
+        requires { self.seen < grant.number }
+        ensures { result ≡ record { seen = grant.number; bytes = grant.bytes } }
+    {
+        CopyPage::granted(grant)
+    }
+
+    /// The page comes, and this site owns it. Where memory is refused, page and grant come back.
+    pub fn install_write<A: Allocator + Copy>(self, grant: WriteGrant<A>) -> Result<OwnWritePage<A>, (NilPage, WriteGrant<A>, AllocError)>
+        requires { self.seen < grant.number }
+        ensures { MatchResult result (λ page. page ≡ record { seen = grant.number; bytes = grant.bytes })
+            (λ e. (e.0 ≡ self) × (e.1 ≡ grant)) }
+    {
+        match OwnWritePage::granted(&grant) {
+            Ok(page) => Ok(page),
+            Err(error) => Err((self, grant, error)),
+        }
+    }
+
+    /// An equal page.
+    pub fn copy(&self) -> NilPage
+        ensures { result ≡ self.now }
+    {
+        NilPage { seen: self.seen }
     }
 }

@@ -1,7 +1,12 @@
-ghost use Rattle.std.specs.Prelude.{◌≡◌};
+ghost use Rattle.std.specs.Prelude.{◌≡◌, ◌<◌, ◌≤◌, length, slice_index, IfOk, OnErr, MatchResult};
+ghost use Rattle.shm_place.specs.Limits.{page_bytes};
 
+use crate::handed::{HandedPage, WriteGrant};
+use crate::own_write::OwnWritePage;
+use crate::read_grant::ReadGrant;
 use bytes::Bytes;
-use std::alloc::{Allocator, Global};
+use shm_place::{PAGE_BYTES, SiteId};
+use std::alloc::{AllocError, Allocator, Global};
 use std::marker::Model;
 
 /// The owner's page while others may have copies: it can be read.
@@ -27,10 +32,86 @@ impl<A: Allocator + Copy> Model for OwnReadPage<A> {
 }
 
 impl<A: Allocator + Copy> OwnReadPage<A> {
+    /// The owner's page once these bytes of it are shared.
+    pub(crate) fn of(seen: u64, own: Vec<u8, A>, shared: Bytes<A>) -> OwnReadPage<A>
+        requires whole { length shared ≡ page_bytes }
+        requires same { own.items ≡ shared }
+        ensures { result ≡ record { seen = seen; bytes = shared } }
+    {
+        OwnReadPage { seen, own, shared }
+    }
+
     /// The greatest transaction number that the site has met for this page.
     pub fn seen(&self) -> u64
         ensures { result ≡ self.now.seen }
     {
         self.seen
+    }
+
+    /// The byte at this offset in the page.
+    pub fn load(&self, at: usize) -> u8
+        requires { at < PAGE_BYTES }
+        ensures { result ≡ slice_index self.now.bytes at }
+    {
+        self.shared.as_slice()[at]
+    }
+
+    /// Lends one more copy.
+    pub fn lend(&mut self, number: u64) -> Result<ReadGrant<A>, AllocError>
+        requires { self.old.seen ≤ number }
+        ensures { MatchResult result
+            (λ grant. (grant ≡ record { number = number; bytes = self.old.bytes }) × (self.new ≡ record self.old { seen = number }))
+            (λ _. self.new ≡ self.old) }
+    {
+        let grant = ReadGrant::of(number, &self.shared)?;
+        self.seen = number;
+        Ok(grant)
+    }
+
+    /// Hands the page over. Where memory is refused, the page comes back.
+    pub fn hand(self, number: u64, to: SiteId) -> Result<(HandedPage<A>, WriteGrant<A>), (OwnReadPage<A>, AllocError)>
+        requires { self.seen < number }
+        ensures { MatchResult result
+            (λ r. (r.0 ≡ record { seen = number; to = to; bytes = self.bytes }) × (r.1 ≡ record { number = number; bytes = self.bytes }))
+            (λ e. e.0 ≡ self) }
+    {
+        match self.handed(number, to) {
+            Ok(handed) => Ok(handed),
+            Err(error) => Err((self, error)),
+        }
+    }
+
+    fn handed(&self, number: u64, to: SiteId) -> Result<(HandedPage<A>, WriteGrant<A>), AllocError>
+        ensures page { IfOk result (λ r. r.0 ≡ record { seen = number; to = to; bytes = self.now.bytes }) }
+        ensures grant { IfOk result (λ r. r.1 ≡ record { number = number; bytes = self.now.bytes }) }
+    {
+        let kept = self.shared.clone()?;
+        HandedPage::with_grant(number, to, kept, *self.own.allocator())
+    }
+
+    /// The owner may write: nobody else has a copy any more.
+    pub fn upgrade(self, number: u64) -> OwnWritePage<A>
+        requires { self.seen ≤ number }
+        ensures { result ≡ record self { seen = number } }
+    {
+        let OwnReadPage { seen: _, own, shared: _ } = self;
+        OwnWritePage::of(number, own)
+    }
+
+    /// The owner asked for itself: only the number is met.
+    pub fn met(&mut self, number: u64)
+        requires { self.old.seen ≤ number }
+        ensures { self.new ≡ record self.old { seen = number } }
+    {
+        self.seen = number;
+    }
+
+    /// An equal page.
+    pub fn copy(&self) -> Result<OwnReadPage<A>, AllocError>
+        ensures { IfOk result (λ page. page ≡ self.now) }
+    {
+        let own = Vec::from_slice(*self.own.allocator(), self.shared.as_slice())?;
+        let shared = self.shared.clone()?;
+        Ok(OwnReadPage { seen: self.seen, own, shared })
     }
 }

@@ -1,7 +1,12 @@
-ghost use Rattle.std.specs.Prelude.{◌≡◌, ◌<◌, slice_index, slice_set, IfOk};
+ghost use Rattle.std.specs.Prelude.{◌≡◌, ◌<◌, ◌≤◌, length, slice_index, slice_set, IfOk, MatchResult};
+ghost use Rattle.shm_place.specs.Limits.{page_bytes};
 ghost use Rattle.shm_page.specs.Blank.{blank};
 
-use shm_place::PAGE_BYTES;
+use crate::handed::{HandedPage, WriteGrant};
+use crate::own_read::OwnReadPage;
+use crate::read_grant::ReadGrant;
+use bytes::Bytes;
+use shm_place::{PAGE_BYTES, SiteId};
 use std::alloc::{AllocError, Allocator, Global};
 use std::marker::Model;
 
@@ -54,5 +59,94 @@ impl<A: Allocator + Copy> OwnWritePage<A> {
         ensures { self.new ≡ record self.old { bytes = slice_set self.old.bytes at byte } }
     {
         self.bytes[at] = byte;
+    }
+
+    /// The owner's page of these bytes, while nobody else has them.
+    pub(crate) fn of(seen: u64, bytes: Vec<u8, A>) -> OwnWritePage<A>
+        requires { length bytes.items ≡ page_bytes }
+        ensures { result ≡ record { seen = seen; bytes = bytes.items } }
+    {
+        OwnWritePage { seen, bytes }
+    }
+
+    /// The page that a grant brings.
+    pub(crate) fn granted(grant: &WriteGrant<A>) -> Result<OwnWritePage<A>, AllocError>
+        ensures { IfOk result (λ page. page ≡ record { seen = grant.now.number; bytes = grant.now.bytes }) }
+    {
+        let bytes = grant.to_vec()?;
+        Ok(OwnWritePage::of(grant.number(), bytes))
+    }
+
+    /// Lends the first copy: from now on the owner only reads. Where memory is refused, the page comes back.
+    pub fn downgrade(self, number: u64) -> Result<(OwnReadPage<A>, ReadGrant<A>), (OwnWritePage<A>, AllocError)>
+        requires { self.seen ≤ number }
+        ensures { MatchResult result
+            (λ r. (r.0 ≡ record self { seen = number }) × (r.1 ≡ record { number = number; bytes = self.bytes }))
+            (λ e. e.0 ≡ self) }
+    {
+        match self.lent(number) {
+            Ok((shared, grant)) => {
+                let OwnWritePage { seen: _, bytes } = self;
+                Ok((OwnReadPage::of(number, bytes, shared), grant))
+            }
+            Err(error) => Err((self, error)),
+        }
+    }
+
+    fn lent(&self, number: u64) -> Result<(Bytes<A>, ReadGrant<A>), AllocError>
+        ensures shared { IfOk result (λ r. r.0 ≡ self.now.bytes) }
+        ensures whole { IfOk result (λ r. length r.0 ≡ page_bytes) }
+        ensures grant { IfOk result (λ r. r.1 ≡ record { number = number; bytes = self.now.bytes }) }
+    {
+        let shared = Bytes::copy_from_slice(*self.bytes.allocator(), self.bytes.as_slice())?;
+        let grant = ReadGrant::of(number, &shared)?;
+        Ok((shared, grant))
+    }
+
+    /// Hands the page over. Where memory is refused, the page comes back.
+    pub fn hand(self, number: u64, to: SiteId) -> Result<(HandedPage<A>, WriteGrant<A>), (OwnWritePage<A>, AllocError)>
+        requires { self.seen < number }
+        ensures { MatchResult result
+            (λ r. (r.0 ≡ record { seen = number; to = to; bytes = self.bytes }) × (r.1 ≡ record { number = number; bytes = self.bytes }))
+            (λ e. e.0 ≡ self) }
+    {
+        match self.handed(number, to) {
+            Ok(handed) => Ok(handed),
+            Err(error) => Err((self, error)),
+        }
+    }
+
+    fn handed(&self, number: u64, to: SiteId) -> Result<(HandedPage<A>, WriteGrant<A>), AllocError>
+        ensures page { IfOk result (λ r. r.0 ≡ record { seen = number; to = to; bytes = self.now.bytes }) }
+        ensures grant { IfOk result (λ r. r.1 ≡ record { number = number; bytes = self.now.bytes }) }
+    {
+        let alloc = *self.bytes.allocator();
+        let kept = Bytes::copy_from_slice(alloc, self.bytes.as_slice())?;
+        HandedPage::with_grant(number, to, kept, alloc)
+    }
+
+    /// The right to write once more: only the number is met.
+    pub fn upgrade(self, number: u64) -> OwnWritePage<A>
+        requires { self.seen ≤ number }
+        ensures { result ≡ record self { seen = number } }
+    {
+        let OwnWritePage { seen: _, bytes } = self;
+        OwnWritePage { seen: number, bytes }
+    }
+
+    /// The owner asked for itself: only the number is met.
+    pub fn met(&mut self, number: u64)
+        requires { self.old.seen ≤ number }
+        ensures { self.new ≡ record self.old { seen = number } }
+    {
+        self.seen = number;
+    }
+
+    /// An equal page.
+    pub fn copy(&self) -> Result<OwnWritePage<A>, AllocError>
+        ensures { IfOk result (λ page. page ≡ self.now) }
+    {
+        let bytes = Vec::from_slice(*self.bytes.allocator(), self.bytes.as_slice())?;
+        Ok(OwnWritePage { seen: self.seen, bytes })
     }
 }
