@@ -1,2 +1,4 @@
 pub mod Entry
 pub mod Book
+pub mod Permission
+pub mod Kernel
