@@ -1,2 +1,4 @@
 pub mod Blank
+pub mod Entry
+pub mod Out
 pub mod State

@@ -19,6 +19,9 @@ pub enum Entry<A: Allocator + Copy = Global> {
 }
 
 impl<A: Allocator + Copy> Entry<A> {
+    ghost use Rattle.shm_model.specs.Entry as model;
+    ghost use Rattle.shm_page.specs.Entry.{entry_of};
+
     /// What a site has of a page before anything happened: at first the page's manager owns it. Elsewhere this takes no memory.
     pub fn opening(alloc: A, is_manager: bool) -> Result<Entry<A>, AllocError>
         ensures here { IsTrue is_manager → IfOk result (λ entry. entry ≡ Entry.OwnWrite (record { seen = 0; bytes = blank })) }
@@ -29,6 +32,19 @@ impl<A: Allocator + Copy> Entry<A> {
         }
         let page = OwnWritePage::blank(alloc)?;
         Ok(Entry::OwnWrite(page))
+    }
+
+    /// The greatest transaction number that the site has met for this page.
+    pub fn seen(&self) -> u64
+        ensures { result ≡ model.seen (entry_of self.now) }
+    {
+        match self {
+            Entry::Nil(page) => page.seen(),
+            Entry::Copy(page) => page.seen(),
+            Entry::OwnRead(page) => page.seen(),
+            Entry::OwnWrite(page) => page.seen(),
+            Entry::Handed(page) => page.seen(),
+        }
     }
 
     /// An equal entry.
