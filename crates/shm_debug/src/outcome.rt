@@ -1,0 +1,35 @@
+use thiserror::Error;
+
+/// What a whole script was.
+#[derive(Clone, Copy, Debug, PartialEq, Eq)]
+pub struct Summary {
+    /// All lines, the first one too.
+    pub lines: u64,
+    /// The lines that are events: loads and stores, also those that were refused.
+    pub events: u64,
+    /// The envelopes that the sites sent to one another.
+    pub sent: u64,
+}
+
+/// Why a script was not replayed to its end. A line is given by its number, from 1.
+#[derive(Clone, Copy, Debug, PartialEq, Eq, Error)]
+pub enum DebugFault {
+    /// An allocation was refused.
+    #[error("out of memory")]
+    OutOfMemory,
+    /// The line is no line of a script, or stands in the wrong place, or has no line feed.
+    #[error("line {0}: bad line")]
+    BadLine(u64),
+    /// The line has more than 200 bytes before its line feed.
+    #[error("line {0}: too long")]
+    LineTooLong(u64),
+    /// Something follows line 100,000.
+    #[error("too many lines")]
+    TooManyLines,
+    /// The reader answered an error.
+    #[error("read fault")]
+    ReadFault,
+    /// The writer answered an error, or took nothing.
+    #[error("write fault")]
+    WriteFault,
+}
