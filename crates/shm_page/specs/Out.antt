@@ -1,4 +1,5 @@
 -- What a site sends when a message met its entry, as the definitions speak of it.
+use Rattle.std.specs.Prelude.{Bool, true, false}
 use Rattle.shm_model.specs.Entry as model
 use Rattle.shm_model.specs.declared.kind.Kind.TheVariants as kind
 use Rattle.shm_page.specs.declared.out.Out.{Out}
@@ -10,3 +11,9 @@ out_of (Cleared number) = model.ToManager (model.Cleared number)
 out_of (Confirm number) = model.ToManager (model.Confirm number)
 out_of (Read to grant) = model.ToSite to (model.Page grant.number kind.Read grant.bytes)
 out_of (Write to grant) = model.ToSite to (model.Page grant.number kind.Write grant.bytes)
+
+-- whether the page's bytes go to another site
+abbrev pub carries_bytes : model.Out → Bool
+carries_bytes model.Nothing = false
+carries_bytes (model.ToManager _) = false
+carries_bytes (model.ToSite _ _) = true

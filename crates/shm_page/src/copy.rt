@@ -34,7 +34,10 @@ impl<A: Allocator + Copy> CopyPage<A> {
         ensures { result ≡ record { seen = grant.number; bytes = grant.bytes } }
     {
         let seen = grant.number();
-        CopyPage { seen, bytes: grant.into_bytes() }
+        CopyPage {
+            seen,
+            bytes: grant.into_bytes(),
+        }
     }
 
     /// The greatest transaction number that the site has met for this page.
@@ -76,7 +79,10 @@ impl<A: Allocator + Copy> CopyPage<A> {
     }
 
     /// The page comes, and this site owns it. Where memory is refused, page and grant come back.
-    pub fn install_write(self, grant: WriteGrant<A>) -> Result<OwnWritePage<A>, (CopyPage<A>, WriteGrant<A>, AllocError)>
+    pub fn install_write(
+        self,
+        grant: WriteGrant<A>,
+    ) -> Result<OwnWritePage<A>, (CopyPage<A>, WriteGrant<A>, AllocError)>
         requires { self.seen < grant.number }
         ensures { MatchResult result (λ page. page ≡ record { seen = grant.number; bytes = grant.bytes })
             (λ e. (e.0 ≡ self) × (e.1 ≡ grant)) }
@@ -92,6 +98,9 @@ impl<A: Allocator + Copy> CopyPage<A> {
         ensures { IfOk result (λ page. page ≡ self.now) }
     {
         let bytes = self.bytes.clone()?;
-        Ok(CopyPage { seen: self.seen, bytes })
+        Ok(CopyPage {
+            seen: self.seen,
+            bytes,
+        })
     }
 }

@@ -53,14 +53,31 @@ impl<A: Allocator + Copy> Model for WriteGrant<A> {
 
 impl<A: Allocator + Copy> HandedPage<A> {
     /// What an owner becomes that hands these bytes over, and the grant.
-    pub(crate) fn with_grant(number: u64, to: SiteId, bytes: Bytes<A>, alloc: A) -> Result<(HandedPage<A>, WriteGrant<A>), AllocError>
+    pub(crate) fn with_grant(
+        number: u64,
+        to: SiteId,
+        bytes: Bytes<A>,
+        alloc: A,
+    ) -> Result<(HandedPage<A>, WriteGrant<A>), AllocError>
         requires { length bytes ≡ page_bytes }
         ensures page { IfOk result (λ r. r.0 ≡ record { seen = number; to = to; bytes = bytes }) }
         ensures grant { IfOk result (λ r. r.1 ≡ record { number = number; bytes = bytes }) }
     {
         let sent = bytes.clone()?;
-        let grant = WriteGrant { number, bytes: sent, alloc };
-        Ok((HandedPage { seen: number, to, bytes, alloc }, grant))
+        let grant = WriteGrant {
+            number,
+            bytes: sent,
+            alloc,
+        };
+        Ok((
+            HandedPage {
+                seen: number,
+                to,
+                bytes,
+                alloc,
+            },
+            grant,
+        ))
     }
 
     /// The greatest transaction number that the site has met for this page.
@@ -82,7 +99,11 @@ impl<A: Allocator + Copy> HandedPage<A> {
         ensures { IfOk result (λ grant. grant ≡ record { number = self.now.seen; bytes = self.now.bytes }) }
     {
         let bytes = self.bytes.clone()?;
-        Ok(WriteGrant { number: self.seen, bytes, alloc: self.alloc })
+        Ok(WriteGrant {
+            number: self.seen,
+            bytes,
+            alloc: self.alloc,
+        })
     }
 
     /// Takes the kept bytes away.
@@ -102,7 +123,10 @@ impl<A: Allocator + Copy> HandedPage<A> {
     }
 
     /// The page comes back, and this site owns it again. Where memory is refused, page and grant come back.
-    pub fn install_write(self, grant: WriteGrant<A>) -> Result<OwnWritePage<A>, (HandedPage<A>, WriteGrant<A>, AllocError)>
+    pub fn install_write(
+        self,
+        grant: WriteGrant<A>,
+    ) -> Result<OwnWritePage<A>, (HandedPage<A>, WriteGrant<A>, AllocError)>
         requires { self.seen < grant.number }
         ensures { MatchResult result (λ page. page ≡ record { seen = grant.number; bytes = grant.bytes })
             (λ e. (e.0 ≡ self) × (e.1 ≡ grant)) }
@@ -118,7 +142,12 @@ impl<A: Allocator + Copy> HandedPage<A> {
         ensures { IfOk result (λ page. page ≡ self.now) }
     {
         let bytes = self.bytes.clone()?;
-        Ok(HandedPage { seen: self.seen, to: self.to, bytes, alloc: self.alloc })
+        Ok(HandedPage {
+            seen: self.seen,
+            to: self.to,
+            bytes,
+            alloc: self.alloc,
+        })
     }
 }
 
@@ -150,6 +179,10 @@ impl<A: Allocator + Copy> WriteGrant<A> {
         ensures { IfOk result (λ grant. grant ≡ self.now) }
     {
         let bytes = self.bytes.clone()?;
-        Ok(WriteGrant { number: self.number, bytes, alloc: self.alloc })
+        Ok(WriteGrant {
+            number: self.number,
+            bytes,
+            alloc: self.alloc,
+        })
     }
 }

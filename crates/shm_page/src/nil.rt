@@ -53,7 +53,10 @@ impl NilPage {
     }
 
     /// The page comes, and this site owns it. Where memory is refused, page and grant come back.
-    pub fn install_write<A: Allocator + Copy>(self, grant: WriteGrant<A>) -> Result<OwnWritePage<A>, (NilPage, WriteGrant<A>, AllocError)>
+    pub fn install_write<A: Allocator + Copy>(
+        self,
+        grant: WriteGrant<A>,
+    ) -> Result<OwnWritePage<A>, (NilPage, WriteGrant<A>, AllocError)>
         requires { self.seen < grant.number }
         ensures { MatchResult result (λ page. page ≡ record { seen = grant.number; bytes = grant.bytes })
             (λ e. (e.0 ≡ self) × (e.1 ≡ grant)) }

@@ -69,7 +69,11 @@ impl<A: Allocator + Copy> OwnReadPage<A> {
     }
 
     /// Hands the page over. Where memory is refused, the page comes back.
-    pub fn hand(self, number: u64, to: SiteId) -> Result<(HandedPage<A>, WriteGrant<A>), (OwnReadPage<A>, AllocError)>
+    pub fn hand(
+        self,
+        number: u64,
+        to: SiteId,
+    ) -> Result<(HandedPage<A>, WriteGrant<A>), (OwnReadPage<A>, AllocError)>
         requires { self.seen < number }
         ensures { MatchResult result
             (λ r. (r.0 ≡ record { seen = number; to = to; bytes = self.bytes }) × (r.1 ≡ record { number = number; bytes = self.bytes }))
@@ -94,7 +98,11 @@ impl<A: Allocator + Copy> OwnReadPage<A> {
         requires { self.seen ≤ number }
         ensures { result ≡ record self { seen = number } }
     {
-        let OwnReadPage { seen: _, own, shared: _ } = self;
+        let OwnReadPage {
+            seen: _,
+            own,
+            shared: _,
+        } = self;
         OwnWritePage::of(number, own)
     }
 
@@ -112,6 +120,10 @@ impl<A: Allocator + Copy> OwnReadPage<A> {
     {
         let own = Vec::from_slice(*self.own.allocator(), self.shared.as_slice())?;
         let shared = self.shared.clone()?;
-        Ok(OwnReadPage { seen: self.seen, own, shared })
+        Ok(OwnReadPage {
+            seen: self.seen,
+            own,
+            shared,
+        })
     }
 }

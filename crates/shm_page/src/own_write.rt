@@ -78,7 +78,10 @@ impl<A: Allocator + Copy> OwnWritePage<A> {
     }
 
     /// Lends the first copy: from now on the owner only reads. Where memory is refused, the page comes back.
-    pub fn downgrade(self, number: u64) -> Result<(OwnReadPage<A>, ReadGrant<A>), (OwnWritePage<A>, AllocError)>
+    pub fn downgrade(
+        self,
+        number: u64,
+    ) -> Result<(OwnReadPage<A>, ReadGrant<A>), (OwnWritePage<A>, AllocError)>
         requires { self.seen ≤ number }
         ensures { MatchResult result
             (λ r. (r.0 ≡ record self { seen = number }) × (r.1 ≡ record { number = number; bytes = self.bytes }))
@@ -104,7 +107,11 @@ impl<A: Allocator + Copy> OwnWritePage<A> {
     }
 
     /// Hands the page over. Where memory is refused, the page comes back.
-    pub fn hand(self, number: u64, to: SiteId) -> Result<(HandedPage<A>, WriteGrant<A>), (OwnWritePage<A>, AllocError)>
+    pub fn hand(
+        self,
+        number: u64,
+        to: SiteId,
+    ) -> Result<(HandedPage<A>, WriteGrant<A>), (OwnWritePage<A>, AllocError)>
         requires { self.seen < number }
         ensures { MatchResult result
             (λ r. (r.0 ≡ record { seen = number; to = to; bytes = self.bytes }) × (r.1 ≡ record { number = number; bytes = self.bytes }))
@@ -131,7 +138,10 @@ impl<A: Allocator + Copy> OwnWritePage<A> {
         ensures { result ≡ record self { seen = number } }
     {
         let OwnWritePage { seen: _, bytes } = self;
-        OwnWritePage { seen: number, bytes }
+        OwnWritePage {
+            seen: number,
+            bytes,
+        }
     }
 
     /// The owner asked for itself: only the number is met.
@@ -147,6 +157,9 @@ impl<A: Allocator + Copy> OwnWritePage<A> {
         ensures { IfOk result (λ page. page ≡ self.now) }
     {
         let bytes = Vec::from_slice(*self.bytes.allocator(), self.bytes.as_slice())?;
-        Ok(OwnWritePage { seen: self.seen, bytes })
+        Ok(OwnWritePage {
+            seen: self.seen,
+            bytes,
+        })
     }
 }

@@ -62,6 +62,9 @@ impl<A: Allocator + Copy> ReadGrant<A> {
         ensures { IfOk result (λ grant. grant ≡ self.now) }
     {
         let bytes = self.bytes.clone()?;
-        Ok(ReadGrant { number: self.number, bytes })
+        Ok(ReadGrant {
+            number: self.number,
+            bytes,
+        })
     }
 }
