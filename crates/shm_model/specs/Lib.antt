@@ -2,3 +2,14 @@ pub mod Entry
 pub mod Book
 pub mod Permission
 pub mod Kernel
+pub mod Refusal
+pub mod Message
+pub mod Calls
+pub mod Site
+pub mod Access
+pub mod Transfer
+pub mod SegmentCalls
+pub mod Step
+pub mod World
+pub mod Memory
+pub mod History
