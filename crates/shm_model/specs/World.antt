@@ -1,13 +1,13 @@
 -- The world: all sites, every envelope ever sent, and which are gone. The network loses, repeats and reorders what it likes; it changes
 -- and invents nothing.
-use Rattle.std.specs.Prelude.{ℕ, Bool, true, false, List, [], ◌∷◌, ◌++◌, Option, Some, None, ◌*◌, ◌==◌, nat_lt, if◌then◌else◌, length, map, slice_get, slice_set}
+use Rattle.std.specs.Prelude.{ℕ, ◌≤◌, Bool, true, false, List, [], ◌∷◌, ◌++◌, Option, Some, None, ◌*◌, ◌==◌, nat_lt, if◌then◌else◌, length, map, slice_get, slice_set}
 use Rattle.std.specs.List.{range_with_len}
-use Rattle.shm_place.specs.Limits.{page_bytes}
+use Rattle.shm_place.specs.Limits.{page_bytes, pages as max_pages}
 use Rattle.shm_model.specs.declared.answer.Answer.{Answer}
 use Rattle.shm_model.specs.declared.answer.Answer.TheVariants.{Took, Refused}
 use Rattle.shm_model.specs.declared.event.Event.{Event}
 use Rattle.shm_model.specs.declared.event.Event.TheVariants.{Load as LoadEvent, Store as StoreEvent, Begin as BeginEvent, Tick as TickEvent, Restart as RestartEvent, Deliver as DeliverEvent, Repeat, Lose}
-use Rattle.shm_model.specs.Book.{at}
+use Rattle.shm_model.specs.Book.{at, max_sites}
 use Rattle.shm_model.specs.Permission.{Segment}
 use Rattle.shm_model.specs.Refusal.{no_such_site, no_such_message, numbers_used_up}
 use Rattle.shm_model.specs.Message.{Envelope, Input, Load, Store, Begin, Deliver, Tick, Restart}
@@ -22,10 +22,19 @@ pub data Opening : Type 0 where
   Preset : ℕ → ℕ → Opening
   Framed : ℕ → ℕ → ℕ → Opening
 
+abbrev pub max_frames : ℕ
+max_frames = 65536
+
 abbrev pub sites_of : Opening → ℕ
 sites_of (New n) = n
 sites_of (Preset n _) = n
 sites_of (Framed n _ _) = n
+
+-- the numbers that an opening may have
+abbrev pub IsOpening : Opening → Type 0
+IsOpening (New n) = (1 ≤ n) × (n ≤ max_sites)
+IsOpening (Preset n pages) = (1 ≤ n) × (n ≤ max_sites) × (1 ≤ pages) × (pages ≤ max_pages)
+IsOpening (Framed n pages frames) = (1 ≤ n) × (n ≤ max_sites) × (1 ≤ pages) × (pages ≤ max_pages) × (1 ≤ frames) × (frames ≤ max_frames)
 
 -- segment 0 belongs to user and group 0 and everyone may read and write it (octal 666)
 abbrev pub preset_segment : ℕ → ℕ → Segment
