@@ -1,0 +1,38 @@
+-- The last number and reply of each of 16 sites, in the order of the sites, and what they say of a call that comes in.
+use Rattle.std.specs.Prelude.{ℕ, List, Option, Some, None, nat_lt, nat_eq, slice_index_or, if◌then◌else◌, ◌==◌}
+use Rattle.shm_number.specs.declared.kept.Asked.{Asked}
+use Rattle.shm_number.specs.declared.kept.Asked.TheVariants as asked
+
+module _ {R : Type 0} where
+  -- the number and the reply kept for one site, if any
+  abbrev pub kept_at : List (Option (ℕ × R)) → ℕ → Option (ℕ × R)
+  kept_at kept site = slice_index_or kept site None
+
+  -- the last number of a site; with nothing kept it counts as 0
+  abbrev pub number_of : Option (ℕ × R) → ℕ
+  number_of None = 0
+  number_of (Some last) = last.0
+
+  -- after a reply was kept for one site
+  abbrev pub kept_then : (ℕ → Option (ℕ × R)) → ℕ → ℕ → R → ℕ → Option (ℕ × R)
+  kept_then kept site number reply j = if site == j then Some (number, reply) else kept j
+
+-- what a number says of a call
+pub data Verdict (R : Type 0) : Type 0 where
+  fresh : Verdict R
+  again : R → Verdict R
+  old : Verdict R
+
+module _ {R : Type 0} where
+  -- not above the last number: the call of that very number again, or an older one
+  abbrev pub not_above : Option (ℕ × R) → ℕ → Verdict R
+  not_above None number = old
+  not_above (Some last) number = if nat_eq number last.0 then again last.1 else old
+
+  abbrev pub verdict : Option (ℕ × R) → ℕ → Verdict R
+  verdict last number = if nat_lt (number_of last) number then fresh else not_above last number
+
+  abbrev pub verdict_of : Asked R → Verdict R
+  verdict_of asked.Fresh = fresh
+  verdict_of (asked.Again reply) = again reply.now
+  verdict_of asked.Old = old

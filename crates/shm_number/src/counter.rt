@@ -1,0 +1,58 @@
+ghost use Rattle.std.specs.Prelude.{◌≡◌, ◌+◌, if◌then◌else◌, nat_lt};
+
+use std::marker::Model;
+
+/// Every number was given: nothing comes after the greatest `u64`.
+#[derive(Clone, Copy, Debug, PartialEq, Eq)]
+pub struct UsedUp;
+
+/// Gives numbers in turn, each once.
+#[derive(Drop)]
+pub struct Counter {
+    last: u64,
+}
+
+impl Model for Counter {
+    ghost use Rattle.std.specs.Prelude.{ℕ};
+
+    ghost Value = { ℕ };
+
+    ghost view = { λ counter. counter.last };
+
+    ghost inverse = { λ n. record { last = n } };
+}
+
+impl Counter {
+    /// A counter whose first number is 1.
+    pub fn new() -> Counter
+        ensures { result ≡ 0 }
+    {
+        Counter { last: 0 }
+    }
+
+    /// A counter that gave `last` just now.
+    pub fn after(last: u64) -> Counter
+        ensures { result ≡ last }
+    {
+        Counter { last }
+    }
+
+    /// The number after the last one.
+    pub fn next(&mut self) -> Result<u64, UsedUp>
+        ensures number { result ≡ (if nat_lt self.old u64.MAX then Ok (self.old + 1) else Err (record {})) }
+        ensures last { self.new ≡ (if nat_lt self.old u64.MAX then self.old + 1 else self.old) }
+    {
+        if self.last < u64::MAX {
+            self.last += 1;
+            return Ok(self.last);
+        }
+        Err(UsedUp)
+    }
+
+    /// A counter that goes on from the same number, alone.
+    pub fn copy(&self) -> Counter
+        ensures { result ≡ self.now }
+    {
+        Counter { last: self.last }
+    }
+}

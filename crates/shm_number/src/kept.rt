@@ -1,0 +1,85 @@
+ghost use Rattle.std.specs.Prelude.{◌≡◌, ◌<◌};
+ghost use Rattle.shm_number.specs.Kept.{kept_at, kept_then, number_of, verdict, verdict_of};
+
+use shm_place::SiteId;
+use std::marker::Model;
+
+/// What a call's number says of it.
+#[derive(Clone, Copy, Debug, PartialEq, Eq)]
+pub enum Asked<'a, R> {
+    /// It is to be executed.
+    Fresh,
+    /// It was executed last; this was the reply.
+    Again(&'a R),
+    /// It was executed, or given up, before the last one.
+    Old,
+}
+
+/// The number of each site's last call, and the reply to it. A call that is repeated is so told from a new one.
+#[derive(Drop)]
+pub struct KeptReply<R> {
+    kept: [Option<(u64, R)>; 16],
+}
+
+impl<R> Model for KeptReply<R> {
+    ghost use Rattle.std.specs.Prelude.{◌≡◌, ℕ, List, Option, length};
+
+    ghost Value = { List (Option (ℕ × R)) };
+
+    ghost view = { λ replies. replies.kept };
+
+    ghost invariant = { λ replies. length replies.kept ≡ 16 };
+
+    ghost inverse = { λ kept. record { kept = kept } };
+}
+
+impl<R: Copy> KeptReply<R> {
+    /// Nothing is kept for any site.
+    pub fn new() -> KeptReply<R>
+        ensures { kept_at result ≡ (λ _. None) }
+    {
+        KeptReply { kept: [None; 16] }
+    }
+
+    /// What the number says, where `number` comes from `site`. With nothing kept the last number counts as 0.
+    pub fn ask(&self, site: SiteId, number: u64) -> Asked<'_, R>
+        requires { site < 16 }
+        ensures { verdict_of result ≡ verdict (kept_at self.now site) number }
+    {
+        match &self.kept[site.0 as usize] {
+            None => {
+                if number > 0 {
+                    return Asked::Fresh;
+                }
+                Asked::Old
+            }
+            Some((last, reply)) => {
+                if number > *last {
+                    return Asked::Fresh;
+                }
+                if number == *last {
+                    return Asked::Again(reply);
+                }
+                Asked::Old
+            }
+        }
+    }
+
+    /// Keeps the reply to the call of this number, in place of what was kept for the site.
+    pub fn keep(&mut self, site: SiteId, number: u64, reply: R)
+        requires site { site < 16 }
+        requires above { number_of (kept_at self.old site) < number }
+        ensures { kept_at self.new ≡ kept_then (kept_at self.old) site number reply }
+    {
+        self.kept[site.0 as usize] = Some((number, reply));
+    }
+
+    /// The same numbers and replies.
+    pub fn copy(&self) -> KeptReply<R>
+        ensures { result ≡ self.now }
+    {
+        let mut kept = [None; 16];
+        kept.copy_from_slice(&self.kept);
+        KeptReply { kept }
+    }
+}

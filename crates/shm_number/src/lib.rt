@@ -1,0 +1,12 @@
+//! Numbers that tell a repeat from something new: the greatest request number of each site, the last reply to each site, and counters.
+#![tactic(auto)]
+
+mod counter;
+mod kept;
+mod served;
+#[cfg(test)]
+mod tests;
+
+pub use counter::{Counter, UsedUp};
+pub use kept::{Asked, KeptReply};
+pub use served::Served;

@@ -1,0 +1,48 @@
+use crate::{Asked, Counter, KeptReply, Served, UsedUp};
+use shm_place::SiteId;
+
+#[test]
+fn the_last_number_is_the_greatest(rt: HostRuntime) {
+    let mut counter = Counter::after(u64::MAX - 1);
+    let mut copy = counter.copy();
+    assert_eq!(rt; counter.next(), Ok(u64::MAX));
+    assert_eq!(rt; counter.next(), Err(UsedUp));
+    assert_eq!(rt; counter.next(), Err(UsedUp));
+    assert_eq!(rt; copy.next(), Ok(u64::MAX));
+    assert_eq!(rt; Counter::new().next(), Ok(1));
+}
+
+#[test]
+fn only_a_greater_number_is_fresh(rt: HostRuntime) {
+    let mut served = Served::new();
+    assert!(rt; served.fresh(SiteId(15), 1));
+    assert!(rt; !served.fresh(SiteId(15), 0));
+    served.take(SiteId(15), 5);
+    served.take(SiteId(15), 3);
+    let copy = served.copy();
+    for (number, fresh) in [(3, false), (5, false), (6, true), (u64::MAX, true)] {
+        assert_eq!(rt; served.fresh(SiteId(15), number), fresh, "at {number}");
+        assert_eq!(rt;
+            copy.fresh(SiteId(15), number),
+            fresh,
+            "in the copy at {number}"
+        );
+    }
+    assert!(rt; served.fresh(SiteId(14), 1));
+}
+
+#[test]
+fn a_repeated_call_is_told_its_reply(rt: HostRuntime) {
+    let mut replies = KeptReply::<u8>::new();
+    assert_eq!(rt; replies.ask(SiteId(2), 0), Asked::Old);
+    assert_eq!(rt; replies.ask(SiteId(2), 1), Asked::Fresh);
+    replies.keep(SiteId(2), 7, 40);
+    let copy = replies.copy();
+    replies.keep(SiteId(2), 8, 41);
+    assert_eq!(rt; replies.ask(SiteId(2), 7), Asked::Old);
+    assert_eq!(rt; replies.ask(SiteId(2), 8), Asked::Again(&41));
+    assert_eq!(rt; replies.ask(SiteId(2), 9), Asked::Fresh);
+    assert_eq!(rt; replies.ask(SiteId(3), 8), Asked::Fresh);
+    assert_eq!(rt; copy.ask(SiteId(2), 7), Asked::Again(&40));
+    assert_eq!(rt; copy.ask(SiteId(2), 8), Asked::Fresh);
+}
