@@ -1,5 +1,5 @@
 -- The last number and reply of each of 16 sites, in the order of the sites, and what they say of a call that comes in.
-use Rattle.std.specs.Prelude.{ℕ, List, Option, Some, None, nat_lt, nat_eq, slice_index_or, if◌then◌else◌, ◌==◌}
+use Rattle.std.specs.Prelude.{ℕ, List, Option, Some, None, nat_lt, slice_index_or, if◌then◌else◌, ◌==◌}
 use Rattle.shm_number.specs.declared.kept.Asked.{Asked}
 use Rattle.shm_number.specs.declared.kept.Asked.TheVariants as asked
 
@@ -24,13 +24,13 @@ pub data Verdict (R : Type 0) : Type 0 where
   old : Verdict R
 
 module _ {R : Type 0} where
-  -- not above the last number: the call of that very number again, or an older one
-  abbrev pub not_above : Option (ℕ × R) → ℕ → Verdict R
-  not_above None number = old
-  not_above (Some last) number = if nat_eq number last.0 then again last.1 else old
-
+  -- a number above the last one is new, the last one itself is that very call again; 0 is never a call's number
   abbrev pub verdict : Option (ℕ × R) → ℕ → Verdict R
-  verdict last number = if nat_lt (number_of last) number then fresh else not_above last number
+  verdict None number = if number == 0 then old else fresh
+  verdict (Some last) number =
+      if nat_lt number last.0 then old
+      else if number == last.0 then again last.1
+      else fresh
 
   abbrev pub verdict_of : Asked R → Verdict R
   verdict_of asked.Fresh = fresh

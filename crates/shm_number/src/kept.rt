@@ -48,19 +48,19 @@ impl<R: Copy> KeptReply<R> {
     {
         match &self.kept[site.0 as usize] {
             None => {
-                if number > 0 {
-                    return Asked::Fresh;
+                if number == 0 {
+                    return Asked::Old;
                 }
-                Asked::Old
+                Asked::Fresh
             }
             Some((last, reply)) => {
-                if number > *last {
-                    return Asked::Fresh;
+                if number < *last {
+                    return Asked::Old;
                 }
                 if number == *last {
                     return Asked::Again(reply);
                 }
-                Asked::Old
+                Asked::Fresh
             }
         }
     }
