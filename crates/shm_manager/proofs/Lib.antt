@@ -1,0 +1,3 @@
+pub mod Queues
+pub mod Clears
+pub mod Starts

@@ -1,0 +1,14 @@
+-- The fields that a start changes, against the book that the definitions make.
+use Rattle.std.proofs.Common.{◌≡◌, ℕ, ◌+◌, ◌<◌, Bool, false, Some, max, if◌then◌else◌, ◌==◌, ap, refl, arith}
+use Rattle.std.proofs.lemmas.Bool.Decides.{nat_tests}
+use Rattle.shm_number.specs.Served.{taken}
+use Rattle.shm_model.specs.declared.kind.Kind.{Kind}
+use Rattle.shm_model.specs.Book.{Book, started, at}
+
+pub taken-fresh : (served : ℕ → ℕ) (site request : ℕ) → served site < request → taken served site request ≡ at served site request
+taken-fresh served site request fresh =
+    let greatest : max (served site) request ≡ request = grind (arith, nat_tests) in
+    ap {B = ℕ → ℕ} (λ (m : ℕ) (j : ℕ). if site == j then m else served j) greatest
+
+pub started_by : (site request : ℕ) (kind : Kind) (b : Book) (cleared : ℕ → Bool) (served : ℕ → ℕ) → cleared ≡ (λ _. false) → served ≡ at b.served site request → record b { number = b.number + 1; running = Some (record { kind = kind; requester = site }); cleared = cleared; served = served } ≡ started site request kind b
+started_by site request kind b cleared served none_cleared now_served = rw (none_cleared, now_served) refl

@@ -1,0 +1,4 @@
+pub mod SiteSet
+pub mod Order
+pub mod Queue
+pub mod Book

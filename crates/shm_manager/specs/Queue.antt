@@ -1,0 +1,19 @@
+-- What shm_model sees of the requests that wait.
+use Rattle.std.specs.Prelude.{ℕ, Bool, ◌&&◌, ◌==◌, List, ◌∷◌, Option, Some, None, map}
+use Rattle.std.specs.List.{list_any}
+use Rattle.shm_manager.specs.declared.ask.Ask.{Ask}
+use Rattle.shm_model.specs.Book.{Waiting}
+
+abbrev pub waiting_of : Ask → Waiting
+waiting_of ask = record { from = ask.from; request = ask.request; kind = ask.kind }
+
+abbrev pub all_waiting : List Ask → List Waiting
+all_waiting asks = map waiting_of asks
+
+-- the first of the requests, if any, before those that are left
+abbrev pub before : Option Ask → List Waiting → List Waiting
+before None left = left
+before (Some ask) left = waiting_of ask ∷ left
+
+abbrev pub is_among : ℕ → ℕ → List Ask → Bool
+is_among from request asks = list_any (λ ask. (ask.from == from) && (ask.request == request)) asks

@@ -1,0 +1,14 @@
+//! The manager's book of one page: who owns it, who has copies, which transaction runs and which requests wait
+//! (Li and Hudak 1989, §3.2).
+#![tactic(auto)]
+
+mod ask;
+mod book;
+mod orders;
+mod queue;
+mod rows;
+mod site_set;
+
+pub use book::Book;
+pub use orders::{Order, Orders};
+pub use site_set::SiteSet;
