@@ -1,6 +1,6 @@
--- A page that nobody has stored to: all zero.
-use Rattle.std.specs.Prelude.{ℕ, List, replicate}
-use Rattle.shm_place.specs.Limits.{page_bytes}
+-- The page of zeros, under its older name.
+use Rattle.std.specs.Prelude.{ℕ, List}
+use Rattle.shm_model.specs.Site as model
 
-unfoldable pub blank : List ℕ
-blank = replicate page_bytes 0
+abbrev pub blank : List ℕ
+blank = model.blank

@@ -1,5 +1,5 @@
 ghost use Rattle.std.specs.Prelude.{◌≡◌, IsTrue, IfOk};
-ghost use Rattle.shm_page.specs.Blank.{blank};
+ghost use Rattle.shm_model.specs.Site.{blank};
 
 use crate::copy::CopyPage;
 use crate::handed::HandedPage;

@@ -21,3 +21,6 @@ pub use out::Out;
 pub use own_read::OwnReadPage;
 pub use own_write::OwnWritePage;
 pub use read_grant::ReadGrant;
+
+#[cfg(test)]
+mod tests;

@@ -1,6 +1,6 @@
 ghost use Rattle.std.specs.Prelude.{◌≡◌, ◌<◌, ◌≤◌, length, slice_index, slice_set, IfOk, MatchResult};
 ghost use Rattle.shm_place.specs.Limits.{page_bytes};
-ghost use Rattle.shm_page.specs.Blank.{blank};
+ghost use Rattle.shm_model.specs.Site.{blank};
 
 use crate::handed::{HandedPage, WriteGrant};
 use crate::own_read::OwnReadPage;
@@ -50,7 +50,7 @@ impl<A: Allocator + Copy> OwnWritePage<A> {
         requires { at < PAGE_BYTES }
         ensures { result ≡ slice_index self.now.bytes at }
     {
-        self.bytes[at]
+        self.bytes.as_slice()[at]
     }
 
     /// Changes the byte at this offset in the page.

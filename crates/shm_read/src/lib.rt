@@ -8,3 +8,6 @@ mod take;
 
 pub use lend::lend_to;
 pub use take::take_copy;
+
+#[cfg(test)]
+mod tests;

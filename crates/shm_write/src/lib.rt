@@ -10,3 +10,6 @@ mod taking;
 pub use clearing::clear;
 pub use handing::hand_to;
 pub use taking::take_ownership;
+
+#[cfg(test)]
+mod tests;

@@ -1,6 +1,6 @@
 use Rattle.std.proofs.Common.{◌≡◌, ℕ, List, ap}
 use Rattle.shm_page.specs.State.{Held}
-use Rattle.shm_page.specs.Blank.{blank}
+use Rattle.shm_model.specs.Site.{blank}
 use Rattle.shm_page.proofs.own_write.OwnWritePage.blank.Goals as goal
 
 -- src/own_write.rt:29:5
