@@ -8,6 +8,8 @@ mod orders;
 mod queue;
 mod rows;
 mod site_set;
+#[cfg(test)]
+mod tests;
 
 pub use book::Book;
 pub use orders::{Order, Orders};

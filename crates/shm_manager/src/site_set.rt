@@ -37,7 +37,8 @@ impl SiteSet {
         requires { site < 16 }
         ensures { result ≡ is_member self.now site }
     {
-        self.members[site.0 as usize]
+        let index = site.0 as usize;
+        self.members[index]
     }
 
     pub(crate) fn insert(&mut self, site: SiteId)
