@@ -1,6 +1,6 @@
 -- How pages move between sites: a message to the page's entry or to its manager's book is one row of the entry's or the book's table.
 -- A site that purged the page's segment drops them all.
-use Rattle.std.specs.Prelude.{ℕ, Bool, true, false, List, [], ◌∷◌, ◌++◌, Option, Some, None, ◌&&◌, ◌||◌, not, nat_lt, if◌then◌else◌, length, map}
+use Rattle.std.specs.Prelude.{ℕ, Bool, true, false, List, [], ◌∷◌, ◌++◌, Option, Some, None, ◌&&◌, ◌||◌, not, nat_lt, if◌then◌else◌, length, map, filter}
 use Rattle.std.specs.List.{list_any}
 use Rattle.shm_place.specs.declared.page.PageId.{PageId}
 use Rattle.shm_place.specs.Page.{manager_of, same_page}
@@ -23,8 +23,7 @@ settle reads writes page (p ∷ ps) =
     else p ∷ settle reads writes page ps
 
 abbrev pub without_page : PageId → List PageId → List PageId
-without_page page [] = []
-without_page page (p ∷ ps) = if same_page page p then ps else p ∷ without_page page ps
+without_page page pages = filter (λ p. not (same_page page p)) pages
 
 -- a copy that is installed goes last among the copies; what is no copy any more leaves them
 abbrev pub reordered : PageId → Entry → Entry → List PageId → List PageId
