@@ -3,21 +3,33 @@
 use Rattle.std.specs.Prelude.{ℕ, List}
 
 -- no bytes
-pub record Met : Type 0 where
+pub record NilView : Type 0 where
   pub seen : ℕ
 
 -- the page's bytes, to be read or written
-pub record Held : Type 0 where
+pub record PageView : Type 0 where
   pub seen : ℕ
   pub bytes : List ℕ
 
 -- the bytes that were handed to another site
-pub record Given : Type 0 where
+pub record HandedView : Type 0 where
   pub seen : ℕ
   pub to : ℕ
   pub bytes : List ℕ
 
 -- the bytes on their way to another site
-pub record Granted : Type 0 where
+pub record GrantView : Type 0 where
   pub number : ℕ
   pub bytes : List ℕ
+
+abbrev pub nil_of : ℕ → NilView
+nil_of n = record { seen = n }
+
+abbrev pub page_of : ℕ → List ℕ → PageView
+page_of n b = record { seen = n; bytes = b }
+
+abbrev pub handed_of : ℕ → ℕ → List ℕ → HandedView
+handed_of n site b = record { seen = n; to = site; bytes = b }
+
+abbrev pub grant_of : ℕ → List ℕ → GrantView
+grant_of n b = record { number = n; bytes = b }

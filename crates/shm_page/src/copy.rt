@@ -1,4 +1,5 @@
-ghost use Rattle.std.specs.Prelude.{◌≡◌, ◌<◌, slice_index, IfOk, MatchResult};
+ghost use Rattle.std.specs.Prelude.{◌≡◌, ◌<◌, slice_index, IfOk, IfErr};
+ghost use Rattle.shm_page.specs.State.{nil_of, page_of};
 
 use crate::handed::WriteGrant;
 use crate::nil::NilPage;
@@ -19,9 +20,9 @@ pub struct CopyPage<A: Allocator + Copy = Global> {
 impl<A: Allocator + Copy> Model for CopyPage<A> {
     ghost use Rattle.std.specs.Prelude.{◌≡◌, length};
     ghost use Rattle.shm_place.specs.Limits.{page_bytes};
-    ghost use Rattle.shm_page.specs.State.{Held};
+    ghost use Rattle.shm_page.specs.State.{PageView};
 
-    ghost Value = { Held };
+    ghost Value = { PageView };
 
     ghost view = { λ page. record { seen = page.seen; bytes = page.bytes } };
 
@@ -31,7 +32,7 @@ impl<A: Allocator + Copy> Model for CopyPage<A> {
 impl<A: Allocator + Copy> CopyPage<A> {
     /// The copy that a grant brings.
     pub(crate) fn granted(grant: ReadGrant<A>) -> CopyPage<A>
-        ensures { result ≡ record { seen = grant.number; bytes = grant.bytes } }
+        ensures { result ≡ page_of grant.number grant.bytes }
     {
         let seen = grant.number();
         CopyPage {
@@ -58,14 +59,14 @@ impl<A: Allocator + Copy> CopyPage<A> {
     /// Takes the copy away: another site is to write.
     pub fn clear(self, number: u64) -> NilPage
         requires { self.seen < number }
-        ensures { result ≡ record { seen = number } }
+        ensures { result ≡ nil_of number }
     {
         NilPage::after(number)
     }
 
     /// Drops the copy to make room for others. No transaction is met by that.
     pub fn forget(self) -> NilPage
-        ensures { result ≡ record { seen = self.seen } }
+        ensures { result ≡ nil_of self.seen }
     {
         NilPage::after(self.seen)
     }
@@ -73,7 +74,7 @@ impl<A: Allocator + Copy> CopyPage<A> {
     /// A newer copy comes.
     pub fn install_read(self, grant: ReadGrant<A>) -> CopyPage<A>
         requires { self.seen < grant.number }
-        ensures { result ≡ record { seen = grant.number; bytes = grant.bytes } }
+        ensures { result ≡ page_of grant.number grant.bytes }
     {
         CopyPage::granted(grant)
     }
@@ -84,8 +85,8 @@ impl<A: Allocator + Copy> CopyPage<A> {
         grant: WriteGrant<A>,
     ) -> Result<OwnWritePage<A>, (CopyPage<A>, WriteGrant<A>, AllocError)>
         requires { self.seen < grant.number }
-        ensures { MatchResult result (λ page. page ≡ record { seen = grant.number; bytes = grant.bytes })
-            (λ e. (e.0 ≡ self) × (e.1 ≡ grant)) }
+        ensures installed { IfOk result (λ page. page ≡ page_of grant.number grant.bytes) }
+        ensures refused { IfErr result (λ e. (e.0 ≡ self) × (e.1 ≡ grant)) }
     {
         match OwnWritePage::granted(&grant) {
             Ok(page) => Ok(page),

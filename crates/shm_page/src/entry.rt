@@ -1,5 +1,6 @@
 ghost use Rattle.std.specs.Prelude.{◌≡◌, IsTrue, IfOk};
 ghost use Rattle.shm_model.specs.Site.{blank};
+ghost use Rattle.shm_page.specs.State.{nil_of, page_of};
 
 use crate::copy::CopyPage;
 use crate::handed::HandedPage;
@@ -24,8 +25,9 @@ impl<A: Allocator + Copy> Entry<A> {
 
     /// What a site has of a page before anything happened: at first the page's manager owns it. Elsewhere this takes no memory.
     pub fn opening(alloc: A, is_manager: bool) -> Result<Entry<A>, AllocError>
-        ensures here { IsTrue is_manager → IfOk result (λ entry. entry ≡ Entry.OwnWrite (record { seen = 0; bytes = blank })) }
-        ensures elsewhere { ¬ IsTrue is_manager → result ≡ Ok (Entry.Nil (record { seen = 0 })) }
+        ensures here { IsTrue is_manager
+            → IfOk result (λ entry. entry ≡ Entry.OwnWrite (page_of 0 blank)) }
+        ensures elsewhere { ¬ IsTrue is_manager → result ≡ Ok (Entry.Nil (nil_of 0)) }
     {
         if !is_manager {
             return Ok(Entry::Nil(NilPage::after(0)));

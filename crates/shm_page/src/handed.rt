@@ -1,5 +1,6 @@
-ghost use Rattle.std.specs.Prelude.{◌≡◌, ◌<◌, length, IfOk, MatchResult};
+ghost use Rattle.std.specs.Prelude.{◌≡◌, ◌<◌, length, IfOk, IfErr};
 ghost use Rattle.shm_place.specs.Limits.{page_bytes};
+ghost use Rattle.shm_page.specs.State.{nil_of, page_of, handed_of, grant_of};
 
 use crate::copy::CopyPage;
 use crate::nil::NilPage;
@@ -22,9 +23,9 @@ pub struct HandedPage<A: Allocator + Copy = Global> {
 impl<A: Allocator + Copy> Model for HandedPage<A> {
     ghost use Rattle.std.specs.Prelude.{◌≡◌, length};
     ghost use Rattle.shm_place.specs.Limits.{page_bytes};
-    ghost use Rattle.shm_page.specs.State.{Given};
+    ghost use Rattle.shm_page.specs.State.{HandedView};
 
-    ghost Value = { Given };
+    ghost Value = { HandedView };
 
     ghost view = { λ page. record { seen = page.seen; to = page.to; bytes = page.bytes } };
 
@@ -42,9 +43,9 @@ pub struct WriteGrant<A: Allocator + Copy = Global> {
 impl<A: Allocator + Copy> Model for WriteGrant<A> {
     ghost use Rattle.std.specs.Prelude.{◌≡◌, length};
     ghost use Rattle.shm_place.specs.Limits.{page_bytes};
-    ghost use Rattle.shm_page.specs.State.{Granted};
+    ghost use Rattle.shm_page.specs.State.{GrantView};
 
-    ghost Value = { Granted };
+    ghost Value = { GrantView };
 
     ghost view = { λ grant. record { number = grant.number; bytes = grant.bytes } };
 
@@ -60,8 +61,8 @@ impl<A: Allocator + Copy> HandedPage<A> {
         alloc: A,
     ) -> Result<(HandedPage<A>, WriteGrant<A>), AllocError>
         requires { length bytes ≡ page_bytes }
-        ensures page { IfOk result (λ r. r.0 ≡ record { seen = number; to = to; bytes = bytes }) }
-        ensures grant { IfOk result (λ r. r.1 ≡ record { number = number; bytes = bytes }) }
+        ensures page { IfOk result (λ r. r.0 ≡ handed_of number to bytes) }
+        ensures grant { IfOk result (λ r. r.1 ≡ grant_of number bytes) }
     {
         let sent = bytes.clone()?;
         let grant = WriteGrant {
@@ -96,7 +97,7 @@ impl<A: Allocator + Copy> HandedPage<A> {
 
     /// The same grant once more, for where the first was lost.
     pub fn again(&self) -> Result<WriteGrant<A>, AllocError>
-        ensures { IfOk result (λ grant. grant ≡ record { number = self.now.seen; bytes = self.now.bytes }) }
+        ensures { IfOk result (λ grant. grant ≡ grant_of self.now.seen self.now.bytes) }
     {
         let bytes = self.bytes.clone()?;
         Ok(WriteGrant {
@@ -109,7 +110,7 @@ impl<A: Allocator + Copy> HandedPage<A> {
     /// Takes the kept bytes away.
     pub fn clear(self, number: u64) -> NilPage
         requires { self.seen < number }
-        ensures { result ≡ record { seen = number } }
+        ensures { result ≡ nil_of number }
     {
         NilPage::after(number)
     }
@@ -117,7 +118,7 @@ impl<A: Allocator + Copy> HandedPage<A> {
     /// The right to read comes back.
     pub fn install_read(self, grant: ReadGrant<A>) -> CopyPage<A>
         requires { self.seen < grant.number }
-        ensures { result ≡ record { seen = grant.number; bytes = grant.bytes } }
+        ensures { result ≡ page_of grant.number grant.bytes }
     {
         CopyPage::granted(grant)
     }
@@ -128,8 +129,8 @@ impl<A: Allocator + Copy> HandedPage<A> {
         grant: WriteGrant<A>,
     ) -> Result<OwnWritePage<A>, (HandedPage<A>, WriteGrant<A>, AllocError)>
         requires { self.seen < grant.number }
-        ensures { MatchResult result (λ page. page ≡ record { seen = grant.number; bytes = grant.bytes })
-            (λ e. (e.0 ≡ self) × (e.1 ≡ grant)) }
+        ensures installed { IfOk result (λ page. page ≡ page_of grant.number grant.bytes) }
+        ensures refused { IfErr result (λ e. (e.0 ≡ self) × (e.1 ≡ grant)) }
     {
         match OwnWritePage::granted(&grant) {
             Ok(page) => Ok(page),

@@ -1,4 +1,5 @@
-ghost use Rattle.std.specs.Prelude.{◌≡◌, ◌<◌, MatchResult};
+ghost use Rattle.std.specs.Prelude.{◌≡◌, ◌<◌, IfOk, IfErr};
+ghost use Rattle.shm_page.specs.State.{nil_of, page_of};
 
 use crate::copy::CopyPage;
 use crate::handed::WriteGrant;
@@ -14,9 +15,9 @@ pub struct NilPage {
 }
 
 impl Model for NilPage {
-    ghost use Rattle.shm_page.specs.State.{Met};
+    ghost use Rattle.shm_page.specs.State.{NilView};
 
-    ghost Value = { Met };
+    ghost Value = { NilView };
 
     ghost view = { λ page. record { seen = page.seen } };
 }
@@ -24,7 +25,7 @@ impl Model for NilPage {
 impl NilPage {
     /// The state of a site without the page that has met this number; 0 where it has met none.
     pub(crate) fn after(number: u64) -> NilPage
-        ensures { result ≡ record { seen = number } }
+        ensures { result ≡ nil_of number }
     {
         NilPage { seen: number }
     }
@@ -39,7 +40,7 @@ impl NilPage {
     /// Nothing is taken away, but the number is met.
     pub fn clear(self, number: u64) -> NilPage
         requires { self.seen < number }
-        ensures { result ≡ record { seen = number } }
+        ensures { result ≡ nil_of number }
     {
         NilPage::after(number)
     }
@@ -47,7 +48,7 @@ impl NilPage {
     /// The right to read comes.
     pub fn install_read<A: Allocator + Copy>(self, grant: ReadGrant<A>) -> CopyPage<A>
         requires { self.seen < grant.number }
-        ensures { result ≡ record { seen = grant.number; bytes = grant.bytes } }
+        ensures { result ≡ page_of grant.number grant.bytes }
     {
         CopyPage::granted(grant)
     }
@@ -58,8 +59,8 @@ impl NilPage {
         grant: WriteGrant<A>,
     ) -> Result<OwnWritePage<A>, (NilPage, WriteGrant<A>, AllocError)>
         requires { self.seen < grant.number }
-        ensures { MatchResult result (λ page. page ≡ record { seen = grant.number; bytes = grant.bytes })
-            (λ e. (e.0 ≡ self) × (e.1 ≡ grant)) }
+        ensures installed { IfOk result (λ page. page ≡ page_of grant.number grant.bytes) }
+        ensures refused { IfErr result (λ e. (e.0 ≡ self) × (e.1 ≡ grant)) }
     {
         match OwnWritePage::granted(&grant) {
             Ok(page) => Ok(page),

@@ -1,5 +1,6 @@
-ghost use Rattle.std.specs.Prelude.{◌≡◌, ◌<◌, ◌≤◌, length, slice_index, IfOk, OnErr, MatchResult};
+ghost use Rattle.std.specs.Prelude.{◌≡◌, ◌<◌, ◌≤◌, length, slice_index, IfOk, IfErr, OnOk, OnErr};
 ghost use Rattle.shm_place.specs.Limits.{page_bytes};
+ghost use Rattle.shm_page.specs.State.{page_of, handed_of, grant_of};
 
 use crate::handed::{HandedPage, WriteGrant};
 use crate::own_write::OwnWritePage;
@@ -22,9 +23,9 @@ pub struct OwnReadPage<A: Allocator + Copy = Global> {
 impl<A: Allocator + Copy> Model for OwnReadPage<A> {
     ghost use Rattle.std.specs.Prelude.{◌≡◌, length};
     ghost use Rattle.shm_place.specs.Limits.{page_bytes};
-    ghost use Rattle.shm_page.specs.State.{Held};
+    ghost use Rattle.shm_page.specs.State.{PageView};
 
-    ghost Value = { Held };
+    ghost Value = { PageView };
 
     ghost view = { λ page. record { seen = page.seen; bytes = page.shared } };
 
@@ -36,7 +37,7 @@ impl<A: Allocator + Copy> OwnReadPage<A> {
     pub(crate) fn of(seen: u64, own: Vec<u8, A>, shared: Bytes<A>) -> OwnReadPage<A>
         requires whole { length shared ≡ page_bytes }
         requires same { own.items ≡ shared }
-        ensures { result ≡ record { seen = seen; bytes = shared } }
+        ensures { result ≡ page_of seen shared }
     {
         OwnReadPage { seen, own, shared }
     }
@@ -59,9 +60,9 @@ impl<A: Allocator + Copy> OwnReadPage<A> {
     /// Lends one more copy.
     pub fn lend(&mut self, number: u64) -> Result<ReadGrant<A>, AllocError>
         requires { self.old.seen ≤ number }
-        ensures { MatchResult result
-            (λ grant. (grant ≡ record { number = number; bytes = self.old.bytes }) × (self.new ≡ record self.old { seen = number }))
-            (λ _. self.new ≡ self.old) }
+        ensures grant { IfOk result (λ grant. grant ≡ grant_of number self.old.bytes) }
+        ensures lent { OnOk result (self.new ≡ record self.old { seen = number }) }
+        ensures refused { OnErr result (self.new ≡ self.old) }
     {
         let grant = ReadGrant::of(number, &self.shared)?;
         self.seen = number;
@@ -75,9 +76,9 @@ impl<A: Allocator + Copy> OwnReadPage<A> {
         to: SiteId,
     ) -> Result<(HandedPage<A>, WriteGrant<A>), (OwnReadPage<A>, AllocError)>
         requires { self.seen < number }
-        ensures { MatchResult result
-            (λ r. (r.0 ≡ record { seen = number; to = to; bytes = self.bytes }) × (r.1 ≡ record { number = number; bytes = self.bytes }))
-            (λ e. e.0 ≡ self) }
+        ensures page { IfOk result (λ r. r.0 ≡ handed_of number to self.bytes) }
+        ensures grant { IfOk result (λ r. r.1 ≡ grant_of number self.bytes) }
+        ensures refused { IfErr result (λ e. e.0 ≡ self) }
     {
         match self.handed(number, to) {
             Ok(handed) => Ok(handed),
@@ -86,8 +87,8 @@ impl<A: Allocator + Copy> OwnReadPage<A> {
     }
 
     fn handed(&self, number: u64, to: SiteId) -> Result<(HandedPage<A>, WriteGrant<A>), AllocError>
-        ensures page { IfOk result (λ r. r.0 ≡ record { seen = number; to = to; bytes = self.now.bytes }) }
-        ensures grant { IfOk result (λ r. r.1 ≡ record { number = number; bytes = self.now.bytes }) }
+        ensures page { IfOk result (λ r. r.0 ≡ handed_of number to self.now.bytes) }
+        ensures grant { IfOk result (λ r. r.1 ≡ grant_of number self.now.bytes) }
     {
         let kept = self.shared.clone()?;
         HandedPage::with_grant(number, to, kept, *self.own.allocator())

@@ -1,6 +1,7 @@
-ghost use Rattle.std.specs.Prelude.{◌≡◌, ◌<◌, ◌≤◌, length, slice_index, slice_set, IfOk, MatchResult};
+ghost use Rattle.std.specs.Prelude.{◌≡◌, ◌<◌, ◌≤◌, length, slice_index, slice_set, IfOk, IfErr};
 ghost use Rattle.shm_place.specs.Limits.{page_bytes};
 ghost use Rattle.shm_model.specs.Site.{blank};
+ghost use Rattle.shm_page.specs.State.{page_of, handed_of, grant_of};
 
 use crate::handed::{HandedPage, WriteGrant};
 use crate::own_read::OwnReadPage;
@@ -20,9 +21,9 @@ pub struct OwnWritePage<A: Allocator + Copy = Global> {
 impl<A: Allocator + Copy> Model for OwnWritePage<A> {
     ghost use Rattle.std.specs.Prelude.{◌≡◌, length};
     ghost use Rattle.shm_place.specs.Limits.{page_bytes};
-    ghost use Rattle.shm_page.specs.State.{Held};
+    ghost use Rattle.shm_page.specs.State.{PageView};
 
-    ghost Value = { Held };
+    ghost Value = { PageView };
 
     ghost view = { λ page. record { seen = page.seen; bytes = page.bytes.items } };
 
@@ -32,7 +33,7 @@ impl<A: Allocator + Copy> Model for OwnWritePage<A> {
 impl<A: Allocator + Copy> OwnWritePage<A> {
     /// The page before anything was met or stored.
     pub(crate) fn blank(alloc: A) -> Result<OwnWritePage<A>, AllocError>
-        ensures { IfOk result (λ page. page ≡ record { seen = 0; bytes = blank }) }
+        ensures { IfOk result (λ page. page ≡ page_of 0 blank) }
     {
         let bytes = vec![in alloc; 0; PAGE_BYTES]?;
         Ok(OwnWritePage { seen: 0, bytes })
@@ -64,14 +65,14 @@ impl<A: Allocator + Copy> OwnWritePage<A> {
     /// The owner's page of these bytes, while nobody else has them.
     pub(crate) fn of(seen: u64, bytes: Vec<u8, A>) -> OwnWritePage<A>
         requires { length bytes.items ≡ page_bytes }
-        ensures { result ≡ record { seen = seen; bytes = bytes.items } }
+        ensures { result ≡ page_of seen bytes.items }
     {
         OwnWritePage { seen, bytes }
     }
 
     /// The page that a grant brings.
     pub(crate) fn granted(grant: &WriteGrant<A>) -> Result<OwnWritePage<A>, AllocError>
-        ensures { IfOk result (λ page. page ≡ record { seen = grant.now.number; bytes = grant.now.bytes }) }
+        ensures { IfOk result (λ page. page ≡ page_of grant.now.number grant.now.bytes) }
     {
         let bytes = grant.to_vec()?;
         Ok(OwnWritePage::of(grant.number(), bytes))
@@ -83,9 +84,9 @@ impl<A: Allocator + Copy> OwnWritePage<A> {
         number: u64,
     ) -> Result<(OwnReadPage<A>, ReadGrant<A>), (OwnWritePage<A>, AllocError)>
         requires { self.seen ≤ number }
-        ensures { MatchResult result
-            (λ r. (r.0 ≡ record self { seen = number }) × (r.1 ≡ record { number = number; bytes = self.bytes }))
-            (λ e. e.0 ≡ self) }
+        ensures page { IfOk result (λ r. r.0 ≡ record self { seen = number }) }
+        ensures grant { IfOk result (λ r. r.1 ≡ grant_of number self.bytes) }
+        ensures refused { IfErr result (λ e. e.0 ≡ self) }
     {
         match self.lent(number) {
             Ok((shared, grant)) => {
@@ -99,7 +100,7 @@ impl<A: Allocator + Copy> OwnWritePage<A> {
     fn lent(&self, number: u64) -> Result<(Bytes<A>, ReadGrant<A>), AllocError>
         ensures shared { IfOk result (λ r. r.0 ≡ self.now.bytes) }
         ensures whole { IfOk result (λ r. length r.0 ≡ page_bytes) }
-        ensures grant { IfOk result (λ r. r.1 ≡ record { number = number; bytes = self.now.bytes }) }
+        ensures grant { IfOk result (λ r. r.1 ≡ grant_of number self.now.bytes) }
     {
         let shared = Bytes::copy_from_slice(*self.bytes.allocator(), self.bytes.as_slice())?;
         let grant = ReadGrant::of(number, &shared)?;
@@ -113,9 +114,9 @@ impl<A: Allocator + Copy> OwnWritePage<A> {
         to: SiteId,
     ) -> Result<(HandedPage<A>, WriteGrant<A>), (OwnWritePage<A>, AllocError)>
         requires { self.seen < number }
-        ensures { MatchResult result
-            (λ r. (r.0 ≡ record { seen = number; to = to; bytes = self.bytes }) × (r.1 ≡ record { number = number; bytes = self.bytes }))
-            (λ e. e.0 ≡ self) }
+        ensures page { IfOk result (λ r. r.0 ≡ handed_of number to self.bytes) }
+        ensures grant { IfOk result (λ r. r.1 ≡ grant_of number self.bytes) }
+        ensures refused { IfErr result (λ e. e.0 ≡ self) }
     {
         match self.handed(number, to) {
             Ok(handed) => Ok(handed),
@@ -124,8 +125,8 @@ impl<A: Allocator + Copy> OwnWritePage<A> {
     }
 
     fn handed(&self, number: u64, to: SiteId) -> Result<(HandedPage<A>, WriteGrant<A>), AllocError>
-        ensures page { IfOk result (λ r. r.0 ≡ record { seen = number; to = to; bytes = self.now.bytes }) }
-        ensures grant { IfOk result (λ r. r.1 ≡ record { number = number; bytes = self.now.bytes }) }
+        ensures page { IfOk result (λ r. r.0 ≡ handed_of number to self.now.bytes) }
+        ensures grant { IfOk result (λ r. r.1 ≡ grant_of number self.now.bytes) }
     {
         let alloc = *self.bytes.allocator();
         let kept = Bytes::copy_from_slice(alloc, self.bytes.as_slice())?;

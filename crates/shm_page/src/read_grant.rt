@@ -1,5 +1,6 @@
 ghost use Rattle.std.specs.Prelude.{◌≡◌, length, IfOk};
 ghost use Rattle.shm_place.specs.Limits.{page_bytes};
+ghost use Rattle.shm_page.specs.State.{grant_of};
 
 use bytes::Bytes;
 use std::alloc::{AllocError, Allocator, Global};
@@ -15,9 +16,9 @@ pub struct ReadGrant<A: Allocator + Copy = Global> {
 impl<A: Allocator + Copy> Model for ReadGrant<A> {
     ghost use Rattle.std.specs.Prelude.{◌≡◌, length};
     ghost use Rattle.shm_place.specs.Limits.{page_bytes};
-    ghost use Rattle.shm_page.specs.State.{Granted};
+    ghost use Rattle.shm_page.specs.State.{GrantView};
 
-    ghost Value = { Granted };
+    ghost Value = { GrantView };
 
     ghost view = { λ grant. record { number = grant.number; bytes = grant.bytes } };
 
@@ -28,7 +29,7 @@ impl<A: Allocator + Copy> ReadGrant<A> {
     /// A grant of these shared bytes.
     pub(crate) fn of(number: u64, shared: &Bytes<A>) -> Result<ReadGrant<A>, AllocError>
         requires { length shared.now ≡ page_bytes }
-        ensures { IfOk result (λ grant. grant ≡ record { number = number; bytes = shared.now }) }
+        ensures { IfOk result (λ grant. grant ≡ grant_of number shared.now) }
     {
         let bytes = shared.clone()?;
         Ok(ReadGrant { number, bytes })
