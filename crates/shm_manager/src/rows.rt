@@ -104,13 +104,10 @@ impl<A: Allocator> Book<A> {
         let Some((kind, requester)) = self.running else {
             return None;
         };
-        if number != self.number {
+        if number != self.number || from != requester {
             return None;
         }
-        if from != requester {
-            return None;
-        }
-        self.end(kind, requester);
+        self.end(kind, from);
         Some(self.serve_next())
     }
 
