@@ -13,3 +13,8 @@ pub mod Step
 pub mod World
 pub mod Memory
 pub mod History
+pub mod Transactions
+pub mod Inputs
+pub mod Log
+pub mod Merge
+pub mod Receipt

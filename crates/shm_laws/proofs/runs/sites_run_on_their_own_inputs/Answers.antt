@@ -1,0 +1,5 @@
+use Rattle.shm_laws.proofs.RunsOn.{own-inputs}
+use Rattle.shm_laws.proofs.runs.sites_run_on_their_own_inputs.Goals as goal
+
+pub returns : goal.returns
+returns c = own-inputs

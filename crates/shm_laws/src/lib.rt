@@ -1,0 +1,12 @@
+//! The theorems about Leddwyfan's definitions: each is the contract of a function without parameters and with an empty body.
+#![tactic(auto)]
+
+mod logs;
+mod memory;
+mod runs;
+mod transactions;
+
+pub use logs::{logs_have_one_order, merged_logs_are_a_run};
+pub use memory::every_run_is_legal_and_coherent;
+pub use runs::{runs_go_on, sites_run_on_their_own_inputs};
+pub use transactions::{bytes_are_the_last_stored, numbers_tell_what_is_late, readers_are_known};

@@ -1,0 +1,20 @@
+//! The parts of the headline that others may use: numbers, copies, bytes.
+ghost use Rattle.std.specs.Prelude.{List};
+ghost use Rattle.shm_model.specs.declared.event.Event.{Event};
+ghost use Rattle.shm_model.specs.Transactions.{BytesAreLast, NumbersTell, ReadersAreKnown};
+ghost use Rattle.shm_model.specs.World.{IsOpening, Opening, run};
+
+/// What is above its receiver's number belongs to the transaction that runs at the page's manager.
+pub fn numbers_tell_what_is_late()
+    ensures { (o : Opening) (events : List Event) → IsOpening o → NumbersTell (run o events).world }
+{}
+
+/// Who may read a page is known to its manager.
+pub fn readers_are_known()
+    ensures { (o : Opening) (events : List Event) → IsOpening o → ReadersAreKnown (run o events).world }
+{}
+
+/// What may be read or installed is what was stored last.
+pub fn bytes_are_the_last_stored()
+    ensures { (o : Opening) (events : List Event) → IsOpening o → BytesAreLast o (run o events) }
+{}
