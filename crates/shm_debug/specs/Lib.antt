@@ -1,0 +1,9 @@
+pub mod Limits
+pub mod Words
+pub mod World
+pub mod Script
+pub mod Spelling
+pub mod Text
+pub mod Memory
+pub mod Replay
+pub mod Reading

@@ -14,8 +14,13 @@ pub enum Refusal {
 }
 
 impl Refusal {
+    ghost use Rattle.std.specs.Prelude.{◌≡◌};
+    ghost use Rattle.shm_debug.specs.Text;
+
     /// The number under which a script's output names the refusal.
-    pub fn number(self) -> u8 {
+    pub fn number(self) -> u8
+        ensures { result ≡ Text.number_of self }
+    {
         match self {
             Refusal::NoAttachment => 9,
             Refusal::OutOfSegment => 11,
@@ -41,6 +46,11 @@ pub enum Answer {
 }
 
 impl fmt::Display for Answer {
+    ghost use Rattle.std.specs.Prelude.{Some};
+    ghost use Rattle.shm_debug.specs.Text.{answer_text};
+
+    ghost output = { λ answer. Some (answer_text answer) };
+
     fn fmt<W: fmt::Write>(&self, f: &mut fmt::Formatter<W>) -> fmt::Result {
         match self {
             Answer::Ready => write!(f, "ready"),
@@ -51,27 +61,60 @@ impl fmt::Display for Answer {
                 let number = refusal.number();
                 write!(f, "refused {number}")
             }
-            Answer::Page { sites, manager } => write_page(f, *sites, *manager),
+            Answer::Page { sites, manager } => {
+                let states = States {
+                    sites: sites.count(),
+                    manager: manager.0,
+                };
+                let owner = manager.0;
+                write!(f, "page{states} owner {owner} copies - t 0 idle")
+            }
         }
     }
 }
 
-fn write_page<W: fmt::Write>(
-    f: &mut fmt::Formatter<W>,
-    sites: Sites,
-    manager: SiteId,
-) -> fmt::Result {
-    write!(f, "page")?;
-    for site in 0..sites.count() {
-        write_state(f, site, site == manager.0)?;
-    }
-    let owner = manager.0;
-    write!(f, " owner {owner} copies - t 0 idle")
+/// What each site has of a page that its manager owns.
+#[derive(Clone, Copy)]
+struct States {
+    sites: u32,
+    manager: u32,
 }
 
-fn write_state<W: fmt::Write>(f: &mut fmt::Formatter<W>, site: u32, owns: bool) -> fmt::Result {
-    if owns {
-        return write!(f, " {site}:OwnWrite/0");
+impl fmt::Display for States {
+    ghost use Rattle.std.specs.Prelude.{Some};
+    ghost use Rattle.shm_debug.specs.Text.{states_text};
+
+    ghost output = { λ states. Some (states_text states.manager states.sites) };
+
+    fn fmt<W: fmt::Write>(&self, f: &mut fmt::Formatter<W>) -> fmt::Result {
+        'sites: for site in 0..self.sites {
+            let state = State {
+                site,
+                owns: site == self.manager,
+            };
+            write!(f, "{state}")?;
+        }
+        Ok(())
     }
-    write!(f, " {site}:Nil/0")
+}
+
+#[derive(Clone, Copy)]
+struct State {
+    site: u32,
+    owns: bool,
+}
+
+impl fmt::Display for State {
+    ghost use Rattle.std.specs.Prelude.{Some};
+    ghost use Rattle.shm_debug.specs.Text.{state_text};
+
+    ghost output = { λ state. Some (state_text state.owns state.site) };
+
+    fn fmt<W: fmt::Write>(&self, f: &mut fmt::Formatter<W>) -> fmt::Result {
+        let site = self.site;
+        if self.owns {
+            return write!(f, " {site}:OwnWrite/0");
+        }
+        write!(f, " {site}:Nil/0")
+    }
 }

@@ -3,6 +3,7 @@
 
 mod answer;
 mod input;
+pub mod laws;
 mod line;
 mod number;
 mod outcome;

@@ -28,13 +28,36 @@ pub enum Line {
 }
 
 impl Line {
-    /// Whether this is the line that a script begins with.
-    pub fn is_first(&self) -> bool {
-        matches!(self, Line::Sites { .. })
+    ghost use Rattle.std.specs.Prelude.{◌≡◌};
+    ghost use Rattle.shm_debug.specs.Script;
+
+    /// Whether a script may have this line under this number, from 1: it begins with a `sites` line, and has no other.
+    pub fn may_stand(&self, number: u64) -> bool
+        ensures { result ≡ Script.may_stand number self.now }
+    {
+        if number == 1 {
+            return self.is_first();
+        }
+        !self.is_first()
     }
 
-    /// Whether the line is an event of the run: it is done at one site.
-    pub fn is_event(&self) -> bool {
-        matches!(self, Line::Load { .. } | Line::Store { .. })
+    fn is_first(&self) -> bool
+        ensures { result ≡ Script.is_first self.now }
+    {
+        match self {
+            Line::Sites { .. } => true,
+            _ => false,
+        }
+    }
+
+    /// Whether the line is an event of the run: something that one site does.
+    pub fn is_event(&self) -> bool
+        ensures { result ≡ Script.is_event self.now }
+    {
+        match self {
+            Line::Load { .. } => true,
+            Line::Store { .. } => true,
+            _ => false,
+        }
     }
 }

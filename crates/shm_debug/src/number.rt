@@ -1,13 +1,45 @@
-/// The number that a word stands for: decimal digits as they are printed, with no sign and no leading zero.
-pub fn number(word: &[u8]) -> Option<u32> {
-    if word.is_empty() || (word[0] == b'0' && word.len() > 1) {
+ghost use Rattle.std.specs.Prelude.{◌≡◌, ◌^◌, IsTrue, nat_lt, Some, None, if◌then◌else◌};
+ghost use Rattle.std.specs.List.{list_all};
+ghost use Rattle.std.specs.Char.{is_ascii_digit};
+ghost use Rattle.std.specs.Str.Parse.{digits_value};
+ghost use Rattle.shm_debug.specs.Words;
+
+/// The number that a word stands for.
+pub fn number(word: &[u8]) -> Option<u32>
+    ensures { result ≡ Words.number_of word.now }
+{
+    if !is_plain(word) {
         return None;
     }
+    value_of(word)
+}
+
+/// Whether the word has the form of a number: digits, of which the first isn't a 0 before others.
+fn is_plain(word: &[u8]) -> bool
+    ensures { result ≡ Words.is_plain word.now }
+{
+    if word.is_empty() {
+        return false;
+    }
+    if word.len() > 1 && word[0] == b'0' {
+        return false;
+    }
+    all_digits(word)
+}
+
+fn all_digits(word: &[u8]) -> bool
+    ensures { result ≡ list_all is_ascii_digit word.now }
+{
+    word.iter().all(|byte| byte.is_ascii_digit())
+}
+
+/// The value of digits, if it is below 2 to the power of 32.
+fn value_of(digits: &[u8]) -> Option<u32>
+    requires { IsTrue (list_all is_ascii_digit digits.now) }
+    ensures { result ≡ (if nat_lt (digits_value 10 digits.now) (2 ^ 32) then Some (digits_value 10 digits.now) else None) }
+{
     let mut value: u64 = 0;
-    for byte in word {
-        if !byte.is_ascii_digit() {
-            return None;
-        }
+    'digits: for byte in digits {
         value = value * 10 + (*byte - b'0') as u64;
         if value > u32::MAX as u64 {
             return None;

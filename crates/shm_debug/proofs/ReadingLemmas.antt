@@ -1,0 +1,251 @@
+-- From one moment of a script that is read to the next.
+use Rattle.std.proofs.Common.{◌≡◌, ℕ, ◌+◌, ◌*◌, ◌<◌, ◌≤◌, ◌==◌, ◌&&◌, Bool, true, false, List, [], ◌∷◌, ◌++◌, length, count_by, All, Option, None, Some, Result, Ok, Err, ◌⊎◌, inl, inr, cond, nat_lt, refl, sym, ap, subst, ◌∙◌, arith, append_assoc, append-nil, length-append, if◌then◌else◌}
+use Rattle.std.proofs.lemmas.Bool.{cases_Bool}
+use Rattle.std.proofs.lemmas.Bool.Decides.{nat_tests}
+use Rattle.std.proofs.lemmas.List.Sums.{sum_by-append}
+use Rattle.std.proofs.lemmas.List.Elements.{All-append, All-cons, All-nil}
+use Rattle.shm_debug.specs.Script.{Script, after, broken, whole, read_on, read_line, standing, unended, may_stand, line_of, parts_of, is_event}
+use Rattle.shm_debug.specs.World.{World, next, said}
+use Rattle.shm_debug.specs.Text.{text_from, line_text}
+use Rattle.shm_debug.specs.Reading.{Moment, rest_of, reach, world_after, passed, Onward, Tells, Begins, Breaks, Stops, Plays, Fails}
+use Rattle.shm_debug.specs.declared.line.Line.{Line}
+use Rattle.shm_debug.specs.declared.line.Line.TheVariants.{Sites, Load, Store, Show}
+use Rattle.shm_debug.specs.declared.outcome.DebugFault.{DebugFault}
+use Rattle.shm_debug.specs.declared.outcome.DebugFault.TheVariants.{OutOfMemory, BadLine, LineTooLong, TooManyLines, ReadFault, WriteFault}
+use Rattle.shm_debug.proofs.PartsLemmas.{NoFeed, Parts, parts, parts-more, parts-feed, parts-after, parts-alone, read_on-line, read_on-fault}
+
+pub after-after : (xs ys : List Line) (s : Script) → after xs (after ys s) ≡ after (xs ++ ys) s
+after-after xs ys s = ap (λ (l : List Line). record { lines = l; fault = s.fault }) (sym (append_assoc xs ys s.lines))
+
+pub world_after-append : (w : World) (xs ys : List Line) → world_after w (xs ++ ys) ≡ world_after (world_after w xs) ys
+world_after-append w [] ys = refl
+world_after-append w (x ∷ xs) ys = world_after-append (next w x) xs ys
+
+pub text_from-append : (n m : ℕ) (w : World) (xs ys : List Line) → m ≡ n + length xs
+    → text_from n w (xs ++ ys) ≡ text_from n w xs ++ text_from m (world_after w xs) ys
+text_from-append n m w [] ys e = ap (λ k. text_from k w ys) (omega arith)
+text_from-append n m w (x ∷ xs) ys e =
+    ap (λ l. line_text n (said w x) ++ l) (text_from-append (n + 1) m (next w x) xs ys (omega arith))
+    ∙ sym (append_assoc (line_text n (said w x)) (text_from (n + 1) (next w x) xs) (text_from m (world_after (next w x) xs) ys))
+
+count-append : (xs ys : List Line) → count_by is_event (xs ++ ys) ≡ count_by is_event xs + count_by is_event ys
+count-append xs ys = sum_by-append (λ line. cond (is_event line) 1 0) xs ys
+
+rest-after : (m : Moment) (bytes more others : List ℕ) → rest_of m ((bytes ++ more) ++ others) ≡ rest_of m (bytes ++ (more ++ others))
+rest-after m bytes more others = ap (rest_of m) (append_assoc bytes more others)
+
+pub Onward-trans : (a b c : Moment) (x y : List ℕ) (xs ys : List Line) → Onward a x xs b → Onward b y ys c → Onward a (x ++ y) (xs ++ ys) c
+Onward-trans a b c x y xs ys p q = record {
+  rest = λ more. rest-after a x y more ∙ p.rest (y ++ more) ∙ ap (after xs) (q.rest more) ∙ after-after xs ys (rest_of c more);
+  count = omega (arith, length-append xs ys, p.count, q.count);
+  event_count = omega (arith, count-append xs ys, p.event_count, q.event_count);
+  world_then = q.world_then ∙ ap (λ w. world_after w ys) p.world_then ∙ sym (world_after-append a.world xs ys);
+  reached = omega (arith, length-append x y, p.reached, q.reached);
+}
+
+Tells-trans : (a b : Moment) (x : List ℕ) (xs ys : List Line) (s t u : List ℕ) → Onward a x xs b → Tells a xs s t → Tells b ys t u → Tells a (xs ++ ys) s u
+Tells-trans a b x xs ys s t u o p q =
+    q ∙ ap (λ l. l ++ text_from (b.lines + 1) b.world ys) p
+    ∙ append_assoc s (text_from (a.lines + 1) a.world xs) (text_from (b.lines + 1) b.world ys)
+    ∙ ap (λ w. s ++ (text_from (a.lines + 1) a.world xs ++ text_from (b.lines + 1) w ys)) o.world_then
+    ∙ ap (λ l. s ++ l) (sym (text_from-append (a.lines + 1) (b.lines + 1) a.world xs ys (omega (arith, o.count))))
+
+pub Plays-trans : (a b c : Moment) (x y s t u : List ℕ) → Plays a x b s t → Plays b y c t u → Plays a (x ++ y) c s u
+Plays-trans a b c x y s t u p q =
+    (p.0 ++ q.0, Onward-trans a b c x y p.0 q.0 p.1 q.1, Tells-trans a b x p.0 q.0 s t u p.1 p.2 q.2)
+
+Begins-after : (a b : Moment) (x y : List ℕ) (xs ys : List Line) → Onward a x xs b → Begins b y ys → Begins a (x ++ y) (xs ++ ys)
+Begins-after a b x y xs ys o h more =
+    let r = h more in
+    (r.0, ap (λ (s : Script). s.lines) (rest-after a x y more ∙ o.rest (y ++ more)) ∙ ap (λ l. xs ++ l) r.1 ∙ sym (append_assoc xs ys r.0))
+
+Breaks-after : (a b : Moment) (x y : List ℕ) (xs ys : List Line) (f : DebugFault) → Onward a x xs b → Breaks b y ys f → Breaks a (x ++ y) (xs ++ ys) f
+Breaks-after a b x y xs ys f o h more =
+    rest-after a x y more ∙ o.rest (y ++ more) ∙ ap (after xs) (h more) ∙ after-after xs ys (broken f)
+
+Stops-after : (a b : Moment) (x y : List ℕ) (xs ys : List Line) (f : DebugFault) → Onward a x xs b → Stops b y ys f → Stops a (x ++ y) (xs ++ ys) f
+Stops-after a b x y xs ys OutOfMemory o h = Begins-after a b x y xs ys o h
+Stops-after a b x y xs ys ReadFault o h = Begins-after a b x y xs ys o h
+Stops-after a b x y xs ys WriteFault o h = Begins-after a b x y xs ys o h
+Stops-after a b x y xs ys (BadLine n) o h = Breaks-after a b x y xs ys (BadLine n) o h
+Stops-after a b x y xs ys (LineTooLong n) o h = Breaks-after a b x y xs ys (LineTooLong n) o h
+Stops-after a b x y xs ys TooManyLines o h = Breaks-after a b x y xs ys TooManyLines o h
+
+pub Fails-after : (a b : Moment) (x y s t u : List ℕ) (f : DebugFault) → Plays a x b s t → Fails b y f t u → Fails a (x ++ y) f s u
+Fails-after a b x y s t u f p q =
+    (p.0 ++ q.0, Stops-after a b x y p.0 q.0 f p.1 q.1, Tells-trans a b x p.0 q.0 s t u p.1 p.2 q.2)
+
+Begins-more : (a : Moment) (x y : List ℕ) (xs : List Line) → Begins a x xs → Begins a (x ++ y) xs
+Begins-more a x y xs h more =
+    let r = h (y ++ more) in
+    (r.0, ap (λ (s : Script). s.lines) (rest-after a x y more) ∙ r.1)
+
+Breaks-more : (a : Moment) (x y : List ℕ) (xs : List Line) (f : DebugFault) → Breaks a x xs f → Breaks a (x ++ y) xs f
+Breaks-more a x y xs f h more = rest-after a x y more ∙ h (y ++ more)
+
+Stops-more : (a : Moment) (x y : List ℕ) (xs : List Line) (f : DebugFault) → Stops a x xs f → Stops a (x ++ y) xs f
+Stops-more a x y xs OutOfMemory h = Begins-more a x y xs h
+Stops-more a x y xs ReadFault h = Begins-more a x y xs h
+Stops-more a x y xs WriteFault h = Begins-more a x y xs h
+Stops-more a x y xs (BadLine n) h = Breaks-more a x y xs (BadLine n) h
+Stops-more a x y xs (LineTooLong n) h = Breaks-more a x y xs (LineTooLong n) h
+Stops-more a x y xs TooManyLines h = Breaks-more a x y xs TooManyLines h
+
+-- the fault came before all bytes were read
+pub Fails-more : (a : Moment) (x y s t : List ℕ) (f : DebugFault) → Fails a x f s t → Fails a (x ++ y) f s t
+Fails-more a x y s t f p = (p.0, Stops-more a x y p.0 f p.1, p.2)
+
+nothing_told : (m : Moment) (text : List ℕ) → Tells m [] text text
+nothing_told m text = sym (append-nil text)
+
+pub Plays-none : (m : Moment) (text : List ℕ) → Plays m [] m text text
+Plays-none m text = ([], record { rest = λ more. refl; count = omega arith; event_count = omega arith; world_then = refl; reached = omega arith }, nothing_told m text)
+
+-- a byte joins the line
+pub Plays-push : (m : Moment) (byte : ℕ) (text : List ℕ) → Plays m (byte ∷ []) (record m { line = m.line ++ byte ∷ [] }) text text
+Plays-push m byte text = (
+  [],
+  record {
+    rest = λ more. ap (λ l. read_on (m.lines + 1) (parts_of l)) (sym (append_assoc m.line (byte ∷ []) more));
+    count = omega arith;
+    event_count = omega arith;
+    world_then = refl;
+    reached = omega (arith, length-append m.line (byte ∷ []));
+  },
+  nothing_told m text,
+)
+
+one_more : (line : Line) (n : ℕ) → (if is_event line then n + 1 else n) ≡ n + count_by is_event (line ∷ [])
+one_more (Sites sites pages) n = omega arith
+one_more (Load site at offset) n = omega arith
+one_more (Store site at offset byte) n = omega arith
+one_more (Show page) n = omega arith
+
+-- the line ends
+pub Plays-line : (m : Moment) (line : Line) (old new : List ℕ) → NoFeed m.line → length m.line ≤ 200 → read_line (m.lines + 1) m.line ≡ Ok line
+    → new ≡ old ++ line_text (m.lines + 1) (said m.world line) → Plays m (10 ∷ []) (passed m line) old new
+Plays-line m line old new closed short reads told = (
+  line ∷ [],
+  record {
+    rest = λ more. let p = parts more in
+        ap (read_on (m.lines + 1)) (parts-feed m.line more closed ∙ ap (λ l. m.line ∷ l) p.are)
+        ∙ read_on-line (m.lines + 1) m.line p.first p.others line reads
+        ∙ ap (λ l. after (line ∷ []) (read_on (m.lines + 1 + 1) l)) (sym p.are);
+    count = omega arith;
+    event_count = one_more line m.events;
+    world_then = refl;
+    reached = omega arith;
+  },
+  told ∙ ap (λ l. old ++ l) (sym (append-nil (line_text (m.lines + 1) (said m.world line)))),
+)
+
+-- memory is refused before a line is passed
+pub Fails-memory : (m : Moment) (bytes text : List ℕ) → Fails m bytes OutOfMemory text text
+Fails-memory m bytes text = ([], λ more. ((rest_of m (bytes ++ more)).lines, refl), nothing_told m text)
+
+-- the faults that are the script's own
+abbrev pub IsOwn : DebugFault → Type 0
+IsOwn OutOfMemory = ⊥
+IsOwn ReadFault = ⊥
+IsOwn WriteFault = ⊥
+IsOwn (BadLine n) = Unit {0}
+IsOwn (LineTooLong n) = Unit {0}
+IsOwn TooManyLines = Unit {0}
+
+Stops-own : (m : Moment) (bytes : List ℕ) (lines : List Line) (fault : DebugFault) → IsOwn fault → Breaks m bytes lines fault → Stops m bytes lines fault
+Stops-own m bytes lines OutOfMemory own h = absurd own
+Stops-own m bytes lines ReadFault own h = absurd own
+Stops-own m bytes lines WriteFault own h = absurd own
+Stops-own m bytes lines (BadLine n) own h = h
+Stops-own m bytes lines (LineTooLong n) own h = h
+Stops-own m bytes lines TooManyLines own h = h
+
+pub NoFeed-push : (line : List ℕ) (byte : ℕ) → NoFeed line → (byte == 10) ≡ false → NoFeed (line ++ byte ∷ [])
+NoFeed-push line byte h e = All-append (λ b. (b == 10) ≡ false) line (byte ∷ []) h (All-cons (λ b. (b == 10) ≡ false) byte [] e (All-nil (λ b. (b == 10) ≡ false)))
+
+longer : (line : List ℕ) (byte : ℕ) (more : List ℕ) → length line + 1 ≤ length ((line ++ byte ∷ []) ++ more)
+longer line byte more = omega (arith, length-append (line ++ byte ∷ []) more, length-append line (byte ∷ []))
+
+longer_still : (line : List ℕ) (byte : ℕ) (more : List ℕ) (others : List (List ℕ)) → 0 < length ((line ++ byte ∷ []) ++ more) + length others
+longer_still line byte more others = omega (arith, longer line byte more)
+
+-- the line that ends is none, or may not stand there
+pub Fails-line : (m : Moment) (fault : DebugFault) (text : List ℕ) → NoFeed m.line → read_line (m.lines + 1) m.line ≡ Err fault → IsOwn fault → Fails m (10 ∷ []) fault text text
+Fails-line m fault text closed reads own = (
+  [],
+  Stops-own m (10 ∷ []) [] fault own (λ more. let p = parts more in
+      ap (read_on (m.lines + 1)) (parts-feed m.line more closed ∙ ap (λ l. m.line ∷ l) p.are)
+      ∙ read_on-fault (m.lines + 1) m.line (p.first ∷ p.others) fault reads (omega arith)),
+  nothing_told m text,
+)
+
+-- a byte after the last line, or one too many in a line
+pub Fails-limit : (m : Moment) (byte : ℕ) (fault : DebugFault) (text : List ℕ) → NoFeed m.line
+    → ((line : List ℕ) → length m.line + 1 ≤ length line → read_line (m.lines + 1) line ≡ Err fault)
+    → (byte == 10) ≡ false → IsOwn fault → Fails m (byte ∷ []) fault text text
+Fails-limit m byte fault text closed reads other own = (
+  [],
+  Stops-own m (byte ∷ []) [] fault own (λ more. let p = parts more in
+      ap (read_on (m.lines + 1)) (ap parts_of (sym (append_assoc m.line (byte ∷ []) more)) ∙ parts-after (m.line ++ byte ∷ []) more p (NoFeed-push m.line byte closed other))
+      ∙ read_on-fault (m.lines + 1) ((m.line ++ byte ∷ []) ++ p.first) p.others fault (reads ((m.line ++ byte ∷ []) ++ p.first) (longer m.line byte p.first)) (longer_still m.line byte p.first p.others)),
+  nothing_told m text,
+)
+
+pub read-late : (number : ℕ) (bytes : List ℕ) → 100000 < number → read_line number bytes ≡ Err TooManyLines
+read-late number bytes late = let t : nat_lt 100000 number ≡ true = grind (arith, nat_tests) in ap (λ b. cond b (Err TooManyLines) (cond (nat_lt 200 (length bytes)) (Err (LineTooLong number)) (standing number (line_of bytes)))) t
+
+pub read-long : (number : ℕ) (bytes : List ℕ) → number ≤ 100000 → 200 < length bytes → read_line number bytes ≡ Err (LineTooLong number)
+read-long number bytes early long =
+    let s : nat_lt 100000 number ≡ false = grind (arith, nat_tests) in
+    let t : nat_lt 200 (length bytes) ≡ true = grind (arith, nat_tests) in
+    ap (λ b. cond b (Err TooManyLines) (cond (nat_lt 200 (length bytes)) (Err (LineTooLong number)) (standing number (line_of bytes)))) s
+    ∙ ap (λ b. cond b (Err (LineTooLong number)) (standing number (line_of bytes))) t
+
+pub read-within : (number : ℕ) (bytes : List ℕ) → number ≤ 100000 → length bytes ≤ 200 → read_line number bytes ≡ standing number (line_of bytes)
+read-within number bytes early short =
+    let s : nat_lt 100000 number ≡ false = grind (arith, nat_tests) in
+    let t : nat_lt 200 (length bytes) ≡ false = grind (arith, nat_tests) in
+    ap (λ b. cond b (Err TooManyLines) (cond (nat_lt 200 (length bytes)) (Err (LineTooLong number)) (standing number (line_of bytes)))) s
+    ∙ ap (λ b. cond b (Err (LineTooLong number)) (standing number (line_of bytes))) t
+
+pub standing-yes : (number : ℕ) (line : Line) → may_stand number line ≡ true → standing number (Some line) ≡ Ok line
+standing-yes number line e = ap (λ b. cond b (Ok line) (Err (BadLine number))) e
+
+pub standing-no : (number : ℕ) (line : Line) → may_stand number line ≡ false → standing number (Some line) ≡ Err (BadLine number)
+standing-no number line e = ap (λ b. cond b (Ok line) (Err (BadLine number))) e
+
+unended-standing : (number : ℕ) (line : Option Line) → unended number (standing number line) ≡ broken (BadLine number)
+unended-standing number None = refl
+unended-standing number (Some line) = go (cases_Bool (may_stand number line))
+  where
+    go : (may_stand number line ≡ true) ⊎ (may_stand number line ≡ false) → unended number (standing number (Some line)) ≡ broken (BadLine number)
+    go (inl e) = ap (unended number) (standing-yes number line e)
+    go (inr e) = ap (unended number) (standing-no number line e)
+
+alone : (m : Moment) → NoFeed m.line → rest_of m [] ≡ read_on (m.lines + 1) (m.line ∷ [])
+alone m closed = ap (λ l. read_on (m.lines + 1) (parts_of l)) (append-nil m.line) ∙ ap (read_on (m.lines + 1)) (parts-alone m.line closed)
+
+-- the input ends inside a line, or before there is one
+pub rest-broken : (m : Moment) → NoFeed m.line → length m.line ≤ 200 → m.lines < 100000 → ((length m.line == 0) && nat_lt 1 (m.lines + 1)) ≡ false
+    → rest_of m [] ≡ broken (BadLine (m.lines + 1))
+rest-broken m closed short early inside =
+    alone m closed
+    ∙ ap (λ b. cond b whole (unended (m.lines + 1) (read_line (m.lines + 1) m.line))) inside
+    ∙ ap (unended (m.lines + 1)) (read-within (m.lines + 1) m.line (omega arith) short)
+    ∙ unended-standing (m.lines + 1) (line_of m.line)
+
+-- the input ends after a line
+pub rest-whole : (m : Moment) → m.line ≡ [] → 0 < m.lines → rest_of m [] ≡ whole
+rest-whole m empty some =
+    let t : nat_lt 1 (m.lines + 1) ≡ true = grind (arith, nat_tests) in
+    ap (λ l. read_on (m.lines + 1) (parts_of (l ++ []))) empty ∙ ap (λ b. cond b whole (unended (m.lines + 1) (read_line (m.lines + 1) []))) t
+
+-- a byte after the last line
+pub Fails-late : (m : Moment) (byte : ℕ) (text : List ℕ) → m.lines ≡ 100000 → m.line ≡ [] → Fails m (byte ∷ []) TooManyLines text text
+Fails-late m byte text late empty = (
+  [],
+  λ more. let q = parts-more byte more in let p = q.0 in
+      ap (λ l. read_on (m.lines + 1) (parts_of (l ++ byte ∷ more))) empty ∙ ap (read_on (m.lines + 1)) p.are
+      ∙ read_on-fault (m.lines + 1) p.first p.others TooManyLines (read-late (m.lines + 1) p.first (omega arith)) q.1,
+  nothing_told m text,
+)

@@ -1,0 +1,47 @@
+-- How a replay ends, and what it has written by then.
+use Rattle.std.specs.Prelude.{◌≡◌, ℕ, Bool, true, false, List, ◌++◌, length, take, count_by, Option, None, Some, Result, Ok, Err}
+use Rattle.std.specs.Io.KnownBytes.{Appends}
+use Rattle.shm_debug.specs.Script.{Script, is_event}
+use Rattle.shm_debug.specs.Text.{text_of}
+use Rattle.shm_debug.specs.declared.outcome.Summary.{Summary}
+use Rattle.shm_debug.specs.declared.outcome.DebugFault.{DebugFault}
+use Rattle.shm_debug.specs.declared.outcome.DebugFault.TheVariants.{OutOfMemory, BadLine, LineTooLong, TooManyLines, ReadFault, WriteFault}
+
+abbrev pub summary_of : Script → Summary
+summary_of script = record { lines = length script.lines; events = count_by is_event script.lines; sent = 0 }
+
+-- the text of some whole lines, the first ones
+abbrev pub IsTextOfFirst : Script → List ℕ → Type 0
+IsTextOfFirst script text = (n : ℕ) × (text ≡ text_of (take n script.lines))
+
+-- a front of the text
+abbrev pub IsFrontOfText : Script → List ℕ → Type 0
+IsFrontOfText script text = (rest : List ℕ) × (text_of script.lines ≡ text ++ rest)
+
+-- the script's own fault, told with the text of the lines before it
+abbrev pub IsFaultOf : Script → DebugFault → List ℕ → Type 0
+IsFaultOf script fault text = (script.fault ≡ Some fault) × (text ≡ text_of script.lines)
+
+abbrev pub Ends : Script → Result Summary DebugFault → List ℕ → Type 0
+Ends script (Ok summary) text = (script.fault ≡ None) × (text ≡ text_of script.lines) × (summary ≡ summary_of script)
+Ends script (Err OutOfMemory) text = IsTextOfFirst script text
+Ends script (Err ReadFault) text = IsTextOfFirst script text
+Ends script (Err WriteFault) text = IsFrontOfText script text
+Ends script (Err (BadLine number)) text = IsFaultOf script (BadLine number) text
+Ends script (Err (LineTooLong number)) text = IsFaultOf script (LineTooLong number) text
+Ends script (Err TooManyLines) text = IsFaultOf script TooManyLines text
+
+-- some of the text is written, and the rest is pending
+abbrev pub Gathers : Option (List ℕ) → Option (List ℕ) → List ℕ → List ℕ → Type 0
+Gathers old new pending text = (written : List ℕ) × Appends old new written × (text ≡ written ++ pending)
+
+-- how reading ends: what was told is written or pending, but where the writer failed, a front of the text is written
+abbrev pub Pauses : Option (List ℕ) → Option (List ℕ) → List ℕ → Script → Result Summary DebugFault → Type 0
+Pauses old new pending script (Ok summary) = (text : List ℕ) × Gathers old new pending text × Ends script (Ok summary) text
+Pauses old new pending script (Err WriteFault) = (text : List ℕ) × Appends old new text × IsFrontOfText script text
+Pauses old new pending script (Err fault) = (text : List ℕ) × Gathers old new pending text × Ends script (Err fault) text
+
+abbrev pub is_write_fault : Result Summary DebugFault → Bool
+is_write_fault (Ok summary) = false
+is_write_fault (Err WriteFault) = true
+is_write_fault (Err fault) = false
