@@ -1,0 +1,38 @@
+use Rattle.std.proofs.Common.{rules, ℕ, List, [], IfSome, map, inl, inr, refl, subst, sym}
+use Rattle.std.specs.Prelude.{Err, None, Option, Some}
+use Rattle.std.proofs.KnownBytes.{Appends-nil}
+use Rattle.shm_debug.specs.Script.{script_of}
+use Rattle.shm_debug.specs.declared.outcome.DebugFault.TheVariants.{OutOfMemory}
+use Rattle.shmdbg.specs.Status.{AsksReplay, Replays}
+use Rattle.shmdbg.proofs.Plain.{plain_words}
+use Rattle.shmdbg.proofs.program.run_words.Goals as goal
+
+abbrev Leaves : Option (List ℕ) → Option (List ℕ) → ℕ → Type 0
+Leaves script written status = IfSome script (λ bytes. Replays (script_of bytes) status written written)
+
+-- memory was refused before anything was read
+unread : (script written : Option (List ℕ)) → Leaves script written 3
+unread None written = tt
+unread (Some bytes) written = (Err OutOfMemory, [], refl, Appends-nil written, (0, refl))
+
+-- src/program.rt:31:23
+pub returns-in-Err-clause-replayed : goal.returns-in-Err-clause-replayed
+returns-in-Err-clause-replayed g c taken =
+    let script = g.I.Read.remaining c.args.reader.now in
+    let written = g.O.Write.contents c.args.out.now in
+    elim c.refused_words.ensures.status [
+      | inl h ↦ subst (Leaves script written) (sym h.1) (unread script written)
+      | inr h ↦ absurd {A = Leaves script written c.refused_words.result} (taken h.1)
+    ]
+
+-- src/program.rt:31:26
+pub returns-in-Ok-Run-clause-plain : goal.returns-in-Ok-Run-clause-plain
+returns-in-Ok-Run-clause-plain g c name e =
+    let asks : AsksReplay (map g.S.AsStr.text c.args.words.now) = subst AsksReplay (sym e) (plain_words name) in
+    search rules
+
+-- src/program.rt:32:23
+pub returns-in-Err-clause-plain : goal.returns-in-Err-clause-plain
+returns-in-Err-clause-plain g c name e =
+    let asks : AsksReplay (map g.S.AsStr.text c.args.words.now) = subst AsksReplay (sym e) (plain_words name) in
+    search rules

@@ -1,0 +1,33 @@
+-- Exit statuses, and what each tells of the script on standard input and of the text on standard output.
+use Rattle.std.specs.Prelude.{◌≡◌, ℕ, List, [], Option, Result, Ok, Err}
+use Rattle.std.specs.Io.KnownBytes.{Appends}
+use Rattle.clap.specs.Words.{Text, fault_of}
+use Rattle.shm_debug.specs.Script.{Script}
+use Rattle.shm_debug.specs.Replay.{Ends}
+use Rattle.shm_debug.specs.declared.outcome.Summary.{Summary}
+use Rattle.shm_debug.specs.declared.outcome.DebugFault.{DebugFault}
+use Rattle.shm_debug.specs.declared.outcome.DebugFault.TheVariants.{OutOfMemory, BadLine, LineTooLong, TooManyLines, ReadFault, WriteFault}
+use Rattle.shmdbg.specs.Words.{app, task_of}
+use Rattle.shmdbg.specs.declared.words.Task.TheVariants.{Replay}
+
+-- the script is wrong, or something else failed
+abbrev pub fault_status : DebugFault → ℕ
+fault_status (BadLine number) = 1
+fault_status (LineTooLong number) = 1
+fault_status TooManyLines = 1
+fault_status OutOfMemory = 3
+fault_status ReadFault = 3
+fault_status WriteFault = 3
+
+abbrev pub status_of : Result Summary DebugFault → ℕ
+status_of (Ok summary) = 0
+status_of (Err fault) = fault_status fault
+
+-- the program takes the words, and they ask for a replay
+abbrev pub AsksReplay : List Text → Type 0
+AsksReplay words = (fault_of app words ≡ []) × (task_of words ≡ Replay)
+
+-- the script was replayed to an end of this status, and what was then written is what such an end writes
+abbrev pub Replays : Script → ℕ → Option (List ℕ) → Option (List ℕ) → Type 0
+Replays script status old new =
+    (end : Result Summary DebugFault) × (text : List ℕ) × (status ≡ status_of end) × Appends old new text × Ends script end text

@@ -1,0 +1,40 @@
+-- The words that the program takes, as clap reads them: `replay`, or `run --sites N --seed S`.
+use Rattle.std.specs.Prelude.{true, List, [], Option, Some, None, codes, pos, if◌then◌else◌}
+use Rattle.std.specs.Str.{bytes_eq}
+use Rattle.clap.specs.Words.{App, Row, Rule, Shape, Text, new_app, new_rule, subcommand_of, with_rule, with_subcommand}
+use Rattle.clap.specs.declared.builder.action.ArgAction.TheVariants.{Set}
+use Rattle.clap.specs.declared.builder.value_parser.ValueParser.{ValueParser}
+use Rattle.clap.specs.declared.builder.value_parser.ValueParser.TheVariants.{Signed}
+use Rattle.shmdbg.specs.declared.words.Task.{Task}
+use Rattle.shmdbg.specs.declared.words.Task.TheVariants.{Replay, Run}
+
+-- a required option with one number
+abbrev pub number_rule : Text → ValueParser → Rule
+number_rule name parser = record (new_rule name) { long = Some name; required = true; action = Some Set; value_names = 1; parser = Some parser }
+
+abbrev pub sites_rule : Rule
+sites_rule = number_rule (codes "sites") (Signed (pos 1) (pos 16))
+
+abbrev pub seed_rule : Rule
+seed_rule = number_rule (codes "seed") (Signed (pos 0) (pos 4294967295))
+
+abbrev pub replay_shape : Shape
+replay_shape = (new_app (codes "replay")).top
+
+abbrev pub run_shape : Shape
+run_shape = (with_rule (with_rule (new_app (codes "run")) sites_rule) seed_rule).top
+
+-- a subcommand is required
+abbrev pub bare_app : App
+bare_app = record { top = record (new_app (codes "shmdbg")).top { subcommand_required = true }; subs = [] }
+
+abbrev pub app : App
+app = with_subcommand (with_subcommand bare_app replay_shape) run_shape
+
+abbrev pub task_named : Option (Text × List Row) → Task
+task_named (Some (name, _)) = if bytes_eq name (codes "replay") then Replay else Run
+task_named None = Run
+
+-- what words ask for that the program takes; the first is its name
+abbrev pub task_of : List Text → Task
+task_of words = task_named (subcommand_of app words)

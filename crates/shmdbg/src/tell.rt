@@ -1,0 +1,56 @@
+ghost use Rattle.std.specs.Prelude.{◌≡◌, ◌≢◌, ◌⊎◌};
+ghost use Rattle.std.specs.IoError.{error_kind};
+ghost use Rattle.std.specs.declared.io.ErrorKind.TheVariants as io_kind;
+ghost use Rattle.clap.specs.Words.{kind_of};
+ghost use Rattle.clap.specs.declared.error.kind.ErrorKind.TheVariants as kind;
+ghost use Rattle.shmdbg.specs.Status.{fault_status};
+
+use clap::error::ErrorKind;
+use shm_debug::DebugFault;
+use std::io::{self, Write};
+
+/// What is told on standard error where the words ask for a run.
+const NO_RUN: &str = "error: `run` is not built yet\n";
+
+/// The exit status where a replay ended by this fault. Its one line goes to `errors`; a failure to write it is passed over.
+pub fn fault<E: Write>(fault: DebugFault, errors: &mut E) -> u8
+    ensures status { result ≡ fault_status fault }
+{
+    let _ = writeln!(errors, "shmdbg: {fault}");
+    match fault {
+        DebugFault::BadLine(_) | DebugFault::LineTooLong(_) | DebugFault::TooManyLines => 1,
+        DebugFault::OutOfMemory | DebugFault::ReadFault | DebugFault::WriteFault => 3,
+    }
+}
+
+/// The exit status where the words were not taken, which may be for want of memory.
+pub fn refused_words<E: Write>(error: &clap::Error, errors: &mut E) -> u8
+    ensures status { ((kind_of error.now ≡ kind.OutOfMemory) × (result ≡ 3))
+        ⊎ ((kind_of error.now ≢ kind.OutOfMemory) × (result ≡ 2)) }
+{
+    if error.kind() == ErrorKind::OutOfMemory {
+        return fault(DebugFault::OutOfMemory, errors);
+    }
+    let _ = write!(errors, "{error}");
+    2
+}
+
+/// The exit status where the words ask for a run.
+pub fn no_run<E: Write>(errors: &mut E) -> u8
+    ensures status { result ≡ 2 }
+{
+    let _ = errors.write_all(NO_RUN.as_bytes());
+    2
+}
+
+/// The exit status where the process's words could not be read: memory was refused, or a word is no UTF-8.
+pub fn unread_words<E: Write>(error: &io::Error, errors: &mut E) -> u8
+    ensures status { ((error_kind error.now ≡ io_kind.OutOfMemory) × (result ≡ 3))
+        ⊎ ((error_kind error.now ≢ io_kind.OutOfMemory) × (result ≡ 2)) }
+{
+    if error.kind() == io::ErrorKind::OutOfMemory {
+        return fault(DebugFault::OutOfMemory, errors);
+    }
+    let _ = errors.write_all(b"error: a word is not UTF-8\n");
+    2
+}

@@ -1,0 +1,69 @@
+ghost use Rattle.std.specs.Prelude.{◌≡◌, false, map, IfOk};
+ghost use Rattle.clap.specs.Words.{FailsBy, app_of, fault_of, rule_of};
+ghost use Rattle.shmdbg.specs.Words.{app, seed_rule, sites_rule, task_of};
+
+use clap::{Arg, ArgAction, Command, Error, value_parser};
+use std::alloc::{AllocError, Global};
+use std::convert::AsStr;
+
+/// What the words after the program's name ask for.
+#[derive(Clone, Copy, Debug, PartialEq, Eq)]
+pub enum Task {
+    /// Replay the script on standard input.
+    Replay,
+    /// Run the workload on standard input on sites in threads. Nothing runs yet.
+    Run,
+}
+
+/// Reads the words, the first of which is the program's name. A request for help is an `Err` too, whose text is the help.
+pub fn parse_words<S: AsStr>(alloc: Global, words: &[S]) -> Result<Task, Error>
+    ensures fault { FailsBy (fault_of app (map S.text words.now)) result }
+    ensures task { IfOk result (λ task. task ≡ task_of (map S.text words.now)) }
+{
+    let matches = command(alloc)?.try_get_matches_from(words)?;
+    match matches.subcommand_matches("replay") {
+        Some(_) => Ok(Task::Replay),
+        None => Ok(Task::Run),
+    }
+}
+
+fn command<'a>(alloc: Global) -> Result<Command<'a>, AllocError>
+    ensures app { IfOk result (λ c. app_of c ≡ app) }
+{
+    let replay = Command::new(alloc, "replay").about("Replay the script on standard input");
+    let run = Command::new(alloc, "run")
+        .about("Run the workload on standard input on sites in threads (refused: not built yet)")
+        .arg(sites_arg(alloc))?
+        .arg(seed_arg(alloc))?;
+    Command::new(alloc, "shmdbg")
+        .about("Shared memory segments over sites that have no memory in common")
+        .subcommand_required(true)
+        .subcommand(replay)?
+        .subcommand(run)
+}
+
+fn sites_arg<'a>(alloc: Global) -> Arg<'a>
+    ensures rule { rule_of result ≡ sites_rule }
+    ensures local { result.global ≡ false }
+{
+    Arg::new(alloc, "sites")
+        .long("sites")
+        .value_name("N")
+        .help("How many sites, 1 to 16")
+        .required(true)
+        .action(ArgAction::Set)
+        .value_parser(value_parser!(u32).range(1..=16))
+}
+
+fn seed_arg<'a>(alloc: Global) -> Arg<'a>
+    ensures rule { rule_of result ≡ seed_rule }
+    ensures local { result.global ≡ false }
+{
+    Arg::new(alloc, "seed")
+        .long("seed")
+        .value_name("S")
+        .help("Where the losses and repeats are drawn from")
+        .required(true)
+        .action(ArgAction::Set)
+        .value_parser(value_parser!(u32))
+}
