@@ -13,4 +13,5 @@ mod tests;
 
 pub use book::Book;
 pub use orders::{Order, Orders};
+pub use shm_model::Kind;
 pub use site_set::SiteSet;
