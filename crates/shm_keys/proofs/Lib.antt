@@ -1,0 +1,4 @@
+pub mod Purges
+pub mod Segments
+pub mod Changes
+pub mod Making

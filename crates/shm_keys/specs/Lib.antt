@@ -1,0 +1,4 @@
+pub mod SiteSet
+pub mod Purge
+pub mod Table
+pub mod Answer

@@ -1,0 +1,21 @@
+//! The segments of one home, as a Linux user knows them: made and found by key, attached, removed, set and told of
+//! (`shmget(2)`, `shmop(2)`, `shmctl(2)`), and which sites have yet to purge the destroyed ones.
+#![tactic(auto)]
+
+mod calls;
+mod copy;
+mod get;
+mod permission;
+mod purge;
+mod purging;
+mod replace;
+mod segment;
+mod site_set;
+mod table;
+#[cfg(test)]
+mod tests;
+
+pub use get::{GetFault, MAX_LIVE};
+pub use shm_model::{Attached, Cred, Errno, GetFlags, Mode, Stat};
+pub use site_set::SiteSet;
+pub use table::SegTable;

@@ -1,0 +1,87 @@
+ghost use Rattle.std.specs.Prelude.{◌≡◌};
+ghost use Rattle.shm_model.specs.Permission.{is_owner, is_in_group, class_of, may_read, may_write, asks_to_read, asks_to_write, permits, may_get, may_attach, may_stat};
+
+use crate::segment::Segment;
+use shm_model::{Cred, Mode};
+
+/// Whether three bits of a class have the one that permits to read.
+fn may_read(bits: u32) -> bool
+    ensures { result ≡ may_read bits }
+{
+    bits / 4 % 2 == 1
+}
+
+/// Whether three bits of a class have the one that permits to write.
+fn may_write(bits: u32) -> bool
+    ensures { result ≡ may_write bits }
+{
+    bits / 2 % 2 == 1
+}
+
+/// Whether the bits of a class permit what is asked.
+fn permits(reads: bool, writes: bool, bits: u32) -> bool
+    ensures { result ≡ permits reads writes bits }
+{
+    (!reads || may_read(bits)) && (!writes || may_write(bits))
+}
+
+fn asks_to_read(mode: Mode) -> bool
+    ensures { result ≡ asks_to_read mode.0 }
+{
+    may_read(mode.0 / 0o100) || may_read(mode.0 / 0o10) || may_read(mode.0)
+}
+
+fn asks_to_write(mode: Mode) -> bool
+    ensures { result ≡ asks_to_write mode.0 }
+{
+    may_write(mode.0 / 0o100) || may_write(mode.0 / 0o10) || may_write(mode.0)
+}
+
+impl Segment {
+    /// Whether the caller's user owns or made the segment.
+    pub fn is_owner(&self, cred: Cred) -> bool
+        ensures { result ≡ is_owner cred self.now }
+    {
+        cred.uid == self.uid || cred.uid == self.cuid
+    }
+
+    fn is_in_group(&self, cred: Cred) -> bool
+        ensures { result ≡ is_in_group cred self.now }
+    {
+        cred.gid == self.gid || cred.gid == self.cgid
+    }
+
+    /// The bits of the one class that counts for the caller, in the last three places.
+    fn class_of(&self, cred: Cred) -> u32
+        ensures { result ≡ class_of cred self.now }
+    {
+        if self.is_owner(cred) {
+            return self.mode.0 / 0o100;
+        }
+        if self.is_in_group(cred) {
+            return self.mode.0 / 0o10;
+        }
+        self.mode.0
+    }
+
+    /// Whether the caller may have what a `get` asks for by its mode.
+    pub fn may_get(&self, cred: Cred, mode: Mode) -> bool
+        ensures { result ≡ may_get cred mode.0 self.now }
+    {
+        permits(asks_to_read(mode), asks_to_write(mode), self.class_of(cred))
+    }
+
+    /// Whether the caller may attach, only to read or to write too.
+    pub fn may_attach(&self, cred: Cred, ro: bool) -> bool
+        ensures { result ≡ may_attach cred ro self.now }
+    {
+        permits(true, !ro, self.class_of(cred))
+    }
+
+    /// Whether the caller may be told of the segment.
+    pub fn may_stat(&self, cred: Cred) -> bool
+        ensures { result ≡ may_stat cred self.now }
+    {
+        permits(true, false, self.class_of(cred))
+    }
+}

@@ -1,0 +1,59 @@
+use super::{is, make_lone};
+use crate::{Cred, GetFault};
+use linked_list_allocator::LocalHeap;
+use shm_place::Sites;
+use std::alloc::{AllocError, Global};
+use std::test::Fail;
+
+const ROOT: Cred = Cred { uid: 0, gid: 0 };
+
+/// How often a hole is widened at most.
+const TRIES: usize = 1000;
+
+/// Blocks of 16 bytes that fill the heap; each that is dropped widens the hole at its end.
+fn filled(alloc: Global, heap: &LocalHeap) -> Result<Vec<Vec<u8, &LocalHeap>>, AllocError> {
+    let mut blocks = Vec::new(alloc);
+    for _ in 0..heap.free() / 16 {
+        let block = Vec::with_capacity(heap, 16)?;
+        blocks.push(block)?;
+    }
+    Ok(blocks)
+}
+
+#[test]
+fn a_get_is_refused_until_there_is_room(rt: HostRuntime) -> Result<(), Fail> {
+    let heap = LocalHeap::new(rt.alloc(), 1 << 14)?;
+    let sites = Sites::new(1).ok().ok_or("one site")?;
+    let mut table = make_lone(&heap, sites);
+    let mut blocks = filled(rt.alloc(), &heap)?;
+    for tries in 0..TRIES {
+        let answer = table.get(ROOT, 5, 1, 0o600, 0o1000);
+        if answer != Err(GetFault::OutOfMemory) {
+            assert!(rt; tries > 2);
+            assert!(rt; is(answer, Ok(0)));
+            assert_eq!(rt; table.remove(ROOT, 0), Ok(()));
+            return Ok(());
+        }
+        assert!(rt; table.stat(ROOT, 0).is_err());
+        drop(blocks.pop());
+    }
+    Err(Fail::new("no segment was made"))
+}
+
+#[test]
+fn what_was_made_goes_on_without_memory(rt: HostRuntime) -> Result<(), Fail> {
+    let heap = LocalHeap::new(rt.alloc(), 1 << 14)?;
+    let sites = Sites::new(1).ok().ok_or("one site")?;
+    let mut table = make_lone(&heap, sites);
+    assert!(rt; is(table.get(ROOT, 5, 1, 0o600, 0o1000), Ok(0)));
+    let _blocks = filled(rt.alloc(), &heap)?;
+    assert!(rt; table.table.copy().is_err());
+    assert!(rt; is(table.get(ROOT, 5, 1, 0o600, 0o1000), Ok(0)));
+    assert!(rt; table.attach(ROOT, 0, false).is_ok());
+    assert_eq!(rt; table.set(ROOT, 0, 1, 1, 0o600), Ok(()));
+    assert_eq!(rt; table.remove(ROOT, 0), Ok(()));
+    assert_eq!(rt; table.detach(0), Ok(()));
+    assert!(rt; table.next_purge(None).is_some());
+    assert!(rt; table.purged(0));
+    Ok(())
+}
