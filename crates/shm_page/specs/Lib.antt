@@ -1,4 +1,3 @@
-pub mod Blank
 pub mod Entry
 pub mod Out
 pub mod State
