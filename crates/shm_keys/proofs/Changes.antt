@@ -1,15 +1,14 @@
 -- A table stays one where a live segment's record is put anew, and where a segment is made.
-use Rattle.std.proofs.Common.{◌≡◌, ◌≢◌, ℕ, ◌+◌, ◌-◌, ◌*◌, ◌/◌, ◌%◌, ◌<◌, ◌≤◌, Bool, true, false, not, ◌&&◌, ◌||◌, ◌==◌, nat_lt, cond, if◌then◌else◌, List, [], ◌∷◌, ◌++◌, Option, Some, None, length, set, get_or, sym, ◌∙◌, ap, refl, subst, arith, rules, ⊎_elim, ◌⊎◌}
-use Rattle.std.specs.List.{count_by}
+use Rattle.std.proofs.Common.{◌≡◌, ℕ, ◌+◌, ◌/◌, ◌%◌, ◌<◌, ◌≤◌, Bool, true, false, not, ◌&&◌, ◌||◌, ◌==◌, nat_lt, cond, if◌then◌else◌, List, Option, Some, None, length, set, get_or, sym, ◌∙◌, ap, refl, subst, arith, ⊎_elim, ◌⊎◌}
 use Rattle.std.proofs.lemmas.Bool.{cases_eq, eq-eqb, ne_eqb}
 use Rattle.std.proofs.lemmas.List.{length-set, get_or-set_same}
 use Rattle.std.proofs.lemmas.List.Sums.{sum_by-set, get_or-le-sum_by}
 use Rattle.shm_model.specs.Permission.{Segment, destroyed}
-use Rattle.shm_model.specs.Kernel.{with_id, is_destroyed, replaced, destroyed_in}
-use Rattle.shm_keys.specs.Purge.{AllMissing, AllPass, IsRising, missing_in, missing_after}
-use Rattle.shm_keys.specs.Table.{IsLive, IsNumbered, IsIndexed, IsTable, live_count, is_purged_from}
+use Rattle.shm_model.specs.Kernel.{is_destroyed, replaced, destroyed_in}
+use Rattle.shm_keys.specs.Purge.{AllMissing, AllPass, IsRising, missing_after}
+use Rattle.shm_keys.specs.Table.{IsLive, IsTable, live_count, is_purged_from}
 use Rattle.shm_keys.specs.declared.purge.Purge.{Purge}
-use Rattle.shm_keys.proofs.Segments.{freed, place_of_id, live_place, numbered-set, indexed-set, purged-set, with_id_found, with_id_replaced, replaced_is}
+use Rattle.shm_keys.proofs.Segments.{freed, place_of_id, live_place, numbered-set, indexed-set, purged-set, with_id_found, with_id_replaced}
 
 -- all sites are missing of the segment from now on, where none was before
 pub begun : (m : ℕ → ℕ → Bool) (dead sites id site : ℕ) → m dead site ≡ false → (m id site || ((id == dead) && nat_lt site sites)) ≡ missing_after (Some dead) sites m id site

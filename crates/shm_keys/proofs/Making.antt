@@ -1,22 +1,20 @@
 -- What `make` answers, from the fields of a table; and a table stays one where a segment is made.
-use Rattle.std.proofs.Common.{◌≡◌, ◌≢◌, ℕ, ◌+◌, ◌-◌, ◌*◌, ◌/◌, ◌%◌, ◌<◌, ◌≤◌, Bool, true, false, not, ◌&&◌, ◌||◌, ◌==◌, nat_lt, nat_le, cond, if◌then◌else◌, List, [], ◌∷◌, ◌++◌, Option, Some, None, length, get_or, sym, ◌∙◌, ap, refl, subst, suc, inl, inr, arith, rules, ⊎_elim, ◌⊎◌}
+use Rattle.std.proofs.Common.{◌≡◌, ◌≢◌, ℕ, ◌+◌, ◌*◌, ◌%◌, ◌<◌, ◌≤◌, Bool, true, false, not, ◌&&◌, ◌==◌, nat_le, cond, if◌then◌else◌, List, [], ◌∷◌, ◌++◌, Option, Some, None, length, get_or, sym, ◌∙◌, ap, refl, suc, inl, inr, arith, ⊎_elim, ◌⊎◌}
 use Rattle.std.specs.List.{count_by, find, position_or_len}
 use Rattle.std.specs.Option.{option_or}
 use Rattle.std.proofs.lemmas.Nat.{mod-mul-add}
-use Rattle.std.proofs.lemmas.Bool.{cases_eq, cases_lt, cases_Bool, eq-eqb, ne_eqb, eqb-true, false≢true, le-ltb, le-leb, lt-leb, or_right}
+use Rattle.std.proofs.lemmas.Bool.{cases_eq, cases_lt, eq-eqb, ne_eqb, false≢true, le-ltb, le-leb, lt-leb, or_right}
 use Rattle.std.proofs.lemmas.List.{length_push, get_or_push, get_or_append_left}
 use Rattle.std.proofs.lemmas.List.Folds.{find_at, find-append}
 use Rattle.std.proofs.lemmas.List.Sums.{fails_before_first, sum_by-cons, sum_by_push}
 use Rattle.std.proofs.lemmas.Option.{same_Some, none-some, slice_get-get_or}
 use Rattle.shm_place.specs.Limits.{max_segment_bytes, segments_of_a_home}
 use Rattle.shm_model.specs.Permission.{Segment, destroyed}
-use Rattle.shm_model.specs.Kernel.{Called, with_id, with_key, is_destroyed, is_at, made_at, live_at, make, next_id, new_segment, refuse, max_live}
+use Rattle.shm_model.specs.Kernel.{with_id, with_key, is_destroyed, is_at, made_at, live_at, make, next_id, new_segment, refuse, max_live}
 use Rattle.shm_model.specs.declared.call.Cred.{Cred}
-use Rattle.shm_model.specs.declared.call.Errno.{Errno}
 use Rattle.shm_model.specs.declared.call.Errno.TheVariants.{Enospc}
 use Rattle.shm_model.specs.declared.call.Reply.TheVariants.{Id}
-use Rattle.shm_keys.specs.Purge.{AllMissing, AllPass, IsRising}
-use Rattle.shm_keys.specs.Table.{IsNumbered, IsIndexed, IsTable, live_count, is_purged_from}
+use Rattle.shm_keys.specs.Table.{IsNumbered, IsIndexed, IsTable, live_count}
 use Rattle.shm_keys.specs.declared.purge.Purge.{Purge}
 
 count_congr : (p q : Segment → Bool) (s : List Segment) → ((k : ℕ) (d : Segment) → k < length s → p (get_or s k d) ≡ q (get_or s k d)) → count_by p s ≡ count_by q s

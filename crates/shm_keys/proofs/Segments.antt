@@ -1,15 +1,15 @@
 -- What a look-up by identifier or by key finds in a table, and what a change of one record leaves.
-use Rattle.std.proofs.Common.{◌≡◌, ◌≢◌, ℕ, ◌+◌, ◌-◌, ◌*◌, ◌/◌, ◌%◌, ◌<◌, ◌≤◌, Bool, true, false, not, ◌&&◌, ◌==◌, if◌then◌else◌, List, [], ◌∷◌, ◌++◌, Option, Some, None, length, map, set, get_or, slice_get, sym, ◌∙◌, ap, refl, subst, arith, rules, ⊎_elim, ◌⊎◌}
-use Rattle.std.specs.List.{find, position_or_len, count_by}
+use Rattle.std.proofs.Common.{◌≡◌, ◌≢◌, ℕ, ◌+◌, ◌*◌, ◌/◌, ◌%◌, ◌<◌, ◌≤◌, Bool, true, false, not, ◌&&◌, ◌==◌, if◌then◌else◌, List, [], ◌∷◌, Option, Some, None, length, map, set, get_or, slice_get, sym, ◌∙◌, ap, refl, subst, arith, ⊎_elim, ◌⊎◌}
+use Rattle.std.specs.List.{find}
 use Rattle.std.proofs.Math.Nat.{mul-le-mul_right}
-use Rattle.std.proofs.lemmas.Bool.{cases_lt, cases_eq, cases_Bool, eq-eqb, ne_eqb, eqb-true, false≢true}
-use Rattle.std.proofs.lemmas.List.{same_lists, length-map, length-set, get_or-map, get_or-set_same, get_or-set_other, get_or_default}
+use Rattle.std.proofs.lemmas.Bool.{cases_lt, cases_eq, cases_Bool, eq-eqb, ne_eqb, false≢true}
+use Rattle.std.proofs.lemmas.List.{same_lists, length-map, length-set, get_or-map, get_or-set_same, get_or-set_other}
 use Rattle.std.proofs.lemmas.List.Folds.{find_at, find_past}
-use Rattle.std.proofs.lemmas.List.Sums.{position_or_len_is, sum_by-set}
+use Rattle.std.proofs.lemmas.List.Sums.{position_or_len_is}
 use Rattle.std.proofs.lemmas.Option.{same_Some, none-some, slice_get-get_or, slice_get_past}
-use Rattle.shm_model.specs.Permission.{Segment, destroyed}
+use Rattle.shm_model.specs.Permission.{Segment}
 use Rattle.shm_model.specs.Kernel.{with_id, with_key, replaced, is_destroyed}
-use Rattle.shm_keys.specs.Table.{IsLive, IsNumbered, IsIndexed, live_count, is_purged_from}
+use Rattle.shm_keys.specs.Table.{IsLive, IsNumbered, IsIndexed, is_purged_from}
 
 -- an identifier is its place times the sites, and the home
 pub place_of_id : (id sites home : ℕ) → id % sites ≡ home → home < sites → id ≡ id / sites * sites + home

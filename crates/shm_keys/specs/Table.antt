@@ -1,5 +1,5 @@
 -- The table of segments that one home keeps, and how its parts hang together.
-use Rattle.std.specs.Prelude.{◌≡◌, ◌≢◌, ℕ, ◌+◌, ◌*◌, ◌<◌, ◌≤◌, Bool, true, false, not, List, Option, Some, None, Result, Ok, Err, length, slice_index_or, count_by}
+use Rattle.std.specs.Prelude.{◌≡◌, ◌≢◌, ℕ, ◌+◌, ◌*◌, ◌<◌, ◌≤◌, Bool, false, not, List, Option, Some, length, slice_index_or, count_by}
 use Rattle.shm_place.specs.Limits.{segments_of_a_home}
 use Rattle.shm_model.specs.Permission.{Segment, destroyed}
 use Rattle.shm_model.specs.Kernel.{with_id, is_destroyed}

@@ -1,4 +1,4 @@
-use Rattle.std.proofs.Common.{◌≡◌, ℕ, ap}
+use Rattle.std.proofs.Common.{◌≡◌, ℕ}
 use Rattle.std.specs.List.{AllZip}
 use Rattle.std.proofs.lemmas.Map.Entries.{entries_from_clone}
 use Rattle.shm_keys.proofs.copy.copy_keys.Goals as goal

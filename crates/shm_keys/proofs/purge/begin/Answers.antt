@@ -1,4 +1,4 @@
-use Rattle.std.proofs.Common.{◌≡◌, ◌<◌, ◌||◌, ◌&&◌, ◌==◌, Bool, nat_lt, ap, ◌∙◌, subst, sym, arith, vec_len}
+use Rattle.std.proofs.Common.{◌≡◌, ◌||◌, ◌&&◌, ◌==◌, Bool, nat_lt, ap, ◌∙◌, subst, sym, arith}
 use Rattle.std.proofs.lemmas.Grind.{common_steps}
 use Rattle.std.specs.List.{insert}
 use Rattle.shm_keys.specs.SiteSet.{has}

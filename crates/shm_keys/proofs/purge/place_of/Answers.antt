@@ -1,4 +1,4 @@
-use Rattle.std.proofs.Common.{ltb, arith, rules, ◌≡◌, true, false}
+use Rattle.std.proofs.Common.{ltb, arith, rules}
 use Rattle.std.proofs.lemmas.Bool.{ltb-true, ltb-false}
 use Rattle.std.proofs.lemmas.List.Sorted.{IsPartitionPoint-from_clause, IsPartitionedBy-ltb}
 use Rattle.shm_keys.specs.declared.purge.Purge.{Purge}

@@ -1,8 +1,6 @@
-use Rattle.std.proofs.Common.{◌≡◌, ◌<◌, ◌≤◌, ◌&&◌, ◌==◌, Bool, false, true, length, get_or, ap, ◌∙◌, subst, sym, arith, rules}
+use Rattle.std.proofs.Common.{◌<◌, length, ap, ◌∙◌, sym, arith}
 use Rattle.std.proofs.lemmas.Bool.{not-true, not-false, eqb-true, eqb-false}
-use Rattle.std.proofs.lemmas.Grind.{common_steps}
-use Rattle.shm_keys.specs.Purge.{missing_in, IsRising}
-use Rattle.shm_keys.specs.declared.purge.Purge.{Purge}
+use Rattle.shm_keys.specs.Purge.{missing_in}
 use Rattle.shm_keys.proofs.Purges.{none_missing, kept_apart, not_read, missing_read, taken, taken_last}
 use Rattle.shm_keys.proofs.purge.take.Goals as goal
 use Rattle.shm_keys.proofs.purge.take.Goals.{then-ne-via-then-ne, then-ne-via-else-ne+then-not-contains}

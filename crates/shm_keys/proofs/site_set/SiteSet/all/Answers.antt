@@ -1,4 +1,4 @@
-use Rattle.std.proofs.Common.{Bool, false, true, ap, not, arith, ◌≡◌, ◌<◌, length, slice_index_or}
+use Rattle.std.proofs.Common.{false, true, ap, not, arith, ◌≡◌, ◌<◌, length, slice_index_or}
 use Rattle.std.proofs.lemmas.List.Folds.{list_all_at}
 use Rattle.std.proofs.lemmas.Bool.Decides.{nat_tests}
 use Rattle.shm_keys.proofs.site_set.SiteSet.all.Goals as goal

@@ -1,4 +1,4 @@
-use Rattle.std.proofs.Common.{◌≡◌, ◌/◌, ◌<◌, ◌≤◌, length, sym, ◌∙◌, ap, refl, arith}
+use Rattle.std.proofs.Common.{◌/◌, ◌<◌, ◌≤◌, length, sym, ◌∙◌, refl, arith}
 use Rattle.std.proofs.lemmas.Grind.{common_steps}
 use Rattle.shm_keys.proofs.Segments.{read_by_id, with_id_missing}
 use Rattle.shm_keys.proofs.table.SegTable.live.Goals as goal

@@ -1,10 +1,9 @@
-use Rattle.std.proofs.Common.{◌≡◌, ◌≤◌, ◌<◌, ◌+◌, ◌*◌, ◌++◌, ◌∷◌, [], ◌⊎◌, inl, inr, ◌≢◌, ◌==◌, ◌&&◌, not, if◌then◌else◌, ℕ, Option, Some, None, length, sym, ◌∙◌, ap, subst, refl, arith, nat_eq, vec_len, vec_capacity}
+use Rattle.std.proofs.Common.{◌≡◌, ◌≤◌, ◌<◌, ◌+◌, ◌*◌, ◌++◌, ◌∷◌, [], ◌⊎◌, inl, inr, ◌≢◌, ◌==◌, ◌&&◌, not, if◌then◌else◌, ℕ, Option, Some, None, length, sym, ◌∙◌, ap, subst, refl, arith, nat_eq, vec_capacity}
 use Rattle.std.proofs.lemmas.Grind.{common_steps}
 use Rattle.indexmap.specs.IndexMap.{get}
 use Rattle.shm_model.specs.Permission.{Segment}
 use Rattle.shm_model.specs.Kernel.{Called, make, with_key, new_segment}
 use Rattle.shm_model.specs.declared.call.Reply.TheVariants.{Id}
-use Rattle.shm_keys.specs.Table.{IsTable}
 use Rattle.shm_keys.proofs.Making.{make_full, make_new, next, table-made, with_place}
 use Rattle.shm_keys.proofs.table.SegTable.make.Goals as goal
 use Rattle.shm_keys.proofs.table.SegTable.make.Goals.{then-self-ge-MAX_LIVE-via-then-self-ge-MAX_LIVE, then-self-ge-MAX_LIVE-via-else-self-ge-MAX_LIVE+then-place}

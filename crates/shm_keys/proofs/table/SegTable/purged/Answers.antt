@@ -1,4 +1,4 @@
-use Rattle.std.proofs.Common.{◌≤◌, ◌+◌, length, arith}
+use Rattle.std.proofs.Common.{arith}
 use Rattle.shm_keys.specs.Table.{is_purged_from}
 use Rattle.shm_keys.proofs.table.SegTable.purged.Goals as goal
 

@@ -1,9 +1,9 @@
-use Rattle.std.proofs.Common.{◌≡◌, ◌/◌, ◌<◌, ◌+◌, ℕ, Option, Some, None, if◌then◌else◌, false, length, get_or, set, sym, ◌∙◌, ap, refl, subst, arith, nat_eq}
+use Rattle.std.proofs.Common.{◌≡◌, ◌/◌, ◌<◌, ◌+◌, ℕ, Option, Some, None, if◌then◌else◌, false, length, get_or, set, sym, ◌∙◌, ap, refl, arith, nat_eq}
 use Rattle.indexmap.specs.IndexMap.{get}
 use Rattle.shm_model.specs.Permission.{Segment, destroyed}
 use Rattle.shm_model.specs.Kernel.{replaced, destroyed_in}
 use Rattle.shm_keys.specs.Purge.{missing_in, missing_after}
-use Rattle.shm_keys.specs.Table.{IsLive, IsTable}
+use Rattle.shm_keys.specs.Table.{IsLive}
 use Rattle.shm_keys.proofs.Segments.{freed, live_place, replaced_is}
 use Rattle.shm_keys.proofs.Changes.{some_live, table-set, destroyed_once}
 use Rattle.shm_keys.proofs.table.SegTable.replace.Goals as goal

@@ -1,4 +1,4 @@
-use Rattle.std.proofs.Common.{◌≡◌, ◌≢◌, ℕ, Option, Some, None, sym, ◌∙◌, ap, nat_eq}
+use Rattle.std.proofs.Common.{◌≡◌, ℕ, Option, Some, None, sym, ◌∙◌, ap, nat_eq}
 use Rattle.indexmap.specs.IndexMap.{get}
 use Rattle.shm_keys.proofs.Segments.{with_key_found, with_key_missing}
 use Rattle.shm_keys.proofs.table.SegTable.with_key.Goals as goal
