@@ -30,3 +30,4 @@ pub mod LogsLists
 pub mod LogsRun
 pub mod LogsCount
 pub mod LogsOrder
+pub mod Played

@@ -3,6 +3,8 @@
 
 mod logs;
 mod memory;
+pub mod random;
+pub mod rows;
 mod runs;
 mod transactions;
 

@@ -6,7 +6,7 @@ use Rattle.shm_model.specs.declared.answer.Answer.{Answer}
 use Rattle.shm_model.specs.Message.{Envelope, Input, Deliver}
 use Rattle.shm_model.specs.Site.{Site}
 use Rattle.shm_model.specs.Step.{foreign, step}
-use Rattle.shm_model.specs.World.{Opening, opened_site, sites_of}
+use Rattle.shm_model.specs.World.{max_sent, Opening, opened_site, sites_of}
 
 -- where an envelope was sent: the stamp of the sender's step, the step's index in the sender's log, and the envelope's place among
 -- those that the step sent; for other inputs all three are 0
@@ -66,7 +66,7 @@ sent_by log = sum_by (λ l. length l.sent) log
 pub record LogsFit (o : Opening) (logs : List (List Logged)) : Type 0 where
   pub count : length logs ≡ sites_of o
   pub fit : (s : ℕ) → s < sites_of o → Fits (sites_of o) s (opened_site o s) (log_of logs s)
-  pub numbers : sum_by sent_by logs ≤ 9223372036854775808
+  pub numbers : sum_by sent_by logs ≤ max_sent
 
 -- an envelope stands in its sender's log where the delivery says, in a step of a lower stamp
 pub record IsSentBefore (logs : List (List Logged)) (l : Logged) (e : Envelope) : Type 0 where

@@ -80,9 +80,13 @@ pub record Next : Type 0 where
 abbrev pub unstepped : World → ℕ → Answer → Next
 unstepped w s answer = record { world = w; done = record { site = s; input = None; answer = answer } }
 
--- envelopes are counted up to 2^63; past that nothing is stepped any more
+-- envelopes are counted up to 2^63
+abbrev pub max_sent : ℕ
+max_sent = 9223372036854775808
+
+-- past that nothing is stepped any more
 abbrev pub is_full : World → Bool
-is_full w = nat_lt 9223372036854775808 (length w.sent)
+is_full w = nat_lt max_sent (length w.sent)
 
 abbrev pub stepped : World → ℕ → Input → Step → Next
 stepped w s input done = record {
