@@ -1,0 +1,3 @@
+pub mod CallBook
+pub mod Attachments
+pub mod Right

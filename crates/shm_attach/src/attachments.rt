@@ -1,0 +1,144 @@
+ghost use Rattle.std.specs.Prelude.{◌≡◌, ◌<◌, IfSome, is_none, length};
+ghost use Rattle.std.specs.List.{list_any, position_from};
+ghost use Rattle.shm_model.specs.Book.{at};
+ghost use Rattle.shm_model.specs.Site.{Site, is_attached, is_attachment_of, least_free};
+ghost use Rattle.shm_attach.specs.Attachments.{attachments_of, put_at, segment_of, with_attachments};
+
+use shm_place::SegId;
+use std::marker::Model;
+
+/// How many attachments a site has at most; their numbers are below it.
+pub const MAX_ATTACHMENTS: usize = 64;
+
+/// One attachment (`shmat(2)`): the segment, its size in bytes as it was asked, and whether only to read.
+#[derive(Clone, Copy)]
+pub(crate) struct Attachment {
+    pub(crate) id: SegId,
+    pub(crate) size: u32,
+    pub(crate) ro: bool,
+}
+
+impl Model for Attachment {
+    ghost use Rattle.shm_model.specs.Calls.{Attachment as Record};
+
+    ghost Value = { Record };
+
+    ghost view = { λ a. record { id = a.id; size = a.size; ro = a.ro } };
+
+    ghost inverse = { λ a. record { id = a.id; size = a.size; ro = a.ro } };
+}
+
+/// The attachments of a site, under the numbers 0 to 63.
+#[derive(Drop)]
+pub struct Attachments {
+    slots: [Option<Attachment>; MAX_ATTACHMENTS],
+}
+
+impl Model for Attachments {
+    ghost use Rattle.std.specs.Prelude.{◌≡◌, List, Option, length};
+    ghost use Rattle.shm_model.specs.Calls.{Attachment as Record};
+
+    ghost Value = { List (Option Record) };
+
+    ghost view = { λ attachments. attachments.slots };
+
+    ghost invariant = { λ attachments. length attachments.slots ≡ 64 };
+}
+
+impl Attachments {
+    /// Nothing is attached.
+    pub fn new() -> Attachments
+        ensures { attachments_of result ≡ (λ _. None) }
+    {
+        Attachments {
+            slots: [None; MAX_ATTACHMENTS],
+        }
+    }
+
+    /// Attaches the segment at the least free number, which is the answer. None: no number is free, and nothing changes.
+    pub fn put(&mut self, id: SegId, size: u32, ro: bool) -> Option<u32>
+        ensures number { result ≡ least_free (attachments_of self.old) }
+        ensures after { attachments_of self.new ≡ put_at result (record { id = id; size = size; ro = ro }) (attachments_of self.old) }
+    {
+        let number = self.least_free()?;
+        self.slots[number] = Some(Attachment { id, size, ro });
+        Some(number as u32)
+    }
+
+    /// The least number at which nothing is attached.
+    fn least_free(&self) -> Option<usize>
+        ensures number { result ≡ least_free (attachments_of self.now) }
+        ensures below { IfSome result (λ number. number < MAX_ATTACHMENTS) }
+    {
+        first_free(&self.slots)
+    }
+
+    /// What is attached at the number.
+    pub(crate) fn at(&self, number: u32) -> Option<Attachment>
+        ensures attachment { result ≡ attachments_of self.now number }
+        ensures below { IfSome result (λ _. number < MAX_ATTACHMENTS) }
+    {
+        let index = number as usize;
+        if index < self.slots.len() {
+            return self.slots[index];
+        }
+        None
+    }
+
+    /// The segment that is attached at the number.
+    pub fn segment(&self, number: u32) -> Option<SegId>
+        ensures { result ≡ segment_of (attachments_of self.now number) }
+    {
+        let attachment = self.at(number)?;
+        Some(attachment.id)
+    }
+
+    /// Takes the attachment away; its segment is the answer. None: nothing was attached there, and nothing changes.
+    pub fn take(&mut self, number: u32) -> Option<SegId>
+        ensures segment { result ≡ segment_of (attachments_of self.old number) }
+        ensures after { attachments_of self.new ≡ at (attachments_of self.old) number None }
+    {
+        let attachment = self.at(number)?;
+        self.slots[number as usize] = None;
+        Some(attachment.id)
+    }
+
+    /// Whether some attachment names the segment.
+    pub fn names(&self, id: SegId) -> bool
+        ensures { (site : Site) → result ≡ is_attached (with_attachments (attachments_of self.now) site) id }
+    {
+        is_among(&self.slots, id)
+    }
+
+    /// The same attachments.
+    pub fn copy(&self) -> Attachments
+        ensures { result ≡ self.now }
+    {
+        let mut slots = [None; MAX_ATTACHMENTS];
+        slots.copy_from_slice(&self.slots);
+        Attachments { slots }
+    }
+}
+
+/// Where nothing stands for the first time.
+fn first_free(slots: &[Option<Attachment>]) -> Option<usize>
+    ensures first { result ≡ position_from is_none 0 slots.now }
+    ensures below { IfSome result (λ number. number < length slots.now) }
+{
+    slots.iter().position(|slot| slot.is_none())
+}
+
+fn is_among(slots: &[Option<Attachment>], id: SegId) -> bool
+    ensures { result ≡ list_any (is_attachment_of id) slots.now }
+{
+    slots.iter().any(|slot| names(slot, id))
+}
+
+fn names(slot: &Option<Attachment>, id: SegId) -> bool
+    ensures { result ≡ is_attachment_of id slot.now }
+{
+    match slot {
+        None => false,
+        Some(attachment) => attachment.id == id,
+    }
+}

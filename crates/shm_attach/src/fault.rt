@@ -1,0 +1,48 @@
+ghost use Rattle.std.specs.Prelude.{◌≡◌};
+ghost use Rattle.shm_attach.specs.CallBook.{fault_number};
+ghost use Rattle.shm_attach.specs.Right.{denied_number};
+
+/// Why a segment call didn't begin.
+#[derive(Clone, Copy, Debug, PartialEq, Eq)]
+pub enum BeginFault {
+    /// A call is outstanding; a site has one at a time.
+    Busy,
+    /// The greatest call number was given.
+    UsedUp,
+}
+
+impl BeginFault {
+    /// The number of the refusal.
+    pub fn number(self) -> u8
+        ensures { result ≡ fault_number self }
+    {
+        match self {
+            BeginFault::Busy => 8,
+            BeginFault::UsedUp => 13,
+        }
+    }
+}
+
+/// Why a load or store goes nowhere.
+#[derive(Clone, Copy, Debug, PartialEq, Eq)]
+pub enum Denied {
+    /// Nothing is attached at this number.
+    NoAttachment,
+    /// A store through an attachment that is only to read (`shmat(2)`, `SHM_RDONLY`).
+    ReadOnly,
+    /// The segment's pages don't have the offset.
+    OutOfSegment,
+}
+
+impl Denied {
+    /// The number of the refusal.
+    pub fn number(self) -> u8
+        ensures { result ≡ denied_number self }
+    {
+        match self {
+            Denied::NoAttachment => 9,
+            Denied::ReadOnly => 10,
+            Denied::OutOfSegment => 11,
+        }
+    }
+}

@@ -1,0 +1,3 @@
+mod access;
+mod attachments;
+mod call_book;
