@@ -12,3 +12,6 @@ pub use limits::{MAX_SEGMENT_BYTES, PAGE_BYTES, PAGES, SEGMENTS_OF_A_HOME};
 pub use offset::{place, rounded};
 pub use page::{PageId, in_limits, manager_of};
 pub use sites::{MAX_SITES, NoSuchSite, Sites};
+
+#[cfg(test)]
+mod tests;
