@@ -1,0 +1,5 @@
+use Rattle.shm_laws.proofs.CallsCounted.{attachments-counted}
+use Rattle.shm_laws.proofs.calls.attachments_are_counted.Goals as goal
+
+pub returns : goal.returns
+returns c = λ o events opening. attachments-counted o opening events

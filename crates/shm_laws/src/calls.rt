@@ -1,0 +1,16 @@
+ghost use Rattle.std.specs.Prelude.{List};
+ghost use Rattle.shm_model.specs.History.{Counted, ExecutedOnce};
+ghost use Rattle.shm_model.specs.World.{IsOpening, Opening, run};
+ghost use Rattle.shm_model.specs.declared.event.Event.{Event};
+
+/// Each segment call is executed once: every reply that was sent or answered is the one kernel's, at the call's place among the calls
+/// as they were first handed over, whatever the network lost, repeated or reordered and whichever sites restarted.
+pub fn each_call_is_executed_once()
+    ensures { (o : Opening) (events : List Event) → IsOpening o → ExecutedOnce o (run o events) }
+{}
+
+/// Attachments are counted: a segment that isn't destroyed counts the attachments that name it, the attaches to it whose sites don't
+/// know yet that they succeeded, and the detaches that its home doesn't know of yet; and no attachment names a destroyed segment.
+pub fn attachments_are_counted()
+    ensures { (o : Opening) (events : List Event) → IsOpening o → Counted o (run o events) }
+{}
