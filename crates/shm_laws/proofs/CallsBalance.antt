@@ -15,7 +15,7 @@ use Rattle.shm_model.specs.SegmentCalls.{call_envelope}
 use Rattle.shm_model.specs.Site.{max_attachments}
 use Rattle.shm_model.specs.World.{Done, Opening, sites_of}
 use Rattle.shm_model.specs.History.{Numbered, attaching, called_on, detaching, has_call, has_replied, is_call, is_detach_begun, kernel, naming, reply_to}
-use Rattle.shm_laws.proofs.KernelEffect.{effect-call, every-weaker, gained, lost}
+use Rattle.shm_laws.proofs.KernelEffect.{effect-call, gained, lost}
 use Rattle.shm_laws.proofs.KernelCount.{IsGiven, given-after}
 use Rattle.shm_laws.proofs.KernelHeld.{Balanced, Moved, balanced-after}
 use Rattle.shm_laws.proofs.CallsInvariant.{is-call-same}
@@ -23,6 +23,7 @@ use Rattle.shm_laws.proofs.CallsExecuted.{reply-first}
 use Rattle.shm_laws.proofs.CallsNames.{cond-same, or-none}
 use Rattle.shm_laws.proofs.CallsCounting.{Distinct, bit, named-changed, named-same, one}
 use Rattle.shm_laws.proofs.CallsHeld.{attach-executed, attach-replied, attach-same, begun_in, detach-heard}
+use Rattle.shm_laws.proofs.KernelLists.{every-weaker}
 
 -- what holds a segment, by an account and a list of calls
 abbrev pub held_by : Opening → List Done → List Numbered → ℕ → ℕ

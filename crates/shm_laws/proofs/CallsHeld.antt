@@ -16,6 +16,7 @@ use Rattle.shm_laws.proofs.KernelEffect.{gained}
 use Rattle.shm_laws.proofs.CallsTurn.{is_plain}
 use Rattle.shm_laws.proofs.CallsInvariant.{Answered, is-call-same, reply-listed}
 use Rattle.shm_laws.proofs.CallsCounting.{Distinct, bit, count-cons, count-agree, count-removed, none-hit}
+use Rattle.shm_laws.proofs.KernelLists.{every}
 
 -- this event began the detach of call x from the segment
 abbrev pub begun_one : Option Input → Answer → ℕ → (ℕ → Option ℕ) → Numbered → ℕ → Bool
@@ -118,10 +119,6 @@ pub distinct-calls : (account : List Done) → Distinct (calls_of account)
 distinct-calls [] = tt
 distinct-calls (d ∷ ds) = distinct-done d.input d.answer (calls_of ds) (distinct-calls ds)
 
-every-one : {X : Type 0} (P : X → Type 0) → ((x : X) → P x) → (xs : List X) → AllByRecursion P xs
-every-one P holds [] = tt
-every-one P holds (x ∷ xs) = (holds x, every-one P holds xs)
-
 -- an attach that succeeded and has no answer yet
 abbrev pub is_open : Op → ℕ → Option Reply → Bool → Bool
 is_open op id reply replied = is_attach op id && is_attached reply && not replied
@@ -129,7 +126,7 @@ is_open op id reply replied = is_attach op id && is_attached reply && not replie
 pub attach-same : (o : Opening) (before after : List Done) (calls : List Numbered) (id : ℕ) → ((s n : ℕ) → has_replied after s n ≡ has_replied before s n)
     → attaching o after calls id ≡ attaching o before calls id
 attach-same o before after calls id silent =
-    count-agree _ _ calls (every-one _ (λ c. ap (λ b. is_open c.op id (reply_to o calls c.site c.number) b) (silent c.site c.number)) calls)
+    count-agree _ _ calls (every _ (λ c. ap (λ b. is_open c.op id (reply_to o calls c.site c.number) b) (silent c.site c.number)) calls)
 
 -- a call that is executed
 call-turned : (s n : ℕ) (c x : Numbered) → is_call x.site x.number c ≡ false → is_call c.site c.number x ≡ false
@@ -206,7 +203,7 @@ module _ (o : Opening) (account : List Done) (calls : List Numbered) (s n : ℕ)
       count-removed (λ c. is_open c.op id (reply_to o calls c.site c.number) (has_replied account c.site c.number))
       (λ c. is_open c.op id (reply_to o calls c.site c.number) (has_replied (answered ∷ account) c.site c.number)) s n (is_attach op id && is_attached (Some reply)) calls
       distinct (reply-listed o calls s n reply known)
-      (every-one _ (λ c other. ap (λ b. is_open c.op id (reply_to o calls c.site c.number) b) (replied-other s n c (has_replied account c.site c.number) other)) calls)
+      (every _ (λ c other. ap (λ b. is_open c.op id (reply_to o calls c.site c.number) b) (replied-other s n c (has_replied account c.site c.number) other)) calls)
       (every-here calls ops)
     where
       every-here : (cs : List Numbered) → AllByRecursion (λ c. is_call s n c ≡ true → c.op ≡ op) cs → AllByRecursion (λ c. is_call s n c ≡ true

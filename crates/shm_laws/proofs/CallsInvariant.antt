@@ -3,7 +3,6 @@ use Rattle.std.proofs.Common.{◌≡◌, ◌≢◌, ℕ, ◌<◌, ◌≤◌, Boo
 use Rattle.std.specs.List.{AllByRecursion}
 use Rattle.std.proofs.lemmas.Bool.{eqb-true, eqb-false}
 use Rattle.std.proofs.lemmas.Bool.Decides.{nat_tests}
-use Rattle.std.proofs.lemmas.List.Elements.{All-contains, All-from_recursion}
 use Rattle.std.proofs.lemmas.Option.{same_Some}
 use Rattle.shm_model.specs.declared.answer.Answer.TheVariants.{Replied}
 use Rattle.shm_model.specs.declared.call.Op.{Op}
@@ -80,9 +79,6 @@ at-cases-if P false x y here there = there refl
 -- a function with one value changed
 pub at-cases : {X : Type 0} (P : X → Type 0) (f : ℕ → X) (k : ℕ) (x : X) (j : ℕ) → (k ≡ j → P x) → (k ≢ j → P (f j)) → P (at f k x j)
 at-cases P f k x j here there = at-cases-if P (k == j) x (f j) (λ is. here (eqb-true k j is)) (λ is. there (eqb-false k j is))
-
-pub every-contains : {X : Type 0} (P : X → Type 0) (xs : List X) (x : X) → AllByRecursion P xs → Contains xs x → P x
-every-contains P xs x all found = All-contains P xs x (All-from_recursion P xs all) found
 
 -- a call in the list has a reply
 reply-listed-step : (o : Opening) (c : Numbered) (calls : List Numbered) (s n : ℕ) (reply : Reply) (b : Bool) → is_call s n c ≡ b

@@ -18,11 +18,12 @@ use Rattle.shm_model.specs.History.{ExecutedOnce, Numbered, calls_of, handed_ove
 use Rattle.shm_laws.proofs.RunInduction.{IsStill, still_took, still_refused}
 use Rattle.shm_laws.proofs.KernelParts.{HasKeyAtHome, part}
 use Rattle.shm_laws.proofs.CallsTurn.{Desk, Repeats, Turn, desk_of, executed_desk, is_plain, again, attached, detach_begun, ended, executed, hears_purged, old, op_begun, purges_one, quiet}
-use Rattle.shm_laws.proofs.CallsInvariant.{Answered, Holds, awaits, every-contains, kept_number, view_of}
+use Rattle.shm_laws.proofs.CallsInvariant.{Answered, Holds, awaits, kept_number, view_of}
 use Rattle.shm_laws.proofs.CallsViews.{again-kept, fresh-above, old-below, view-begun, view-ended, view-executed, view-same}
 use Rattle.shm_laws.proofs.CallsSteps.{Known, begins, begun_view, ended_view, ends, grown, told}
 use Rattle.shm_laws.proofs.CallsExecuted.{executed_view, executes, replies-now, unlisted}
 use Rattle.shm_laws.proofs.CallsRun.{ByTurns, Honest, desks, run-turns}
+use Rattle.shm_laws.proofs.KernelLists.{every-contains}
 
 -- what a run has come to
 abbrev pub Once : Opening → (ℕ → Desk) → List Envelope → List Done → Type 0

@@ -14,7 +14,7 @@ use Rattle.shm_model.specs.Access.{Place, Step, ask_for, is_pending, load, load_
 use Rattle.shm_model.specs.Transfer.{arranged, drop_first, is_nothing, limited, on_note, on_note_of, order_envelope, order_envelopes, sent_by, to_book, to_entry}
 use Rattle.shm_model.specs.Step.{restart}
 use Rattle.shm_laws.proofs.CallsTurn.{desk_of, is_plain}
-use Rattle.shm_laws.proofs.KernelEffect.{every-map}
+use Rattle.shm_laws.proofs.KernelLists.{every, every-map}
 
 -- a message of a page
 pub record IsNote (e : Envelope) : Type 0 where
@@ -86,12 +86,8 @@ order-note : (me : ℕ) (page : PageId) (n : ℕ) (order : Order) → IsNote (or
 order-note me page n (ClearTo s) = note-of me s page _
 order-note me page n (HandTo owner requester kind) = note-of me owner page _
 
-every-of : {X : Type 0} (P : X → Type 0) → ((x : X) → P x) → (xs : List X) → AllByRecursion P xs
-every-of P holds [] = tt
-every-of P holds (x ∷ xs) = (holds x, every-of P holds xs)
-
 pub order-notes : (me : ℕ) (page : PageId) (book : Book) (orders : List Order) → AllByRecursion IsNote (order_envelopes me page book orders)
-order-notes me page book orders = every-map IsNote (order_envelope me page book.number) orders (every-of _ (order-note me page book.number) orders)
+order-notes me page book orders = every-map IsNote (order_envelope me page book.number) orders (every _ (order-note me page book.number) orders)
 
 quiet-to_book : (me : ℕ) (page : PageId) (outcome : Outcome) (site : Site) → Quiet site (to_book me page outcome site)
 quiet-to_book me page Ignored site = quiet-still site Dropped refl

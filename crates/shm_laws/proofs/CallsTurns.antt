@@ -24,9 +24,9 @@ use Rattle.shm_model.specs.Access.{Step, dropped, still}
 use Rattle.shm_model.specs.SegmentCalls.{attached_at, begin_detach, begin_op, begin_request, call_envelope, execute, numbered, on_call_as, on_reply_to, purge_envelope, reply_counts, with_missing}
 use Rattle.shm_model.specs.Step.{ask_again, call_again, foreign, on_message, orders_again, purges_again, step, tick}
 use Rattle.shm_model.specs.History.{Numbered, handed_over, is_refused, with_done}
-use Rattle.shm_laws.proofs.KernelEffect.{every-map, every-weaker}
 use Rattle.shm_laws.proofs.CallsTurn.{Desk, Repeats, Turn, TurnOf, attachment_of, desk_of, is_plain, missing_with, again, attached, detach_begun, ended, executed, hears_purged, old, op_begun, purges_one, quiet}
 use Rattle.shm_laws.proofs.CallsQuiet.{IsNote, Quiet, order-notes, quiet-load, quiet-on_note_of, quiet-restart, quiet-still, quiet-store}
+use Rattle.shm_laws.proofs.KernelLists.{every-map, every-weaker}
 
 note-repeats : (sites me : ℕ) (d : Desk) (e : Envelope) → IsNote e → Repeats sites me d e
 note-repeats sites me d e note = record {

@@ -10,8 +10,9 @@ use Rattle.shm_place.specs.Home.{home_of_id}
 use Rattle.shm_model.specs.Permission.{Segment, destroyed}
 use Rattle.shm_model.specs.Kernel.{Called, is_at, made_at, next_id, replaced, with_id}
 use Rattle.shm_model.specs.declared.call.Op.{Op}
-use Rattle.shm_laws.proofs.KernelParts.{filter-map, found-id}
-use Rattle.shm_laws.proofs.KernelEffect.{Effect, changed, every-push, every-replaced, every-weaker, found-holds, kept, made}
+use Rattle.shm_laws.proofs.KernelParts.{found-id}
+use Rattle.shm_laws.proofs.KernelEffect.{Effect, changed, every-replaced, kept, made}
+use Rattle.shm_laws.proofs.KernelLists.{every-push, every-weaker, filter-map, found-holds}
 
 -- an identifier of its home that was given
 abbrev pub IsGiven : ℕ → List Segment → Segment → Type 0

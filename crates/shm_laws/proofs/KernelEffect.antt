@@ -1,5 +1,5 @@
 -- What a call does to the kernel's list: nothing, one segment more, or one segment changed; and what that leaves as it was.
-use Rattle.std.proofs.Common.{◌≡◌, ◌≢◌, ℕ, ◌+◌, ◌-◌, ◌%◌, ◌<◌, Bool, true, false, cond, not, ◌&&◌, ◌||◌, List, [], ◌∷◌, ◌++◌, map, find, Option, Some, None, if◌then◌else◌, ◌==◌, refl, sym, ap, ◌∙◌, subst, arith, nat_lt, nat_le}
+use Rattle.std.proofs.Common.{◌≡◌, ◌≢◌, ℕ, ◌+◌, ◌-◌, ◌%◌, ◌<◌, Bool, true, false, not, ◌&&◌, ◌||◌, List, [], ◌∷◌, ◌++◌, Option, Some, None, if◌then◌else◌, ◌==◌, refl, sym, ap, ◌∙◌, subst, arith, nat_lt, nat_le}
 use Rattle.std.specs.List.{AllByRecursion}
 use Rattle.std.proofs.lemmas.Bool.Decides.{nat_tests}
 use Rattle.std.proofs.lemmas.Nat.{mod-mul-add}
@@ -19,6 +19,7 @@ use Rattle.shm_model.specs.declared.call.Op.TheVariants.{Get, Attach, Detach, Re
 use Rattle.shm_model.specs.declared.call.Reply.{Reply}
 use Rattle.shm_model.specs.declared.call.Reply.TheVariants.{Id, Attached as AttachedReply, Ok as OkReply, Refused}
 use Rattle.shm_laws.proofs.KernelParts.{HasKeyAtHome, found-id}
+use Rattle.shm_laws.proofs.KernelLists.{every-push, found-holds}
 
 -- the call is a detach from this segment
 abbrev pub is_detach : Op → ℕ → Bool
@@ -198,27 +199,6 @@ effect-call sites home caller below (Stat cred id) segments at =
     does-on_live sites home below op segments (with_id id segments) _ (λ i. refl) (λ g found alive.
     effect-if sites home op segments (not (may_stat cred g)) _ _ (λ is. does-nothing sites home below op segments (Refused Eacces) refl (λ i. refl)) (λ is.
     does-nothing sites home below op segments _ refl (λ i. refl)))
-
-pub every-push : {X : Type 0} (P : X → Type 0) (xs : List X) (x : X) → AllByRecursion P xs → P x → AllByRecursion P (xs ++ (x ∷ []))
-every-push P [] x all here = (here, tt)
-every-push P (y ∷ ys) x all here = (all.0, every-push P ys x all.1 here)
-
-pub every-map : {X Y : Type 0} (P : Y → Type 0) (f : X → Y) (xs : List X) → AllByRecursion (λ x. P (f x)) xs → AllByRecursion P (map f xs)
-every-map P f [] all = tt
-every-map P f (x ∷ xs) all = (all.0, every-map P f xs all.1)
-
-pub every-weaker : {X : Type 0} (P Q : X → Type 0) → ((x : X) → P x → Q x) → (xs : List X) → AllByRecursion P xs → AllByRecursion Q xs
-every-weaker P Q weaker [] all = tt
-every-weaker P Q weaker (x ∷ xs) all = (weaker x all.0, every-weaker P Q weaker xs all.1)
-
-found-holds-step : {X : Type 0} (P : X → Type 0) (b : Bool) (x : X) (rest : Option X) (g : X) → cond b (Some x) rest ≡ Some g → P x → (rest ≡ Some g → P g) → P g
-found-holds-step P true x rest g found here later = let same : x ≡ g = cc in subst P same here
-found-holds-step P false x rest g found here later = later found
-
--- what holds of each element holds of the one that is found
-pub found-holds : {X : Type 0} (P : X → Type 0) (p : X → Bool) (xs : List X) (g : X) → AllByRecursion P xs → find p xs ≡ Some g → P g
-found-holds P p [] g all found = cc
-found-holds P p (x ∷ xs) g all found = found-holds-step P (p x) x (find p xs) g found all.0 (found-holds P p xs g all.1)
 
 -- what holds of each segment, and of the changed one, holds after the change
 replaced-step : (P : Segment → Type 0) (b : Bool) (new g : Segment) → P g → P new → P (if b then new else g)

@@ -8,8 +8,9 @@ use Rattle.shm_model.specs.Kernel.{Called, replaced, with_id}
 use Rattle.shm_model.specs.declared.call.Op.{Op}
 use Rattle.shm_model.specs.declared.call.Reply.{Reply}
 use Rattle.shm_laws.proofs.KernelParts.{found-id}
-use Rattle.shm_laws.proofs.KernelEffect.{Effect, Change, Kept, changed, every-push, every-weaker, found-holds, gained, is_detach, kept, lost, made}
+use Rattle.shm_laws.proofs.KernelEffect.{Effect, Change, Kept, changed, gained, is_detach, kept, lost, made}
 use Rattle.shm_laws.proofs.KernelCount.{IsGiven, found-after, next-absent}
+use Rattle.shm_laws.proofs.KernelLists.{every-push, every-weaker, found-holds}
 
 -- each segment counts who holds it, and what is held was made
 pub record Balanced (held : ℕ → ℕ) (segments : List Segment) : Type 0 where

@@ -31,6 +31,7 @@ pub mod LogsRun
 pub mod LogsCount
 pub mod LogsOrder
 pub mod Played
+pub mod KernelLists
 pub mod KernelParts
 pub mod KernelEffect
 pub mod KernelCount
@@ -49,4 +50,7 @@ pub mod CallsHeld
 pub mod CallsNames
 pub mod CallsNamed
 pub mod CallsBalance
+pub mod CallsOpened
+pub mod CallsBalanced
 pub mod CallsCounted
+pub mod CallsPurged

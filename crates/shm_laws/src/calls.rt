@@ -1,5 +1,5 @@
 ghost use Rattle.std.specs.Prelude.{List};
-ghost use Rattle.shm_model.specs.History.{Counted, ExecutedOnce};
+ghost use Rattle.shm_model.specs.History.{Counted, ExecutedOnce, PurgedDead};
 ghost use Rattle.shm_model.specs.World.{IsOpening, Opening, run};
 ghost use Rattle.shm_model.specs.declared.event.Event.{Event};
 
@@ -13,4 +13,9 @@ pub fn each_call_is_executed_once()
 /// know yet that they succeeded, and the detaches that its home doesn't know of yet; and no attachment names a destroyed segment.
 pub fn attachments_are_counted()
     ensures { (o : Opening) (events : List Event) → IsOpening o → Counted o (run o events) }
+{}
+
+/// Nothing alive is purged: a segment that some site has purged is destroyed, and no attachment of any site names it.
+pub fn nothing_alive_is_purged()
+    ensures { (o : Opening) (events : List Event) → IsOpening o → PurgedDead o (run o events) }
 {}

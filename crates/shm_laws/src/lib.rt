@@ -9,7 +9,7 @@ pub mod rows;
 mod runs;
 mod transactions;
 
-pub use calls::{attachments_are_counted, each_call_is_executed_once};
+pub use calls::{attachments_are_counted, each_call_is_executed_once, nothing_alive_is_purged};
 pub use logs::{logs_have_one_order, merged_logs_are_a_run};
 pub use memory::every_run_is_legal_and_coherent;
 pub use runs::{runs_go_on, sites_run_on_their_own_inputs};
