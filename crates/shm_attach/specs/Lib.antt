@@ -1,3 +1,4 @@
 pub mod CallBook
 pub mod Attachments
 pub mod Right
+pub mod Home

@@ -1,15 +1,22 @@
-//! Segment calls at both ends: a site's one outstanding call and its attachments, and what an access through them reaches.
+//! Segment calls at both ends: a site's one outstanding call, its attachments and what an access through them reaches; and the
+//! home that executes each call once, however often it comes.
 #![tactic(auto)]
 
 mod access;
 mod attachments;
 mod call_book;
+mod done;
 mod fault;
+mod home;
+mod number;
+mod run;
 #[cfg(test)]
 mod tests;
 
 pub use access::right;
 pub use attachments::{Attachments, MAX_ATTACHMENTS};
 pub use call_book::CallBook;
+pub use done::Done;
 pub use fault::{BeginFault, Denied};
+pub use home::Home;
 pub use shm_model::{Attached, Op, Reply, Request};

@@ -1,3 +1,4 @@
 mod access;
 mod attachments;
 mod call_book;
+mod home;

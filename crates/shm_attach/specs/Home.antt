@@ -1,0 +1,54 @@
+-- What shm_model sees of a home: its table of segments, and the last reply to each site.
+use Rattle.std.specs.Prelude.{◌≡◌, ℕ, List, [], ◌∷◌, Option, Some, None}
+use Rattle.shm_model.specs.declared.answer.Answer.{Answer}
+use Rattle.shm_model.specs.declared.answer.Answer.TheVariants.{Took, Dropped}
+use Rattle.shm_model.specs.declared.call.Op.{Op}
+use Rattle.shm_model.specs.declared.call.Reply.{Reply}
+use Rattle.shm_model.specs.Calls.{Kept, Freshness, Fresh, Again, Old}
+use Rattle.shm_model.specs.Kernel.{call, destroyed_by}
+use Rattle.shm_model.specs.Message.{Envelope}
+use Rattle.shm_model.specs.Site.{Site}
+use Rattle.shm_model.specs.SegmentCalls.{purges, reply_envelope}
+use Rattle.shm_number.specs.Kept.{kept_at}
+use Rattle.shm_keys.specs.Table.{Table, missing_of}
+use Rattle.shm_keys.specs.Purge.{missing_after}
+use Rattle.shm_attach.specs.declared.done.Done.{Done}
+use Rattle.shm_attach.specs.declared.number.Recall.{Recall}
+use Rattle.shm_attach.specs.declared.number.Recall.TheVariants as recall
+
+pub record Home : Type 0 where
+  pub table : Table
+  pub kept : List (Option (ℕ × Reply))
+
+abbrev pub kept_reply : Option (ℕ × Reply) → Option Kept
+kept_reply None = None
+kept_reply (Some last) = Some (record { number = last.0; reply = last.1 })
+
+abbrev pub kept_of : List (Option (ℕ × Reply)) → ℕ → Option Kept
+kept_of kept site = kept_reply (kept_at kept site)
+
+abbrev pub freshness_of : Recall → Freshness
+freshness_of recall.Fresh = Fresh
+freshness_of (recall.Again reply) = Again reply
+freshness_of recall.Old = Old
+
+-- the site, with this home
+abbrev pub with_home : Home → Site → Site
+with_home home site = record site { table = home.table.segments; kept = kept_of home.kept; missing = missing_of home.table }
+
+-- what a home's answer is to the site that it belongs to, and what goes out
+abbrev pub answered : Option Done → Answer
+answered None = Dropped
+answered (Some done) = Took
+
+abbrev pub sent_for : ℕ → ℕ → ℕ → ℕ → Option Done → List Envelope
+sent_for sites me from number None = []
+sent_for sites me from number (Some done) = reply_envelope me from number done.reply ∷ purges sites me done.destroyed
+
+-- the table executed the call: what it told, and the table after it
+pub record IsRun (op : Op) (before after : Table) (done : Done) : Type 0 where
+  pub called : call before.sites before.home op before.segments ≡ record { reply = done.reply; segments = after.segments }
+  pub destroyed : destroyed_by op before.segments after.segments ≡ done.destroyed
+  pub missing : (id site : ℕ) → missing_of after id site ≡ missing_after done.destroyed before.sites (missing_of before) id site
+  pub home : after.home ≡ before.home
+  pub sites : after.sites ≡ before.sites

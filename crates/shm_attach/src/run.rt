@@ -1,0 +1,162 @@
+//! One call on a home's table, with what it destroys.
+ghost use Rattle.std.specs.Prelude.{◌≡◌, ℕ, ◌<◌, IfOk, IfSome, IfNone, OnErr, false, true};
+ghost use Rattle.shm_model.specs.Kernel.{call, named_by, next_id};
+ghost use Rattle.shm_model.specs.declared.call.Op.TheVariants.{Get as GetOp, Attach as AttachOp, Detach as DetachOp, Remove as RemoveOp, Set as SetOp, Stat as StatOp};
+ghost use Rattle.shm_model.specs.declared.call.Reply.TheVariants.{Id, Ok as OkReply};
+ghost use Rattle.shm_place.specs.Home.{home_of_id};
+ghost use Rattle.shm_keys.specs.Table.{is_purged_from, missing_of};
+ghost use Rattle.shm_attach.specs.Home.{IsRun};
+
+use crate::done::Done;
+use shm_keys::{GetFault, SegTable};
+use shm_model::{Attached, Cred, Errno, GetFlags, Mode, Op, Reply, Stat};
+use shm_place::{Key, SegId};
+use std::alloc::{AllocError, Allocator};
+
+/// Executes the call. Where memory is refused nothing has changed.
+pub(crate) fn execute<A: Allocator + Copy>(
+    table: &mut SegTable<A>,
+    op: Op,
+) -> Result<Done, AllocError>
+    requires { IfSome (named_by op) (λ id. home_of_id table.old.sites id ≡ table.old.home) }
+    ensures run { IfOk result (λ done. IsRun op table.old table.new done) }
+    ensures refused { OnErr result (table.new ≡ table.old) }
+    ensures memory { OnErr result ((call table.old.sites table.old.home op table.old.segments).reply ≡ Id (next_id table.old.sites table.old.home table.old.segments)) }
+{
+    match op {
+        Op::Get {
+            cred,
+            key,
+            size,
+            mode,
+            flags,
+        } => get(table, cred, key, size, mode, flags),
+        Op::Attach { cred, id, ro } => Ok(attach(table, cred, id, ro)),
+        Op::Detach { id } => Ok(detach(table, id)),
+        Op::Remove { cred, id } => Ok(remove(table, cred, id)),
+        Op::Set {
+            cred,
+            id,
+            uid,
+            gid,
+            mode,
+        } => Ok(set(table, cred, id, uid, gid, mode)),
+        Op::Stat { cred, id } => Ok(stat(table, cred, id)),
+    }
+}
+
+fn get<A: Allocator + Copy>(
+    table: &mut SegTable<A>,
+    cred: Cred,
+    key: Key,
+    size: u32,
+    mode: Mode,
+    flags: GetFlags,
+) -> Result<Done, AllocError>
+    ensures run { IfOk result (λ done. IsRun (GetOp cred key size mode flags) table.old table.new done) }
+    ensures refused { OnErr result (table.new ≡ table.old) }
+    ensures memory { OnErr result ((call table.old.sites table.old.home (GetOp cred key size mode flags) table.old.segments).reply ≡ Id (next_id table.old.sites table.old.home table.old.segments)) }
+{
+    match table.get(cred, key, size, mode, flags) {
+        Ok(id) => Ok(told(Reply::Id(id))),
+        Err(GetFault::Refused(errno)) => Ok(told(Reply::Refused(errno))),
+        Err(GetFault::OutOfMemory) => Err(AllocError),
+    }
+}
+
+fn attach<A: Allocator + Copy>(table: &mut SegTable<A>, cred: Cred, id: SegId, ro: bool) -> Done
+    requires { home_of_id table.old.sites id ≡ table.old.home }
+    ensures { IsRun (AttachOp cred id ro) table.old table.new result }
+{
+    match table.attach(cred, id, ro) {
+        Ok(attached) => told(Reply::Attached(attached)),
+        Err(errno) => told(Reply::Refused(errno)),
+    }
+}
+
+fn detach<A: Allocator + Copy>(table: &mut SegTable<A>, id: SegId) -> Done
+    requires { home_of_id table.old.sites id ≡ table.old.home }
+    ensures { IsRun (DetachOp id) table.old table.new result }
+{
+    match table.detach(id) {
+        Ok(()) => done(table, id),
+        Err(errno) => told(Reply::Refused(errno)),
+    }
+}
+
+fn remove<A: Allocator + Copy>(table: &mut SegTable<A>, cred: Cred, id: SegId) -> Done
+    requires { home_of_id table.old.sites id ≡ table.old.home }
+    ensures { IsRun (RemoveOp cred id) table.old table.new result }
+{
+    match table.remove(cred, id) {
+        Ok(()) => done(table, id),
+        Err(errno) => told(Reply::Refused(errno)),
+    }
+}
+
+fn set<A: Allocator + Copy>(
+    table: &mut SegTable<A>,
+    cred: Cred,
+    id: SegId,
+    uid: u32,
+    gid: u32,
+    mode: Mode,
+) -> Done
+    requires { home_of_id table.old.sites id ≡ table.old.home }
+    ensures { IsRun (SetOp cred id uid gid mode) table.old table.new result }
+{
+    match table.set(cred, id, uid, gid, mode) {
+        Ok(()) => told(Reply::Ok),
+        Err(errno) => told(Reply::Refused(errno)),
+    }
+}
+
+fn stat<A: Allocator + Copy>(table: &SegTable<A>, cred: Cred, id: SegId) -> Done
+    requires { home_of_id table.now.sites id ≡ table.now.home }
+    ensures { IsRun (StatOp cred id) table.now table.now result }
+{
+    match table.stat(cred, id) {
+        Ok(stat) => told(Reply::Stat(stat)),
+        Err(errno) => told(Reply::Refused(errno)),
+    }
+}
+
+/// A reply to a call that destroyed nothing.
+fn told(reply: Reply) -> Done
+    ensures { result ≡ record { reply = reply; destroyed = None } }
+{
+    Done {
+        reply,
+        destroyed: None,
+    }
+}
+
+/// The reply to a call that was done, and may have destroyed the segment.
+fn done<A: Allocator + Copy>(table: &SegTable<A>, id: SegId) -> Done
+    ensures reply { result.reply ≡ OkReply }
+    ensures gone { IfSome result.destroyed (λ other. (other ≡ id) × (is_purged_from table.now.segments id ≡ true)) }
+    ensures stays { IfNone result.destroyed ((site : ℕ) → missing_of table.now id site ≡ false) }
+    ensures sites { 0 < table.now.sites }
+{
+    Done {
+        reply: Reply::Ok,
+        destroyed: to_purge(table, id),
+    }
+}
+
+/// The segment, where some site has yet to purge it.
+fn to_purge<A: Allocator + Copy>(table: &SegTable<A>, id: SegId) -> Option<SegId>
+    ensures gone { IfSome result (λ other. (other ≡ id) × (is_purged_from table.now.segments id ≡ true)) }
+    ensures stays { IfNone result ((site : ℕ) → missing_of table.now id site ≡ false) }
+    ensures sites { 0 < table.now.sites }
+{
+    let after = match id.0.checked_sub(1) {
+        None => None,
+        Some(before) => Some(SegId(before)),
+    };
+    let (first, _sites) = table.next_purge(after)?;
+    if first == id {
+        return Some(id);
+    }
+    None
+}
