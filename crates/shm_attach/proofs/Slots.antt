@@ -1,5 +1,6 @@
 -- A list of what stands at each number, read as a function of the number.
-use Rattle.std.proofs.Common.{◌≡◌, ◌∙◌, ℕ, zero, suc, ◌+◌, ◌<◌, Bool, List, [], ◌∷◌, Option, None, is_none, length, get_or, replicate, ap, refl, arith}
+use Rattle.std.proofs.Common.{◌≡◌, ◌∙◌, ℕ, zero, suc, ◌+◌, ◌<◌, Bool, false, List, [], ◌∷◌, Option, None, is_none, length, get_or, replicate, ap, refl, arith}
+use Rattle.std.proofs.lemmas.Bool.Decides.{nat_tests}
 use Rattle.std.proofs.Math.Path.{fun_ext}
 use Rattle.std.proofs.lemmas.List.{get_or_default}
 use Rattle.std.specs.List.{find, list_any, position_from, range_with_len}
@@ -59,3 +60,11 @@ read_of_all_one (suc n) v (suc j) = read_of_all_one n v j
 
 pub all_one : {X : Type 0} (n : ℕ) (v : X) → ◌≡◌ {A = ℕ → X} (λ j. get_or (replicate n v) j v) (λ _. v)
 all_one n v = fun_ext (read_of_all_one n v)
+
+-- where no attachment in the list names the segment, none at any number does
+pub none_named : (slots : List (Option Attachment)) (id number : ℕ) → list_any (is_attachment_of id) slots ≡ false → is_attachment_of id (attachments_of slots number) ≡ false
+none_named [] id number h = refl
+none_named (slot ∷ slots) id zero h = grind (arith, nat_tests)
+none_named (slot ∷ slots) id (suc number) h =
+    let rest : list_any (is_attachment_of id) slots ≡ false = grind (arith, nat_tests) in
+    none_named slots id number rest

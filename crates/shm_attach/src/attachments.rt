@@ -1,4 +1,4 @@
-ghost use Rattle.std.specs.Prelude.{◌≡◌, ◌<◌, IfSome, is_none, length};
+ghost use Rattle.std.specs.Prelude.{◌≡◌, ℕ, ◌<◌, false, IfSome, is_none, length};
 ghost use Rattle.std.specs.List.{list_any, position_from};
 ghost use Rattle.shm_model.specs.Book.{at};
 ghost use Rattle.shm_model.specs.Site.{Site, is_attached, is_attachment_of, least_free};
@@ -73,6 +73,13 @@ impl Attachments {
         first_free(&self.slots)
     }
 
+    /// Whether no number is free.
+    pub fn is_full(&self) -> bool
+        ensures { result ≡ is_none (least_free (attachments_of self.now)) }
+    {
+        self.least_free().is_none()
+    }
+
     /// What is attached at the number.
     pub(crate) fn at(&self, number: u32) -> Option<Attachment>
         ensures attachment { result ≡ attachments_of self.now number }
@@ -105,7 +112,8 @@ impl Attachments {
 
     /// Whether some attachment names the segment.
     pub fn names(&self, id: SegId) -> bool
-        ensures { (site : Site) → result ≡ is_attached (with_attachments (attachments_of self.now) site) id }
+        ensures named { (site : Site) → result ≡ is_attached (with_attachments (attachments_of self.now) site) id }
+        ensures each { result ≡ false → (number : ℕ) → is_attachment_of id (attachments_of self.now number) ≡ false }
     {
         is_among(&self.slots, id)
     }

@@ -6,6 +6,7 @@ mod calls;
 mod copy;
 mod get;
 mod permission;
+mod preset;
 mod purge;
 mod purging;
 mod replace;

@@ -7,6 +7,7 @@ use std::alloc::{Allocator, Global};
 
 mod calls;
 mod limits;
+mod preset;
 mod purges;
 mod refused;
 

@@ -1,4 +1,4 @@
-ghost use Rattle.std.specs.Prelude.{◌≡◌, ◌<◌, ◌==◌, [], ◌∷◌, ◌++◌, length, map};
+ghost use Rattle.std.specs.Prelude.{◌≡◌, ◌≤◌, ◌<◌, ◌==◌, [], ◌∷◌, ◌++◌, length, map};
 ghost use Rattle.shm_manager.specs.Order.{order_of};
 ghost use Rattle.shm_model.specs.Book as book;
 
@@ -81,7 +81,8 @@ impl Orders {
 
     /// The orders, the first to send first.
     pub fn as_slice(&self) -> &[Order]
-        ensures { map order_of result.now ≡ self.now }
+        ensures orders { map order_of result.now ≡ self.now }
+        ensures few { length result.now ≤ 16 }
     {
         &self.list[..self.count]
     }

@@ -24,7 +24,8 @@ impl Model for SiteSet {
 }
 
 impl SiteSet {
-    pub(crate) fn empty() -> SiteSet
+    /// The empty set.
+    pub fn empty() -> SiteSet
         ensures { is_member result ≡ (λ _. false) }
     {
         SiteSet {

@@ -24,7 +24,7 @@ impl Model for NilPage {
 
 impl NilPage {
     /// The state of a site without the page that has met this number; 0 where it has met none.
-    pub(crate) fn after(number: u64) -> NilPage
+    pub fn after(number: u64) -> NilPage
         ensures { result ≡ nil_of number }
     {
         NilPage { seen: number }

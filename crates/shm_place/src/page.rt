@@ -1,15 +1,44 @@
-ghost use Rattle.std.specs.Prelude.{◌≡◌, ◌<◌};
+ghost use Rattle.std.specs.Prelude.{◌≡◌, ◌<◌, ◌++◌};
+ghost use Rattle.std.specs.Cmp.Rules.{comparing, hashing};
+ghost use Rattle.std.specs.Hash as fed;
+ghost use Rattle.std.proofs.Common.{rules};
 ghost use Rattle.shm_place.specs.Page;
 
 use crate::id::{SegId, SiteId};
 use crate::limits::{PAGES, SEGMENTS_OF_A_HOME};
 use crate::sites::Sites;
+use std::hash::{Hash, Hasher};
 
 /// A page: the segment that it belongs to, and its index there, from 0.
-#[derive(Clone, Copy, Debug, PartialEq, Eq, Hash)]
+#[derive(Clone, Copy, Debug)]
 pub struct PageId {
     pub seg: SegId,
     pub index: u32,
+}
+
+impl PartialEq for PageId {
+    ghost eq = { Page.same_page };
+
+    ghost laws = { Prim.search (comparing, rules) };
+
+    fn eq(&self, other: &PageId) -> bool {
+        self.seg == other.seg && self.index == other.index
+    }
+}
+
+impl Eq for PageId {
+    ghost laws = { Prim.search (comparing, rules) };
+}
+
+impl Hash for PageId {
+    ghost hash_input = { λ page. fed.u32 page.seg ++ fed.u32 page.index };
+
+    ghost respects_eq = { Prim.search (hashing, rules) };
+
+    fn hash<H: Hasher>(&self, state: &mut H) {
+        state.write_u32(self.seg.0);
+        state.write_u32(self.index);
+    }
 }
 
 /// The page's manager: the fixed distributed manager of Li and Hudak 1989, §3.2.

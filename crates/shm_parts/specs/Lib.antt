@@ -1,0 +1,9 @@
+pub mod Message
+pub mod Outbox
+pub mod Frames
+pub mod Pendings
+pub mod Purged
+pub mod Books
+pub mod Holdings
+pub mod Reach
+pub mod Entries

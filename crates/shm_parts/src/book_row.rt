@@ -1,0 +1,57 @@
+//! A row of one book's table, and what became of its message.
+ghost use Rattle.std.specs.Prelude.{◌≡◌, ◌<◌, IfNone};
+ghost use Rattle.shm_manager.specs.Book.{book_of, row_of};
+ghost use Rattle.shm_model.specs.Book as model;
+ghost use Rattle.shm_parts.specs.Books.{given_by, IsSettled};
+
+use crate::outcome::Outcome;
+use shm_manager::{Book, Kind, Orders};
+use shm_place::SiteId;
+use std::alloc::Allocator;
+
+fn outcome_of(answer: Option<Orders>, number: u64) -> Outcome
+    ensures row { (after : model.Book) → given_by result after ≡ row_of answer after }
+    ensures settled { (old new : model.Book) → IfNone answer (new ≡ old) → number ≡ new.number → IsSettled result old new }
+{
+    match answer {
+        None => Outcome::Ignored,
+        Some(orders) => Outcome::Taken { number, orders },
+    }
+}
+
+/// A request for a right.
+pub(crate) fn ask_in<A: Allocator>(
+    book: &mut Book<A>,
+    from: SiteId,
+    request: u64,
+    kind: Kind,
+) -> Outcome
+    requires { from < 16 }
+    ensures row { given_by result (book_of book.new) ≡ model.on_ask from request kind (book_of book.old) }
+    ensures settled { IsSettled result (book_of book.old) (book_of book.new) }
+{
+    match book.ask(from, request, kind) {
+        Err(_) => Outcome::UsedUp,
+        Ok(answer) => outcome_of(answer, book.number()),
+    }
+}
+
+/// A site has given up its copy.
+pub(crate) fn cleared_in<A: Allocator>(book: &mut Book<A>, from: SiteId, number: u64) -> Outcome
+    requires { from < 16 }
+    ensures row { given_by result (book_of book.new) ≡ model.on_cleared from number (book_of book.old) }
+    ensures settled { IsSettled result (book_of book.old) (book_of book.new) }
+{
+    let answer = book.cleared(from, number);
+    outcome_of(answer, book.number())
+}
+
+/// A site has what it asked for.
+pub(crate) fn confirm_in<A: Allocator>(book: &mut Book<A>, from: SiteId, number: u64) -> Outcome
+    requires { from < 16 }
+    ensures row { given_by result (book_of book.new) ≡ model.on_confirm from number (book_of book.old) }
+    ensures settled { IsSettled result (book_of book.old) (book_of book.new) }
+{
+    let answer = book.confirm(from, number);
+    outcome_of(answer, book.number())
+}

@@ -1,0 +1,12 @@
+/// What a message changed at a page's entry, for what depends on it.
+#[derive(Clone, Copy, Debug, PartialEq, Eq)]
+pub struct Change {
+    /// A greater transaction number was met than before.
+    pub newer: bool,
+    /// The entry is a copy now.
+    pub copy: bool,
+    /// The page may be read now.
+    pub readable: bool,
+    /// The page may be written now.
+    pub writable: bool,
+}

@@ -1,0 +1,43 @@
+//! What a site is made of: messages and the outbox, page entries with the attachments that reach them, managers' books, and the
+//! requests that are pending.
+#![tactic(auto)]
+
+mod attaching;
+mod book_row;
+mod book_table;
+mod books;
+mod change;
+mod entries;
+mod entry_table;
+mod frame_order;
+mod frames;
+mod holdings;
+mod message;
+mod naming;
+mod opening;
+mod outbox;
+mod outcome;
+mod pending_table;
+mod pendings;
+mod purged;
+mod purged_set;
+mod purging;
+mod reached;
+mod reaching;
+mod showing;
+mod slot;
+mod turn;
+mod turning;
+
+pub use books::Books;
+pub use change::Change;
+pub use entries::Entries;
+pub use frames::Frames;
+pub use holdings::Holdings;
+pub use message::{Envelope, Grant, Message};
+pub use outbox::Outbox;
+pub use outcome::Outcome;
+pub use pendings::Pendings;
+pub use purged::Purged;
+pub use reached::{Kept, Loaded};
+pub use turn::Turn;

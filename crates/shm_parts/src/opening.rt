@@ -1,0 +1,68 @@
+//! What a site holds at first.
+ghost use Rattle.std.specs.Prelude.{◌≡◌, ℕ, ◌≤◌, [], Option, Some, None, option_map, false, IfOk};
+ghost use Rattle.shm_model.specs.Book.{at};
+ghost use Rattle.shm_model.specs.Site.{Site, untouched};
+ghost use Rattle.shm_model.specs.World.{preset_attachment};
+ghost use Rattle.shm_attach.specs.Attachments.{attachments_of};
+ghost use Rattle.shm_parts.specs.Holdings.{framed, held_frames, with_holdings};
+ghost use Rattle.shm_parts.specs.Purged.{purged_of};
+
+use crate::entries::Entries;
+use crate::frames::Frames;
+use crate::holdings::Holdings;
+use crate::purged::Purged;
+use shm_attach::Attachments;
+use shm_place::{PAGE_BYTES, PAGES, SegId, SiteId, Sites};
+use std::alloc::{AllocError, Allocator};
+
+impl<A: Allocator + Copy> Holdings<A> {
+    /// Nothing is attached, purged or counted, and every page is untouched.
+    pub fn new(alloc: A) -> Holdings<A>
+        ensures { (sites me : ℕ) → (site : Site) → with_holdings sites me result site ≡ record site { entries = untouched sites me; attachments = λ _. None; purged = λ _. false; frames = None } }
+    {
+        Holdings::opened(alloc, None)
+    }
+
+    /// Segment 0 with so many pages is attached as attachment 0, to read and write; its pages' entries are stored. `limit`: how many
+    /// copies there may be, if that is limited.
+    pub fn preset(
+        alloc: A,
+        sites: Sites,
+        me: SiteId,
+        pages: u32,
+        limit: Option<u32>,
+    ) -> Result<Holdings<A>, AllocError>
+        requires from { 1 ≤ pages }
+        requires to { pages ≤ PAGES }
+        ensures { IfOk result (λ held. (site : Site) → with_holdings sites me held site ≡ record site { entries = untouched sites me; attachments = at (λ _. None) 0 (Some (preset_attachment pages)); purged = λ _. false; frames = option_map framed limit }) }
+    {
+        let mut held = Holdings::opened(alloc, limit);
+        let bytes = PAGE_BYTES as u32 * pages;
+        held.attach(sites, me, SegId(0), bytes, false)?;
+        Ok(held)
+    }
+
+    /// Nothing is held, and `limit` says how many copies there may be, if that is limited.
+    fn opened(alloc: A, limit: Option<u32>) -> Holdings<A>
+        ensures held { (sites me : ℕ) → (site : Site) → with_holdings sites me result site ≡ record site { entries = untouched sites me; attachments = λ _. None; purged = λ _. false; frames = option_map framed limit } }
+        ensures purged { purged_of result.purged ≡ (λ _. false) }
+        ensures attachments { attachments_of result.attachments ≡ (λ _. None) }
+    {
+        Holdings {
+            entries: Entries::new(alloc),
+            attachments: Attachments::new(),
+            purged: Purged::new(alloc),
+            frames: frames_for(alloc, limit),
+            alloc,
+        }
+    }
+}
+
+fn frames_for<A: Allocator + Copy>(alloc: A, limit: Option<u32>) -> Option<Frames<A>>
+    ensures { held_frames result ≡ option_map framed limit }
+{
+    match limit {
+        None => None,
+        Some(limit) => Some(Frames::new(alloc, limit)),
+    }
+}

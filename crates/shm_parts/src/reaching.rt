@@ -1,0 +1,75 @@
+//! Loads and stores through attachments.
+ghost use Rattle.std.specs.Prelude.{◌≡◌, ℕ, ◌<◌, false, true, Ok};
+ghost use Rattle.shm_place.specs.Limits.{page_bytes};
+ghost use Rattle.shm_model.specs.Access.{load, load_at, store, store_at};
+ghost use Rattle.shm_model.specs.Site.{Site};
+ghost use Rattle.shm_page.specs.Entry.{entry_of};
+ghost use Rattle.shm_parts.specs.Entries.{is_stored};
+ghost use Rattle.shm_parts.specs.Holdings.{kept_step, loaded_step, read_of, with_holdings};
+ghost use Rattle.shm_parts.specs.Purged.{purged_of};
+
+use crate::holdings::Holdings;
+use crate::reached::{Kept, Loaded};
+use shm_attach::{Denied, right};
+use shm_page::Entry;
+use shm_place::PageId;
+use std::alloc::Allocator;
+
+impl<A: Allocator + Copy> Holdings<A> {
+    /// A load through an attachment. It takes no memory.
+    pub fn load(&self, at: u32, offset: u32) -> Result<Loaded, Denied>
+        ensures { (sites me : ℕ) → (site : Site) → load sites me at offset (with_holdings sites me self.now site) ≡ loaded_step sites me result (with_holdings sites me self.now site) }
+    {
+        match right(&self.attachments, at, offset, false) {
+            Ok((page, within)) => Ok(self.load_at(&page, within)),
+            Err(denied) => Err(denied),
+        }
+    }
+
+    /// A store through an attachment. It takes no memory.
+    pub fn store(&mut self, at: u32, offset: u32, byte: u8) -> Result<Kept, Denied>
+        ensures { (sites me : ℕ) → (site : Site) → store sites me at offset byte (with_holdings sites me self.old site) ≡ kept_step sites me result (with_holdings sites me self.new site) }
+    {
+        match right(&self.attachments, at, offset, true) {
+            Ok((page, within)) => Ok(self.store_at(&page, within, byte)),
+            Err(denied) => Err(denied),
+        }
+    }
+
+    fn load_at(&self, page: &PageId, within: usize) -> Loaded
+        requires within { within < page_bytes }
+        requires stored { is_stored self.now.entries page.now ≡ true }
+        requires alive { purged_of self.now.purged page.now.seg ≡ false }
+        ensures { (sites me : ℕ) → (site : Site) → load_at sites me (record { page = page.now; within = within }) (with_holdings sites me self.now site) ≡ loaded_step sites me (Ok result) (with_holdings sites me self.now site) }
+    {
+        match self.entries.get(*page) {
+            Some(entry) => read(entry, page, within),
+            None => Loaded::Absent(*page),
+        }
+    }
+
+    fn store_at(&mut self, page: &PageId, within: usize, byte: u8) -> Kept
+        requires within { within < page_bytes }
+        requires stored { is_stored self.old.entries page.now ≡ true }
+        requires alive { purged_of self.old.purged page.now.seg ≡ false }
+        ensures { (sites me : ℕ) → (site : Site) → store_at sites me (record { page = page.now; within = within }) byte (with_holdings sites me self.old site) ≡ kept_step sites me (Ok result) (with_holdings sites me self.new site) }
+    {
+        if self.entries.store(*page, within, byte) {
+            return Kept::Stored;
+        }
+        Kept::Absent(*page)
+    }
+}
+
+/// The byte at this offset in the page, if the page may be read.
+fn read<A: Allocator + Copy>(entry: &Entry<A>, page: &PageId, within: usize) -> Loaded
+    requires { within < page_bytes }
+    ensures { result ≡ read_of page.now within (entry_of entry.now) }
+{
+    match entry {
+        Entry::Copy(copy) => Loaded::Byte(copy.load(within)),
+        Entry::OwnRead(own) => Loaded::Byte(own.load(within)),
+        Entry::OwnWrite(own) => Loaded::Byte(own.load(within)),
+        Entry::Nil(_) | Entry::Handed(_) => Loaded::Absent(*page),
+    }
+}

@@ -1,0 +1,175 @@
+//! What is done with one entry where it stands.
+ghost use Rattle.std.specs.Prelude.{◌≡◌, ℕ, ◌<◌, nat_lt, if◌then◌else◌, IfOk, IfErr, OnOk, OnErr};
+ghost use Rattle.shm_place.specs.Limits.{page_bytes};
+ghost use Rattle.shm_model.specs.Access.{stored_entry};
+ghost use Rattle.shm_model.specs.Entry as model;
+ghost use Rattle.shm_model.specs.Site.{untouched};
+ghost use Rattle.shm_page.specs.Entry.{entry_of};
+ghost use Rattle.shm_page.specs.Out.{out_of};
+ghost use Rattle.shm_parts.specs.Entries.{change_of, note_of, row};
+ghost use Rattle.shm_parts.specs.Message.{grant_of};
+
+use crate::change::Change;
+use crate::message::Grant;
+use crate::turn::Turn;
+use shm_model::Kind;
+use shm_page::{Entry, NilPage, Out};
+use shm_place::{PageId, SiteId, Sites, manager_of};
+use shm_read::{lend_to, take_copy};
+use shm_write::{clear, hand_to, take_ownership};
+use std::alloc::{AllocError, Allocator};
+use std::mem;
+
+/// The entry of a page before anything happened.
+pub(crate) fn opened<A: Allocator + Copy>(
+    alloc: A,
+    sites: Sites,
+    me: SiteId,
+    page: PageId,
+) -> Result<Entry<A>, AllocError>
+    ensures { IfOk result (λ entry. entry_of entry ≡ untouched sites me page) }
+{
+    Entry::opening(alloc, manager_of(sites, page) == me)
+}
+
+/// Stores a byte where the entry may be written, and tells whether it did.
+pub(crate) fn store_in<A: Allocator + Copy>(entry: &mut Entry<A>, within: usize, byte: u8) -> bool
+    requires { within < page_bytes }
+    ensures writable { result ≡ model.writable (entry_of entry.old) }
+    ensures after { entry_of entry.new ≡ (if result then stored_entry within byte (entry_of entry.old) else entry_of entry.old) }
+{
+    let Entry::OwnWrite(page) = entry else {
+        return false;
+    };
+    page.store(within, byte);
+    true
+}
+
+/// Runs the message's row of the entry's table. Where memory is refused, the message comes back and nothing changes.
+pub(crate) fn turn_in<A: Allocator + Copy>(
+    entry: &mut Entry<A>,
+    me: SiteId,
+    turn: Turn<A>,
+) -> Result<(Out<A>, Change), Turn<A>>
+    ensures after { OnOk result (entry_of entry.new ≡ (row me (note_of turn) (entry_of entry.old)).0) }
+    ensures out { IfOk result (λ r. out_of r.0 ≡ (row me (note_of turn) (entry_of entry.old)).1) }
+    ensures change { IfOk result (λ r. r.1 ≡ change_of (entry_of entry.old) (row me (note_of turn) (entry_of entry.old)).0) }
+    ensures back { IfErr result (λ back. note_of back ≡ note_of turn) }
+    ensures refused { OnErr result (entry_of entry.new ≡ entry_of entry.old) }
+{
+    let seen = entry.seen();
+    let before = mem::replace(entry, Entry::Nil(NilPage::after(0)));
+    match turned(before, me, turn) {
+        Ok((after, out)) => {
+            let change = change_since(seen, &after);
+            *entry = after;
+            Ok((out, change))
+        }
+        Err((before, turn)) => {
+            *entry = before;
+            Err(turn)
+        }
+    }
+}
+
+/// Gives the bytes up; what the entry met stays met.
+pub(crate) fn forget_in<A: Allocator + Copy>(entry: &mut Entry<A>)
+    ensures { entry_of entry.new ≡ model.forget (entry_of entry.old) }
+{
+    let seen = entry.seen();
+    *entry = Entry::Nil(NilPage::after(seen));
+}
+
+/// The entry that the message makes of this one, and what the site sends. Where memory is refused, both come back.
+fn turned<A: Allocator + Copy>(
+    entry: Entry<A>,
+    me: SiteId,
+    turn: Turn<A>,
+) -> Result<(Entry<A>, Out<A>), (Entry<A>, Turn<A>)>
+    ensures row { IfOk result (λ r. (entry_of r.0, out_of r.1) ≡ row me (note_of turn) (entry_of entry)) }
+    ensures kept { IfErr result (λ e. entry_of e.0 ≡ entry_of entry) }
+    ensures back { IfErr result (λ e. note_of e.1 ≡ note_of turn) }
+{
+    match turn {
+        Turn::Clear(number) => Ok(clear(entry, number)),
+        Turn::Page(grant) => granted(entry, grant),
+        hand => handed(entry, me, hand),
+    }
+}
+
+/// The entry that a grant makes of this one, and what the site sends. Where memory is refused, both come back.
+fn granted<A: Allocator + Copy>(
+    entry: Entry<A>,
+    grant: Grant<A>,
+) -> Result<(Entry<A>, Out<A>), (Entry<A>, Turn<A>)>
+    ensures row { (me : ℕ) → IfOk result (λ r. (entry_of r.0, out_of r.1) ≡ row me (grant_of grant) (entry_of entry)) }
+    ensures kept { IfErr result (λ e. entry_of e.0 ≡ entry_of entry) }
+    ensures back { IfErr result (λ e. note_of e.1 ≡ grant_of grant) }
+{
+    match grant {
+        Grant::Read(grant) => Ok(take_copy(entry, grant)),
+        Grant::Write(grant) => match take_ownership(entry, grant) {
+            Ok(taken) => Ok(taken),
+            Err((entry, grant, _)) => Err((entry, Turn::Page(Grant::Write(grant)))),
+        },
+    }
+}
+
+/// The entry that a Hand makes of this one, and what the site sends. Where memory is refused, both come back, as does what is no Hand.
+fn handed<A: Allocator + Copy>(
+    entry: Entry<A>,
+    me: SiteId,
+    hand: Turn<A>,
+) -> Result<(Entry<A>, Out<A>), (Entry<A>, Turn<A>)>
+    ensures row { IfOk result (λ r. (entry_of r.0, out_of r.1) ≡ row me (note_of hand) (entry_of entry)) }
+    ensures kept { IfErr result (λ e. entry_of e.0 ≡ entry_of entry) }
+    ensures back { IfErr result (λ e. note_of e.1 ≡ note_of hand) }
+{
+    let Turn::Hand { number, kind, to } = &hand else {
+        return Err((entry, hand));
+    };
+    let handed = match *kind {
+        Kind::Read => lend_to(entry, *number, me, *to),
+        Kind::Write => hand_to(entry, *number, me, *to),
+    };
+    match handed {
+        Ok(handed) => Ok(handed),
+        Err((entry, _)) => Err((entry, hand)),
+    }
+}
+
+/// What has changed at the entry since it had met this number.
+fn change_since<A: Allocator + Copy>(seen: u64, entry: &Entry<A>) -> Change
+    ensures newer { result.newer ≡ nat_lt seen (model.seen (entry_of entry.now)) }
+    ensures copy { result.copy ≡ model.is_copy (entry_of entry.now) }
+    ensures readable { result.readable ≡ model.readable (entry_of entry.now) }
+    ensures writable { result.writable ≡ model.writable (entry_of entry.now) }
+{
+    let newer = seen < entry.seen();
+    match entry {
+        Entry::Nil(_) | Entry::Handed(_) => Change {
+            newer,
+            copy: false,
+            readable: false,
+            writable: false,
+        },
+        Entry::Copy(_) => Change {
+            newer,
+            copy: true,
+            readable: true,
+            writable: false,
+        },
+        Entry::OwnRead(_) => Change {
+            newer,
+            copy: false,
+            readable: true,
+            writable: false,
+        },
+        Entry::OwnWrite(_) => Change {
+            newer,
+            copy: false,
+            readable: true,
+            writable: true,
+        },
+    }
+}

@@ -1,0 +1,6 @@
+pub mod CallSteps
+pub mod Orders
+pub mod SiteParts
+pub mod Steps
+pub mod Stores
+pub mod Ticks

@@ -1,0 +1,47 @@
+use Rattle.std.proofs.Common.{◌≡◌, ◌∙◌, Ok, IfOk, OnErr, ap, subst, sym}
+use Rattle.shm_model.specs.Access.{Step, ask_for, still, store}
+use Rattle.shm_model.specs.Site as model
+use Rattle.shm_model.specs.declared.answer.Answer.TheVariants.{Fault, Refused, Stored}
+use Rattle.shm_model.specs.declared.kind.Kind.TheVariants.{Write}
+use Rattle.shm_parts.specs.Holdings.{kept_step, with_holdings}
+use Rattle.shm_site.specs.Site.{sent_after, site_of, stepped}
+use Rattle.shm_site.proofs.Steps.{told_still}
+use Rattle.shm_site.proofs.Stores.{store_stays}
+use Rattle.shm_site.proofs.site.Site.store.Goals as goal
+
+pub returns-in-Ok-Stored-clause-step : goal.returns-in-Ok-Stored-clause-step
+returns-in-Ok-Stored-clause-step g c =
+    let old = c.args.self.now in
+    let new : model.Site = with_holdings old.sites old.me c.store.new.self (site_of old) in
+    told_still c.args.outbox.now.sent (store old.sites old.me c.args.at c.args.offset c.args.byte (site_of old)) (kept_step old.sites old.me c.store.result new) Stored new
+    (c.store.ensures old.sites old.me (site_of old))
+    (ap (λ r. kept_step old.sites old.me r new) (c.in-Ok-Stored.is ∙ ap Ok c.in-Ok-Stored.field-0-is))
+
+absent : (g : _) (c : goal.After-ask_for g) (site : model.Site) → store c.args.self.now.sites c.args.self.now.me c.args.at c.args.offset c.args.byte (with_holdings c.args.self.now.sites c.args.self.now.me c.args.self.now.holdings site) ≡ ask_for c.args.self.now.sites c.args.self.now.me Write c.in-Ok-Absent.page (with_holdings c.args.self.now.sites c.args.self.now.me c.store.new.self site)
+absent g c site =
+    c.store.ensures c.args.self.now.sites c.args.self.now.me site
+    ∙ ap (λ r. kept_step c.args.self.now.sites c.args.self.now.me r (with_holdings c.args.self.now.sites c.args.self.now.me c.store.new.self site)) (c.in-Ok-Absent.is ∙ ap Ok c.in-Ok-Absent.field-0-is)
+
+pub returns-in-Ok-Absent-clause-step : goal.returns-in-Ok-Absent-clause-step
+returns-in-Ok-Absent-clause-step g c =
+    subst (λ (step : Step). IfOk c.ask_for.result (λ answer. sent_after c.args.outbox.now.sent step ≡ stepped c.ask_for.new.self answer c.ask_for.new.outbox.sent))
+    (sym (absent g c (site_of c.args.self.now))) c.ask_for.ensures.step
+
+pub returns-in-Ok-Absent-clause-refused : goal.returns-in-Ok-Absent-clause-refused
+returns-in-Ok-Absent-clause-refused g c =
+    let old = c.args.self.now in
+    subst (λ (site : model.Site). OnErr c.ask_for.result ((site_of c.ask_for.new.self ≡ site) × (c.ask_for.new.outbox.sent ≡ c.args.outbox.now.sent)))
+    (sym (store_stays old.sites old.me c.args.at c.args.offset c.args.byte c.in-Ok-Absent.page old.holdings c.store.new.self (absent g c) (site_of old)))
+    c.ask_for.ensures.refused
+
+pub returns-in-Ok-Absent-clause-memory : goal.returns-in-Ok-Absent-clause-memory
+returns-in-Ok-Absent-clause-memory g c =
+    subst (λ (step : Step). OnErr c.ask_for.result (step.answer ≡ Fault)) (sym (absent g c (site_of c.args.self.now))) c.ask_for.ensures.memory
+
+pub returns-in-Err-clause-step : goal.returns-in-Err-clause-step
+returns-in-Err-clause-step g c =
+    let old = c.args.self.now in
+    let new : model.Site = with_holdings old.sites old.me c.store.new.self (site_of old) in
+    told_still c.args.outbox.now.sent (store old.sites old.me c.args.at c.args.offset c.args.byte (site_of old)) (kept_step old.sites old.me c.store.result new) (Refused c.number.result) new
+    (c.store.ensures old.sites old.me (site_of old))
+    (ap (λ r. kept_step old.sites old.me r new) c.in-Err.is ∙ ap (λ n. still (Refused n) new) (sym c.number.ensures))

@@ -1,0 +1,73 @@
+-- Inputs of a site, as the definitions speak of them; and why a step isn't made.
+use Rattle.std.specs.Prelude.{ℕ, Bool, true, false, Option, Some, None, if◌then◌else◌}
+use Rattle.shm_model.specs.declared.answer.Answer.{Answer}
+use Rattle.shm_model.specs.declared.answer.Answer.TheVariants as answer
+use Rattle.shm_model.specs.Access.{load, store}
+use Rattle.shm_model.specs.Entry as note
+use Rattle.shm_model.specs.Message as model
+use Rattle.shm_model.specs.Refusal.{foreign_message}
+use Rattle.shm_model.specs.Site.{Site}
+use Rattle.shm_model.specs.Step.{foreign}
+use Rattle.shm_parts.specs.Message.{envelope_of}
+use Rattle.shm_parts.specs.declared.message.Envelope.{Envelope}
+use Rattle.shm_site.specs.declared.input.Input.{Input}
+use Rattle.shm_parts.specs.declared.message.Message.{Message}
+use Rattle.shm_parts.specs.declared.message.Message.TheVariants as message
+use Rattle.shm_site.specs.declared.input.Input.TheVariants as input
+use Rattle.shm_site.specs.declared.step_error.StepFault.{StepFault}
+use Rattle.shm_site.specs.declared.step_error.StepFault.TheVariants as fault
+
+abbrev pub input_of : {A : Type 0} → Input A → model.Input
+input_of (input.Load at offset) = model.Load at offset
+input_of (input.Store at offset byte) = model.Store at offset byte
+input_of (input.Begin request) = model.Begin request
+input_of (input.Deliver envelope) = model.Deliver (envelope_of envelope)
+input_of input.Tick = model.Tick
+input_of input.Restart = model.Restart
+
+-- the envelope that an input hands over
+abbrev pub handed_in : model.Input → Option model.Envelope
+handed_in (model.Deliver e) = Some e
+handed_in _ = None
+
+abbrev pub envelope_if : {A : Type 0} → Option (Envelope A) → Option model.Envelope
+envelope_if None = None
+envelope_if (Some e) = Some (envelope_of e)
+
+abbrev pub is_foreign : ℕ → ℕ → model.Input → Bool
+is_foreign sites me (model.Deliver e) = foreign sites me e
+is_foreign sites me _ = false
+
+abbrev pub is_fault : Answer → Bool
+is_fault answer.Fault = true
+is_fault _ = false
+
+-- Whether memory may be missing: never for a load or store that has the right, or that is refused, nor for a restart.
+abbrev pub may_grow : ℕ → ℕ → Site → model.Input → Bool
+may_grow sites me site (model.Load at offset) = is_fault (load sites me at offset site).answer
+may_grow sites me site (model.Store at offset byte) = is_fault (store sites me at offset byte site).answer
+may_grow sites me site model.Restart = false
+may_grow sites me site _ = true
+
+abbrev pub fault_of : Bool → StepFault
+fault_of foreign = if foreign then fault.Foreign else fault.OutOfMemory
+
+abbrev pub out_of_memory : ℕ
+out_of_memory = 17
+
+abbrev pub step_fault_number : StepFault → ℕ
+step_fault_number fault.Foreign = foreign_message
+step_fault_number fault.OutOfMemory = out_of_memory
+
+-- the message has a page's bytes
+abbrev pub holds_page : {A : Type 0} → Message A → Bool
+holds_page (message.Page _ _) = true
+holds_page _ = false
+
+abbrev pub is_page : note.Note → Bool
+is_page (note.Page _ _ _) = true
+is_page _ = false
+
+abbrev pub is_delivery : model.Input → Bool
+is_delivery (model.Deliver _) = true
+is_delivery _ = false

@@ -1,0 +1,89 @@
+//! Loads and stores: with the right they complete at once, without it the page's manager is asked.
+ghost use Rattle.std.specs.Prelude.{◌≡◌, IfOk, OnErr};
+ghost use Rattle.shm_model.specs.Access as model;
+ghost use Rattle.shm_model.specs.declared.answer.Answer.TheVariants as answer;
+ghost use Rattle.shm_site.specs.Site.{SameSeat, sent_after, site_of, stepped};
+
+use crate::refusal::NUMBERS_USED_UP;
+use crate::sending::to_manager;
+use crate::site::Site;
+use shm_model::{Answer, Kind};
+use shm_parts::{Kept, Loaded, Message, Outbox};
+use shm_place::PageId;
+use std::alloc::{AllocError, Allocator};
+
+impl<A: Allocator + Copy> Site<A> {
+    /// Loads a byte through an attachment. Where the right is here this takes no memory.
+    pub fn load(
+        &mut self,
+        at: u32,
+        offset: u32,
+        outbox: &mut Outbox<A>,
+    ) -> Result<Answer, AllocError>
+        ensures step { IfOk result (λ answer. sent_after outbox.old.sent (model.load self.old.sites self.old.me at offset (site_of self.old)) ≡ stepped self.new answer outbox.new.sent) }
+        ensures refused { OnErr result ((site_of self.new ≡ site_of self.old) × (outbox.new.sent ≡ outbox.old.sent)) }
+        ensures memory { OnErr result ((model.load self.old.sites self.old.me at offset (site_of self.old)).answer ≡ answer.Fault) }
+        ensures seat { SameSeat self.old self.new }
+    {
+        match self.holdings.load(at, offset) {
+            Ok(Loaded::Byte(byte)) => Ok(Answer::Byte(byte)),
+            Ok(Loaded::Absent(page)) => self.ask_for(Kind::Read, &page, outbox),
+            Err(denied) => Ok(Answer::Refused(denied.number())),
+        }
+    }
+
+    /// Stores a byte through an attachment. Where the right is here this takes no memory.
+    pub fn store(
+        &mut self,
+        at: u32,
+        offset: u32,
+        byte: u8,
+        outbox: &mut Outbox<A>,
+    ) -> Result<Answer, AllocError>
+        ensures step { IfOk result (λ answer. sent_after outbox.old.sent (model.store self.old.sites self.old.me at offset byte (site_of self.old)) ≡ stepped self.new answer outbox.new.sent) }
+        ensures refused { OnErr result ((site_of self.new ≡ site_of self.old) × (outbox.new.sent ≡ outbox.old.sent)) }
+        ensures memory { OnErr result ((model.store self.old.sites self.old.me at offset byte (site_of self.old)).answer ≡ answer.Fault) }
+        ensures seat { SameSeat self.old self.new }
+    {
+        match self.holdings.store(at, offset, byte) {
+            Ok(Kept::Stored) => Ok(Answer::Stored),
+            Ok(Kept::Absent(page)) => self.ask_for(Kind::Write, &page, outbox),
+            Err(denied) => Ok(Answer::Refused(denied.number())),
+        }
+    }
+
+    /// An access without the right: it waits for what is pending, or asks the manager.
+    fn ask_for(
+        &mut self,
+        kind: Kind,
+        page: &PageId,
+        outbox: &mut Outbox<A>,
+    ) -> Result<Answer, AllocError>
+        ensures step { IfOk result (λ answer. sent_after outbox.old.sent (model.ask_for self.old.sites self.old.me kind page.now (site_of self.old)) ≡ stepped self.new answer outbox.new.sent) }
+        ensures refused { OnErr result ((site_of self.new ≡ site_of self.old) × (outbox.new.sent ≡ outbox.old.sent)) }
+        ensures memory { OnErr result ((model.ask_for self.old.sites self.old.me kind page.now (site_of self.old)).answer ≡ answer.Fault) }
+        ensures seat { SameSeat self.old self.new }
+    {
+        if self.pending.serves(kind, *page) {
+            return Ok(Answer::Waiting);
+        }
+        let mut requests = self.requests.copy();
+        let Ok(request) = requests.next() else {
+            return Ok(Answer::Refused(NUMBERS_USED_UP));
+        };
+        outbox.reserve(1)?;
+        self.pending.put(*page, request, kind)?;
+        self.requests = requests;
+        outbox.push(to_manager(
+            self.sites,
+            self.me,
+            page,
+            Message::Ask {
+                page: *page,
+                request,
+                kind,
+            },
+        ));
+        Ok(Answer::Fault)
+    }
+}

@@ -1,0 +1,165 @@
+//! Segment calls at the site that begins them: how a call goes out, and what its reply ends.
+ghost use Rattle.std.specs.Prelude.{◌≡◌, Bool, [], None, IfOk, OnErr};
+ghost use Rattle.shm_model.specs.declared.call.Cred.{Cred};
+ghost use Rattle.shm_model.specs.declared.call.Op.TheVariants.{Attach};
+ghost use Rattle.shm_model.specs.declared.call.Reply.TheVariants.{Attached as AttachedReply};
+ghost use Rattle.shm_model.specs.SegmentCalls as model;
+ghost use Rattle.shm_site.specs.Site.{SameSeat, sent_after, site_of, stepped};
+
+use crate::homing::op_home;
+use crate::refusal::{BUSY, NO_ATTACHMENT, TOO_MANY_ATTACHMENTS};
+use crate::site::Site;
+use shm_attach::CallBook;
+use shm_model::{Answer, Attached, Op, Reply, Request};
+use shm_parts::{Envelope, Message, Outbox};
+use shm_place::SegId;
+use std::alloc::{AllocError, Allocator};
+
+impl<A: Allocator + Copy> Site<A> {
+    /// Begins a segment call. A detach takes its attachment away at once.
+    pub(crate) fn begin(
+        &mut self,
+        request: Request,
+        outbox: &mut Outbox<A>,
+    ) -> Result<Answer, AllocError>
+        ensures step { IfOk result (λ answer. sent_after outbox.old.sent (model.begin self.old.sites self.old.me request (site_of self.old)) ≡ stepped self.new answer outbox.new.sent) }
+        ensures refused { OnErr result ((site_of self.new ≡ site_of self.old) × (outbox.new.sent ≡ outbox.old.sent)) }
+        ensures seat { SameSeat self.old self.new }
+    {
+        if self.calls.outstanding().is_some() {
+            return Ok(Answer::Refused(BUSY));
+        }
+        match request {
+            Request::Op(op) => self.begin_op(op, outbox),
+            Request::DetachAt(number) => self.begin_detach(number, outbox),
+        }
+    }
+
+    fn begin_op(&mut self, op: Op, outbox: &mut Outbox<A>) -> Result<Answer, AllocError>
+        requires { self.old.calls.outstanding ≡ None }
+        ensures step { IfOk result (λ answer. sent_after outbox.old.sent (model.begin_op self.old.sites self.old.me op (site_of self.old)) ≡ stepped self.new answer outbox.new.sent) }
+        ensures refused { OnErr result ((site_of self.new ≡ site_of self.old) × (outbox.new.sent ≡ outbox.old.sent)) }
+        ensures seat { SameSeat self.old self.new }
+    {
+        match op {
+            Op::Detach { .. } => Ok(Answer::Refused(NO_ATTACHMENT)),
+            Op::Attach { .. } => {
+                if self.holdings.is_full() {
+                    return Ok(Answer::Refused(TOO_MANY_ATTACHMENTS));
+                }
+                self.call(op, outbox)
+            }
+            _ => self.call(op, outbox),
+        }
+    }
+
+    fn begin_detach(&mut self, number: u32, outbox: &mut Outbox<A>) -> Result<Answer, AllocError>
+        requires { self.old.calls.outstanding ≡ None }
+        ensures step { IfOk result (λ answer. sent_after outbox.old.sent (model.begin_detach self.old.sites self.old.me number ((site_of self.old).attachments number) (site_of self.old)) ≡ stepped self.new answer outbox.new.sent) }
+        ensures refused { OnErr result ((site_of self.new ≡ site_of self.old) × (outbox.new.sent ≡ outbox.old.sent)) }
+        ensures seat { SameSeat self.old self.new }
+    {
+        let Some(id) = self.holdings.segment(number) else {
+            return Ok(Answer::Refused(NO_ATTACHMENT));
+        };
+        match self.call(Op::Detach { id }, outbox)? {
+            Answer::Began(call) => {
+                self.holdings.detach(number);
+                Ok(Answer::Began(call))
+            }
+            refused => Ok(refused),
+        }
+    }
+
+    /// Notes the call as outstanding and sends it to its home, where a number is left for it.
+    fn call(&mut self, op: Op, outbox: &mut Outbox<A>) -> Result<Answer, AllocError>
+        requires { self.old.calls.outstanding ≡ None }
+        ensures step { IfOk result (λ answer. sent_after outbox.old.sent (model.numbered (site_of self.old) (model.call_begun self.old.sites self.old.me op (site_of self.old))) ≡ stepped self.new answer outbox.new.sent) }
+        ensures refused { OnErr result ((site_of self.new ≡ site_of self.old) × (outbox.new.sent ≡ outbox.old.sent)) }
+        ensures holdings { self.new.holdings ≡ self.old.holdings }
+        ensures seat { SameSeat self.old self.new }
+    {
+        let mut calls = self.calls.copy();
+        match calls.begin(op) {
+            Err(fault) => Ok(Answer::Refused(fault.number())),
+            Ok(number) => {
+                outbox.reserve(1)?;
+                self.calls = calls;
+                outbox.push(Envelope {
+                    from: self.me,
+                    to: op_home(self.sites, self.me, &op),
+                    message: Message::Call { number, op },
+                });
+                Ok(Answer::Began(number))
+            }
+        }
+    }
+
+    /// A reply to the outstanding call, or to one that ended.
+    pub(crate) fn replied(&mut self, number: u64, reply: Reply) -> Result<Answer, AllocError>
+        ensures step { IfOk result (λ answer. model.on_reply number reply (site_of self.old) ≡ stepped self.new answer []) }
+        ensures refused { OnErr result (site_of self.new ≡ site_of self.old) }
+        ensures seat { SameSeat self.old self.new }
+    {
+        // asked of a copy: an attach that finds no place leaves its call outstanding
+        let Some(op) = self.calls.copy().reply(number, &reply) else {
+            return Ok(Answer::Dropped);
+        };
+        self.counted(number, op, reply)
+    }
+
+    /// The reply to this call, which it ends.
+    fn counted(&mut self, number: u64, op: Op, reply: Reply) -> Result<Answer, AllocError>
+        ensures step { IfOk result (λ answer. model.reply_counts number op reply (site_of self.old) ≡ stepped self.new answer []) }
+        ensures refused { OnErr result (site_of self.new ≡ site_of self.old) }
+        ensures seat { SameSeat self.old self.new }
+    {
+        match op {
+            Op::Attach { id, .. } => self.attach_replied(number, id, reply),
+            _ => Ok(self.end_call(number, reply, None)),
+        }
+    }
+
+    /// The reply to an attach.
+    fn attach_replied(&mut self, number: u64, id: SegId, reply: Reply) -> Result<Answer, AllocError>
+        ensures step { IfOk result (λ answer. (cred : Cred) (ro : Bool) → model.reply_counts number (Attach cred id ro) reply (site_of self.old) ≡ stepped self.new answer []) }
+        ensures refused { OnErr result (site_of self.new ≡ site_of self.old) }
+        ensures seat { SameSeat self.old self.new }
+    {
+        match reply {
+            Reply::Attached(attached) => self.attached(number, id, attached),
+            _ => Ok(self.end_call(number, reply, None)),
+        }
+    }
+
+    /// The reply to an attach, which is given the least free number. A segment that was purged here isn't attached.
+    fn attached(&mut self, number: u64, id: SegId, attached: Attached) -> Result<Answer, AllocError>
+        ensures step { IfOk result (λ answer. model.attached number id (AttachedReply attached) (record { id = id; size = attached.size; ro = attached.ro }) (site_of self.old) ≡ stepped self.new answer []) }
+        ensures refused { OnErr result (site_of self.new ≡ site_of self.old) }
+        ensures seat { SameSeat self.old self.new }
+    {
+        if self.holdings.is_purged(id) {
+            return Ok(Answer::Dropped);
+        }
+        let attachment = self
+            .holdings
+            .attach(self.sites, self.me, id, attached.size, attached.ro)?;
+        match attachment {
+            None => Ok(Answer::Dropped),
+            Some(_) => Ok(self.end_call(number, Reply::Attached(attached), attachment)),
+        }
+    }
+
+    /// The call has ended: it is outstanding no longer.
+    fn end_call(&mut self, number: u64, reply: Reply, attachment: Option<u32>) -> Answer
+        ensures step { model.replied number reply attachment (site_of self.old) ≡ stepped self.new result [] }
+        ensures seat { SameSeat self.old self.new }
+    {
+        self.calls = CallBook::after(self.calls.calls());
+        Answer::Replied {
+            number,
+            reply,
+            attachment,
+        }
+    }
+}

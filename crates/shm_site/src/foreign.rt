@@ -1,0 +1,61 @@
+//! Envelopes that a site can't have been sent.
+ghost use Rattle.std.specs.Prelude.{◌≡◌, ◌==◌, ◌&&◌};
+ghost use Rattle.shm_place.specs.Page.{in_limits, manager_of};
+ghost use Rattle.shm_model.specs.Step.{foreign, id_in_limits, is_proper};
+ghost use Rattle.shm_parts.specs.Message.{envelope_of, message_of};
+
+use crate::homing::op_home;
+use shm_parts::{Envelope, Message};
+use shm_place::{
+    PageId, SEGMENTS_OF_A_HOME, SegId, SiteId, Sites, home_of_id, in_limits, manager_of,
+};
+use std::alloc::Allocator;
+
+/// The envelope is for another site, or from none, or with a message that can't be for this one.
+pub(crate) fn is_foreign<A: Allocator + Copy>(
+    sites: Sites,
+    me: SiteId,
+    envelope: &Envelope<A>,
+) -> bool
+    ensures { result ≡ foreign sites me (envelope_of envelope.now) }
+{
+    !(envelope.to == me
+        && envelope.from.0 < sites.count()
+        && is_proper(sites, me, envelope.from, &envelope.message))
+}
+
+fn is_proper<A: Allocator + Copy>(
+    sites: Sites,
+    me: SiteId,
+    from: SiteId,
+    message: &Message<A>,
+) -> bool
+    ensures { result ≡ is_proper sites me from (message_of message.now) }
+{
+    match message {
+        Message::Ask { page, .. } => is_managed(sites, me, page),
+        Message::Clear { page, .. } => in_limits(sites, *page),
+        Message::Cleared { page, .. } => is_managed(sites, me, page),
+        Message::Hand { page, .. } => in_limits(sites, *page),
+        Message::Page { page, .. } => in_limits(sites, *page),
+        Message::Confirm { page, .. } => is_managed(sites, me, page),
+        Message::Call { op, .. } => op_home(sites, from, op) == me,
+        Message::Reply { .. } => true,
+        Message::Purge { id } => is_identifier(sites, *id) && from == home_of_id(sites, *id),
+        Message::Purged { id } => is_identifier(sites, *id) && me == home_of_id(sites, *id),
+    }
+}
+
+/// The page exists, and this site manages it.
+fn is_managed(sites: Sites, me: SiteId, page: &PageId) -> bool
+    ensures { result ≡ (in_limits sites page.now && (manager_of sites page.now == me)) }
+{
+    in_limits(sites, *page) && manager_of(sites, *page) == me
+}
+
+/// Some home could give the identifier.
+fn is_identifier(sites: Sites, id: SegId) -> bool
+    ensures { result ≡ id_in_limits sites id }
+{
+    id.0 < SEGMENTS_OF_A_HOME * sites.count()
+}

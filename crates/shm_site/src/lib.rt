@@ -1,0 +1,33 @@
+//! One site as one step: what it does with each input, what it answers, and what it sends.
+//!
+//! After Li and Hudak 1989, §3.2 (page faults, the fixed distributed manager), and `shmget(2)`, `shmop(2)`, `shmctl(2)` for segments.
+#![tactic(auto)]
+
+mod accessing;
+mod book_view;
+mod booking;
+mod calling;
+mod delivering;
+mod fault_number;
+mod foreign;
+mod homing;
+mod input;
+mod opening;
+mod purging;
+mod refusal;
+mod sending;
+mod serving;
+mod showing;
+mod site;
+mod step;
+mod step_error;
+mod taking;
+mod ticking;
+mod turning;
+
+pub use book_view::BookView;
+pub use input::Input;
+pub use shm_model::Answer;
+pub use shm_parts::{Envelope, Grant, Message, Outbox};
+pub use site::Site;
+pub use step_error::{StepError, StepFault};

@@ -1,0 +1,77 @@
+//! What a site shows of a page. A page outside the limits has nothing to show.
+ghost use Rattle.std.specs.Prelude.{◌≡◌, ◌==◌, ◌&&◌, Some, None, if◌then◌else◌, is_some, IfSome};
+ghost use Rattle.shm_place.specs.Page.{in_limits, manager_of};
+ghost use Rattle.shm_model.specs.Book.{untouched_book};
+ghost use Rattle.shm_manager.specs.Book.{book_of};
+ghost use Rattle.shm_parts.specs.Holdings.{access_of, shown_of};
+ghost use Rattle.shm_site.specs.Showing.{Tells};
+ghost use Rattle.shm_site.specs.Site.{site_of};
+
+use crate::book_view::BookView;
+use crate::site::Site;
+use shm_manager::{Book, SiteSet};
+use shm_model::{Access, Shown};
+use shm_place::{PageId, SiteId, in_limits, manager_of};
+use std::alloc::Allocator;
+
+impl<A: Allocator + Copy> Site<A> {
+    /// The access that the site has to the page (Li and Hudak 1989, §3).
+    pub fn access(&self, page: PageId) -> Option<Access>
+        ensures { result ≡ (if in_limits self.now.sites page then Some (access_of ((site_of self.now).entries page)) else None) }
+    {
+        let page = &page;
+        if !in_limits(self.sites, *page) {
+            return None;
+        }
+        Some(self.holdings.access(self.sites, self.me, *page))
+    }
+
+    /// The page's state at the site, and the greatest transaction number that it met there.
+    pub fn shown(&self, page: PageId) -> Option<Shown>
+        ensures { result ≡ (if in_limits self.now.sites page then Some (shown_of ((site_of self.now).purged page.seg) ((site_of self.now).entries page)) else None) }
+    {
+        let page = &page;
+        if !in_limits(self.sites, *page) {
+            return None;
+        }
+        Some(self.holdings.shown(self.sites, self.me, *page))
+    }
+
+    /// The page's book, at its manager. None: this site isn't the page's manager.
+    pub fn book(&self, page: PageId) -> Option<BookView>
+        ensures found { is_some result ≡ (in_limits self.now.sites page && (manager_of self.now.sites page == self.now.me)) }
+        ensures book { IfSome result (λ view. Tells view ((site_of self.now).books page)) }
+    {
+        let page = &page;
+        if !in_limits(self.sites, *page) || manager_of(self.sites, *page) != self.me {
+            return None;
+        }
+        match self.books.get(*page) {
+            Some(book) => Some(view_of(book)),
+            None => Some(untouched(self.me)),
+        }
+    }
+}
+
+fn view_of<A: Allocator + Copy>(book: &Book<A>) -> BookView
+    ensures { Tells result (book_of book.now) }
+{
+    BookView {
+        owner: book.owner(),
+        copies: book.copies(),
+        number: book.number(),
+        running: book.running(),
+    }
+}
+
+/// What the book of a page shows that was never asked for.
+fn untouched(me: SiteId) -> BookView
+    ensures { Tells result (untouched_book me) }
+{
+    BookView {
+        owner: me,
+        copies: SiteSet::empty(),
+        number: 0,
+        running: None,
+    }
+}
