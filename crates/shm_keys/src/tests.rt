@@ -4,6 +4,7 @@ ghost use Rattle.std.specs.Prelude.{◌≡◌};
 use crate::{Attached, Cred, Errno, GetFault, GetFlags, Mode, SegTable, SiteSet, Stat};
 use shm_place::{Key, SegId, SiteId, Sites};
 use std::alloc::{Allocator, Global};
+use std::process::Abort;
 
 mod calls;
 mod limits;
@@ -77,11 +78,21 @@ impl<A: Allocator + Copy> Lone<A> {
     }
 }
 
-/// What a `get` is to answer: an identifier, or an errno.
-fn is(answer: Result<u32, GetFault>, expected: Result<u32, Errno>) -> bool {
-    match (answer, expected) {
-        (Ok(id), Ok(other)) => id == other,
-        (Err(GetFault::Refused(errno)), Err(other)) => errno == other,
-        _ => false,
-    }
+/// Stops the test where a `get` answers otherwise.
+fn expect_made(rt: &impl Abort, answer: Result<u32, GetFault>, expected: Result<u32, Errno>) {
+    let expected = match expected {
+        Ok(id) => Ok(id),
+        Err(errno) => Err(GetFault::Refused(errno)),
+    };
+    assert_eq!(rt; answer, expected);
+}
+
+/// Stops the test where a call answers otherwise.
+fn expect_answer(rt: &impl Abort, answer: Result<(), Errno>, expected: Result<(), Errno>) {
+    assert_eq!(rt; answer, expected);
+}
+
+/// Stops the test where this doesn't hold.
+fn expect(rt: &impl Abort, holds: bool) {
+    assert!(rt; holds);
 }

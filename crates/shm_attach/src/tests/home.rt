@@ -1,11 +1,13 @@
 ghost use Rattle.std.specs.Prelude.{◌≡◌};
 
+use super::expect;
 use crate::{Done, Home, Op, Reply};
 use linked_list_allocator::LocalHeap;
 use shm_keys::SegTable;
 use shm_model::{Cred, GetFlags, Mode};
 use shm_place::{Key, SegId, SiteId, Sites};
 use std::alloc::{AllocError, Allocator, Global};
+use std::process::Abort;
 use std::test::Fail;
 
 const ROOT: Cred = Cred { uid: 0, gid: 0 };
@@ -62,16 +64,21 @@ fn removed(destroyed: Option<SegId>) -> Option<Done> {
     })
 }
 
+/// Stops the test where a call was answered otherwise.
+fn expect_done(rt: &impl Abort, answer: Option<Done>, expected: Option<Done>) {
+    assert_eq!(rt; answer, expected);
+}
+
 #[test]
 fn a_call_is_executed_once(rt: HostRuntime) -> Result<(), Fail> {
     let sites = Sites::new(1).ok().ok_or("one site")?;
     let mut lone = make_lone(rt.alloc(), sites);
-    assert_eq!(rt; lone.make(0)?, None);
-    assert_eq!(rt; lone.make(4)?, made());
-    assert_eq!(rt; lone.make(4)?, made());
-    assert_eq!(rt; lone.remove(5)?, removed(Some(SegId(0))));
-    assert_eq!(rt; lone.remove(5)?, removed(None));
-    assert_eq!(rt; lone.make(4)?, None);
+    expect_done(&rt, lone.make(0)?, None);
+    expect_done(&rt, lone.make(4)?, made());
+    expect_done(&rt, lone.make(4)?, made());
+    expect_done(&rt, lone.remove(5)?, removed(Some(SegId(0))));
+    expect_done(&rt, lone.remove(5)?, removed(None));
+    expect_done(&rt, lone.make(4)?, None);
     Ok(())
 }
 
@@ -82,10 +89,10 @@ fn what_was_destroyed_is_purged_once(rt: HostRuntime) -> Result<(), Fail> {
     lone.make(1)?;
     lone.remove(2)?;
     let mut copy = lone.home.copy()?;
-    assert!(rt; copy.purged(SegId(0), SiteId(0)));
-    assert!(rt; !copy.purged(SegId(0), SiteId(0)));
-    assert!(rt; copy.next_purge(None).is_none());
-    assert!(rt; lone.home.next_purge(None).is_some());
+    expect(&rt, copy.purged(SegId(0), SiteId(0)));
+    expect(&rt, !copy.purged(SegId(0), SiteId(0)));
+    expect(&rt, copy.next_purge(None).is_none());
+    expect(&rt, lone.home.next_purge(None).is_some());
     Ok(())
 }
 
@@ -108,11 +115,29 @@ fn a_refused_call_is_executed_when_it_comes_again(rt: HostRuntime) -> Result<(),
     for tries in 0..1000 {
         if let Ok(done) = lone.make(1) {
             assert!(rt; tries > 2);
-            assert_eq!(rt; done, made());
-            assert_eq!(rt; lone.remove(2)?, removed(Some(SegId(0))));
+            expect_done(&rt, done, made());
+            expect_done(&rt, lone.remove(2)?, removed(Some(SegId(0))));
             return Ok(());
         }
         drop(blocks.pop());
     }
     Err(Fail::new("no segment was made"))
+}
+
+#[test]
+fn a_copy_is_refused_until_there_is_room(rt: HostRuntime) -> Result<(), Fail> {
+    let heap = LocalHeap::new(rt.alloc(), 1 << 14)?;
+    let sites = Sites::new(1).ok().ok_or("one site")?;
+    let mut lone = make_lone(&heap, sites);
+    lone.make(1)?;
+    let mut blocks = filled(rt.alloc(), &heap)?;
+    for tries in 0..1000 {
+        if let Ok(copy) = lone.home.copy() {
+            assert!(rt; tries > 2);
+            expect(&rt, copy.next_purge(None).is_none());
+            return Ok(());
+        }
+        drop(blocks.pop());
+    }
+    Err(Fail::new("no copy was made"))
 }

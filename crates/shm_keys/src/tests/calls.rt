@@ -1,4 +1,4 @@
-use super::{is, make_lone};
+use super::{expect, expect_answer, expect_made, make_lone};
 use crate::{Attached, Cred, Errno, Mode, Stat};
 use shm_place::{Key, Sites};
 use std::test::Fail;
@@ -32,7 +32,7 @@ fn a_key_is_found_and_checked_in_order(rt: HostRuntime) -> Result<(), Fail> {
         (A, 6, 1_048_576, 0o600, CREAT, Ok(3)),
     ] {
         let answer = table.get(cred, key, size, mode, flags);
-        assert!(rt; is(answer, expected), "key {key} size {size} flags {flags}");
+        expect_made(&rt, answer, expected);
     }
     Ok(())
 }
@@ -41,7 +41,7 @@ fn a_key_is_found_and_checked_in_order(rt: HostRuntime) -> Result<(), Fail> {
 fn one_class_of_bits_counts(rt: HostRuntime) -> Result<(), Fail> {
     let sites = Sites::new(1).ok().ok_or("one site")?;
     let mut table = make_lone(rt.alloc(), sites);
-    assert!(rt; is(table.get(A, 5, 256, 0o640, CREAT), Ok(0)));
+    expect_made(&rt, table.get(A, 5, 256, 0o640, CREAT), Ok(0));
     for (cred, ro, expected) in [
         (
             A,
@@ -64,11 +64,11 @@ fn one_class_of_bits_counts(rt: HostRuntime) -> Result<(), Fail> {
     ] {
         assert_eq!(rt; table.attach(cred, 0, ro), expected);
     }
-    assert_eq!(rt; table.stat(B, 0), Err(Errno::Eacces));
-    assert_eq!(rt; table.set(G, 0, 11, 20, 0o600), Err(Errno::Eperm));
-    assert_eq!(rt; table.set(A, 0, 11, 20, 0o600), Ok(()));
-    assert!(rt; table.attach(A, 0, false).is_ok());
-    assert!(rt; table.attach(G, 0, false).is_ok());
+    expect_answer(&rt, table.stat(B, 0).map(|_| ()), Err(Errno::Eacces));
+    expect_answer(&rt, table.set(G, 0, 11, 20, 0o600), Err(Errno::Eperm));
+    expect_answer(&rt, table.set(A, 0, 11, 20, 0o600), Ok(()));
+    expect(&rt, table.attach(A, 0, false).is_ok());
+    expect(&rt, table.attach(G, 0, false).is_ok());
     let stat = Stat {
         key: Key(5),
         uid: 11,

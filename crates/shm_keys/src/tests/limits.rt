@@ -1,4 +1,4 @@
-use super::{is, make_lone};
+use super::{expect, expect_answer, expect_made, make_lone};
 use crate::{Cred, Errno, GetFlags, Mode, SegTable};
 use shm_place::{Key, SegId, SiteId, Sites};
 use std::test::Fail;
@@ -10,22 +10,22 @@ fn a_home_has_so_many_at_a_time(rt: HostRuntime) -> Result<(), Fail> {
     let sites = Sites::new(1).ok().ok_or("one site")?;
     let mut table = make_lone(rt.alloc(), sites);
     for id in 0..64 {
-        assert!(rt; is(table.get(ROOT, 0, 1, 0o600, 0), Ok(id)), "at {id}");
+        expect_made(&rt, table.get(ROOT, 0, 1, 0o600, 0), Ok(id));
     }
-    assert!(rt; is(table.get(ROOT, 0, 1, 0o600, 0), Err(Errno::Enospc)));
-    assert!(rt; is(table.get(ROOT, 0, 0, 0o600, 0), Err(Errno::Einval)));
-    assert!(rt; is(table.get(ROOT, 9, 1, 0o600, 0), Err(Errno::Enoent)));
-    assert_eq!(rt; table.remove(ROOT, 0), Ok(()));
-    assert!(rt; is(table.get(ROOT, 0, 1, 0o600, 0), Ok(64)));
-    assert_eq!(rt; table.stat(ROOT, 0), Err(Errno::Eidrm));
-    assert_eq!(rt; table.stat(ROOT, 70), Err(Errno::Einval));
-    assert_eq!(rt; table.detach(1), Err(Errno::Einval));
-    assert!(rt; table.attach(ROOT, 1, false).is_ok());
-    assert_eq!(rt; table.remove(ROOT, 1), Ok(()));
-    assert_eq!(rt; table.remove(ROOT, 1), Ok(()));
-    assert!(rt; is(table.get(ROOT, 0, 1, 0o600, 0), Err(Errno::Enospc)));
-    assert_eq!(rt; table.detach(1), Ok(()));
-    assert!(rt; is(table.get(ROOT, 0, 1, 0o600, 0), Ok(65)));
+    expect_made(&rt, table.get(ROOT, 0, 1, 0o600, 0), Err(Errno::Enospc));
+    expect_made(&rt, table.get(ROOT, 0, 0, 0o600, 0), Err(Errno::Einval));
+    expect_made(&rt, table.get(ROOT, 9, 1, 0o600, 0), Err(Errno::Enoent));
+    expect_answer(&rt, table.remove(ROOT, 0), Ok(()));
+    expect_made(&rt, table.get(ROOT, 0, 1, 0o600, 0), Ok(64));
+    expect_answer(&rt, table.stat(ROOT, 0).map(|_| ()), Err(Errno::Eidrm));
+    expect_answer(&rt, table.stat(ROOT, 70).map(|_| ()), Err(Errno::Einval));
+    expect_answer(&rt, table.detach(1), Err(Errno::Einval));
+    expect(&rt, table.attach(ROOT, 1, false).is_ok());
+    expect_answer(&rt, table.remove(ROOT, 1), Ok(()));
+    expect_answer(&rt, table.remove(ROOT, 1), Ok(()));
+    expect_made(&rt, table.get(ROOT, 0, 1, 0o600, 0), Err(Errno::Enospc));
+    expect_answer(&rt, table.detach(1), Ok(()));
+    expect_made(&rt, table.get(ROOT, 0, 1, 0o600, 0), Ok(65));
     Ok(())
 }
 
@@ -47,12 +47,16 @@ fn a_home_makes_so_many_ever(rt: HostRuntime) -> Result<(), Fail> {
     let sites = Sites::new(1).ok().ok_or("one site")?;
     let mut table = make_lone(rt.alloc(), sites);
     for id in 0..65_536 {
-        assert!(rt; is(table.get(ROOT, 7, 1, 0o600, 0o1000), Ok(id)), "at {id}");
-        assert_eq!(rt; table.remove(ROOT, id), Ok(()), "at {id}");
+        expect_made(&rt, table.get(ROOT, 7, 1, 0o600, 0o1000), Ok(id));
+        expect_answer(&rt, table.remove(ROOT, id), Ok(()));
     }
-    assert!(rt; is(table.get(ROOT, 7, 1, 0o600, 0o1000), Err(Errno::Enospc)));
-    assert!(rt; table.purged(65_535));
-    assert!(rt; !table.purged(65_535));
-    assert!(rt; table.next_purge(Some(65_534)).is_none());
+    expect_made(
+        &rt,
+        table.get(ROOT, 7, 1, 0o600, 0o1000),
+        Err(Errno::Enospc),
+    );
+    expect(&rt, table.purged(65_535));
+    expect(&rt, !table.purged(65_535));
+    expect(&rt, table.next_purge(Some(65_534)).is_none());
     Ok(())
 }

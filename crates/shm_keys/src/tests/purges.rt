@@ -1,4 +1,4 @@
-use super::{is, make_lone};
+use super::{expect, expect_answer, expect_made, make_lone};
 use crate::{Cred, GetFlags, Mode, SegTable};
 use shm_place::{Key, SegId, SiteId, Sites};
 use std::test::Fail;
@@ -10,11 +10,11 @@ fn purges_come_by_rising_identifier(rt: HostRuntime) -> Result<(), Fail> {
     let sites = Sites::new(1).ok().ok_or("one site")?;
     let mut table = make_lone(rt.alloc(), sites);
     for id in 0..3 {
-        assert!(rt; is(table.get(ROOT, 0, 1, 0o600, 0), Ok(id)));
+        expect_made(&rt, table.get(ROOT, 0, 1, 0o600, 0), Ok(id));
     }
-    assert!(rt; table.next_purge(None).is_none());
-    assert_eq!(rt; table.remove(ROOT, 2), Ok(()));
-    assert_eq!(rt; table.remove(ROOT, 0), Ok(()));
+    expect(&rt, table.next_purge(None).is_none());
+    expect_answer(&rt, table.remove(ROOT, 2), Ok(()));
+    expect_answer(&rt, table.remove(ROOT, 0), Ok(()));
     for (after, expected) in [
         (None, Some(0)),
         (Some(0), Some(2)),
@@ -24,9 +24,9 @@ fn purges_come_by_rising_identifier(rt: HostRuntime) -> Result<(), Fail> {
         let next = table.next_purge(after).map(|(id, _)| id);
         assert_eq!(rt; next, expected);
     }
-    assert!(rt; !table.purged(1));
-    assert!(rt; table.purged(0));
-    assert!(rt; !table.purged(0));
+    expect(&rt, !table.purged(1));
+    expect(&rt, table.purged(0));
+    expect(&rt, !table.purged(0));
     let next = table.next_purge(None).map(|(id, _)| id);
     assert_eq!(rt; next, Some(2));
     Ok(())
@@ -40,17 +40,17 @@ fn each_site_purges_for_itself(rt: HostRuntime) -> Result<(), Fail> {
     let mut table = SegTable::new(rt.alloc(), home, sites);
     let made = table.get(ROOT, Key(0), 1, Mode(0o600), GetFlags(0));
     assert_eq!(rt; made, Ok(SegId(0)));
-    assert_eq!(rt; table.remove(ROOT, SegId(0)), Ok(()));
-    assert!(rt; table.purged(SegId(0), SiteId(1)));
+    expect_answer(&rt, table.remove(ROOT, SegId(0)), Ok(()));
+    expect(&rt, table.purged(SegId(0), SiteId(1)));
     let copy = table.copy()?;
-    assert!(rt; table.purged(SegId(0), SiteId(0)));
-    assert!(rt; table.purged(SegId(0), SiteId(2)));
-    assert!(rt; table.next_purge(None).is_none());
+    expect(&rt, table.purged(SegId(0), SiteId(0)));
+    expect(&rt, table.purged(SegId(0), SiteId(2)));
+    expect(&rt, table.next_purge(None).is_none());
     let (id, missing) = copy.next_purge(None).ok_or("sites are missing")?;
     assert_eq!(rt; id, SegId(0));
     for (site, is_missing) in [(0, true), (1, false), (2, true), (3, false)] {
         assert_eq!(rt; missing.contains(SiteId(site)), is_missing);
     }
-    assert!(rt; !missing.is_empty());
+    expect(&rt, !missing.is_empty());
     Ok(())
 }

@@ -1,4 +1,4 @@
-use super::{is, make_lone};
+use super::{expect, expect_answer, expect_made, make_lone};
 use crate::{Cred, GetFault};
 use linked_list_allocator::LocalHeap;
 use shm_place::Sites;
@@ -30,11 +30,11 @@ fn a_get_is_refused_until_there_is_room(rt: HostRuntime) -> Result<(), Fail> {
         let answer = table.get(ROOT, 5, 1, 0o600, 0o1000);
         if answer != Err(GetFault::OutOfMemory) {
             assert!(rt; tries > 2);
-            assert!(rt; is(answer, Ok(0)));
-            assert_eq!(rt; table.remove(ROOT, 0), Ok(()));
+            expect_made(&rt, answer, Ok(0));
+            expect_answer(&rt, table.remove(ROOT, 0), Ok(()));
             return Ok(());
         }
-        assert!(rt; table.stat(ROOT, 0).is_err());
+        expect(&rt, table.stat(ROOT, 0).is_err());
         drop(blocks.pop());
     }
     Err(Fail::new("no segment was made"))
@@ -45,15 +45,15 @@ fn what_was_made_goes_on_without_memory(rt: HostRuntime) -> Result<(), Fail> {
     let heap = LocalHeap::new(rt.alloc(), 1 << 14)?;
     let sites = Sites::new(1).ok().ok_or("one site")?;
     let mut table = make_lone(&heap, sites);
-    assert!(rt; is(table.get(ROOT, 5, 1, 0o600, 0o1000), Ok(0)));
+    expect_made(&rt, table.get(ROOT, 5, 1, 0o600, 0o1000), Ok(0));
     let _blocks = filled(rt.alloc(), &heap)?;
-    assert!(rt; table.table.copy().is_err());
-    assert!(rt; is(table.get(ROOT, 5, 1, 0o600, 0o1000), Ok(0)));
-    assert!(rt; table.attach(ROOT, 0, false).is_ok());
-    assert_eq!(rt; table.set(ROOT, 0, 1, 1, 0o600), Ok(()));
-    assert_eq!(rt; table.remove(ROOT, 0), Ok(()));
-    assert_eq!(rt; table.detach(0), Ok(()));
-    assert!(rt; table.next_purge(None).is_some());
-    assert!(rt; table.purged(0));
+    expect(&rt, table.table.copy().is_err());
+    expect_made(&rt, table.get(ROOT, 5, 1, 0o600, 0o1000), Ok(0));
+    expect(&rt, table.attach(ROOT, 0, false).is_ok());
+    expect_answer(&rt, table.set(ROOT, 0, 1, 1, 0o600), Ok(()));
+    expect_answer(&rt, table.remove(ROOT, 0), Ok(()));
+    expect_answer(&rt, table.detach(0), Ok(()));
+    expect(&rt, table.next_purge(None).is_some());
+    expect(&rt, table.purged(0));
     Ok(())
 }

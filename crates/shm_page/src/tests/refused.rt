@@ -1,8 +1,9 @@
-use super::written;
-use crate::{Entry, NilPage};
+use super::{expect_grant, expect_number, expect_page, of_lender, of_owner, written};
+use crate::{Entry, NilPage, OwnWritePage, WriteGrant};
 use linked_list_allocator::LocalHeap;
 use shm_place::SiteId;
 use std::alloc::{AllocError, Global};
+use std::process::Abort;
 use std::test::Fail;
 
 /// How many blocks of 16 bytes a page takes.
@@ -24,94 +25,128 @@ fn filled(alloc: Global, heap: &LocalHeap) -> Result<Vec<Vec<u8, &LocalHeap>>, A
 #[test]
 fn an_opening_page_is_refused(rt: HostRuntime) -> Result<(), Fail> {
     let heap = LocalHeap::new(rt.alloc(), 1 << 13)?;
-    let mut blocks = filled(rt.alloc(), &heap)?;
-    assert!(rt; matches!(Entry::opening(&heap, false), Ok(Entry::Nil(_))));
+    let blocks = filled(rt.alloc(), &heap)?;
+    assert!(rt; Entry::opening(&heap, false).is_ok());
+    let tries = opened_after(&heap, blocks).ok_or("no page was made")?;
+    assert_eq!(rt; tries, PAGE_BLOCKS);
+    Ok(())
+}
+
+/// How often the manager's page is refused while the hole widens.
+fn opened_after<'a>(heap: &'a LocalHeap, mut blocks: Vec<Vec<u8, &'a LocalHeap>>) -> Option<usize> {
     for tries in 0..TRIES {
-        if let Ok(Entry::OwnWrite(page)) = Entry::opening(&heap, true) {
-            assert_eq!(rt; (tries, page.seen()), (PAGE_BLOCKS, 0));
-            return Ok(());
+        if Entry::opening(heap, true).is_ok() {
+            return Some(tries);
         }
         drop(blocks.pop());
     }
-    Err(Fail::new("no page was made"))
+    None
 }
 
 #[test]
 fn a_first_copy_is_refused(rt: HostRuntime) -> Result<(), Fail> {
     let heap = LocalHeap::new(rt.alloc(), 1 << 14)?;
-    let mut page = written(&heap)?;
-    let mut blocks = filled(rt.alloc(), &heap)?;
+    let page = written(&heap)?;
+    let blocks = filled(rt.alloc(), &heap)?;
+    let tries = lent_after(&rt, page, blocks).ok_or("no copy was lent")?;
+    assert!(rt; tries > PAGE_BLOCKS, "the count of owners was refused too");
+    Ok(())
+}
+
+/// How often the first copy is refused while the hole widens. Each time the page comes back as it was.
+fn lent_after<'a>(
+    rt: &impl Abort,
+    mut page: OwnWritePage<&'a LocalHeap>,
+    mut blocks: Vec<Vec<u8, &'a LocalHeap>>,
+) -> Option<usize> {
     for tries in 0..TRIES {
-        assert!(rt; page.seen() <= 1);
-        match page.downgrade(1) {
-            Ok((owner, grant)) => {
-                assert!(rt; tries > PAGE_BLOCKS, "the count of owners was refused too");
-                assert_eq!(rt;
-                    (owner.seen(), owner.load(0), grant.bytes().len()),
-                    (1, 7, 4096)
-                );
-                return Ok(());
-            }
-            Err((back, _)) => {
-                assert_eq!(rt; (back.seen(), back.load(0), back.load(4095)), (0, 7, 9));
-                page = back;
-            }
+        if page.seen() > 1 {
+            return None;
         }
+        match page.downgrade(1) {
+            Ok((owner, _)) => {
+                expect_page(rt, of_lender(&owner), (1, 7, 9));
+                return Some(tries);
+            }
+            Err((back, _)) => page = back,
+        }
+        expect_page(rt, of_owner(&page), (0, 7, 9));
         drop(blocks.pop());
     }
-    Err(Fail::new("no copy was lent"))
+    None
 }
 
 #[test]
 fn a_handing_is_refused(rt: HostRuntime) -> Result<(), Fail> {
     let heap = LocalHeap::new(rt.alloc(), 1 << 14)?;
-    let mut page = written(&heap)?;
-    let mut blocks = filled(rt.alloc(), &heap)?;
+    let page = written(&heap)?;
+    let blocks = filled(rt.alloc(), &heap)?;
+    let tries = handed_after(&rt, page, blocks).ok_or("no page was handed over")?;
+    assert!(rt; tries > PAGE_BLOCKS, "the count of owners was refused too");
+    Ok(())
+}
+
+/// How often the handing is refused while the hole widens. Each time the page comes back as it was.
+fn handed_after<'a>(
+    rt: &impl Abort,
+    mut page: OwnWritePage<&'a LocalHeap>,
+    mut blocks: Vec<Vec<u8, &'a LocalHeap>>,
+) -> Option<usize> {
     for tries in 0..TRIES {
-        assert!(rt; page.seen() < 1);
-        match page.hand(1, SiteId(2)) {
-            Ok((handed, grant)) => {
-                assert!(rt; tries > PAGE_BLOCKS, "the count of owners was refused too");
-                assert_eq!(rt; (handed.seen(), handed.to().0, grant.number()), (1, 2, 1));
-                return Ok(());
-            }
-            Err((back, _)) => {
-                assert_eq!(rt; (back.seen(), back.load(0), back.load(4095)), (0, 7, 9));
-                page = back;
-            }
+        if page.seen() >= 1 {
+            return None;
         }
+        match page.hand(1, SiteId(2)) {
+            Ok((_, grant)) => {
+                expect_grant(rt, grant.number(), grant.bytes(), 1);
+                return Some(tries);
+            }
+            Err((back, _)) => page = back,
+        }
+        expect_page(rt, of_owner(&page), (0, 7, 9));
         drop(blocks.pop());
     }
-    Err(Fail::new("no page was handed over"))
+    None
 }
 
 #[test]
 fn an_ownership_is_refused(rt: HostRuntime) -> Result<(), Fail> {
     let heap = LocalHeap::new(rt.alloc(), 1 << 15)?;
-    let Ok((_, mut grant)) = written(&heap)?.hand(1, SiteId(2)) else {
+    let Ok((_, grant)) = written(&heap)?.hand(1, SiteId(2)) else {
         return Err(Fail::new("memory was refused"));
     };
+    let blocks = filled(rt.alloc(), &heap)?;
+    let tries = installed_after(&rt, grant, blocks).ok_or("no page was installed")?;
+    assert_eq!(rt; tries, PAGE_BLOCKS);
+    Ok(())
+}
+
+/// How often the new owner's page is refused while the hole widens. Each time page and grant come back as they were.
+fn installed_after<'a>(
+    rt: &impl Abort,
+    mut grant: WriteGrant<&'a LocalHeap>,
+    mut blocks: Vec<Vec<u8, &'a LocalHeap>>,
+) -> Option<usize> {
     let mut page = NilPage::after(0);
-    let mut blocks = filled(rt.alloc(), &heap)?;
     for tries in 0..TRIES {
-        assert!(rt; page.seen() < grant.number());
+        if page.seen() >= grant.number() {
+            return None;
+        }
         match page.install_write(grant) {
             Ok(owner) => {
-                assert_eq!(rt; (tries, owner.seen(), owner.load(0)), (PAGE_BLOCKS, 1, 7));
-                return Ok(());
+                expect_page(rt, of_owner(&owner), (1, 7, 9));
+                return Some(tries);
             }
             Err((back, unused, _)) => {
-                assert_eq!(rt;
-                    (back.seen(), unused.number(), unused.bytes().len()),
-                    (0, 1, 4096)
-                );
                 page = back;
                 grant = unused;
             }
         }
+        expect_number(rt, page.seen(), 0);
+        expect_grant(rt, grant.number(), grant.bytes(), 1);
         drop(blocks.pop());
     }
-    Err(Fail::new("no page was installed"))
+    None
 }
 
 /// How often a copy of the entry is refused while the hole widens.
@@ -131,7 +166,8 @@ fn refusals<'a>(
 #[test]
 fn a_copy_of_an_owners_page_is_refused(rt: HostRuntime) -> Result<(), Fail> {
     let heap = LocalHeap::new(rt.alloc(), 1 << 14)?;
-    let entry = Entry::OwnWrite(written(&heap)?);
+    let page = written(&heap)?;
+    let entry = Entry::OwnWrite(page);
     let blocks = filled(rt.alloc(), &heap)?;
     assert_eq!(rt; refusals(&entry, blocks), Some(PAGE_BLOCKS));
     Ok(())
