@@ -111,8 +111,12 @@ impl<A: Allocator + Copy> Site<A> {
         ensures sent { OnOk result (outbox.new.sent ≡ outbox.old.sent ++ transfer.order_envelopes self.now.me page.now (book_of book.now) (orders (book_of book.now))) }
         ensures kept { OnErr result (outbox.new.sent ≡ outbox.old.sent) }
     {
+        let orders = book.resend();
+        if orders.is_empty() {
+            return Ok(());
+        }
         outbox.reserve(MOST_ORDERS)?;
-        send_orders(self.me, page, book.number(), &book.resend(), outbox);
+        send_orders(self.me, page, book.number(), &orders, outbox);
         Ok(())
     }
 
