@@ -24,7 +24,8 @@ impl<A: Allocator + Copy> Network<A> {
 
     /// How many envelopes were ever sent.
     pub fn sent(&self) -> u64
-        ensures { (sent : List model.Envelope) (gone : ℕ → Bool) → Carries self.now sent gone → result ≡ length sent }
+        ensures count { (sent : List model.Envelope) (gone : ℕ → Bool) → Carries self.now sent gone → result ≡ length sent }
+        ensures same { result ≡ self.now.sent }
     {
         self.sent
     }
@@ -36,12 +37,16 @@ impl<A: Allocator + Copy> Network<A> {
         self.live.get(&number)
     }
 
-    /// Makes room for so many more.
+    /// Makes room for so many more. Where no numbers are left for them, which no memory is large enough for, it is refused too.
     pub fn reserve(&mut self, additional: usize) -> Result<(), AllocError>
         ensures same { (sent : List model.Envelope) (gone : ℕ → Bool) → Carries self.old sent gone → Carries self.new sent gone }
         ensures sent { self.new.sent ≡ self.old.sent }
         ensures room { OnOk result (additional ≤ room_of self.new) }
+        ensures numbers { OnOk result (self.new.sent + additional < 2 ^ 64) }
     {
+        if self.sent.checked_add(additional as u64).is_none() {
+            return Err(AllocError);
+        }
         self.live.reserve(additional)
     }
 

@@ -42,6 +42,12 @@ abbrev pub is_fault : Answer → Bool
 is_fault answer.Fault = true
 is_fault _ = false
 
+-- the access was made at once
+abbrev pub completes : Answer → Bool
+completes (answer.Byte _) = true
+completes answer.Stored = true
+completes _ = false
+
 -- Whether memory may be missing: never for a load or store that has the right, or that is refused, nor for a restart.
 abbrev pub may_grow : ℕ → ℕ → Site → model.Input → Bool
 may_grow sites me site (model.Load at offset) = is_fault (load sites me at offset site).answer

@@ -7,6 +7,7 @@ mod accessing;
 mod book_view;
 mod booking;
 mod calling;
+mod completing;
 mod delivering;
 mod fault_number;
 mod foreign;

@@ -1,0 +1,15 @@
+use Rattle.std.proofs.Common.{[], ◌∷◌, ◌++◌, subst, sym}
+use Rattle.std.proofs.lemmas.Result.{IfOk-weaker}
+use Rattle.shm_model.specs.World as model
+use Rattle.shm_world.specs.World.{StandsFor}
+use Rattle.shm_world.proofs.Runs.{run-then}
+use Rattle.shm_world.proofs.world.World.step.Goals as goal
+
+pub returns-clause-led : goal.returns-clause-led
+returns-clause-led g c = λ o before stands.
+    IfOk-weaker c.take.result _ _
+    (λ answer went. subst (λ (w : model.World). StandsFor {A = g.row.A.Denot} c.take.new.self w) (sym (run-then o before (c.args.event ∷ []))) went.stands)
+    (c.take.ensures.next (model.run o before).world stands)
+
+pub returns-clause-headline : goal.returns-clause-headline
+returns-clause-headline g c = λ o before opening stands. c.every_run_keeps_the_promise.ensures o (before ++ c.args.event ∷ []) opening

@@ -1,0 +1,41 @@
+-- A world of the code against one of the definitions; and what a list of events makes of a world.
+use Rattle.std.specs.Prelude.{◌≡◌, ℕ, ◌≤◌, Bool, true, false, not, List, [], ◌∷◌, ◌++◌, length, take}
+use Rattle.shm_model.specs.declared.answer.Answer.{Answer}
+use Rattle.shm_model.specs.declared.event.Event.{Event}
+use Rattle.shm_model.specs.declared.event.Event.TheVariants as event
+use Rattle.shm_model.specs.World as model
+use Rattle.shm_network.specs.Network.{Carries}
+use Rattle.shm_site.specs.Step.{completes}
+use Rattle.shm_world.specs.Members.{members_of}
+use Rattle.shm_world.specs.declared.world.World.{World}
+
+-- The code's world stands for the definitions': the same sites, and those of all envelopes ever sent that aren't gone, under their numbers.
+pub record StandsFor {A : Type 0} (world : World A) (w : model.World) : Type 0 where
+  pub count : w.count ≡ world.members.count
+  pub sites : w.sites ≡ members_of world.members
+  pub carries : Carries world.network w.sent w.gone
+  pub unsent : (k : ℕ) → length w.sent ≤ k → w.gone k ≡ false
+
+-- the world after these events, and their answers
+abbrev pub after : model.World → List Event → model.World
+after w [] = w
+after w (e ∷ es) = after (model.next w e).world es
+
+abbrev pub answers : model.World → List Event → List Answer
+answers w [] = []
+answers w (e ∷ es) = (model.next w e).done.answer ∷ answers (model.next w e).world es
+
+-- Whether memory may be missing at an event that has this answer: never for a load or store that is made at once, a restart or a loss.
+abbrev pub may_grow : Event → Answer → Bool
+may_grow (event.Load _ _ _) answer = not (completes answer)
+may_grow (event.Store _ _ _ _) answer = not (completes answer)
+may_grow (event.Restart _) answer = false
+may_grow (event.Lose _) answer = false
+may_grow _ answer = true
+
+-- of these events the first so many were answered, and the world stands after them
+pub record AnsweredSome {A : Type 0} (new : World A) (told out : List Answer) (w : model.World) (events : List Event) : Type 0 where
+  pub count : ℕ
+  pub within : count ≤ length events
+  pub stands : StandsFor new (after w (take count events))
+  pub answered : out ≡ told ++ answers w (take count events)

@@ -1,0 +1,19 @@
+//! The world: all sites and the network between them, stepped by events; and the headline as the contract of its run.
+#![tactic(auto)]
+
+mod accessing;
+mod delivering;
+pub mod laws;
+mod members;
+mod opening;
+mod refusal;
+mod running;
+mod seating;
+mod showing;
+mod start;
+mod stepping;
+mod world;
+
+pub use shm_model::{Access, Answer, Event, Shown};
+pub use shm_site::BookView;
+pub use world::World;

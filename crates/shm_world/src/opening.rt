@@ -1,0 +1,72 @@
+//! How worlds begin, and how they are copied.
+ghost use Rattle.std.specs.Prelude.{◌≤◌, IfOk};
+ghost use Rattle.shm_model.specs.World as model;
+ghost use Rattle.shm_world.specs.Start.{opening_of};
+ghost use Rattle.shm_world.specs.World.{StandsFor};
+
+use crate::members::Members;
+use crate::start::Start;
+use crate::world::World;
+use shm_network::Network;
+use shm_parts::Outbox;
+use shm_place::Sites;
+use std::alloc::{AllocError, Allocator};
+
+impl<A: Allocator + Copy> World<A> {
+    /// A world in which nothing has happened.
+    pub fn new(alloc: A, sites: Sites) -> Result<World<A>, AllocError>
+        ensures { IfOk result (λ world. StandsFor world (model.opened (model.New sites))) }
+    {
+        let _count = sites.count();
+        World::begun(alloc, sites, Start::New)
+    }
+
+    /// The same with segment 0 of so many pages, which every site has attached, to read and write, as attachment 0.
+    pub fn preset(alloc: A, sites: Sites, pages: u32) -> Result<World<A>, AllocError>
+        requires from { 1 ≤ pages }
+        requires to { pages ≤ 256 }
+        ensures { IfOk result (λ world. StandsFor world (model.opened (model.Preset sites pages))) }
+    {
+        let _count = sites.count();
+        World::begun(alloc, sites, Start::Preset { pages })
+    }
+
+    /// The same with at most so many pages held as copies at each site.
+    pub fn framed(alloc: A, sites: Sites, pages: u32, frames: u32) -> Result<World<A>, AllocError>
+        requires from { 1 ≤ pages }
+        requires to { pages ≤ 256 }
+        requires one { 1 ≤ frames }
+        requires most { frames ≤ 65536 }
+        ensures { IfOk result (λ world. StandsFor world (model.opened (model.Framed sites pages frames))) }
+    {
+        let _count = sites.count();
+        World::begun(alloc, sites, Start::Framed { pages, frames })
+    }
+
+    fn begun(alloc: A, sites: Sites, start: Start) -> Result<World<A>, AllocError>
+        requires { model.IsOpening (opening_of start sites) }
+        ensures { IfOk result (λ world. StandsFor world (model.opened (opening_of start sites))) }
+    {
+        let members = Members::begun(alloc, sites, start)?;
+        Ok(World {
+            members,
+            network: Network::new(alloc),
+            outbox: Outbox::new(alloc),
+            alloc,
+        })
+    }
+
+    /// An equal world; both go on alone.
+    pub fn copy(&self) -> Result<World<A>, AllocError>
+        ensures { (w : model.World) → StandsFor self.now w → IfOk result (λ copy. StandsFor copy w) }
+    {
+        let members = self.members.copy(self.alloc)?;
+        let network = self.network.copy()?;
+        Ok(World {
+            members,
+            network,
+            outbox: Outbox::new(self.alloc),
+            alloc: self.alloc,
+        })
+    }
+}

@@ -1,0 +1,72 @@
+//! One event of the world, and a list of them: what they answer, what the world is afterwards, and what is promised of it.
+ghost use Rattle.std.specs.Prelude.{◌≡◌, [], ◌∷◌, ◌++◌, List, true, IfOk, OnErr, OnOk};
+ghost use Rattle.shm_model.specs.World as model;
+ghost use Rattle.shm_model.specs.declared.event.Event.{Event};
+ghost use Rattle.shm_world.specs.Promise.{Promised};
+ghost use Rattle.shm_world.specs.Steps.{Went};
+ghost use Rattle.shm_world.specs.World.{after, answers, may_grow, AnsweredSome, StandsFor};
+
+use crate::laws;
+use crate::world::World;
+use shm_model::{Answer, Event};
+use std::alloc::{AllocError, Allocator};
+
+impl<A: Allocator + Copy> World<A> {
+    /// One event. Where memory is refused nothing changes. A load or store that has the right takes no memory, nor does a restart or a loss.
+    ///
+    /// The headline: for every list of events that leads from an opening to the world as it was, what is promised holds of that list
+    /// followed by this event.
+    pub fn step(&mut self, event: Event) -> Result<Answer, AllocError>
+        ensures next { (w : model.World) → StandsFor self.old w → IfOk result (λ answer. Went self.new (model.next w event) answer) }
+        ensures refused { (w : model.World) → StandsFor self.old w → OnErr result (StandsFor self.new w) }
+        ensures memory { (w : model.World) → StandsFor self.old w → OnErr result (may_grow event (model.next w event).done.answer ≡ true) }
+        ensures led { (o : model.Opening) (before : List Event) → StandsFor self.old (model.run o before).world → OnOk result (StandsFor self.new (model.run o (before ++ event ∷ [])).world) }
+        ensures headline { (o : model.Opening) (before : List Event) → model.IsOpening o → StandsFor self.old (model.run o before).world → Promised o (before ++ event ∷ []) }
+    {
+        laws::every_run_keeps_the_promise();
+        self.take(&event)
+    }
+
+    /// A list of events: their answers join the others. Where memory is refused at an event, the world stands after the events before
+    /// it, and the answers that joined are theirs.
+    ///
+    /// The headline: for every list of events that leads from an opening to the world as it was, what is promised holds of that list
+    /// followed by the events that were answered.
+    pub fn run(&mut self, events: &[Event], out: &mut Vec<Answer, A>) -> Result<(), AllocError>
+        ensures whole { (w : model.World) → StandsFor self.old w → OnOk result (StandsFor self.new (after w events.now) × (out.new.items ≡ out.old.items ++ answers w events.now)) }
+        ensures part { (w : model.World) → StandsFor self.old w → OnErr result (AnsweredSome self.new out.old.items out.new.items w events.now) }
+        ensures led { (o : model.Opening) (before : List Event) → StandsFor self.old (model.run o before).world → OnOk result (StandsFor self.new (model.run o (before ++ events.now)).world) }
+        ensures headline { (o : model.Opening) (before : List Event) → model.IsOpening o → StandsFor self.old (model.run o before).world → Promised o (before ++ events.now) }
+    {
+        laws::every_run_keeps_the_promise();
+        out.reserve(events.len())?;
+        'events: for event in events {
+            let answer = self.take(event)?;
+            out.push_reserved(answer);
+        }
+        Ok(())
+    }
+
+    /// One event, without the promise.
+    fn take(&mut self, event: &Event) -> Result<Answer, AllocError>
+        ensures next { (w : model.World) → StandsFor self.old w → IfOk result (λ answer. Went self.new (model.next w event.now) answer) }
+        ensures refused { (w : model.World) → StandsFor self.old w → OnErr result (StandsFor self.new w) }
+        ensures memory { (w : model.World) → StandsFor self.old w → OnErr result (may_grow event.now (model.next w event.now).done.answer ≡ true) }
+    {
+        match event {
+            Event::Load { site, at, offset } => self.load(*site, *at, *offset),
+            Event::Store {
+                site,
+                at,
+                offset,
+                byte,
+            } => self.store(*site, *at, *offset, *byte),
+            Event::Begin { site, request } => self.begin(*site, *request),
+            Event::Tick { site } => self.tick(*site),
+            Event::Restart { site } => self.restart(*site),
+            Event::Deliver(number) => self.deliver(*number),
+            Event::Repeat(number) => self.repeat(*number),
+            Event::Lose(number) => Ok(self.lose(*number)),
+        }
+    }
+}
