@@ -2,7 +2,7 @@
 
 PROGRAM := crates/shmdbg
 
-.PHONY: replay build test
+.PHONY: replay build test wrong-bodies
 
 # Replays an example without proving anything: within a minute on a fresh machine.
 replay:
@@ -18,3 +18,10 @@ build:
 # The gate: proves every crate from nothing, and runs every test, every program and every edit that must fail.
 test:
 	rt ci 2>&1
+
+# The wrong bodies that the gate leaves out for its time: the prover must refuse each of these, too. Tried in a clone of the last commit.
+wrong-bodies:
+	set -e; work=$$(mktemp -d); trap 'rm -rf "$$work"' EXIT; git clone -q . "$$work"; cd "$$work"; \
+	for further in crates/*/wrong-bodies; do rm -rf "$${further%wrong-bodies}must-fail"; mv "$$further" "$${further%wrong-bodies}must-fail"; done; \
+	for crate in crates/*; do [ -d "$$crate/must-fail" ] && (cd "$$crate" && rt check > /dev/null); done; \
+	rt must-fail
