@@ -1,9 +1,8 @@
 -- A map of books, as the definitions see it, after a change of one book or of all; and the step that a row of a book's table is.
-use Rattle.std.proofs.Common.{◌≡◌, ◌==◌, ◌||◌, ◌<◌, ◌≤◌, ℕ, nat_le, zero, suc, Bool, true, false, cond, not, if◌then◌else◌, List, [], ◌∷◌, ◌++◌, length, map, filter, Option, Some, None, is_some, option_map, unwrap_or, slice_get, refl, sym, ap, ap₂, subst, ◌∙◌, true≢false, append_assoc, append-nil, add-one, ◌+◌, arith}
+use Rattle.std.proofs.Common.{◌≡◌, ◌==◌, ◌||◌, ◌<◌, ◌≤◌, ℕ, nat_le, zero, suc, Bool, true, false, cond, if◌then◌else◌, List, [], ◌∷◌, ◌++◌, length, map, Option, Some, None, is_some, option_map, unwrap_or, slice_get, refl, sym, ap, ap₂, subst, ◌∙◌, true≢false, append_assoc, append-nil, add-one, ◌+◌, arith}
 use Rattle.std.proofs.Math.Path.{fun_ext}
 use Rattle.std.proofs.lemmas.Bool.{and_parts}
 use Rattle.std.proofs.lemmas.Bool.Decides.{nat_tests}
-use Rattle.std.proofs.lemmas.Map.Entries.{lookup-filter-keys}
 use Rattle.std.proofs.lemmas.Map.Keys.{IsDistinct-head, IsDistinct-tail}
 use Rattle.std.specs.List.{AllByRecursion, IsDistinct, list_any}
 use Rattle.std.specs.Map.{keys_of, lookup, values_of}
@@ -14,7 +13,6 @@ use Rattle.shm_model.specs.declared.kind.Kind.{Kind}
 use Rattle.shm_model.specs.Book as model
 use Rattle.shm_model.specs.Site.{Site, at_page}
 use Rattle.shm_model.specs.Access.{Step, dropped, still}
-use Rattle.shm_model.specs.SegmentCalls.{of_segment, without_segment}
 use Rattle.shm_model.specs.Transfer.{booked_with, to_book, order_envelope}
 use Rattle.shm_model.specs.declared.answer.Answer.TheVariants.{Took, Refused}
 use Rattle.shm_model.specs.Refusal.{numbers_used_up}
@@ -42,17 +40,13 @@ same_page-flip p q h = by (same_page q p) refl
 
 -- ---- lists of entries
 
-list_any-keys : {K X : Type 0} (test : K → Bool) (es : List (K × X)) → list_any test (keys_of es) ≡ is_some (lookup test es)
+pub list_any-keys : {K X : Type 0} (test : K → Bool) (es : List (K × X)) → list_any test (keys_of es) ≡ is_some (lookup test es)
 list_any-keys test [] = refl
 list_any-keys test (e ∷ es) = by (test e.0) (list_any-keys test es)
   where
     by : (b : Bool) → list_any test (keys_of es) ≡ is_some (lookup test es) → (b || list_any test (keys_of es)) ≡ is_some (cond b (Some e.1) (lookup test es))
     by true h = refl
     by false h = h
-
-keys-append : {K X : Type 0} (es fs : List (K × X)) → keys_of (es ++ fs) ≡ keys_of es ++ keys_of fs
-keys-append [] fs = refl
-keys-append (e ∷ es) fs = ap (λ ks. e.0 ∷ ks) (keys-append es fs)
 
 -- with each value changed by g
 lookup-values : {K X Y : Type 0} (g : X → Y) (test : K → Bool) (es : List (K × X)) → lookup test (map (λ e. (e.0, g e.1)) es) ≡ option_map g (lookup test es)
@@ -66,14 +60,6 @@ lookup-values g test (e ∷ es) = by (test e.0) (lookup-values g test es)
 keys-values : {K X Y : Type 0} (g : X → Y) (es : List (K × X)) → keys_of (map (λ e. (e.0, g e.1)) es) ≡ keys_of es
 keys-values g [] = refl
 keys-values g (e ∷ es) = ap (λ ks. e.0 ∷ ks) (keys-values g es)
-
-keys-filter : {K X : Type 0} (p : K → Bool) (es : List (K × X)) → keys_of (filter (λ e. p e.0) es) ≡ filter p (keys_of es)
-keys-filter p [] = refl
-keys-filter p (e ∷ es) = by (p e.0) (keys-filter p es)
-  where
-    by : (b : Bool) → keys_of (filter (λ e. p e.0) es) ≡ filter p (keys_of es) → keys_of (cond b (e ∷ filter (λ e. p e.0) es) (filter (λ e. p e.0) es)) ≡ cond b (e.0 ∷ filter p (keys_of es)) (filter p (keys_of es))
-    by true h = ap (λ ks. e.0 ∷ ks) h
-    by false h = h
 
 all-keys_at : {K X : Type 0} (P : K → Type 0) (front back : List (K × X)) (k : K) (x : X) → AllByRecursion P (keys_of (front ++ (k, x) ∷ back)) → P k
 all-keys_at P [] back k x h = h.0
@@ -177,20 +163,6 @@ module _ {A : Type 0} where
       by true h = refl
       by false h = ap (λ fs. (e.0, book_of e.1) ∷ fs) h
 
-  -- without the pages of a segment
-  pub removed_books : (rest : model.Book) (id : ℕ) (es : List (PageId × Book A))
-      → as_books rest (filter (λ e. not (id == e.0.seg)) es) ≡ of_segment id rest (as_books rest es)
-  removed_books rest id es = fun_ext (λ page.
-      ap (book_or rest) (lookup-filter-keys (same_page page) (λ k. not (id == k.seg)) (not (id == page.seg)) (λ k h. ap (λ (q : PageId). not (id == q.seg)) (sym (page-same page k h))) es)
-      ∙ by (id == page.seg) (lookup (same_page page) es))
-    where
-      by : (b : Bool) (o : Option (Book A)) → book_or rest (cond (not b) o None) ≡ (if b then rest else book_or rest o)
-      by true o = refl
-      by false o = refl
-
-  pub removed_keys : (id : ℕ) (es : List (PageId × Book A)) → keys_of (filter (λ e. not (id == e.0.seg)) es) ≡ without_segment id (keys_of es)
-  removed_keys id es = keys-filter (λ (k : PageId). not (id == k.seg)) es
-
   -- with one book put at its page
   pub put_book : (rest : model.Book) (old new : List (PageId × Book A)) (page : PageId) (b : Book A)
       → ((q : PageId) → lookup (same_page q) new ≡ cond (same_page page q) (Some b) (lookup (same_page q) old))
@@ -200,12 +172,6 @@ module _ {A : Type 0} where
       by : (c : Bool) (o : Option (Book A)) → book_or rest (cond c (Some b) o) ≡ (if c then book_of b else book_or rest o)
       by true o = refl
       by false o = refl
-
-  pub booked_present : (page : PageId) (es : List (PageId × Book A)) (b : Book A) → lookup (same_page page) es ≡ Some b → booked_with page (keys_of es) ≡ keys_of es
-  booked_present page es b h = ap (λ c. if c then keys_of es else keys_of es ++ (page ∷ [])) (list_any-keys (same_page page) es ∙ ap is_some h)
-
-  pub booked_new : (page : PageId) (es : List (PageId × Book A)) (b : Book A) → lookup (same_page page) es ≡ None → keys_of (es ++ (page, b) ∷ []) ≡ booked_with page (keys_of es)
-  booked_new page es b h = keys-append es ((page, b) ∷ []) ∙ sym (ap (λ c. if c then keys_of es else keys_of es ++ (page ∷ [])) (list_any-keys (same_page page) es ∙ ap is_some h))
 
 -- ---- steps
 
@@ -263,31 +229,31 @@ asked_first me from request kind h = rw (le_0 request h) refl
 
 module _ {A : Type 0} where
   -- a row of a page that has the book b, which became next
-  pub present_step : (me : ℕ) (page : PageId) (row : model.Book → model.Outcome) (outcome : Outcome) (old new : List (PageId × Book A)) (b next : Book A) (site : Site)
+  pub present_step : (me : ℕ) (page : PageId) (row : model.Book → model.Outcome) (outcome : Outcome) (old new : List (PageId × Book A)) (booked now_booked : List PageId) (b next : Book A) (site : Site)
       → lookup (same_page page) old ≡ Some b → given_by outcome (book_of next) ≡ row (book_of b) → IsSettled outcome (book_of b) (book_of next)
-      → ((q : PageId) → lookup (same_page q) new ≡ cond (same_page page q) (Some next) (lookup (same_page q) old)) → keys_of new ≡ keys_of old
-      → to_book me page (row (as_books (model.untouched_book me) old page)) (site_with site (as_books (model.untouched_book me) old) (keys_of old)) ≡ booked_step me page outcome (site_with site (as_books (model.untouched_book me) new) (keys_of new))
-  present_step me page row outcome old new b next site found given settled put same =
+      → ((q : PageId) → lookup (same_page q) new ≡ cond (same_page page q) (Some next) (lookup (same_page q) old)) → now_booked ≡ booked → list_any (same_page page) booked ≡ true
+      → to_book me page (row (as_books (model.untouched_book me) old page)) (site_with site (as_books (model.untouched_book me) old) booked) ≡ booked_step me page outcome (site_with site (as_books (model.untouched_book me) new) now_booked)
+  present_step me page row outcome old new booked now_booked b next site found given settled put same there =
       let rest = model.untouched_book me in
       let had : as_books rest old page ≡ book_of b = ap (book_or rest) found in
-      row_step me page (row (as_books rest old page)) outcome (as_books rest old) (as_books rest new) (keys_of old) (keys_of new) (book_of next) site
-      (given ∙ ap row (sym had)) (subst (λ (x : model.Book). IsSettled outcome x (book_of next)) (sym had) settled) (put_book rest old new page next put) same (booked_present page old b found)
+      row_step me page (row (as_books rest old page)) outcome (as_books rest old) (as_books rest new) booked now_booked (book_of next) site
+      (given ∙ ap row (sym had)) (subst (λ (x : model.Book). IsSettled outcome x (book_of next)) (sym had) settled) (put_book rest old new page next put) same (ap (λ (c : Bool). if c then booked else booked ++ (page ∷ [])) there)
 
   -- the first request of a page, whose book joins the others
-  pub absent_step : (me : ℕ) (page : PageId) (from request : ℕ) (kind : Kind) (outcome : Outcome) (old new : List (PageId × Book A)) (b next : Book A) (site : Site)
+  pub absent_step : (me : ℕ) (page : PageId) (from request : ℕ) (kind : Kind) (outcome : Outcome) (old new : List (PageId × Book A)) (booked now_booked : List PageId) (b next : Book A) (site : Site)
       → 0 < request → lookup (same_page page) old ≡ None → book_of b ≡ model.untouched_book me
       → given_by outcome (book_of next) ≡ model.on_ask from request kind (book_of b) → IsSettled outcome (book_of b) (book_of next)
-      → ((q : PageId) → lookup (same_page q) new ≡ cond (same_page page q) (Some next) (lookup (same_page q) old)) → new ≡ old ++ (page, next) ∷ []
-      → to_book me page (model.on_ask from request kind (as_books (model.untouched_book me) old page)) (site_with site (as_books (model.untouched_book me) old) (keys_of old)) ≡ booked_step me page outcome (site_with site (as_books (model.untouched_book me) new) (keys_of new))
-  absent_step me page from request kind outcome old new b next site fresh absent made given settled put last =
+      → ((q : PageId) → lookup (same_page q) new ≡ cond (same_page page q) (Some next) (lookup (same_page q) old)) → now_booked ≡ booked ++ page ∷ [] → list_any (same_page page) booked ≡ false
+      → to_book me page (model.on_ask from request kind (as_books (model.untouched_book me) old page)) (site_with site (as_books (model.untouched_book me) old) booked) ≡ booked_step me page outcome (site_with site (as_books (model.untouched_book me) new) now_booked)
+  absent_step me page from request kind outcome old new booked now_booked b next site fresh absent made given settled put last apart =
       let rest = model.untouched_book me in
       let started = model.started from request kind rest in
       let had : as_books rest old page ≡ rest = ap (book_or rest) absent in
       let asked : model.on_ask from request kind rest ≡ model.Taken started (model.orders started) = asked_first me from request kind fresh in
       let answered : given_by outcome (book_of next) ≡ model.Taken started (model.orders started) = given ∙ ap (model.on_ask from request kind) made ∙ asked in
-      let joined : keys_of new ≡ booked_with page (keys_of old) = ap keys_of last ∙ booked_new page old next absent in
-      ap (λ (r : model.Outcome). to_book me page r (site_with site (as_books rest old) (keys_of old))) (ap (model.on_ask from request kind) had ∙ asked)
-      ∙ first_step me page outcome (as_books rest old) (as_books rest new) (keys_of old) (keys_of new) (book_of b) (book_of next) started (model.orders started) site answered settled (put_book rest old new page next put) joined
+      let joined : now_booked ≡ booked_with page booked = last ∙ sym (ap (λ (c : Bool). if c then booked else booked ++ (page ∷ [])) apart) in
+      ap (λ (r : model.Outcome). to_book me page r (site_with site (as_books rest old) booked)) (ap (model.on_ask from request kind) had ∙ asked)
+      ∙ first_step me page outcome (as_books rest old) (as_books rest new) booked now_booked (book_of b) (book_of next) started (model.orders started) site answered settled (put_book rest old new page next put) joined
 
   -- ---- a copy, entry by entry
   pub copy_more : (copy now it rest all : List (PageId × Book A)) (page : PageId) (b : Book A)

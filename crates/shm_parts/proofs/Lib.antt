@@ -1,7 +1,13 @@
 pub mod PendingLemmas
 pub mod FrameLemmas
+pub mod FrameSteps
 pub mod BookSteps
+pub mod ListLemmas
+pub mod PlaceLemmas
+pub mod NextLemmas
+pub mod BookedLemmas
 pub mod EntryLemmas
+pub mod LineLemmas
 pub mod Held
 pub mod Reaches
 pub mod Turned

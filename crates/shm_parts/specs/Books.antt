@@ -1,6 +1,7 @@
 -- The books of the pages that a site manages, as a function of the page, and the pages in the order of their first transactions.
-use Rattle.std.specs.Prelude.{◌≡◌, ℕ, List, Option, Some, None, map}
-use Rattle.std.specs.Map.{lookup, keys_of}
+use Rattle.std.specs.Prelude.{◌≡◌, ℕ, List, ◌∷◌, ◌++◌, Option, Some, None, map}
+use Rattle.std.specs.List.{AllByRecursion}
+use Rattle.std.specs.Map.{lookup}
 use Rattle.shm_place.specs.declared.page.PageId.{PageId}
 use Rattle.shm_place.specs.Page.{same_page}
 use Rattle.shm_model.specs.declared.answer.Answer.TheVariants.{Took, Refused}
@@ -11,13 +12,11 @@ use Rattle.shm_model.specs.Site.{Site}
 use Rattle.shm_model.specs.Transfer.{order_envelope}
 use Rattle.shm_manager.specs.Book.{book_of}
 use Rattle.shm_manager.specs.declared.book.Book.{Book}
+pub use Rattle.shm_parts.specs.Booked.{book_or}
+use Rattle.shm_parts.specs.Bookings.{listed_after, listed_of}
 use Rattle.shm_parts.specs.declared.books.Books.{Books}
 use Rattle.shm_parts.specs.declared.outcome.Outcome.{Outcome}
 use Rattle.shm_parts.specs.declared.outcome.Outcome.TheVariants as outcome
-
-abbrev pub book_or : {A : Type 0} → model.Book → Option (Book A) → model.Book
-book_or rest None = rest
-book_or rest (Some book) = book_of book
 
 -- the entries of a map of books, as the definitions see the books
 abbrev pub viewed : {A : Type 0} → List (PageId × Book A) → List (PageId × model.Book)
@@ -28,7 +27,19 @@ abbrev pub books_of : {A : Type 0} → ℕ → Books A → PageId → model.Book
 books_of me books page = book_or (model.untouched_book me) (lookup (same_page page) books.map.entries)
 
 abbrev pub booked_of : {A : Type 0} → Books A → List PageId
-booked_of books = keys_of books.map.entries
+booked_of books = listed_of books.bookings
+
+-- the pages behind a place in that order
+abbrev pub booked_after : {A : Type 0} → Option ℕ → Books A → List PageId
+booked_after last books = listed_after last books.bookings
+
+-- no transaction of these pages runs
+abbrev pub AllIdle : {A : Type 0} → Books A → List PageId → Type 0
+AllIdle books pages = AllByRecursion (λ page. (me : ℕ) → (books_of me books page).running ≡ None) pages
+
+-- the next page behind `last`, at this place, of those that may have a running transaction
+abbrev pub IsNextRunning : {A : Type 0} → Option ℕ → Books A → ℕ → PageId → Type 0
+IsNextRunning last books place page = (between : List PageId) × (booked_after last books ≡ between ++ page ∷ booked_after (Some place) books) × AllIdle books between
 
 -- the site, with these books
 abbrev pub with_books : {A : Type 0} → ℕ → Books A → Site → Site

@@ -1,21 +1,33 @@
 -- Frames, as the definitions speak of them.
-use Rattle.std.specs.Prelude.{ℕ, List, [], ◌∷◌, ◌++◌, Option, Some, None, ◌<◌, not, nat_lt, if◌then◌else◌, length, vec_capacity}
+use Rattle.std.specs.Prelude.{◌≡◌, true, List, [], ◌∷◌, ◌++◌, Option, Some, None, is_some, not, nat_lt, if◌then◌else◌, length, ⊤}
+use Rattle.std.specs.Map.{keys_of, lookup}
 use Rattle.shm_place.specs.declared.page.PageId.{PageId}
+use Rattle.shm_place.specs.Page.{same_page}
 use Rattle.shm_model.specs.Site as model
 use Rattle.shm_model.specs.Transfer.{without_page}
 use Rattle.shm_parts.specs.declared.change.Change.{Change}
 use Rattle.shm_parts.specs.declared.frames.Frames.{Frames}
 
+-- the pages in the line that are copies, where one may be that is not, but for which room was made
+abbrev pub counted : Option PageId → List PageId → List PageId
+counted None pages = pages
+counted (Some awaited) pages = without_page awaited pages
+
+-- the copies, the next to go first
+unfoldable pub copies_in : {A : Type 0} → Frames A → List PageId
+copies_in frames = counted frames.awaited (keys_of frames.line)
+
 abbrev pub frames_of : {A : Type 0} → Frames A → model.Frames
-frames_of frames = record { limit = frames.limit; copies = frames.copies.items }
+frames_of frames = record { limit = frames.limit; copies = copies_in frames }
 
--- how many copies fit without more memory
-abbrev pub room : {A : Type 0} → Frames A → ℕ
-room frames = vec_capacity frames.copies
+-- room was made for no other page
+abbrev pub IsFor : PageId → Option PageId → Type 0
+IsFor page None = ⊤
+IsFor page (Some awaited) = awaited ≡ page
 
--- one more copy fits without more memory
-abbrev pub has_room : {A : Type 0} → Frames A → Type 0
-has_room frames = length frames.copies.items < room frames
+-- the page stands in the line, as a copy or where it will be one, and so takes no more memory
+abbrev pub has_room : {A : Type 0} → PageId → Frames A → Type 0
+has_room page frames = IsFor page frames.awaited × (is_some (lookup (same_page page) frames.line) ≡ true)
 
 -- the copies after a change at the page
 abbrev pub arranged_by : Change → PageId → List PageId → List PageId

@@ -3,7 +3,11 @@ pub mod Outbox
 pub mod Frames
 pub mod Pendings
 pub mod Purged
+pub mod Places
+pub mod Bookings
+pub mod Booked
 pub mod Books
 pub mod Holdings
 pub mod Reach
 pub mod Entries
+pub mod Line

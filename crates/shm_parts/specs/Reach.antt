@@ -8,7 +8,7 @@ use Rattle.shm_place.specs.Page.{same_page}
 use Rattle.shm_model.specs.Calls.{Attachment}
 use Rattle.shm_attach.specs.Attachments.{attachments_of}
 use Rattle.shm_parts.specs.Entries.{is_stored}
-use Rattle.shm_parts.specs.Frames.{has_room}
+use Rattle.shm_parts.specs.Frames.{frames_of, has_room}
 use Rattle.shm_parts.specs.Purged.{purged_of}
 use Rattle.shm_parts.specs.declared.entries.Entries.{Entries}
 use Rattle.shm_parts.specs.declared.frames.Frames.{Frames}
@@ -16,12 +16,12 @@ use Rattle.shm_parts.specs.declared.purged.Purged.{Purged}
 
 abbrev pub copies_of : {A : Type 0} → Option (Frames A) → List PageId
 copies_of None = []
-copies_of (Some frames) = frames.copies.items
+copies_of (Some frames) = (frames_of frames).copies
 
--- one more copy fits without more memory, where copies are counted
-abbrev pub has_space : {A : Type 0} → Option (Frames A) → Type 0
-has_space None = ⊤
-has_space (Some frames) = has_room frames
+-- the page may be a copy without more memory, where copies are counted
+abbrev pub has_space : {A : Type 0} → PageId → Option (Frames A) → Type 0
+has_space page None = ⊤
+has_space page (Some frames) = has_room page frames
 
 pub record IsReached {A : Type 0} (entries : Entries A) (attachments : List (Option Attachment)) (purged : Purged A) (frames : Option (Frames A)) : Type 0 where
   pub stored : (number : ℕ) (a : Attachment) (index : ℕ) → attachments_of attachments number ≡ Some a → index * page_bytes < rounded a.size → is_stored entries (record { seg = a.id; index = index }) ≡ true

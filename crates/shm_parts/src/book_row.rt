@@ -1,5 +1,5 @@
 //! A row of one book's table, and what became of its message.
-ghost use Rattle.std.specs.Prelude.{◌≡◌, ◌<◌, IfNone};
+ghost use Rattle.std.specs.Prelude.{◌≡◌, ◌<◌, true, is_some, IfNone};
 ghost use Rattle.shm_manager.specs.Book.{book_of, row_of};
 ghost use Rattle.shm_model.specs.Book as model;
 ghost use Rattle.shm_parts.specs.Books.{given_by, IsSettled};
@@ -41,6 +41,7 @@ pub(crate) fn cleared_in<A: Allocator>(book: &mut Book<A>, from: SiteId, number:
     requires { from < 16 }
     ensures row { given_by result (book_of book.new) ≡ model.on_cleared from number (book_of book.old) }
     ensures settled { IsSettled result (book_of book.old) (book_of book.new) }
+    ensures idle { is_some (book_of book.new).running ≡ true → is_some (book_of book.old).running ≡ true }
 {
     let answer = book.cleared(from, number);
     outcome_of(answer, book.number())
@@ -51,7 +52,15 @@ pub(crate) fn confirm_in<A: Allocator>(book: &mut Book<A>, from: SiteId, number:
     requires { from < 16 }
     ensures row { given_by result (book_of book.new) ≡ model.on_confirm from number (book_of book.old) }
     ensures settled { IsSettled result (book_of book.old) (book_of book.new) }
+    ensures idle { is_some (book_of book.new).running ≡ true → is_some (book_of book.old).running ≡ true }
 {
     let answer = book.confirm(from, number);
     outcome_of(answer, book.number())
+}
+
+/// Whether a transaction of the book runs.
+pub(crate) fn runs<A: Allocator>(book: &Book<A>) -> bool
+    ensures { result ≡ is_some (book_of book.now).running }
+{
+    book.running().is_some()
 }

@@ -1,3 +1,6 @@
+ghost use Rattle.shm_parts.specs.Booked.{IsBooked};
+
+use crate::bookings::Bookings;
 use indexmap::IndexMap;
 use shm_manager::Book;
 use shm_place::PageId;
@@ -8,4 +11,6 @@ use std::hash::{BuildHasherDefault, FoldHasher};
 #[derive(Drop)]
 pub struct Books<A: Allocator + Copy = Global> {
     pub(crate) map: IndexMap<PageId, Book<A>, BuildHasherDefault<FoldHasher>, A>,
+    pub(crate) bookings: Bookings<A>,
+    ghost booked: { IsBooked map.entries bookings },
 }

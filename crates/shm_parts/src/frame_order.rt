@@ -1,81 +1,99 @@
 //! The order in which copies are given up.
-ghost use Rattle.std.specs.Prelude.{◌≡◌, ◌≤◌, [], length, IfOk, OnOk};
+ghost use Rattle.std.specs.Prelude.{◌≡◌, [], None, IfOk, OnOk};
 ghost use Rattle.shm_model.specs.SegmentCalls.{without_segment};
-ghost use Rattle.shm_model.specs.Transfer.{without_page};
-ghost use Rattle.shm_parts.specs.Frames.{arranged_by, frames_of, has_room, overflowed, room};
+ghost use Rattle.shm_parts.specs.Frames.{arranged_by, frames_of, has_room, overflowed};
 
 use crate::change::Change;
 use crate::frames::Frames;
+use crate::line::Line;
 use shm_place::{PageId, SegId};
 use std::alloc::{AllocError, Allocator};
 
 impl<A: Allocator + Copy> Frames<A> {
     /// No copies, and at most `limit` from now on.
+    #[tactic(auto, unfolding(crate::specs::Frames::copies_in))]
     pub fn new(alloc: A, limit: u32) -> Frames<A>
         ensures { frames_of result ≡ record { limit = limit; copies = [] } }
     {
         Frames {
             limit,
-            copies: Vec::new(alloc),
+            line: Line::new(alloc),
+            awaited: None,
         }
     }
 
-    /// Makes room for one more copy.
-    pub fn reserve(&mut self) -> Result<(), AllocError>
+    /// Makes room for the page as a copy, in place of the room made before.
+    pub fn reserve(&mut self, page: &PageId) -> Result<(), AllocError>
         ensures same { frames_of self.new ≡ frames_of self.old }
-        ensures room { OnOk result (has_room self.new) }
+        ensures room { OnOk result (has_room page.now self.new) }
     {
-        self.copies.reserve(1)
+        self.let_go();
+        if self.line.contains(page) {
+            return Ok(());
+        }
+        self.line.put(*page, ())?;
+        self.awaited = Some(*page);
+        Ok(())
+    }
+
+    /// Gives up the room that was made and not used.
+    fn let_go(&mut self)
+        ensures same { frames_of self.new ≡ frames_of self.old }
+        ensures none { self.new.awaited ≡ None }
+    {
+        let Some(page) = &self.awaited else {
+            return;
+        };
+        self.line.remove(page);
+        self.awaited = None;
     }
 
     /// A copy that was installed goes last among the copies; what is no copy any more leaves them.
     pub fn arrange(&mut self, page: PageId, change: Change)
-        requires { has_room self.old }
+        requires { has_room page self.old }
         ensures { frames_of self.new ≡ record (frames_of self.old) { copies = arranged_by change page (frames_of self.old).copies } }
     {
         if !change.copy {
-            self.remove_page(&page);
-        } else if change.newer {
-            self.remove_page(&page);
-            self.copies.push_reserved(page);
+            self.line.remove(&page);
+            self.awaited = None;
+            return;
         }
-    }
-
-    /// Takes the page out of the copies.
-    fn remove_page(&mut self, page: &PageId)
-        ensures copies { frames_of self.new ≡ record (frames_of self.old) { copies = without_page page.now (frames_of self.old).copies } }
-        ensures fewer { length (frames_of self.new).copies ≤ length (frames_of self.old).copies }
-        ensures room { room self.new ≡ room self.old }
-    {
-        self.copies.retain(|copy| page != copy);
+        if change.newer {
+            self.line.move_last(&page);
+            self.awaited = None;
+        }
     }
 
     /// Takes the first copy out where there are more than there may be.
+    #[tactic(auto, unfolding(crate::specs::Frames::copies_in))]
     pub fn overflow(&mut self) -> Option<PageId>
         ensures { (result, frames_of self.new) ≡ overflowed (frames_of self.old) }
     {
-        if self.copies.len() <= self.limit as usize {
+        self.let_go();
+        if self.line.len() <= self.limit as usize {
             return None;
         }
-        Some(self.copies.remove(0))
+        self.line.pop_first()
     }
 
     /// Forgets the copies of a segment's pages.
     pub fn remove_segment(&mut self, id: SegId)
         ensures { frames_of self.new ≡ record (frames_of self.old) { copies = without_segment id (frames_of self.old).copies } }
     {
-        self.copies.retain(|copy| id != copy.seg);
+        self.let_go();
+        self.line.remove_segment(id);
     }
 
     /// An equal limit, and equal copies in equal order.
+    #[tactic(auto, unfolding(crate::specs::Frames::copies_in))]
     pub fn copy(&self) -> Result<Frames<A>, AllocError>
         ensures { IfOk result (λ copy. frames_of copy ≡ frames_of self.now) }
     {
-        let alloc = *self.copies.allocator();
-        let copies = Vec::from_slice(alloc, self.copies.as_slice())?;
+        let line = self.line.copy()?;
         Ok(Frames {
             limit: self.limit,
-            copies,
+            line,
+            awaited: self.awaited,
         })
     }
 }

@@ -1,3 +1,4 @@
+use crate::line::Line;
 use shm_place::PageId;
 use std::alloc::{Allocator, Global};
 
@@ -5,5 +6,8 @@ use std::alloc::{Allocator, Global};
 #[derive(Drop)]
 pub struct Frames<A: Allocator + Copy = Global> {
     pub(crate) limit: u32,
-    pub(crate) copies: Vec<PageId, A>,
+    /// The copies in their order, and the page for which room was made.
+    pub(crate) line: Line<(), A>,
+    /// The page for which room was made: it stands in the line, and is no copy yet.
+    pub(crate) awaited: Option<PageId>,
 }

@@ -3,8 +3,11 @@
 #![tactic(auto)]
 
 mod attaching;
+mod book_map;
 mod book_row;
 mod book_table;
+mod booking;
+mod bookings;
 mod books;
 mod change;
 mod entries;
@@ -12,11 +15,13 @@ mod entry_table;
 mod frame_order;
 mod frames;
 mod holdings;
+mod line;
 mod message;
 mod naming;
 mod opening;
 mod outbox;
 mod outcome;
+mod page_map;
 mod pending_table;
 mod pendings;
 mod purged;

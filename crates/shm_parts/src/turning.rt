@@ -42,9 +42,9 @@ impl<A: Allocator + Copy> Holdings<A> {
         ensures same { (site : Site) → with_holdings sites me self.new site ≡ with_holdings sites me self.old site }
         ensures purged { purged_of self.new.purged ≡ purged_of self.old.purged }
         ensures stored { OnOk result (is_stored self.new.entries page.now ≡ true) }
-        ensures room { OnOk result (has_space self.new.frames) }
+        ensures room { OnOk result (has_space page.now self.new.frames) }
     {
-        reserve_copy(&mut self.frames)?;
+        reserve_copy(&mut self.frames, page)?;
         self.entries.ensure(self.alloc, sites, me, *page)
     }
 
@@ -57,7 +57,7 @@ impl<A: Allocator + Copy> Holdings<A> {
     ) -> Result<(Out<A>, Change), Turn<A>>
         requires alive { purged_of self.old.purged page.now.seg ≡ false }
         requires stored { is_stored self.old.entries page.now ≡ true }
-        requires room { has_space self.old.frames }
+        requires room { has_space page.now self.old.frames }
         ensures step { IfOk result (λ r. (sites : ℕ) → (site : Site) → to_entry sites me page.now (row me (note_of turn) (held_entries sites me self.old page.now)) (with_holdings sites me self.old site) ≡ turned_step sites me page.now (out_of r.0) r.1 (with_holdings sites me self.new) site) }
         ensures back { IfErr result (λ back. note_of back ≡ note_of turn) }
         ensures refused { OnErr result ((sites : ℕ) → (site : Site) → with_holdings sites me self.new site ≡ with_holdings sites me self.old site) }
@@ -76,7 +76,7 @@ impl<A: Allocator + Copy> Holdings<A> {
     /// Puts the copies in order after a change at the page, and gives one up where there are too many.
     fn arrange(&mut self, page: &PageId, change: Change)
         requires stored { is_stored self.old.entries page.now ≡ true }
-        requires room { has_space self.old.frames }
+        requires room { has_space page.now self.old.frames }
         ensures { (sites me : ℕ) → (site : Site) → with_holdings sites me self.new site ≡ rearranged change page.now (with_holdings sites me self.old site) }
     {
         let Some(first) = arrange_copies(&mut self.frames, page, change) else {
@@ -86,13 +86,16 @@ impl<A: Allocator + Copy> Holdings<A> {
     }
 }
 
-fn reserve_copy<A: Allocator + Copy>(frames: &mut Option<Frames<A>>) -> Result<(), AllocError>
+fn reserve_copy<A: Allocator + Copy>(
+    frames: &mut Option<Frames<A>>,
+    page: &PageId,
+) -> Result<(), AllocError>
     ensures same { held_frames frames.new ≡ held_frames frames.old }
-    ensures room { OnOk result (has_space frames.new) }
+    ensures room { OnOk result (has_space page.now frames.new) }
 {
     match frames {
         None => Ok(()),
-        Some(frames) => frames.reserve(),
+        Some(frames) => frames.reserve(page),
     }
 }
 
@@ -102,7 +105,7 @@ fn arrange_copies<A: Allocator + Copy>(
     page: &PageId,
     change: Change,
 ) -> Option<PageId>
-    requires { has_space frames.old }
+    requires { has_space page.now frames.old }
     ensures { (result, held_frames frames.new) ≡ arranged_frames change page.now (held_frames frames.old) }
 {
     match frames {

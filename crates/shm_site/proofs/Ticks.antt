@@ -1,6 +1,6 @@
 -- What a tick has sent so far, part by part.
 use Rattle.std.proofs.Common.{◌≡◌, ℕ, ◌+◌, ◌-◌, ◌*◌, ◌/◌, ◌<◌, ◌≤◌, ◌==◌, zero, suc, Bool, true, false, cond, List, [], ◌∷◌, ◌++◌, Option, Some, None, Result, Ok, Err, OnErr, length, map, filter, take, get_or, slice_get, sym, ◌∙◌, ap, refl, subst, arith, ⊎_elim, append_assoc}
-use Rattle.std.specs.List.{flat_map, position_or_len, range_with_len}
+use Rattle.std.specs.List.{AllByRecursion, flat_map, position_or_len, range_with_len}
 use Rattle.std.proofs.Math.Nat.{mul-le-mul_right}
 use Rattle.std.proofs.lemmas.Bool.{cases_lt, eqb-true, false≢true, lt-ltb, ltb-true}
 use Rattle.std.proofs.lemmas.Grind.{flat_map-append}
@@ -11,12 +11,15 @@ use Rattle.std.proofs.lemmas.List.Folds.{find_at}
 use Rattle.std.proofs.lemmas.List.Sums.{passes_at_first}
 use Rattle.std.proofs.lemmas.Nat.{div-mul-add}
 use Rattle.std.proofs.lemmas.Option.{get_or_from_slice_get, none-some, same_Some, slice_get_past, slice_get_within}
+use Rattle.shm_place.specs.declared.page.PageId.{PageId}
+use Rattle.shm_model.specs.Book.{Running, orders_of}
 use Rattle.shm_model.specs.Kernel.{is_destroyed}
 use Rattle.shm_model.specs.Message.{Envelope}
 use Rattle.shm_model.specs.Permission.{Segment}
 use Rattle.shm_model.specs.SegmentCalls.{purge_envelope}
 use Rattle.shm_model.specs.Site.{Site}
-use Rattle.shm_model.specs.Step.{purges_again}
+use Rattle.shm_model.specs.Step.{orders_again, purges_again}
+use Rattle.shm_model.specs.Transfer.{order_envelope}
 use Rattle.shm_model.specs.World.{preset_segment}
 use Rattle.shm_keys.specs.Purge.{is_above}
 use Rattle.shm_keys.specs.SiteSet.{has}
@@ -45,13 +48,47 @@ map_more f before now xs k x so_far here =
 pub map_done : {X Y : Type 0} (f : X → Y) (before now : List Y) (xs : List X) (k : ℕ) → now ≡ before ++ map f (take k xs) → length xs ≤ k → now ≡ before ++ map f xs
 map_done f before now xs k so_far all = so_far ∙ ap (λ ys. before ++ map f ys) (take_all k xs all)
 
-pub flat_more : {X Y : Type 0} (f : X → List Y) (before now : List Y) (xs : List X) (k : ℕ) (x : X) → now ≡ before ++ flat_map f (take k xs) → slice_get xs k ≡ Some x → now ++ f x ≡ before ++ flat_map f (take (k + 1) xs)
-flat_more f before now xs k x so_far here =
-    let more : take (k + 1) xs ≡ take k xs ++ x ∷ [] = take_more xs k x (slice_get_within xs k x here) ∙ ap (λ y. take k xs ++ y ∷ []) (get_or_from_slice_get xs k x x here) in
-    ap (λ ys. ys ++ f x) so_far ∙ flat_map_more f before (take k xs) x ∙ ap (λ ys. before ++ flat_map f ys) (sym more)
+-- pages whose books don't run send nothing
+pub idle_sends : (me : ℕ) (site : Site) (pages : List PageId) → AllByRecursion (λ p. (site.books p).running ≡ None) pages → flat_map (orders_again me site) pages ≡ []
+idle_sends me site [] idle = refl
+idle_sends me site (p ∷ ps) idle =
+    ap (λ r. map (order_envelope me p (site.books p).number) (orders_of (site.books p) r) ++ flat_map (orders_again me site) ps) idle.0 ∙ idle_sends me site ps idle.1
 
-pub flat_done : {X Y : Type 0} (f : X → List Y) (before now : List Y) (xs : List X) (k : ℕ) → now ≡ before ++ flat_map f (take k xs) → length xs ≤ k → now ≡ before ++ flat_map f xs
-flat_done f before now xs k so_far all = so_far ∙ ap (λ ys. before ++ flat_map f ys) (take_all k xs all)
+-- what holds at each manager holds at this one
+pub idle_for : (me : ℕ) (running : ℕ → PageId → Option Running) (pages : List PageId) → AllByRecursion (λ p. (manager : ℕ) → running manager p ≡ None) pages → AllByRecursion (λ p. running me p ≡ None) pages
+idle_for me running [] h = h
+idle_for me running (p ∷ ps) h = (h.0 me, idle_for me running ps h.1)
+
+-- what the running transactions ask for was sent again, but for the pages that are left
+pub record OrdersSent (me : ℕ) (site : Site) (before now : List Envelope) (left : List PageId) : Type 0 where
+  pub done : List Envelope
+  pub sent : now ≡ before ++ done
+  pub rest : done ++ flat_map (orders_again me site) left ≡ flat_map (orders_again me site) site.booked
+
+pub orders_none : (me : ℕ) (site : Site) (before now : List Envelope) → now ≡ before → OrdersSent me site before now site.booked
+orders_none me site before now same = record { done = []; sent = same ∙ sym (append-nil before); rest = refl }
+
+pub orders_more : (me : ℕ) (site : Site) (before now next : List Envelope) (left between right : List PageId) (page : PageId) → OrdersSent me site before now left → left ≡ between ++ page ∷ right
+    → AllByRecursion (λ p. (site.books p).running ≡ None) between → next ≡ now ++ orders_again me site page → OrdersSent me site before next right
+orders_more me site before now next left between right page had parts idle sent =
+    let f : PageId → List Envelope = orders_again me site in
+    record {
+      done = had.done ++ f page;
+      sent = sent ∙ ap (λ ys. ys ++ f page) had.sent ∙ append_assoc before had.done (f page);
+      rest = append_assoc had.done (f page) (flat_map f right)
+          ∙ ap (λ ys. had.done ++ ys) (sym (ap (flat_map f) parts ∙ flat_map-append f between (page ∷ right) ∙ ap (λ ys. ys ++ flat_map f (page ∷ right)) (idle_sends me site between idle)))
+          ∙ had.rest;
+    }
+
+pub orders_fewer : (left between right : List PageId) (page : PageId) → left ≡ between ++ page ∷ right → length right < length left
+orders_fewer left between right page parts =
+    let whole : length left ≡ length between + length (page ∷ right) = ap length parts ∙ length-append between (page ∷ right) in
+    omega (arith, whole)
+
+pub orders_done : (me : ℕ) (site : Site) (before now : List Envelope) (left : List PageId) → OrdersSent me site before now left → AllByRecursion (λ p. (site.books p).running ≡ None) left
+    → now ≡ before ++ flat_map (orders_again me site) site.booked
+orders_done me site before now left had idle =
+    had.sent ∙ ap (λ ys. before ++ ys) (sym (append-nil had.done) ∙ ap (λ ys. had.done ++ ys) (sym (idle_sends me site left idle)) ∙ had.rest)
 
 -- the sites below n that pass
 unfoldable pub passing : (ℕ → Bool) → ℕ → List ℕ

@@ -92,11 +92,10 @@ impl<A: Allocator + Copy> Site<A> {
         ensures sent { OnOk result (outbox.new.sent ≡ outbox.old.sent ++ flat_map (model.orders_again self.now.me (site_of self.now)) (booked_of self.now.books)) }
         ensures kept { OnErr result (take (length outbox.old.sent) outbox.new.sent ≡ outbox.old.sent) }
     {
-        'pages: for place in 0..self.books.len() {
-            let Some((page, book)) = self.books.at(place) else {
-                unreachable!()
-            };
+        let mut last = None;
+        'pages: while let Some((place, page, book)) = self.books.running_after(last) {
             self.resend(&page, book, outbox)?;
+            last = Some(place);
         }
         Ok(())
     }

@@ -187,10 +187,3 @@ few-sent sites me site (Begin (DetachAt a)) few other =
 few-sent sites me site (Deliver e) few other = either Few (foreign sites me e) _ _ few-none (few-on_message sites me e.from e.message site few)
 few-sent sites me site Tick few other = cc
 few-sent sites me site Restart few other = few-none
-
--- an access that answers no Fault sends nothing
-pub load-quiet : (sites me at offset : ℕ) (site : Site) → asks (load sites me at offset site).answer ≡ false → (load sites me at offset site).sent ≡ []
-load-quiet sites me a offset site = (modest-load_if sites me (right site.attachments a offset false) site).1
-
-pub store-quiet : (sites me at offset byte : ℕ) (site : Site) → asks (store sites me at offset byte site).answer ≡ false → (store sites me at offset byte site).sent ≡ []
-store-quiet sites me a offset byte site = (modest-store_if sites me (right site.attachments a offset true) byte site).1

@@ -1,11 +1,18 @@
-use Rattle.std.proofs.Common.{is_some, sym, ap}
+use Rattle.std.proofs.Common.{◌∙◌, List, ap, refl, sym}
+use Rattle.shm_place.specs.declared.page.PageId.{PageId}
 use Rattle.shm_model.specs.Book as model
-use Rattle.shm_parts.proofs.BookSteps.{present_step}
+use Rattle.shm_model.specs.Transfer.{to_book}
+use Rattle.shm_parts.specs.Books.{books_of}
+use Rattle.shm_parts.proofs.BookedLemmas.{booked_same}
 use Rattle.shm_parts.proofs.books.Books.ask.Goals as goal
 
-pub returns-in-Some-clause-step : goal.returns-in-Some-clause-step
-returns-in-Some-clause-step g c = λ site.
-    let written = c.get_mut.follows.holds c.ask_in.new.book in
-    let found = sym c.in-Some.ensures.value in
-    present_step c.args.me c.args.page (model.on_ask c.args.from c.args.request c.args.kind) c.ask_in.result c.args.self.now.map.entries (c.get_mut.follows.lender c.ask_in.new.book).entries
-    c.in-Some.book.now c.ask_in.new.book site found c.ask_in.ensures.row c.ask_in.ensures.settled (written.3 (ap is_some found)).0 written.1
+pub invariant_of-self : goal.invariant_of-self
+invariant_of-self g c =
+    let old = c.args.self.now in
+    record { booked = booked_same old.map.entries old.map.entries old.bookings c.mark.new.self refl c.mark.ensures.there c.mark.ensures.others old.booked }
+
+pub returns-then-contains_key-clause-step : goal.returns-then-contains_key-clause-step
+returns-then-contains_key-clause-step g c = λ site.
+    let books = books_of c.args.me c.args.self.now in
+    ap (λ (booked : List PageId). to_book c.args.me c.args.page (model.on_ask c.args.from c.args.request c.args.kind (books c.args.page)) (record site { books = books; booked = booked })) (sym c.in_ok-mark.ensures.listed)
+    ∙ c.again.ensures c.args.me site

@@ -1,28 +1,11 @@
-use Rattle.std.proofs.Common.{◌≤◌, length, refl, arith}
-use Rattle.shm_parts.proofs.BookSteps.{forget_end, forget_more, forgotten_books, forgotten_keys, length-forgetting}
-use Rattle.shm_parts.specs.Books.{viewed}
+use Rattle.shm_parts.proofs.BookSteps.{forgotten_books}
+use Rattle.shm_parts.proofs.BookedLemmas.{booked_forgotten}
 use Rattle.shm_parts.proofs.books.Books.forget_volatile.Goals as goal
 
-pub index_mut-requires : goal.index_mut-requires
-index_mut-requires g c =
-    let same = length-forgetting c.books.place c.books.self.map.entries c.args.self.now.map.entries c.books.invariant in
-    let end = c.len-place-end.ensures.len in
-    omega (arith, same, end)
-
-pub books-preserved : goal.books-preserved
-books-preserved g c =
-    forget_more c.books.place c.books.self.map.entries _ (viewed c.args.self.now.map.entries) c.index_mut.result.now c.forget_volatile.new.self c.books.invariant c.index_mut.ensures.value c.forget_volatile.ensures refl
+pub invariant_of-self : goal.invariant_of-self
+invariant_of-self g c =
+    let old = c.args.self.now in
+    record { booked = booked_forgotten old.map.entries c.forget_all.new.books.entries old.bookings c.forget_all.ensures old.booked }
 
 pub returns-clause-books : goal.returns-clause-books
-returns-clause-books g c = λ me.
-    let all = c.args.self.now.map.entries in
-    let end = c.len-place-end.ensures.len in
-    let whole : length all ≤ c.books.place = omega (arith, end) in
-    forgotten_books me all c.books.self.map.entries (forget_end c.books.place c.books.self.map.entries all c.books.invariant whole)
-
-pub returns-clause-booked : goal.returns-clause-booked
-returns-clause-booked g c =
-    let all = c.args.self.now.map.entries in
-    let end = c.len-place-end.ensures.len in
-    let whole : length all ≤ c.books.place = omega (arith, end) in
-    forgotten_keys all c.books.self.map.entries (forget_end c.books.place c.books.self.map.entries all c.books.invariant whole)
+returns-clause-books g c = λ me. forgotten_books me c.args.self.now.map.entries c.forget_all.new.books.entries c.forget_all.ensures

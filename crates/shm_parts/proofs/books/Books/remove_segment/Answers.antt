@@ -1,20 +1,30 @@
-use Rattle.std.proofs.Common.{◌≡◌, ◌==◌, ◌∙◌, filter, not, ap, rules}
-use Rattle.std.specs.Map.{keys_of}
+use Rattle.std.proofs.Common.{◌∙◌, ◌<◌}
 use Rattle.shm_place.specs.declared.page.PageId.{PageId}
+use Rattle.shm_place.specs.Limits as limit
 use Rattle.shm_model.specs.Book as model
-use Rattle.shm_manager.specs.declared.book.Book.{Book}
-use Rattle.indexmap.proofs.CallerLemmas.{filter-RetainsPairs}
-use Rattle.shm_parts.proofs.BookSteps.{as_books, removed_books, removed_keys}
+use Rattle.shm_parts.specs.Books.{booked_of}
+use Rattle.shm_parts.proofs.BookedLemmas.{gone_end, gone_start, gone_step, kept-all, kept-more, kept-none}
+use Rattle.shm_parts.proofs.ListLemmas.{all-values}
 use Rattle.shm_parts.proofs.books.Books.remove_segment.Goals as goal
 
+pub pages-init : goal.pages-init
+pages-init g c = record { books = gone_start c.args.self.now.map.entries c.args.id; booked = kept-none c.args.id (booked_of c.args.self.now) }
+
+pub pages-preserved : goal.pages-preserved
+pages-preserved g c =
+    let old = c.args.self.now in
+    record {
+      books = λ q. gone_step old.map.entries c.pages.self.map.entries c.remove.new.self.map.entries c.args.id c.pages.index q (c.pages.invariant.books q) (c.remove.ensures.books q);
+      booked = kept-more c.args.id c.pages.index (booked_of c.pages.self) (booked_of c.remove.new.self) (booked_of old) c.pages.invariant.booked c.remove.ensures.booked;
+    }
+
 pub returns-clause-books : goal.returns-clause-books
-returns-clause-books g c =
-    let kept : c.retain.new.self.entries ≡ filter (λ (e : PageId × Book g.row.A.Denot). not (c.args.id == e.0.seg)) c.args.self.now.map.entries =
-    filter-RetainsPairs _ _ _ (λ k v b w f call. search rules) _ _ c.retain.ensures.filtered in
-    λ me. ap (as_books (model.untouched_book me)) kept ∙ removed_books (model.untouched_book me) c.args.id c.args.self.now.map.entries
+returns-clause-books g c = λ me.
+    let old = c.args.self.now in
+    gone_end old.map.entries c.pages.self.map.entries old.bookings c.args.id c.pages.index (model.untouched_book me) c.pages-test.false old.booked c.pages.invariant.books
 
 pub returns-clause-booked : goal.returns-clause-booked
 returns-clause-booked g c =
-    let kept : c.retain.new.self.entries ≡ filter (λ (e : PageId × Book g.row.A.Denot). not (c.args.id == e.0.seg)) c.args.self.now.map.entries =
-    filter-RetainsPairs _ _ _ (λ k v b w f call. search rules) _ _ c.retain.ensures.filtered in
-    ap keys_of kept ∙ removed_keys c.args.id c.args.self.now.map.entries
+    let old = c.args.self.now in
+    c.pages.invariant.booked ∙ kept-all c.args.id c.pages.index (booked_of old) c.pages-test.false
+    (all-values (λ (p : PageId). p.index < limit.pages) old.bookings.pages.entries old.bookings.placed.within)

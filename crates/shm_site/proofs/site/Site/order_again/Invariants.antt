@@ -1,9 +1,11 @@
-use Rattle.std.proofs.Common.{◌≡◌, ◌++◌, take}
-use Rattle.std.specs.List.{flat_map}
-use Rattle.shm_model.specs.Step.{orders_again}
-use Rattle.shm_parts.specs.Books.{booked_of}
+use Rattle.std.proofs.Common.{length}
+use Rattle.shm_parts.specs.Books.{booked_after}
 use Rattle.shm_site.specs.Site.{site_of}
+use Rattle.shm_site.proofs.Ticks.{OrdersSent}
 use Rattle.shm_site.proofs.site.Site.order_again.Given as goal
 
 abbrev pub invariant-pages : goal.invariant-pages
-invariant-pages g l = l.outbox.sent ≡ l.fn.outbox.sent ++ flat_map (orders_again l.self.me (site_of l.self)) (take l.place (booked_of l.self.books))
+invariant-pages g l = OrdersSent l.self.me (site_of l.self) l.fn.outbox.sent l.outbox.sent (booked_after l.last l.self.books)
+
+abbrev pub decreases-pages : goal.decreases-pages
+decreases-pages g l = length (booked_after l.last l.self.books)

@@ -40,3 +40,8 @@ invariant_of-result-clause-whole g c =
 
 pub invariant_of-result-clause-seats : goal.invariant_of-result-clause-seats
 invariant_of-result-clause-seats g c = c.sites.invariant.seats
+
+pub push_reserved-requires : goal.push_reserved-requires
+push_reserved-requires g c =
+    let below : c.sites.site-index < length c.args.self.now.sites.items = omega arith in
+    omega (arith, below, c.sites.invariant.room, c.sites.invariant.len)

@@ -1,0 +1,183 @@
+use super::expect_row;
+use shm_model::{Attached, Cred, Errno, GetFlags, Mode, Op, Reply, Request, Stat};
+use shm_place::{Key, SegId, SiteId, Sites};
+use shm_world::Answer::{Began, Dropped, Took};
+use shm_world::Event::{Deliver, Repeat};
+use shm_world::{Answer, Event, World};
+use std::alloc::{AllocError, Global};
+use std::process::Abort;
+use std::test::Fail;
+
+const ROOT: Cred = Cred { uid: 0, gid: 0 };
+
+/// The mode of the segments that are made: the owner may read and write them.
+const PRIVATE: Mode = Mode(0o600);
+
+/// Makes a segment where the key has none (`IPC_CREAT`).
+const CREATE: GetFlags = GetFlags(0o1000);
+
+const PLAIN: GetFlags = GetFlags(0);
+
+/// How many bytes the segments have that are made.
+const SIZE: u32 = 256;
+
+fn begin(site: u32, op: Op) -> Event {
+    let request = Request::Op(op);
+    Event::Begin {
+        site: SiteId(site),
+        request,
+    }
+}
+
+fn get(site: u32, key: u32, flags: GetFlags) -> Event {
+    begin(
+        site,
+        Op::Get {
+            cred: ROOT,
+            key: Key(key),
+            size: SIZE,
+            mode: PRIVATE,
+            flags,
+        },
+    )
+}
+
+fn attach(site: u32, id: u32, ro: bool) -> Event {
+    let id = SegId(id);
+    begin(site, Op::Attach { cred: ROOT, id, ro })
+}
+
+fn remove(site: u32, id: u32) -> Event {
+    let id = SegId(id);
+    begin(site, Op::Remove { cred: ROOT, id })
+}
+
+fn stat(site: u32, id: u32) -> Event {
+    let id = SegId(id);
+    begin(site, Op::Stat { cred: ROOT, id })
+}
+
+fn detach(site: u32, at: u32) -> Event {
+    let request = Request::DetachAt(at);
+    Event::Begin {
+        site: SiteId(site),
+        request,
+    }
+}
+
+fn replied(number: u64, reply: Reply) -> Answer {
+    Answer::Replied {
+        number,
+        reply,
+        attachment: None,
+    }
+}
+
+fn attached(number: u64, attachment: u32, ro: bool) -> Answer {
+    Answer::Replied {
+        number,
+        reply: Reply::Attached(Attached { size: SIZE, ro }),
+        attachment: Some(attachment),
+    }
+}
+
+/// What is told of a marked segment.
+fn marked(number: u64, nattch: u64) -> Answer {
+    let stat = Stat {
+        key: Key(0),
+        uid: 0,
+        gid: 0,
+        cuid: 0,
+        cgid: 0,
+        mode: PRIVATE,
+        size: SIZE,
+        nattch,
+        marked: true,
+    };
+    replied(number, Reply::Stat(stat))
+}
+
+/// Segment 1 is made, attached by both sites, and removed: it stays, marked, while it is attached.
+fn remove_while_attached(
+    rt: &impl Abort,
+    alloc: Global,
+    world: &mut World,
+) -> Result<(), AllocError> {
+    let row = [
+        (get(0, 3, CREATE), Began(1)),
+        (Deliver(0), Took),
+        (Deliver(1), replied(1, Reply::Id(SegId(1)))),
+        (attach(0, 1, false), Began(2)),
+        (Deliver(2), Took),
+        (Deliver(3), attached(2, 0, false)),
+        (attach(1, 1, false), Began(1)),
+        (Deliver(4), Took),
+        (Deliver(5), attached(1, 0, false)),
+        (remove(0, 1), Began(3)),
+        (Deliver(6), Took),
+        (Deliver(7), replied(3, Reply::Ok)),
+        (stat(0, 1), Began(4)),
+        (Deliver(8), Took),
+        (Deliver(9), marked(4, 2)),
+    ];
+    expect_row(rt, alloc, world, row.as_slice())
+}
+
+/// Its key has a new segment. Marked, it may still be attached; then site 0 detaches it twice.
+fn detach_at_one_site(rt: &impl Abort, alloc: Global, world: &mut World) -> Result<(), AllocError> {
+    let row = [
+        (get(0, 3, CREATE), Began(5)),
+        (Deliver(10), Took),
+        (Deliver(11), replied(5, Reply::Id(SegId(3)))),
+        (attach(0, 1, true), Began(6)),
+        (Deliver(12), Took),
+        (Deliver(13), attached(6, 1, true)),
+        (detach(0, 0), Began(7)),
+        (Deliver(14), Took),
+        (Deliver(15), replied(7, Reply::Ok)),
+        (detach(0, 1), Began(8)),
+        (Repeat(16), Took),
+        (Repeat(16), Took),
+        (Deliver(16), Took),
+        (Deliver(17), replied(8, Reply::Ok)),
+        (Deliver(18), Dropped),
+        (Deliver(19), Dropped),
+        (stat(1, 1), Began(2)),
+        (Deliver(20), Took),
+        (Deliver(21), marked(2, 1)),
+        (detach(1, 0), Began(3)),
+    ];
+    expect_row(rt, alloc, world, row.as_slice())
+}
+
+/// With its last attachment it is destroyed and purged.
+fn detach_everywhere(rt: &impl Abort, alloc: Global, world: &mut World) -> Result<(), AllocError> {
+    let row = [
+        (Repeat(22), Took),
+        (Repeat(22), Took),
+        (Deliver(22), Took),
+        (Deliver(23), replied(3, Reply::Ok)),
+        (Deliver(26), Dropped),
+        (Deliver(27), Dropped),
+        (attach(0, 1, true), Began(9)),
+        (Deliver(28), Took),
+        (Deliver(29), replied(9, Reply::Refused(Errno::Eidrm))),
+        (stat(0, 5), Began(10)),
+        (Deliver(30), Took),
+        (Deliver(31), replied(10, Reply::Refused(Errno::Einval))),
+        (get(0, 3, PLAIN), Began(11)),
+        (Deliver(32), Took),
+        (Deliver(33), replied(11, Reply::Id(SegId(3)))),
+    ];
+    expect_row(rt, alloc, world, row.as_slice())
+}
+
+#[test]
+fn a_segment_is_made_attached_removed_and_purged(rt: HostRuntime) -> Result<(), Fail> {
+    let sites = Sites::new(2).ok().ok_or("1 to 16 sites")?;
+    let mut world = World::new(rt.alloc(), sites)?;
+    remove_while_attached(&rt, rt.alloc(), &mut world)?;
+    detach_at_one_site(&rt, rt.alloc(), &mut world)?;
+    detach_everywhere(&rt, rt.alloc(), &mut world)?;
+    Ok(())
+}
