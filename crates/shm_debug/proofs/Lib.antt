@@ -1,8 +1,5 @@
-pub mod MemoryLemmas
-pub mod NumberLemmas
 pub mod PartsLemmas
 pub mod PlayerLemmas
+pub mod PromiseLemmas
 pub mod ReadingLemmas
 pub mod ReplayLemmas
-pub mod SessionLemmas
-pub mod SpellingLemmas

@@ -1,13 +1,11 @@
 -- The parts that line feeds leave, and what is read from them.
-use Rattle.std.proofs.Common.{◌≡◌, ℕ, ◌+◌, ◌<◌, ◌≤◌, ◌==◌, Bool, true, false, List, [], ◌∷◌, ◌++◌, length, All, Option, None, Some, Result, Ok, Err, ◌⊎◌, inl, inr, refl, sym, ap, ◌∙◌, take, drop, get_or, take-append-drop, arith, append_assoc}
+use Rattle.std.proofs.Common.{◌≡◌, ℕ, ◌+◌, ◌<◌, ◌≤◌, ◌==◌, Bool, true, false, List, [], ◌∷◌, ◌++◌, length, All, Option, None, Some, Result, Ok, Err, ◌⊎◌, inl, inr, refl, sym, ap, ◌∙◌, arith, append_assoc}
 use Rattle.std.specs.List.{slice_split, onto_first}
 use Rattle.std.proofs.lemmas.List.Splits.{slice_split-cons_yes, slice_split-cons_no, slice_split_none, slice_split_at}
 use Rattle.std.proofs.lemmas.List.Elements.{All-append, All-cons, All-nil, All-head, All-tail}
 use Rattle.std.proofs.lemmas.Bool.Decides.{nat_tests}
-use Rattle.std.proofs.lemmas.List.{drop_more}
-use Rattle.shm_debug.specs.Words.{words_of, is_end}
 use Rattle.shm_debug.specs.Script.{Script, parts_of, read_on, read_line, broken, after, begun, unended}
-use Rattle.shm_debug.specs.declared.line.Line.{Line}
+use Rattle.shm_lines.specs.declared.line.Line.{Line}
 use Rattle.shm_debug.specs.declared.outcome.DebugFault.{DebugFault}
 
 abbrev pub NoFeed : List ℕ → Type 0
@@ -65,24 +63,3 @@ read_on-fault number first (next ∷ others) fault e h = ap (λ r. begun r (read
 pub read_on-line : (number : ℕ) (first next : List ℕ) (others : List (List ℕ)) (line : Line)
     → read_line number first ≡ Ok line → read_on number (first ∷ next ∷ others) ≡ after (line ∷ []) (read_on (number + 1) (next ∷ others))
 read_on-line number first next others line e = ap (λ r. begun r (read_on (number + 1) (next ∷ others))) e
-
--- the first part ends at a place where the test passes
-pub slice_split-read : (p : ℕ → Bool) (xs : List ℕ) (i y : ℕ) → i < length xs → y ≡ get_or xs i y → p y ≡ true → All (λ x. p x ≡ false) (take i xs)
-    → slice_split p xs ≡ take i xs ∷ slice_split p (drop (i + 1) xs)
-slice_split-read p xs i y lt read e h =
-    let cut : xs ≡ take i xs ++ y ∷ drop (i + 1) xs =
-    sym (take-append-drop i xs) ∙ ap (λ zs. take i xs ++ zs) (drop_more xs i y lt ∙ ap (λ z. z ∷ drop (i + 1) xs) (sym read)) in
-    ap (slice_split p) cut ∙ slice_split_at p (take i xs) y (drop (i + 1) xs) h e
-
-is_end-onto : (x : ℕ) (words : List (List ℕ)) → is_end (onto_first x words) ≡ false
-is_end-onto x [] = refl
-is_end-onto x (word ∷ words) = refl
-
--- each line has a word, be it the empty one
-pub is_end-words : (line : List ℕ) → is_end (words_of line) ≡ false
-is_end-words [] = refl
-is_end-words (x ∷ xs) = go (true_or_false (x == 32))
-  where
-    go : ((x == 32) ≡ true) ⊎ ((x == 32) ≡ false) → is_end (words_of (x ∷ xs)) ≡ false
-    go (inl e) = ap is_end (slice_split-cons_yes (λ byte. byte == 32) x xs e)
-    go (inr e) = ap is_end (slice_split-cons_no (λ byte. byte == 32) x xs e) ∙ is_end-onto x (words_of xs)

@@ -1,15 +1,16 @@
 -- From one moment of a script that is read to the next.
-use Rattle.std.proofs.Common.{◌≡◌, ℕ, ◌+◌, ◌*◌, ◌<◌, ◌≤◌, ◌==◌, ◌&&◌, Bool, true, false, List, [], ◌∷◌, ◌++◌, length, count_by, All, Option, None, Some, Result, Ok, Err, ◌⊎◌, inl, inr, cond, nat_lt, refl, sym, ap, subst, ◌∙◌, arith, append_assoc, append-nil, length-append, if◌then◌else◌}
+use Rattle.std.proofs.Common.{◌≡◌, ℕ, ◌+◌, ◌*◌, ◌<◌, ◌≤◌, ◌==◌, ◌&&◌, Bool, true, false, List, [], ◌∷◌, ◌++◌, length, All, Option, None, Some, Result, Ok, Err, ◌⊎◌, inl, inr, cond, nat_lt, refl, sym, ap, subst, ◌∙◌, arith, append_assoc, append-nil, length-append, if◌then◌else◌}
 use Rattle.std.proofs.lemmas.Bool.{cases_Bool}
 use Rattle.std.proofs.lemmas.Bool.Decides.{nat_tests}
-use Rattle.std.proofs.lemmas.List.Sums.{sum_by-append}
 use Rattle.std.proofs.lemmas.List.Elements.{All-append, All-cons, All-nil}
-use Rattle.shm_debug.specs.Script.{Script, after, broken, whole, read_on, read_line, standing, unended, may_stand, line_of, parts_of, is_event}
-use Rattle.shm_debug.specs.World.{World, next, said}
-use Rattle.shm_debug.specs.Text.{text_from, line_text}
-use Rattle.shm_debug.specs.Reading.{Moment, rest_of, reach, world_after, passed, Onward, Tells, Begins, Breaks, Stops, Plays, Fails}
-use Rattle.shm_debug.specs.declared.line.Line.{Line}
-use Rattle.shm_debug.specs.declared.line.Line.TheVariants.{Sites, Load, Store, Show}
+use Rattle.shm_lines.specs.Line.{may_stand, line_of}
+use Rattle.shm_session.specs.Standing.{Standing}
+use Rattle.shm_text.specs.Text.{line_text}
+use Rattle.shm_debug.specs.Script.{Script, after, broken, whole, read_on, read_line, placed, unended, parts_of}
+use Rattle.shm_debug.specs.Said.{next, said, standing_after}
+use Rattle.shm_debug.specs.Text.{text_from}
+use Rattle.shm_debug.specs.Reading.{Moment, rest_of, reach, passed, Onward, Tells, Begins, Breaks, Stops, Plays, Fails}
+use Rattle.shm_lines.specs.declared.line.Line.{Line}
 use Rattle.shm_debug.specs.declared.outcome.DebugFault.{DebugFault}
 use Rattle.shm_debug.specs.declared.outcome.DebugFault.TheVariants.{OutOfMemory, BadLine, LineTooLong, TooManyLines, ReadFault, WriteFault}
 use Rattle.shm_debug.proofs.PartsLemmas.{NoFeed, Parts, parts, parts-more, parts-feed, parts-after, parts-alone, read_on-line, read_on-fault}
@@ -17,19 +18,16 @@ use Rattle.shm_debug.proofs.PartsLemmas.{NoFeed, Parts, parts, parts-more, parts
 pub after-after : (xs ys : List Line) (s : Script) → after xs (after ys s) ≡ after (xs ++ ys) s
 after-after xs ys s = ap (λ (l : List Line). record { lines = l; fault = s.fault }) (sym (append_assoc xs ys s.lines))
 
-pub world_after-append : (w : World) (xs ys : List Line) → world_after w (xs ++ ys) ≡ world_after (world_after w xs) ys
-world_after-append w [] ys = refl
-world_after-append w (x ∷ xs) ys = world_after-append (next w x) xs ys
+pub standing_after-append : (w : Option Standing) (xs ys : List Line) → standing_after w (xs ++ ys) ≡ standing_after (standing_after w xs) ys
+standing_after-append w [] ys = refl
+standing_after-append w (x ∷ xs) ys = standing_after-append (next w x) xs ys
 
-pub text_from-append : (n m : ℕ) (w : World) (xs ys : List Line) → m ≡ n + length xs
-    → text_from n w (xs ++ ys) ≡ text_from n w xs ++ text_from m (world_after w xs) ys
+pub text_from-append : (n m : ℕ) (w : Option Standing) (xs ys : List Line) → m ≡ n + length xs
+    → text_from n w (xs ++ ys) ≡ text_from n w xs ++ text_from m (standing_after w xs) ys
 text_from-append n m w [] ys e = ap (λ k. text_from k w ys) (omega arith)
 text_from-append n m w (x ∷ xs) ys e =
     ap (λ l. line_text n (said w x) ++ l) (text_from-append (n + 1) m (next w x) xs ys (omega arith))
-    ∙ sym (append_assoc (line_text n (said w x)) (text_from (n + 1) (next w x) xs) (text_from m (world_after (next w x) xs) ys))
-
-count-append : (xs ys : List Line) → count_by is_event (xs ++ ys) ≡ count_by is_event xs + count_by is_event ys
-count-append xs ys = sum_by-append (λ line. cond (is_event line) 1 0) xs ys
+    ∙ sym (append_assoc (line_text n (said w x)) (text_from (n + 1) (next w x) xs) (text_from m (standing_after (next w x) xs) ys))
 
 rest-after : (m : Moment) (bytes more others : List ℕ) → rest_of m ((bytes ++ more) ++ others) ≡ rest_of m (bytes ++ (more ++ others))
 rest-after m bytes more others = ap (rest_of m) (append_assoc bytes more others)
@@ -38,17 +36,16 @@ pub Onward-trans : (a b c : Moment) (x y : List ℕ) (xs ys : List Line) → Onw
 Onward-trans a b c x y xs ys p q = record {
   rest = λ more. rest-after a x y more ∙ p.rest (y ++ more) ∙ ap (after xs) (q.rest more) ∙ after-after xs ys (rest_of c more);
   count = omega (arith, length-append xs ys, p.count, q.count);
-  event_count = omega (arith, count-append xs ys, p.event_count, q.event_count);
-  world_then = q.world_then ∙ ap (λ w. world_after w ys) p.world_then ∙ sym (world_after-append a.world xs ys);
+  stands = q.stands ∙ ap (λ w. standing_after w ys) p.stands ∙ sym (standing_after-append a.standing xs ys);
   reached = omega (arith, length-append x y, p.reached, q.reached);
 }
 
 Tells-trans : (a b : Moment) (x : List ℕ) (xs ys : List Line) (s t u : List ℕ) → Onward a x xs b → Tells a xs s t → Tells b ys t u → Tells a (xs ++ ys) s u
 Tells-trans a b x xs ys s t u o p q =
-    q ∙ ap (λ l. l ++ text_from (b.lines + 1) b.world ys) p
-    ∙ append_assoc s (text_from (a.lines + 1) a.world xs) (text_from (b.lines + 1) b.world ys)
-    ∙ ap (λ w. s ++ (text_from (a.lines + 1) a.world xs ++ text_from (b.lines + 1) w ys)) o.world_then
-    ∙ ap (λ l. s ++ l) (sym (text_from-append (a.lines + 1) (b.lines + 1) a.world xs ys (omega (arith, o.count))))
+    q ∙ ap (λ l. l ++ text_from (b.lines + 1) b.standing ys) p
+    ∙ append_assoc s (text_from (a.lines + 1) a.standing xs) (text_from (b.lines + 1) b.standing ys)
+    ∙ ap (λ w. s ++ (text_from (a.lines + 1) a.standing xs ++ text_from (b.lines + 1) w ys)) o.stands
+    ∙ ap (λ l. s ++ l) (sym (text_from-append (a.lines + 1) (b.lines + 1) a.standing xs ys (omega (arith, o.count))))
 
 pub Plays-trans : (a b c : Moment) (x y s t u : List ℕ) → Plays a x b s t → Plays b y c t u → Plays a (x ++ y) c s u
 Plays-trans a b c x y s t u p q =
@@ -99,7 +96,7 @@ nothing_told : (m : Moment) (text : List ℕ) → Tells m [] text text
 nothing_told m text = sym (append-nil text)
 
 pub Plays-none : (m : Moment) (text : List ℕ) → Plays m [] m text text
-Plays-none m text = ([], record { rest = λ more. refl; count = omega arith; event_count = omega arith; world_then = refl; reached = omega arith }, nothing_told m text)
+Plays-none m text = ([], record { rest = λ more. refl; count = omega arith; stands = refl; reached = omega arith }, nothing_told m text)
 
 -- a byte joins the line
 pub Plays-push : (m : Moment) (byte : ℕ) (text : List ℕ) → Plays m (byte ∷ []) (record m { line = m.line ++ byte ∷ [] }) text text
@@ -108,22 +105,15 @@ Plays-push m byte text = (
   record {
     rest = λ more. ap (λ l. read_on (m.lines + 1) (parts_of l)) (sym (append_assoc m.line (byte ∷ []) more));
     count = omega arith;
-    event_count = omega arith;
-    world_then = refl;
+    stands = refl;
     reached = omega (arith, length-append m.line (byte ∷ []));
   },
   nothing_told m text,
 )
 
-one_more : (line : Line) (n : ℕ) → (if is_event line then n + 1 else n) ≡ n + count_by is_event (line ∷ [])
-one_more (Sites sites pages) n = omega arith
-one_more (Load site at offset) n = omega arith
-one_more (Store site at offset byte) n = omega arith
-one_more (Show page) n = omega arith
-
 -- the line ends
 pub Plays-line : (m : Moment) (line : Line) (old new : List ℕ) → NoFeed m.line → length m.line ≤ 200 → read_line (m.lines + 1) m.line ≡ Ok line
-    → new ≡ old ++ line_text (m.lines + 1) (said m.world line) → Plays m (10 ∷ []) (passed m line) old new
+    → new ≡ old ++ line_text (m.lines + 1) (said m.standing line) → Plays m (10 ∷ []) (passed m line) old new
 Plays-line m line old new closed short reads told = (
   line ∷ [],
   record {
@@ -132,11 +122,10 @@ Plays-line m line old new closed short reads told = (
         ∙ read_on-line (m.lines + 1) m.line p.first p.others line reads
         ∙ ap (λ l. after (line ∷ []) (read_on (m.lines + 1 + 1) l)) (sym p.are);
     count = omega arith;
-    event_count = one_more line m.events;
-    world_then = refl;
+    stands = refl;
     reached = omega arith;
   },
-  told ∙ ap (λ l. old ++ l) (sym (append-nil (line_text (m.lines + 1) (said m.world line)))),
+  told ∙ ap (λ l. old ++ l) (sym (append-nil (line_text (m.lines + 1) (said m.standing line)))),
 )
 
 -- memory is refused before a line is passed
@@ -192,35 +181,35 @@ Fails-limit m byte fault text closed reads other own = (
 )
 
 pub read-late : (number : ℕ) (bytes : List ℕ) → 100000 < number → read_line number bytes ≡ Err TooManyLines
-read-late number bytes late = let t : nat_lt 100000 number ≡ true = grind (arith, nat_tests) in ap (λ b. cond b (Err TooManyLines) (cond (nat_lt 200 (length bytes)) (Err (LineTooLong number)) (standing number (line_of bytes)))) t
+read-late number bytes late = let t : nat_lt 100000 number ≡ true = grind (arith, nat_tests) in ap (λ b. cond b (Err TooManyLines) (cond (nat_lt 200 (length bytes)) (Err (LineTooLong number)) (placed number (line_of bytes)))) t
 
 pub read-long : (number : ℕ) (bytes : List ℕ) → number ≤ 100000 → 200 < length bytes → read_line number bytes ≡ Err (LineTooLong number)
 read-long number bytes early long =
     let s : nat_lt 100000 number ≡ false = grind (arith, nat_tests) in
     let t : nat_lt 200 (length bytes) ≡ true = grind (arith, nat_tests) in
-    ap (λ b. cond b (Err TooManyLines) (cond (nat_lt 200 (length bytes)) (Err (LineTooLong number)) (standing number (line_of bytes)))) s
-    ∙ ap (λ b. cond b (Err (LineTooLong number)) (standing number (line_of bytes))) t
+    ap (λ b. cond b (Err TooManyLines) (cond (nat_lt 200 (length bytes)) (Err (LineTooLong number)) (placed number (line_of bytes)))) s
+    ∙ ap (λ b. cond b (Err (LineTooLong number)) (placed number (line_of bytes))) t
 
-pub read-within : (number : ℕ) (bytes : List ℕ) → number ≤ 100000 → length bytes ≤ 200 → read_line number bytes ≡ standing number (line_of bytes)
+pub read-within : (number : ℕ) (bytes : List ℕ) → number ≤ 100000 → length bytes ≤ 200 → read_line number bytes ≡ placed number (line_of bytes)
 read-within number bytes early short =
     let s : nat_lt 100000 number ≡ false = grind (arith, nat_tests) in
     let t : nat_lt 200 (length bytes) ≡ false = grind (arith, nat_tests) in
-    ap (λ b. cond b (Err TooManyLines) (cond (nat_lt 200 (length bytes)) (Err (LineTooLong number)) (standing number (line_of bytes)))) s
-    ∙ ap (λ b. cond b (Err (LineTooLong number)) (standing number (line_of bytes))) t
+    ap (λ b. cond b (Err TooManyLines) (cond (nat_lt 200 (length bytes)) (Err (LineTooLong number)) (placed number (line_of bytes)))) s
+    ∙ ap (λ b. cond b (Err (LineTooLong number)) (placed number (line_of bytes))) t
 
-pub standing-yes : (number : ℕ) (line : Line) → may_stand number line ≡ true → standing number (Some line) ≡ Ok line
-standing-yes number line e = ap (λ b. cond b (Ok line) (Err (BadLine number))) e
+pub placed-yes : (number : ℕ) (line : Line) → may_stand number line ≡ true → placed number (Some line) ≡ Ok line
+placed-yes number line e = ap (λ b. cond b (Ok line) (Err (BadLine number))) e
 
-pub standing-no : (number : ℕ) (line : Line) → may_stand number line ≡ false → standing number (Some line) ≡ Err (BadLine number)
-standing-no number line e = ap (λ b. cond b (Ok line) (Err (BadLine number))) e
+pub placed-no : (number : ℕ) (line : Line) → may_stand number line ≡ false → placed number (Some line) ≡ Err (BadLine number)
+placed-no number line e = ap (λ b. cond b (Ok line) (Err (BadLine number))) e
 
-unended-standing : (number : ℕ) (line : Option Line) → unended number (standing number line) ≡ broken (BadLine number)
-unended-standing number None = refl
-unended-standing number (Some line) = go (cases_Bool (may_stand number line))
+unended-placed : (number : ℕ) (line : Option Line) → unended number (placed number line) ≡ broken (BadLine number)
+unended-placed number None = refl
+unended-placed number (Some line) = go (cases_Bool (may_stand number line))
   where
-    go : (may_stand number line ≡ true) ⊎ (may_stand number line ≡ false) → unended number (standing number (Some line)) ≡ broken (BadLine number)
-    go (inl e) = ap (unended number) (standing-yes number line e)
-    go (inr e) = ap (unended number) (standing-no number line e)
+    go : (may_stand number line ≡ true) ⊎ (may_stand number line ≡ false) → unended number (placed number (Some line)) ≡ broken (BadLine number)
+    go (inl e) = ap (unended number) (placed-yes number line e)
+    go (inr e) = ap (unended number) (placed-no number line e)
 
 alone : (m : Moment) → NoFeed m.line → rest_of m [] ≡ read_on (m.lines + 1) (m.line ∷ [])
 alone m closed = ap (λ l. read_on (m.lines + 1) (parts_of l)) (append-nil m.line) ∙ ap (read_on (m.lines + 1)) (parts-alone m.line closed)
@@ -232,7 +221,7 @@ rest-broken m closed short early inside =
     alone m closed
     ∙ ap (λ b. cond b whole (unended (m.lines + 1) (read_line (m.lines + 1) m.line))) inside
     ∙ ap (unended (m.lines + 1)) (read-within (m.lines + 1) m.line (omega arith) short)
-    ∙ unended-standing (m.lines + 1) (line_of m.line)
+    ∙ unended-placed (m.lines + 1) (line_of m.line)
 
 -- the input ends after a line
 pub rest-whole : (m : Moment) → m.line ≡ [] → 0 < m.lines → rest_of m [] ≡ whole

@@ -1,15 +1,15 @@
 -- What has been read, told and written while a script is replayed.
-use Rattle.std.proofs.Common.{◌≡◌, ℕ, Bool, true, false, ◌+◌, ◌≤◌, ◌<◌, List, [], ◌∷◌, ◌++◌, length, take, drop, take-append-drop, Option, None, Some, IfSome, Result, Ok, Err, count_by, refl, sym, ap, ap₂, zero-add, subst, ◌∙◌, arith, append_assoc, append-nil, length-append}
+use Rattle.std.proofs.Common.{◌≡◌, ℕ, Bool, true, false, ◌+◌, ◌≤◌, ◌<◌, List, [], ◌∷◌, ◌++◌, length, take, drop, take-append-drop, Option, None, Some, IfSome, Result, Ok, Err, refl, sym, ap, ap₂, zero-add, subst, ◌∙◌, arith, append_assoc, append-nil, length-append}
 use Rattle.std.proofs.Math.Seq.{take-append_seam}
 use Rattle.std.specs.Io.KnownBytes.{Appends, Consumes, Keeps, IsAtEnd}
 use Rattle.std.proofs.KnownBytes.{Consumes-nil, Consumes-trans, Consumes-kept, Consumes-whole, Appends-nil, Appends-trans}
 use Rattle.shm_debug.specs.Limits.{max_bytes}
-use Rattle.shm_debug.specs.World.{nothing}
-use Rattle.shm_debug.specs.Script.{Script, after, broken, whole, script_of, is_event}
+use Rattle.shm_debug.specs.Script.{Script, after, broken, whole, script_of}
 use Rattle.shm_debug.specs.Text.{text_of, text_from}
-use Rattle.shm_debug.specs.Reading.{Moment, start, reach, rest_of, world_after, Onward, Tells, Begins, Breaks, Stops, Plays, Fails, Ended}
-use Rattle.shm_debug.specs.Replay.{Ends, Pauses, Gathers, IsTextOfFirst, IsFrontOfText, IsFaultOf, is_write_fault}
-use Rattle.shm_debug.specs.declared.line.Line.{Line}
+use Rattle.shm_debug.specs.Said.{standing_after}
+use Rattle.shm_debug.specs.Reading.{Moment, start, reach, rest_of, Onward, Tells, Begins, Breaks, Stops, Plays, Fails, Ended}
+use Rattle.shm_debug.specs.Replay.{summary_at, Ends, Pauses, Gathers, IsTextOfFirst, IsFrontOfText, IsFaultOf, is_write_fault}
+use Rattle.shm_lines.specs.declared.line.Line.{Line}
 use Rattle.shm_debug.specs.declared.outcome.Summary.{Summary}
 use Rattle.shm_debug.specs.declared.outcome.DebugFault.{DebugFault}
 use Rattle.shm_debug.specs.declared.outcome.DebugFault.TheVariants.{OutOfMemory, BadLine, LineTooLong, TooManyLines, ReadFault, WriteFault}
@@ -25,7 +25,7 @@ SoFar-none r w = ([], [], Plays-none start [], Consumes-nil r, ([], Appends-nil 
 
 -- the text before what is pending doesn't matter to what is told
 Tells-behind : (m : Moment) (lines : List Line) (front old new : List ℕ) → Tells m lines old new → Tells m lines (front ++ old) (front ++ new)
-Tells-behind m lines front old new t = ap (λ l. front ++ l) t ∙ sym (append_assoc front old (text_from (m.lines + 1) m.world lines))
+Tells-behind m lines front old new t = ap (λ l. front ++ l) t ∙ sym (append_assoc front old (text_from (m.lines + 1) m.standing lines))
 
 pub SoFar-played : (r0 r r1 w0 w : Option (List ℕ)) (old new : List ℕ) (player next : Moment) (bytes : List ℕ)
     → SoFar r0 r w0 w old player → Consumes r r1 bytes → Plays player bytes next old new → SoFar r0 r1 w0 w new next
@@ -90,8 +90,7 @@ all_read r0 r w0 w pending player (Ok summary) s end e =
       (
         ap (λ (t : Script). t.fault) script,
         s.2.2 ∙ ap text_of (sym kept),
-        e.1 ∙ ap₂ (λ (n m : ℕ). record { lines = n; events = m; sent = 0 })
-            (o.count ∙ zero-add (length lines) ∙ ap length (sym kept)) (o.event_count ∙ zero-add (count_by is_event lines) ∙ ap (count_by is_event) (sym kept)),
+        e.1 ∙ ap₂ summary_at (o.count ∙ zero-add (length lines) ∙ ap length (sym kept)) (o.stands ∙ ap (standing_after None) (sym kept)),
       ),
     )
 all_read r0 r w0 w pending player (Err fault) s end e =
@@ -105,10 +104,10 @@ all_read r0 r w0 w pending player (Err fault) s end e =
 front : (script : Script) (lines others : List Line) (text written pending : List ℕ) → script.lines ≡ lines ++ others → text ≡ text_of lines → text ≡ written ++ pending
     → IsFrontOfText script written
 front script lines others text written pending e t g = (
-  pending ++ text_from (length lines + 1) (world_after nothing lines) others,
-  ap text_of e ∙ text_from-append 1 (length lines + 1) nothing lines others (omega arith)
-      ∙ ap (λ l. l ++ text_from (length lines + 1) (world_after nothing lines) others) (sym t ∙ g)
-      ∙ append_assoc written pending (text_from (length lines + 1) (world_after nothing lines) others),
+  pending ++ text_from (length lines + 1) (standing_after None lines) others,
+  ap text_of e ∙ text_from-append 1 (length lines + 1) None lines others (omega arith)
+      ∙ ap (λ l. l ++ text_from (length lines + 1) (standing_after None lines) others) (sym t ∙ g)
+      ∙ append_assoc written pending (text_from (length lines + 1) (standing_after None lines) others),
 )
 
 stopped : (w0 w : Option (List ℕ)) (taken text pending more : List ℕ) (lines : List Line) (fault : DebugFault) → Gathers w0 w pending text → Stops start taken lines fault → text ≡ text_of lines

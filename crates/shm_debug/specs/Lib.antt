@@ -1,9 +1,8 @@
 pub mod Limits
-pub mod Words
-pub mod World
 pub mod Script
-pub mod Spelling
+pub mod Plain
+pub mod Said
 pub mod Text
-pub mod Memory
+pub mod Promise
 pub mod Replay
 pub mod Reading

@@ -1,27 +1,24 @@
 -- A script that is being read: what was read of it, and what it says from there on, whatever follows.
-use Rattle.std.specs.Prelude.{◌≡◌, ℕ, ◌+◌, ◌*◌, ◌<◌, ◌≤◌, ◌==◌, false, if◌then◌else◌, List, [], ◌∷◌, ◌++◌, length, nat_lt, count_by, All, Option, None, Some, is_some, Result, Ok, Err}
+use Rattle.std.specs.Prelude.{◌≡◌, ℕ, ◌+◌, ◌*◌, ◌<◌, ◌≤◌, ◌==◌, false, List, [], ◌∷◌, ◌++◌, length, nat_lt, All, Option, None, Some, is_some, Result, Ok, Err}
 use Rattle.shm_debug.specs.Limits.{max_line_bytes, max_bytes}
-use Rattle.shm_debug.specs.Script.{Script, after, whole, broken, read_on, parts_of, is_event}
-use Rattle.shm_debug.specs.World.{World, nothing, next}
+use Rattle.shm_debug.specs.Script.{Script, after, whole, broken, read_on, parts_of}
+use Rattle.shm_debug.specs.Said.{next, standing_after}
+use Rattle.shm_debug.specs.Replay.{summary_at}
 use Rattle.shm_debug.specs.Text.{text_from}
-use Rattle.shm_debug.specs.declared.line.Line.{Line}
+use Rattle.shm_lines.specs.declared.line.Line.{Line}
+use Rattle.shm_session.specs.Standing.{Standing}
 use Rattle.shm_debug.specs.declared.outcome.Summary.{Summary}
 use Rattle.shm_debug.specs.declared.outcome.DebugFault.{DebugFault}
 use Rattle.shm_debug.specs.declared.outcome.DebugFault.TheVariants.{OutOfMemory, BadLine, LineTooLong, TooManyLines, ReadFault, WriteFault}
 
--- the whole lines that were read, how many of them are events, what they leave, and what was read of the next
+-- the whole lines that were read, what stands after them, and what was read of the next
 pub record Moment : Type 0 where
   pub lines : ℕ
-  pub events : ℕ
-  pub world : World
+  pub standing : Option Standing
   pub line : List ℕ
 
 abbrev pub start : Moment
-start = record { lines = 0; events = 0; world = nothing; line = [] }
-
-abbrev pub world_of : Option World → World
-world_of None = nothing
-world_of (Some w) = w
+start = record { lines = 0; standing = None; line = [] }
 
 -- what the script says after this moment, where these bytes follow
 abbrev pub rest_of : Moment → List ℕ → Script
@@ -31,25 +28,20 @@ rest_of m bytes = read_on (m.lines + 1) (parts_of (m.line ++ bytes))
 abbrev pub reach : Moment → ℕ
 reach m = m.lines * (max_line_bytes + 1) + length m.line
 
-abbrev pub world_after : World → List Line → World
-world_after w [] = w
-world_after w (line ∷ lines) = world_after (next w line) lines
-
 -- the moment after a line feed, where the line that it ends may stand
 abbrev pub passed : Moment → Line → Moment
-passed m line = record { lines = m.lines + 1; events = if is_event line then m.events + 1 else m.events; world = next m.world line; line = [] }
+passed m line = record { lines = m.lines + 1; standing = next m.standing line; line = [] }
 
 -- these bytes lead from one moment to another, and end these lines
 pub record Onward (old : Moment) (bytes : List ℕ) (lines : List Line) (new : Moment) : Type 0 where
   pub rest : (more : List ℕ) → rest_of old (bytes ++ more) ≡ after lines (rest_of new more)
   pub count : new.lines ≡ old.lines + length lines
-  pub event_count : new.events ≡ old.events + count_by is_event lines
-  pub world_then : new.world ≡ world_after old.world lines
+  pub stands : new.standing ≡ standing_after old.standing lines
   pub reached : reach old + length bytes ≤ reach new
 
 -- the output grew by what is said to these lines
 abbrev pub Tells : Moment → List Line → List ℕ → List ℕ → Type 0
-Tells m lines old new = new ≡ old ++ text_from (m.lines + 1) m.world lines
+Tells m lines old new = new ≡ old ++ text_from (m.lines + 1) m.standing lines
 
 -- the script, where it begins with these bytes, has these lines and more
 abbrev pub Begins : Moment → List ℕ → List Line → Type 0
@@ -76,16 +68,12 @@ Fails m bytes fault text text' = (lines : List Line) × Stops m bytes lines faul
 
 -- how a script ends whose input ends at this moment
 abbrev pub Ended : Moment → Result Summary DebugFault → Type 0
-Ended m (Ok summary) = (rest_of m [] ≡ whole) × (summary ≡ record { lines = m.lines; events = m.events; sent = 0 })
+Ended m (Ok summary) = (rest_of m [] ≡ whole) × (summary ≡ summary_at m.lines m.standing)
 Ended m (Err fault) = (rest_of m [] ≡ broken fault) × (fault ≡ BadLine (m.lines + 1))
 
-abbrev pub moment_of : ℕ → ℕ → Option World → List ℕ → Moment
-moment_of lines events world line = record { lines = lines; events = events; world = world_of world; line = line }
-
--- what is true of a moment: the limits are kept, the line hasn't ended, and there are sites from the first line on
-pub record IsBeingRead (lines events : ℕ) (world : Option World) (line : List ℕ) : Type 0 where
+-- what is true of a moment: the limits are kept, the line hasn't ended, and something stands from the first line on
+pub record IsBeingRead (lines : ℕ) (standing : Option Standing) (line : List ℕ) : Type 0 where
   pub within : lines * (max_line_bytes + 1) + length line < max_bytes
   pub short : length line ≤ max_line_bytes
   pub unended : All (λ byte. (byte == 10) ≡ false) line
-  pub counted : events ≤ lines
-  pub opened : is_some world ≡ nat_lt 0 lines
+  pub opened : is_some standing ≡ nat_lt 0 lines

@@ -1,14 +1,21 @@
 -- How a replay ends, and what it has written by then.
-use Rattle.std.specs.Prelude.{◌≡◌, ℕ, Bool, true, false, List, ◌++◌, length, take, count_by, Option, None, Some, Result, Ok, Err}
+use Rattle.std.specs.Prelude.{◌≡◌, ℕ, Bool, true, false, List, ◌++◌, length, take, Option, None, Some, Result, Ok, Err}
 use Rattle.std.specs.Io.KnownBytes.{Appends}
-use Rattle.shm_debug.specs.Script.{Script, is_event}
+use Rattle.shm_session.specs.Standing.{Standing, stood}
+use Rattle.shm_debug.specs.Said.{standing_after}
+use Rattle.shm_debug.specs.Script.{Script}
 use Rattle.shm_debug.specs.Text.{text_of}
 use Rattle.shm_debug.specs.declared.outcome.Summary.{Summary}
 use Rattle.shm_debug.specs.declared.outcome.DebugFault.{DebugFault}
 use Rattle.shm_debug.specs.declared.outcome.DebugFault.TheVariants.{OutOfMemory, BadLine, LineTooLong, TooManyLines, ReadFault, WriteFault}
 
+-- so many lines; the events that stand after them, and the envelopes that were sent in their run
+abbrev pub summary_at : ℕ → Option Standing → Summary
+summary_at lines None = record { lines = lines; events = 0; sent = 0 }
+summary_at lines (Some s) = record { lines = lines; events = length s.events; sent = length (stood s).sent }
+
 abbrev pub summary_of : Script → Summary
-summary_of script = record { lines = length script.lines; events = count_by is_event script.lines; sent = 0 }
+summary_of script = summary_at (length script.lines) (standing_after None script.lines)
 
 -- the text of some whole lines, the first ones
 abbrev pub IsTextOfFirst : Script → List ℕ → Type 0

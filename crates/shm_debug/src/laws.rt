@@ -1,24 +1,14 @@
 //! What holds of the definitions, whichever script is replayed.
-ghost use Rattle.std.specs.Prelude.{◌≡◌, ℕ, List, Some};
-ghost use Rattle.shm_debug.specs.declared.line.Line.{Line};
-ghost use Rattle.shm_debug.specs.Script.{line_of};
-ghost use Rattle.shm_debug.specs.Spelling.{IsLine, spelling};
-ghost use Rattle.shm_debug.specs.World.{World};
-ghost use Rattle.shm_debug.specs.Memory.{Legal, account, Coherent};
+ghost use Rattle.std.specs.Prelude.{ℕ, List};
+ghost use Rattle.shm_debug.specs.Promise.{AlwaysKept};
+ghost use Rattle.shm_debug.specs.Script.{script_of};
 
-/// Each line has one spelling: what is read is spelled so, and what is spelled so is read.
-pub fn lines_have_one_spelling()
-    ensures read { (bytes : List ℕ) (line : Line) → line_of bytes ≡ Some line → IsLine line × (bytes ≡ spelling line) }
-    ensures spelled { (line : Line) → IsLine line → line_of (spelling line) ≡ Some line }
-{}
-
-/// Each byte that is told is the one that was stored last to its place, or 0, by a search backwards through one list that knows no
-/// sites (Li and Hudak 1989, §2: coherent memory).
-pub fn loads_give_what_was_stored_last()
-    ensures { (lines : List Line) → Legal (account lines) }
-{}
-
-/// A page can be read and written at one site alone.
-pub fn pages_are_coherent()
-    ensures { (world : World) → Coherent world }
-{}
+/// Wherever a script is read up to: in the run of the events that stand then, each load gives the byte that was stored last to its
+/// place, no page is writable at one site while readable at another, each segment call was executed once, attachments are counted, and
+/// nothing alive was purged (Li and Hudak 1989, §2: coherent memory).
+pub fn every_script_keeps_the_promise()
+    ensures { (bytes : List ℕ) → AlwaysKept (script_of bytes).lines }
+{
+    shm_lines::laws::lines_have_one_spelling();
+    shm_world::laws::every_run_keeps_the_promise();
+}

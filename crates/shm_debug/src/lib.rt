@@ -1,20 +1,19 @@
-//! Replays a script of loads and stores over sites that share a segment, and tells what becomes of each line.
+//! Replays a script of events over sites that share memory, and tells what becomes of each line.
 #![tactic(auto)]
 
-mod answer;
 mod input;
 pub mod laws;
-mod line;
-mod number;
 mod outcome;
 mod output;
-mod parse;
 mod player;
+mod said;
 mod script;
-mod session;
 #[cfg(test)]
 mod tests;
-mod words;
+mod turns;
 
 pub use outcome::{DebugFault, Summary};
 pub use script::replay;
+pub use shm_lines::{BadLine, Line, parse_line};
+pub use shm_session::{BackFault, Session};
+pub use shm_text::print_answer;

@@ -5,9 +5,9 @@ use thiserror::Error;
 pub struct Summary {
     /// All lines, the first one too.
     pub lines: u64,
-    /// The lines that are events: loads and stores, also those that were refused.
+    /// The event lines that stand at the end, refused ones too: all but those that were taken back.
     pub events: u64,
-    /// The envelopes that the sites sent to one another.
+    /// The envelopes that were sent in the run of these events.
     pub sent: u64,
 }
 

@@ -1,69 +1,45 @@
-ghost use Rattle.std.specs.Prelude.{◌≡◌, ◌≤◌, ◌++◌, ℕ, [], OnOk, OnErr, IfOk, length, take};
+//! The text that a replay tells is gathered, and written in large pieces.
+ghost use Rattle.std.specs.Prelude.{◌≡◌, ℕ, [], OnOk, OnErr, IfOk, take};
 ghost use Rattle.std.specs.Io.KnownBytes.{Appends};
-ghost use Rattle.shm_debug.specs.Text.{line_text};
 
-use crate::answer::Answer;
+use shm_text::Text;
 use std::alloc::{AllocError, Allocator};
 use std::io::Write;
-use std::marker::Model;
 
 /// How much text is gathered before it is written.
-const FULL: usize = 4096;
+const FULL: usize = 1 << 15;
 
-/// The text that is told and not written yet.
-#[derive(Drop)]
-pub struct Output<A: Allocator + Copy> {
-    pending: String<A>,
-    line: String<A>,
-}
+/// How much room a line is given from the beginning.
+const LINE: usize = 512;
 
 /// The writer answered an error, or took nothing.
 #[derive(Clone, Copy, Debug)]
 pub struct NotWritten;
 
-impl<A: Allocator + Copy> Model for Output<A> {
-    ghost use Rattle.std.specs.Prelude.{ℕ, List, string_bytes};
-
-    ghost Value = { List ℕ };
-
-    ghost view = { λ output. string_bytes output.pending };
+/// No text yet, with room for what is gathered.
+pub fn gathering<A: Allocator + Copy>(alloc: A) -> Result<Text<A>, AllocError>
+    ensures { IfOk result (λ text. text ≡ []) }
+{
+    Text::new(alloc, 2 * FULL, LINE)
 }
 
-impl<A: Allocator + Copy> Output<A> {
-    /// No text. Room for what is gathered is made.
-    pub fn new(alloc: A) -> Result<Output<A>, AllocError>
-        ensures { IfOk result (λ output. output ≡ []) }
-    {
-        let pending = String::with_capacity(alloc, 2 * FULL)?;
-        let line = String::with_capacity(alloc, 512)?;
-        Ok(Output { pending, line })
-    }
+/// Whether enough is gathered to write it.
+pub fn is_full<A: Allocator + Copy>(text: &Text<A>) -> bool {
+    text.len() >= FULL
+}
 
-    /// Tells what is said to a line.
-    pub fn tell(&mut self, number: u64, answer: Answer) -> Result<(), AllocError>
-        ensures ok { OnOk result (self.new ≡ self.old ++ line_text number answer) }
-        ensures err { OnErr result (self.new ≡ self.old) }
-    {
-        self.line.clear();
-        writeln!(self.line, "{number} {answer}")?;
-        self.pending.push_str(self.line.as_str())
-    }
-
-    /// Whether enough is gathered to write it.
-    pub fn is_full(&self) -> bool {
-        self.pending.len() >= FULL
-    }
-
-    /// Writes all that was told.
-    pub fn write_to<W: Write>(&mut self, writer: &mut W) -> Result<(), NotWritten>
-        ensures ok { OnOk result (Appends (W.contents writer.old) (W.contents writer.new) self.old) }
-        ensures none_left { OnOk result (self.new ≡ []) }
-        ensures err { OnErr result ((n : ℕ) × Appends (W.contents writer.old) (W.contents writer.new) (take n self.old)) }
-    {
-        write_whole(writer, self.pending.as_bytes())?;
-        self.pending.clear();
-        Ok(())
-    }
+/// Writes all that was told, and forgets it.
+pub fn write_told<A: Allocator + Copy, W: Write>(
+    text: &mut Text<A>,
+    writer: &mut W,
+) -> Result<(), NotWritten>
+    ensures ok { OnOk result (Appends (W.contents writer.old) (W.contents writer.new) text.old) }
+    ensures none_left { OnOk result (text.new ≡ []) }
+    ensures err { OnErr result ((n : ℕ) × Appends (W.contents writer.old) (W.contents writer.new) (take n text.old)) }
+{
+    write_whole(writer, text.as_bytes())?;
+    text.clear();
+    Ok(())
 }
 
 fn write_whole<W: Write>(writer: &mut W, text: &[u8]) -> Result<(), NotWritten>

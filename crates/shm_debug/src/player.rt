@@ -1,15 +1,17 @@
-ghost use Rattle.std.specs.Prelude.{◌≡◌, ◌+◌, ◌<◌, ◌≤◌, ◌∷◌, [], not, is_some, true, IfOk, IfErr, OnOk, OnErr};
+//! A script that is read byte by byte, and what its lines make of a session.
+ghost use Rattle.std.specs.Prelude.{◌≡◌, ◌+◌, ◌<◌, ◌≤◌, ◌∷◌, ◌++◌, [], true, IfErr, IfOk, OnErr, OnOk};
+ghost use Rattle.shm_lines.specs.Line.{may_stand};
+ghost use Rattle.shm_lines.specs.Spelling.{IsLine};
+ghost use Rattle.shm_text.specs.Text.{line_text};
 ghost use Rattle.shm_debug.specs.Limits.{max_bytes, max_lines};
-ghost use Rattle.shm_debug.specs.World.{said, next};
-ghost use Rattle.shm_debug.specs.Script.{is_first, may_stand};
-ghost use Rattle.shm_debug.specs.Reading.{start, reach, world_of, passed, Plays, Fails, Ended};
+ghost use Rattle.shm_debug.specs.Reading.{start, reach, passed, Plays, Fails, Ended};
+ghost use Rattle.shm_debug.specs.Said.{said};
 
-use crate::answer::Answer;
-use crate::line::Line;
 use crate::outcome::{DebugFault, Summary};
-use crate::output::Output;
-use crate::parse::parse_line;
-use crate::session::Session;
+use crate::turns::{pass_line, summary};
+use shm_lines::{Line, laws, parse_line};
+use shm_session::Session;
+use shm_text::Text;
 use std::alloc::{AllocError, Allocator};
 use std::marker::Model;
 
@@ -27,18 +29,17 @@ const MAX_BYTES: usize = 20_100_001;
 pub struct Player<A: Allocator + Copy> {
     session: Option<Session<A>>,
     lines: u64,
-    events: u64,
     line: Vec<u8, A>,
 }
 
 impl<A: Allocator + Copy> Model for Player<A> {
-    ghost use Rattle.shm_debug.specs.Reading.{Moment, moment_of, IsBeingRead};
+    ghost use Rattle.shm_debug.specs.Reading.{Moment, IsBeingRead};
 
     ghost Value = { Moment };
 
-    ghost view = { λ p. moment_of p.lines p.events p.session p.line.items };
+    ghost view = { λ p. record { lines = p.lines; standing = p.session; line = p.line.items } };
 
-    ghost invariant = { λ p. IsBeingRead p.lines p.events p.session p.line.items };
+    ghost invariant = { λ p. IsBeingRead p.lines p.session p.line.items };
 }
 
 impl<A: Allocator + Copy> Player<A> {
@@ -50,7 +51,6 @@ impl<A: Allocator + Copy> Player<A> {
         Ok(Player {
             session: None,
             lines: 0,
-            events: 0,
             line,
         })
     }
@@ -64,7 +64,7 @@ impl<A: Allocator + Copy> Player<A> {
     }
 
     /// Reads the bytes on, and tells what is said to the lines that they end.
-    pub fn play(&mut self, bytes: &[u8], output: &mut Output<A>) -> Result<(), DebugFault>
+    pub fn play(&mut self, bytes: &[u8], output: &mut Text<A>) -> Result<(), DebugFault>
         ensures ok { OnOk result (Plays self.old bytes.now self.new output.old output.new) }
         ensures err { IfErr result (λ fault. Fails self.old bytes.now fault output.old output.new) }
     {
@@ -87,14 +87,10 @@ impl<A: Allocator + Copy> Player<A> {
         if !self.line.is_empty() {
             return Err(DebugFault::BadLine(self.lines + 1));
         }
-        Ok(Summary {
-            lines: self.lines,
-            events: self.events,
-            sent: 0,
-        })
+        Ok(summary(self.lines, &self.session))
     }
 
-    fn step(&mut self, byte: u8, output: &mut Output<A>) -> Result<(), DebugFault>
+    fn step(&mut self, byte: u8, output: &mut Text<A>) -> Result<(), DebugFault>
         ensures ok { OnOk result (Plays self.old (byte ∷ []) self.new output.old output.new) }
         ensures err { IfErr result (λ fault. Fails self.old (byte ∷ []) fault output.old output.new) }
     {
@@ -113,63 +109,39 @@ impl<A: Allocator + Copy> Player<A> {
         }
     }
 
-    fn end_line(&mut self, output: &mut Output<A>) -> Result<(), DebugFault>
+    fn end_line(&mut self, output: &mut Text<A>) -> Result<(), DebugFault>
         requires { self.old.lines < max_lines }
         ensures ok { OnOk result (Plays self.old (10 ∷ []) self.new output.old output.new) }
         ensures err { IfErr result (λ fault. Fails self.old (10 ∷ []) fault output.old output.new) }
     {
+        laws::lines_have_one_spelling();
         let number = self.lines + 1;
-        let Some(line) = parse_line(self.line.as_slice()) else {
+        let Ok(line) = parse_line(self.line.as_slice()) else {
             return Err(DebugFault::BadLine(number));
         };
         if !line.may_stand(number) {
             return Err(DebugFault::BadLine(number));
         }
-        let Ok(answer) = self.pass(line) else {
-            return Err(DebugFault::OutOfMemory);
-        };
-        match output.tell(number, answer) {
+        match self.pass(line, output) {
             Ok(()) => Ok(()),
             Err(_) => Err(DebugFault::OutOfMemory),
         }
     }
 
-    /// Goes on to the next line, and answers this one.
-    fn pass(&mut self, line: Line) -> Result<Answer, AllocError>
+    /// Goes on to the next line, and tells what is said to this one.
+    fn pass(&mut self, line: Line, output: &mut Text<A>) -> Result<(), AllocError>
         requires within { self.old.lines < max_lines }
         requires stands { may_stand (self.old.lines + 1) line ≡ true }
-        ensures said { IfOk result (λ answer. answer ≡ said self.old.world line) }
+        requires is_line { IsLine line }
+        ensures told { OnOk result (output.new ≡ output.old ++ line_text (self.old.lines + 1) (said self.old.standing line)) }
         ensures passed { OnOk result (self.new ≡ passed self.old line) }
+        ensures err { OnErr result (output.new ≡ output.old) }
     {
         let alloc = *self.line.allocator();
-        let answer = answer_to(&mut self.session, alloc, line)?;
-        self.lines += 1;
-        if line.is_event() {
-            self.events += 1;
-        }
+        let number = self.lines + 1;
+        pass_line(&mut self.session, alloc, number, line, output)?;
+        self.lines = number;
         self.line.clear();
-        Ok(answer)
-    }
-}
-
-/// What is said to a line that may stand here: the first line opens the session.
-fn answer_to<A: Allocator + Copy>(
-    session: &mut Option<Session<A>>,
-    alloc: A,
-    line: Line,
-) -> Result<Answer, AllocError>
-    requires { is_first line ≡ not (is_some session.old) }
-    ensures said { IfOk result (λ answer. answer ≡ said (world_of session.old) line) }
-    ensures next { OnOk result (world_of session.new ≡ next (world_of session.old) line) }
-    ensures opened { OnOk result (is_some session.new ≡ true) }
-    ensures err { OnErr result (session.new ≡ session.old) }
-{
-    match session {
-        None => {
-            let opened = Session::open(alloc, line)?;
-            *session = Some(opened);
-            Ok(Answer::Ready)
-        }
-        Some(session) => Ok(session.answer(line)),
+        Ok(())
     }
 }

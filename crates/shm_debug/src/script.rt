@@ -1,15 +1,18 @@
-ghost use Rattle.std.specs.Prelude.{◌≡◌, ◌≤◌, ℕ, List, [], IfSome, IfErr, length};
-ghost use Rattle.std.specs.Io.KnownBytes.{Appends, Consumes};
+//! A whole script, from a reader to a writer.
+ghost use Rattle.std.specs.Prelude.{◌≡◌, ◌≤◌, ℕ, List, [], Option, Err, IfErr, IfSome, length};
+ghost use Rattle.std.specs.Io.KnownBytes.{Appends, Consumes, Keeps};
 ghost use Rattle.shm_debug.specs.Limits.{max_bytes};
-ghost use Rattle.shm_debug.specs.Script.{script_of};
+ghost use Rattle.shm_debug.specs.Script.{script_of, Script};
 ghost use Rattle.shm_debug.specs.Replay;
 ghost use Rattle.shm_debug.specs.Replay.{Ends, Pauses};
-ghost use Rattle.shm_debug.specs.Memory.{Legal, account};
+ghost use Rattle.shm_debug.specs.Promise.{AlwaysKept};
 
 use crate::input::read_up_to;
+use crate::laws;
 use crate::outcome::{DebugFault, Summary};
-use crate::output::Output;
+use crate::output::{gathering, is_full, write_told};
 use crate::player::Player;
+use shm_text::Text;
 use std::alloc::Allocator;
 use std::io::{Read, Write};
 
@@ -19,7 +22,7 @@ const CHUNK: usize = 8192;
 /// Replays a script, which is read from `reader`, and writes what is said to each line to `writer`.
 ///
 /// The reader is read up to its end or to the first fault, and a little further. Where it answers an error, of whatever kind, the
-/// replay ends; so it does where the writer answers an error or takes nothing.
+/// replay ends; so it does where the writer answers an error or takes nothing. The writer is flushed at the end, after a fault too.
 pub fn replay<A: Allocator + Copy, R: Read, W: Write>(
     alloc: A,
     reader: &mut R,
@@ -29,19 +32,52 @@ pub fn replay<A: Allocator + Copy, R: Read, W: Write>(
         (text : List ℕ) × Appends (W.contents writer.old) (W.contents writer.new) text × Ends (script_of bytes) result text) }
     ensures limit { (taken : List ℕ) × Consumes (R.remaining reader.old) (R.remaining reader.new) taken × (length taken ≤ max_bytes) }
 
-    // Each byte that is told was stored last to its place, by a definition that knows no sites.
-    ensures legal { (bytes : List ℕ) → Legal (account (script_of bytes).lines) }
+    // The headline, of the run of the events that stand, after each line: each byte that is told was stored last to its place.
+    ensures headline { (bytes : List ℕ) → AlwaysKept (script_of bytes).lines }
 {
-    let Ok(mut output) = Output::new(alloc) else {
-        return Err(DebugFault::OutOfMemory);
+    laws::every_script_keeps_the_promise();
+    let Ok(mut output) = gathering(alloc) else {
+        return flushed(Err(DebugFault::OutOfMemory), writer);
     };
     let played = play_all(alloc, reader, writer, &mut output);
+    let ended = written(played, &mut output, writer);
+    flushed(ended, writer)
+}
+
+/// Writes what is still pending, unless the writer has failed already.
+fn written<A: Allocator + Copy, W: Write>(
+    played: Result<Summary, DebugFault>,
+    output: &mut Text<A>,
+    writer: &mut W,
+) -> Result<Summary, DebugFault>
+    ensures { (first : Option (List ℕ)) (script : Script) → Pauses first (W.contents writer.old) output.old script played →
+        (text : List ℕ) × Appends first (W.contents writer.new) text × Ends script result text }
+{
     if is_write_fault(&played) {
         return played;
     }
-    match output.write_to(writer) {
+    match write_told(output, writer) {
         Ok(()) => played,
         Err(_) => Err(DebugFault::WriteFault),
+    }
+}
+
+/// Flushes the writer. That this fails counts only where nothing else has.
+fn flushed<W: Write>(
+    ended: Result<Summary, DebugFault>,
+    writer: &mut W,
+) -> Result<Summary, DebugFault>
+    ensures keeps { Keeps (W.contents writer.old) (W.contents writer.new) }
+    ensures ends { (script : Script) (text : List ℕ) → Ends script ended text → Ends script result text }
+    ensures fault { IfErr ended (λ fault. result ≡ Err fault) }
+{
+    let flush = writer.flush();
+    match ended {
+        Ok(summary) => match flush {
+            Ok(()) => Ok(summary),
+            Err(_) => Err(DebugFault::WriteFault),
+        },
+        Err(fault) => Err(fault),
     }
 }
 
@@ -62,7 +98,7 @@ fn play_all<A: Allocator + Copy, R: Read, W: Write>(
     alloc: A,
     reader: &mut R,
     writer: &mut W,
-    output: &mut Output<A>,
+    output: &mut Text<A>,
 ) -> Result<Summary, DebugFault>
     requires { output.old ≡ [] }
     ensures ends { IfSome (R.remaining reader.old) (λ bytes.
@@ -84,8 +120,8 @@ fn play_all<A: Allocator + Copy, R: Read, W: Write>(
             Ok(()) => {}
             Err(fault) => return Err(fault),
         }
-        if output.is_full() {
-            match output.write_to(writer) {
+        if is_full(output) {
+            match write_told(output, writer) {
                 Ok(()) => {}
                 Err(_) => return Err(DebugFault::WriteFault),
             }

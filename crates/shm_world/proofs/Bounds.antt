@@ -26,11 +26,6 @@ use Rattle.shm_model.specs.SegmentCalls.{attached_at, begin_detach, begin_op, ex
 use Rattle.shm_model.specs.Step.{foreign, on_message, step}
 use Rattle.shm_world.specs.Steps.{is_tick}
 
--- the answer of an access that sends an Ask
-abbrev pub asks : Answer → Bool
-asks Fault = true
-asks _ = false
-
 abbrev Few : Step → Type 0
 Few done = length done.sent ≤ 17
 
@@ -45,24 +40,21 @@ few-none = omega arith
 few-one : 1 ≤ 17
 few-one = omega arith
 
--- Loads and stores: few envelopes, and none but with the answer Fault.
-abbrev Modest : Step → Type 0
-Modest done = Few done × (asks done.answer ≡ false → done.sent ≡ [])
+-- loads and stores
+few-ask_for : (sites me : ℕ) (kind : Kind) (page : PageId) (site : Site) → Few (ask_for sites me kind page site)
+few-ask_for sites me kind page site =
+    either Few (is_pending kind page site.pending) _ _ few-none
+    (either Few (site.requests == greatest) _ _ few-none few-one)
 
-modest-ask_for : (sites me : ℕ) (kind : Kind) (page : PageId) (site : Site) → Modest (ask_for sites me kind page site)
-modest-ask_for sites me kind page site =
-    either Modest (is_pending kind page site.pending) _ _ (few-none, λ h. refl)
-    (either Modest (site.requests == greatest) _ _ (few-none, λ h. refl) (few-one, λ h. cc))
+few-load_if : (sites me : ℕ) (place : Result Place ℕ) (site : Site) → Few (load_if sites me place site)
+few-load_if sites me (Err refusal) site = few-none
+few-load_if sites me (Ok place) site =
+    either Few (readable (site.entries place.page)) _ _ few-none (few-ask_for sites me Read place.page site)
 
-modest-load_if : (sites me : ℕ) (place : Result Place ℕ) (site : Site) → Modest (load_if sites me place site)
-modest-load_if sites me (Err refusal) site = (few-none, λ h. refl)
-modest-load_if sites me (Ok place) site =
-    either Modest (readable (site.entries place.page)) _ _ (few-none, λ h. refl) (modest-ask_for sites me Read place.page site)
-
-modest-store_if : (sites me : ℕ) (place : Result Place ℕ) (byte : ℕ) (site : Site) → Modest (store_if sites me place byte site)
-modest-store_if sites me (Err refusal) byte site = (few-none, λ h. refl)
-modest-store_if sites me (Ok place) byte site =
-    either Modest (writable (site.entries place.page)) _ _ (few-none, λ h. refl) (modest-ask_for sites me Write place.page site)
+few-store_if : (sites me : ℕ) (place : Result Place ℕ) (byte : ℕ) (site : Site) → Few (store_if sites me place byte site)
+few-store_if sites me (Err refusal) byte site = few-none
+few-store_if sites me (Ok place) byte site =
+    either Few (writable (site.entries place.page)) _ _ few-none (few-ask_for sites me Write place.page site)
 
 -- segment calls
 few-numbered : (site : Site) (done : Step) → Few done → Few (numbered site done)
@@ -179,8 +171,8 @@ few-on_message sites me from (Purge id) site few = either Few (is_attached site 
 few-on_message sites me from (Purged id) site few = either Few (site.missing id from) _ _ few-none few-none
 
 pub few-sent : (sites me : ℕ) (site : Site) (input : Input) → sites ≤ 16 → is_tick input ≡ false → length (step sites me site input).sent ≤ 17
-few-sent sites me site (Load a offset) few other = (modest-load_if sites me (right site.attachments a offset false) site).0
-few-sent sites me site (Store a offset byte) few other = (modest-store_if sites me (right site.attachments a offset true) byte site).0
+few-sent sites me site (Load a offset) few other = few-load_if sites me (right site.attachments a offset false) site
+few-sent sites me site (Store a offset byte) few other = few-store_if sites me (right site.attachments a offset true) byte site
 few-sent sites me site (Begin (OpRequest op)) few other = either Few (is_some site.outstanding) _ _ few-none (few-begin_op sites me op site)
 few-sent sites me site (Begin (DetachAt a)) few other =
     either Few (is_some site.outstanding) _ _ few-none (few-begin_detach sites me a (site.attachments a) site)

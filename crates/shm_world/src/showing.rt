@@ -12,11 +12,18 @@ ghost use Rattle.shm_world.specs.World.{StandsFor};
 use crate::world::World;
 use shm_model::{Access, Shown};
 use shm_parts::Envelope;
-use shm_place::{PageId, SiteId, manager_of};
+use shm_place::{PageId, SiteId, Sites, manager_of};
 use shm_site::BookView;
 use std::alloc::Allocator;
 
 impl<A: Allocator + Copy> World<A> {
+    /// How many sites there are.
+    pub fn sites(&self) -> Sites
+        ensures { (w : model.World) → StandsFor self.now w → result ≡ w.count }
+    {
+        self.members.count
+    }
+
     /// How many envelopes were ever sent. The next one has this number.
     pub fn sent(&self) -> u64
         ensures { (w : model.World) → StandsFor self.now w → result ≡ length w.sent }

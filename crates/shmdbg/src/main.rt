@@ -1,6 +1,7 @@
 //! `shmdbg`: the command line of the debugger. `shmdbg replay` replays a script from standard input.
 #![tactic(auto)]
 
+mod help;
 mod program;
 mod tell;
 #[cfg(test)]

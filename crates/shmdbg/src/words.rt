@@ -2,6 +2,7 @@ ghost use Rattle.std.specs.Prelude.{◌≡◌, false, map, IfOk};
 ghost use Rattle.clap.specs.Words.{FailsBy, app_of, fault_of, rule_of};
 ghost use Rattle.shmdbg.specs.Words.{app, seed_rule, sites_rule, task_of};
 
+use crate::help;
 use clap::{Arg, ArgAction, Command, Error, value_parser};
 use std::alloc::{AllocError, Global};
 use std::convert::AsStr;
@@ -30,13 +31,16 @@ pub fn parse_words<S: AsStr>(alloc: Global, words: &[S]) -> Result<Task, Error>
 fn command<'a>(alloc: Global) -> Result<Command<'a>, AllocError>
     ensures app { IfOk result (λ c. app_of c ≡ app) }
 {
-    let replay = Command::new(alloc, "replay").about("Replay the script on standard input");
+    let replay = Command::new(alloc, "replay")
+        .about("Replay the script on standard input")
+        .after_help(help::REPLAY);
     let run = Command::new(alloc, "run")
         .about("Run the workload on standard input on sites in threads (refused: not built yet)")
         .arg(sites_arg(alloc))?
         .arg(seed_arg(alloc))?;
     Command::new(alloc, "shmdbg")
         .about("Shared memory segments over sites that have no memory in common")
+        .after_help(help::PROGRAM)
         .subcommand_required(true)
         .subcommand(replay)?
         .subcommand(run)

@@ -7,7 +7,10 @@ use std::test::Fail;
 /// text of the first lines.
 #[test]
 fn each_growth_refused(rt: HostRuntime) -> Result<(), Fail> {
-    let mut script = b"sites 16 preset 3\nstore 1 0 4096 7\nload 1 0 4096\n".to_vec(rt.alloc())?;
+    let mut script =
+        b"sites 2 preset 1\nstore 0 0 0 7\nload 1 0 0\ndeliver 0\ndeliver 1\nback 2\n".to_vec(
+            rt.alloc(),
+        )?;
     for _ in 0..60 {
         script.extend_from_slice(b"show 0 0\n".as_slice())?;
     }
@@ -18,13 +21,13 @@ fn each_growth_refused(rt: HostRuntime) -> Result<(), Fail> {
 
     let mut least = 0;
     for step in 1..4000usize {
-        let heap = LocalHeap::new(rt.alloc(), step * 16)?;
+        let heap = LocalHeap::new(rt.alloc(), step * 64)?;
         let mut reader = script.as_slice();
         let mut text = Vec::new(rt.alloc());
         let result = replay(&heap, &mut reader, &mut text);
         assert!(rt;
             whole.as_slice().starts_with(text.as_slice()),
-            "with {step} times 16 bytes"
+            "with {step} times 64 bytes"
         );
         assert!(rt; text.is_empty() || text.as_slice().ends_with(b"\n".as_slice()));
         if result == done {

@@ -4,20 +4,29 @@ use std::test::Fail;
 
 #[test]
 fn whole_scripts(rt: HostRuntime) -> Result<(), Fail> {
-    let pages_at_managers =
-        b"sites 2 preset 2\nstore 0 0 4095 1\nstore 0 0 4096 2\nstore 1 0 4096 2\nload 1 0 4096\n\
-        load 1 0 8192\nload 0 1 0\nload 2 0 0\nshow 0 1\nshow 0 256\nshow 131071 255\nshow 131072 0\n";
-    let told =
-        b"1 ready\n2 stored\n3 fault\n4 stored\n5 byte 2\n6 refused 11\n7 refused 9\n8 refused 14\n\
-        9 page 0:Nil/0 1:OwnWrite/0 owner 1 copies - t 0 idle\n10 refused 16\n\
-        11 page 0:OwnWrite/0 1:Nil/0 owner 0 copies - t 0 idle\n12 refused 16\n";
-    let (result, text) = replayed(rt.alloc(), pages_at_managers.as_slice());
+    let boundaries = b"sites 2 preset 2\n\
+        store 0 0 4095 1\n\
+        store 0 0 4096 2\n\
+        store 1 0 4096 2\n\
+        load 1 0 8191\n\
+        load 1 0 8192\n\
+        load 1 1 0\n\
+        load 2 0 0\n";
+    let told = b"1 ready\n\
+        2 stored\n\
+        3 fault m0>1:Ask\n\
+        4 stored\n\
+        5 byte 0\n\
+        6 refused 11\n\
+        7 refused 9\n\
+        8 refused 14\n";
+    let (result, text) = replayed(rt.alloc(), boundaries.as_slice());
     assert_eq!(rt;
         result,
         Ok(Summary {
-            lines: 12,
+            lines: 8,
             events: 7,
-            sent: 0
+            sent: 1
         })
     );
     assert_eq!(rt; text.as_slice(), told.as_slice());

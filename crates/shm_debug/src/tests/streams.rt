@@ -3,9 +3,24 @@ use crate::script::replay;
 use std::io::{self, ErrorKind, Read, Write};
 use std::test::Fail;
 
-const SCRIPT: &[u8] = b"sites 2 preset 1\nstore 0 0 7 9\nload 0 0 7\nload 1 0 7\n";
+/// A first read fault: four envelopes.
+const SCRIPT: &[u8] = b"sites 2 preset 1\n\
+    store 0 0 0 7\n\
+    load 1 0 0\n\
+    deliver 0\n\
+    deliver 1\n\
+    deliver 2\n\
+    deliver 3\n\
+    load 1 0 0\n";
 
-const TEXT: &[u8] = b"1 ready\n2 stored\n3 byte 9\n4 fault\n";
+const TEXT: &[u8] = b"1 ready\n\
+    2 stored\n\
+    3 fault m0>0:Ask\n\
+    4 took m1>0:Hand\n\
+    5 took m2>1:Page\n\
+    6 took m3>0:Confirm\n\
+    7 took\n\
+    8 byte 7\n";
 
 /// Gives the bytes one at a time, and then the end or an error.
 #[derive(Drop)]
@@ -51,8 +66,29 @@ impl Write for Taker {
     }
 
     fn flush(&mut self) -> io::Result<()> {
+        if self.fails && self.text.len() == self.most {
+            return Err(io::Error::from(ErrorKind::Other));
+        }
         Ok(())
     }
+}
+
+fn line_feeds(bytes: &[u8]) -> usize {
+    bytes.iter().filter(|byte| **byte == b'\n').count()
+}
+
+/// So many lines of a text, from its beginning.
+fn first_lines(text: &[u8], lines: usize) -> &[u8] {
+    let mut left = lines;
+    for (at, byte) in text.iter().enumerate() {
+        if left == 0 {
+            return &text[..at];
+        }
+        if *byte == b'\n' {
+            left -= 1;
+        }
+    }
+    text
 }
 
 #[test]
@@ -70,9 +106,9 @@ fn byte_by_byte(rt: HostRuntime) -> Result<(), Fail> {
     assert_eq!(rt;
         result,
         Ok(Summary {
-            lines: 4,
-            events: 3,
-            sent: 0
+            lines: 8,
+            events: 7,
+            sent: 4
         })
     );
     assert_eq!(rt; writer.text.as_slice(), TEXT);
@@ -90,14 +126,8 @@ fn a_reader_that_fails(rt: HostRuntime) -> Result<(), Fail> {
         let mut text = Vec::new(rt.alloc());
         let result = replay(rt.alloc(), &mut reader, &mut text);
         assert_eq!(rt; result, Err(DebugFault::ReadFault));
-        let told = match length {
-            0..=16 => 0,
-            17..=30 => 8,
-            31..=41 => 17,
-            42..=52 => 26,
-            _ => TEXT.len(),
-        };
-        assert_eq!(rt; text.as_slice(), &TEXT[..told], "of {length} bytes");
+        let told = first_lines(TEXT, line_feeds(&SCRIPT[..length]));
+        assert_eq!(rt; text.as_slice(), told, "of {length} bytes");
     }
     Ok(())
 }
@@ -117,6 +147,26 @@ fn a_writer_that_stops(rt: HostRuntime) -> Result<(), Fail> {
             assert_eq!(rt; result, Err(DebugFault::WriteFault));
             assert_eq!(rt; writer.text.as_slice(), &TEXT[..most]);
         }
+    }
+    Ok(())
+}
+
+/// A flush that fails is a write fault, but where there was another fault before.
+#[test]
+fn a_writer_that_does_not_flush(rt: HostRuntime) -> Result<(), Fail> {
+    for (further, fault) in [
+        (b"".as_slice(), DebugFault::WriteFault),
+        (b"nonsense\n".as_slice(), DebugFault::BadLine(9)),
+    ] {
+        let mut reader = SCRIPT.chain(further);
+        let mut writer = Taker {
+            text: Vec::new(rt.alloc()),
+            most: TEXT.len(),
+            fails: true,
+        };
+        let result = replay(rt.alloc(), &mut reader, &mut writer);
+        assert_eq!(rt; result, Err(fault));
+        assert_eq!(rt; writer.text.as_slice(), TEXT);
     }
     Ok(())
 }

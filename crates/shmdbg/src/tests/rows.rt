@@ -2,32 +2,24 @@ use super::{Ran, replay_bytes};
 use std::process::Abort;
 use std::test::Fail;
 
-const FIRST_PATH: &[u8] = b"sites 2 preset 2
+const BOUNDARIES: &[u8] = b"sites 2 preset 2
 store 0 0 4095 1
 store 0 0 4096 2
 store 1 0 4096 2
-load 1 0 4096
+load 1 0 8191
 load 1 0 8192
-load 0 1 0
+load 1 1 0
 load 2 0 0
-show 0 1
-show 0 256
-show 131071 255
-show 131072 0
 ";
 
-const FIRST_PATH_TEXT: &[u8] = b"1 ready
+const BOUNDARIES_TEXT: &[u8] = b"1 ready
 2 stored
-3 fault
+3 fault m0>1:Ask
 4 stored
-5 byte 2
+5 byte 0
 6 refused 11
 7 refused 9
 8 refused 14
-9 page 0:Nil/0 1:OwnWrite/0 owner 1 copies - t 0 idle
-10 refused 16
-11 page 0:OwnWrite/0 1:Nil/0 owner 0 copies - t 0 idle
-12 refused 16
 ";
 
 const SMALLEST: &[u8] = b"sites 1 preset 1\nload 0 0 0\n";
@@ -39,9 +31,9 @@ fn expect(rt: &impl Abort, ran: &Ran, status: u8, out: &[u8], errors: &[u8]) {
 }
 
 #[test]
-fn pages_at_their_managers(rt: HostRuntime) {
-    let ran = replay_bytes(&rt, FIRST_PATH);
-    expect(&rt, &ran, 0, FIRST_PATH_TEXT, b"");
+fn where_pages_begin_and_end(rt: HostRuntime) {
+    let ran = replay_bytes(&rt, BOUNDARIES);
+    expect(&rt, &ran, 0, BOUNDARIES_TEXT, b"");
 }
 
 /// The smallest world, cut off after each of its bytes.

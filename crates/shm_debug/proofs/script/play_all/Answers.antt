@@ -57,8 +57,8 @@ chunks-preserved g c =
       omega arith,
     )
 
-pub chunks-preserved-in-Ok-write_to : goal.chunks-preserved-in-Ok-write_to
-chunks-preserved-in-Ok-write_to g c =
+pub chunks-preserved-in-Ok-write_told : goal.chunks-preserved-in-Ok-write_told
+chunks-preserved-in-Ok-write_told g c =
     let remaining = g.R.Read.remaining in
     let contents = g.W.Write.contents in
     let count = c.in-Ok-read_up_to.count in
@@ -66,15 +66,15 @@ chunks-preserved-in-Ok-write_to g c =
     c.in-Ok-play.ensures.ok in
     let then_played = SoFar-played (remaining c.args.reader.now) (remaining c.chunks.reader) (remaining c.read_up_to.new.reader) (contents c.args.writer.now) (contents c.chunks.writer)
     c.chunks.output c.play.new.output c.chunks.player c.play.new.self (take count c.read_up_to.new.chunk) c.chunks.invariant.0 c.in-Ok-read_up_to.ensures.bytes played in (
-      subst (λ o. SoFar (remaining c.args.reader.now) (remaining c.read_up_to.new.reader) (contents c.args.writer.now) (contents c.write_to.new.writer) o c.play.new.self)
-          (sym c.in-Ok-write_to.ensures.none_left)
-          (SoFar-written (remaining c.args.reader.now) (remaining c.read_up_to.new.reader) (contents c.args.writer.now) (contents c.chunks.writer) (contents c.write_to.new.writer)
-          c.play.new.output c.play.new.self then_played c.in-Ok-write_to.ensures.ok),
+      subst (λ o. SoFar (remaining c.args.reader.now) (remaining c.read_up_to.new.reader) (contents c.args.writer.now) (contents c.write_told.new.writer) o c.play.new.self)
+          (sym c.in-Ok-write_told.ensures.none_left)
+          (SoFar-written (remaining c.args.reader.now) (remaining c.read_up_to.new.reader) (contents c.args.writer.now) (contents c.chunks.writer) (contents c.write_told.new.writer)
+          c.play.new.output c.play.new.self then_played c.in-Ok-write_told.ensures.ok),
       omega arith,
     )
 
-pub returns-in-Err-write_to-clause-ends : goal.returns-in-Err-write_to-clause-ends
-returns-in-Err-write_to-clause-ends g c =
+pub returns-in-Err-write_told-clause-ends : goal.returns-in-Err-write_told-clause-ends
+returns-in-Err-write_told-clause-ends g c =
     let remaining = g.R.Read.remaining in
     let contents = g.W.Write.contents in
     let count = c.in-Ok-read_up_to.count in
@@ -82,11 +82,11 @@ returns-in-Err-write_to-clause-ends g c =
     c.in-Ok-play.ensures.ok in
     let then_played = SoFar-played (remaining c.args.reader.now) (remaining c.chunks.reader) (remaining c.read_up_to.new.reader) (contents c.args.writer.now) (contents c.chunks.writer)
     c.chunks.output c.play.new.output c.chunks.player c.play.new.self (take count c.read_up_to.new.chunk) c.chunks.invariant.0 c.in-Ok-read_up_to.ensures.bytes played in
-    write_failed (remaining c.args.reader.now) (remaining c.read_up_to.new.reader) (contents c.args.writer.now) (contents c.chunks.writer) (contents c.write_to.new.writer)
-    c.play.new.output c.play.new.self c.in-Err-write_to.ensures.err.0 then_played c.in-Err-write_to.ensures.err.1
+    write_failed (remaining c.args.reader.now) (remaining c.read_up_to.new.reader) (contents c.args.writer.now) (contents c.chunks.writer) (contents c.write_told.new.writer)
+    c.play.new.output c.play.new.self c.in-Err-write_told.ensures.err.0 then_played c.in-Err-write_told.ensures.err.1
 
-pub returns-in-Err-write_to-clause-limit : goal.returns-in-Err-write_to-clause-limit
-returns-in-Err-write_to-clause-limit g c =
+pub returns-in-Err-write_told-clause-limit : goal.returns-in-Err-write_told-clause-limit
+returns-in-Err-write_told-clause-limit g c =
     let remaining = g.R.Read.remaining in
     let contents = g.W.Write.contents in
     let bytes = take c.in-Ok-read_up_to.count c.read_up_to.new.chunk in

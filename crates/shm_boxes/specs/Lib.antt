@@ -1,0 +1,5 @@
+pub mod Logged
+pub mod SiteLog
+pub mod Receipt
+pub mod Box
+pub mod SiteBox

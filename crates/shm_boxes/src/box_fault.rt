@@ -1,0 +1,26 @@
+/// Why a box took no input.
+#[derive(Clone, Copy, Debug, PartialEq, Eq)]
+pub enum BoxFault {
+    /// The envelope can't be for this site.
+    Foreign,
+    /// There is no stamp above the box's clock, or above the sender's step.
+    ClockEnd,
+    /// Memory was refused.
+    OutOfMemory,
+}
+
+impl BoxFault {
+    ghost use Rattle.std.specs.Prelude.{◌≡◌};
+    ghost use Rattle.shm_boxes.specs.Box.{box_fault_number};
+
+    /// The number of the refusal.
+    pub fn number(self) -> u8
+        ensures { result ≡ box_fault_number self }
+    {
+        match self {
+            BoxFault::Foreign => 16,
+            BoxFault::ClockEnd => 27,
+            BoxFault::OutOfMemory => 17,
+        }
+    }
+}

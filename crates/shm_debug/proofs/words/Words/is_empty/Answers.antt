@@ -1,8 +1,0 @@
-use Rattle.std.proofs.Common.{sym, ap, ◌∙◌, []}
-use Rattle.std.specs.Option.{option_map_or}
-use Rattle.shm_debug.specs.Words.{is_end, words_of}
-use Rattle.shm_debug.proofs.PartsLemmas.{is_end-words}
-use Rattle.shm_debug.proofs.words.Words.is_empty.Goals as goal
-
-pub returns-in-Some : goal.returns-in-Some
-returns-in-Some c = sym (ap is_end (sym c.self.view_is) ∙ ap (λ rest. is_end (option_map_or (λ r. words_of r.now) rest [])) c.in-Some.is ∙ is_end-words c.in-Some.field-0.now)

@@ -1,0 +1,46 @@
+-- What is said to each line of a script, and what stands after it. Each event's answer is that of the run of the events which stand, from
+-- the beginning; nothing else is remembered.
+use Rattle.std.specs.Prelude.{ℕ, ◌-◌, List, [], ◌∷◌, ◌++◌, codes, length, nat_le, if◌then◌else◌, Option, None, Some}
+use Rattle.std.specs.Fmt.{decimal}
+use Rattle.shm_model.specs.World as model
+use Rattle.shm_model.specs.declared.event.Event.{Event}
+use Rattle.shm_lines.specs.declared.line.Line.{Line}
+use Rattle.shm_lines.specs.declared.line.Line.TheVariants as line
+use Rattle.shm_text.specs.Text.{event_text}
+use Rattle.shm_text.specs.Page.{page_text}
+use Rattle.shm_session.specs.Standing.{Standing, opening_of, stood, with_event, without_last}
+
+-- an event: its answer, and the envelopes that it sent
+abbrev pub said_to_event : Standing → Event → List ℕ
+said_to_event s e = event_text (model.next (stood s) e).done.answer (stood (with_event s e)) (length (stood s).sent)
+
+-- going back, where so many events stand: how many stand after it, or that there are fewer
+abbrev pub said_to_back : Standing → ℕ → List ℕ
+said_to_back s n = if nat_le n (length s.events) then codes "back " ++ decimal (length s.events - n) else codes "refused 28"
+
+-- before the first line nothing stands, and no other line has an answer there
+abbrev pub said : Option Standing → Line → List ℕ
+said s (line.Sites sites preset frames) = codes "ready"
+said None (line.Event e) = []
+said None (line.Show page) = []
+said None (line.Back n) = []
+said (Some s) (line.Event e) = said_to_event s e
+said (Some s) (line.Show page) = page_text (stood s) page
+said (Some s) (line.Back n) = said_to_back s n
+
+abbrev pub next_back : Standing → ℕ → Standing
+next_back s n = if nat_le n (length s.events) then without_last s n else s
+
+-- what stands after a line
+abbrev pub next : Option Standing → Line → Option Standing
+next s (line.Sites sites preset frames) = Some (record { opening = opening_of sites preset frames; events = [] })
+next None (line.Event e) = None
+next None (line.Show page) = None
+next None (line.Back n) = None
+next (Some s) (line.Event e) = Some (with_event s e)
+next (Some s) (line.Show page) = Some s
+next (Some s) (line.Back n) = Some (next_back s n)
+
+abbrev pub standing_after : Option Standing → List Line → Option Standing
+standing_after s [] = s
+standing_after s (x ∷ xs) = standing_after (next s x) xs

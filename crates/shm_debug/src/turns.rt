@@ -1,0 +1,130 @@
+//! What each line makes of a session, and what is told of it.
+ghost use Rattle.std.specs.Prelude.{◌≡◌, ◌++◌, Some, false, is_some, not, true, IfOk, OnErr, OnOk};
+ghost use Rattle.shm_lines.specs.Line.{is_first};
+ghost use Rattle.shm_lines.specs.Spelling.{IsLine};
+ghost use Rattle.shm_text.specs.Text.{line_text};
+ghost use Rattle.shm_debug.specs.Replay.{summary_at};
+ghost use Rattle.shm_debug.specs.Said.{said, said_to_back, said_to_event, next, next_back};
+ghost use Rattle.shm_session.specs.Standing.{with_event};
+
+use crate::outcome::Summary;
+use crate::said::Said;
+use shm_lines::Line;
+use shm_model::Event;
+use shm_session::{BackFault, Session};
+use shm_text::Text;
+use std::alloc::{AllocError, Allocator};
+
+/// A line that may stand here: the first one opens the session, the others are turns of it.
+pub fn pass_line<A: Allocator + Copy>(
+    session: &mut Option<Session<A>>,
+    alloc: A,
+    number: u64,
+    line: Line,
+    output: &mut Text<A>,
+) -> Result<(), AllocError>
+    requires first { is_first line ≡ not (is_some session.old) }
+    requires is_line { IsLine line }
+    ensures told { OnOk result (output.new ≡ output.old ++ line_text number (said session.old line)) }
+    ensures next { OnOk result (session.new ≡ next session.old line) }
+    ensures err { OnErr result (output.new ≡ output.old) }
+    ensures still { OnErr result (is_some session.new ≡ is_some session.old) }
+{
+    match session {
+        None => {
+            let opened = opened(alloc, line)?;
+            output.tell(number, Said::Ready)?;
+            *session = Some(opened);
+            Ok(())
+        }
+        Some(session) => turn(session, number, line, output),
+    }
+}
+
+/// The session that a first line opens.
+fn opened<A: Allocator + Copy>(alloc: A, line: Line) -> Result<Session<A>, AllocError>
+    requires first { is_first line ≡ true }
+    requires is_line { IsLine line }
+    ensures { IfOk result (λ session. next None line ≡ Some session) }
+{
+    match line {
+        Line::Sites {
+            sites,
+            preset,
+            frames,
+        } => Session::new(alloc, sites, preset, frames),
+        _ => unreachable!(),
+    }
+}
+
+/// A line that isn't the first.
+fn turn<A: Allocator + Copy>(
+    session: &mut Session<A>,
+    number: u64,
+    line: Line,
+    output: &mut Text<A>,
+) -> Result<(), AllocError>
+    requires { is_first line ≡ false }
+    ensures told { OnOk result (output.new ≡ output.old ++ line_text number (said (Some session.old) line)) }
+    ensures next { OnOk result (Some session.new ≡ next (Some session.old) line) }
+    ensures err { OnErr result (output.new ≡ output.old) }
+{
+    match line {
+        Line::Event(event) => happen(session, number, event, output),
+        Line::Show(page) => output.tell_page(number, session.world(), page),
+        Line::Back(count) => go_back(session, number, count, output),
+        Line::Sites { .. } => unreachable!(),
+    }
+}
+
+/// An event happens.
+fn happen<A: Allocator + Copy>(
+    session: &mut Session<A>,
+    number: u64,
+    event: Event,
+    output: &mut Text<A>,
+) -> Result<(), AllocError>
+    ensures told { OnOk result (output.new ≡ output.old ++ line_text number (said_to_event session.old event)) }
+    ensures next { OnOk result (session.new ≡ with_event session.old event) }
+    ensures err { OnErr result (output.new ≡ output.old) }
+{
+    let first = session.world().sent();
+    let answer = session.apply(event)?;
+    output.tell_answer(number, &answer, session.world(), first)
+}
+
+/// The last events are taken back, if there are so many.
+fn go_back<A: Allocator + Copy>(
+    session: &mut Session<A>,
+    number: u64,
+    count: u32,
+    output: &mut Text<A>,
+) -> Result<(), AllocError>
+    ensures told { OnOk result (output.new ≡ output.old ++ line_text number (said_to_back session.old count)) }
+    ensures next { OnOk result (session.new ≡ next_back session.old count) }
+    ensures err { OnErr result (output.new ≡ output.old) }
+{
+    match session.back(count) {
+        Ok(left) => output.tell(number, Said::Back(left)),
+        Err(BackFault::PastBeginning) => output.tell(number, Said::PastBeginning),
+        Err(BackFault::OutOfMemory) => Err(AllocError),
+    }
+}
+
+/// What a script of so many lines was, that left this session.
+pub fn summary<A: Allocator + Copy>(lines: u64, session: &Option<Session<A>>) -> Summary
+    ensures { result ≡ summary_at lines session.now }
+{
+    match session {
+        None => Summary {
+            lines,
+            events: 0,
+            sent: 0,
+        },
+        Some(session) => Summary {
+            lines,
+            events: session.len(),
+            sent: session.world().sent(),
+        },
+    }
+}

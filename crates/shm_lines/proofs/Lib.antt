@@ -1,0 +1,8 @@
+pub mod NumberLemmas
+pub mod NumberWords
+pub mod OneWord
+pub mod ReadCalls
+pub mod ReadLemmas
+pub mod SpelledLemmas
+pub mod StepLemmas
+pub mod WordLemmas

@@ -1,0 +1,18 @@
+//! The lines of a debugger's script: how each is read, and how it is spelled.
+#![tactic(auto)]
+
+pub mod laws;
+mod line;
+mod mode;
+mod number;
+mod parse;
+mod parse_calls;
+mod spelling;
+mod spelling_calls;
+mod spelling_first;
+#[cfg(test)]
+mod tests;
+mod words;
+
+pub use line::Line;
+pub use parse::{BadLine, parse_line};

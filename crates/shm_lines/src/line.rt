@@ -1,0 +1,54 @@
+use shm_model::Event;
+use shm_place::{PageId, Sites};
+
+/// A line of a script.
+#[derive(Clone, Copy, Debug, PartialEq, Eq)]
+pub enum Line {
+    /// The first line: the sites, the pages of segment 0 if it stands from the beginning, and the pages that each site has as copies
+    /// at most, if there is such a limit. A line that is read has `frames` only beside a `preset`.
+    Sites {
+        sites: Sites,
+        preset: Option<u32>,
+        frames: Option<u32>,
+    },
+    Event(Event),
+    /// What each site has of a page, and what its manager knows.
+    Show(PageId),
+    /// Takes the last so many events back.
+    Back(u32),
+}
+
+impl Line {
+    ghost use Rattle.std.specs.Prelude.{◌≡◌};
+    ghost use Rattle.shm_lines.specs.Line as said;
+
+    /// Whether a script may have this line under this number, from 1: it begins with a `sites` line, and has no other.
+    pub fn may_stand(&self, number: u64) -> bool
+        ensures { result ≡ said.may_stand number self.now }
+    {
+        if number == 1 {
+            return self.is_first();
+        }
+        !self.is_first()
+    }
+
+    /// Whether the line says how the sites begin.
+    pub fn is_first(&self) -> bool
+        ensures { result ≡ said.is_first self.now }
+    {
+        match self {
+            Line::Sites { .. } => true,
+            _ => false,
+        }
+    }
+
+    /// Whether the line is an event of the run: something that happens at a site or on the network.
+    pub fn is_event(&self) -> bool
+        ensures { result ≡ said.is_event self.now }
+    {
+        match self {
+            Line::Event(_) => true,
+            _ => false,
+        }
+    }
+}

@@ -1,0 +1,202 @@
+ghost use Rattle.std.specs.Prelude.{◌≡◌, ℕ, List, ok_or, codes};
+ghost use Rattle.shm_lines.specs.Words.{next_named};
+ghost use Rattle.shm_lines.specs.Line.{line_of, by_verb, others, sites_of, preset_of, frames_of, load_of, store_of, deliver_of, repeat_of, lose_of, tick_of, restart_of, show_of, back_of};
+
+use crate::line::Line;
+use crate::parse_calls::call;
+use crate::words::Words;
+use shm_model::Event;
+use shm_place::{PAGES, PageId, SegId, SiteId, Sites};
+
+/// How many pages a site may be limited to as copies, at most.
+const MAX_FRAMES: u32 = 65_536;
+
+/// The bytes are no line of a script.
+#[derive(Clone, Copy, Debug, PartialEq, Eq)]
+pub struct BadLine;
+
+/// The line that is spelled so, without its line feed. It takes no memory.
+pub fn parse_line(line: &[u8]) -> Result<Line, BadLine>
+    ensures { result ≡ ok_or (line_of line.now) (record {}) }
+{
+    let Some(line) = read(line) else {
+        return Err(BadLine);
+    };
+    Ok(line)
+}
+
+fn read(line: &[u8]) -> Option<Line>
+    ensures { result ≡ line_of line.now }
+{
+    let (verb, words) = Words::of(line).word()?;
+    if verb == b"load".as_slice() {
+        return load(words);
+    }
+    if verb == b"store".as_slice() {
+        return store(words);
+    }
+    if verb == b"deliver".as_slice() {
+        return deliver(words);
+    }
+    if verb == b"repeat".as_slice() {
+        return repeat(words);
+    }
+    if verb == b"lose".as_slice() {
+        return lose(words);
+    }
+    other(verb, words)
+}
+
+fn other(verb: &[u8], words: Words<'_>) -> Option<Line>
+    ensures { result ≡ by_verb others verb.now words.entry }
+{
+    if verb == b"tick".as_slice() {
+        return tick(words);
+    }
+    if verb == b"restart".as_slice() {
+        return restart(words);
+    }
+    if verb == b"show".as_slice() {
+        return show(words);
+    }
+    if verb == b"back".as_slice() {
+        return back(words);
+    }
+    if verb == b"sites".as_slice() {
+        return sites(words);
+    }
+    call(verb, words)
+}
+
+fn sites(words: Words<'_>) -> Option<Line>
+    ensures { result ≡ sites_of words.entry }
+{
+    let (count, words) = words.number()?;
+    let sites = Sites::new(count).ok()?;
+    if words.is_empty() {
+        return Some(Line::Sites {
+            sites,
+            preset: None,
+            frames: None,
+        });
+    }
+    preset(sites, words)
+}
+
+fn preset(sites: Sites, words: Words<'_>) -> Option<Line>
+    ensures { result ≡ preset_of sites words.entry }
+{
+    let (size, words) = named(b"preset".as_slice(), PAGES, words)?;
+    if words.is_empty() {
+        return Some(Line::Sites {
+            sites,
+            preset: Some(size),
+            frames: None,
+        });
+    }
+    frames(sites, size, words)
+}
+
+fn frames(sites: Sites, size: u32, words: Words<'_>) -> Option<Line>
+    ensures { result ≡ frames_of sites size words.entry }
+{
+    let (frames, words) = named(b"frames".as_slice(), MAX_FRAMES, words)?;
+    words.closed(Line::Sites {
+        sites,
+        preset: Some(size),
+        frames: Some(frames),
+    })
+}
+
+/// This word and a number from 1 to `most`, and the words after them.
+fn named<'a>(name: &[u8], most: u32, words: Words<'a>) -> Option<(u32, Words<'a>)>
+    ensures { result ≡ next_named name.now most words.entry }
+{
+    let (word, words) = words.word()?;
+    let (value, words) = words.number()?;
+    if word != name || value < 1 || value > most {
+        return None;
+    }
+    Some((value, words))
+}
+
+fn load(words: Words<'_>) -> Option<Line>
+    ensures { result ≡ load_of words.entry }
+{
+    let (site, words) = words.number()?;
+    let (at, words) = words.number()?;
+    let (offset, words) = words.number()?;
+    words.closed(Line::Event(Event::Load {
+        site: SiteId(site),
+        at,
+        offset,
+    }))
+}
+
+fn store(words: Words<'_>) -> Option<Line>
+    ensures { result ≡ store_of words.entry }
+{
+    let (site, words) = words.number()?;
+    let (at, words) = words.number()?;
+    let (offset, words) = words.number()?;
+    let (byte, words) = words.byte()?;
+    words.closed(Line::Event(Event::Store {
+        site: SiteId(site),
+        at,
+        offset,
+        byte,
+    }))
+}
+
+fn deliver(words: Words<'_>) -> Option<Line>
+    ensures { result ≡ deliver_of words.entry }
+{
+    let (number, words) = words.number()?;
+    words.closed(Line::Event(Event::Deliver(number as u64)))
+}
+
+fn repeat(words: Words<'_>) -> Option<Line>
+    ensures { result ≡ repeat_of words.entry }
+{
+    let (number, words) = words.number()?;
+    words.closed(Line::Event(Event::Repeat(number as u64)))
+}
+
+fn lose(words: Words<'_>) -> Option<Line>
+    ensures { result ≡ lose_of words.entry }
+{
+    let (number, words) = words.number()?;
+    words.closed(Line::Event(Event::Lose(number as u64)))
+}
+
+fn tick(words: Words<'_>) -> Option<Line>
+    ensures { result ≡ tick_of words.entry }
+{
+    let (site, words) = words.number()?;
+    words.closed(Line::Event(Event::Tick { site: SiteId(site) }))
+}
+
+fn restart(words: Words<'_>) -> Option<Line>
+    ensures { result ≡ restart_of words.entry }
+{
+    let (site, words) = words.number()?;
+    words.closed(Line::Event(Event::Restart { site: SiteId(site) }))
+}
+
+fn show(words: Words<'_>) -> Option<Line>
+    ensures { result ≡ show_of words.entry }
+{
+    let (seg, words) = words.number()?;
+    let (index, words) = words.number()?;
+    words.closed(Line::Show(PageId {
+        seg: SegId(seg),
+        index,
+    }))
+}
+
+fn back(words: Words<'_>) -> Option<Line>
+    ensures { result ≡ back_of words.entry }
+{
+    let (count, words) = words.number()?;
+    words.closed(Line::Back(count))
+}

@@ -1,0 +1,114 @@
+use crate::line::Line;
+use crate::spelling_calls::Call;
+use crate::spelling_first::First;
+use shm_model::{Event, Request};
+use std::fmt;
+
+impl fmt::Display for Line {
+    ghost use Rattle.std.specs.Prelude.{Some};
+    ghost use Rattle.shm_lines.specs.Spelling as spelled;
+
+    ghost output = { λ line. Some (spelled.spelling line) };
+
+    /// The line as a script has it, without a line feed.
+    fn fmt<W: fmt::Write>(&self, f: &mut fmt::Formatter<W>) -> fmt::Result {
+        match self {
+            Line::Sites {
+                sites,
+                preset,
+                frames,
+            } => {
+                let first = First {
+                    count: sites.count(),
+                    preset: *preset,
+                    frames: *frames,
+                };
+                write!(f, "{first}")
+            }
+            Line::Event(event) => {
+                let event = Happening(*event);
+                write!(f, "{event}")
+            }
+            Line::Show(page) => {
+                let seg = page.seg.0;
+                let index = page.index;
+                write!(f, "show {seg} {index}")
+            }
+            Line::Back(count) => write!(f, "back {count}"),
+        }
+    }
+}
+
+/// An event, as its line spells it.
+#[derive(Clone, Copy)]
+struct Happening(Event);
+
+impl fmt::Display for Happening {
+    ghost use Rattle.std.specs.Prelude.{Some};
+    ghost use Rattle.std.specs.List.{join_with_byte};
+    ghost use Rattle.shm_lines.specs.Spelling as spelled;
+
+    ghost output = { λ event. Some (join_with_byte 32 (spelled.event_words event.0)) };
+
+    fn fmt<W: fmt::Write>(&self, f: &mut fmt::Formatter<W>) -> fmt::Result {
+        match self.0 {
+            Event::Load { site, at, offset } => {
+                let site = site.0;
+                write!(f, "load {site} {at} {offset}")
+            }
+            Event::Store {
+                site,
+                at,
+                offset,
+                byte,
+            } => {
+                let site = site.0;
+                write!(f, "store {site} {at} {offset} {byte}")
+            }
+            Event::Begin { site, request } => {
+                let request = Asked {
+                    site: site.0,
+                    request,
+                };
+                write!(f, "{request}")
+            }
+            Event::Tick { site } => {
+                let site = site.0;
+                write!(f, "tick {site}")
+            }
+            Event::Restart { site } => {
+                let site = site.0;
+                write!(f, "restart {site}")
+            }
+            Event::Deliver(number) => write!(f, "deliver {number}"),
+            Event::Repeat(number) => write!(f, "repeat {number}"),
+            Event::Lose(number) => write!(f, "lose {number}"),
+        }
+    }
+}
+
+/// What a site is asked to begin, as its line spells it.
+#[derive(Clone, Copy)]
+struct Asked {
+    site: u32,
+    request: Request,
+}
+
+impl fmt::Display for Asked {
+    ghost use Rattle.std.specs.Prelude.{Some};
+    ghost use Rattle.std.specs.List.{join_with_byte};
+    ghost use Rattle.shm_lines.specs.Spelling as spelled;
+
+    ghost output = { λ asked. Some (join_with_byte 32 (spelled.request_words asked.site asked.request)) };
+
+    fn fmt<W: fmt::Write>(&self, f: &mut fmt::Formatter<W>) -> fmt::Result {
+        let site = self.site;
+        match self.request {
+            Request::Op(op) => {
+                let call = Call { site, op };
+                write!(f, "{call}")
+            }
+            Request::DetachAt(at) => write!(f, "detach {site} {at}"),
+        }
+    }
+}

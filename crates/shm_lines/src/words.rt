@@ -1,0 +1,131 @@
+ghost use Rattle.std.specs.Prelude.{◌≡◌, [], ◌∷◌, IfSome, IfNone};
+ghost use Rattle.std.specs.Option.{option_map_or};
+ghost use Rattle.shm_lines.specs.Line as said;
+ghost use Rattle.shm_lines.specs.Words.{words_of, byte_of, mode_of, flags_of, access_of, next_word, next_of, next_number, next_cred, is_end};
+
+use crate::line::Line;
+use crate::mode::{access, flags, mode};
+use crate::number::{byte, number};
+use shm_model::{Cred, GetFlags, Mode};
+use std::marker::Model;
+
+/// The words of a line that are still to be read. One blank parts each from the next.
+#[derive(Drop)]
+pub struct Words<'a> {
+    rest: Option<&'a [u8]>,
+}
+
+impl<'a> Model for Words<'a> {
+    ghost use Rattle.std.specs.Prelude.{ℕ, List, []};
+    ghost use Rattle.std.specs.Option.{option_map_or};
+    ghost use Rattle.shm_lines.specs.Words.{words_of};
+
+    ghost Value = { List (List ℕ) };
+
+    ghost view = { λ words. option_map_or (λ rest. words_of rest.now) words.rest [] };
+}
+
+impl<'a> Words<'a> {
+    /// All words of a line.
+    pub fn of(line: &'a [u8]) -> Words<'a>
+        ensures { result ≡ words_of line.now }
+    {
+        Words { rest: Some(line) }
+    }
+
+    /// The next word, and those after it.
+    pub fn word(self) -> Option<(&'a [u8], Words<'a>)>
+        ensures some { IfSome result (λ r. next_word self.entry ≡ Some (r.0.now, r.1)) }
+        ensures none { IfNone result (next_word self.entry ≡ None) }
+    {
+        let rest = self.rest?;
+        let (word, rest) = split_at_blank(rest);
+        Some((word, Words { rest }))
+    }
+
+    /// The next word as a number, and those after it.
+    pub fn number(self) -> Option<(u32, Words<'a>)>
+        ensures { result ≡ next_number self.entry }
+    {
+        let (word, words) = self.word()?;
+        let value = number(word)?;
+        Some((value, words))
+    }
+
+    /// The next word as a byte, and those after it.
+    pub fn byte(self) -> Option<(u8, Words<'a>)>
+        ensures { result ≡ next_of byte_of self.entry }
+    {
+        let (word, words) = self.word()?;
+        let value = byte(word)?;
+        Some((value, words))
+    }
+
+    /// The next word as a mode, and those after it.
+    pub fn mode(self) -> Option<(Mode, Words<'a>)>
+        ensures { result ≡ next_of mode_of self.entry }
+    {
+        let (word, words) = self.word()?;
+        let value = mode(word)?;
+        Some((value, words))
+    }
+
+    /// The next word as flags, and those after it.
+    pub fn flags(self) -> Option<(GetFlags, Words<'a>)>
+        ensures { result ≡ next_of flags_of self.entry }
+    {
+        let (word, words) = self.word()?;
+        let value = flags(word)?;
+        Some((value, words))
+    }
+
+    /// Whether the next word asks for a read-only attachment, and those after it.
+    pub fn access(self) -> Option<(bool, Words<'a>)>
+        ensures { result ≡ next_of access_of self.entry }
+    {
+        let (word, words) = self.word()?;
+        let value = access(word)?;
+        Some((value, words))
+    }
+
+    /// The next two words as a user and its group, and those after them.
+    pub fn cred(self) -> Option<(Cred, Words<'a>)>
+        ensures { result ≡ next_cred self.entry }
+    {
+        let (uid, words) = self.number()?;
+        let (gid, words) = words.number()?;
+        Some((Cred { uid, gid }, words))
+    }
+
+    /// The line, if no word is left.
+    pub fn closed(self, line: Line) -> Option<Line>
+        ensures { result ≡ said.closed line self.entry }
+    {
+        if !self.is_empty() {
+            return None;
+        }
+        Some(line)
+    }
+
+    /// Whether no word is left.
+    pub fn is_empty(&self) -> bool
+        ensures { result ≡ is_end self.now }
+    {
+        match self.rest {
+            None => true,
+            Some(_) => false,
+        }
+    }
+}
+
+/// What stands before the first blank, and what stands after it if there is one.
+fn split_at_blank(line: &[u8]) -> (&[u8], Option<&[u8]>)
+    ensures { words_of line.now ≡ result.0.now ∷ option_map_or (λ rest. words_of rest.now) result.1 [] }
+{
+    for (at, byte) in line.iter().enumerate() {
+        if *byte == b' ' {
+            return (&line[..at], Some(&line[at + 1..]));
+        }
+    }
+    (line, None)
+}

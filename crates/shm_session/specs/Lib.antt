@@ -1,0 +1,3 @@
+pub mod Checkpoints
+pub mod Opening
+pub mod Standing

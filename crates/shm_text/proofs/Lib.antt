@@ -1,0 +1,4 @@
+pub mod Booked
+pub mod Listing
+pub mod Sending
+pub mod Telling

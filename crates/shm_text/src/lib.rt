@@ -1,0 +1,18 @@
+//! What a debugger says: of an answer, of the envelopes that were sent, and of a page. Each text is said of the definitions' world.
+#![tactic(auto)]
+
+mod answer_text;
+mod copies;
+pub mod laws;
+mod page;
+mod printing;
+mod reply_text;
+mod sent;
+mod stat_text;
+#[cfg(test)]
+mod tests;
+mod text;
+
+pub use answer_text::AnswerText;
+pub use printing::{print_answer, print_page};
+pub use text::Text;
