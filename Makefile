@@ -19,9 +19,10 @@ build:
 test:
 	rt ci 2>&1
 
-# The wrong bodies that the gate leaves out for its time: the prover must refuse each of these, too. Tried in a clone of the last commit.
+# The wrong bodies that the gate leaves out for its time: the prover must refuse each of these, too. Tried in a clone of the last commit,
+# four crates at a time.
 wrong-bodies:
 	set -e; work=$$(mktemp -d); trap 'rm -rf "$$work"' EXIT; git clone -q . "$$work"; cd "$$work"; \
 	for further in crates/*/wrong-bodies; do rm -rf "$${further%wrong-bodies}must-fail"; mv "$$further" "$${further%wrong-bodies}must-fail"; done; \
-	for crate in crates/*; do [ -d "$$crate/must-fail" ] && (cd "$$crate" && rt check > /dev/null); done; \
-	rt must-fail
+	rt all check --jobs 4 > /dev/null; \
+	for further in crates/*/must-fail; do basename "$${further%/must-fail}"; done | xargs -n 1 -P 4 rt must-fail

@@ -1,6 +1,6 @@
 pub mod Limits
+pub mod Notice
 pub mod Script
-pub mod Plain
 pub mod Said
 pub mod Text
 pub mod Promise

@@ -1,13 +1,14 @@
 -- What is said to each line of a script, and what stands after it. Each event's answer is that of the run of the events which stand, from
 -- the beginning; nothing else is remembered.
-use Rattle.std.specs.Prelude.{ℕ, ◌-◌, List, [], ◌∷◌, ◌++◌, codes, length, nat_le, if◌then◌else◌, Option, None, Some}
-use Rattle.std.specs.Fmt.{decimal}
+use Rattle.std.specs.Prelude.{ℕ, ◌-◌, List, [], ◌∷◌, length, nat_le, if◌then◌else◌, Option, None, Some}
 use Rattle.shm_model.specs.World as model
 use Rattle.shm_model.specs.declared.event.Event.{Event}
 use Rattle.shm_lines.specs.declared.line.Line.{Line}
 use Rattle.shm_lines.specs.declared.line.Line.TheVariants as line
 use Rattle.shm_text.specs.Text.{event_text}
 use Rattle.shm_text.specs.Page.{page_text}
+use Rattle.shm_debug.specs.Notice.{notice_text}
+use Rattle.shm_debug.specs.declared.notice.Notice.TheVariants as notice
 use Rattle.shm_session.specs.Standing.{Standing, opening_of, stood, with_event, without_last}
 
 -- an event: its answer, and the envelopes that it sent
@@ -16,11 +17,11 @@ said_to_event s e = event_text (model.next (stood s) e).done.answer (stood (with
 
 -- going back, where so many events stand: how many stand after it, or that there are fewer
 abbrev pub said_to_back : Standing → ℕ → List ℕ
-said_to_back s n = if nat_le n (length s.events) then codes "back " ++ decimal (length s.events - n) else codes "refused 28"
+said_to_back s n = if nat_le n (length s.events) then notice_text (notice.Back (length s.events - n)) else notice_text notice.PastBeginning
 
 -- before the first line nothing stands, and no other line has an answer there
 abbrev pub said : Option Standing → Line → List ℕ
-said s (line.Sites sites preset frames) = codes "ready"
+said s (line.Sites sites preset frames) = notice_text notice.Ready
 said None (line.Event e) = []
 said None (line.Show page) = []
 said None (line.Back n) = []

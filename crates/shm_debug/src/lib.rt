@@ -3,10 +3,10 @@
 
 mod input;
 pub mod laws;
+mod notice;
 mod outcome;
 mod output;
 mod player;
-mod said;
 mod script;
 #[cfg(test)]
 mod tests;

@@ -7,8 +7,8 @@ ghost use Rattle.shm_debug.specs.Replay.{summary_at};
 ghost use Rattle.shm_debug.specs.Said.{said, said_to_back, said_to_event, next, next_back};
 ghost use Rattle.shm_session.specs.Standing.{with_event};
 
+use crate::notice::Notice;
 use crate::outcome::Summary;
-use crate::said::Said;
 use shm_lines::Line;
 use shm_model::Event;
 use shm_session::{BackFault, Session};
@@ -33,7 +33,7 @@ pub fn pass_line<A: Allocator + Copy>(
     match session {
         None => {
             let opened = opened(alloc, line)?;
-            output.tell(number, Said::Ready)?;
+            output.tell(number, Notice::Ready)?;
             *session = Some(opened);
             Ok(())
         }
@@ -105,8 +105,8 @@ fn go_back<A: Allocator + Copy>(
     ensures err { OnErr result (output.new ≡ output.old) }
 {
     match session.back(count) {
-        Ok(left) => output.tell(number, Said::Back(left)),
-        Err(BackFault::PastBeginning) => output.tell(number, Said::PastBeginning),
+        Ok(left) => output.tell(number, Notice::Back(left)),
+        Err(BackFault::PastBeginning) => output.tell(number, Notice::PastBeginning),
         Err(BackFault::OutOfMemory) => Err(AllocError),
     }
 }

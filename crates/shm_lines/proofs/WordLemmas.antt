@@ -1,10 +1,10 @@
 -- The words that blanks leave.
-use Rattle.std.proofs.Common.{◌≡◌, ℕ, ◌+◌, ◌<◌, ◌==◌, Bool, true, false, List, [], ◌∷◌, ◌++◌, length, All, ◌⊎◌, inl, inr, refl, sym, ap, ◌∙◌, take, drop, get_or, take-append-drop}
+use Rattle.std.proofs.Common.{◌≡◌, ℕ, ◌+◌, ◌<◌, Bool, true, false, List, [], ◌∷◌, ◌++◌, length, All, ◌⊎◌, inl, inr, refl, sym, ap, ◌∙◌, take, drop, get_or, take-append-drop}
 use Rattle.std.specs.List.{slice_split, onto_first}
 use Rattle.std.proofs.lemmas.Bool.{cases_Bool}
 use Rattle.std.proofs.lemmas.List.Splits.{slice_split-cons_yes, slice_split-cons_no, slice_split_at}
 use Rattle.std.proofs.lemmas.List.{drop_more}
-use Rattle.shm_lines.specs.Words.{words_of, is_end}
+use Rattle.shm_lines.specs.Words.{is_end}
 
 -- the first part ends at a place where the test passes
 pub slice_split-read : (p : ℕ → Bool) (xs : List ℕ) (i y : ℕ) → i < length xs → y ≡ get_or xs i y → p y ≡ true → All (λ x. p x ≡ false) (take i xs)
@@ -18,11 +18,11 @@ is_end-onto : (x : ℕ) (words : List (List ℕ)) → is_end (onto_first x words
 is_end-onto x [] = refl
 is_end-onto x (word ∷ words) = refl
 
--- each line has a word, be it the empty one
-pub is_end-words : (line : List ℕ) → is_end (words_of line) ≡ false
-is_end-words [] = refl
-is_end-words (x ∷ xs) = go (cases_Bool (x == 32))
+-- there is a first part, be it the empty one
+pub is_end-parts : (p : ℕ → Bool) (xs : List ℕ) → is_end (slice_split p xs) ≡ false
+is_end-parts p [] = refl
+is_end-parts p (x ∷ xs) = go (cases_Bool (p x))
   where
-    go : ((x == 32) ≡ true) ⊎ ((x == 32) ≡ false) → is_end (words_of (x ∷ xs)) ≡ false
-    go (inl e) = ap is_end (slice_split-cons_yes (λ byte. byte == 32) x xs e)
-    go (inr e) = ap is_end (slice_split-cons_no (λ byte. byte == 32) x xs e) ∙ is_end-onto x (words_of xs)
+    go : (p x ≡ true) ⊎ (p x ≡ false) → is_end (slice_split p (x ∷ xs)) ≡ false
+    go (inl e) = ap is_end (slice_split-cons_yes p x xs e)
+    go (inr e) = ap is_end (slice_split-cons_no p x xs e) ∙ is_end-onto x (slice_split p xs)

@@ -16,3 +16,4 @@ mod words;
 
 pub use line::Line;
 pub use parse::{BadLine, parse_line};
+pub use words::{Words, split_at};

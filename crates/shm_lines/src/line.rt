@@ -1,3 +1,4 @@
+//! A line of a script, as data, and where it may stand.
 use shm_model::Event;
 use shm_place::{PageId, Sites};
 

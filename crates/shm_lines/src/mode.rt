@@ -1,3 +1,4 @@
+//! The words for mode bits, for flags, and for whether an attachment reads only.
 ghost use Rattle.std.specs.Prelude.{◌≡◌, ◌-◌, IsTrue};
 ghost use Rattle.std.specs.Char.{is_digit};
 ghost use Rattle.shm_lines.specs.Words;

@@ -1,3 +1,4 @@
+//! How a line is read: its first word says which line it is, and those behind it what it holds.
 ghost use Rattle.std.specs.Prelude.{◌≡◌, ℕ, List, ok_or, codes};
 ghost use Rattle.shm_lines.specs.Words.{next_named};
 ghost use Rattle.shm_lines.specs.Line.{line_of, by_verb, others, sites_of, preset_of, frames_of, load_of, store_of, deliver_of, repeat_of, lose_of, tick_of, restart_of, show_of, back_of};

@@ -1,3 +1,4 @@
+//! How the lines of segment calls are read.
 ghost use Rattle.std.specs.Prelude.{◌≡◌};
 ghost use Rattle.shm_lines.specs.Line as said;
 ghost use Rattle.shm_lines.specs.Line.{by_verb, calls, get_of, attach_of, detach_of, remove_of, set_of, stat_of};

@@ -1,3 +1,4 @@
+//! How a line is spelled: the one spelling that is read back as it.
 use crate::line::Line;
 use crate::spelling_calls::Call;
 use crate::spelling_first::First;

@@ -1,3 +1,4 @@
+//! How the lines of segment calls are spelled.
 use shm_model::{Cred, GetFlags, Mode, Op};
 use shm_place::SegId;
 use std::fmt;

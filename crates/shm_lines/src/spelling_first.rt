@@ -1,3 +1,4 @@
+//! How a script's first line is spelled.
 use std::fmt;
 
 /// How the sites begin, as a script's first line spells it.

@@ -1,4 +1,6 @@
-ghost use Rattle.std.specs.Prelude.{◌≡◌, [], ◌∷◌, IfSome, IfNone};
+//! The words of a line, taken one after another.
+ghost use Rattle.std.specs.List.{slice_split};
+ghost use Rattle.std.specs.Prelude.{◌≡◌, ◌==◌, ◌<◌, [], ◌∷◌, length, IfSome, IfNone};
 ghost use Rattle.std.specs.Option.{option_map_or};
 ghost use Rattle.shm_lines.specs.Line as said;
 ghost use Rattle.shm_lines.specs.Words.{words_of, byte_of, mode_of, flags_of, access_of, next_word, next_of, next_number, next_cred, is_end};
@@ -39,7 +41,7 @@ impl<'a> Words<'a> {
         ensures none { IfNone result (next_word self.entry ≡ None) }
     {
         let rest = self.rest?;
-        let (word, rest) = split_at_blank(rest);
+        let (word, rest) = split_at(rest, b' ');
         Some((word, Words { rest }))
     }
 
@@ -118,14 +120,15 @@ impl<'a> Words<'a> {
     }
 }
 
-/// What stands before the first blank, and what stands after it if there is one.
-fn split_at_blank(line: &[u8]) -> (&[u8], Option<&[u8]>)
-    ensures { words_of line.now ≡ result.0.now ∷ option_map_or (λ rest. words_of rest.now) result.1 [] }
+/// What stands before the first separator, and what stands after it if there is one.
+pub fn split_at(bytes: &[u8], separator: u8) -> (&[u8], Option<&[u8]>)
+    ensures parts { slice_split (λ byte. byte == separator) bytes.now ≡ result.0.now ∷ option_map_or (λ rest. slice_split (λ byte. byte == separator) rest.now) result.1 [] }
+    ensures shorter { IfSome result.1 (λ rest. length rest.now < length bytes.now) }
 {
-    for (at, byte) in line.iter().enumerate() {
-        if *byte == b' ' {
-            return (&line[..at], Some(&line[at + 1..]));
+    for (at, byte) in bytes.iter().enumerate() {
+        if *byte == separator {
+            return (&bytes[..at], Some(&bytes[at + 1..]));
         }
     }
-    (line, None)
+    (bytes, None)
 }

@@ -2,7 +2,7 @@ use std::fmt;
 
 /// What is said to a line that asks no site for anything.
 #[derive(Clone, Copy, Debug)]
-pub enum Said {
+pub enum Notice {
     /// The sites stand.
     Ready,
     /// So many events stand after going back.
@@ -11,17 +11,17 @@ pub enum Said {
     PastBeginning,
 }
 
-impl fmt::Display for Said {
+impl fmt::Display for Notice {
     ghost use Rattle.std.specs.Prelude.{Some};
-    ghost use Rattle.shm_debug.specs.Plain.{plain_text};
+    ghost use Rattle.shm_debug.specs.Notice.{notice_text};
 
-    ghost output = { λ said. Some (plain_text said) };
+    ghost output = { λ notice. Some (notice_text notice) };
 
     fn fmt<W: fmt::Write>(&self, f: &mut fmt::Formatter<W>) -> fmt::Result {
         match self {
-            Said::Ready => write!(f, "ready"),
-            Said::Back(left) => write!(f, "back {left}"),
-            Said::PastBeginning => write!(f, "refused 28"),
+            Notice::Ready => write!(f, "ready"),
+            Notice::Back(left) => write!(f, "back {left}"),
+            Notice::PastBeginning => write!(f, "refused 28"),
         }
     }
 }
