@@ -1,0 +1,17 @@
+use thiserror::Error;
+
+/// Why there is no workload. Lines count from 1.
+#[derive(Clone, Copy, Debug, PartialEq, Eq, Error)]
+pub enum WorkloadFault {
+    #[error("out of memory")]
+    OutOfMemory,
+    /// The line isn't one that may stand there, or the last one has no line feed.
+    #[error("line {0}: bad line")]
+    BadLine(u64),
+    /// The line has more than 200 bytes.
+    #[error("line {0}: too long")]
+    LineTooLong(u64),
+    /// Something stands after line 10,000.
+    #[error("too many lines")]
+    TooManyLines,
+}
