@@ -8,30 +8,30 @@ use Rattle.shm_lines.specs.Words.{◌>>=◌, words_of, byte_of, next_word, next_
 use Rattle.shm_workload.specs.Limits.{max_line_bytes, max_lines}
 use Rattle.shm_workload.specs.declared.fault.WorkloadFault.{WorkloadFault}
 use Rattle.shm_workload.specs.declared.fault.WorkloadFault.TheVariants.{BadLine, LineTooLong, TooManyLines}
-use Rattle.shm_workload.specs.declared.work.Work.{Work}
-use Rattle.shm_workload.specs.declared.work.Work.TheVariants.{Load, Store}
+use Rattle.shm_workload.specs.declared.access.Access.{Access}
+use Rattle.shm_workload.specs.declared.access.Access.TheVariants.{Load, Store}
 
 -- there is such a site, and segment 0 has a byte there
 abbrev pub is_inside : ℕ → ℕ → ℕ → ℕ → Bool
 is_inside sites size site offset = nat_lt site sites && nat_lt offset (size * page_bytes)
 
 -- `load site offset`
-abbrev pub load_of : ℕ → ℕ → List (List ℕ) → Option Work
+abbrev pub load_of : ℕ → ℕ → List (List ℕ) → Option Access
 load_of sites size words = do
   (site, words) ← next_number words
   (offset, words) ← next_number words
   if is_end words && is_inside sites size site offset then Some (Load site offset) else None
 
 -- `store site offset byte`
-abbrev pub store_of : ℕ → ℕ → List (List ℕ) → Option Work
+abbrev pub store_of : ℕ → ℕ → List (List ℕ) → Option Access
 store_of sites size words = do
   (site, words) ← next_number words
   (offset, words) ← next_number words
   (byte, words) ← next_of byte_of words
   if is_end words && is_inside sites size site offset then Some (Store site offset byte) else None
 
-abbrev pub work_of : ℕ → ℕ → List ℕ → Option Work
-work_of sites size line = do
+abbrev pub access_of : ℕ → ℕ → List ℕ → Option Access
+access_of sites size line = do
   (verb, words) ← next_word (words_of line)
   if bytes_eq verb (codes "load") then load_of sites size words
       else if bytes_eq verb (codes "store") then store_of sites size words
@@ -66,45 +66,45 @@ read_line read number bytes = unless_broken (broken_limit number bytes) (or_bad 
 abbrev pub open_line : ℕ → List ℕ → WorkloadFault
 open_line number bytes = unwrap_or (broken_limit number bytes) (BadLine number)
 
--- this work, and then the rest
-abbrev pub then_rest : Result Work WorkloadFault → Result (List Work) WorkloadFault → Result (List Work) WorkloadFault
+-- this access, and then the rest
+abbrev pub then_rest : Result Access WorkloadFault → Result (List Access) WorkloadFault → Result (List Access) WorkloadFault
 then_rest (Err fault) rest = Err fault
-then_rest (Ok work) (Err fault) = Err fault
-then_rest (Ok work) (Ok works) = Ok (work ∷ works)
+then_rest (Ok access) (Err fault) = Err fault
+then_rest (Ok access) (Ok accesses) = Ok (access ∷ accesses)
 
 -- from the line of this number on, in the parts that the line feeds leave
-abbrev pub works_on : ℕ → ℕ → ℕ → List (List ℕ) → Result (List Work) WorkloadFault
-works_on sites size number [] = Ok []
-works_on sites size number (rest ∷ []) = if length rest == 0 then Ok [] else Err (open_line number rest)
-works_on sites size number (bytes ∷ next ∷ others) =
-    then_rest (read_line (work_of sites size) number bytes) (works_on sites size (number + 1) (next ∷ others))
+abbrev pub accesses_on : ℕ → ℕ → ℕ → List (List ℕ) → Result (List Access) WorkloadFault
+accesses_on sites size number [] = Ok []
+accesses_on sites size number (rest ∷ []) = if length rest == 0 then Ok [] else Err (open_line number rest)
+accesses_on sites size number (bytes ∷ next ∷ others) =
+    then_rest (read_line (access_of sites size) number bytes) (accesses_on sites size (number + 1) (next ∷ others))
 
--- these works, and then the rest
-abbrev pub prefixed : List Work → Result (List Work) WorkloadFault → Result (List Work) WorkloadFault
+-- these accesses, and then the rest
+abbrev pub prefixed : List Access → Result (List Access) WorkloadFault → Result (List Access) WorkloadFault
 prefixed before (Err fault) = Err fault
-prefixed before (Ok works) = Ok (before ++ works)
+prefixed before (Ok accesses) = Ok (before ++ accesses)
 
 abbrev pub parts_of : List ℕ → List (List ℕ)
 parts_of bytes = slice_split (λ byte. byte == 10) bytes
 
 -- how many pages there are, and what is done, in the order of the lines
-pub record Works : Type 0 where
+pub record Whole : Type 0 where
   pub size : ℕ
-  pub works : List Work
+  pub accesses : List Access
 
-abbrev pub with_size : ℕ → Result (List Work) WorkloadFault → Result Works WorkloadFault
+abbrev pub with_size : ℕ → Result (List Access) WorkloadFault → Result Whole WorkloadFault
 with_size size (Err fault) = Err fault
-with_size size (Ok works) = Ok (record { size = size; works = works })
+with_size size (Ok accesses) = Ok (record { size = size; accesses = accesses })
 
 -- what follows a first line that was read so
-abbrev pub after_first : ℕ → Result ℕ WorkloadFault → List (List ℕ) → Result Works WorkloadFault
+abbrev pub after_first : ℕ → Result ℕ WorkloadFault → List (List ℕ) → Result Whole WorkloadFault
 after_first sites (Err fault) others = Err fault
-after_first sites (Ok size) others = with_size size (works_on sites size 2 others)
+after_first sites (Ok size) others = with_size size (accesses_on sites size 2 others)
 
-abbrev pub read_all : ℕ → List (List ℕ) → Result Works WorkloadFault
+abbrev pub read_all : ℕ → List (List ℕ) → Result Whole WorkloadFault
 read_all sites [] = Err (BadLine 1)
 read_all sites (rest ∷ []) = Err (open_line 1 rest)
 read_all sites (first ∷ next ∷ others) = after_first sites (read_line preset_of 1 first) (next ∷ others)
 
-abbrev pub workload_of : ℕ → List ℕ → Result Works WorkloadFault
+abbrev pub workload_of : ℕ → List ℕ → Result Whole WorkloadFault
 workload_of sites bytes = read_all sites (parts_of bytes)

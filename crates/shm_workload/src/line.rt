@@ -2,8 +2,8 @@
 ghost use Rattle.std.specs.Prelude.{◌≡◌, ◌≤◌};
 ghost use Rattle.shm_workload.specs.Workload as said;
 
+use crate::access::Access;
 use crate::fault::WorkloadFault;
-use crate::work::Work;
 use shm_lines::Words;
 use shm_place::{PAGE_BYTES, PAGES, SiteId, Sites};
 
@@ -27,20 +27,20 @@ pub(crate) fn first_line(line: &[u8]) -> Result<u32, WorkloadFault>
 }
 
 /// A further line: what a caller does.
-pub(crate) fn work_line(
+pub(crate) fn access_line(
     sites: Sites,
     size: u32,
     number: u64,
     line: &[u8],
-) -> Result<Work, WorkloadFault>
+) -> Result<Access, WorkloadFault>
     requires { size ≤ 256 }
-    ensures { result ≡ said.read_line (said.work_of sites size) number line.now }
+    ensures { result ≡ said.read_line (said.access_of sites size) number line.now }
 {
     if let Some(fault) = broken_limit(number, line) {
         return Err(fault);
     }
-    match work_of(sites, size, line) {
-        Some(work) => Ok(work),
+    match access_of(sites, size, line) {
+        Some(access) => Ok(access),
         None => Err(WorkloadFault::BadLine(number)),
     }
 }
@@ -81,9 +81,9 @@ fn preset_of(line: &[u8]) -> Option<u32>
     Some(size)
 }
 
-fn work_of(sites: Sites, size: u32, line: &[u8]) -> Option<Work>
+fn access_of(sites: Sites, size: u32, line: &[u8]) -> Option<Access>
     requires { size ≤ 256 }
-    ensures { result ≡ said.work_of sites size line.now }
+    ensures { result ≡ said.access_of sites size line.now }
 {
     let (verb, words) = Words::of(line).word()?;
     if verb == b"load".as_slice() {
@@ -95,7 +95,7 @@ fn work_of(sites: Sites, size: u32, line: &[u8]) -> Option<Work>
     None
 }
 
-fn load(sites: Sites, size: u32, words: Words<'_>) -> Option<Work>
+fn load(sites: Sites, size: u32, words: Words<'_>) -> Option<Access>
     requires { size ≤ 256 }
     ensures { result ≡ said.load_of sites size words.entry }
 {
@@ -104,13 +104,13 @@ fn load(sites: Sites, size: u32, words: Words<'_>) -> Option<Work>
     if !words.is_empty() || !is_inside(sites, size, site, offset) {
         return None;
     }
-    Some(Work::Load {
+    Some(Access::Load {
         site: SiteId(site),
         offset,
     })
 }
 
-fn store(sites: Sites, size: u32, words: Words<'_>) -> Option<Work>
+fn store(sites: Sites, size: u32, words: Words<'_>) -> Option<Access>
     requires { size ≤ 256 }
     ensures { result ≡ said.store_of sites size words.entry }
 {
@@ -120,7 +120,7 @@ fn store(sites: Sites, size: u32, words: Words<'_>) -> Option<Work>
     if !words.is_empty() || !is_inside(sites, size, site, offset) {
         return None;
     }
-    Some(Work::Store {
+    Some(Access::Store {
         site: SiteId(site),
         offset,
         byte,

@@ -1,4 +1,4 @@
-use crate::{Work, WorkloadFault, parse_workload};
+use crate::{Access, WorkloadFault, parse_workload};
 use linked_list_allocator::LocalHeap;
 use shm_place::{SiteId, Sites};
 use std::test::Fail;
@@ -14,17 +14,17 @@ fn what_callers_do(rt: HostRuntime) -> Result<(), Fail> {
     let Ok(workload) = parse_workload(rt.alloc(), sites()?, text) else {
         return Err("a workload".into());
     };
-    let store = Work::Store {
+    let store = Access::Store {
         site: SiteId(1),
         offset: 8191,
         byte: 7,
     };
-    let load = Work::Load {
+    let load = Access::Load {
         site: SiteId(2),
         offset: 0,
     };
-    assert_eq!(rt; workload.size, 2);
-    assert_eq!(rt; workload.works.as_slice(), [store, load].as_slice());
+    assert_eq!(rt; workload.pages, 2);
+    assert_eq!(rt; workload.accesses.as_slice(), [store, load].as_slice());
     drop(workload);
     Ok(())
 }

@@ -1,11 +1,11 @@
 //! A whole workload.
 ghost use Rattle.std.specs.Prelude.{◌≡◌, ◌≢◌, ◌≤◌, ◌⊎◌, Ok, Err, length, IfErr, IfOk};
-ghost use Rattle.shm_workload.specs.Workload.{open_line, parts_of, with_size, workload_of, works_on};
+ghost use Rattle.shm_workload.specs.Workload.{open_line, parts_of, with_size, workload_of, accesses_on};
 ghost use Rattle.shm_workload.specs.declared.fault.WorkloadFault.TheVariants as cause;
 
+use crate::access::Access;
 use crate::fault::WorkloadFault;
-use crate::line::{first_line, open_line, work_line};
-use crate::work::Work;
+use crate::line::{access_line, first_line, open_line};
 use shm_lines::split_at;
 use shm_place::Sites;
 use std::alloc::{Allocator, Global};
@@ -14,9 +14,9 @@ use std::alloc::{Allocator, Global};
 #[derive(Drop)]
 pub struct Workload<A: Allocator = Global> {
     /// How many pages segment 0 has, 1 to 256.
-    pub size: u32,
+    pub pages: u32,
     /// What is done, in the order of the lines, the first of which is line 2.
-    pub works: Vec<Work, A>,
+    pub accesses: Vec<Access, A>,
 }
 
 /// Reads a workload for so many sites.
@@ -25,8 +25,8 @@ pub fn parse_workload<A: Allocator>(
     sites: Sites,
     bytes: &[u8],
 ) -> Result<Workload<A>, WorkloadFault>
-    ensures ok { IfOk result (λ workload. workload_of sites bytes.now ≡ Ok (record { size = workload.size; works = workload.works.items })) }
-    ensures size { IfOk result (λ workload. (1 ≤ workload.size) × (workload.size ≤ 256)) }
+    ensures ok { IfOk result (λ workload. workload_of sites bytes.now ≡ Ok (record { size = workload.pages; accesses = workload.accesses.items })) }
+    ensures size { IfOk result (λ workload. (1 ≤ workload.pages) × (workload.pages ≤ 256)) }
     ensures err { IfErr result (λ fault. (fault ≡ cause.OutOfMemory) ⊎ (workload_of sites bytes.now ≡ Err fault)) }
 {
     let (first, rest) = split_at(bytes, b'\n');
@@ -47,20 +47,20 @@ fn further_lines<A: Allocator>(
     bytes: &[u8],
 ) -> Result<Workload<A>, WorkloadFault>
     requires { size ≤ 256 }
-    ensures size { IfOk result (λ workload. workload.size ≡ size) }
-    ensures ok { IfOk result (λ workload. with_size size (works_on sites size 2 (parts_of bytes.now)) ≡ Ok (record { size = workload.size; works = workload.works.items })) }
-    ensures err { IfErr result (λ fault. (fault ≡ cause.OutOfMemory) ⊎ (works_on sites size 2 (parts_of bytes.now) ≡ Err fault)) }
+    ensures size { IfOk result (λ workload. workload.pages ≡ size) }
+    ensures ok { IfOk result (λ workload. with_size size (accesses_on sites size 2 (parts_of bytes.now)) ≡ Ok (record { size = workload.pages; accesses = workload.accesses.items })) }
+    ensures err { IfErr result (λ fault. (fault ≡ cause.OutOfMemory) ⊎ (accesses_on sites size 2 (parts_of bytes.now) ≡ Err fault)) }
 {
-    let mut works = Vec::new(alloc);
+    let mut accesses = Vec::new(alloc);
     let mut rest = bytes;
     'lines: loop {
-        let number = works.len() as u64 + 2;
+        let number = accesses.len() as u64 + 2;
         let (line, others) = split_at(rest, b'\n');
         let Some(others) = others else {
-            return ended(size, works, number, line);
+            return ended(size, accesses, number, line);
         };
-        match work_line(sites, size, number, line) {
-            Ok(work) => match works.push(work) {
+        match access_line(sites, size, number, line) {
+            Ok(access) => match accesses.push(access) {
                 Ok(()) => {}
                 Err(_) => return Err(WorkloadFault::OutOfMemory),
             },
@@ -73,15 +73,18 @@ fn further_lines<A: Allocator>(
 /// The workload that ends with this, which has no line feed.
 fn ended<A: Allocator>(
     size: u32,
-    works: Vec<Work, A>,
+    accesses: Vec<Access, A>,
     number: u64,
     rest: &[u8],
 ) -> Result<Workload<A>, WorkloadFault>
-    ensures ok { IfOk result (λ workload. (workload.size ≡ size) × (workload.works ≡ works) × (length rest.now ≡ 0)) }
+    ensures ok { IfOk result (λ workload. (workload.pages ≡ size) × (workload.accesses ≡ accesses) × (length rest.now ≡ 0)) }
     ensures err { IfErr result (λ fault. (fault ≡ open_line number rest.now) × (length rest.now ≢ 0)) }
 {
     if rest.is_empty() {
-        return Ok(Workload { size, works });
+        return Ok(Workload {
+            pages: size,
+            accesses,
+        });
     }
     Err(open_line(number, rest))
 }

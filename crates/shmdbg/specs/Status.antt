@@ -1,5 +1,5 @@
 -- Exit statuses, and what each tells of the script on standard input and of the text on standard output.
-use Rattle.std.specs.Prelude.{◌≡◌, ℕ, List, [], Option, Result, Ok, Err}
+use Rattle.std.specs.Prelude.{◌≡◌, ℕ, true, List, [], Option, Result, Ok, Err}
 use Rattle.std.specs.Io.KnownBytes.{Appends}
 use Rattle.clap.specs.Words.{Text, fault_of}
 use Rattle.shm_debug.specs.Script.{Script}
@@ -7,8 +7,9 @@ use Rattle.shm_debug.specs.Replay.{Ends}
 use Rattle.shm_debug.specs.declared.outcome.Summary.{Summary}
 use Rattle.shm_debug.specs.declared.outcome.DebugFault.{DebugFault}
 use Rattle.shm_debug.specs.declared.outcome.DebugFault.TheVariants.{OutOfMemory, BadLine, LineTooLong, TooManyLines, ReadFault, WriteFault}
-use Rattle.shmdbg.specs.Words.{app, task_of}
-use Rattle.shmdbg.specs.declared.words.Task.TheVariants.{Replay}
+use Rattle.shm_report.specs.declared.report_fault.ReportFault.{ReportFault}
+use Rattle.shm_report.specs.declared.report_fault.ReportFault.TheVariants as report
+use Rattle.shmdbg.specs.Words.{app, asks_replay}
 
 -- the script is wrong, or something else failed
 abbrev pub fault_status : DebugFault → ℕ
@@ -19,13 +20,31 @@ fault_status OutOfMemory = 3
 fault_status ReadFault = 3
 fault_status WriteFault = 3
 
+-- the workload is wrong; the run was not what an audit accepts, or gave up; or something else failed
+abbrev pub run_status : ReportFault → ℕ
+run_status (report.BadLine number) = 1
+run_status (report.LineTooLong number) = 1
+run_status report.TooManyLines = 1
+run_status (report.GaveUp number) = 4
+run_status report.Logs = 4
+run_status (report.Audit cause) = 4
+run_status report.OutOfMemory = 3
+run_status report.ReadFault = 3
+run_status report.WriteFault = 3
+run_status report.NoThread = 3
+run_status report.ClockEnd = 3
+
 abbrev pub status_of : Result Summary DebugFault → ℕ
 status_of (Ok summary) = 0
 status_of (Err fault) = fault_status fault
 
--- the program takes the words, and they ask for a replay
+-- the program takes the words
+abbrev pub Takes : List Text → Type 0
+Takes words = fault_of app words ≡ []
+
+-- and they ask for a replay
 abbrev pub AsksReplay : List Text → Type 0
-AsksReplay words = (fault_of app words ≡ []) × (task_of words ≡ Replay)
+AsksReplay words = Takes words × (asks_replay words ≡ true)
 
 -- the script was replayed to an end of this status, and what was then written is what such an end writes
 abbrev pub Replays : Script → ℕ → Option (List ℕ) → Option (List ℕ) → Type 0

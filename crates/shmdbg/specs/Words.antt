@@ -1,7 +1,8 @@
 -- The words that the program takes, as clap reads them: `replay`, or `run --sites N --seed S`.
-use Rattle.std.specs.Prelude.{true, List, [], Option, Some, None, codes, pos, if◌then◌else◌}
+use Rattle.std.specs.Prelude.{Bool, true, false, List, [], Some, codes, pos}
+use Rattle.std.specs.Option.{option_map_or}
 use Rattle.std.specs.Str.{bytes_eq}
-use Rattle.clap.specs.Words.{App, Row, Rule, Shape, Text, new_app, new_rule, subcommand_of, with_rule, with_subcommand}
+use Rattle.clap.specs.Words.{App, Rule, Shape, Text, new_app, new_rule, subcommand_of, with_rule, with_subcommand}
 use Rattle.clap.specs.declared.builder.action.ArgAction.TheVariants.{Set}
 use Rattle.clap.specs.declared.builder.value_parser.ValueParser.{ValueParser}
 use Rattle.clap.specs.declared.builder.value_parser.ValueParser.TheVariants.{Signed}
@@ -31,10 +32,10 @@ bare_app = record { top = record (new_app (codes "shmdbg")).top { subcommand_req
 abbrev pub app : App
 app = with_subcommand (with_subcommand bare_app replay_shape) run_shape
 
-abbrev pub task_named : Option (Text × List Row) → Task
-task_named (Some (name, _)) = if bytes_eq name (codes "replay") then Replay else Run
-task_named None = Run
+-- the words ask for a replay, where the program takes them; the first is its name
+abbrev pub asks_replay : List Text → Bool
+asks_replay words = option_map_or (λ named. bytes_eq named.0 (codes "replay")) (subcommand_of app words) false
 
--- what words ask for that the program takes; the first is its name
-abbrev pub task_of : List Text → Task
-task_of words = task_named (subcommand_of app words)
+abbrev pub is_replay : Task → Bool
+is_replay Replay = true
+is_replay (Run sites seed) = false

@@ -10,14 +10,15 @@ answers each line of it. Input comes from standard input alone:
     2 fault m0>0:Ask
     3 took m1>0:Hand
 
-`shmdbg replay --help` tells what a script may say.
+`shmdbg replay --help` tells what a script may say, `shmdbg run --help` what a
+workload may.
 
 Exit status:
   0  done
-  1  the script has a fault; standard error tells its line
+  1  the script or workload has a fault; standard error tells its line
   2  these words were refused, or asked for help; nothing was read
-  3  memory, reading or writing failed
-  4  kept for `run`, which isn't built yet";
+  3  memory, reading, writing or a thread failed
+  4  a run gave up, or its audit found a cause";
 
 /// Of a replay: the lines of a script.
 pub const REPLAY: &str = "\
@@ -44,3 +45,25 @@ Output: the line's number, the answer, each envelope sent as mK>SITE:KIND.
   3 byte 7
 Exit status: 0 done, 1 the script has a fault, 2 these words were refused,
 3 memory, reading or writing failed.";
+
+/// Of a run: the lines of a workload.
+pub const RUN: &str = "\
+Runs each of N sites in a thread of its own, with a network that loses and
+repeats messages. First line (segment 0 of P pages of 4096 bytes):
+  preset P
+Then at most 9,999 lines of these, for a site S; one caller for each site runs
+the site's lines in their order:
+  load S OFFSET         read a byte
+  store S OFFSET BYTE   write a byte
+Nothing is printed until all lines are done, the sites have stopped, and an
+audit of their logs has found one order of all steps in which each load gives
+the byte that was stored last:
+  $ printf 'preset 1\\nstore 0 0 7\\nload 1 0\\n' | shmdbg run --sites 2 --seed 1
+  1 ready
+  2 stored
+  3 byte 7
+  audit yes
+Lines of two sites have no order between them: line 3 may also tell byte 0.
+Exit status: 0 done, 1 the workload has a fault, 2 these words were refused,
+3 memory, reading, writing or a thread failed, 4 the run gave up or its audit
+found a cause.";

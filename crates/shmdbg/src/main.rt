@@ -1,4 +1,4 @@
-//! `shmdbg`: the command line of the debugger. `shmdbg replay` replays a script from standard input.
+//! `shmdbg`: the command line of the debugger. `shmdbg replay` replays a script from standard input, and `shmdbg run` runs a workload.
 #![tactic(auto)]
 
 mod help;

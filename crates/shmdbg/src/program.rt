@@ -1,38 +1,66 @@
-ghost use Rattle.std.specs.Prelude.{◌≡◌, ◌≢◌, ◌<◌, ℕ, List, [], ◌∷◌, codes, map, IfSome};
+ghost use Rattle.std.specs.Prelude.{◌≡◌, ◌≢◌, ◌<◌, ℕ, List, [], ◌∷◌, codes, false, map, IfSome};
 ghost use Rattle.shm_debug.specs.Script.{script_of};
-ghost use Rattle.shmdbg.specs.Status.{AsksReplay, Replays};
+ghost use Rattle.shmdbg.specs.Status.{AsksReplay, Replays, Takes};
+ghost use Rattle.shmdbg.specs.Words.{asks_replay};
 
 use crate::tell;
 use crate::words::{Task, parse_words};
 use shm_debug::replay;
+use shm_place::Sites;
+use shm_report::{ReportFault, report};
 use std::convert::AsStr;
 use std::io::{Read, Write};
+use std::sync::Wait;
+use std::thread::Threads;
 
 /// Does what the words ask for, and answers the exit status: 0 done, 1 the script has a fault, 2 the words were refused,
-/// 3 memory, reading or writing failed. At 1 and 3 one line goes to `errors`, at 2 the parser's text.
-pub fn run_words<R: AllocGlobal, S: AsStr, I: Read, O: Write, E: Write>(
-    rt: &R,
-    words: &[S],
-    reader: &mut I,
-    out: &mut O,
-    errors: &mut E,
-) -> u8
-    ensures range { result < 4 }
-    ensures asked { result < 2 → AsksReplay (map S.text words.now) }
-    ensures taken { AsksReplay (map S.text words.now) → result ≢ 2 }
+/// 3 memory, reading or writing failed, or a site's clock ended, or there was no thread, 4 a run was not what an audit accepts, or gave
+/// up. At 2 the parser's text goes to `errors`, at 1, 3 and 4 one line.
+pub fn run_words<
+    R: AllocGlobal + Threads + Wait + Copy + Send + Sync + 'static,
+    S: AsStr,
+    I: Read,
+    O: Write,
+    E: Write,
+>(rt: &R, words: &[S], reader: &mut I, out: &mut O, errors: &mut E) -> u8
+    ensures range { result < 5 }
+    ensures asked { result < 2 → Takes (map S.text words.now) }
+    ensures taken { Takes (map S.text words.now) → result ≢ 2 }
     ensures plain { (name : List ℕ) → map S.text words.now ≡ name ∷ codes "replay" ∷ [] → result ≢ 2 }
-    ensures replayed { result ≢ 2 → IfSome (I.remaining reader.old) (λ bytes.
+    ensures replayed { AsksReplay (map S.text words.now) → IfSome (I.remaining reader.old) (λ bytes.
         Replays (script_of bytes) result (O.contents out.old) (O.contents out.new)) }
+    ensures audit { result ≡ 4 → asks_replay (map S.text words.now) ≡ false }
     ensures nothing_read { result ≡ 2 → reader.new ≡ reader.old }
     ensures nothing_written { result ≡ 2 → out.new ≡ out.old }
 {
     match parse_words(rt.alloc(), words) {
         Ok(Task::Replay) => {}
-        Ok(Task::Run) => return tell::no_run(errors),
+        Ok(Task::Run { sites, seed }) => return run(rt, sites, seed, reader, out, errors),
         Err(error) => return tell::refused_words(&error, errors),
     }
     match replay(rt.alloc(), reader, out) {
         Ok(_) => 0,
         Err(fault) => tell::fault(fault, errors),
+    }
+}
+
+/// Runs a workload, and answers the exit status. The words that were taken have 1 to 16 sites: no run would stand for another number.
+fn run<R: AllocGlobal + Threads + Wait + Copy + Send + Sync + 'static, I: Read, O: Write, E: Write>(
+    rt: &R,
+    sites: u32,
+    seed: u32,
+    reader: &mut I,
+    out: &mut O,
+    errors: &mut E,
+) -> u8
+    ensures range { result < 5 }
+    ensures taken { result ≢ 2 }
+{
+    let Ok(sites) = Sites::new(sites) else {
+        return tell::run_fault(ReportFault::Logs, errors);
+    };
+    match report(rt, rt.alloc(), sites, seed, reader, out) {
+        Ok(()) => 0,
+        Err(fault) => tell::run_fault(fault, errors),
     }
 }

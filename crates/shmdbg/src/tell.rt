@@ -3,14 +3,12 @@ ghost use Rattle.std.specs.IoError.{error_kind};
 ghost use Rattle.std.specs.declared.io.ErrorKind.TheVariants as io_kind;
 ghost use Rattle.clap.specs.Words.{kind_of};
 ghost use Rattle.clap.specs.declared.error.kind.ErrorKind.TheVariants as kind;
-ghost use Rattle.shmdbg.specs.Status.{fault_status};
+ghost use Rattle.shmdbg.specs.Status.{fault_status, run_status};
 
 use clap::error::ErrorKind;
 use shm_debug::DebugFault;
+use shm_report::ReportFault;
 use std::io::{self, Write};
-
-/// What is told on standard error where the words ask for a run.
-const NO_RUN: &str = "error: `run` is not built yet\n";
 
 /// The exit status where a replay ended by this fault. Its one line goes to `errors`; a failure to write it is passed over.
 pub fn fault<E: Write>(fault: DebugFault, errors: &mut E) -> u8
@@ -35,12 +33,20 @@ pub fn refused_words<E: Write>(error: &clap::Error, errors: &mut E) -> u8
     2
 }
 
-/// The exit status where the words ask for a run.
-pub fn no_run<E: Write>(errors: &mut E) -> u8
-    ensures status { result ≡ 2 }
+/// The exit status where a run ended by this fault. Its one line goes to `errors`.
+pub fn run_fault<E: Write>(fault: ReportFault, errors: &mut E) -> u8
+    ensures status { result ≡ run_status fault }
 {
-    let _ = errors.write_all(NO_RUN.as_bytes());
-    2
+    let _ = writeln!(errors, "shmdbg: {fault}");
+    match fault {
+        ReportFault::BadLine(_) | ReportFault::LineTooLong(_) | ReportFault::TooManyLines => 1,
+        ReportFault::GaveUp(_) | ReportFault::Logs | ReportFault::Audit(_) => 4,
+        ReportFault::OutOfMemory
+        | ReportFault::ReadFault
+        | ReportFault::WriteFault
+        | ReportFault::NoThread
+        | ReportFault::ClockEnd => 3,
+    }
 }
 
 /// The exit status where the process's words could not be read: memory was refused, or a word is no UTF-8.

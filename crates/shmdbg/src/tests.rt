@@ -1,9 +1,13 @@
 mod rows;
+mod runs;
 mod streams;
 mod words;
 
 use crate::program::run_words;
 use std::io::Read;
+use std::process::Abort;
+use std::sync::Wait;
+use std::thread::Threads;
 
 /// What a call of the program came to.
 #[derive(Drop)]
@@ -14,7 +18,11 @@ struct Ran {
 }
 
 /// Runs the program with these words, with its output in memory.
-fn run_over<I: Read>(rt: &HostRuntime, words: &[&str], reader: &mut I) -> Ran {
+fn run_over<R: AllocGlobal + Threads + Wait + Copy + Send + Sync + 'static, I: Read>(
+    rt: &R,
+    words: &[&str],
+    reader: &mut I,
+) -> Ran {
     let mut out = Vec::new(rt.alloc());
     let mut errors = Vec::new(rt.alloc());
     let status = run_words(rt, words, reader, &mut out, &mut errors);
@@ -26,7 +34,17 @@ fn run_over<I: Read>(rt: &HostRuntime, words: &[&str], reader: &mut I) -> Ran {
 }
 
 /// Replays a script that lies in memory.
-fn replay_bytes(rt: &HostRuntime, script: &[u8]) -> Ran {
+fn replay_bytes<R: AllocGlobal + Threads + Wait + Copy + Send + Sync + 'static>(
+    rt: &R,
+    script: &[u8],
+) -> Ran {
     let mut reader = script;
     run_over(rt, &["shmdbg", "replay"], &mut reader)
+}
+
+/// What a call is to come to: its status, its text, and what is told of its fault.
+fn expect(rt: &impl Abort, ran: &Ran, status: u8, out: &[u8], errors: &[u8]) {
+    assert_eq!(rt; ran.status, status);
+    assert_eq!(rt; ran.out.as_slice(), out);
+    assert_eq!(rt; ran.errors.as_slice(), errors);
 }

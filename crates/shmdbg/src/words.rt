@@ -1,9 +1,10 @@
-ghost use Rattle.std.specs.Prelude.{◌≡◌, false, map, IfOk};
-ghost use Rattle.clap.specs.Words.{FailsBy, app_of, fault_of, rule_of};
-ghost use Rattle.shmdbg.specs.Words.{app, seed_rule, sites_rule, task_of};
+ghost use Rattle.std.specs.Prelude.{◌≡◌, false, map, IfErr, IfOk};
+ghost use Rattle.clap.specs.Words.{FailsBy, app_of, fault_of, kind_of, rule_of};
+ghost use Rattle.clap.specs.declared.error.kind.ErrorKind.TheVariants as kind;
+ghost use Rattle.shmdbg.specs.Words.{app, asks_replay, is_replay, seed_rule, sites_rule};
 
 use crate::help;
-use clap::{Arg, ArgAction, Command, Error, value_parser};
+use clap::{Arg, ArgAction, ArgMatches, Command, Error, value_parser};
 use std::alloc::{AllocError, Global};
 use std::convert::AsStr;
 
@@ -12,20 +13,38 @@ use std::convert::AsStr;
 pub enum Task {
     /// Replay the script on standard input.
     Replay,
-    /// Run the workload on standard input on sites in threads. Nothing runs yet.
-    Run,
+    /// Run the workload on standard input on so many sites in threads, with losses and repeats drawn from the seed.
+    Run { sites: u32, seed: u32 },
 }
 
 /// Reads the words, the first of which is the program's name. A request for help is an `Err` too, whose text is the help.
 pub fn parse_words<S: AsStr>(alloc: Global, words: &[S]) -> Result<Task, Error>
     ensures fault { FailsBy (fault_of app (map S.text words.now)) result }
-    ensures task { IfOk result (λ task. task ≡ task_of (map S.text words.now)) }
+    ensures task { IfOk result (λ task. is_replay task ≡ asks_replay (map S.text words.now)) }
 {
     let matches = command(alloc)?.try_get_matches_from(words)?;
     match matches.subcommand_matches("replay") {
         Some(_) => Ok(Task::Replay),
-        None => Ok(Task::Run),
+        None => run_task(&matches),
     }
+}
+
+/// A run on so many sites. Both numbers are required and in range, so words that were taken have them.
+fn run_task(matches: &ArgMatches<'_>) -> Result<Task, Error>
+    ensures ok { IfOk result (λ task. is_replay task ≡ false) }
+    ensures err { IfErr result (λ error. kind_of error ≡ kind.OutOfMemory) }
+{
+    match numbers(matches) {
+        Some((sites, seed)) => Ok(Task::Run { sites, seed }),
+        None => Err(Error::from(AllocError)),
+    }
+}
+
+fn numbers(matches: &ArgMatches<'_>) -> Option<(u32, u32)> {
+    let run = matches.subcommand_matches("run")?;
+    let sites = run.get_one("sites")?;
+    let seed = run.get_one("seed")?;
+    Some((sites, seed))
 }
 
 fn command<'a>(alloc: Global) -> Result<Command<'a>, AllocError>
@@ -35,7 +54,8 @@ fn command<'a>(alloc: Global) -> Result<Command<'a>, AllocError>
         .about("Replay the script on standard input")
         .after_help(help::REPLAY);
     let run = Command::new(alloc, "run")
-        .about("Run the workload on standard input on sites in threads (refused: not built yet)")
+        .about("Run the workload on standard input on sites in threads, and audit it")
+        .after_help(help::RUN)
         .arg(sites_arg(alloc))?
         .arg(seed_arg(alloc))?;
     Command::new(alloc, "shmdbg")

@@ -1,5 +1,4 @@
-use super::{Ran, replay_bytes};
-use std::process::Abort;
+use super::{expect, replay_bytes};
 use std::test::Fail;
 
 const BOUNDARIES: &[u8] = b"sites 2 preset 2
@@ -23,12 +22,6 @@ const BOUNDARIES_TEXT: &[u8] = b"1 ready
 ";
 
 const SMALLEST: &[u8] = b"sites 1 preset 1\nload 0 0 0\n";
-
-fn expect(rt: &impl Abort, ran: &Ran, status: u8, out: &[u8], errors: &[u8]) {
-    assert_eq!(rt; ran.status, status);
-    assert_eq!(rt; ran.out.as_slice(), out);
-    assert_eq!(rt; ran.errors.as_slice(), errors);
-}
 
 #[test]
 fn where_pages_begin_and_end(rt: HostRuntime) {

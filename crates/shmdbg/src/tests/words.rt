@@ -3,7 +3,7 @@ use super::run_over;
 /// Words that are refused; what the parser's text begins with; nothing is read and nothing is written.
 #[test]
 fn refused_words(rt: HostRuntime) {
-    let cases: [(&[&str], &[u8]); 11] = [
+    let cases: [(&[&str], &[u8]); 10] = [
         (&[], b"error: "),
         (&["shmdbg"], b"error: "),
         (
@@ -31,10 +31,6 @@ fn refused_words(rt: HostRuntime) {
         (
             &["shmdbg", "run", "--sites", "1", "--seed", "4294967296"],
             b"error: invalid value",
-        ),
-        (
-            &["shmdbg", "run", "--sites", "16", "--seed", "4294967295"],
-            b"error: `run` is not built yet\n",
         ),
     ];
     for (words, text) in cases {

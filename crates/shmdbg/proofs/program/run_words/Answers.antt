@@ -1,4 +1,4 @@
-use Rattle.std.proofs.Common.{rules, ℕ, List, [], IfSome, map, inl, inr, refl, subst, sym}
+use Rattle.std.proofs.Common.{rules, ◌≢◌, ℕ, List, [], IfSome, map, inl, inr, refl, subst, sym}
 use Rattle.std.specs.Prelude.{Err, None, Option, Some}
 use Rattle.std.proofs.KnownBytes.{Appends-nil}
 use Rattle.shm_debug.specs.Script.{script_of}
@@ -17,7 +17,8 @@ unread (Some bytes) written = (Err OutOfMemory, [], refl, Appends-nil written, (
 
 -- src/program.rt:31:23
 pub returns-in-Err-clause-replayed : goal.returns-in-Err-clause-replayed
-returns-in-Err-clause-replayed g c taken =
+returns-in-Err-clause-replayed g c asks =
+    let taken : c.refused_words.result ≢ 2 = search rules in
     let script = g.I.Read.remaining c.args.reader.now in
     let written = g.O.Write.contents c.args.out.now in
     elim c.refused_words.ensures.status [

@@ -7,7 +7,7 @@ use Rattle.shmdbg.proofs.words.command.Goals as goal
 -- src/words.rt:30:1
 pub returns : goal.returns
 returns c =
-    let bare_run : app_of c.about-2.result ≡ new_app (codes "run") = search rules in
+    let bare_run : app_of c.after_help.result ≡ new_app (codes "run") = search rules in
     let with_sites : app_of c.in_ok-arg.field-0 ≡ with_rule (new_app (codes "run")) sites_rule =
     c.in_ok-arg.ensures.shape c.sites_arg.ensures.local ∙ ap₂ with_rule bare_run c.sites_arg.ensures.rule in
     let run_is : app_of c.in_ok-run.run' ≡ with_rule (with_rule (new_app (codes "run")) sites_rule) seed_rule =

@@ -1,0 +1,9 @@
+pub mod AllLemmas
+pub mod Lookups
+pub mod MarkLemmas
+pub mod ReceiptLemmas
+pub mod NextLemmas
+pub mod SoundLemmas
+pub mod StoreLemmas
+pub mod AuditLemmas
+pub mod CauseLemmas

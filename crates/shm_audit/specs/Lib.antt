@@ -1,0 +1,4 @@
+pub mod Callers
+pub mod Cause
+pub mod Marks
+pub mod Audit

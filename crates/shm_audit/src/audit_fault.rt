@@ -1,0 +1,38 @@
+use shm_place::SiteId;
+use thiserror::Error;
+
+/// Why logs and receipts can't be those of sites that ran, with the site and the index of the step. Only `OutOfMemory` says nothing of
+/// them.
+#[derive(Clone, Copy, Debug, PartialEq, Eq, Error)]
+pub enum AuditFault {
+    /// The step was handed an envelope that the log of its sender doesn't have where the delivery says.
+    #[error("unsent {} {index}", .site.0)]
+    Unsent { site: SiteId, index: usize },
+    /// The step's stamp isn't above that of the step before it in its log, or of the step that sent what it was handed.
+    #[error("stamp order {} {index}", .site.0)]
+    StampOrder { site: SiteId, index: usize },
+    /// A receipt names this step, which isn't in the log, did or answered something else, or was told of before; or the caller was
+    /// told of a later step of the site before.
+    #[error("forged {} {index}", .site.0)]
+    Forged { site: SiteId, index: usize },
+    /// Memory was refused.
+    #[error("out of memory")]
+    OutOfMemory,
+}
+
+impl AuditFault {
+    ghost use Rattle.std.specs.Prelude.{◌≡◌};
+    ghost use Rattle.shm_audit.specs.Cause.{audit_fault_number};
+
+    /// The number of the refusal.
+    pub fn number(self) -> u8
+        ensures { result ≡ audit_fault_number self }
+    {
+        match self {
+            AuditFault::Unsent { .. } => 23,
+            AuditFault::StampOrder { .. } => 24,
+            AuditFault::Forged { .. } => 25,
+            AuditFault::OutOfMemory => 17,
+        }
+    }
+}

@@ -1,0 +1,15 @@
+use shm_place::SiteId;
+
+/// What a site's own thread passes before each of its steps, while it holds the site's lock. A gate may wait: then the site stands
+/// still, and so does whoever wants its lock, and other sites go on. Clients pass no gate.
+pub trait Gate {
+    fn pass(&self, site: SiteId);
+}
+
+/// A gate that lets every thread pass.
+#[derive(Clone, Copy, Debug)]
+pub struct OpenGate;
+
+impl Gate for OpenGate {
+    fn pass(&self, _site: SiteId) {}
+}

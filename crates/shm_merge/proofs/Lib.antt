@@ -1,0 +1,8 @@
+pub mod Fits
+pub mod Names
+pub mod Prefixes
+pub mod Least
+pub mod Merged
+pub mod Numbers
+pub mod Deliveries
+pub mod Rising

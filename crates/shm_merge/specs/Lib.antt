@@ -1,0 +1,5 @@
+pub mod Logs
+pub mod Order
+pub mod Heads
+pub mod Rows
+pub mod Numbering

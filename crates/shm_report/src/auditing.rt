@@ -1,0 +1,44 @@
+//! The audit of what was run.
+ghost use Rattle.std.specs.Prelude.{List, OnOk};
+ghost use Rattle.shm_audit.specs.Audit.{IsAudited};
+ghost use Rattle.shm_audit.specs.Callers.{callers_of};
+ghost use Rattle.shm_merge.specs.Logs.{logs_of, AreLogsOf};
+ghost use Rattle.shm_model.specs.World.{Preset};
+ghost use Rattle.shm_model.specs.declared.event.Event.{Event};
+
+use crate::report_fault::ReportFault;
+use shm_audit::audit;
+use shm_merge::logs_match;
+use shm_place::Sites;
+use shm_running::Ran;
+use std::alloc::Global;
+
+/// Whether the logs and receipts are those of so many sites that shared one plain memory; if not, the first cause.
+pub(crate) fn audited(alloc: Global, sites: Sites, pages: u32, ran: &Ran) -> Result<(), ReportFault>
+    ensures { OnOk result ((events : List Event) × IsAudited (Preset sites pages) (logs_of ran.now.logs.items) (callers_of ran.now.callers.items) events) }
+{
+    if !logs_match(sites, pages, ran.logs.as_slice()) {
+        return Err(ReportFault::Logs);
+    }
+    accepted(alloc, sites, pages, ran)
+}
+
+/// The same of logs that match.
+fn accepted(alloc: Global, sites: Sites, pages: u32, ran: &Ran) -> Result<(), ReportFault>
+    requires { AreLogsOf sites pages ran.now.logs.items }
+    ensures { OnOk result ((events : List Event) × IsAudited (Preset sites pages) (logs_of ran.now.logs.items) (callers_of ran.now.callers.items) events) }
+{
+    match audit(
+        alloc,
+        sites,
+        pages,
+        ran.logs.as_slice(),
+        ran.callers.as_slice(),
+    ) {
+        Ok(events) => {
+            drop(events);
+            Ok(())
+        }
+        Err(fault) => Err(ReportFault::of_audit(fault)),
+    }
+}

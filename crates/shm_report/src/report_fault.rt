@@ -1,0 +1,77 @@
+use shm_audit::AuditFault;
+use shm_cluster::{ClientFault, StartFault};
+use shm_running::RunFault;
+use shm_workload::WorkloadFault;
+use thiserror::Error;
+
+/// Why nothing was reported. Lines count from 1.
+#[derive(Clone, Copy, Debug, PartialEq, Eq, Error)]
+pub enum ReportFault {
+    /// An allocation was refused.
+    #[error("out of memory")]
+    OutOfMemory,
+    /// The line isn't one of a workload, or stands in the wrong place, or has no line feed.
+    #[error("line {0}: bad line")]
+    BadLine(u64),
+    /// The line has more than 200 bytes before its line feed.
+    #[error("line {0}: too long")]
+    LineTooLong(u64),
+    /// Something follows line 10,000.
+    #[error("too many lines")]
+    TooManyLines,
+    /// The reader answered an error.
+    #[error("read fault")]
+    ReadFault,
+    /// The writer answered an error, or took nothing.
+    #[error("write fault")]
+    WriteFault,
+    /// The system gave no thread.
+    #[error("no thread")]
+    NoThread,
+    /// The line's access was tried as often as it is, and its site still waits for the page.
+    #[error("line {0}: gave up")]
+    GaveUp(u64),
+    /// A site's clock has no further stamp.
+    #[error("clock end")]
+    ClockEnd,
+    /// The logs aren't those of these sites, or the receipts aren't those of this workload.
+    #[error("audit: logs")]
+    Logs,
+    /// The audit found this cause.
+    #[error("audit: {0}")]
+    Audit(AuditFault),
+}
+
+impl ReportFault {
+    /// Why there is no workload.
+    pub(crate) fn of_workload(fault: WorkloadFault) -> ReportFault {
+        match fault {
+            WorkloadFault::OutOfMemory => ReportFault::OutOfMemory,
+            WorkloadFault::BadLine(line) => ReportFault::BadLine(line),
+            WorkloadFault::LineTooLong(line) => ReportFault::LineTooLong(line),
+            WorkloadFault::TooManyLines => ReportFault::TooManyLines,
+        }
+    }
+
+    /// Why the workload wasn't run to its end. The first access is that of line 2.
+    pub(crate) fn of_run(fault: RunFault) -> ReportFault {
+        match fault {
+            RunFault::Start(StartFault::NoThread) => ReportFault::NoThread,
+            RunFault::Start(StartFault::OutOfMemory) => ReportFault::OutOfMemory,
+            RunFault::OutOfMemory => ReportFault::OutOfMemory,
+            RunFault::Call(call) => match call.fault {
+                ClientFault::OutOfMemory => ReportFault::OutOfMemory,
+                ClientFault::ClockEnd => ReportFault::ClockEnd,
+                ClientFault::GaveUp => ReportFault::GaveUp((call.place as u64).saturating_add(2)),
+            },
+        }
+    }
+
+    /// What the audit found.
+    pub(crate) fn of_audit(fault: AuditFault) -> ReportFault {
+        match fault {
+            AuditFault::OutOfMemory => ReportFault::OutOfMemory,
+            cause => ReportFault::Audit(cause),
+        }
+    }
+}

@@ -1,0 +1,77 @@
+//! A whole workload, from a reader to a writer.
+ghost use Rattle.std.specs.Prelude.{◌≡◌, ◌≤◌, ◌⊎◌, IfErr, IfOk};
+ghost use Rattle.shm_report.specs.declared.report_fault.ReportFault.TheVariants as cause;
+
+use crate::auditing::audited;
+use crate::reading::read_all;
+use crate::report_fault::ReportFault;
+use crate::telling::{told, write_report};
+use shm_place::Sites;
+use shm_running::{Ran, run_workload};
+use shm_workload::{Workload, parse_workload};
+use std::alloc::Global;
+use std::io::{Read, Write};
+use std::sync::Wait;
+use std::thread::Threads;
+
+/// Runs the workload that is read from `reader` over so many sites, whose network draws its losses and repeats from the seed; one caller
+/// for each site runs the site's lines in their order. What each line was answered is written to `writer` when an audit of all that was
+/// logged has found nothing; before that nothing is written.
+pub fn report<R: Threads + Wait + Copy + Send + Sync + 'static, I: Read, O: Write>(
+    rt: &R,
+    alloc: Global,
+    sites: Sites,
+    seed: u32,
+    reader: &mut I,
+    writer: &mut O,
+) -> Result<(), ReportFault>
+    ensures quiet { IfErr result (λ fault. (fault ≡ cause.WriteFault) ⊎ (writer.new ≡ writer.old)) }
+{
+    let workload = match read_workload(alloc, sites, reader) {
+        Ok(workload) => workload,
+        Err(fault) => return Err(fault),
+    };
+    let ran = match run_workload(rt, alloc, sites, seed as u64, &workload) {
+        Ok(ran) => ran,
+        Err(fault) => return Err(ReportFault::of_run(fault)),
+    };
+    tell(alloc, sites, &workload, &ran, writer)
+}
+
+/// Reads the workload.
+fn read_workload<I: Read>(
+    alloc: Global,
+    sites: Sites,
+    reader: &mut I,
+) -> Result<Workload, ReportFault>
+    ensures pages { IfOk result (λ workload. (1 ≤ workload.pages) × (workload.pages ≤ 256)) }
+{
+    let bytes = match read_all(alloc, reader) {
+        Ok(bytes) => bytes,
+        Err(fault) => return Err(fault),
+    };
+    match parse_workload(alloc, sites, bytes.as_slice()) {
+        Ok(workload) => Ok(workload),
+        Err(fault) => Err(ReportFault::of_workload(fault)),
+    }
+}
+
+/// Audits what was run, and tells it.
+fn tell<O: Write>(
+    alloc: Global,
+    sites: Sites,
+    workload: &Workload,
+    ran: &Ran,
+    writer: &mut O,
+) -> Result<(), ReportFault>
+    ensures quiet { IfErr result (λ fault. (fault ≡ cause.WriteFault) ⊎ (writer.new ≡ writer.old)) }
+{
+    match audited(alloc, sites, workload.pages, ran) {
+        Ok(()) => {}
+        Err(fault) => return Err(fault),
+    }
+    match told(alloc, workload.accesses.as_slice(), ran.callers.as_slice()) {
+        Ok(text) => write_report(&text, writer),
+        Err(fault) => Err(fault),
+    }
+}

@@ -1,0 +1,57 @@
+//! A whole script is replayed on a heap that is full but for a hole.
+
+use crate::tests::scripts::{Row, going_back, pages, segments};
+use linked_list_allocator::LocalHeap;
+use shm_debug::{DebugFault, Summary, replay};
+use std::alloc::{AllocError, Global};
+use std::process::Abort;
+use std::test::Fail;
+
+/// How many bytes of memory a replay has here.
+const HEAP: usize = 1 << 18;
+
+/// What a script answers on a heap where all but so many bytes are taken; its text.
+fn replayed_in(
+    alloc: Global,
+    heap: &LocalHeap,
+    hole: usize,
+    script: &[u8],
+) -> Result<(Result<Summary, DebugFault>, Vec<u8>), AllocError> {
+    let taken: Vec<u8, &LocalHeap> = Vec::with_capacity(heap, heap.free().saturating_sub(hole))?;
+    let mut reader = script;
+    let mut text = Vec::new(alloc);
+    let result = replay(heap, &mut reader, &mut text);
+    drop(taken);
+    Ok((result, text))
+}
+
+/// The row is refused memory while the hole widens, after a front of its lines; then it plays. Answers the longest text of a refused
+/// one.
+fn longest_refused(rt: &impl Abort, alloc: Global, row: &Row) -> Result<usize, Fail> {
+    let heap = LocalHeap::new(alloc, HEAP)?;
+    let mut longest = 0;
+    for hole in (0..HEAP).step_by(16) {
+        let (result, text) = replayed_in(alloc, &heap, hole, row.script)?;
+        if result == Ok(row.summary) {
+            assert_eq!(rt; text.as_slice(), row.text);
+            return Ok(longest);
+        }
+        assert_eq!(rt; result, Err(DebugFault::OutOfMemory));
+        assert!(rt; row.text.starts_with(&text));
+        assert!(rt; text.is_empty() || text.ends_with(b"\n".as_slice()));
+        assert!(rt; text.len() >= longest);
+        longest = text.len();
+    }
+    Err(Fail::new("no row was played"))
+}
+
+#[test]
+fn each_growth_of_a_replay(rt: HostRuntime) -> Result<(), Fail> {
+    let longest = longest_refused(&rt, rt.alloc(), &pages::QUEUED_READS_THEN_TWO_CLEARS)?;
+    assert!(rt; longest > 0);
+    let longest = longest_refused(&rt, rt.alloc(), &segments::SEGMENT_CALLS)?;
+    assert!(rt; longest > 0);
+    let longest = longest_refused(&rt, rt.alloc(), &going_back::BACK)?;
+    assert!(rt; longest > 0);
+    Ok(())
+}

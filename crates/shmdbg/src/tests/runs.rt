@@ -1,0 +1,40 @@
+use super::{Ran, expect, run_over};
+use std::sync::Wait;
+use std::thread::Threads;
+
+/// Runs a workload that lies in memory, on one site.
+fn run_bytes<R: AllocGlobal + Threads + Wait + Copy + Send + Sync + 'static>(
+    rt: &R,
+    workload: &[u8],
+) -> Ran {
+    let mut reader = workload;
+    let words = ["shmdbg", "run", "--sites", "1", "--seed", "4294967295"];
+    run_over(rt, &words, &mut reader)
+}
+
+#[test]
+fn what_one_site_stores_it_loads(rt: HostRuntime) {
+    let ran = run_bytes(&rt, b"preset 1\nstore 0 0 7\nload 0 0\n");
+    expect(
+        &rt,
+        &ran,
+        0,
+        b"1 ready\n2 stored\n3 byte 7\naudit yes\n",
+        b"",
+    );
+}
+
+/// Nothing is written where the workload has a fault.
+#[test]
+fn wrong_workloads(rt: HostRuntime) {
+    let cases: [(&[u8], &[u8]); 4] = [
+        (b"", b"shmdbg: line 1: bad line\n"),
+        (b"sites 1 preset 1\n", b"shmdbg: line 1: bad line\n"),
+        (b"preset 1\nload 1 0\n", b"shmdbg: line 2: bad line\n"),
+        (b"preset 1\nload 0 0", b"shmdbg: line 2: bad line\n"),
+    ];
+    for (workload, errors) in cases {
+        let ran = run_bytes(&rt, workload);
+        expect(&rt, &ran, 1, b"", errors);
+    }
+}
