@@ -13,6 +13,11 @@ module _ {V : Type 0} where
   kept None = []
   kept (Some cache) = cache.entries
 
+  -- what an iterator over it has left
+  abbrev pub left : Option (List (PageId × V)) → List (PageId × V)
+  left None = []
+  left (Some rest) = rest
+
   -- nothing is given up for want of room
   abbrev pub IsWide : Option (LruCache PageId V) → Type 0
   IsWide None = ⊤

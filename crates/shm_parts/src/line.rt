@@ -6,6 +6,7 @@ ghost use Rattle.indexmap.specs.IndexMap.{insert_entry};
 ghost use Rattle.lru.specs.LruCache.{demoted, lru_cache};
 ghost use Rattle.shm_parts.specs.Line.{first_page, most, without, without_pages_of};
 
+use crate::line_pages::LinePages;
 use lru::LruCache;
 use shm_place::{PageId, SegId};
 use std::alloc::{AllocError, Allocator, Global};
@@ -134,6 +135,18 @@ impl<V: Drop, A: Allocator + Copy> Line<V, A> {
             seg: id,
             index: last,
         });
+    }
+
+    /// The pages in their order, each with its value.
+    pub fn iter(&self) -> LinePages<'_, V>
+        ensures { result ≡ self.now }
+    {
+        match &self.cache {
+            Some(cache) => LinePages {
+                rest: Some(cache.iter()),
+            },
+            None => LinePages { rest: None },
+        }
     }
 
     /// Equal pages and values in equal order.

@@ -1,5 +1,5 @@
 -- The steps of segment calls and purges, out of what the parts of the site say.
-use Rattle.std.proofs.Common.{◌≡◌, ℕ, Bool, true, false, not, List, [], ◌∷◌, ◌++◌, Option, Some, None, Result, Ok, Err, OnErr, filter, ◌==◌, ◌+◌, if◌then◌else◌, refl, ap, ◌∙◌}
+use Rattle.std.proofs.Common.{◌≡◌, ℕ, Bool, true, false, not, List, [], ◌∷◌, ◌++◌, Option, Some, None, Result, Ok, Err, OnErr, filter, ◌==◌, if◌then◌else◌, refl, ap, ◌∙◌}
 use Rattle.std.proofs.lemmas.List.{append-nil}
 use Rattle.shm_place.specs.Home.{home_of_id}
 use Rattle.shm_place.specs.declared.page.PageId.{PageId}

@@ -1,5 +1,5 @@
 -- What a tick has sent so far, part by part.
-use Rattle.std.proofs.Common.{◌≡◌, ℕ, ◌+◌, ◌-◌, ◌*◌, ◌/◌, ◌<◌, ◌≤◌, ◌==◌, zero, suc, Bool, true, false, cond, List, [], ◌∷◌, ◌++◌, Option, Some, None, Result, Ok, Err, OnErr, length, map, filter, take, get_or, slice_get, sym, ◌∙◌, ap, refl, subst, arith, ⊎_elim, append_assoc}
+use Rattle.std.proofs.Common.{◌≡◌, ℕ, ◌+◌, ◌-◌, ◌*◌, ◌/◌, ◌<◌, ◌≤◌, ◌==◌, zero, suc, Bool, true, false, cond, List, [], ◌∷◌, ◌++◌, Option, Some, None, Result, Ok, Err, OnErr, length, map, filter, take, get_or, sym, ◌∙◌, ap, refl, subst, arith, ⊎_elim, append_assoc}
 use Rattle.std.specs.List.{AllByRecursion, flat_map, position_or_len, range_with_len}
 use Rattle.std.proofs.Math.Nat.{mul-le-mul_right}
 use Rattle.std.proofs.lemmas.Bool.{cases_lt, eqb-true, false≢true, lt-ltb, ltb-true}
@@ -10,7 +10,7 @@ use Rattle.std.proofs.lemmas.List.FromFn.{filter_of_map_range_with_len_more}
 use Rattle.std.proofs.lemmas.List.Folds.{find_at}
 use Rattle.std.proofs.lemmas.List.Sums.{passes_at_first}
 use Rattle.std.proofs.lemmas.Nat.{div-mul-add}
-use Rattle.std.proofs.lemmas.Option.{get_or_from_slice_get, none-some, same_Some, slice_get_past, slice_get_within}
+use Rattle.std.proofs.lemmas.Option.{none-some, same_Some, slice_get_past}
 use Rattle.shm_place.specs.declared.page.PageId.{PageId}
 use Rattle.shm_model.specs.Book.{Running, orders_of}
 use Rattle.shm_model.specs.Kernel.{is_destroyed}
@@ -39,14 +39,11 @@ pub on_err : {T E P : Type 0} (r : Result T E) → P → OnErr r P
 on_err (Ok _) p = record {}
 on_err (Err _) p = p
 
--- one more element of a list was sent
-pub map_more : {X Y : Type 0} (f : X → Y) (before now : List Y) (xs : List X) (k : ℕ) (x : X) → now ≡ before ++ map f (take k xs) → slice_get xs k ≡ Some x → now ++ f x ∷ [] ≡ before ++ map f (take (k + 1) xs)
-map_more f before now xs k x so_far here =
-    let more : take (k + 1) xs ≡ take k xs ++ x ∷ [] = take_more xs k x (slice_get_within xs k x here) ∙ ap (λ y. take k xs ++ y ∷ []) (get_or_from_slice_get xs k x x here) in
-    ap (λ ys. ys ++ f x ∷ []) so_far ∙ append_assoc before (map f (take k xs)) (f x ∷ []) ∙ ap (λ ys. before ++ ys) (sym (map_push f (take k xs) x) ∙ ap (map f) (sym more))
-
-pub map_done : {X Y : Type 0} (f : X → Y) (before now : List Y) (xs : List X) (k : ℕ) → now ≡ before ++ map f (take k xs) → length xs ≤ k → now ≡ before ++ map f xs
-map_done f before now xs k so_far all = so_far ∙ ap (λ ys. before ++ map f ys) (take_all k xs all)
+-- all is sent behind what was there before, but for what is left
+pub record IsSent {Y : Type 0} (before now left all : List Y) : Type 0 where
+  pub done : List Y
+  pub sent : now ≡ before ++ done
+  pub rest : done ++ left ≡ all
 
 -- pages whose books don't run send nothing
 pub idle_sends : (me : ℕ) (site : Site) (pages : List PageId) → AllByRecursion (λ p. (site.books p).running ≡ None) pages → flat_map (orders_again me site) pages ≡ []
@@ -60,10 +57,8 @@ idle_for me running [] h = h
 idle_for me running (p ∷ ps) h = (h.0 me, idle_for me running ps h.1)
 
 -- what the running transactions ask for was sent again, but for the pages that are left
-pub record OrdersSent (me : ℕ) (site : Site) (before now : List Envelope) (left : List PageId) : Type 0 where
-  pub done : List Envelope
-  pub sent : now ≡ before ++ done
-  pub rest : done ++ flat_map (orders_again me site) left ≡ flat_map (orders_again me site) site.booked
+abbrev pub OrdersSent : ℕ → Site → List Envelope → List Envelope → List PageId → Type 0
+OrdersSent me site before now left = IsSent before now (flat_map (orders_again me site) left) (flat_map (orders_again me site) site.booked)
 
 pub orders_none : (me : ℕ) (site : Site) (before now : List Envelope) → now ≡ before → OrdersSent me site before now site.booked
 orders_none me site before now same = record { done = []; sent = same ∙ sym (append-nil before); rest = refl }

@@ -25,6 +25,24 @@ impl<A: Allocator + Copy> Site<A> {
         ensures memory { OnErr result ((model.load self.old.sites self.old.me at offset (site_of self.old)).answer ≡ answer.Fault) }
         ensures seat { SameSeat self.old self.new }
     {
+        if let Some(byte) = self.byte_here(at, offset) {
+            return Ok(Answer::Byte(byte));
+        }
+        self.load_or_ask(at, offset, outbox)
+    }
+
+    /// The load with all that may come of it: the byte, a request to the page's manager, or a refusal.
+    pub(crate) fn load_or_ask(
+        &mut self,
+        at: u32,
+        offset: u32,
+        outbox: &mut Outbox<A>,
+    ) -> Result<Answer, AllocError>
+        ensures step { IfOk result (λ answer. sent_after outbox.old.sent (model.load self.old.sites self.old.me at offset (site_of self.old)) ≡ stepped self.new answer outbox.new.sent) }
+        ensures refused { OnErr result ((site_of self.new ≡ site_of self.old) × (outbox.new.sent ≡ outbox.old.sent)) }
+        ensures memory { OnErr result ((model.load self.old.sites self.old.me at offset (site_of self.old)).answer ≡ answer.Fault) }
+        ensures seat { SameSeat self.old self.new }
+    {
         match self.holdings.load(at, offset) {
             Ok(Loaded::Byte(byte)) => Ok(Answer::Byte(byte)),
             Ok(Loaded::Absent(page)) => self.ask_for(Kind::Read, &page, outbox),

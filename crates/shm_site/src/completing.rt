@@ -1,6 +1,7 @@
 //! Loads and stores that need nothing from another site.
 ghost use Rattle.std.specs.Prelude.{◌≡◌, [], false, IfNone, IfSome};
 ghost use Rattle.shm_model.specs.Access as model;
+ghost use Rattle.shm_model.specs.declared.answer.Answer.TheVariants as answer;
 ghost use Rattle.shm_site.specs.Site.{SameSeat, site_of, stepped};
 ghost use Rattle.shm_site.specs.Step.{completes};
 
@@ -10,6 +11,16 @@ use shm_parts::{Kept, Loaded};
 use std::alloc::Allocator;
 
 impl<A: Allocator + Copy> Site<A> {
+    /// The byte, where the right to load it is here.
+    pub(crate) fn byte_here(&self, at: u32, offset: u32) -> Option<u8>
+        ensures { IfSome result (λ byte. model.load self.now.sites self.now.me at offset (site_of self.now) ≡ stepped self.now (answer.Byte byte) []) }
+    {
+        match self.holdings.load(at, offset) {
+            Ok(Loaded::Byte(byte)) => Some(byte),
+            Ok(Loaded::Absent(_)) | Err(_) => None,
+        }
+    }
+
     /// The load, where nothing has to be sent for it: the right is here, or the access is refused. It takes no memory.
     pub fn load_here(&self, at: u32, offset: u32) -> Option<Answer>
         ensures here { IfSome result (λ answer. model.load self.now.sites self.now.me at offset (site_of self.now) ≡ stepped self.now answer []) }

@@ -1,6 +1,8 @@
 //! One step of a site: one case for each input.
 ghost use Rattle.std.specs.Prelude.{◌≡◌, None, Ok, false, true, IsOk, IsErr, IfOk, IfErr, OnErr};
+ghost use Rattle.shm_model.specs.Access as access;
 ghost use Rattle.shm_model.specs.Step.{step};
+ghost use Rattle.shm_model.specs.declared.answer.Answer.TheVariants as answer;
 ghost use Rattle.shm_site.specs.Site.{SameSeat, sent_after, site_of, stepped};
 ghost use Rattle.shm_site.specs.Step.{envelope_if, fault_of, handed_in, input_of, is_delivery, is_foreign, may_grow};
 ghost use Rattle.shm_site.specs.declared.step_error.StepFault.TheVariants as fault;
@@ -25,9 +27,29 @@ impl<A: Allocator + Copy> Site<A> {
         ensures seat { SameSeat self.old self.new }
     {
         match input {
+            Input::Load { at, offset } => self.load_step(at, offset, outbox),
             Input::Deliver(envelope) => self.deliver(envelope, outbox),
             plain => made(self.act(&plain, outbox)),
         }
+    }
+
+    /// A load. The byte is looked up first, alone, so that no answer has to be moved.
+    fn load_step(
+        &mut self,
+        at: u32,
+        offset: u32,
+        outbox: &mut Outbox<A>,
+    ) -> Result<Answer, StepError<A>>
+        ensures step { IfOk result (λ answer. sent_after outbox.old.sent (access.load self.old.sites self.old.me at offset (site_of self.old)) ≡ stepped self.new answer outbox.new.sent) }
+        ensures fault { IfErr result (λ e. (e.fault ≡ fault.OutOfMemory) × (envelope_if e.envelope ≡ None)) }
+        ensures memory { OnErr result ((access.load self.old.sites self.old.me at offset (site_of self.old)).answer ≡ answer.Fault) }
+        ensures refused { OnErr result ((site_of self.new ≡ site_of self.old) × (outbox.new.sent ≡ outbox.old.sent)) }
+        ensures seat { SameSeat self.old self.new }
+    {
+        if let Some(byte) = self.byte_here(at, offset) {
+            return Ok(Answer::Byte(byte));
+        }
+        made(self.load_or_ask(at, offset, outbox))
     }
 
     /// One step at an input that hands no envelope over.

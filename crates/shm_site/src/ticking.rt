@@ -77,12 +77,9 @@ impl<A: Allocator + Copy> Site<A> {
         ensures sent { OnOk result (outbox.new.sent ≡ outbox.old.sent ++ map (model.ask_again self.now.sites self.now.me) (pendings_of self.now.pending)) }
         ensures kept { OnErr result (take (length outbox.old.sent) outbox.new.sent ≡ outbox.old.sent) }
     {
-        'requests: for place in 0..self.pending.len() {
-            let Some(pending) = self.pending.at(place) else {
-                unreachable!()
-            };
-            let (page, (request, kind)) = pending;
-            outbox.try_push(ask_envelope(self.sites, self.me, &page, request, kind))?;
+        'requests: for (page, pending) in self.pending.iter() {
+            let (request, kind) = *pending;
+            outbox.try_push(ask_envelope(self.sites, self.me, page, request, kind))?;
         }
         Ok(())
     }

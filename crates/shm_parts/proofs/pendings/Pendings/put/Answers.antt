@@ -1,8 +1,9 @@
 use Rattle.std.proofs.Common.{map, ap, ◌∙◌}
 use Rattle.shm_parts.specs.Pendings.{pending_of}
+use Rattle.shm_parts.proofs.EntryLemmas.{on_ok}
 use Rattle.shm_parts.proofs.PendingLemmas.{pending_put}
 use Rattle.shm_parts.proofs.pendings.Pendings.put.Goals as goal
 
-pub returns-in-Ok-clause-put : goal.returns-in-Ok-clause-put
-returns-in-Ok-clause-put g c =
-    ap (map pending_of) c.in-Ok.ensures.entries ∙ pending_put c.args.page (c.args.request, c.args.kind) c.args.self.now.map.entries
+pub returns-clause-put : goal.returns-clause-put
+returns-clause-put g c =
+    on_ok c.put.result (λ h. ap (map pending_of) h ∙ pending_put c.args.page (c.args.request, c.args.kind) c.args.self.now.line) c.put.ensures.put

@@ -5,8 +5,8 @@ use Rattle.shm_parts.proofs.pendings.Pendings.settle.Goals as goal
 
 pub returns-then-is_settled : goal.returns-then-is_settled
 returns-then-is_settled g c =
-    ap (map pending_of) c.shift_remove.ensures.entries
-    ∙ pending_settled c.args.reads c.args.writes c.args.page c.args.self.now.map.entries (sym c.is_settled.ensures ∙ c.if-is_settled.true)
+    ap (map pending_of) c.remove.ensures.first
+    ∙ pending_settled c.args.reads c.args.writes c.args.page c.args.self.now.line (sym c.is_settled.ensures ∙ c.if-is_settled.true)
 
 pub returns-else-is_settled : goal.returns-else-is_settled
 returns-else-is_settled g c =

@@ -4,7 +4,7 @@ use Rattle.shm_model.specs.Book.{Book, on_ask}
 use Rattle.shm_model.specs.Site as model
 use Rattle.shm_model.specs.Transfer.{to_book}
 use Rattle.shm_parts.specs.Books.{booked_of, booked_step, books_of, with_books}
-use Rattle.shm_site.specs.Site.{site_of, stepped}
+use Rattle.shm_site.specs.Site.{site_of}
 use Rattle.shm_site.proofs.Steps.{in_turn, on_err}
 use Rattle.shm_site.proofs.site.Site.asked.Goals as goal
 

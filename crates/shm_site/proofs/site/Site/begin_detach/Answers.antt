@@ -1,4 +1,4 @@
-use Rattle.std.proofs.Common.{◌≡◌, None, ap, sym, ◌∙◌}
+use Rattle.std.proofs.Common.{None, ap, sym, ◌∙◌}
 use Rattle.shm_model.specs.Book.{at}
 use Rattle.shm_model.specs.Site as model
 use Rattle.shm_attach.specs.Attachments.{attachments_of}

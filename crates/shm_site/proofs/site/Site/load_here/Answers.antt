@@ -1,6 +1,6 @@
-use Rattle.std.proofs.Common.{◌≡◌, ◌∙◌, Ok, ap, sym}
-use Rattle.shm_model.specs.Access.{Step, ask_for, load, still}
-use Rattle.shm_model.specs.declared.answer.Answer.TheVariants.{Byte, Refused}
+use Rattle.std.proofs.Common.{◌∙◌, Ok, ap, sym}
+use Rattle.shm_model.specs.Access.{Step, still}
+use Rattle.shm_model.specs.declared.answer.Answer.TheVariants.{Refused}
 use Rattle.shm_model.specs.declared.kind.Kind.TheVariants.{Read}
 use Rattle.shm_parts.specs.Holdings.{loaded_step}
 use Rattle.shm_site.specs.Site.{site_of}

@@ -1,4 +1,4 @@
-use Rattle.std.proofs.Common.{◌≡◌, true, false, not, ap, sym, ◌∙◌}
+use Rattle.std.proofs.Common.{◌≡◌, true, false, not, sym, ◌∙◌}
 use Rattle.shm_model.specs.Site.{is_attached}
 use Rattle.shm_parts.specs.Books.{booked_of, books_of}
 use Rattle.shm_parts.specs.Holdings.{with_holdings}

@@ -1,7 +1,7 @@
 use Rattle.std.proofs.Common.{◌≡◌, ◌∙◌, Ok, ap, sym}
 use Rattle.shm_model.specs.Access.{Step, ask_for, still, store}
 use Rattle.shm_model.specs.Site as model
-use Rattle.shm_model.specs.declared.answer.Answer.TheVariants.{Refused, Stored}
+use Rattle.shm_model.specs.declared.answer.Answer.TheVariants.{Refused}
 use Rattle.shm_model.specs.declared.kind.Kind.TheVariants.{Write}
 use Rattle.shm_parts.specs.Holdings.{kept_step, with_holdings}
 use Rattle.shm_site.specs.Site.{site_of}

@@ -5,7 +5,7 @@ use Rattle.shm_model.specs.declared.kind.Kind.TheVariants.{Read}
 use Rattle.shm_parts.specs.Holdings.{loaded_step}
 use Rattle.shm_site.specs.Site.{sent_after, site_of, stepped}
 use Rattle.shm_site.proofs.Steps.{told_still}
-use Rattle.shm_site.proofs.site.Site.load.Goals as goal
+use Rattle.shm_site.proofs.site.Site.load_or_ask.Goals as goal
 
 pub returns-in-Ok-Byte-clause-step : goal.returns-in-Ok-Byte-clause-step
 returns-in-Ok-Byte-clause-step g c =
