@@ -1,4 +1,4 @@
-ghost use Rattle.std.specs.Prelude.{◌≡◌, ◌<◌, ◌++◌};
+ghost use Rattle.std.specs.Prelude.{◌≡◌, ◌<◌, ◌+◌, ◌*◌, ◌^◌};
 ghost use Rattle.std.specs.Cmp.Rules.{comparing, hashing};
 ghost use Rattle.std.specs.Hash as fed;
 ghost use Rattle.std.proofs.Common.{rules};
@@ -31,13 +31,13 @@ impl Eq for PageId {
 }
 
 impl Hash for PageId {
-    ghost hash_input = { λ page. fed.u32 page.seg ++ fed.u32 page.index };
+    ghost hash_input = { λ page. fed.u64 (page.seg * 2 ^ 32 + page.index) };
 
     ghost respects_eq = { Prim.search (hashing, rules) };
 
     fn hash<H: Hasher>(&self, state: &mut H) {
-        state.write_u32(self.seg.0);
-        state.write_u32(self.index);
+        // One number for both, so that the hasher multiplies once.
+        state.write_u64((u64::from(self.seg.0) << 32) + u64::from(self.index));
     }
 }
 
