@@ -1,3 +1,4 @@
+//! What a client does with the box of its site.
 ghost use Rattle.std.specs.Prelude.{◌≡◌, IfErr, IfOk, OnErr, OnOk};
 ghost use Rattle.shm_boxes.specs.Box.{after};
 ghost use Rattle.shm_boxes.specs.Logged.{stamp_of};
@@ -10,9 +11,14 @@ ghost use Rattle.shm_cluster.specs.Faults.{no_access};
 use crate::client_fault::ClientFault;
 use shm_boxes::{Asked, BoxFault, Input, Receipt, SiteBox, Stamp};
 use shm_place::SiteId;
+use std::alloc::Allocator;
 
 /// One access in the box of a client's site. The receipt is that of the step which the box took.
-pub(crate) fn access(held: &mut SiteBox, site: SiteId, asked: Asked) -> Result<Receipt, ClientFault>
+pub(crate) fn access<A: Allocator + Copy>(
+    held: &mut SiteBox<A>,
+    site: SiteId,
+    asked: Asked,
+) -> Result<Receipt, ClientFault>
     ensures tells { IfOk result (TellsOf site (access_of asked)) }
     ensures step { OnOk result (box_of held.new ≡ after (box_of held.old) (access_of asked) (stamp_of Stamp.NONE)) }
     ensures refused { OnErr result (box_of held.new ≡ box_of held.old) }
@@ -28,7 +34,7 @@ pub(crate) fn access(held: &mut SiteBox, site: SiteId, asked: Asked) -> Result<R
     }
 }
 
-fn input_of(asked: Asked) -> Input
+fn input_of<A: Allocator + Copy>(asked: Asked) -> Input<A>
     ensures { step.input_of result ≡ access_of asked }
 {
     match asked {

@@ -1,3 +1,4 @@
+//! Loads and stores at one site, and how often an access is tried.
 ghost use Rattle.std.specs.Prelude.{◌≡◌, IfOk};
 ghost use Rattle.shm_model.specs.Message.{Load, Store};
 ghost use Rattle.shm_boxes.specs.Receipt.{access_of};
@@ -10,6 +11,7 @@ use crate::shared::{Post, Shared};
 use shm_boxes::{Asked, Receipt};
 use shm_model::Answer;
 use shm_place::SiteId;
+use std::alloc::{Allocator, Global};
 use std::sync::Wait;
 use std::thread;
 
@@ -22,13 +24,13 @@ const TURNS_OF_A_TICK: u32 = 64;
 /// Loads and stores at one site, in the caller's thread and through the attachment of the number `at`; number 0 is there from the start.
 /// Each call waits for the site's lock. Each receipt tells of the step that the call made, or the last of them.
 #[derive(Clone, Copy)]
-pub struct Client<'a> {
-    pub(crate) shared: &'a Shared,
-    pub(crate) post: &'a Post,
+pub struct Client<'a, A: Allocator + Copy = Global> {
+    pub(crate) shared: &'a Shared<A>,
+    pub(crate) post: &'a Post<A>,
     pub(crate) site: SiteId,
 }
 
-impl<'a> Client<'a> {
+impl<'a, A: Allocator + Copy> Client<'a, A> {
     /// The site.
     pub fn site(&self) -> SiteId
         ensures { result ≡ self.now.site }

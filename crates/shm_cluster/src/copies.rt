@@ -6,10 +6,14 @@ ghost use Rattle.shm_cluster.specs.Posted.{IsOf, IsSent};
 
 use crate::posted::Posted;
 use shm_boxes::{SiteLog, Stamp, Step};
-use std::alloc::{AllocError, Global};
+use std::alloc::{AllocError, Allocator};
 
 /// What the step of this index sent. An envelope for which there is no memory is left out.
-pub(crate) fn posted_by(alloc: Global, log: &SiteLog, index: usize) -> Vec<Posted>
+pub(crate) fn posted_by<A: Allocator + Copy>(
+    alloc: A,
+    log: &SiteLog<A>,
+    index: usize,
+) -> Vec<Posted<A>, A>
     ensures { All (IsSent (steps_of log.now)) result.items }
 {
     let steps = log.steps();
@@ -19,7 +23,7 @@ pub(crate) fn posted_by(alloc: Global, log: &SiteLog, index: usize) -> Vec<Poste
     copies(alloc, &steps[index], index)
 }
 
-fn copies(alloc: Global, step: &Step, index: usize) -> Vec<Posted>
+fn copies<A: Allocator + Copy>(alloc: A, step: &Step<A>, index: usize) -> Vec<Posted<A>, A>
     ensures { All (IsOf index (logged_of step.now)) result.items }
 {
     let mut all = Vec::new(alloc);
@@ -30,7 +34,12 @@ fn copies(alloc: Global, step: &Step, index: usize) -> Vec<Posted>
 }
 
 /// Adds a copy of the envelope at this place.
-fn add(all: &mut Vec<Posted>, step: &Step, index: usize, place: usize) -> Result<(), AllocError>
+fn add<A: Allocator + Copy>(
+    all: &mut Vec<Posted<A>, A>,
+    step: &Step<A>,
+    index: usize,
+    place: usize,
+) -> Result<(), AllocError>
     ensures { All (IsOf index (logged_of step.now)) all.old.items → All (IsOf index (logged_of step.now)) all.new.items }
 {
     if place >= step.sent.len() {

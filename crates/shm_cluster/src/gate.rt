@@ -1,3 +1,4 @@
+//! What a site's thread passes before each of its steps.
 use shm_place::SiteId;
 
 /// What a site's own thread passes before each of its steps, while it holds the site's lock. A gate may wait: then the site stands

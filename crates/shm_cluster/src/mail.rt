@@ -1,9 +1,10 @@
 use crate::posted::Posted;
+use std::alloc::{Allocator, Global};
 
 /// What a site's channel brings to its thread.
 #[derive(Drop)]
-pub(crate) enum Mail {
-    Envelope(Posted),
+pub(crate) enum Mail<A: Allocator + Copy = Global> {
+    Envelope(Posted<A>),
     Tick,
     /// The thread is to end.
     Stop,

@@ -5,18 +5,22 @@ use crate::shared::Post;
 use crate::work::Desk;
 use shm_boxes::SiteBox;
 use shm_place::{SiteId, Sites};
-use std::alloc::{AllocError, Global};
+use std::alloc::{AllocError, Allocator, Global};
 use std::sync::Mutex;
 
 /// What is shared of each site and what its own thread is given, each at the site's number.
 #[derive(Drop)]
-pub(crate) struct Opened {
-    pub(crate) posts: Vec<Post>,
-    pub(crate) desks: Vec<Desk>,
+pub(crate) struct Opened<A: Allocator + Copy = Global> {
+    pub(crate) posts: Vec<Post<A>, A>,
+    pub(crate) desks: Vec<Desk<A>, A>,
 }
 
 /// So many sites, where segment 0 has so many pages.
-pub(crate) fn open(alloc: Global, sites: Sites, pages: u32) -> Result<Opened, AllocError>
+pub(crate) fn open<A: Allocator + Copy>(
+    alloc: A,
+    sites: Sites,
+    pages: u32,
+) -> Result<Opened<A>, AllocError>
     requires from { 1 ≤ pages }
     requires to { pages ≤ 256 }
     ensures { IfOk result (λ opened. vec_len opened.posts ≡ sites) }
@@ -31,12 +35,12 @@ pub(crate) fn open(alloc: Global, sites: Sites, pages: u32) -> Result<Opened, Al
     Ok(Opened { posts, desks })
 }
 
-fn open_site(
-    alloc: Global,
+fn open_site<A: Allocator + Copy>(
+    alloc: A,
     sites: Sites,
     site: SiteId,
     pages: u32,
-) -> Result<(Post, Desk), AllocError>
+) -> Result<(Post<A>, Desk<A>), AllocError>
     requires below { site < sites }
     requires from { 1 ≤ pages }
     requires to { pages ≤ 256 }

@@ -6,26 +6,26 @@ use crossbeam_channel::Sender;
 use rand_core::Rng;
 use rand_pcg::Lcg64Xsh32;
 use shm_boxes::SiteBox;
-use std::alloc::{AllocError, Global};
+use std::alloc::{AllocError, Allocator, Global};
 use std::sync::{Mutex, Wait};
 
 /// A site in its box, under its lock, and the channel of its thread.
 #[derive(Drop)]
-pub(crate) struct Post {
-    pub(crate) site: Mutex<SiteBox>,
-    pub(crate) mail: Sender<Mail>,
+pub(crate) struct Post<A: Allocator + Copy = Global> {
+    pub(crate) site: Mutex<SiteBox<A>>,
+    pub(crate) mail: Sender<Mail<A>, A>,
 }
 
 /// All sites, each at its number.
 #[derive(Drop)]
-pub(crate) struct Shared {
-    pub(crate) posts: Vec<Post>,
-    pub(crate) alloc: Global,
+pub(crate) struct Shared<A: Allocator + Copy = Global> {
+    pub(crate) posts: Vec<Post<A>, A>,
+    pub(crate) alloc: A,
 }
 
-impl Shared {
+impl<A: Allocator + Copy> Shared<A> {
     /// Puts each envelope into the channel of the site that it is for.
-    pub(crate) fn send_all<R: Wait>(&self, rt: &R, all: Vec<Posted>) {
+    pub(crate) fn send_all<R: Wait>(&self, rt: &R, all: Vec<Posted<A>, A>) {
         'envelopes: for posted in all {
             self.send(rt, posted);
         }
@@ -35,7 +35,7 @@ impl Shared {
     pub(crate) fn send_over_network<R: Wait>(
         &self,
         rt: &R,
-        all: Vec<Posted>,
+        all: Vec<Posted<A>, A>,
         draws: &mut Lcg64Xsh32,
     ) {
         'envelopes: for posted in all {
@@ -43,7 +43,7 @@ impl Shared {
         }
     }
 
-    fn send_by_fate<R: Wait>(&self, rt: &R, posted: Posted, fate: Fate) {
+    fn send_by_fate<R: Wait>(&self, rt: &R, posted: Posted<A>, fate: Fate) {
         match fate {
             Fate::Lost => drop(posted),
             Fate::Once => self.send(rt, posted),
@@ -57,8 +57,8 @@ impl Shared {
     }
 
     /// An envelope for no site, or for which there is no memory, is lost.
-    fn send<R: Wait>(&self, rt: &R, posted: Posted) {
-        let Some(post) = self.posts.get(posted.envelope.to.0 as usize) else {
+    fn send<R: Wait>(&self, rt: &R, posted: Posted<A>) {
+        let Some(post) = self.posts.get(posted.to().0 as usize) else {
             return;
         };
         let _ = post.mail.send(rt, Mail::Envelope(posted));

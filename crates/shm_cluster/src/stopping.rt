@@ -6,17 +6,17 @@ use crate::cluster::Cluster;
 use crate::mail::Mail;
 use crate::shared::{Post, Shared};
 use shm_boxes::SiteLog;
-use std::alloc::AllocError;
+use std::alloc::{AllocError, Allocator};
 use std::sync::{Arc, Wait};
 use std::thread::{JoinHandle, Threads};
 
 /// How often a thread is told to stop, where memory is refused.
 const TRIES: u32 = 1_000;
 
-impl Cluster {
+impl<A: Allocator + Copy> Cluster<A> {
     /// Ends the threads, and gives the logs of all sites in their order. What is still in a channel is lost. Where memory is refused no
     /// log is handed out, and a thread that couldn't be told ends with the program.
-    pub fn stop<R: Threads + Wait>(self, rt: &R) -> Result<Vec<SiteLog>, AllocError>
+    pub fn stop<R: Threads + Wait>(self, rt: &R) -> Result<Vec<SiteLog<A>, A>, AllocError>
         ensures { IfOk result (λ logs. vec_len logs ≡ sites_of self) }
     {
         let Cluster { shared, threads } = self;
@@ -29,10 +29,10 @@ impl Cluster {
 }
 
 /// Tells each thread to stop, and joins those that were told.
-pub(crate) fn end<R: Threads + Wait>(
+pub(crate) fn end<R: Threads + Wait, A: Allocator + Copy>(
     rt: &R,
-    shared: &Shared,
-    threads: Vec<JoinHandle<()>>,
+    shared: &Shared<A>,
+    threads: Vec<JoinHandle<()>, A>,
 ) -> Result<(), AllocError> {
     let mut untold = false;
     'threads: for (post, thread) in shared.posts.iter().zip(threads) {
@@ -46,7 +46,7 @@ pub(crate) fn end<R: Threads + Wait>(
 }
 
 /// Whether the thread could be told to stop.
-fn tell<R: Wait>(rt: &R, post: &Post) -> bool {
+fn tell<R: Wait, A: Allocator + Copy>(rt: &R, post: &Post<A>) -> bool {
     'tries: for _ in 0..TRIES {
         if post.mail.send(rt, Mail::Stop).is_ok() {
             return true;
@@ -55,15 +55,15 @@ fn tell<R: Wait>(rt: &R, post: &Post) -> bool {
     false
 }
 
-fn logs(shared: Shared) -> Result<Vec<SiteLog>, AllocError>
+fn logs<A: Allocator + Copy>(shared: Shared<A>) -> Result<Vec<SiteLog<A>, A>, AllocError>
     ensures { IfOk result (λ logs. vec_len logs ≡ vec_len shared.posts) }
 {
     let Shared { posts, alloc } = shared;
-    let mut logs = Vec::new(alloc);
+    let mut logs = Vec::with_capacity(alloc, posts.len())?;
     'sites: for post in posts {
         let Post { site, mail } = post;
         drop(mail);
-        logs.push(site.into_inner().into_log())?;
+        logs.push_reserved(site.into_inner().into_log());
     }
     Ok(logs)
 }

@@ -10,6 +10,8 @@ use std::test::Fail;
 use std::thread;
 use std::thread::Threads;
 
+mod memory;
+
 /// How many turns a wait has.
 const TURNS: u64 = 10_000_000_000;
 

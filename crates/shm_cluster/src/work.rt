@@ -15,19 +15,25 @@ use crossbeam_channel::Receiver;
 use rand_pcg::Lcg64Xsh32;
 use shm_boxes::{Input, SiteBox, Stamp};
 use shm_place::SiteId;
-use std::alloc::Global;
+use std::alloc::{Allocator, Global};
 use std::sync::Wait;
 
 /// What a site's thread is given: which site it is, and its end of the channel.
 #[derive(Drop)]
-pub(crate) struct Desk {
+pub(crate) struct Desk<A: Allocator + Copy = Global> {
     pub(crate) site: SiteId,
-    pub(crate) mail: Receiver<Mail>,
+    pub(crate) mail: Receiver<Mail<A>, A>,
 }
 
 /// Makes a step of the site for all that its channel brings, until it is told to stop. The network is drawn from the generator of this
 /// seed that has the site's number for its stream.
-pub(crate) fn work<R: Wait, G: Gate>(rt: &R, shared: &Shared, gate: &G, desk: Desk, seed: u64) {
+pub(crate) fn work<R: Wait, A: Allocator + Copy, G: Gate>(
+    rt: &R,
+    shared: &Shared<A>,
+    gate: &G,
+    desk: Desk<A>,
+    seed: u64,
+) {
     let Desk { site, mail } = desk;
     let mut draws = Lcg64Xsh32::new(seed, u64::from(site.0));
     let Some(post) = shared.posts.get(site.0 as usize) else {
@@ -43,7 +49,7 @@ pub(crate) fn work<R: Wait, G: Gate>(rt: &R, shared: &Shared, gate: &G, desk: De
 }
 
 /// What the site is to take, and where that was sent. At the end there is nothing more.
-fn input_of(mail: Mail) -> Option<(Input, Stamp)> {
+fn input_of<A: Allocator + Copy>(mail: Mail<A>) -> Option<(Input<A>, Stamp)> {
     match mail {
         Mail::Envelope(Posted { envelope, source }) => Some((Input::Deliver(envelope), source)),
         Mail::Tick => Some((Input::Tick, Stamp::NONE)),
@@ -52,15 +58,15 @@ fn input_of(mail: Mail) -> Option<(Input, Stamp)> {
 }
 
 /// One step under the site's lock, past the gate. The lock is let go before anything is sent.
-fn step<R: Wait, G: Gate>(
+fn step<R: Wait, A: Allocator + Copy, G: Gate>(
     rt: &R,
-    post: &Post,
+    post: &Post<A>,
     gate: &G,
     site: SiteId,
-    alloc: Global,
-    input: Input,
+    alloc: A,
+    input: Input<A>,
     source: Stamp,
-) -> Vec<Posted> {
+) -> Vec<Posted<A>, A> {
     let mut held = post.site.lock(rt);
     gate.pass(site);
     let posted = taken(&mut held, alloc, input, source);
@@ -69,7 +75,12 @@ fn step<R: Wait, G: Gate>(
 }
 
 /// Gives the box its input, and tells what the step sent. Where the box doesn't take it, nothing happens.
-fn taken(site: &mut SiteBox, alloc: Global, input: Input, source: Stamp) -> Vec<Posted>
+pub(crate) fn taken<A: Allocator + Copy>(
+    site: &mut SiteBox<A>,
+    alloc: A,
+    input: Input<A>,
+    source: Stamp,
+) -> Vec<Posted<A>, A>
     ensures step { (box_of site.new ≡ box_of site.old) ⊎ (box_of site.new ≡ after (box_of site.old) (input_in input) (stamp_of source)) }
     ensures sent { All (IsSent (box_of site.new).log) result.items }
 {

@@ -7,7 +7,7 @@ use Rattle.shm_cluster.proofs.Sent.{one_more, read_at}
 use Rattle.shm_cluster.proofs.copies.add.Goals as goal
 
 pub returns : goal.returns
-returns c =
+returns g c =
     let posted = c.in_ok-posted.posted in
     let step = c.args.step.now in
     let same : envelope_of posted.envelope ≡ envelope_of c.index.result.now = c.in_ok-posted.ensures.0 in

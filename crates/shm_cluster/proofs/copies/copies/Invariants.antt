@@ -5,4 +5,4 @@ use Rattle.shm_cluster.specs.Posted.{IsOf}
 use Rattle.shm_cluster.proofs.copies.copies.Given as goal
 
 abbrev pub invariant-places : goal.invariant-places
-invariant-places l = All (IsOf l.index (logged_of l.step)) l.all.items
+invariant-places g l = All (IsOf l.index (logged_of l.step)) l.all.items

@@ -7,7 +7,7 @@ use Rattle.shm_cluster.proofs.Sent.{all_sent, read_at}
 use Rattle.shm_cluster.proofs.copies.posted_by.Goals as goal
 
 pub returns : goal.returns
-returns c =
+returns g c =
     let step = c.index-steps-index.result in
     let log = steps_of c.args.log.now in
     let there : slice_get log c.args.index ≡ Some (logged_of step) =

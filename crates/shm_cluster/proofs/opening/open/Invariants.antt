@@ -3,4 +3,4 @@ use Rattle.std.proofs.Common.{◌≡◌, vec_len}
 use Rattle.shm_cluster.proofs.opening.open.Given as goal
 
 abbrev pub invariant-sites : goal.invariant-sites
-invariant-sites l = vec_len l.posts ≡ l.number
+invariant-sites g l = vec_len l.posts ≡ l.number
