@@ -1,3 +1,4 @@
+mod examples;
 mod growths;
 mod prefixes;
 mod refused;

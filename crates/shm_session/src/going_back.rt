@@ -8,18 +8,19 @@ ghost use Rattle.shm_session.specs.Standing.{Standing, first_events, standing, s
 ghost use Rattle.shm_world.specs.World.{StandsFor};
 
 use crate::checkpoint::Checkpoint;
-use crate::checkpoints::{Checkpoints, KEPT};
+use crate::checkpoints::Checkpoints;
 use crate::fault::BackFault;
 use crate::opening::Opening;
 use crate::session::Session;
 use shm_world::{Event, World};
 use std::alloc::{AllocError, Allocator};
 
-/// A checkpoint is made after each so many events.
+/// A checkpoint can be made after each so many events.
 const STRIDE: usize = 64;
 
 impl<A: Allocator + Copy> Session<A> {
     /// Takes the last `count` events back, and answers how many stand. Where memory is refused, or fewer events stand, nothing changes.
+    /// To take none back takes no memory.
     pub fn back(&mut self, count: u32) -> Result<u64, BackFault>
         ensures enough { OnOk result (count ≤ length self.old.events) }
         ensures left { IfOk result (λ left. left ≡ length self.new.events) }
@@ -31,6 +32,9 @@ impl<A: Allocator + Copy> Session<A> {
         let stood = self.events.len();
         if stood < count {
             return Err(BackFault::PastBeginning);
+        }
+        if count == 0 {
+            return Ok(stood as u64);
         }
         let left = stood - count;
         self.checkpoints.drop_past(left as u64);
@@ -87,7 +91,7 @@ fn nearest<A: Allocator + Copy>(
     }
 }
 
-/// Runs the events from the place `from` on, and keeps the last checkpoints that it passes.
+/// Runs the events from the place `from` on, and keeps some of the checkpoints that it passes: the nearer to the last, the more.
 fn run_on<A: Allocator + Copy>(
     world: &mut World<A>,
     events: &[Event],
@@ -105,8 +109,8 @@ fn run_on<A: Allocator + Copy>(
     Ok(())
 }
 
-/// Keeps a copy of the world after `count` events on the way to `last`, where it is one of the last checkpoints. Where memory is refused
-/// it isn't kept.
+/// Keeps a copy of the world after `count` events on the way to `last`, where it is one of the checkpoints that are kept: counted from the
+/// last one, the 1st, 2nd, 4th, 8th and so on. Where memory is refused it isn't kept.
 fn keep<A: Allocator + Copy>(
     world: &World<A>,
     count: usize,
@@ -116,7 +120,8 @@ fn keep<A: Allocator + Copy>(
     requires { count ≤ last }
     ensures { (s : Standing) → count ≤ length s.events → StandsFor world.now (stood (first_events count s)) → AllHold s checkpoints.old → AllHold s checkpoints.new }
 {
-    if count % STRIDE != 0 || last - count >= STRIDE * KEPT {
+    let from_the_last = (last - count) / STRIDE + 1;
+    if count % STRIDE != 0 || !from_the_last.is_power_of_two() {
         return;
     }
     if let Ok(copy) = world.copy() {
