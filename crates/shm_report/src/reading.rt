@@ -1,4 +1,7 @@
 //! The whole input, before anything runs.
+ghost use Rattle.std.specs.Prelude.{◌≡◌, take, IfOk, IfSome};
+ghost use Rattle.shm_workload.specs.Limits.{max_bytes};
+
 use crate::report_fault::ReportFault;
 use std::alloc::Global;
 use std::io::{ErrorKind, Read};
@@ -7,9 +10,11 @@ use std::io::{ErrorKind, Read};
 const MAX_BYTES: u64 = 10_000 * 201 + 1;
 
 /// Reads to the end, or until there are more bytes than a workload can have.
-pub(crate) fn read_all<I: Read>(alloc: Global, reader: &mut I) -> Result<Vec<u8>, ReportFault> {
+pub(crate) fn read_all<I: Read>(alloc: Global, reader: &mut I) -> Result<Vec<u8>, ReportFault>
+    ensures { IfOk result (λ bytes. IfSome (I.remaining reader.old) (λ all. bytes.items ≡ take max_bytes all)) }
+{
     let mut bytes = Vec::new(alloc);
-    match reader.by_ref().take(MAX_BYTES).read_to_end(&mut bytes) {
+    match reader.take(MAX_BYTES).read_to_end(&mut bytes) {
         Ok(_) => Ok(bytes),
         Err(error) => Err(fault_of(error.kind())),
     }

@@ -1,5 +1,10 @@
 //! A whole workload, from a reader to a writer.
-ghost use Rattle.std.specs.Prelude.{◌≡◌, ◌≤◌, ◌⊎◌, IfErr, IfOk};
+ghost use Rattle.std.specs.Prelude.{◌≡◌, ◌≤◌, ◌⊎◌, ℕ, List, Ok, length, IfErr, IfOk, IfSome, OnOk};
+ghost use Rattle.std.specs.Io.KnownBytes.{Appends};
+ghost use Rattle.shm_merge.specs.Logs.{logs_of};
+ghost use Rattle.shm_running.specs.Callers.{AllServed};
+ghost use Rattle.shm_workload.specs.Workload.{workload_of};
+ghost use Rattle.shm_report.specs.Report.{whole_of, IsReport, IsReportOf};
 ghost use Rattle.shm_report.specs.declared.report_fault.ReportFault.TheVariants as cause;
 
 use crate::auditing::audited;
@@ -26,6 +31,8 @@ pub fn report<R: Threads + Wait + Copy + Send + Sync + 'static, I: Read, O: Writ
     writer: &mut O,
 ) -> Result<(), ReportFault>
     ensures quiet { IfErr result (λ fault. (fault ≡ cause.WriteFault) ⊎ (writer.new ≡ writer.old)) }
+    ensures told { OnOk result ((text : List ℕ) × Appends (O.contents writer.old) (O.contents writer.new) text
+        × IsReport sites (I.remaining reader.old) text) }
 {
     let workload = match read_workload(alloc, sites, reader) {
         Ok(workload) => workload,
@@ -44,6 +51,8 @@ fn read_workload<I: Read>(
     sites: Sites,
     reader: &mut I,
 ) -> Result<Workload, ReportFault>
+    ensures read { IfOk result (λ workload. IfSome (I.remaining reader.old) (λ bytes.
+        workload_of sites bytes ≡ Ok (whole_of workload))) }
     ensures pages { IfOk result (λ workload. (1 ≤ workload.pages) × (workload.pages ≤ 256)) }
 {
     let bytes = match read_all(alloc, reader) {
@@ -64,7 +73,11 @@ fn tell<O: Write>(
     ran: &Ran,
     writer: &mut O,
 ) -> Result<(), ReportFault>
+    requires served { AllServed sites workload.now.accesses.items ran.now.callers.items }
+    requires logs { length ran.now.logs.items ≡ sites }
     ensures quiet { IfErr result (λ fault. (fault ≡ cause.WriteFault) ⊎ (writer.new ≡ writer.old)) }
+    ensures told { OnOk result ((text : List ℕ) × Appends (O.contents writer.old) (O.contents writer.new) text
+        × IsReportOf sites (whole_of workload.now) (logs_of ran.now.logs.items) ran.now.callers.items text) }
 {
     match audited(alloc, sites, workload.pages, ran) {
         Ok(()) => {}

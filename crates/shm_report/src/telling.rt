@@ -1,5 +1,9 @@
 //! The text of a report.
-ghost use Rattle.std.specs.Prelude.{◌≡◌, IfErr};
+ghost use Rattle.std.specs.Prelude.{◌≡◌, ◌+◌, ◌++◌, ◌<◌, length, slice_index, slice_set, IfErr, IfOk, IfSome, IsSome, OnOk};
+ghost use Rattle.std.specs.Io.KnownBytes.{Appends};
+ghost use Rattle.shm_running.specs.Callers.{AllServed};
+ghost use Rattle.shm_workload.specs.Access.{site_of};
+ghost use Rattle.shm_report.specs.Report.{audit_yes, HasReceipt, TellsLines, TellsReceipt};
 ghost use Rattle.shm_report.specs.declared.report_fault.ReportFault.TheVariants as cause;
 
 use crate::report_fault::ReportFault;
@@ -19,15 +23,19 @@ pub(crate) fn told(
     alloc: Global,
     accesses: &[Access],
     callers: &[Vec<Receipt>],
-) -> Result<Text, ReportFault> {
+) -> Result<Text, ReportFault>
+    requires { AllServed (length callers.now) accesses.now callers.now }
+    ensures { IfOk result (TellsLines accesses.now callers.now) }
+{
     let Ok(mut text) = Text::new(alloc, 0, 0) else {
         return Err(ReportFault::OutOfMemory);
     };
-    if text.tell(1, "ready").is_err() {
-        return Err(ReportFault::OutOfMemory);
+    match text.tell(1, "ready") {
+        Ok(()) => {}
+        Err(_) => return Err(ReportFault::OutOfMemory),
     }
     let mut told_of: ToldOf = [0; MAX_SITES as usize];
-    for (place, access) in accesses.iter().enumerate() {
+    'accesses: for (place, access) in accesses.iter().enumerate() {
         let number = place as u64 + 2;
         match tell(&mut text, &mut told_of, number, access, callers) {
             Ok(()) => {}
@@ -44,8 +52,16 @@ fn tell(
     number: u64,
     access: &Access,
     callers: &[Vec<Receipt>],
-) -> Result<(), ReportFault> {
-    let Some(receipt) = next_receipt(told_of, access.site().0 as usize, callers) else {
+) -> Result<(), ReportFault>
+    ensures known { OnOk result (site_of access.now < length told_of.old) }
+    ensures told { OnOk result (TellsReceipt callers.now (site_of access.now) (slice_index told_of.old (site_of access.now)) number text.old text.new) }
+    ensures more { OnOk result (told_of.new ≡ slice_set told_of.old (site_of access.now) (slice_index told_of.old (site_of access.now) + 1)) }
+{
+    let site = access.site().0 as usize;
+    let Some(place) = next_place(told_of, site) else {
+        return Err(ReportFault::Logs);
+    };
+    let Some(receipt) = receipt_at(callers, site, place) else {
         return Err(ReportFault::Logs);
     };
     match text.tell(number, AnswerText(receipt.answer())) {
@@ -54,17 +70,42 @@ fn tell(
     }
 }
 
-/// The first receipt of this site's caller that wasn't told yet.
-fn next_receipt(told_of: &mut ToldOf, site: usize, callers: &[Vec<Receipt>]) -> Option<Receipt> {
-    let next = told_of.get_mut(site)?;
-    let receipt = *callers.get(site)?.get(*next)?;
-    *next = *next + 1;
-    Some(receipt)
+/// How many of the site's receipts were told before. One more is told now.
+fn next_place(told_of: &mut ToldOf, site: usize) -> Option<usize>
+    ensures known { IsSome result → site < length told_of.old }
+    ensures place { IfSome result (λ place. place ≡ slice_index told_of.old site) }
+    ensures more { IsSome result → told_of.new ≡ slice_set told_of.old site (slice_index told_of.old site + 1) }
+{
+    if site >= told_of.len() {
+        return None;
+    }
+    let place = told_of[site];
+    match place.checked_add(1) {
+        Some(next) => {
+            told_of[site] = next;
+            Some(place)
+        }
+        None => None,
+    }
 }
 
-/// Writes the report, and that the audit found nothing.
+/// The receipt at this place of the site's caller.
+fn receipt_at(callers: &[Vec<Receipt>], site: usize, place: usize) -> Option<Receipt>
+    ensures { IfSome result (HasReceipt callers.now site place) }
+{
+    match callers.get(site) {
+        Some(caller) => match caller.get(place) {
+            Some(receipt) => Some(*receipt),
+            None => None,
+        },
+        None => None,
+    }
+}
+
+/// Writes the lines, and that the audit found nothing.
 pub(crate) fn write_report<O: Write>(text: &Text, writer: &mut O) -> Result<(), ReportFault>
-    ensures { IfErr result (λ fault. fault ≡ cause.WriteFault) }
+    ensures fault { IfErr result (λ fault. fault ≡ cause.WriteFault) }
+    ensures written { OnOk result (Appends (O.contents writer.old) (O.contents writer.new) (text.now ++ audit_yes)) }
 {
     if writer.write_all(text.as_bytes()).is_err() {
         return Err(ReportFault::WriteFault);

@@ -7,7 +7,7 @@ use Rattle.std.proofs.lemmas.List.Elements.{filter-append}
 use Rattle.shm_boxes.specs.declared.receipt.Receipt.{Receipt}
 use Rattle.shm_workload.specs.Access.{site_of}
 use Rattle.shm_workload.specs.declared.access.Access.{Access}
-use Rattle.shm_running.specs.Callers.{Adds, Serves, ServesAll, lines_of}
+use Rattle.shm_running.specs.Callers.{Adds, Serves, ServesAll}
 
 zip-push : (xs : List Access) (ys : List Receipt) (x : Access) (y : Receipt) → AllZip Serves xs ys → Serves x y → AllZip Serves (xs ++ x ∷ []) (ys ++ y ∷ [])
 zip-push [] [] x y h r = (r, tt)

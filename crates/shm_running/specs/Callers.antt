@@ -1,5 +1,5 @@
 -- What the caller of a site does of a workload, and what it is told.
-use Rattle.std.specs.Prelude.{◌≡◌, ℕ, ◌==◌, List, [], ◌∷◌, ◌++◌, MatchBool}
+use Rattle.std.specs.Prelude.{◌≡◌, ℕ, ◌<◌, ◌==◌, List, [], ◌∷◌, ◌++◌, Result, Vec, IfOk, MatchBool, length, slice_index_or}
 use Rattle.std.specs.List.{AllZip, filter}
 use Rattle.shm_model.specs.Message.{Input, Load as LoadInput, Store as StoreInput}
 use Rattle.shm_boxes.specs.declared.receipt.Receipt.{Receipt}
@@ -29,3 +29,14 @@ ServesAll site accesses receipts = AllZip Serves (lines_of site accesses) receip
 abbrev pub Adds : ℕ → Access → List Receipt → List Receipt → Type 0
 Adds site access old new =
     MatchBool (site_of access == site) ((receipt : Receipt) × (new ≡ old ++ receipt ∷ []) × Serves access receipt) (new ≡ old)
+
+-- what the callers of so many sites were told, each at its site's number: a receipt for each of the site's lines, unless a fault ended it
+pub record ServedUnlessEnded {A Fault : Type 0} (sites : ℕ) (accesses : List Access) (told : List (Result (Vec Receipt A) Fault)) : Type 0 where
+  pub count : length told ≡ sites
+  pub each : (site : ℕ) (default : Result (Vec Receipt A) Fault) → site < sites
+      → IfOk (slice_index_or told site default) (λ receipts. ServesAll site accesses receipts.items)
+
+-- one list of receipts for each of so many sites, in the sites' order: those of the site's lines
+pub record AllServed {A : Type 0} (sites : ℕ) (accesses : List Access) (callers : List (Vec Receipt A)) : Type 0 where
+  pub count : length callers ≡ sites
+  pub each : (site : ℕ) (default : Vec Receipt A) → site < sites → ServesAll site accesses (slice_index_or callers site default).items

@@ -1,9 +1,11 @@
-ghost use Rattle.std.specs.Prelude.{◌≡◌, ◌≤◌, IfOk};
+ghost use Rattle.std.specs.Prelude.{◌≡◌, ◌≤◌, ℕ, List, Ok, map, vec_len, IfOk};
+ghost use Rattle.shm_running.specs.Callers.{AllServed, ServedUnlessEnded, ServesAll};
+ghost use Rattle.shm_workload.specs.declared.access.Access.{Access};
 
 use crate::caller::call_all;
 use crate::ran::Ran;
 use crate::run_fault::{CallFault, RunFault};
-use shm_boxes::Receipt;
+use shm_boxes::{Receipt, SiteLog};
 use shm_cluster::{ClientFault, Clients, Cluster, OpenGate, StartFault};
 use shm_place::{SiteId, Sites};
 use shm_workload::{Access, Workload};
@@ -26,6 +28,8 @@ pub fn run_workload<R: Threads + Wait + Copy + Send + Sync + 'static>(
 ) -> Result<Ran, RunFault>
     requires from { 1 ≤ workload.now.pages }
     requires to { workload.now.pages ≤ 256 }
+    ensures served { IfOk result (λ ran. AllServed sites workload.now.accesses.items ran.callers.items) }
+    ensures logs { IfOk result (λ ran. vec_len ran.logs ≡ sites) }
 {
     let cluster = match Cluster::start(rt, alloc, sites, workload.pages, seed, OpenGate) {
         Ok(cluster) => cluster,
@@ -39,15 +43,7 @@ pub fn run_workload<R: Threads + Wait + Copy + Send + Sync + 'static>(
         workload.accesses.as_slice(),
     );
     let logs = cluster.stop(rt);
-    let callers = match told {
-        Ok(told) => receipts(alloc, told),
-        Err(_) => Err(RunFault::Start(StartFault::OutOfMemory)),
-    };
-    match (callers, logs) {
-        (Ok(callers), Ok(logs)) => Ok(Ran { callers, logs }),
-        (Err(fault), _) => Err(fault),
-        (Ok(_), Err(_)) => Err(RunFault::OutOfMemory),
-    }
+    ran(alloc, told, logs)
 }
 
 /// Runs a caller for each site, in a thread of its own.
@@ -57,15 +53,14 @@ fn call<R: Threads + Wait + Sync>(
     sites: Sites,
     clients: Clients<'_>,
     accesses: &[Access],
-) -> Result<Told, AllocError> {
-    let mut callers = Vec::new(alloc);
-    'sites: for number in 0..sites.count() {
-        callers.push(SiteId(number))?;
-    }
-    thread::map_vec(
+) -> Result<Told, AllocError>
+    ensures { IfOk result (λ told. ServedUnlessEnded sites accesses.now told.items) }
+{
+    thread::map_indices(
         rt,
-        callers,
-        &|site| call_site(rt, alloc, clients, site, accesses),
+        alloc,
+        sites.count() as usize,
+        &|number| call_site(rt, alloc, clients, SiteId(number as u32), accesses),
     )
 }
 
@@ -75,7 +70,9 @@ fn call_site<R: Wait>(
     clients: Clients<'_>,
     site: SiteId,
     accesses: &[Access],
-) -> Result<Vec<Receipt>, CallFault> {
+) -> Result<Vec<Receipt>, CallFault>
+    ensures { IfOk result (λ receipts. ServesAll site accesses.now receipts.items) }
+{
     match clients.client(site) {
         Ok(client) => call_all(rt, alloc, &client, accesses),
         Err(_) => Err(CallFault {
@@ -85,14 +82,36 @@ fn call_site<R: Wait>(
     }
 }
 
-/// The receipts of all callers, or the first fault in the order of the lines.
-fn receipts(alloc: Global, told: Told) -> Result<Vec<Vec<Receipt>>, RunFault> {
-    if let Some(fault) = first_fault(&told) {
-        return Err(RunFault::Call(fault));
-    }
-    match gathered(alloc, told) {
-        Ok(callers) => Ok(callers),
+/// What came of the workload, where each caller came to its end, and the logs were given back.
+fn ran(
+    alloc: Global,
+    told: Result<Told, AllocError>,
+    logs: Result<Vec<SiteLog>, AllocError>,
+) -> Result<Ran, RunFault>
+    ensures callers { (sites : ℕ) (accesses : List Access) → IfOk told (λ told. ServedUnlessEnded sites accesses told.items) →
+        IfOk result (λ ran. AllServed sites accesses ran.callers.items) }
+    ensures logs { IfOk result (λ ran. logs ≡ Ok ran.logs) }
+{
+    let Ok(told) = told else {
+        return Err(RunFault::Start(StartFault::OutOfMemory));
+    };
+    let callers = match receipts(alloc, told) {
+        Ok(callers) => callers,
+        Err(fault) => return Err(fault),
+    };
+    match logs {
+        Ok(logs) => Ok(Ran { callers, logs }),
         Err(_) => Err(RunFault::OutOfMemory),
+    }
+}
+
+/// The receipts of all callers, or the first fault in the order of the lines.
+fn receipts(alloc: Global, told: Told) -> Result<Vec<Vec<Receipt>>, RunFault>
+    ensures { IfOk result (λ callers. told.items ≡ map Ok callers.items) }
+{
+    match first_fault(&told) {
+        Some(fault) => Err(RunFault::Call(fault)),
+        None => gathered(alloc, told),
     }
 }
 
@@ -103,11 +122,18 @@ fn first_fault(told: &Told) -> Option<CallFault> {
         .copied()
 }
 
-fn gathered(alloc: Global, told: Told) -> Result<Vec<Vec<Receipt>>, AllocError> {
+/// The receipts of all callers, where none ended by a fault.
+fn gathered(alloc: Global, told: Told) -> Result<Vec<Vec<Receipt>>, RunFault>
+    ensures { IfOk result (λ callers. told.items ≡ map Ok callers.items) }
+{
     let mut callers = Vec::new(alloc);
     'callers: for caller in told {
-        if let Ok(receipts) = caller {
-            callers.push(receipts)?;
+        match caller {
+            Ok(receipts) => match callers.push(receipts) {
+                Ok(()) => {}
+                Err(_) => return Err(RunFault::OutOfMemory),
+            },
+            Err(fault) => return Err(RunFault::Call(fault)),
         }
     }
     Ok(callers)

@@ -1,0 +1,4 @@
+pub mod Found
+pub mod Lines
+pub mod Reports
+pub mod WholeInput

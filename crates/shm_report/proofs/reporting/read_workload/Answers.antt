@@ -1,0 +1,11 @@
+-- A workload that was read up to the limit is the whole one.
+use Rattle.std.proofs.Common.{◌∙◌, ap, sym}
+use Rattle.shm_workload.specs.Workload.{workload_of}
+use Rattle.shm_report.proofs.WholeInput.{whole_input}
+use Rattle.shm_report.proofs.reporting.read_workload.Goals as goal
+
+pub returns-in-Ok-parse_workload-clause-read : goal.returns-in-Ok-parse_workload-clause-read
+returns-in-Ok-parse_workload-clause-read g c =
+    whole_input c.args.sites (g.I.Read.remaining c.args.reader.now) c.in-Ok.bytes.items
+    (record { size = c.in-Ok-parse_workload.workload.pages; accesses = c.in-Ok-parse_workload.workload.accesses.items })
+    c.in-Ok.ensures (ap (workload_of c.args.sites) (sym c.as_slice.ensures.value) ∙ c.in-Ok-parse_workload.ensures.ok)
