@@ -2,7 +2,7 @@
 
 PROGRAM := crates/shmdbg
 
-.PHONY: replay build test wrong-bodies
+.PHONY: replay build examples test wrong-bodies
 
 # Replays an example without proving anything: within a minute on a fresh machine.
 replay:
@@ -14,6 +14,15 @@ build:
 	@echo
 	@echo "The proved program is $(PROGRAM)/out/shmdbg. It replays a script from standard input:"
 	@echo "    $(PROGRAM)/out/shmdbg replay < examples/two-sites.shm"
+
+# The scripts of examples/ and their outputs stand in a test as well, since a test reads no file outside its crate. Fails where the two differ.
+examples:
+	@for script in examples/*.shm; do \
+		name=$$(basename "$$script" .shm); \
+		copy=crates/shm_scripts/src/tests/examples/$$(echo "$$name" | tr - _).rt; \
+		sed -nE 's/^ *(pub\(super\) const [A-Z]+: &\[u8\] =)? *(b")?([^"]*)\\n(\\|";)$$/\3/p' "$$copy" > /tmp/copy.$$$$; \
+		cat "$$script" "examples/$$name.out" | cmp - /tmp/copy.$$$$ || exit 1; rm /tmp/copy.$$$$; echo "$$name: equal"; \
+	done
 
 # The gate: proves every crate from nothing, and runs every test, every program and every edit that must fail.
 test:

@@ -7,6 +7,7 @@ use Rattle.shm_debug.specs.Replay.{Ends}
 use Rattle.shm_debug.specs.declared.outcome.Summary.{Summary}
 use Rattle.shm_debug.specs.declared.outcome.DebugFault.{DebugFault}
 use Rattle.shm_debug.specs.declared.outcome.DebugFault.TheVariants.{OutOfMemory, BadLine, LineTooLong, TooManyLines, ReadFault, WriteFault}
+use Rattle.shm_report.specs.Report.{IsReport}
 use Rattle.shm_report.specs.declared.report_fault.ReportFault.{ReportFault}
 use Rattle.shm_report.specs.declared.report_fault.ReportFault.TheVariants as report
 use Rattle.shmdbg.specs.Words.{app, asks_replay}
@@ -50,3 +51,8 @@ AsksReplay words = Takes words × (asks_replay words ≡ true)
 abbrev pub Replays : Script → ℕ → Option (List ℕ) → Option (List ℕ) → Type 0
 Replays script status old new =
     (end : Result Summary DebugFault) × (text : List ℕ) × (status ≡ status_of end) × Appends old new text × Ends script end text
+
+-- a workload was run over a number of sites, and what was then written is the report of it
+abbrev pub Reports : Option (List ℕ) → Option (List ℕ) → Option (List ℕ) → Type 0
+Reports workload old new =
+    (sites : ℕ) × (text : List ℕ) × Appends old new text × IsReport sites workload text

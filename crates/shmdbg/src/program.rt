@@ -1,6 +1,6 @@
 ghost use Rattle.std.specs.Prelude.{◌≡◌, ◌≢◌, ◌<◌, ℕ, List, [], ◌∷◌, codes, false, map, IfSome};
 ghost use Rattle.shm_debug.specs.Script.{script_of};
-ghost use Rattle.shmdbg.specs.Status.{AsksReplay, Replays, Takes};
+ghost use Rattle.shmdbg.specs.Status.{AsksReplay, Replays, Reports, Takes};
 ghost use Rattle.shmdbg.specs.Words.{asks_replay};
 
 use crate::tell;
@@ -29,6 +29,8 @@ pub fn run_words<
     ensures plain { (name : List ℕ) → map S.text words.now ≡ name ∷ codes "replay" ∷ [] → result ≢ 2 }
     ensures replayed { AsksReplay (map S.text words.now) → IfSome (I.remaining reader.old) (λ bytes.
         Replays (script_of bytes) result (O.contents out.old) (O.contents out.new)) }
+    ensures reported { asks_replay (map S.text words.now) ≡ false → result ≡ 0 →
+        Reports (I.remaining reader.old) (O.contents out.old) (O.contents out.new) }
     ensures audit { result ≡ 4 → asks_replay (map S.text words.now) ≡ false }
     ensures nothing_read { result ≡ 2 → reader.new ≡ reader.old }
     ensures nothing_written { result ≡ 2 → out.new ≡ out.old }
@@ -55,6 +57,7 @@ fn run<R: AllocGlobal + Threads + Wait + Copy + Send + Sync + 'static, I: Read, 
 ) -> u8
     ensures range { result < 5 }
     ensures taken { result ≢ 2 }
+    ensures reported { result ≡ 0 → Reports (I.remaining reader.old) (O.contents out.old) (O.contents out.new) }
 {
     let Ok(sites) = Sites::new(sites) else {
         return tell::run_fault(ReportFault::Logs, errors);
