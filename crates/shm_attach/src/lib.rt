@@ -10,8 +10,6 @@ mod fault;
 mod home;
 mod number;
 mod run;
-#[cfg(test)]
-mod tests;
 
 pub use access::right;
 pub use attachments::{Attachments, MAX_ATTACHMENTS};

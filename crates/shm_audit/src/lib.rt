@@ -12,6 +12,3 @@ mod steps;
 
 pub use audit_fault::AuditFault;
 pub use auditing::audit;
-
-#[cfg(test)]
-mod tests;

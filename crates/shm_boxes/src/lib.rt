@@ -22,6 +22,3 @@ pub use site_box::SiteBox;
 pub use site_log::SiteLog;
 pub use stamp::Stamp;
 pub use step::Step;
-
-#[cfg(test)]
-mod tests;

@@ -8,8 +8,6 @@ mod outcome;
 mod output;
 mod player;
 mod script;
-#[cfg(test)]
-mod tests;
 mod turns;
 
 pub use outcome::{DebugFault, Summary};

@@ -13,8 +13,6 @@ mod replace;
 mod segment;
 mod site_set;
 mod table;
-#[cfg(test)]
-mod tests;
 
 pub use get::{GetFault, MAX_LIVE};
 pub use shm_model::{Attached, Cred, Errno, GetFlags, Mode, Stat};

@@ -10,8 +10,6 @@ mod parse_calls;
 mod spelling;
 mod spelling_calls;
 mod spelling_first;
-#[cfg(test)]
-mod tests;
 mod words;
 
 pub use line::Line;

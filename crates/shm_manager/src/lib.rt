@@ -8,8 +8,6 @@ mod orders;
 mod queue;
 mod rows;
 mod site_set;
-#[cfg(test)]
-mod tests;
 
 pub use book::Book;
 pub use orders::{Order, Orders};

@@ -5,4 +5,3 @@ pub mod Least
 pub mod Merged
 pub mod Numbers
 pub mod Deliveries
-pub mod Rising

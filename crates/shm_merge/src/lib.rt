@@ -14,6 +14,3 @@ pub use replaying::events;
 pub use shm_boxes::{SiteLog, Step};
 pub use shm_model::Event;
 pub use step_name::StepName;
-
-#[cfg(test)]
-mod tests;

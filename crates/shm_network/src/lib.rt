@@ -5,6 +5,3 @@ mod carrying;
 mod network;
 
 pub use network::Network;
-
-#[cfg(test)]
-mod tests;

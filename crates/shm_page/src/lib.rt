@@ -21,6 +21,3 @@ pub use out::Out;
 pub use own_read::OwnReadPage;
 pub use own_write::OwnWritePage;
 pub use read_grant::ReadGrant;
-
-#[cfg(test)]
-mod tests;

@@ -96,52 +96,37 @@ impl<A: Allocator + Copy> Message<A> {
         ensures { IfOk result (λ message. message_of message ≡ message_of self.now) }
     {
         match self {
-            Message::Ask {
+            &Message::Ask {
                 page,
                 request,
                 kind,
             } => Ok(Message::Ask {
-                page: *page,
-                request: *request,
-                kind: *kind,
+                page,
+                request,
+                kind,
             }),
-            Message::Clear { page, number } => Ok(Message::Clear {
-                page: *page,
-                number: *number,
-            }),
-            Message::Cleared { page, number } => Ok(Message::Cleared {
-                page: *page,
-                number: *number,
-            }),
-            Message::Hand {
+            &Message::Clear { page, number } => Ok(Message::Clear { page, number }),
+            &Message::Cleared { page, number } => Ok(Message::Cleared { page, number }),
+            &Message::Hand {
                 page,
                 number,
                 kind,
                 to,
             } => Ok(Message::Hand {
-                page: *page,
-                number: *number,
-                kind: *kind,
-                to: *to,
+                page,
+                number,
+                kind,
+                to,
             }),
             Message::Page { page, grant } => {
                 let grant = grant.copy()?;
                 Ok(Message::Page { page: *page, grant })
             }
-            Message::Confirm { page, number } => Ok(Message::Confirm {
-                page: *page,
-                number: *number,
-            }),
-            Message::Call { number, op } => Ok(Message::Call {
-                number: *number,
-                op: *op,
-            }),
-            Message::Reply { number, reply } => Ok(Message::Reply {
-                number: *number,
-                reply: *reply,
-            }),
-            Message::Purge { id } => Ok(Message::Purge { id: *id }),
-            Message::Purged { id } => Ok(Message::Purged { id: *id }),
+            &Message::Confirm { page, number } => Ok(Message::Confirm { page, number }),
+            &Message::Call { number, op } => Ok(Message::Call { number, op }),
+            &Message::Reply { number, reply } => Ok(Message::Reply { number, reply }),
+            &Message::Purge { id } => Ok(Message::Purge { id }),
+            &Message::Purged { id } => Ok(Message::Purged { id }),
         }
     }
 }

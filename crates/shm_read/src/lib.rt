@@ -8,6 +8,3 @@ mod take;
 
 pub use lend::lend_to;
 pub use take::take_copy;
-
-#[cfg(test)]
-mod tests;

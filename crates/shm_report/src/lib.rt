@@ -7,8 +7,6 @@ mod reading;
 mod report_fault;
 mod reporting;
 mod telling;
-#[cfg(test)]
-mod tests;
 
 pub use report_fault::ReportFault;
 pub use reporting::report;

@@ -5,8 +5,6 @@ mod caller;
 mod ran;
 mod run_fault;
 mod running;
-#[cfg(test)]
-mod tests;
 
 pub use ran::Ran;
 pub use run_fault::{CallFault, RunFault};

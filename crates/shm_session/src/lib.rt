@@ -9,8 +9,6 @@ mod going_back;
 mod opening;
 mod session;
 mod showing;
-#[cfg(test)]
-mod tests;
 
 pub use fault::BackFault;
 pub use session::Session;

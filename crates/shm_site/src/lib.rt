@@ -32,6 +32,3 @@ pub use shm_model::Answer;
 pub use shm_parts::{Envelope, Grant, Message, Outbox};
 pub use site::Site;
 pub use step_error::{StepError, StepFault};
-
-#[cfg(test)]
-mod tests;

@@ -9,8 +9,6 @@ mod printing;
 mod reply_text;
 mod sent;
 mod stat_text;
-#[cfg(test)]
-mod tests;
 mod text;
 
 pub use answer_text::AnswerText;

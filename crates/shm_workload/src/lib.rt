@@ -4,8 +4,6 @@
 mod access;
 mod fault;
 mod line;
-#[cfg(test)]
-mod tests;
 mod workload;
 
 pub use access::Access;

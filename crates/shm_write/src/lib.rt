@@ -10,6 +10,3 @@ mod taking;
 pub use clearing::clear;
 pub use handing::hand_to;
 pub use taking::take_ownership;
-
-#[cfg(test)]
-mod tests;

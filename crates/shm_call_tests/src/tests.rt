@@ -1,0 +1,3 @@
+mod attach;
+mod full_heap;
+mod keys;

@@ -1,0 +1,30 @@
+use shm_keys::{Cred, Mode, SegTable, Stat};
+use shm_place::{Key, SegId, SiteId, Sites};
+use std::test::Fail;
+
+const ANYONE: Cred = Cred { uid: 10, gid: 20 };
+
+#[test]
+fn segment_0_is_made_at_site_0(rt: HostRuntime) -> Result<(), Fail> {
+    let sites = Sites::new(3).ok().ok_or("three sites")?;
+    let home = SiteId(0);
+    let other = SiteId(1);
+    assert!(rt; home.0 < sites.count());
+    assert!(rt; other.0 < sites.count());
+    let table = SegTable::preset(rt.alloc(), home, sites, 2)?;
+    let expected = Stat {
+        key: Key(0),
+        uid: 0,
+        gid: 0,
+        cuid: 0,
+        cgid: 0,
+        mode: Mode(0o666),
+        size: 8192,
+        nattch: 3,
+        marked: false,
+    };
+    assert_eq!(rt; table.stat(ANYONE, SegId(0)), Ok(expected));
+    let empty = SegTable::preset(rt.alloc(), other, sites, 2)?;
+    assert!(rt; empty.stat(ANYONE, SegId(1)).is_err());
+    Ok(())
+}

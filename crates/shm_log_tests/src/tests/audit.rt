@@ -1,0 +1,323 @@
+//! Boxes that are given inputs from tables; what the audit says of their logs, with receipts as they were told, mixed up, or of others.
+//!
+//! Whoever holds logs drops them by name: a drop at the end of its scope is written out there, and takes far longer to prove.
+use super::expect;
+use shm_audit::{AuditFault, audit};
+use shm_boxes::{Envelope, Input, Receipt, SiteBox, SiteLog, Stamp};
+use shm_merge::{Event, logs_match};
+use shm_model::Kind;
+use shm_parts::Message;
+use shm_place::{PageId, SegId, SiteId, Sites};
+use std::alloc::{AllocError, Allocator};
+use std::test::Fail;
+
+mod deliveries;
+mod memory;
+
+/// How many pages segment 0 has.
+const PAGES: u32 = 4;
+
+/// One input of a box: an access through attachment 0, or this site asking for this page of segment 0 to read it.
+#[derive(Clone, Copy)]
+enum Given {
+    Load(u32),
+    Store(u32, u8),
+    Ask(u32, u32),
+}
+
+/// The logs of sites, and what callers were told.
+type Logs<A> = Vec<SiteLog<A>, A>;
+
+type Told<A> = Vec<Receipt, A>;
+
+const SEVEN: [(Given, Stamp); 2] = [
+    (Given::Store(0, 7), Stamp::NONE),
+    (Given::Load(0), Stamp::NONE),
+];
+
+const EIGHT: [(Given, Stamp); 2] = [
+    (Given::Store(0, 8), Stamp::NONE),
+    (Given::Load(0), Stamp::NONE),
+];
+
+const ELSEWHERE: [(Given, Stamp); 2] = [
+    (Given::Store(0, 7), Stamp::NONE),
+    (Given::Load(1), Stamp::NONE),
+];
+
+/// The steps of `SEVEN`.
+const EVENTS: [Event; 2] = [
+    Event::Store {
+        site: SiteId(0),
+        at: 0,
+        offset: 0,
+        byte: 7,
+    },
+    Event::Load {
+        site: SiteId(0),
+        at: 0,
+        offset: 0,
+    },
+];
+
+#[test]
+fn what_was_told_holds(rt: HostRuntime) -> Result<(), Fail> {
+    let logs = one_log(rt.alloc(), &SEVEN)?;
+    let told = told(rt.alloc(), 1, 0, &SEVEN)?;
+    let callers = alone(rt.alloc(), told)?;
+    let audited = audited(rt.alloc(), 1, &logs, &callers);
+    expect(&rt, are_events(&audited, &EVENTS));
+    drop(audited);
+    drop(callers);
+    drop(logs);
+    Ok(())
+}
+
+/// The second receipt is of a box that stored another byte, or loaded another place.
+#[test]
+fn receipts_of_another_box_are_forged(rt: HostRuntime) -> Result<(), Fail> {
+    let forged = Some(AuditFault::Forged {
+        site: SiteId(0),
+        index: 1,
+    });
+    expect(&rt, of_two_boxes(rt.alloc(), &EIGHT)? == forged);
+    expect(&rt, of_two_boxes(rt.alloc(), &ELSEWHERE)? == forged);
+    expect(&rt, of_two_boxes(rt.alloc(), &SEVEN)?.is_none());
+    Ok(())
+}
+
+/// Receipts of `SEVEN`: the callers' lists, by the indexes of the receipts, and the index that is forged.
+#[test]
+fn a_receipt_counts_once_and_in_its_order(rt: HostRuntime) -> Result<(), Fail> {
+    let forged = Some(AuditFault::Forged {
+        site: SiteId(0),
+        index: 0,
+    });
+    expect(&rt, of_callers(rt.alloc(), [1, 0], [])? == forged);
+    expect(&rt, of_callers(rt.alloc(), [0, 1], [0])? == forged);
+    expect(&rt, of_callers(rt.alloc(), [1], [0])?.is_none());
+    Ok(())
+}
+
+/// A receipt of site 1 of two, where the logs are those of a single site.
+#[test]
+fn a_receipt_of_a_site_without_a_log_is_forged(rt: HostRuntime) -> Result<(), Fail> {
+    let logs = one_log(rt.alloc(), &SEVEN)?;
+    let told = told(rt.alloc(), 2, 1, &SEVEN)?;
+    let callers = alone(rt.alloc(), told)?;
+    let audited = audited(rt.alloc(), 1, &logs, &callers);
+    expect(
+        &rt,
+        fault(&audited)
+            == Some(AuditFault::Forged {
+                site: SiteId(1),
+                index: 0,
+            }),
+    );
+    drop(audited);
+    drop(callers);
+    drop(logs);
+    Ok(())
+}
+
+/// What is wrong where the log is that of `SEVEN`, and the second receipt is that of a box with these inputs.
+fn of_two_boxes<A: Allocator + Copy>(
+    alloc: A,
+    other: &[(Given, Stamp)],
+) -> Result<Option<AuditFault>, AllocError> {
+    let mut told_here = told(alloc, 1, 0, &SEVEN)?;
+    let told_there = told(alloc, 1, 0, other)?;
+    replace_second(&mut told_here, &told_there);
+    drop(told_there);
+    of_told(alloc, told_here)
+}
+
+fn replace_second(told: &mut [Receipt], other: &[Receipt]) {
+    if told.len() == 2 && other.len() == 2 {
+        told[1] = other[1];
+    }
+}
+
+/// What is wrong where the log is that of `SEVEN`, and a single caller was told this.
+fn of_told<A: Allocator + Copy>(alloc: A, told: Told<A>) -> Result<Option<AuditFault>, AllocError> {
+    let logs = one_log(alloc, &SEVEN)?;
+    let callers = alone(alloc, told)?;
+    let audited = audited(alloc, 1, &logs, &callers);
+    let fault = fault(&audited);
+    drop(audited);
+    drop(callers);
+    drop(logs);
+    Ok(fault)
+}
+
+/// What is wrong where the log is that of `SEVEN`, and two callers were told of these steps of it.
+fn of_callers<A: Allocator + Copy, const M: usize, const N: usize>(
+    alloc: A,
+    first: [usize; M],
+    second: [usize; N],
+) -> Result<Option<AuditFault>, AllocError> {
+    let logs = one_log(alloc, &SEVEN)?;
+    let all = told(alloc, 1, 0, &SEVEN)?;
+    let first = chosen(alloc, &all, &first)?;
+    let second = chosen(alloc, &all, &second)?;
+    let callers = pair(alloc, first, second)?;
+    let audited = audited(alloc, 1, &logs, &callers);
+    let fault = fault(&audited);
+    drop(audited);
+    drop(callers);
+    drop(all);
+    drop(logs);
+    Ok(fault)
+}
+
+fn chosen<A: Allocator + Copy>(
+    alloc: A,
+    told: &[Receipt],
+    indexes: &[usize],
+) -> Result<Told<A>, AllocError> {
+    let mut chosen = Vec::new(alloc);
+    'indexes: for index in indexes {
+        if let Some(receipt) = told.get(*index) {
+            chosen.push(*receipt)?;
+        }
+    }
+    Ok(chosen)
+}
+
+/// What the audit says, if the logs are those of so many sites.
+fn audited<A: Allocator + Copy>(
+    alloc: A,
+    count: u32,
+    logs: &[SiteLog<A>],
+    callers: &[Told<A>],
+) -> Option<Result<Vec<Event, A>, AuditFault>> {
+    let Ok(sites) = Sites::new(count) else {
+        return None;
+    };
+    if !logs_match(sites, PAGES, logs) {
+        return None;
+    }
+    Some(audit(alloc, sites, PAGES, logs, callers))
+}
+
+/// What it says where no caller was told anything.
+fn audited_alone<A: Allocator + Copy>(
+    alloc: A,
+    count: u32,
+    logs: &[SiteLog<A>],
+) -> Option<Result<Vec<Event, A>, AuditFault>> {
+    let callers = Vec::new(alloc);
+    let audited = audited(alloc, count, logs, &callers);
+    drop(callers);
+    audited
+}
+
+fn are_events<A: Allocator + Copy>(
+    audited: &Option<Result<Vec<Event, A>, AuditFault>>,
+    expected: &[Event],
+) -> bool {
+    match audited {
+        Some(Ok(events)) => events.as_slice() == expected,
+        _ => false,
+    }
+}
+
+fn fault<A: Allocator + Copy>(
+    audited: &Option<Result<Vec<Event, A>, AuditFault>>,
+) -> Option<AuditFault> {
+    match audited {
+        Some(Err(fault)) => Some(*fault),
+        _ => None,
+    }
+}
+
+fn one_log<A: Allocator + Copy>(alloc: A, given: &[(Given, Stamp)]) -> Result<Logs<A>, AllocError> {
+    let log = logged(alloc, 1, 0, given)?;
+    alone(alloc, log)
+}
+
+fn alone<T: Drop, A: Allocator + Copy>(alloc: A, item: T) -> Result<Vec<T, A>, AllocError> {
+    let mut items = Vec::with_capacity(alloc, 1)?;
+    items.push_reserved(item);
+    Ok(items)
+}
+
+fn pair<T: Drop, A: Allocator + Copy>(
+    alloc: A,
+    first: T,
+    second: T,
+) -> Result<Vec<T, A>, AllocError> {
+    let mut items = Vec::with_capacity(alloc, 2)?;
+    items.push_reserved(first);
+    items.push_reserved(second);
+    Ok(items)
+}
+
+/// The log of this site of so many that was given these inputs.
+fn logged<A: Allocator + Copy>(
+    alloc: A,
+    count: u32,
+    me: u32,
+    given: &[(Given, Stamp)],
+) -> Result<SiteLog<A>, AllocError> {
+    let mut site = preset_box(alloc, count, me)?;
+    'given: for (given, source) in given {
+        let _ = site.take(input_of(*given, me), *source);
+    }
+    Ok(site.into_log())
+}
+
+/// What it is told of its steps.
+fn told<A: Allocator + Copy>(
+    alloc: A,
+    count: u32,
+    me: u32,
+    given: &[(Given, Stamp)],
+) -> Result<Told<A>, AllocError> {
+    let mut site = preset_box(alloc, count, me)?;
+    let mut told = Vec::new(alloc);
+    'given: for (given, source) in given {
+        if let Ok(receipt) = site.take(input_of(*given, me), *source) {
+            told.push(receipt)?;
+        }
+    }
+    drop(site);
+    Ok(told)
+}
+
+fn preset_box<A: Allocator + Copy>(
+    alloc: A,
+    count: u32,
+    me: u32,
+) -> Result<SiteBox<A>, AllocError> {
+    let Ok(sites) = Sites::new(count) else {
+        return Err(AllocError);
+    };
+    if me >= sites.count() {
+        return Err(AllocError);
+    }
+    SiteBox::new(alloc, sites, SiteId(me), PAGES)
+}
+
+fn input_of<A: Allocator + Copy>(given: Given, me: u32) -> Input<A> {
+    match given {
+        Given::Load(offset) => Input::Load { at: 0, offset },
+        Given::Store(offset, byte) => Input::Store {
+            at: 0,
+            offset,
+            byte,
+        },
+        Given::Ask(from, index) => Input::Deliver(Envelope {
+            from: SiteId(from),
+            to: SiteId(me),
+            message: Message::Ask {
+                page: PageId {
+                    seg: SegId(0),
+                    index,
+                },
+                request: 1,
+                kind: Kind::Read,
+            },
+        }),
+    }
+}

@@ -1,0 +1,5 @@
+mod full_heap;
+mod manager;
+mod page;
+mod read;
+mod write;

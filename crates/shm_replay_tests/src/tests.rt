@@ -1,0 +1,5 @@
+mod debug;
+mod full_heap;
+mod lines;
+mod session;
+mod text;
