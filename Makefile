@@ -19,7 +19,7 @@ build:
 examples:
 	@for script in examples/*.shm; do \
 		name=$$(basename "$$script" .shm); \
-		copy=crates/shm_scripts/src/tests/examples/$$(echo "$$name" | tr - _).rt; \
+		copy=crates/shm_script_tests/src/tests/examples/$$(echo "$$name" | tr - _).rt; \
 		sed -nE 's/^ *(pub\(super\) const [A-Z]+: &\[u8\] =)? *(b")?([^"]*)\\n(\\|";)$$/\3/p' "$$copy" > /tmp/copy.$$$$; \
 		cat "$$script" "examples/$$name.out" | cmp - /tmp/copy.$$$$ || exit 1; rm /tmp/copy.$$$$; echo "$$name: equal"; \
 	done

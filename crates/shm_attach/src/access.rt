@@ -9,6 +9,7 @@ use crate::fault::Denied;
 use shm_place::{PageId, place, rounded};
 
 /// The page, and the offset within it, that an access through the attachment `number` reaches at an offset of its segment.
+#[inline(always)]
 pub fn right(
     attachments: &Attachments,
     number: u32,

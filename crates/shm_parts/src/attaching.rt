@@ -32,7 +32,12 @@ impl<A: Allocator + Copy> Holdings<A> {
         let pages = (rounded(size) / PAGE_BYTES as u64) as u32;
         match store_pages(&mut self.entries, self.alloc, sites, me, id, pages) {
             Err(error) => Err(error),
-            Ok(()) => Ok(self.attachments.put(id, size, ro)),
+            Ok(()) => {
+                let number = self.attachments.put(id, size, ro);
+                let first = self.entries.place_of(PageId { seg: id, index: 0 });
+                self.firsts.note(number, first);
+                Ok(number)
+            }
         }
     }
 

@@ -1,7 +1,7 @@
 //! What is done with the entries that a site has stored.
-ghost use Rattle.std.specs.Prelude.{◌≡◌, ◌+◌, ◌<◌, ◌≤◌, ◌==◌, true, false, if◌then◌else◌, Some, option_copied, IfOk, IfErr, OnOk, OnErr};
+ghost use Rattle.std.specs.Prelude.{◌≡◌, ℕ, ◌+◌, ◌<◌, ◌≤◌, ◌==◌, true, false, if◌then◌else◌, None, Some, option_copied, IfOk, IfErr, OnOk, OnErr};
 ghost use Rattle.shm_place.specs.declared.page.PageId.{PageId as Page};
-ghost use Rattle.indexmap.specs.IndexMap.{get as get_at, insert_entry, spare};
+ghost use Rattle.indexmap.specs.IndexMap.{get as get_at, index_of_by, insert_entry, spare};
 ghost use Rattle.shm_place.specs.Limits.{page_bytes};
 ghost use Rattle.shm_place.specs.Page.{same_page};
 ghost use Rattle.shm_model.specs.Access.{stored_entry};
@@ -33,6 +33,35 @@ impl<A: Allocator + Copy> Entries<A> {
 
     /// The page's entry, if one is stored.
     pub fn get(&self, page: PageId) -> Option<&Entry<A>>
+        ensures { option_copied result ≡ stored_at self.now page }
+    {
+        self.map.get(&page)
+    }
+
+    /// Where the page's entry stands among those that are stored, if one is.
+    pub(crate) fn place_of(&self, page: PageId) -> Option<usize>
+        ensures { result ≡ index_of_by (same_page page) self.now.map }
+    {
+        self.map.get_index_of(&page)
+    }
+
+    /// The page's entry, if one is stored: as [`Entries::get`] tells it, and sooner where it stands at this place.
+    #[inline(always)]
+    pub(crate) fn get_near(&self, place: usize, page: PageId) -> Option<&Entry<A>>
+        ensures { option_copied result ≡ stored_at self.now page }
+    {
+        if let Some((other, entry)) = self.map.get_index(place)
+            && *other == page
+        {
+            return Some(entry);
+        }
+        self.get_elsewhere(page)
+    }
+
+    /// The same, out of the way of what is near.
+    #[cold]
+    #[inline(never)]
+    fn get_elsewhere(&self, page: PageId) -> Option<&Entry<A>>
         ensures { option_copied result ≡ stored_at self.now page }
     {
         self.map.get(&page)
@@ -107,6 +136,7 @@ impl<A: Allocator + Copy> Entries<A> {
 
     /// Drops what is stored of a segment's pages.
     pub fn remove_segment(&mut self, id: SegId)
+        ensures gone { (index : ℕ) → index < PAGES → stored_at self.new (record { seg = id; index = index }) ≡ None }
         ensures others { (page : Page) → (id == page.seg) ≡ false → stored_at self.new page ≡ stored_at self.old page }
     {
         for index in 0..PAGES {

@@ -12,6 +12,7 @@ mod books;
 mod change;
 mod entries;
 mod entry_table;
+mod firsts;
 mod frame_order;
 mod frames;
 mod holdings;

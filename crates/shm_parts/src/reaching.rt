@@ -17,11 +17,15 @@ use std::alloc::Allocator;
 
 impl<A: Allocator + Copy> Holdings<A> {
     /// A load through an attachment. It takes no memory.
+    #[inline(always)]
     pub fn load(&self, at: u32, offset: u32) -> Result<Loaded, Denied>
         ensures { (sites me : ℕ) → (site : Site) → load sites me at offset (with_holdings sites me self.now site) ≡ loaded_step sites me result (with_holdings sites me self.now site) }
     {
         match right(&self.attachments, at, offset, false) {
-            Ok((page, within)) => Ok(self.load_at(&page, within)),
+            Ok((page, within)) => {
+                let place = self.firsts.place_of(at, page.index);
+                Ok(self.load_at(place, &page, within))
+            }
             Err(denied) => Err(denied),
         }
     }
@@ -36,13 +40,14 @@ impl<A: Allocator + Copy> Holdings<A> {
         }
     }
 
-    fn load_at(&self, page: &PageId, within: usize) -> Loaded
+    /// The byte of a page whose entry probably stands at this place.
+    fn load_at(&self, place: usize, page: &PageId, within: usize) -> Loaded
         requires within { within < page_bytes }
         requires stored { is_stored self.now.entries page.now ≡ true }
         requires alive { purged_of self.now.purged page.now.seg ≡ false }
         ensures { (sites me : ℕ) → (site : Site) → load_at sites me (record { page = page.now; within = within }) (with_holdings sites me self.now site) ≡ loaded_step sites me (Ok result) (with_holdings sites me self.now site) }
     {
-        match self.entries.get(*page) {
+        match self.entries.get_near(place, *page) {
             Some(entry) => read(entry, page, within),
             None => Loaded::Absent(*page),
         }

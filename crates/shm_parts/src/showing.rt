@@ -59,6 +59,7 @@ impl<A: Allocator + Copy> Holdings<A> {
         Ok(Holdings {
             entries,
             attachments: self.attachments.copy(),
+            firsts: self.firsts,
             purged,
             frames,
             alloc: self.alloc,

@@ -1,5 +1,12 @@
-//! Tests of whole scripts: what is told of them, failing readers and writers, refused memory, and sites that restart.
+//! Scripts with what is told of them: worked by hand from the rules, for the tests of replays.
 #![tactic(auto)]
 
-#[cfg(test)]
-mod tests;
+pub mod frames;
+pub mod going_back;
+pub mod losses;
+pub mod pages;
+pub mod purging;
+mod row;
+pub mod segments;
+
+pub use row::Row;

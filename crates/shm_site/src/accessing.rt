@@ -14,6 +14,7 @@ use std::alloc::{AllocError, Allocator};
 
 impl<A: Allocator + Copy> Site<A> {
     /// Loads a byte through an attachment. Where the right is here this takes no memory.
+    #[inline(always)]
     pub fn load(
         &mut self,
         at: u32,
@@ -32,6 +33,7 @@ impl<A: Allocator + Copy> Site<A> {
     }
 
     /// The load with all that may come of it: the byte, a request to the page's manager, or a refusal.
+    #[inline(never)]
     pub(crate) fn load_or_ask(
         &mut self,
         at: u32,

@@ -12,6 +12,7 @@ use std::alloc::Allocator;
 
 impl<A: Allocator + Copy> Site<A> {
     /// The byte, where the right to load it is here.
+    #[inline(always)]
     pub(crate) fn byte_here(&self, at: u32, offset: u32) -> Option<u8>
         ensures { IfSome result (λ byte. model.load self.now.sites self.now.me at offset (site_of self.now) ≡ stepped self.now (answer.Byte byte) []) }
     {

@@ -15,8 +15,8 @@ pub invariant_of-self-in-Ok : goal.invariant_of-self-in-Ok
 invariant_of-self-in-Ok g c =
     let held = c.args.self.now in
     record {
-      reached = reach_attached held.entries c.store_pages.new.entries held.attachments c.put.new.self held.purged held.frames c.put.result
-          (record { id = c.args.id; size = c.args.size; ro = c.args.ro }) c.put.ensures.after c.store_pages.ensures.others
+      reached = reach_attached held.entries c.store_pages.new.entries held.attachments c.put-number.new.self held.purged held.frames c.put-number.result
+          (record { id = c.args.id; size = c.args.size; ro = c.args.ro }) c.put-number.ensures.after c.store_pages.ensures.others
           (λ index below. c.in-Ok.ensures.stored index (page_below c.args.size c.rounded.result index c.rounded.ensures.whole below))
           c.requires held.reached;
     }
@@ -24,4 +24,4 @@ invariant_of-self-in-Ok g c =
 pub returns-in-Ok-clause-after : goal.returns-in-Ok-clause-after
 returns-in-Ok-clause-after g c = λ site.
     let held = c.args.self.now in
-    λ i. site_of (masked (purged_of held.purged) (c.store_pages.ensures.same i)) (c.put.ensures.after i) (purged_of held.purged) (held_frames held.frames) site
+    λ i. site_of (masked (purged_of held.purged) (c.store_pages.ensures.same i)) (c.put-number.ensures.after i) (purged_of held.purged) (held_frames held.frames) site

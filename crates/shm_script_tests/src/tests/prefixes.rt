@@ -1,5 +1,5 @@
-use super::scripts::{Row, going_back, pages, segments};
 use super::{is_line_feed, replayed};
+use shm_scripts::{Row, going_back, pages, segments};
 use std::alloc::{AllocError, Global};
 use std::process::Abort;
 use std::test::Fail;

@@ -1,10 +1,9 @@
 //! Sites that hold few copies.
 
-use super::Row;
-use shm_debug::Summary;
+use crate::row::Row;
 
 /// A site of one frame forgets the copy that it had first.
-pub(crate) const FRAMES: Row = Row {
+pub const FRAMES: Row = Row {
     name: "frames",
     script: b"sites 2 preset 4 frames 1\n\
         store 0 0 0 5\n\
@@ -54,15 +53,13 @@ pub(crate) const FRAMES: Row = Row {
         22 took m15>1:Page\n\
         23 took m16>0:Confirm\n\
         24 byte 6\n",
-    summary: Summary {
-        lines: 24,
-        events: 22,
-        sent: 17,
-    },
+    lines: 24,
+    events: 22,
+    sent: 17,
 };
 
 /// A copy that comes again is the latest.
-pub(crate) const COPY_AGAIN: Row = Row {
+pub const COPY_AGAIN: Row = Row {
     name: "copy again",
     script: b"sites 2 preset 5 frames 2\n\
         load 1 0 0\n\
@@ -108,15 +105,13 @@ pub(crate) const COPY_AGAIN: Row = Row {
         20 page 0:OwnRead/2 1:Copy/2 owner 0 copies 1 t 2 read 1\n\
         21 page 0:OwnRead/1 1:Nil/1 owner 0 copies - t 1 read 1\n\
         22 page 0:OwnRead/1 1:Copy/1 owner 0 copies - t 1 read 1\n",
-    summary: Summary {
-        lines: 22,
-        events: 18,
-        sent: 16,
-    },
+    lines: 22,
+    events: 18,
+    sent: 16,
 };
 
 /// A copy is forgotten for another, and does not come back with a late page.
-pub(crate) const DROPPED_COPY: Row = Row {
+pub const DROPPED_COPY: Row = Row {
     name: "dropped copy",
     script: b"sites 2 preset 3 frames 1\n\
         load 1 0 0\n\
@@ -168,9 +163,7 @@ pub(crate) const DROPPED_COPY: Row = Row {
         23 page 0:OwnRead/3 1:Nil/3 owner 0 copies 1 t 3 idle\n\
         24 dropped\n\
         25 fault m17>0:Ask\n",
-    summary: Summary {
-        lines: 25,
-        events: 23,
-        sent: 18,
-    },
+    lines: 25,
+    events: 23,
+    sent: 18,
 };

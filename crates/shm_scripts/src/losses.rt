@@ -1,10 +1,9 @@
 //! Messages that are lost, late or handed over twice, and sites that restart.
 
-use super::Row;
-use shm_debug::Summary;
+use crate::row::Row;
 
 /// A page that is lost is sent again after a tick.
-pub(crate) const LOST_PAGE: Row = Row {
+pub const LOST_PAGE: Row = Row {
     name: "lost page",
     script: b"sites 2 preset 1\n\
         store 0 0 255 200\n\
@@ -28,15 +27,13 @@ pub(crate) const LOST_PAGE: Row = Row {
         9 took m5>0:Confirm\n\
         10 byte 200\n\
         11 took\n",
-    summary: Summary {
-        lines: 11,
-        events: 10,
-        sent: 6,
-    },
+    lines: 11,
+    events: 10,
+    sent: 6,
 };
 
 /// A request that is handed over twice.
-pub(crate) const REPEATED_ASK: Row = Row {
+pub const REPEATED_ASK: Row = Row {
     name: "repeated ask",
     script: b"sites 2 preset 1\n\
         load 1 0 0\n\
@@ -56,15 +53,13 @@ pub(crate) const REPEATED_ASK: Row = Row {
         7 took m2>1:Page\n\
         8 took m3>1:Page\n\
         9 fault m4>0:Ask\n",
-    summary: Summary {
-        lines: 9,
-        events: 8,
-        sent: 5,
-    },
+    lines: 9,
+    events: 8,
+    sent: 5,
 };
 
 /// An order to hand a page over that is handed over twice.
-pub(crate) const REPEATED_HAND: Row = Row {
+pub const REPEATED_HAND: Row = Row {
     name: "repeated hand",
     script: b"sites 2 preset 1\n\
         store 1 0 0 4\n\
@@ -84,15 +79,13 @@ pub(crate) const REPEATED_HAND: Row = Row {
         7 stored\n\
         8 took m5>0:Confirm\n\
         9 byte 4\n",
-    summary: Summary {
-        lines: 9,
-        events: 8,
-        sent: 6,
-    },
+    lines: 9,
+    events: 8,
+    sent: 6,
 };
 
 /// A page that is handed over twice.
-pub(crate) const REPEATED_PAGE: Row = Row {
+pub const REPEATED_PAGE: Row = Row {
     name: "repeated page",
     script: b"sites 2 preset 1\n\
         store 1 0 0 4\n\
@@ -114,15 +107,13 @@ pub(crate) const REPEATED_PAGE: Row = Row {
         8 byte 4\n\
         9 took\n\
         10 dropped\n",
-    summary: Summary {
-        lines: 10,
-        events: 9,
-        sent: 5,
-    },
+    lines: 10,
+    events: 9,
+    sent: 5,
 };
 
 /// A page that comes after it was cleared.
-pub(crate) const STALE_PAGE_AFTER_CLEAR: Row = Row {
+pub const STALE_PAGE_AFTER_CLEAR: Row = Row {
     name: "stale page after clear",
     script: b"sites 2 preset 1\n\
         load 1 0 0\n\
@@ -152,15 +143,13 @@ pub(crate) const STALE_PAGE_AFTER_CLEAR: Row = Row {
         12 dropped\n\
         13 fault m9>0:Ask\n\
         14 stored\n",
-    summary: Summary {
-        lines: 14,
-        events: 13,
-        sent: 10,
-    },
+    lines: 14,
+    events: 13,
+    sent: 10,
 };
 
 /// A site restarts while its request is served.
-pub(crate) const REQUESTER_RESTARTS: Row = Row {
+pub const REQUESTER_RESTARTS: Row = Row {
     name: "requester restarts",
     script: b"sites 2 preset 1\n\
         load 1 0 0\n\
@@ -188,15 +177,13 @@ pub(crate) const REQUESTER_RESTARTS: Row = Row {
         11 took m6>1:Page\n\
         12 took m7>0:Confirm\n\
         13 took\n",
-    summary: Summary {
-        lines: 13,
-        events: 12,
-        sent: 8,
-    },
+    lines: 13,
+    events: 12,
+    sent: 8,
 };
 
 /// A manager restarts while it clears copies.
-pub(crate) const MANAGER_RESTARTS_WHILE_CLEARING: Row = Row {
+pub const MANAGER_RESTARTS_WHILE_CLEARING: Row = Row {
     name: "manager restarts while clearing",
     script: b"sites 3 preset 1\n\
         load 1 0 0\n\
@@ -252,15 +239,13 @@ pub(crate) const MANAGER_RESTARTS_WHILE_CLEARING: Row = Row {
         25 dropped\n\
         26 stored\n\
         27 fault m19>0:Ask\n",
-    summary: Summary {
-        lines: 27,
-        events: 26,
-        sent: 20,
-    },
+    lines: 27,
+    events: 26,
+    sent: 20,
 };
 
 /// What a tick sends, and in which order.
-pub(crate) const TICK_ORDER: Row = Row {
+pub const TICK_ORDER: Row = Row {
     name: "tick order",
     script: b"sites 2 preset 5\n\
         load 0 0 12288\n\
@@ -298,15 +283,13 @@ pub(crate) const TICK_ORDER: Row = Row {
         16 took m24>1:Hand\n\
         17 took m25>0:Ask m26>0:Ask m27>0:Ask m28>1:Hand\n\
         18 took m29>1:Ask m30>1:Ask m31>0:Hand m32>0:Hand m33>0:Hand m34>0:Call\n",
-    summary: Summary {
-        lines: 18,
-        events: 17,
-        sent: 35,
-    },
+    lines: 18,
+    events: 17,
+    sent: 35,
 };
 
 /// As many requests wait at a manager as may.
-pub(crate) const SIXTEEN_WAIT: Row = Row {
+pub const SIXTEEN_WAIT: Row = Row {
     name: "sixteen wait",
     script: b"sites 3 preset 1\n\
         load 1 0 0\n\
@@ -428,9 +411,7 @@ pub(crate) const SIXTEEN_WAIT: Row = Row {
         58 took m21>0:Hand\n\
         59 took\n\
         60 page 0:OwnRead/1 1:Copy/1 2:Nil/0 owner 0 copies 1 t 2 read 2\n",
-    summary: Summary {
-        lines: 60,
-        events: 57,
-        sent: 22,
-    },
+    lines: 60,
+    events: 57,
+    sent: 22,
 };

@@ -1,10 +1,9 @@
 //! Events that are taken back.
 
-use super::Row;
-use shm_debug::Summary;
+use crate::row::Row;
 
 /// A loss is taken back.
-pub(crate) const LOST_REQUEST_AND_BACK: Row = Row {
+pub const LOST_REQUEST_AND_BACK: Row = Row {
     name: "lost request and back",
     script: b"sites 2 preset 1\n\
         load 1 0 0\n\
@@ -20,15 +19,13 @@ pub(crate) const LOST_REQUEST_AND_BACK: Row = Row {
         5 refused 28\n\
         6 back 1\n\
         7 took m1>0:Hand\n",
-    summary: Summary {
-        lines: 7,
-        events: 2,
-        sent: 2,
-    },
+    lines: 7,
+    events: 2,
+    sent: 2,
 };
 
 /// All events are taken back.
-pub(crate) const BACK_TO_THE_BEGINNING: Row = Row {
+pub const BACK_TO_THE_BEGINNING: Row = Row {
     name: "back to the beginning",
     script: b"sites 2 preset 1\n\
         store 0 0 0 7\n\
@@ -58,15 +55,13 @@ pub(crate) const BACK_TO_THE_BEGINNING: Row = Row {
         12 refused 28\n\
         13 back 0\n\
         14 page 0:OwnWrite/0 1:Nil/0 owner 0 copies - t 0 idle\n",
-    summary: Summary {
-        lines: 14,
-        events: 0,
-        sent: 0,
-    },
+    lines: 14,
+    events: 0,
+    sent: 0,
 };
 
 /// Refused events are taken back too, and lines that show are none.
-pub(crate) const BACK: Row = Row {
+pub const BACK: Row = Row {
     name: "back",
     script: b"sites 2 preset 1\n\
         back 0\n\
@@ -104,9 +99,7 @@ pub(crate) const BACK: Row = Row {
         16 back 0\n\
         17 page 0:OwnWrite/0 1:Nil/0 owner 0 copies - t 0 idle\n\
         18 fault m0>0:Ask\n",
-    summary: Summary {
-        lines: 18,
-        events: 1,
-        sent: 1,
-    },
+    lines: 18,
+    events: 1,
+    sent: 1,
 };

@@ -1,10 +1,9 @@
 //! Pages that are read, written and handed over while nothing is lost.
 
-use super::Row;
-use shm_debug::Summary;
+use crate::row::Row;
 
 /// A read fault brings a copy of the page.
-pub(crate) const FIRST_READ_FAULT: Row = Row {
+pub const FIRST_READ_FAULT: Row = Row {
     name: "first read fault",
     script: b"sites 2 preset 1\n\
         store 0 0 0 7\n\
@@ -22,15 +21,13 @@ pub(crate) const FIRST_READ_FAULT: Row = Row {
         6 took m3>0:Confirm\n\
         7 took\n\
         8 byte 7\n",
-    summary: Summary {
-        lines: 8,
-        events: 7,
-        sent: 4,
-    },
+    lines: 8,
+    events: 7,
+    sent: 4,
 };
 
 /// Each page of a segment has its own manager.
-pub(crate) const PAGES_AT_MANAGERS: Row = Row {
+pub const PAGES_AT_MANAGERS: Row = Row {
     name: "pages at managers",
     script: b"sites 2 preset 2\n\
         store 0 0 4095 1\n\
@@ -56,15 +53,13 @@ pub(crate) const PAGES_AT_MANAGERS: Row = Row {
         10 refused 16\n\
         11 page 0:OwnWrite/0 1:Nil/0 owner 0 copies - t 0 idle\n\
         12 refused 16\n",
-    summary: Summary {
-        lines: 12,
-        events: 7,
-        sent: 1,
-    },
+    lines: 12,
+    events: 7,
+    sent: 1,
 };
 
 /// An owner whose page was read by another writes it again.
-pub(crate) const OWNER_UPGRADES: Row = Row {
+pub const OWNER_UPGRADES: Row = Row {
     name: "owner upgrades",
     script: b"sites 3 preset 1\n\
         load 1 0 0\n\
@@ -106,15 +101,13 @@ pub(crate) const OWNER_UPGRADES: Row = Row {
         18 took m14>0:Confirm\n\
         19 stored\n\
         20 took\n",
-    summary: Summary {
-        lines: 20,
-        events: 19,
-        sent: 15,
-    },
+    lines: 20,
+    events: 19,
+    sent: 15,
 };
 
 /// A reader becomes the writer, and the old owner reads.
-pub(crate) const READER_BECOMES_WRITER: Row = Row {
+pub const READER_BECOMES_WRITER: Row = Row {
     name: "reader becomes writer",
     script: b"sites 2 preset 1\n\
         store 0 0 0 7\n\
@@ -166,15 +159,13 @@ pub(crate) const READER_BECOMES_WRITER: Row = Row {
         23 took\n\
         24 byte 9\n\
         25 page 0:Copy/3 1:OwnRead/3 owner 1 copies 0 t 3 idle\n",
-    summary: Summary {
-        lines: 25,
-        events: 22,
-        sent: 12,
-    },
+    lines: 25,
+    events: 22,
+    sent: 12,
 };
 
 /// Requests wait at the manager while one is served; then two copies are cleared for a store.
-pub(crate) const QUEUED_READS_THEN_TWO_CLEARS: Row = Row {
+pub const QUEUED_READS_THEN_TWO_CLEARS: Row = Row {
     name: "queued reads then two clears",
     script: b"sites 4 preset 1\n\
         store 0 0 0 5\n\
@@ -236,15 +227,13 @@ pub(crate) const QUEUED_READS_THEN_TWO_CLEARS: Row = Row {
         28 stored\n\
         29 took\n\
         30 page 0:Handed/4 1:Nil/4 2:Nil/4 3:OwnWrite/4 owner 3 copies - t 4 idle\n",
-    summary: Summary {
-        lines: 30,
-        events: 28,
-        sent: 21,
-    },
+    lines: 30,
+    events: 28,
+    sent: 21,
 };
 
 /// What a site asked for is asked again in the order in which it was first asked.
-pub(crate) const PENDING_ORDER: Row = Row {
+pub const PENDING_ORDER: Row = Row {
     name: "pending order",
     script: b"sites 3 preset 4\n\
         load 2 0 0\n\
@@ -268,15 +257,13 @@ pub(crate) const PENDING_ORDER: Row = Row {
         9 fault m8>0:Ask\n\
         10 waiting\n\
         11 took m9>0:Ask m10>1:Ask\n",
-    summary: Summary {
-        lines: 11,
-        events: 10,
-        sent: 11,
-    },
+    lines: 11,
+    events: 10,
+    sent: 11,
 };
 
 /// A site that restarted asks to read what it is given to write.
-pub(crate) const READ_TO_ITSELF: Row = Row {
+pub const READ_TO_ITSELF: Row = Row {
     name: "read to itself",
     script: b"sites 2 preset 1\n\
         store 1 0 0 1\n\
@@ -306,9 +293,7 @@ pub(crate) const READ_TO_ITSELF: Row = Row {
         12 took\n\
         13 stored\n\
         14 page 0:Handed/1 1:OwnWrite/2 owner 1 copies - t 2 idle\n",
-    summary: Summary {
-        lines: 14,
-        events: 11,
-        sent: 7,
-    },
+    lines: 14,
+    events: 11,
+    sent: 7,
 };

@@ -1,6 +1,6 @@
-use super::scripts::{Row, frames, going_back, losses, pages, purging, segments};
 use super::{plays, replayed};
 use shm_debug::Summary;
+use shm_scripts::{Row, frames, going_back, losses, pages, purging, segments};
 use std::alloc::{AllocError, Global};
 use std::process::Abort;
 use std::test::Fail;

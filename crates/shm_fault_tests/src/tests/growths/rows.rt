@@ -1,11 +1,11 @@
 //! Each line of a row is refused until there is room for it, and is then told as it stands in the row.
 
 use super::{Before, PAGE_BYTES, filled_but};
-use crate::tests::scripts::{Row, going_back, pages, purging, segments};
 use crate::tests::{is_line_feed, opened};
 use linked_list_allocator::LocalHeap;
 use shm_debug::{BackFault, Line, Session, parse_line, print_answer};
 use shm_place::PageId;
+use shm_scripts::{Row, going_back, pages, purging, segments};
 use shm_world::{Answer, Event};
 use std::alloc::{AllocError, Global};
 use std::process::Abort;
@@ -170,7 +170,7 @@ fn refusals<'a>(
     let mut text = b"1 ready\n".to_vec(alloc)?;
     let mut most = 0;
     let lines = row.script.split(is_line_feed).skip(1);
-    for (number, line) in (2..row.summary.lines.saturating_add(1)).zip(lines) {
+    for (number, line) in (2..row.lines.saturating_add(1)).zip(lines) {
         let line = parse_line(line).ok().ok_or("a bad line")?;
         let tries = played(rt, alloc, heap, session, (number, &line), &mut text)?;
         most = most.max(tries);

@@ -1,10 +1,9 @@
 //! Calls on segments.
 
-use super::Row;
-use shm_debug::Summary;
+use crate::row::Row;
 
 /// A segment is made and attached twice.
-pub(crate) const SEGMENT_CALLS: Row = Row {
+pub const SEGMENT_CALLS: Row = Row {
     name: "segment calls",
     script: b"sites 1\n\
         get 0 0 0 0 1 600 -\n\
@@ -36,15 +35,13 @@ pub(crate) const SEGMENT_CALLS: Row = Row {
         13 replied 3 attached 1\n\
         14 refused 10\n\
         15 byte 9\n",
-    summary: Summary {
-        lines: 15,
-        events: 14,
-        sent: 6,
-    },
+    lines: 15,
+    events: 14,
+    sent: 6,
 };
 
 /// Calls that are refused before they are sent.
-pub(crate) const ORDERS: Row = Row {
+pub const ORDERS: Row = Row {
     name: "orders",
     script: b"sites 2 preset 1\n\
         stat 0 0 0 0\n\
@@ -76,15 +73,13 @@ pub(crate) const ORDERS: Row = Row {
         13 refused 14\n\
         14 refused 11\n\
         15 refused 14\n",
-    summary: Summary {
-        lines: 15,
-        events: 14,
-        sent: 4,
-    },
+    lines: 15,
+    events: 14,
+    sent: 4,
 };
 
 /// Keys, sizes and flags.
-pub(crate) const GET: Row = Row {
+pub const GET: Row = Row {
     name: "get",
     script: b"sites 1\n\
         get 0 1 1 5 300 711 c\n\
@@ -196,15 +191,13 @@ pub(crate) const GET: Row = Row {
         53 began 17 m34>0:Call\n\
         54 took m35>0:Reply\n\
         55 replied 17 id 3\n",
-    summary: Summary {
-        lines: 55,
-        events: 54,
-        sent: 36,
-    },
+    lines: 55,
+    events: 54,
+    sent: 36,
 };
 
 /// One class of permissions alone counts.
-pub(crate) const CLASSES: Row = Row {
+pub const CLASSES: Row = Row {
     name: "classes",
     script: b"sites 1\n\
         get 0 1 1 5 10 077 c\n\
@@ -292,15 +285,13 @@ pub(crate) const CLASSES: Row = Row {
         41 began 14 m26>0:Call\n\
         42 took m27>0:Reply\n\
         43 replied 14 error 7\n",
-    summary: Summary {
-        lines: 43,
-        events: 42,
-        sent: 28,
-    },
+    lines: 43,
+    events: 42,
+    sent: 28,
 };
 
 /// Identifiers that no segment has.
-pub(crate) const IDENTIFIERS: Row = Row {
+pub const IDENTIFIERS: Row = Row {
     name: "identifiers",
     script: b"sites 3 preset 1\n\
         stat 0 0 0 4294967295\n\
@@ -346,15 +337,13 @@ pub(crate) const IDENTIFIERS: Row = Row {
         20 began 4 m12>0:Call\n\
         21 took m13>1:Reply\n\
         22 replied 4 id 3\n",
-    summary: Summary {
-        lines: 22,
-        events: 21,
-        sent: 14,
-    },
+    lines: 22,
+    events: 21,
+    sent: 14,
 };
 
 /// A segment that was removed while it was attached.
-pub(crate) const MARKED: Row = Row {
+pub const MARKED: Row = Row {
     name: "marked",
     script: b"sites 1\n\
         get 0 1 1 5 10 606 c\n\
@@ -466,9 +455,7 @@ pub(crate) const MARKED: Row = Row {
         53 began 17 m35>0:Call\n\
         54 took m36>0:Purged\n\
         55 took m37>0:Reply\n",
-    summary: Summary {
-        lines: 55,
-        events: 54,
-        sent: 38,
-    },
+    lines: 55,
+    events: 54,
+    sent: 38,
 };

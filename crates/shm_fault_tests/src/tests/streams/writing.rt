@@ -1,8 +1,9 @@
 ghost use Rattle.std.specs.Prelude.{◌<◌};
 
 use super::pieces::{Failure, Giver, Taker};
-use crate::tests::scripts::pages::FIRST_READ_FAULT;
+use crate::tests::summary_of;
 use shm_debug::{DebugFault, Summary, replay};
+use shm_scripts::pages::FIRST_READ_FAULT;
 use std::alloc::{AllocError, Global};
 use std::io::ErrorKind;
 use std::process::Abort;
@@ -55,7 +56,7 @@ fn one_write_fails(rt: HostRuntime) {
 fn pieces_of_a_text(rt: HostRuntime) {
     let mut writer = taker(rt.alloc(), 3, None, Failure::TakesNothing);
     let result = written_to(rt.alloc(), FIRST_READ_FAULT.script, &mut writer);
-    assert_eq!(rt; result, Ok(FIRST_READ_FAULT.summary));
+    assert_eq!(rt; result, Ok(summary_of(&FIRST_READ_FAULT)));
     assert_eq!(rt; writer.text.as_slice(), FIRST_READ_FAULT.text);
 }
 

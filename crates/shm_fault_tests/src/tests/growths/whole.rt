@@ -1,8 +1,9 @@
 //! A whole script is replayed on a heap that is full but for a hole.
 
-use crate::tests::scripts::{Row, going_back, pages, segments};
+use crate::tests::summary_of;
 use linked_list_allocator::LocalHeap;
 use shm_debug::{DebugFault, Summary, replay};
+use shm_scripts::{Row, going_back, pages, segments};
 use std::alloc::{AllocError, Global};
 use std::process::Abort;
 use std::test::Fail;
@@ -32,7 +33,7 @@ fn longest_refused(rt: &impl Abort, alloc: Global, row: &Row) -> Result<usize, F
     let mut longest = 0;
     for hole in (0..HEAP).step_by(16) {
         let (result, text) = replayed_in(alloc, &heap, hole, row.script)?;
-        if result == Ok(row.summary) {
+        if result == Ok(summary_of(row)) {
             assert_eq!(rt; text.as_slice(), row.text);
             return Ok(longest);
         }

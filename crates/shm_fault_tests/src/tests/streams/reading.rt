@@ -2,8 +2,9 @@ ghost use Rattle.std.specs.Prelude.{◌<◌};
 
 use super::pieces::{Failure, Giver, Taker};
 use super::{first_lines, lines_within};
-use crate::tests::scripts::pages::FIRST_READ_FAULT;
+use crate::tests::summary_of;
 use shm_debug::{DebugFault, Summary, replay};
+use shm_scripts::pages::FIRST_READ_FAULT;
 use std::alloc::Global;
 use std::io::ErrorKind;
 use std::process::Abort;
@@ -53,7 +54,7 @@ fn each_read_fails(rt: &impl Abort, alloc: Global, most: usize, kind: ErrorKind)
 
 fn no_read_fails(rt: &impl Abort, alloc: Global, most: usize) {
     let (result, text) = read_in_pieces(alloc, most, None, ErrorKind::Other);
-    assert_eq!(rt; result, Ok(FIRST_READ_FAULT.summary));
+    assert_eq!(rt; result, Ok(summary_of(&FIRST_READ_FAULT)));
     assert_eq!(rt; text.as_slice(), FIRST_READ_FAULT.text);
 }
 

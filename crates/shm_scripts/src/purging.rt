@@ -1,10 +1,9 @@
 //! Segments that are destroyed, and their pages.
 
-use super::Row;
-use shm_debug::Summary;
+use crate::row::Row;
 
 /// A segment is made, attached, removed and purged.
-pub(crate) const REMOVAL: Row = Row {
+pub const REMOVAL: Row = Row {
     name: "removal",
     script: b"sites 2\n\
         get 0 0 0 3 256 600 c\n\
@@ -108,15 +107,13 @@ pub(crate) const REMOVAL: Row = Row {
         49 began 11 m32>1:Call\n\
         50 took m33>0:Reply\n\
         51 replied 11 id 3\n",
-    summary: Summary {
-        lines: 51,
-        events: 50,
-        sent: 34,
-    },
+    lines: 51,
+    events: 50,
+    sent: 34,
 };
 
 /// A purge is sent again until it is answered.
-pub(crate) const PURGE_RESENT: Row = Row {
+pub const PURGE_RESENT: Row = Row {
     name: "purge resent",
     script: b"sites 1 preset 1\n\
         remove 0 0 0 0\n\
@@ -148,15 +145,13 @@ pub(crate) const PURGE_RESENT: Row = Row {
         13 dropped\n\
         14 took\n\
         15 page 0:Purged/0 purged\n",
-    summary: Summary {
-        lines: 15,
-        events: 13,
-        sent: 9,
-    },
+    lines: 15,
+    events: 13,
+    sent: 9,
 };
 
 /// A page that comes after its segment was purged.
-pub(crate) const PURGE_AND_STALE_PAGE: Row = Row {
+pub const PURGE_AND_STALE_PAGE: Row = Row {
     name: "purge and stale page",
     script: b"sites 2 preset 1\n\
         store 1 0 0 4\n\
@@ -192,15 +187,13 @@ pub(crate) const PURGE_AND_STALE_PAGE: Row = Row {
         15 dropped\n\
         16 replied 1 ok\n\
         17 page 0:Handed/1 1:Purged/0 owner 0 copies - t 1 write 1\n",
-    summary: Summary {
-        lines: 17,
-        events: 15,
-        sent: 12,
-    },
+    lines: 17,
+    events: 15,
+    sent: 12,
 };
 
 /// A purge takes what is pending, running and outstanding for the segment.
-pub(crate) const PURGE: Row = Row {
+pub const PURGE: Row = Row {
     name: "purge",
     script: b"sites 2\n\
         get 0 0 0 0 1 666 -\n\
@@ -300,15 +293,13 @@ pub(crate) const PURGE: Row = Row {
         47 took\n\
         48 took m47>0:Hand m48>0:Hand m49>0:Call m50>0:Purge m51>1:Purge\n\
         49 page 0:Purged/0 1:Purged/0 purged\n",
-    summary: Summary {
-        lines: 49,
-        events: 44,
-        sent: 52,
-    },
+    lines: 49,
+    events: 44,
+    sent: 52,
 };
 
 /// What is left after a purge is sent again in its old order.
-pub(crate) const PURGE_ORDER: Row = Row {
+pub const PURGE_ORDER: Row = Row {
     name: "purge order",
     script: b"sites 2\n\
         get 0 0 0 0 1 666 -\n\
@@ -388,9 +379,7 @@ pub(crate) const PURGE_ORDER: Row = Row {
         37 took m28>1:Reply m29>0:Purge m30>1:Purge\n\
         38 took m31>0:Purged\n\
         39 took m32>1:Hand m33>0:Hand m34>0:Purge m35>1:Purge\n",
-    summary: Summary {
-        lines: 39,
-        events: 38,
-        sent: 36,
-    },
+    lines: 39,
+    events: 38,
+    sent: 36,
 };

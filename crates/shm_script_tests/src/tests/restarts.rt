@@ -1,8 +1,8 @@
-use super::scripts::{Row, losses, pages};
-use super::{is_line_feed, opened};
+use super::is_line_feed;
 use shm_debug::{Line, Session, parse_line};
 use shm_model::State;
-use shm_place::{PageId, SegId, SiteId};
+use shm_place::{PageId, SegId, SiteId, Sites};
+use shm_scripts::{Row, losses, pages};
 use shm_world::{Answer, Event, World};
 use std::alloc::Global;
 use std::process::Abort;
@@ -120,6 +120,12 @@ fn expect_one_owner_shown(rt: &impl Abort, session: &Session) -> Result<(), Fail
     Ok(())
 }
 
+/// A session of so many sites, with segment 0 of one page.
+fn opened(alloc: Global, sites: u32) -> Result<Session, Fail> {
+    let sites = Sites::new(sites).ok().ok_or("1 to 16 sites")?;
+    Ok(Session::new(alloc, sites, Some(1), None)?)
+}
+
 /// After so many lines of a row a site restarts: all is delivered, and all sites agree.
 fn heals(
     rt: &impl Abort,
@@ -129,7 +135,7 @@ fn heals(
     lines: usize,
     site: u32,
 ) -> Result<(), Fail> {
-    let mut session = opened(alloc, sites, true)?;
+    let mut session = opened(alloc, sites)?;
     let byte = run_first(rt, &mut session, row, lines)?;
     apply(rt, &mut session, &Event::Restart { site: SiteId(site) })?;
     settle(rt, &mut session, sites)?;
@@ -146,7 +152,7 @@ fn heals(
 
 /// A restart of each site after each line of a row.
 fn every_restart_heals(rt: &impl Abort, alloc: Global, sites: u32, row: &Row) -> Result<(), Fail> {
-    for lines in 0..row.summary.lines as usize {
+    for lines in 0..row.lines as usize {
         for site in 0..sites {
             heals(rt, alloc, sites, row, lines, site)?;
         }

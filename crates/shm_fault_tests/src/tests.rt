@@ -1,0 +1,30 @@
+mod growths;
+mod streams;
+
+use shm_debug::{Session, Summary};
+use shm_place::Sites;
+use shm_scripts::Row;
+use std::alloc::Allocator;
+use std::test::Fail;
+
+/// What the replay of a row answers.
+fn summary_of(row: &Row) -> Summary {
+    Summary {
+        lines: row.lines,
+        events: row.events,
+        sent: row.sent,
+    }
+}
+
+fn is_line_feed(byte: &u8) -> bool {
+    *byte == b'\n'
+}
+
+/// A session of so many sites; with segment 0 of one page, if it is preset.
+fn opened<A: Allocator + Copy>(alloc: A, sites: u32, preset: bool) -> Result<Session<A>, Fail> {
+    let sites = Sites::new(sites).ok().ok_or("1 to 16 sites")?;
+    if preset {
+        return Ok(Session::new(alloc, sites, Some(1), None)?);
+    }
+    Ok(Session::new(alloc, sites, None, None)?)
+}

@@ -1,0 +1,15 @@
+/// A script that is replayed to its end.
+#[derive(Clone, Copy)]
+pub struct Row {
+    pub name: &'static str,
+    /// Its lines.
+    pub script: &'static [u8],
+    /// What is told of its lines.
+    pub text: &'static [u8],
+    /// How many lines it has.
+    pub lines: u64,
+    /// How many of its events stand at its end.
+    pub events: u64,
+    /// How many messages were sent in those events.
+    pub sent: u64,
+}
