@@ -56,11 +56,15 @@ id-some : (found : Option Attachment) (id : ℕ) → id_of found ≡ Some id →
 id-some None id is = cc
 id-some (Some x) id is = (x, refl)
 
+pub names-small : (o : Opening) (d : ℕ → Desk) (sent : List Envelope) (account : List Done) → CountedBy o d sent account → (s a id : ℕ) → names o account s a ≡ Some id → a < max_attachments
+names-small o d sent account counted s a id is =
+    let x = id-some ((d s).attachments a) id (sym (counted.named.names s a) ∙ is) in
+    counted.named.small s a x.0 x.1
+
 pub names-held : (o : Opening) (d : ℕ → Desk) (sent : List Envelope) (account : List Done) → CountedBy o d sent account → (s a id : ℕ) → s < sites_of o → names o account s a ≡ Some id
     → 0 < held o account id
 names-held o d sent account counted s a id below is =
-    let x = id-some ((d s).attachments a) id (sym (counted.named.names s a) ∙ is) in
-    let within : a < 64 = counted.named.small s a x.0 x.1 in
+    let within : a < max_attachments = names-small o d sent account counted s a id is in
     let some : 0 < naming o account id = named-counted (names o account) (sites_of o) max_attachments s a id below within is in
     more-held (naming o account id) _ some
   where
@@ -76,4 +80,5 @@ attachments-counted o opening events =
       named = λ s a id below is.
           let stands = held-alive (held o r.account) (kernel o (calls_of r.account)) id counted.balance.balanced (names-held o _ _ r.account counted s a id below is) in
           (stands.0, stands.1, stands.2);
+      small = λ s a id is. names-small o _ _ r.account counted s a id is;
     }

@@ -2,6 +2,7 @@
 use Rattle.std.proofs.Common.{◌≡◌, ℕ, ◌+◌, ◌<◌, ◌≤◌, ◌%◌, Bool, true, false, List, [], ◌∷◌, ◌++◌, map, Option, Some, None, if◌then◌else◌, refl, sym, ap, ◌∙◌, subst, arith, Contains, ◌==◌, mod-eq_of_lt}
 use Rattle.std.specs.List.{AllByRecursion, range_with_len}
 use Rattle.std.proofs.lemmas.Bool.Decides.{nat_tests}
+use Rattle.std.proofs.lemmas.Option.{slice_get_within, get_or_from_slice_get}
 use Rattle.shm_model.specs.declared.answer.Answer.{Answer}
 use Rattle.shm_model.specs.declared.answer.Answer.TheVariants.{Replied, Began, Took, Dropped}
 use Rattle.shm_model.specs.declared.call.Op.{Op}
@@ -14,8 +15,8 @@ use Rattle.shm_model.specs.Message.{Message, Call, Replies, Envelope, Input, Del
 use Rattle.shm_model.specs.Calls.{Fresh, Again, freshness}
 use Rattle.shm_model.specs.SegmentCalls.{call_envelope, purge_envelope, purges, reply_envelope}
 use Rattle.shm_model.specs.World.{Done, Opening, New, Preset, Framed, opened_site, preset_segment, run, sites_of}
-use Rattle.shm_model.specs.History.{ExecutedOnce, Numbered, calls_of, handed_over, has_call, is_refused, reply_to, segments_at_first, with_done}
-use Rattle.shm_laws.proofs.RunInduction.{IsStill, still_took, still_refused}
+use Rattle.shm_model.specs.History.{ExecutedOnce, HomesKeepTheirPart, Numbered, calls_of, handed_over, has_call, is_refused, reply_to, segments_at_first, with_done}
+use Rattle.shm_laws.proofs.RunInduction.{IsStill, run-shape, still_took, still_refused}
 use Rattle.shm_laws.proofs.KernelParts.{HasKeyAtHome, part}
 use Rattle.shm_laws.proofs.CallsTurn.{Desk, Repeats, Turn, desk_of, executed_desk, is_plain, again, attached, detach_begun, ended, executed, hears_purged, old, op_begun, purges_one, quiet}
 use Rattle.shm_laws.proofs.CallsInvariant.{Answered, Holds, awaits, kept_number, view_of}
@@ -249,3 +250,9 @@ executed-once o events = let holds = run-once o events in record {
   sent = λ e n reply found is. holds.replies e n reply found is;
   answered = λ d n reply a found is. every-contains (Answered o (calls_of (run o events).account)) (run o events).account d holds.answered found n reply a is;
 }
+
+pub homes-keep : (o : Opening) (events : List Event) → HomesKeepTheirPart o (run o events)
+homes-keep o events h home found =
+    let sites = (run o events).world.sites in
+    let within : h < sites_of o = subst (λ n. h < n) (run-shape o events).sites (slice_get_within sites h home found) in
+    sym (ap (λ x. x.table) (get_or_from_slice_get sites h home (opened_site o h) found)) ∙ (run-once o events).table h within

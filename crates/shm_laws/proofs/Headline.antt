@@ -148,7 +148,7 @@ pub record Size (o : Opening) : Type 0 where
   pub some_site : 1 ≤ sites_of o
   pub few_sites : sites_of o ≤ max_sites
 
-size-of : (o : Opening) → IsOpening o → Size o
+pub size-of : (o : Opening) → IsOpening o → Size o
 size-of (New n) i = record { some_site = i.0; few_sites = i.1 }
 size-of (Preset n pages) i = record { some_site = i.0; few_sites = i.1 }
 size-of (Framed n pages frames) i = record { some_site = i.0; few_sites = i.1 }
@@ -248,7 +248,7 @@ still-sound o r gone s answer sound = record {
   legal = (tt, sound.legal);
 }
 
-pub sound-kept : (o : Opening) → IsOpening o → Kept o (Sound o)
+sound-kept : (o : Opening) → IsOpening o → Kept o (Sound o)
 sound-kept o is = record {
   first = first-sound o (size-of o is);
   steps = λ r gone s site input sound shape low found honest. step-sound o (size-of o is) r gone s site input sound shape low found honest (legal-step o r s site input sound found);

@@ -1,23 +1,25 @@
 -- The parts of the invariant that others may use.
-use Rattle.std.proofs.Common.{◌≡◌, ℕ, ◌<◌, ◌≤◌, ◌⊎◌, inl, inr, true, List, Contains, arith, refl, sym, ◌∙◌, ap, subst}
+use Rattle.std.proofs.Common.{◌≡◌, ◌≢◌, ℕ, ◌<◌, ◌≤◌, ◌⊎◌, inl, inr, true, false, List, Contains, arith, refl, sym, ◌∙◌, ap, subst}
+use Rattle.std.proofs.lemmas.Bool.{false_from_ne_true}
+use Rattle.std.proofs.lemmas.Option.{slice_get_within}
 use Rattle.shm_place.specs.declared.page.PageId.{PageId}
 use Rattle.shm_place.specs.Page.{manager_of}
 use Rattle.shm_model.specs.declared.event.Event.{Event}
 use Rattle.shm_model.specs.declared.kind.Kind.{Kind}
 use Rattle.shm_model.specs.declared.kind.Kind.TheVariants.{Read, Write}
-use Rattle.shm_model.specs.Entry.{Note, Ask, Clear, Cleared, Hand, Page, Confirm, bytes, is_copy, owned, readable, seen}
-use Rattle.shm_model.specs.Book.{Book}
+use Rattle.shm_model.specs.Entry.{Handed, Note, Ask, Clear, Cleared, Hand, Page, Confirm, bytes, is_copy, owned, readable, seen}
+use Rattle.shm_model.specs.Book.{Book, max_sites}
 use Rattle.shm_model.specs.Message.{Envelope, Of}
 use Rattle.shm_model.specs.Site.{Site}
-use Rattle.shm_model.specs.Transactions.{BytesAreLast, IsRequester, IsRunning, NumbersTell, ReadersAreKnown, Stands, entry_number}
-use Rattle.shm_model.specs.World.{IsOpening, Opening, Run, run}
-use Rattle.shm_laws.proofs.RunInduction.{Shape, run-good}
-use Rattle.shm_laws.proofs.PageView.{Fits, Holds, InFlight, Runs, View}
-use Rattle.shm_laws.proofs.PageHand.{HandNow, hand-now}
+use Rattle.shm_model.specs.Transactions.{BytesAreLast, InvalidatedFirst, IsRequester, IsRunning, NumbersTell, ReadersAreKnown, Stands, TellsToHand, entry_number}
+use Rattle.shm_model.specs.World.{IsOpening, Opening, Run, run, sites_of}
+use Rattle.shm_laws.proofs.RunInduction.{Shape, run-shape}
+use Rattle.shm_laws.proofs.PageView.{AllMet, Fits, Holds, InFlight, Runs, View}
+use Rattle.shm_laws.proofs.PageHand.{HandNow, hand-now, hand-running}
 use Rattle.shm_laws.proofs.PageKeep.{readable-is}
 use Rattle.shm_laws.proofs.PageMoves.{EnvelopeFits, now_of}
 use Rattle.shm_laws.proofs.Sound.{Sound, each-in}
-use Rattle.shm_laws.proofs.Headline.{run-sound, sound-kept}
+use Rattle.shm_laws.proofs.Headline.{run-sound, size-of}
 
 module _ (o : Opening) (r : Run) (sound : Sound o r) (shape : Shape o r.world) (q : PageId) where
   abbrev v : View
@@ -75,6 +77,42 @@ module _ (o : Opening) (r : Run) (sound : Sound o r) (shape : Shape o r.world) (
   known-here s x m sx sm w =
       subst (λ (b : Book). (s ≡ b.owner) ⊎ ((b.copies s ≡ true) ⊎ IsRequester b s)) (book-is m sm) (known-of s (readable-is (v.entries s) (ap readable (entry-is s x sx) ∙ w)))
 
+  -- the running transaction's Hand to write: it is the owner's, and for the requester; and what was met before it
+  told-now : (p : ℕ) (e : Envelope) → TellsToHand r.world q v.book p e → HandNow v v.book.number Write p e.to
+  told-now p e told =
+      hand-running v v.book.number Write p e.to (fits-of e (Hand v.book.number Write p) told.sent told.hand) refl v.book.running refl (λ none. let (run, is) = told.runs in cc)
+
+  unowned : (p s : ℕ) → Runs v.book Write p → s ≢ v.book.owner → s ≢ p → owned (v.entries s) ≡ true → ⊥
+  unowned p s runs away other w = grind (arith, h.owner s w, runs.is)
+
+  uncopied : (p s : ℕ) → Runs v.book Write p → AllMet v p → s ≢ p → is_copy (v.entries s) ≡ true → readable (v.entries s) ≡ true → ⊥
+  uncopied p s runs all other w k = grind (arith, h.copy s w, h.bounded s k, all.met s, h.nobody_else p s runs, runs.is)
+
+  unread : (p s : ℕ) → Runs v.book Write p → AllMet v p → s ≢ v.book.owner → s ≢ p → readable (v.entries s) ≡ false
+  unread p s runs all away other =
+      false_from_ne_true _ (λ w. grind (arith, readable-is (v.entries s) w, unowned p s runs away other, uncopied p s runs all other))
+
+  small-here : sites_of o ≤ max_sites → (s : ℕ) (x : Site) → Stands r.world q s x → s < max_sites
+  small-here few s x stands = let within = slice_get_within r.world.sites s x stands.site in let length_is = shape.sites in omega (arith, few, within, length_is)
+
+  pub told-here : (p : ℕ) (e : Envelope) (m : Site) → Stands r.world q (manager_of r.world.count q) m → TellsToHand r.world q (m.books q) p e
+      → (e.to ≡ (m.books q).owner) × IsRequester (m.books q) p
+  told-here p e m sm =
+      subst (λ b. TellsToHand r.world q b p e → (e.to ≡ b.owner) × IsRequester b p) (book-is m sm)
+      (λ told. let now = told-now p e told in (now.owner, (record { kind = Write; requester = p }, now.runs.is, refl)))
+
+  pub invalidated-here : sites_of o ≤ max_sites → (p : ℕ) (e : Envelope) (s : ℕ) (x m : Site) → Stands r.world q s x → Stands r.world q (manager_of r.world.count q) m
+      → TellsToHand r.world q (m.books q) p e → (m.books q).copies s ≡ true → s ≢ p → (m.books q).number ≤ seen (x.entries q)
+  invalidated-here few p e s x m sx sm =
+      subst (λ b. TellsToHand r.world q b p e → b.copies s ≡ true → s ≢ p → b.number ≤ seen (x.entries q)) (book-is m sm)
+      (λ told copy other. subst (λ y. v.book.number ≤ seen y) (entry-is s x sx) (((told-now p e told).all_met refl).met s (small-here few s x sx) copy other))
+
+  pub unread-here : (p : ℕ) (e : Envelope) (s : ℕ) (x m : Site) → Stands r.world q s x → Stands r.world q (manager_of r.world.count q) m → TellsToHand r.world q (m.books q) p e
+      → s ≢ (m.books q).owner → s ≢ p → readable (x.entries q) ≡ false
+  unread-here p e s x m sx sm =
+      subst (λ b. TellsToHand r.world q b p e → s ≢ b.owner → s ≢ p → readable (x.entries q) ≡ false) (book-is m sm)
+      (λ told away other. let now = told-now p e told in ap readable (sym (entry-is s x sx)) ∙ unread p s now.runs (now.all_met refl) away other)
+
   pub last-here : (s : ℕ) (x : Site) → Stands r.world q s x → readable (x.entries q) ≡ true → now_of o q r.account (bytes (x.entries q))
   last-here s x sx w = subst (λ e. now_of o q r.account (bytes e)) (entry-is s x sx) (h.now s (ap readable (entry-is s x sx) ∙ w))
 
@@ -87,20 +125,28 @@ module _ (o : Opening) (r : Run) (sound : Sound o r) (shape : Shape o r.world) (
   sent-here e n kind b x sent is sx l =
       flying n kind e.to b (fits-of e (Page n kind b) sent is) (subst (λ y. seen y < n) (sym (entry-is e.to x sx)) l)
 
-run-shape : (o : Opening) (events : List Event) → IsOpening o → Shape o (run o events).world
-run-shape o events is = (run-good o (Sound o) (sound-kept o is) events).shape
+  pub handed-here : (s n to : ℕ) (b : List ℕ) (x y : Site) → Stands r.world q s x → Stands r.world q to y → x.entries q ≡ Handed n to b → seen (y.entries q) < n → now_of o q r.account b
+  handed-here s n to b x y sx sy is l = (h.handed s n to b (entry-is s x sx ∙ is) (subst (λ e. seen e < n) (sym (entry-is to y sy)) l)).now
+
+pub copies-invalidated : (o : Opening) (events : List Event) → IsOpening o → InvalidatedFirst (run o events).world
+copies-invalidated o events is = record {
+  told = told-here o (run o events) (run-sound o events is) (run-shape o events);
+  met = λ page. invalidated-here o (run o events) (run-sound o events is) (run-shape o events) page (size-of o is).few_sites;
+  unreadable = unread-here o (run o events) (run-sound o events is) (run-shape o events);
+}
 
 pub numbers-tell : (o : Opening) (events : List Event) → IsOpening o → NumbersTell (run o events).world
 numbers-tell o events is = record {
-  met = met-here o (run o events) (run-sound o events is) (run-shape o events is);
-  above = above-here o (run o events) (run-sound o events is) (run-shape o events is);
+  met = met-here o (run o events) (run-sound o events is) (run-shape o events);
+  above = above-here o (run o events) (run-sound o events is) (run-shape o events);
 }
 
 pub readers-known : (o : Opening) (events : List Event) → IsOpening o → ReadersAreKnown (run o events).world
-readers-known o events is = known-here o (run o events) (run-sound o events is) (run-shape o events is)
+readers-known o events is = known-here o (run o events) (run-sound o events is) (run-shape o events)
 
 pub bytes-last : (o : Opening) (events : List Event) → IsOpening o → BytesAreLast o (run o events)
 bytes-last o events is = record {
-  readable_bytes = λ page s x stands w. (last-here o (run o events) (run-sound o events is) (run-shape o events is) page s x stands w).byte;
-  sent_bytes = λ page e n kind b x sent m stands l. (sent-here o (run o events) (run-sound o events is) (run-shape o events is) page e n kind b x sent m stands l).byte;
+  readable_bytes = λ page s x stands w. (last-here o (run o events) (run-sound o events is) (run-shape o events) page s x stands w).byte;
+  sent_bytes = λ page e n kind b x sent m stands l. (sent-here o (run o events) (run-sound o events is) (run-shape o events) page e n kind b x sent m stands l).byte;
+  handed_bytes = λ page s n to b x y sx sy given l. (handed-here o (run o events) (run-sound o events is) (run-shape o events) page s n to b x y sx sy given l).byte;
 }

@@ -121,3 +121,10 @@ module _ (o : Opening) (P : Run → Type 0) (kept : Kept o P) where
   -- the property holds of every run
   pub run-good : (events : List Event) → Good (run o events)
   run-good events = run_on-good (begun o) events first-good
+
+-- every run has the sites of its opening
+pub run-shape : (o : Opening) (events : List Event) → Shape o (run o events).world
+run-shape o events = (run-good o (λ r. Unit {0}) no_more events).shape
+  where
+    no_more : Kept o (λ r. Unit {0})
+    no_more = record { first = tt; steps = λ r gone s site input holds shape below found honest. tt; stays = λ r gone s answer holds shape still. tt }

@@ -1,5 +1,5 @@
 ghost use Rattle.std.specs.Prelude.{List};
-ghost use Rattle.shm_model.specs.History.{Counted, ExecutedOnce, PurgedDead};
+ghost use Rattle.shm_model.specs.History.{Counted, ExecutedOnce, HomesKeepTheirPart, PurgedDead};
 ghost use Rattle.shm_model.specs.World.{IsOpening, Opening, run};
 ghost use Rattle.shm_model.specs.declared.event.Event.{Event};
 
@@ -7,6 +7,12 @@ ghost use Rattle.shm_model.specs.declared.event.Event.{Event};
 /// as they were first handed over, whatever the network lost, repeated or reordered and whichever sites restarted.
 pub fn each_call_is_executed_once()
     ensures { (o : Opening) (events : List Event) → IsOpening o → ExecutedOnce o (run o events) }
+{}
+
+/// Homes keep their part: each home's table has just those segments of the one kernel's list that are its own, as they are there and in
+/// that order.
+pub fn homes_keep_their_part()
+    ensures { (o : Opening) (events : List Event) → IsOpening o → HomesKeepTheirPart o (run o events) }
 {}
 
 /// Attachments are counted: a segment that isn't destroyed counts the attachments that name it, the attaches to it whose sites don't

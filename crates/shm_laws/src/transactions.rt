@@ -1,7 +1,7 @@
 //! The parts of the headline that others may use: numbers, copies, bytes.
 ghost use Rattle.std.specs.Prelude.{List};
 ghost use Rattle.shm_model.specs.declared.event.Event.{Event};
-ghost use Rattle.shm_model.specs.Transactions.{BytesAreLast, NumbersTell, ReadersAreKnown};
+ghost use Rattle.shm_model.specs.Transactions.{BytesAreLast, InvalidatedFirst, NumbersTell, ReadersAreKnown};
 ghost use Rattle.shm_model.specs.World.{IsOpening, Opening, run};
 
 /// What is above its receiver's number belongs to the transaction that runs at the page's manager.
@@ -14,7 +14,13 @@ pub fn readers_are_known()
     ensures { (o : Opening) (events : List Event) → IsOpening o → ReadersAreKnown (run o events).world }
 {}
 
-/// What may be read or installed is what was stored last.
+/// The owner gives a page up for writing only after all copies were invalidated (Li and Hudak 1989, §3): once it is told to, nobody but it
+/// and the site that asked may read the page.
+pub fn copies_are_invalidated_first()
+    ensures { (o : Opening) (events : List Event) → IsOpening o → InvalidatedFirst (run o events).world }
+{}
+
+/// What may be read or installed is what was stored last, and so is what is kept for a site that a page was handed to until it has it.
 pub fn bytes_are_the_last_stored()
     ensures { (o : Opening) (events : List Event) → IsOpening o → BytesAreLast o (run o events) }
 {}

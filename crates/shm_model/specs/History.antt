@@ -1,6 +1,6 @@
 -- Segment calls over a whole run: the calls in the order in which they were first handed over, what one kernel gives for them, and what
 -- each segment is held by. So "executed once" and "attachments counted" are said without homes, tables or kept replies.
-use Rattle.std.specs.Prelude.{◌≡◌, ◌≢◌, ℕ, ◌<◌, ◌+◌, Bool, true, false, List, [], ◌∷◌, Option, Some, None, ◌&&◌, not, ◌==◌, if◌then◌else◌, IsTrue, Contains, slice_get, sum_by, count_by}
+use Rattle.std.specs.Prelude.{◌≡◌, ◌≢◌, ℕ, ◌<◌, ◌+◌, Bool, true, false, List, [], ◌∷◌, Option, Some, None, ◌&&◌, not, ◌==◌, if◌then◌else◌, IsTrue, Contains, slice_get, filter, sum_by, count_by}
 use Rattle.std.specs.List.{list_any, range_with_len}
 use Rattle.shm_model.specs.declared.answer.Answer.{Answer}
 use Rattle.shm_model.specs.declared.answer.Answer.TheVariants.{Began, Replied, Refused}
@@ -10,7 +10,7 @@ use Rattle.shm_model.specs.declared.call.Reply.{Reply}
 use Rattle.shm_model.specs.declared.call.Reply.TheVariants.{Attached as AttachedReply}
 use Rattle.shm_model.specs.declared.call.Request.TheVariants.{DetachAt}
 use Rattle.shm_model.specs.Permission.{Segment, destroyed}
-use Rattle.shm_model.specs.Kernel.{Called, call, with_id}
+use Rattle.shm_model.specs.Kernel.{Called, call, is_at, with_id}
 use Rattle.shm_model.specs.Message.{Message, Call, Replies, Envelope, Input, Begin, Deliver}
 use Rattle.shm_model.specs.Calls.{op_home}
 use Rattle.shm_model.specs.Site.{Site, max_attachments}
@@ -111,10 +111,15 @@ detaching o calls (d ∷ ds) id = (if is_detach_begun d.input d.answer d.site (n
 abbrev pub held : Opening → List Done → ℕ → ℕ
 held o account id = naming o account id + (attaching o account (calls_of account) id + detaching o (calls_of account) account id)
 
--- Attachments are counted, and none names a destroyed segment.
+-- Attachments are counted, all of them, and none names a destroyed segment.
 pub record Counted (o : Opening) (r : Run) : Type 0 where
   pub count : (g : Segment) → Contains (segments_after o r) g → destroyed g ≡ false → g.nattch ≡ held o r.account g.id
   pub named : (s a id : ℕ) → s < sites_of o → names o r.account s a ≡ Some id → (g : Segment) × (with_id id (segments_after o r) ≡ Some g) × (destroyed g ≡ false)
+  pub small : (s a id : ℕ) → names o r.account s a ≡ Some id → a < max_attachments
+
+-- Each home's table is its part of the one kernel's list.
+abbrev pub HomesKeepTheirPart : Opening → Run → Type 0
+HomesKeepTheirPart o r = (h : ℕ) (home : Site) → slice_get r.world.sites h ≡ Some home → home.table ≡ filter (is_at (sites_of o) h) (segments_after o r)
 
 -- Nothing alive is purged: what a site has purged is destroyed, and no attachment names it.
 pub record PurgedDead (o : Opening) (r : Run) : Type 0 where
