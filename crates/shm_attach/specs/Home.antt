@@ -13,8 +13,8 @@ use Rattle.shm_number.specs.Kept.{kept_at}
 use Rattle.shm_keys.specs.Table.{Table, missing_of}
 use Rattle.shm_keys.specs.Purge.{missing_after}
 use Rattle.shm_attach.specs.declared.done.Done.{Done}
-use Rattle.shm_attach.specs.declared.number.Recall.{Recall}
-use Rattle.shm_attach.specs.declared.number.Recall.TheVariants as recall
+use Rattle.shm_attach.specs.declared.recall.Recall.{Recall}
+use Rattle.shm_attach.specs.declared.recall.Recall.TheVariants as recall
 
 pub record Home : Type 0 where
   pub table : Table

@@ -2,6 +2,8 @@ ghost use Rattle.std.specs.Prelude.{◌≡◌};
 ghost use Rattle.shm_attach.specs.CallBook.{fault_number};
 ghost use Rattle.shm_attach.specs.Right.{denied_number};
 
+use shm_model::refusal;
+
 /// Why a segment call didn't begin.
 #[derive(Clone, Copy, Debug, PartialEq, Eq)]
 pub enum BeginFault {
@@ -17,8 +19,8 @@ impl BeginFault {
         ensures { result ≡ fault_number self }
     {
         match self {
-            BeginFault::Busy => 8,
-            BeginFault::UsedUp => 13,
+            BeginFault::Busy => refusal::BUSY,
+            BeginFault::UsedUp => refusal::NUMBERS_USED_UP,
         }
     }
 }
@@ -40,9 +42,9 @@ impl Denied {
         ensures { result ≡ denied_number self }
     {
         match self {
-            Denied::NoAttachment => 9,
-            Denied::ReadOnly => 10,
-            Denied::OutOfSegment => 11,
+            Denied::NoAttachment => refusal::NO_ATTACHMENT,
+            Denied::ReadOnly => refusal::READ_ONLY,
+            Denied::OutOfSegment => refusal::OUT_OF_SEGMENT,
         }
     }
 }

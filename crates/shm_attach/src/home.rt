@@ -6,7 +6,7 @@ ghost use Rattle.shm_model.specs.Site.{Site};
 ghost use Rattle.shm_model.specs.SegmentCalls.{on_call};
 
 use crate::done::Done;
-use crate::number::{Recall, told_by};
+use crate::recall::{Recall, told_by};
 use crate::run::execute;
 use shm_keys::{SegTable, SiteSet};
 use shm_model::{Op, Reply};

@@ -8,7 +8,7 @@ mod call_book;
 mod done;
 mod fault;
 mod home;
-mod number;
+mod recall;
 mod run;
 
 pub use access::right;
@@ -17,4 +17,4 @@ pub use call_book::CallBook;
 pub use done::Done;
 pub use fault::{BeginFault, Denied};
 pub use home::Home;
-pub use shm_model::{Attached, Op, Reply, Request};
+pub use shm_model::{Attached, Op, Reply};

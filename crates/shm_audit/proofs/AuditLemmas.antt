@@ -1,6 +1,7 @@
 -- From what the audit found to what it says.
 use Rattle.std.proofs.Common.{◌≡◌, ℕ, ◌≤◌, List, [], ◌∷◌, Result, Ok, Err, IfOk, Vec, sym, subst, arith}
 use Rattle.std.specs.declared.alloc.AllocError.{AllocError}
+use Rattle.shm_place.specs.Limits as limit
 use Rattle.shm_boxes.specs.declared.site_log.SiteLog.{SiteLog}
 use Rattle.shm_merge.specs.Logs.{AreLogsOf}
 use Rattle.shm_model.specs.declared.event.Event.{Event}
@@ -33,7 +34,7 @@ pub opens : {A : Type 0} (sites pages : ℕ) (logs : List (SiteLog A)) → AreLo
 opens sites pages [] are from to = let none = are.count in absurd (omega arith)
 opens sites pages (log ∷ logs) are from to =
     let same : log.pages ≡ pages = (are.places 0 log (omega arith)).opened in
-    (from, to, subst (λ n. 1 ≤ n) same log.from, subst (λ n. n ≤ 256) same log.to)
+    (from, to, subst (λ n. 1 ≤ n) same log.from, subst (λ n. n ≤ limit.pages) same log.to)
 
 pub audited : (o : Opening) (logs : List (List Logged)) (callers : List (List Receipt)) (events : List Event) (order : List SiteStep) → IsMerged logs order
     → events ≡ events_in order → AllSound logs → ReceiptsHold logs callers → RunsAs o logs order (run o (events_in order))

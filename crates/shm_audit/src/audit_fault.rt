@@ -1,3 +1,4 @@
+use shm_model::refusal;
 use shm_place::SiteId;
 use thiserror::Error;
 
@@ -32,7 +33,7 @@ impl AuditFault {
             AuditFault::Unsent { .. } => 23,
             AuditFault::StampOrder { .. } => 24,
             AuditFault::Forged { .. } => 25,
-            AuditFault::OutOfMemory => 17,
+            AuditFault::OutOfMemory => refusal::OUT_OF_MEMORY,
         }
     }
 }

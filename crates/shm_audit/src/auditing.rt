@@ -38,6 +38,7 @@ pub fn audit<A: Allocator + Copy>(
     ensures fault { IfErr result (λ f. (f ≡ fault.OutOfMemory) ⊎ IsFirstCause (logs_of logs.now) (callers_of callers.now) f) }
     ensures sound { IfOk result (λ events. IsAudited (Preset sites pages) (logs_of logs.now) (callers_of callers.now) events.items) }
 {
+    // Reading it tells the proof its limits.
     let _count = sites.count();
     matching_logs_fit(sites, pages, logs);
     merged_logs_are_a_run();

@@ -1,3 +1,5 @@
+use shm_model::refusal;
+
 /// Why a box took no input.
 #[derive(Clone, Copy, Debug, PartialEq, Eq)]
 pub enum BoxFault {
@@ -18,9 +20,9 @@ impl BoxFault {
         ensures { result ≡ box_fault_number self }
     {
         match self {
-            BoxFault::Foreign => 16,
-            BoxFault::ClockEnd => 27,
-            BoxFault::OutOfMemory => 17,
+            BoxFault::Foreign => refusal::FOREIGN,
+            BoxFault::ClockEnd => refusal::CLOCK_END,
+            BoxFault::OutOfMemory => refusal::OUT_OF_MEMORY,
         }
     }
 }

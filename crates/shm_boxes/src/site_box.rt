@@ -4,7 +4,7 @@ ghost use Rattle.shm_boxes.specs.Box.{last_stamp_or};
 ghost use Rattle.shm_boxes.specs.SiteLog.{left_by_log, steps_of};
 
 use crate::site_log::SiteLog;
-use shm_place::{SiteId, Sites};
+use shm_place::{PAGES, SiteId, Sites};
 use shm_site::Site;
 use std::alloc::{AllocError, Allocator, Global};
 
@@ -32,7 +32,7 @@ impl<A: Allocator + Copy> SiteBox<A> {
     pub fn new(alloc: A, sites: Sites, me: SiteId, pages: u32) -> Result<SiteBox<A>, AllocError>
         requires below { me < sites }
         requires from { 1 ≤ pages }
-        requires to { pages ≤ 256 }
+        requires to { pages ≤ PAGES }
         ensures { IfOk result (λ new. box_of new ≡ new_box sites me pages) }
     {
         let site = Site::preset(alloc, sites, me, pages)?;

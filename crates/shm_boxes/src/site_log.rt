@@ -1,10 +1,11 @@
 ghost use Rattle.std.specs.Prelude.{◌≤◌, ◌<◌, map};
+ghost use Rattle.shm_place.specs.Limits as limit;
 ghost use Rattle.shm_model.specs.Log.{Fits};
 ghost use Rattle.shm_model.specs.World.{opened_site, Preset};
 ghost use Rattle.shm_boxes.specs.Logged.{logged_of};
 
 use crate::step::Step;
-use shm_place::{SiteId, Sites};
+use shm_place::{PAGES, SiteId, Sites};
 use std::alloc::{AllocError, Allocator, Global};
 
 /// What a site did, the first step first. By its type the log fits: each step answered and sent what the site, which began with segment 0
@@ -17,7 +18,7 @@ pub struct SiteLog<A: Allocator + Copy = Global> {
     steps: Vec<Step<A>, A>,
     ghost below: { me < sites },
     ghost from: { 1 ≤ pages },
-    ghost to: { pages ≤ 256 },
+    ghost to: { pages ≤ limit.pages },
     ghost fits: { Fits sites me (opened_site (Preset sites pages) me) (map logged_of steps.items) },
 }
 
@@ -30,7 +31,7 @@ impl<A: Allocator + Copy> SiteLog<A> {
     pub(crate) fn new(alloc: A, sites: Sites, me: SiteId, pages: u32) -> SiteLog<A>
         requires below { me < sites }
         requires from { 1 ≤ pages }
-        requires to { pages ≤ 256 }
+        requires to { pages ≤ PAGES }
         ensures steps { steps_of result ≡ [] }
         ensures opening { (result.sites ≡ sites) × (result.me ≡ me) × (result.pages ≡ pages) }
     {

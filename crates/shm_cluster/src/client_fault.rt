@@ -1,3 +1,5 @@
+use shm_model::refusal;
+
 /// Why a client gave no receipt.
 #[derive(Clone, Copy, Debug, PartialEq, Eq)]
 pub enum ClientFault {
@@ -18,9 +20,9 @@ impl ClientFault {
         ensures { result ≡ client_fault_number self }
     {
         match self {
-            ClientFault::OutOfMemory => 17,
+            ClientFault::OutOfMemory => refusal::OUT_OF_MEMORY,
             ClientFault::GaveUp => 26,
-            ClientFault::ClockEnd => 27,
+            ClientFault::ClockEnd => refusal::CLOCK_END,
         }
     }
 }

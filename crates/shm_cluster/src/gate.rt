@@ -4,6 +4,7 @@ use shm_place::SiteId;
 /// What a site's own thread passes before each of its steps, while it holds the site's lock. A gate may wait: then the site stands
 /// still, and so does whoever wants its lock, and other sites go on. Clients pass no gate.
 pub trait Gate {
+    /// Called with the site whose lock is held; its step is made when this returns.
     fn pass(&self, site: SiteId);
 }
 

@@ -4,7 +4,7 @@ ghost use Rattle.std.specs.Prelude.{◌≡◌, ◌≤◌, ◌<◌, IfOk, vec_len
 use crate::shared::Post;
 use crate::work::Desk;
 use shm_boxes::SiteBox;
-use shm_place::{SiteId, Sites};
+use shm_place::{PAGES, SiteId, Sites};
 use std::alloc::{AllocError, Allocator, Global};
 use std::sync::Mutex;
 
@@ -22,7 +22,7 @@ pub(crate) fn open<A: Allocator + Copy>(
     pages: u32,
 ) -> Result<Opened<A>, AllocError>
     requires from { 1 ≤ pages }
-    requires to { pages ≤ 256 }
+    requires to { pages ≤ PAGES }
     ensures { IfOk result (λ opened. vec_len opened.posts ≡ sites) }
 {
     let mut posts = Vec::new(alloc);
@@ -43,7 +43,7 @@ fn open_site<A: Allocator + Copy>(
 ) -> Result<(Post<A>, Desk<A>), AllocError>
     requires below { site < sites }
     requires from { 1 ≤ pages }
-    requires to { pages ≤ 256 }
+    requires to { pages ≤ PAGES }
 {
     let (sender, mail) = crossbeam_channel::unbounded(alloc)?;
     let new = SiteBox::new(alloc, sites, site, pages)?;

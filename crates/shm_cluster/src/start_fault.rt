@@ -1,3 +1,5 @@
+use shm_model::refusal;
+
 /// Why no cluster was started. The threads that had been started have ended.
 #[derive(Clone, Copy, Debug, PartialEq, Eq)]
 pub enum StartFault {
@@ -16,7 +18,7 @@ impl StartFault {
         ensures { result ≡ start_fault_number self }
     {
         match self {
-            StartFault::OutOfMemory => 17,
+            StartFault::OutOfMemory => refusal::OUT_OF_MEMORY,
             StartFault::NoThread => 29,
         }
     }

@@ -9,7 +9,7 @@ use crate::shared::Shared;
 use crate::start_fault::StartFault;
 use crate::stopping::end;
 use crate::work::{Desk, work};
-use shm_place::Sites;
+use shm_place::{PAGES, Sites};
 use std::alloc::{AllocError, Allocator};
 use std::sync::{Arc, Wait};
 use std::thread;
@@ -27,7 +27,7 @@ impl<A: Allocator + Copy + Send + Sync + 'static> Cluster<A> {
         gate: G,
     ) -> Result<Cluster<A>, StartFault>
         requires from { 1 ≤ pages }
-        requires to { pages ≤ 256 }
+        requires to { pages ≤ PAGES }
         ensures { IfOk result (λ cluster. sites_of cluster ≡ sites) }
     {
         let Ok((mut cluster, desks, gate)) = ready(alloc, sites, pages, gate) else {
@@ -109,7 +109,7 @@ pub(crate) fn ready<A: Allocator + Copy, G: Drop>(
     gate: G,
 ) -> Result<(Cluster<A>, Vec<Desk<A>, A>, Arc<G, A>), AllocError>
     requires from { 1 ≤ pages }
-    requires to { pages ≤ 256 }
+    requires to { pages ≤ PAGES }
     ensures sites { IfOk result (λ ready. sites_of ready.0 ≡ sites) }
     ensures room { IfOk result (λ ready. vec_len ready.0.threads + vec_len ready.1 ≤ vec_capacity ready.0.threads) }
 {

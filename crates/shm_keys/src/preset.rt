@@ -6,12 +6,12 @@ use crate::segment::Segment;
 use crate::table::SegTable;
 use indexmap::IndexMap;
 use shm_model::Mode;
-use shm_place::{Key, PAGE_BYTES, SegId, SiteId, Sites};
+use shm_place::{Key, PAGE_BYTES, PAGES, SegId, SiteId, Sites};
 use std::alloc::{AllocError, Allocator};
 
 /// Segment 0 of so many pages, which is attached once at every site, and which everyone may read and write.
 fn first_segment(sites: Sites, pages: u32) -> Segment
-    requires { pages ≤ 256 }
+    requires { pages ≤ PAGES }
     ensures { result ≡ preset_segment sites pages }
 {
     Segment {
@@ -48,7 +48,7 @@ impl<A: Allocator + Copy> SegTable<A> {
     ) -> Result<SegTable<A>, AllocError>
         requires below { home < sites }
         requires from { 1 ≤ pages }
-        requires to { pages ≤ 256 }
+        requires to { pages ≤ PAGES }
         ensures { IfOk result (λ table. table ≡ record { home = home; sites = sites; segments = preset_table sites pages home; missing = [] }) }
     {
         if home.0 != 0 {

@@ -6,9 +6,8 @@ use Rattle.std.specs.Int.{IsInRange}
 use Rattle.std.specs.Str.{bytes_eq}
 use Rattle.std.proofs.lemmas.Bool.Decides.{nat_tests}
 use Rattle.std.proofs.lemmas.Slice.Eq.{bytes_eq-Decides}
-use Rattle.shm_place.specs.Limits.{pages}
+use Rattle.shm_place.specs.Limits.{max_frames, pages}
 use Rattle.shm_model.specs.Book.{max_sites}
-use Rattle.shm_model.specs.World.{max_frames}
 use Rattle.shm_model.specs.declared.call.Cred.{Cred}
 use Rattle.shm_model.specs.declared.event.Event.TheVariants.{Load, Store, Tick, Restart, Deliver, Repeat, Lose}
 use Rattle.shm_lines.proofs.OneWord.{IsPrinter, number, byte}

@@ -5,9 +5,8 @@ use Rattle.std.specs.List.{join_with_byte}
 use Rattle.std.specs.Fmt.{decimal}
 use Rattle.std.specs.Int.{IsInRange}
 use Rattle.std.proofs.lemmas.Bool.Decides.{nat_tests}
-use Rattle.shm_place.specs.Limits.{pages}
+use Rattle.shm_place.specs.Limits.{max_frames, pages}
 use Rattle.shm_model.specs.Book.{max_sites}
-use Rattle.shm_model.specs.World.{max_frames}
 use Rattle.shm_model.specs.declared.call.Cred.{Cred}
 use Rattle.shm_model.specs.declared.call.Op.{Op}
 use Rattle.shm_model.specs.declared.call.Op.TheVariants.{Get, Attach, Detach, Remove, Set, Stat}

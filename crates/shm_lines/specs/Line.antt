@@ -1,13 +1,12 @@
 -- What each line says: first its verb, then what the verb wants, and nothing more.
 use Rattle.std.specs.Prelude.{ℕ, ◌==◌, Bool, true, false, not, if◌then◌else◌, List, [], ◌∷◌, codes, Option, None, Some}
 use Rattle.std.specs.Str.{bytes_eq}
-use Rattle.shm_place.specs.Limits.{pages}
+use Rattle.shm_place.specs.Limits.{max_frames, pages}
 use Rattle.shm_model.specs.declared.call.Op.{Op}
 use Rattle.shm_model.specs.declared.call.Op.TheVariants.{Get, Attach, Remove, Set, Stat}
 use Rattle.shm_model.specs.declared.call.Request.TheVariants.{Op as OpRequest, DetachAt}
 use Rattle.shm_model.specs.declared.event.Event.TheVariants.{Load, Store, Begin, Tick, Restart, Deliver, Repeat, Lose}
 use Rattle.shm_model.specs.Book.{max_sites}
-use Rattle.shm_model.specs.World.{max_frames}
 use Rattle.shm_lines.specs.Words.{◌>>=◌, words_of, byte_of, mode_of, flags_of, access_of, next_word, next_of, next_number, next_cred, next_named, is_from_1_to, is_end}
 use Rattle.shm_lines.specs.declared.line.Line.{Line}
 use Rattle.shm_lines.specs.declared.line.Line.TheVariants.{Sites, Event, Show, Back}

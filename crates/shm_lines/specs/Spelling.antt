@@ -3,7 +3,7 @@ use Rattle.std.specs.Prelude.{◌≡◌, ℕ, ◌^◌, ◌/◌, ◌%◌, ◌<◌
 use Rattle.std.specs.List.{join_with_byte}
 use Rattle.std.specs.Fmt.{decimal}
 use Rattle.std.specs.Int.{IsInRange}
-use Rattle.shm_place.specs.Limits.{pages}
+use Rattle.shm_place.specs.Limits.{max_frames, pages}
 use Rattle.shm_model.specs.declared.call.Cred.{Cred}
 use Rattle.shm_model.specs.declared.call.Op.{Op}
 use Rattle.shm_model.specs.declared.call.Op.TheVariants.{Get, Attach, Detach, Remove, Set, Stat}
@@ -14,7 +14,6 @@ use Rattle.shm_model.specs.declared.event.Event.TheVariants.{Load, Store, Begin,
 use Rattle.shm_model.specs.declared.mode.Mode.{Mode}
 use Rattle.shm_model.specs.declared.mode.GetFlags.{GetFlags}
 use Rattle.shm_model.specs.Book.{max_sites}
-use Rattle.shm_model.specs.World.{max_frames}
 use Rattle.shm_lines.specs.declared.line.Line.{Line}
 use Rattle.shm_lines.specs.declared.line.Line.TheVariants.{Sites, Event as EventLine, Show, Back}
 

@@ -7,10 +7,7 @@ use crate::line::Line;
 use crate::parse_calls::call;
 use crate::words::Words;
 use shm_model::Event;
-use shm_place::{PAGES, PageId, SegId, SiteId, Sites};
-
-/// How many pages a site may be limited to as copies, at most.
-const MAX_FRAMES: u32 = 65_536;
+use shm_place::{MAX_FRAMES, PAGES, PageId, SegId, SiteId, Sites};
 
 /// The bytes are no line of a script.
 #[derive(Clone, Copy, Debug, PartialEq, Eq)]

@@ -82,6 +82,7 @@ impl<A: Allocator + Copy> Queue<A> {
         ensures { IfOk result (λ queue. queue ≡ self.now) }
     {
         let mut ring = HeapCircularBuffer::with_capacity(*self.ring.allocator(), 16)?;
+        // Reading it tells the proof its limits.
         let _count = self.ring.len();
         let (front, back) = self.ring.as_slices();
         ring.extend_from_slice(front);

@@ -11,6 +11,6 @@ mod step_name;
 pub use logs::logs_match;
 pub use merging::merge;
 pub use replaying::events;
-pub use shm_boxes::{SiteLog, Step};
+pub use shm_boxes::SiteLog;
 pub use shm_model::Event;
 pub use step_name::StepName;

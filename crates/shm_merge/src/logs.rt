@@ -8,11 +8,9 @@ ghost use Rattle.shm_model.specs.World.{max_sent};
 ghost use Rattle.shm_merge.specs.Logs.{logs_of, AreLogsOf, IsLogOf};
 
 use shm_boxes::{SiteLog, Step};
+use shm_model::MAX_SENT;
 use shm_place::{SiteId, Sites};
 use std::alloc::Allocator;
-
-/// How many envelopes the network has numbers for.
-const MAX_SENT: u64 = 1 << 63;
 
 /// Whether there is one log for each site, in the order of the sites, each of a site of so many where segment 0 began with so many
 /// pages, and together they send no more than 2^63 envelopes. Takes no memory.

@@ -2,6 +2,7 @@
 -- it ends with its requester's confirmation, and the others wait.
 use Rattle.std.specs.Prelude.{ℕ, Bool, true, false, List, [], ◌∷◌, ◌++◌, Option, Some, None, ◌+◌, ◌&&◌, not, nat_le, ◌==◌, if◌then◌else◌, length, map, filter}
 use Rattle.std.specs.List.{list_any, range_with_len}
+pub use Rattle.shm_place.specs.Limits.{max_sites}
 use Rattle.shm_model.specs.declared.kind.Kind.{Kind}
 use Rattle.shm_model.specs.declared.kind.Kind.TheVariants.{Read, Write}
 
@@ -43,9 +44,6 @@ pub data Outcome : Type 0 where
 
 abbrev pub greatest : ℕ
 greatest = 18446744073709551615
-
-abbrev pub max_sites : ℕ
-max_sites = 16
 
 abbrev pub max_waiting : ℕ
 max_waiting = 16

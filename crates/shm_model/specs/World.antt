@@ -2,7 +2,7 @@
 -- and invents nothing.
 use Rattle.std.specs.Prelude.{ℕ, ◌≤◌, Bool, true, false, List, [], ◌∷◌, ◌++◌, Option, Some, None, ◌*◌, ◌==◌, nat_lt, if◌then◌else◌, length, map, slice_get, slice_set}
 use Rattle.std.specs.List.{range_with_len}
-use Rattle.shm_place.specs.Limits.{page_bytes, pages as max_pages}
+use Rattle.shm_place.specs.Limits.{max_frames, page_bytes, pages as max_pages}
 use Rattle.shm_model.specs.declared.answer.Answer.{Answer}
 use Rattle.shm_model.specs.declared.answer.Answer.TheVariants.{Took, Refused}
 use Rattle.shm_model.specs.declared.event.Event.{Event}
@@ -21,9 +21,6 @@ pub data Opening : Type 0 where
   New : ℕ → Opening
   Preset : ℕ → ℕ → Opening
   Framed : ℕ → ℕ → ℕ → Opening
-
-abbrev pub max_frames : ℕ
-max_frames = 65536
 
 abbrev pub sites_of : Opening → ℕ
 sites_of (New n) = n

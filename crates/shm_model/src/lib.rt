@@ -6,10 +6,13 @@ mod answer;
 mod call;
 mod event;
 mod kind;
+mod limits;
 mod mode;
+pub mod refusal;
 
 pub use answer::{Access, Answer, Shown, State};
 pub use call::{Attached, Cred, Errno, Op, Reply, Request, Stat};
 pub use event::Event;
 pub use kind::Kind;
+pub use limits::MAX_SENT;
 pub use mode::{GetFlags, Mode};

@@ -8,7 +8,7 @@ mod page;
 mod sites;
 
 pub use id::{Key, SegId, SiteId, home_of_id, home_of_key};
-pub use limits::{MAX_SEGMENT_BYTES, PAGE_BYTES, PAGES, SEGMENTS_OF_A_HOME};
+pub use limits::{MAX_FRAMES, MAX_SEGMENT_BYTES, PAGE_BYTES, PAGES, SEGMENTS_OF_A_HOME};
 pub use offset::{place, rounded};
 pub use page::{PageId, in_limits, manager_of};
 pub use sites::{MAX_SITES, NoSuchSite, Sites};

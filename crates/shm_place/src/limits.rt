@@ -9,3 +9,6 @@ pub const PAGES: u32 = 256;
 
 /// How many segments a home makes at most, ever; identifiers are never used again.
 pub const SEGMENTS_OF_A_HOME: u32 = 65_536;
+
+/// How many pages a site may be limited to hold as copies, at most.
+pub const MAX_FRAMES: u32 = 65_536;

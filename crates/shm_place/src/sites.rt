@@ -26,6 +26,7 @@ impl Model for Sites {
 }
 
 impl Sites {
+    /// So many sites. `NoSuchSite`: fewer than 1, or more than [`MAX_SITES`].
     pub fn new(count: u32) -> Result<Sites, NoSuchSite>
         ensures valid { IsOk result ↔ (1 ≤ count) × (count ≤ 16) }
         ensures value { IfOk result (λ sites. sites ≡ count) }
@@ -36,6 +37,7 @@ impl Sites {
         Ok(Sites { count })
     }
 
+    /// How many there are: 1 to [`MAX_SITES`].
     pub fn count(self) -> u32
         ensures value { result ≡ self }
         ensures from { 1 ≤ result }

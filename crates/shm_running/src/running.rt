@@ -7,7 +7,7 @@ use crate::ran::Ran;
 use crate::run_fault::{CallFault, RunFault};
 use shm_boxes::{Receipt, SiteLog};
 use shm_cluster::{ClientFault, Clients, Cluster, OpenGate, StartFault};
-use shm_place::{SiteId, Sites};
+use shm_place::{PAGES, SiteId, Sites};
 use shm_workload::{Access, Workload};
 use std::alloc::{AllocError, Global};
 use std::sync::Wait;
@@ -27,7 +27,7 @@ pub fn run_workload<R: Threads + Wait + Copy + Send + Sync + 'static>(
     workload: &Workload,
 ) -> Result<Ran, RunFault>
     requires from { 1 ≤ workload.now.pages }
-    requires to { workload.now.pages ≤ 256 }
+    requires to { workload.now.pages ≤ PAGES }
     ensures served { IfOk result (λ ran. AllServed sites workload.now.accesses.items ran.callers.items) }
     ensures logs { IfOk result (λ ran. vec_len ran.logs ≡ sites) }
 {

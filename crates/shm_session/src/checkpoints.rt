@@ -52,6 +52,7 @@ impl<A: Allocator + Copy> Checkpoints<A> {
     fn reached(&self, count: u64) -> usize
         ensures { result ≡ length (take_while (λ checkpoint. nat_le checkpoint.count count) self.now.ring.items) }
     {
+        // Reading it tells the proof its limits.
         let _most = self.ring.len();
         self.ring.iter().take_while(|c| c.count <= count).count()
     }

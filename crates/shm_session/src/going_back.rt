@@ -19,8 +19,8 @@ use std::alloc::{AllocError, Allocator};
 const STRIDE: usize = 64;
 
 impl<A: Allocator + Copy> Session<A> {
-    /// Takes the last `count` events back, and answers how many stand. Where memory is refused, or fewer events stand, nothing changes.
-    /// To take none back takes no memory.
+    /// Takes the last `count` events back, and answers how many stand. Where memory is refused, or fewer events stand, what
+    /// stands stays as it was; only checkpoints may be given up. To take none back takes no memory.
     pub fn back(&mut self, count: u32) -> Result<u64, BackFault>
         ensures enough { OnOk result (count ≤ length self.old.events) }
         ensures left { IfOk result (λ left. left ≡ length self.new.events) }

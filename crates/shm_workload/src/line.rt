@@ -33,7 +33,7 @@ pub(crate) fn access_line(
     number: u64,
     line: &[u8],
 ) -> Result<Access, WorkloadFault>
-    requires { size ≤ 256 }
+    requires { size ≤ PAGES }
     ensures { result ≡ said.read_line (said.access_of sites size) number line.now }
 {
     if let Some(fault) = broken_limit(number, line) {
@@ -82,7 +82,7 @@ fn preset_of(line: &[u8]) -> Option<u32>
 }
 
 fn access_of(sites: Sites, size: u32, line: &[u8]) -> Option<Access>
-    requires { size ≤ 256 }
+    requires { size ≤ PAGES }
     ensures { result ≡ said.access_of sites size line.now }
 {
     let (verb, words) = Words::of(line).word()?;
@@ -96,7 +96,7 @@ fn access_of(sites: Sites, size: u32, line: &[u8]) -> Option<Access>
 }
 
 fn load(sites: Sites, size: u32, words: Words<'_>) -> Option<Access>
-    requires { size ≤ 256 }
+    requires { size ≤ PAGES }
     ensures { result ≡ said.load_of sites size words.entry }
 {
     let (site, words) = words.number()?;
@@ -111,7 +111,7 @@ fn load(sites: Sites, size: u32, words: Words<'_>) -> Option<Access>
 }
 
 fn store(sites: Sites, size: u32, words: Words<'_>) -> Option<Access>
-    requires { size ≤ 256 }
+    requires { size ≤ PAGES }
     ensures { result ≡ said.store_of sites size words.entry }
 {
     let (site, words) = words.number()?;
@@ -129,7 +129,7 @@ fn store(sites: Sites, size: u32, words: Words<'_>) -> Option<Access>
 
 /// Whether there is such a site, and a byte at this offset of so many pages.
 fn is_inside(sites: Sites, size: u32, site: u32, offset: u32) -> bool
-    requires { size ≤ 256 }
+    requires { size ≤ PAGES }
     ensures { result ≡ said.is_inside sites size site offset }
 {
     site < sites.count() && offset < size * PAGE_BYTES as u32

@@ -7,7 +7,7 @@ use crate::access::Access;
 use crate::fault::WorkloadFault;
 use crate::line::{access_line, first_line, open_line};
 use shm_lines::split_at;
-use shm_place::Sites;
+use shm_place::{PAGES, Sites};
 use std::alloc::{Allocator, Global};
 
 /// What all callers do.
@@ -26,7 +26,7 @@ pub fn parse_workload<A: Allocator>(
     bytes: &[u8],
 ) -> Result<Workload<A>, WorkloadFault>
     ensures ok { IfOk result (λ workload. workload_of sites bytes.now ≡ Ok (record { size = workload.pages; accesses = workload.accesses.items })) }
-    ensures size { IfOk result (λ workload. (1 ≤ workload.pages) × (workload.pages ≤ 256)) }
+    ensures size { IfOk result (λ workload. (1 ≤ workload.pages) × (workload.pages ≤ PAGES)) }
     ensures err { IfErr result (λ fault. (fault ≡ cause.OutOfMemory) ⊎ (workload_of sites bytes.now ≡ Err fault)) }
 {
     let (first, rest) = split_at(bytes, b'\n');
@@ -46,7 +46,7 @@ fn further_lines<A: Allocator>(
     size: u32,
     bytes: &[u8],
 ) -> Result<Workload<A>, WorkloadFault>
-    requires { size ≤ 256 }
+    requires { size ≤ PAGES }
     ensures size { IfOk result (λ workload. workload.pages ≡ size) }
     ensures ok { IfOk result (λ workload. with_size size (accesses_on sites size 2 (parts_of bytes.now)) ≡ Ok (record { size = workload.pages; accesses = workload.accesses.items })) }
     ensures err { IfErr result (λ fault. (fault ≡ cause.OutOfMemory) ⊎ (accesses_on sites size 2 (parts_of bytes.now) ≡ Err fault)) }
