@@ -3,16 +3,16 @@ mod streams;
 
 use shm_debug::{Session, Summary};
 use shm_place::Sites;
-use shm_scripts::Row;
+use shm_scripts::Script;
 use std::alloc::Allocator;
 use std::test::Fail;
 
-/// What the replay of a row answers.
-fn summary_of(row: &Row) -> Summary {
+/// What the replay of a script answers.
+fn summary_of(script: &Script) -> Summary {
     Summary {
-        lines: row.lines,
-        events: row.events,
-        sent: row.sent,
+        lines: script.lines,
+        events: script.events,
+        sent: script.sent,
     }
 }
 

@@ -18,6 +18,7 @@ use Rattle.shm_parts.specs.Bookings.{is_listed, is_marked, listed_of}
 use Rattle.shm_parts.specs.Books.{viewed}
 use Rattle.shm_parts.specs.declared.bookings.Bookings.{Bookings}
 use Rattle.shm_parts.proofs.BookSteps.{as_books, forgotten_books, forgotten_keys, list_any-keys, page-same, same_books, same_keys}
+use Rattle.shm_parts.proofs.GoneLemmas.{gone_below, gone-more, gone-none}
 use Rattle.shm_parts.proofs.ListLemmas.{all-map, filter-agree, filter-twice}
 use Rattle.shm_parts.proofs.PlaceLemmas.{any_placed, listed_within}
 
@@ -79,16 +80,6 @@ module _ {A B : Type 0} where
 
 -- ---- without the first pages of a segment
 
--- a page of the segment with an index below this one
-abbrev pub gone_below : ℕ → ℕ → PageId → Bool
-gone_below id index page = (id == page.seg) && nat_lt page.index index
-
-pub gone-none : (id : ℕ) (page : PageId) → gone_below id 0 page ≡ false
-gone-none id page = grind (arith, nat_tests)
-
-gone-more : (id index : ℕ) (page : PageId) → gone_below id (index + 1) page ≡ (if same_page (record { seg = id; index = index }) page then true else gone_below id index page)
-gone-more id index page = grind (arith, nat_tests)
-
 either_not : (a b : Bool) → not (if a then true else b) ≡ (not b && not a)
 either_not true true = refl
 either_not true false = refl
@@ -117,20 +108,6 @@ pub kept-all : (id index : ℕ) (pages : List PageId) → limit.pages ≤ index 
 kept-all id index pages all small =
     filter-agree (λ (p : PageId). not (gone_below id index p)) (λ (p : PageId). not (id == p.seg)) pages
     (all-map (λ (p : PageId). p.index < limit.pages) (λ (p : PageId). not (gone_below id index p) ≡ not (id == p.seg)) pages (λ p below. kept_all id index p all below) small)
-
-module _ {A : Type 0} where
-  pub gone_start : (old : List (PageId × Book A)) (id : ℕ) (q : PageId) → lookup (same_page q) old ≡ cond (gone_below id 0 q) None (lookup (same_page q) old)
-  gone_start old id q = ap (λ b. cond b None (lookup (same_page q) old)) (sym (gone-none id q))
-
-  pub gone_step : (old now next : List (PageId × Book A)) (id index : ℕ) (q : PageId) → lookup (same_page q) now ≡ cond (gone_below id index q) None (lookup (same_page q) old)
-      → lookup (same_page q) next ≡ cond (same_page (record { seg = id; index = index }) q) None (lookup (same_page q) now) → lookup (same_page q) next ≡ cond (gone_below id (index + 1) q) None (lookup (same_page q) old)
-  gone_step old now next id index q so_far taken =
-      let page : PageId = record { seg = id; index = index } in
-      taken ∙ ap (λ (o : Option (Book A)). cond (same_page page q) None o) so_far ∙ by (same_page page q) (gone_below id index q) ∙ ap (λ b. cond b None (lookup (same_page q) old)) (sym (gone-more id index q))
-    where
-      by : (a b : Bool) → cond a None (cond b None (lookup (same_page q) old)) ≡ cond (if a then true else b) None (lookup (same_page q) old)
-      by true b = refl
-      by false b = refl
 
 module _ {A B : Type 0} where
   -- all pages of the segment that may have a book are below the last index

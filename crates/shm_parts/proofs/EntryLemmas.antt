@@ -1,7 +1,7 @@
 -- What a change of one page's entry does to the entries as a function of the page.
-use Rattle.std.proofs.Common.{◌≡◌, ℕ, zero, suc, ◌+◌, Bool, true, false, List, [], ◌∷◌, ◌++◌, take, slice_get, ◌==◌, Option, Some, None, is_some, Result, Ok, Err, OnOk, OnErr, cond, ◌<◌, ◌≤◌, if◌then◌else◌, refl, sym, ◌∙◌, ap, true≢false, ⊎_elim, arith}
+use Rattle.std.proofs.Common.{◌≡◌, ℕ, zero, suc, ◌+◌, Bool, true, false, List, [], ◌∷◌, ◌++◌, take, slice_get, ◌==◌, Option, Some, None, is_some, Result, Ok, Err, OnOk, OnErr, if◌then◌else◌, refl, sym, ◌∙◌, ap, true≢false, arith}
 use Rattle.std.proofs.Math.Path.{fun_ext}
-use Rattle.std.proofs.lemmas.Bool.{and_parts, cases_lt}
+use Rattle.std.proofs.lemmas.Bool.{and_parts}
 use Rattle.std.proofs.lemmas.Bool.Decides.{nat_tests}
 use Rattle.std.proofs.lemmas.List.{take_more}
 use Rattle.std.proofs.lemmas.Map.{lookup-none}
@@ -132,28 +132,3 @@ entry-next m es i k v d at is =
     ∙ ap (λ l. l ++ (k, v) ∷ []) is
     ∙ ap (λ x. take i es ++ x ∷ []) (sym (get_or_from_slice_get es i (k, v) (k, v) at))
     ∙ sym (take_more es i (k, v) within)
-
--- after a segment's next page was dropped, its pages up to there are gone
-pub gone-more : {A : Type 0} (old new : Entries A) (id at : ℕ)
-    → ((q : PageId) → stored_at new q ≡ cond (same_page (record { seg = id; index = at }) q) None (stored_at old q))
-    → ((index : ℕ) → index < at → stored_at old (record { seg = id; index = index }) ≡ None)
-    → (index : ℕ) → index < at + 1 → stored_at new (record { seg = id; index = index }) ≡ None
-gone-more old new id at put before index below = ⊎_elim earlier last (cases_lt index at)
-  where
-    page : ℕ → PageId
-    page n = record { seg = id; index = n }
-
-    as_put : (b : Bool) → same_page (page at) (page index) ≡ b → stored_at new (page index) ≡ cond b None (stored_at old (page index))
-    as_put b h = put (page index) ∙ ap (λ b. cond b None (stored_at old (page index))) h
-
-    by : (b : Bool) → same_page (page at) (page index) ≡ b → stored_at old (page index) ≡ None → stored_at new (page index) ≡ None
-    by true h none = as_put true h
-    by false h none = as_put false h ∙ none
-
-    earlier : index < at → stored_at new (page index) ≡ None
-    earlier before-it = by (same_page (page at) (page index)) refl (before index before-it)
-
-    last : at ≤ index → stored_at new (page index) ≡ None
-    last behind =
-        let same : ◌≡◌ {A = ℕ} index at = omega (arith, below, behind) in
-        as_put true (ap (λ n. same_page (page at) (page n)) same ∙ same-page (page at))

@@ -5,6 +5,7 @@ pub mod BookSteps
 pub mod ListLemmas
 pub mod PlaceLemmas
 pub mod NextLemmas
+pub mod GoneLemmas
 pub mod BookedLemmas
 pub mod EntryLemmas
 pub mod LineLemmas

@@ -35,7 +35,7 @@ impl<A: Allocator + Copy> Holdings<A> {
             Ok(()) => {
                 let number = self.attachments.put(id, size, ro);
                 let first = self.entries.place_of(PageId { seg: id, index: 0 });
-                self.firsts.note(number, first);
+                self.first_places.note(number, first);
                 Ok(number)
             }
         }

@@ -32,6 +32,8 @@ impl<A: Allocator + Copy> Entries<A> {
     }
 
     /// The page's entry, if one is stored.
+    // Out of line, so that the short way of `get_near` stays short.
+    #[inline(never)]
     pub fn get(&self, page: PageId) -> Option<&Entry<A>>
         ensures { option_copied result ≡ stored_at self.now page }
     {
@@ -55,16 +57,7 @@ impl<A: Allocator + Copy> Entries<A> {
         {
             return Some(entry);
         }
-        self.get_elsewhere(page)
-    }
-
-    /// The same, out of the way of what is near.
-    #[cold]
-    #[inline(never)]
-    fn get_elsewhere(&self, page: PageId) -> Option<&Entry<A>>
-        ensures { option_copied result ≡ stored_at self.now page }
-    {
-        self.map.get(&page)
+        self.get(page)
     }
 
     /// Stores the entry of an untouched page, unless its entry is stored already. Seen through the definitions nothing changes.

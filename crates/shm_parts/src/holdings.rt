@@ -1,7 +1,7 @@
 ghost use Rattle.shm_parts.specs.Reach.{IsReached};
 
 use crate::entries::Entries;
-use crate::firsts::Firsts;
+use crate::first_places::FirstPlaces;
 use crate::frames::Frames;
 use crate::purged::Purged;
 use shm_attach::Attachments;
@@ -13,7 +13,7 @@ use std::alloc::{Allocator, Global};
 pub struct Holdings<A: Allocator + Copy = Global> {
     pub(crate) entries: Entries<A>,
     pub(crate) attachments: Attachments,
-    pub(crate) firsts: Firsts,
+    pub(crate) first_places: FirstPlaces,
     pub(crate) purged: Purged<A>,
     pub(crate) frames: Option<Frames<A>>,
     pub(crate) alloc: A,

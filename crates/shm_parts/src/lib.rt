@@ -12,7 +12,7 @@ mod books;
 mod change;
 mod entries;
 mod entry_table;
-mod firsts;
+mod first_places;
 mod frame_order;
 mod frames;
 mod holdings;

@@ -107,6 +107,7 @@ impl<V: Drop, A: Allocator + Copy> Line<V, A> {
         let Some(cache) = &mut self.cache else {
             return;
         };
+        // Reading it tells the proof its limits.
         let _count = cache.len();
         cache.demote(page);
     }
@@ -159,6 +160,7 @@ impl<V: Drop, A: Allocator + Copy> Line<V, A> {
         let Some(cache) = &self.cache else {
             return Ok(copy);
         };
+        // Reading it tells the proof its limits.
         let _count = cache.len();
         'entries: for (page, value) in cache.iter() {
             copy.put(*page, *value)?;
@@ -216,6 +218,7 @@ fn append<V: Drop, A: Allocator + Copy>(
     ensures added { OnOk result (cache.new ≡ lru_cache (cache.old.entries ++ (page, value) ∷ []) most) }
     ensures refused { OnErr result (cache.new ≡ cache.old) }
 {
+    // Reading it tells the proof its limits.
     let _count = cache.len();
     if cache.put(page, value).is_err() {
         return Err(AllocError);
@@ -228,6 +231,7 @@ fn remove_in<V: Drop, A: Allocator + Copy>(cache: &mut Cache<V, A>, page: &PageI
     ensures first { cache.new ≡ lru_cache (remove_entry (same_page page.now) cache.old.entries) cache.old.cap }
     ensures all { cache.new ≡ lru_cache (without page.now cache.old.entries) cache.old.cap }
 {
+    // Reading it tells the proof its limits.
     let _count = cache.len();
     let _value = cache.pop(page);
 }

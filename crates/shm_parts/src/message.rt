@@ -13,7 +13,7 @@ pub enum Grant<A: Allocator + Copy = Global> {
     Write(WriteGrant<A>),
 }
 
-/// What sites tell one another (Li and Hudak 1989, §3.2, and the profile's segment calls). `number` is that of a transaction,
+/// What sites tell one another (Li and Hudak 1989, §3.2, and segment calls). `number` is that of a transaction,
 /// or of a segment call.
 #[derive(Drop)]
 pub enum Message<A: Allocator + Copy = Global> {

@@ -8,7 +8,7 @@ ghost use Rattle.shm_parts.specs.Holdings.{framed, held_frames, with_holdings};
 ghost use Rattle.shm_parts.specs.Purged.{purged_of};
 
 use crate::entries::Entries;
-use crate::firsts::Firsts;
+use crate::first_places::FirstPlaces;
 use crate::frames::Frames;
 use crate::holdings::Holdings;
 use crate::purged::Purged;
@@ -52,7 +52,7 @@ impl<A: Allocator + Copy> Holdings<A> {
         Holdings {
             entries: Entries::new(alloc),
             attachments: Attachments::new(),
-            firsts: Firsts::unknown(),
+            first_places: FirstPlaces::unknown(),
             purged: Purged::new(alloc),
             frames: frames_for(alloc, limit),
             alloc,

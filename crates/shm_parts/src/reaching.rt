@@ -23,7 +23,7 @@ impl<A: Allocator + Copy> Holdings<A> {
     {
         match right(&self.attachments, at, offset, false) {
             Ok((page, within)) => {
-                let place = self.firsts.place_of(at, page.index);
+                let place = self.first_places.likely(at, page.index);
                 Ok(self.load_at(place, &page, within))
             }
             Err(denied) => Err(denied),

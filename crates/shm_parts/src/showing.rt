@@ -59,7 +59,7 @@ impl<A: Allocator + Copy> Holdings<A> {
         Ok(Holdings {
             entries,
             attachments: self.attachments.copy(),
-            firsts: self.firsts,
+            first_places: self.first_places,
             purged,
             frames,
             alloc: self.alloc,

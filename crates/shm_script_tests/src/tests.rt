@@ -2,10 +2,10 @@ mod examples;
 mod prefixes;
 mod refused;
 mod restarts;
-mod rows;
+mod scripts;
 
 use shm_debug::{DebugFault, Summary, replay};
-use shm_scripts::Row;
+use shm_scripts::Script;
 use std::alloc::Global;
 use std::process::Abort;
 
@@ -17,16 +17,16 @@ fn replayed(alloc: Global, script: &[u8]) -> (Result<Summary, DebugFault>, Vec<u
     (result, text)
 }
 
-/// Replays a row, and expects its text and its end.
-fn plays(rt: &impl Abort, alloc: Global, row: &Row) {
-    let (result, text) = replayed(alloc, row.script);
-    assert_eq!(rt; text.as_slice(), row.text, "{}", row.name);
+/// Replays a script, and expects its text and its end.
+fn plays(rt: &impl Abort, alloc: Global, script: &Script) {
+    let (result, text) = replayed(alloc, script.input);
+    assert_eq!(rt; text.as_slice(), script.text, "{}", script.name);
     let summary = Summary {
-        lines: row.lines,
-        events: row.events,
-        sent: row.sent,
+        lines: script.lines,
+        events: script.events,
+        sent: script.sent,
     };
-    assert_eq!(rt; result, Ok(summary), "{}", row.name);
+    assert_eq!(rt; result, Ok(summary), "{}", script.name);
 }
 
 fn is_line_feed(byte: &u8) -> bool {

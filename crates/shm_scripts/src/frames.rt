@@ -1,11 +1,11 @@
 //! Sites that hold few copies.
 
-use crate::row::Row;
+use crate::script::Script;
 
 /// A site of one frame forgets the copy that it had first.
-pub const FRAMES: Row = Row {
+pub const FRAMES: Script = Script {
     name: "frames",
-    script: b"sites 2 preset 4 frames 1\n\
+    input: b"sites 2 preset 4 frames 1\n\
         store 0 0 0 5\n\
         load 1 0 0\n\
         deliver 0\n\
@@ -59,9 +59,9 @@ pub const FRAMES: Row = Row {
 };
 
 /// A copy that comes again is the latest.
-pub const COPY_AGAIN: Row = Row {
+pub const COPY_AGAIN: Script = Script {
     name: "copy again",
-    script: b"sites 2 preset 5 frames 2\n\
+    input: b"sites 2 preset 5 frames 2\n\
         load 1 0 0\n\
         restart 1\n\
         load 1 0 0\n\
@@ -111,9 +111,9 @@ pub const COPY_AGAIN: Row = Row {
 };
 
 /// A copy is forgotten for another, and does not come back with a late page.
-pub const DROPPED_COPY: Row = Row {
+pub const DROPPED_COPY: Script = Script {
     name: "dropped copy",
-    script: b"sites 2 preset 3 frames 1\n\
+    input: b"sites 2 preset 3 frames 1\n\
         load 1 0 0\n\
         deliver 0\n\
         deliver 1\n\

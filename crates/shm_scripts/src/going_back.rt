@@ -1,11 +1,11 @@
 //! Events that are taken back.
 
-use crate::row::Row;
+use crate::script::Script;
 
 /// A loss is taken back.
-pub const LOST_REQUEST_AND_BACK: Row = Row {
+pub const LOST_REQUEST_AND_BACK: Script = Script {
     name: "lost request and back",
-    script: b"sites 2 preset 1\n\
+    input: b"sites 2 preset 1\n\
         load 1 0 0\n\
         lose 0\n\
         deliver 0\n\
@@ -25,9 +25,9 @@ pub const LOST_REQUEST_AND_BACK: Row = Row {
 };
 
 /// All events are taken back.
-pub const BACK_TO_THE_BEGINNING: Row = Row {
+pub const BACK_TO_THE_BEGINNING: Script = Script {
     name: "back to the beginning",
-    script: b"sites 2 preset 1\n\
+    input: b"sites 2 preset 1\n\
         store 0 0 0 7\n\
         load 1 0 0\n\
         deliver 0\n\
@@ -61,9 +61,9 @@ pub const BACK_TO_THE_BEGINNING: Row = Row {
 };
 
 /// Refused events are taken back too, and lines that show are none.
-pub const BACK: Row = Row {
+pub const BACK: Script = Script {
     name: "back",
-    script: b"sites 2 preset 1\n\
+    input: b"sites 2 preset 1\n\
         back 0\n\
         back 1\n\
         load 0 9 0\n\

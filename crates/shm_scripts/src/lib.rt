@@ -6,7 +6,7 @@ pub mod going_back;
 pub mod losses;
 pub mod pages;
 pub mod purging;
-mod row;
+mod script;
 pub mod segments;
 
-pub use row::Row;
+pub use script::Script;

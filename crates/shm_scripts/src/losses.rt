@@ -1,11 +1,11 @@
 //! Messages that are lost, late or handed over twice, and sites that restart.
 
-use crate::row::Row;
+use crate::script::Script;
 
 /// A page that is lost is sent again after a tick.
-pub const LOST_PAGE: Row = Row {
+pub const LOST_PAGE: Script = Script {
     name: "lost page",
-    script: b"sites 2 preset 1\n\
+    input: b"sites 2 preset 1\n\
         store 0 0 255 200\n\
         store 1 0 0 1\n\
         deliver 0\n\
@@ -33,9 +33,9 @@ pub const LOST_PAGE: Row = Row {
 };
 
 /// A request that is handed over twice.
-pub const REPEATED_ASK: Row = Row {
+pub const REPEATED_ASK: Script = Script {
     name: "repeated ask",
-    script: b"sites 2 preset 1\n\
+    input: b"sites 2 preset 1\n\
         load 1 0 0\n\
         load 1 0 0\n\
         repeat 0\n\
@@ -59,9 +59,9 @@ pub const REPEATED_ASK: Row = Row {
 };
 
 /// An order to hand a page over that is handed over twice.
-pub const REPEATED_HAND: Row = Row {
+pub const REPEATED_HAND: Script = Script {
     name: "repeated hand",
-    script: b"sites 2 preset 1\n\
+    input: b"sites 2 preset 1\n\
         store 1 0 0 4\n\
         deliver 0\n\
         repeat 1\n\
@@ -85,9 +85,9 @@ pub const REPEATED_HAND: Row = Row {
 };
 
 /// A page that is handed over twice.
-pub const REPEATED_PAGE: Row = Row {
+pub const REPEATED_PAGE: Script = Script {
     name: "repeated page",
-    script: b"sites 2 preset 1\n\
+    input: b"sites 2 preset 1\n\
         store 1 0 0 4\n\
         deliver 0\n\
         deliver 1\n\
@@ -113,9 +113,9 @@ pub const REPEATED_PAGE: Row = Row {
 };
 
 /// A page that comes after it was cleared.
-pub const STALE_PAGE_AFTER_CLEAR: Row = Row {
+pub const STALE_PAGE_AFTER_CLEAR: Script = Script {
     name: "stale page after clear",
-    script: b"sites 2 preset 1\n\
+    input: b"sites 2 preset 1\n\
         load 1 0 0\n\
         deliver 0\n\
         deliver 1\n\
@@ -149,9 +149,9 @@ pub const STALE_PAGE_AFTER_CLEAR: Row = Row {
 };
 
 /// A site restarts while its request is served.
-pub const REQUESTER_RESTARTS: Row = Row {
+pub const REQUESTER_RESTARTS: Script = Script {
     name: "requester restarts",
-    script: b"sites 2 preset 1\n\
+    input: b"sites 2 preset 1\n\
         load 1 0 0\n\
         deliver 0\n\
         deliver 1\n\
@@ -183,9 +183,9 @@ pub const REQUESTER_RESTARTS: Row = Row {
 };
 
 /// A manager restarts while it clears copies.
-pub const MANAGER_RESTARTS_WHILE_CLEARING: Row = Row {
+pub const MANAGER_RESTARTS_WHILE_CLEARING: Script = Script {
     name: "manager restarts while clearing",
-    script: b"sites 3 preset 1\n\
+    input: b"sites 3 preset 1\n\
         load 1 0 0\n\
         deliver 0\n\
         deliver 1\n\
@@ -245,9 +245,9 @@ pub const MANAGER_RESTARTS_WHILE_CLEARING: Row = Row {
 };
 
 /// What a tick sends, and in which order.
-pub const TICK_ORDER: Row = Row {
+pub const TICK_ORDER: Script = Script {
     name: "tick order",
-    script: b"sites 2 preset 5\n\
+    input: b"sites 2 preset 5\n\
         load 0 0 12288\n\
         load 0 0 4096\n\
         load 1 0 16384\n\
@@ -289,9 +289,9 @@ pub const TICK_ORDER: Row = Row {
 };
 
 /// As many requests wait at a manager as may.
-pub const SIXTEEN_WAIT: Row = Row {
+pub const SIXTEEN_WAIT: Script = Script {
     name: "sixteen wait",
-    script: b"sites 3 preset 1\n\
+    input: b"sites 3 preset 1\n\
         load 1 0 0\n\
         deliver 0\n\
         load 2 0 0\n\

@@ -1,11 +1,11 @@
 //! Pages that are read, written and handed over while nothing is lost.
 
-use crate::row::Row;
+use crate::script::Script;
 
 /// A read fault brings a copy of the page.
-pub const FIRST_READ_FAULT: Row = Row {
+pub const FIRST_READ_FAULT: Script = Script {
     name: "first read fault",
-    script: b"sites 2 preset 1\n\
+    input: b"sites 2 preset 1\n\
         store 0 0 0 7\n\
         load 1 0 0\n\
         deliver 0\n\
@@ -27,9 +27,9 @@ pub const FIRST_READ_FAULT: Row = Row {
 };
 
 /// Each page of a segment has its own manager.
-pub const PAGES_AT_MANAGERS: Row = Row {
+pub const PAGES_AT_MANAGERS: Script = Script {
     name: "pages at managers",
-    script: b"sites 2 preset 2\n\
+    input: b"sites 2 preset 2\n\
         store 0 0 4095 1\n\
         store 0 0 4096 2\n\
         store 1 0 4096 2\n\
@@ -59,9 +59,9 @@ pub const PAGES_AT_MANAGERS: Row = Row {
 };
 
 /// An owner whose page was read by another writes it again.
-pub const OWNER_UPGRADES: Row = Row {
+pub const OWNER_UPGRADES: Script = Script {
     name: "owner upgrades",
-    script: b"sites 3 preset 1\n\
+    input: b"sites 3 preset 1\n\
         load 1 0 0\n\
         deliver 0\n\
         deliver 1\n\
@@ -107,9 +107,9 @@ pub const OWNER_UPGRADES: Row = Row {
 };
 
 /// A reader becomes the writer, and the old owner reads.
-pub const READER_BECOMES_WRITER: Row = Row {
+pub const READER_BECOMES_WRITER: Script = Script {
     name: "reader becomes writer",
-    script: b"sites 2 preset 1\n\
+    input: b"sites 2 preset 1\n\
         store 0 0 0 7\n\
         load 1 0 0\n\
         deliver 0\n\
@@ -165,9 +165,9 @@ pub const READER_BECOMES_WRITER: Row = Row {
 };
 
 /// Requests wait at the manager while one is served; then two copies are cleared for a store.
-pub const QUEUED_READS_THEN_TWO_CLEARS: Row = Row {
+pub const QUEUED_READS_THEN_TWO_CLEARS: Script = Script {
     name: "queued reads then two clears",
-    script: b"sites 4 preset 1\n\
+    input: b"sites 4 preset 1\n\
         store 0 0 0 5\n\
         load 1 0 0\n\
         load 2 0 0\n\
@@ -233,9 +233,9 @@ pub const QUEUED_READS_THEN_TWO_CLEARS: Row = Row {
 };
 
 /// What a site asked for is asked again in the order in which it was first asked.
-pub const PENDING_ORDER: Row = Row {
+pub const PENDING_ORDER: Script = Script {
     name: "pending order",
-    script: b"sites 3 preset 4\n\
+    input: b"sites 3 preset 4\n\
         load 2 0 0\n\
         load 2 0 12288\n\
         load 2 0 4096\n\
@@ -263,9 +263,9 @@ pub const PENDING_ORDER: Row = Row {
 };
 
 /// A site that restarted asks to read what it is given to write.
-pub const READ_TO_ITSELF: Row = Row {
+pub const READ_TO_ITSELF: Script = Script {
     name: "read to itself",
-    script: b"sites 2 preset 1\n\
+    input: b"sites 2 preset 1\n\
         store 1 0 0 1\n\
         restart 1\n\
         load 1 0 0\n\

@@ -1,11 +1,11 @@
 //! Segments that are destroyed, and their pages.
 
-use crate::row::Row;
+use crate::script::Script;
 
 /// A segment is made, attached, removed and purged.
-pub const REMOVAL: Row = Row {
+pub const REMOVAL: Script = Script {
     name: "removal",
-    script: b"sites 2\n\
+    input: b"sites 2\n\
         get 0 0 0 3 256 600 c\n\
         deliver 0\n\
         deliver 1\n\
@@ -113,9 +113,9 @@ pub const REMOVAL: Row = Row {
 };
 
 /// A purge is sent again until it is answered.
-pub const PURGE_RESENT: Row = Row {
+pub const PURGE_RESENT: Script = Script {
     name: "purge resent",
-    script: b"sites 1 preset 1\n\
+    input: b"sites 1 preset 1\n\
         remove 0 0 0 0\n\
         deliver 0\n\
         deliver 1\n\
@@ -151,9 +151,9 @@ pub const PURGE_RESENT: Row = Row {
 };
 
 /// A page that comes after its segment was purged.
-pub const PURGE_AND_STALE_PAGE: Row = Row {
+pub const PURGE_AND_STALE_PAGE: Script = Script {
     name: "purge and stale page",
-    script: b"sites 2 preset 1\n\
+    input: b"sites 2 preset 1\n\
         store 1 0 0 4\n\
         deliver 0\n\
         deliver 1\n\
@@ -193,9 +193,9 @@ pub const PURGE_AND_STALE_PAGE: Row = Row {
 };
 
 /// A purge takes what is pending, running and outstanding for the segment.
-pub const PURGE: Row = Row {
+pub const PURGE: Script = Script {
     name: "purge",
-    script: b"sites 2\n\
+    input: b"sites 2\n\
         get 0 0 0 0 1 666 -\n\
         deliver 0\n\
         deliver 1\n\
@@ -299,9 +299,9 @@ pub const PURGE: Row = Row {
 };
 
 /// What is left after a purge is sent again in its old order.
-pub const PURGE_ORDER: Row = Row {
+pub const PURGE_ORDER: Script = Script {
     name: "purge order",
-    script: b"sites 2\n\
+    input: b"sites 2\n\
         get 0 0 0 0 1 666 -\n\
         deliver 0\n\
         deliver 1\n\

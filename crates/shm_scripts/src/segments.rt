@@ -1,11 +1,11 @@
 //! Calls on segments.
 
-use crate::row::Row;
+use crate::script::Script;
 
 /// A segment is made and attached twice.
-pub const SEGMENT_CALLS: Row = Row {
+pub const SEGMENT_CALLS: Script = Script {
     name: "segment calls",
-    script: b"sites 1\n\
+    input: b"sites 1\n\
         get 0 0 0 0 1 600 -\n\
         attach 0 0 0 0 rw\n\
         deliver 0\n\
@@ -41,9 +41,9 @@ pub const SEGMENT_CALLS: Row = Row {
 };
 
 /// Calls that are refused before they are sent.
-pub const ORDERS: Row = Row {
+pub const ORDERS: Script = Script {
     name: "orders",
-    script: b"sites 2 preset 1\n\
+    input: b"sites 2 preset 1\n\
         stat 0 0 0 0\n\
         detach 0 9\n\
         attach 0 0 0 0 rw\n\
@@ -79,9 +79,9 @@ pub const ORDERS: Row = Row {
 };
 
 /// Keys, sizes and flags.
-pub const GET: Row = Row {
+pub const GET: Script = Script {
     name: "get",
-    script: b"sites 1\n\
+    input: b"sites 1\n\
         get 0 1 1 5 300 711 c\n\
         deliver 0\n\
         deliver 1\n\
@@ -197,9 +197,9 @@ pub const GET: Row = Row {
 };
 
 /// One class of permissions alone counts.
-pub const CLASSES: Row = Row {
+pub const CLASSES: Script = Script {
     name: "classes",
-    script: b"sites 1\n\
+    input: b"sites 1\n\
         get 0 1 1 5 10 077 c\n\
         deliver 0\n\
         deliver 1\n\
@@ -291,9 +291,9 @@ pub const CLASSES: Row = Row {
 };
 
 /// Identifiers that no segment has.
-pub const IDENTIFIERS: Row = Row {
+pub const IDENTIFIERS: Script = Script {
     name: "identifiers",
-    script: b"sites 3 preset 1\n\
+    input: b"sites 3 preset 1\n\
         stat 0 0 0 4294967295\n\
         deliver 0\n\
         deliver 1\n\
@@ -343,9 +343,9 @@ pub const IDENTIFIERS: Row = Row {
 };
 
 /// A segment that was removed while it was attached.
-pub const MARKED: Row = Row {
+pub const MARKED: Script = Script {
     name: "marked",
-    script: b"sites 1\n\
+    input: b"sites 1\n\
         get 0 1 1 5 10 606 c\n\
         deliver 0\n\
         deliver 1\n\

@@ -1,20 +1,20 @@
 use super::{is_line_feed, replayed};
-use shm_scripts::{Row, going_back, pages, segments};
+use shm_scripts::{Script, going_back, pages, segments};
 use std::alloc::{AllocError, Global};
 use std::process::Abort;
 use std::test::Fail;
 
 /// The first lines of a script are told what they are told in the whole script.
-fn every_prefix_plays(rt: &impl Abort, alloc: Global, row: &Row) -> Result<(), AllocError> {
-    let mut script = Vec::new(alloc);
+fn every_prefix_plays(rt: &impl Abort, alloc: Global, script: &Script) -> Result<(), AllocError> {
+    let mut front = Vec::new(alloc);
     let mut text = Vec::new(alloc);
-    let told = row.text.split_inclusive(is_line_feed);
-    for (line, told) in row.script.split_inclusive(is_line_feed).zip(told) {
-        script.extend_from_slice(line)?;
+    let told = script.text.split_inclusive(is_line_feed);
+    for (line, told) in script.input.split_inclusive(is_line_feed).zip(told) {
+        front.extend_from_slice(line)?;
         text.extend_from_slice(told)?;
-        plays_to(rt, alloc, &script, &text);
+        plays_to(rt, alloc, &front, &text);
     }
-    assert_eq!(rt; text.as_slice(), row.text);
+    assert_eq!(rt; text.as_slice(), script.text);
     Ok(())
 }
 

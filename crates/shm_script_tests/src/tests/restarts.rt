@@ -2,7 +2,7 @@ use super::is_line_feed;
 use shm_debug::{Line, Session, parse_line};
 use shm_model::State;
 use shm_place::{PageId, SegId, SiteId, Sites};
-use shm_scripts::{Row, losses, pages};
+use shm_scripts::{Script, losses, pages};
 use shm_world::{Answer, Event, World};
 use std::alloc::Global;
 use std::process::Abort;
@@ -14,7 +14,7 @@ const EVENTS: u64 = 10_000;
 /// How many rounds of ticks and deliveries there are at most.
 const ROUNDS: usize = 100;
 
-/// The page of the rows.
+/// The page of the scripts.
 const PAGE: PageId = PageId {
     seg: SegId(0),
     index: 0,
@@ -60,10 +60,15 @@ fn settle(rt: &impl Abort, session: &mut Session, sites: u32) -> Result<(), Fail
     Err(Fail::new("messages are left"))
 }
 
-/// Applies the events of a row's first lines after the one that opens it, and answers the byte that was stored last.
-fn run_first(rt: &impl Abort, session: &mut Session, row: &Row, lines: usize) -> Result<u8, Fail> {
+/// Applies the events of a script's first lines after the one that opens it, and answers the byte that was stored last.
+fn run_first(
+    rt: &impl Abort,
+    session: &mut Session,
+    script: &Script,
+    lines: usize,
+) -> Result<u8, Fail> {
     let mut stored = 0;
-    for line in row.script.split(is_line_feed).skip(1).take(lines) {
+    for line in script.input.split(is_line_feed).skip(1).take(lines) {
         let line = parse_line(line).ok().ok_or("a bad line")?;
         if let Line::Event(event) = line {
             let answer = apply(rt, session, &event)?;
@@ -126,17 +131,17 @@ fn opened(alloc: Global, sites: u32) -> Result<Session, Fail> {
     Ok(Session::new(alloc, sites, Some(1), None)?)
 }
 
-/// After so many lines of a row a site restarts: all is delivered, and all sites agree.
+/// After so many lines of a script a site restarts: all is delivered, and all sites agree.
 fn heals(
     rt: &impl Abort,
     alloc: Global,
     sites: u32,
-    row: &Row,
+    script: &Script,
     lines: usize,
     site: u32,
 ) -> Result<(), Fail> {
     let mut session = opened(alloc, sites)?;
-    let byte = run_first(rt, &mut session, row, lines)?;
+    let byte = run_first(rt, &mut session, script, lines)?;
     apply(rt, &mut session, &Event::Restart { site: SiteId(site) })?;
     settle(rt, &mut session, sites)?;
     for site in 0..sites {
@@ -150,11 +155,16 @@ fn heals(
     Ok(())
 }
 
-/// A restart of each site after each line of a row.
-fn every_restart_heals(rt: &impl Abort, alloc: Global, sites: u32, row: &Row) -> Result<(), Fail> {
-    for lines in 0..row.lines as usize {
+/// A restart of each site after each line of a script.
+fn every_restart_heals(
+    rt: &impl Abort,
+    alloc: Global,
+    sites: u32,
+    script: &Script,
+) -> Result<(), Fail> {
+    for lines in 0..script.lines as usize {
         for site in 0..sites {
-            heals(rt, alloc, sites, row, lines, site)?;
+            heals(rt, alloc, sites, script, lines, site)?;
         }
     }
     Ok(())

@@ -3,7 +3,7 @@
 use crate::tests::summary_of;
 use linked_list_allocator::LocalHeap;
 use shm_debug::{DebugFault, Summary, replay};
-use shm_scripts::{Row, going_back, pages, segments};
+use shm_scripts::{Script, going_back, pages, segments};
 use std::alloc::{AllocError, Global};
 use std::process::Abort;
 use std::test::Fail;
@@ -26,24 +26,24 @@ fn replayed_in(
     Ok((result, text))
 }
 
-/// The row is refused memory while the hole widens, after a front of its lines; then it plays. Answers the longest text of a refused
+/// The script is refused memory while the hole widens, after a front of its lines; then it plays. Answers the longest text of a refused
 /// one.
-fn longest_refused(rt: &impl Abort, alloc: Global, row: &Row) -> Result<usize, Fail> {
+fn longest_refused(rt: &impl Abort, alloc: Global, script: &Script) -> Result<usize, Fail> {
     let heap = LocalHeap::new(alloc, HEAP)?;
     let mut longest = 0;
     for hole in (0..HEAP).step_by(16) {
-        let (result, text) = replayed_in(alloc, &heap, hole, row.script)?;
-        if result == Ok(summary_of(row)) {
-            assert_eq!(rt; text.as_slice(), row.text);
+        let (result, text) = replayed_in(alloc, &heap, hole, script.input)?;
+        if result == Ok(summary_of(script)) {
+            assert_eq!(rt; text.as_slice(), script.text);
             return Ok(longest);
         }
         assert_eq!(rt; result, Err(DebugFault::OutOfMemory));
-        assert!(rt; row.text.starts_with(&text));
+        assert!(rt; script.text.starts_with(&text));
         assert!(rt; text.is_empty() || text.ends_with(b"\n".as_slice()));
         assert!(rt; text.len() >= longest);
         longest = text.len();
     }
-    Err(Fail::new("no row was played"))
+    Err(Fail::new("no script was played"))
 }
 
 #[test]

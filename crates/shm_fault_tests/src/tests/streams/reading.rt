@@ -17,7 +17,7 @@ fn read_in_pieces(
     kind: ErrorKind,
 ) -> (Result<Summary, DebugFault>, Vec<u8>) {
     let mut reader = Giver {
-        bytes: FIRST_READ_FAULT.script,
+        bytes: FIRST_READ_FAULT.input,
         most,
         calls,
         kind,
@@ -39,7 +39,7 @@ fn each_read_fails(rt: &impl Abort, alloc: Global, most: usize, kind: ErrorKind)
     requires some { 0 < most }
     requires few { most < 100 }
 {
-    let script = FIRST_READ_FAULT.script;
+    let script = FIRST_READ_FAULT.input;
     for (calls, given) in (0..script.len() + most).step_by(most).enumerate() {
         let (result, text) = read_in_pieces(alloc, most, Some(calls), kind);
         assert_eq!(rt;

@@ -32,7 +32,7 @@ fn each_write_fails(rt: &impl Abort, alloc: Global, most: usize, failure: Failur
     let text = FIRST_READ_FAULT.text;
     for (calls, taken) in (0..text.len()).step_by(most).enumerate() {
         let mut writer = taker(alloc, most, Some(calls), failure);
-        let result = written_to(alloc, FIRST_READ_FAULT.script, &mut writer);
+        let result = written_to(alloc, FIRST_READ_FAULT.input, &mut writer);
         assert_eq!(rt;
             result,
             Err(DebugFault::WriteFault),
@@ -55,7 +55,7 @@ fn one_write_fails(rt: HostRuntime) {
 #[test]
 fn pieces_of_a_text(rt: HostRuntime) {
     let mut writer = taker(rt.alloc(), 3, None, Failure::TakesNothing);
-    let result = written_to(rt.alloc(), FIRST_READ_FAULT.script, &mut writer);
+    let result = written_to(rt.alloc(), FIRST_READ_FAULT.input, &mut writer);
     assert_eq!(rt; result, Ok(summary_of(&FIRST_READ_FAULT)));
     assert_eq!(rt; writer.text.as_slice(), FIRST_READ_FAULT.text);
 }
@@ -64,7 +64,7 @@ fn pieces_of_a_text(rt: HostRuntime) {
 #[test]
 fn a_write_fails_before_a_read(rt: HostRuntime) {
     let mut reader = Giver {
-        bytes: FIRST_READ_FAULT.script,
+        bytes: FIRST_READ_FAULT.input,
         most: 64,
         calls: Some(2),
         kind: ErrorKind::Interrupted,

@@ -3,7 +3,8 @@ use Rattle.std.specs.Map.{lookup}
 use Rattle.shm_place.specs.declared.page.PageId.{PageId}
 use Rattle.shm_place.specs.Page.{same_page}
 use Rattle.shm_parts.specs.Books.{booked_of}
-use Rattle.shm_parts.proofs.BookedLemmas.{gone_below, kept_below}
+use Rattle.shm_parts.proofs.BookedLemmas.{kept_below}
+use Rattle.shm_parts.proofs.GoneLemmas.{gone_below}
 use Rattle.shm_parts.proofs.books.Books.remove_segment.Given as goal
 
 -- the segment's pages below the index are gone, and the others are as they were

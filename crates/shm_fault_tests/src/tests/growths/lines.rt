@@ -1,11 +1,11 @@
-//! Each line of a row is refused until there is room for it, and is then told as it stands in the row.
+//! Each line of a script is refused until there is room for it, and is then told as it stands in the script.
 
 use super::{Before, PAGE_BYTES, filled_but};
 use crate::tests::{is_line_feed, opened};
 use linked_list_allocator::LocalHeap;
 use shm_debug::{BackFault, Line, Session, parse_line, print_answer};
 use shm_place::PageId;
-use shm_scripts::{Row, going_back, pages, purging, segments};
+use shm_scripts::{Script, going_back, pages, purging, segments};
 use shm_world::{Answer, Event};
 use std::alloc::{AllocError, Global};
 use std::process::Abort;
@@ -159,45 +159,45 @@ fn played<'a>(
     }
 }
 
-/// Plays a row on a heap that is full before each line. Answers how often a line was refused at most.
+/// Plays a script on a heap that is full before each line. Answers how often a line was refused at most.
 fn refusals<'a>(
     rt: &impl Abort,
     alloc: Global,
     heap: &'a LocalHeap,
     session: &mut Session<&'a LocalHeap>,
-    row: &Row,
+    script: &Script,
 ) -> Result<usize, Fail> {
     let mut text = b"1 ready\n".to_vec(alloc)?;
     let mut most = 0;
-    let lines = row.script.split(is_line_feed).skip(1);
-    for (number, line) in (2..row.lines.saturating_add(1)).zip(lines) {
+    let lines = script.input.split(is_line_feed).skip(1);
+    for (number, line) in (2..script.lines.saturating_add(1)).zip(lines) {
         let line = parse_line(line).ok().ok_or("a bad line")?;
         let tries = played(rt, alloc, heap, session, (number, &line), &mut text)?;
         most = most.max(tries);
     }
-    assert_eq!(rt; text.as_slice(), row.text, "{}", row.name);
+    assert_eq!(rt; text.as_slice(), script.text, "{}", script.name);
     Ok(most)
 }
 
-/// Plays a row in a session of so many sites, on a heap that is full before each line.
+/// Plays a script in a session of so many sites, on a heap that is full before each line.
 fn plays_in_little_memory(
     rt: &impl Abort,
     alloc: Global,
     sites: u32,
     preset: bool,
-    row: &Row,
+    script: &Script,
 ) -> Result<usize, Fail> {
     let heap = LocalHeap::new(alloc, HEAP)?;
     let mut session = opened(&heap, sites, preset)?;
-    let most = refusals(rt, alloc, &heap, &mut session, row)?;
+    let most = refusals(rt, alloc, &heap, &mut session, script)?;
     drop(session);
     Ok(most)
 }
 
 #[test]
 fn each_growth_for_pages(rt: HostRuntime) -> Result<(), Fail> {
-    let row = &pages::QUEUED_READS_THEN_TWO_CLEARS;
-    let most = plays_in_little_memory(&rt, rt.alloc(), 4, true, row)?;
+    let script = &pages::QUEUED_READS_THEN_TWO_CLEARS;
+    let most = plays_in_little_memory(&rt, rt.alloc(), 4, true, script)?;
     assert!(rt; most >= PAGE_BYTES / 16, "no copy was refused");
     Ok(())
 }

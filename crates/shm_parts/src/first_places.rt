@@ -5,14 +5,14 @@ use shm_attach::MAX_ATTACHMENTS;
 /// last; those of its further pages stand behind it in their order, unless some were stored before. Nothing is true because of it:
 /// who goes by it compares the page, and looks an entry up that stands elsewhere.
 #[derive(Clone, Copy)]
-pub(crate) struct Firsts {
+pub(crate) struct FirstPlaces {
     places: [u32; MAX_ATTACHMENTS],
 }
 
-impl Firsts {
+impl FirstPlaces {
     /// Nothing was noted.
-    pub(crate) fn unknown() -> Firsts {
-        Firsts {
+    pub(crate) fn unknown() -> FirstPlaces {
+        FirstPlaces {
             places: [0; MAX_ATTACHMENTS],
         }
     }
@@ -31,7 +31,7 @@ impl Firsts {
     }
 
     /// Where the entry of the page with this index probably stands.
-    pub(crate) fn place_of(&self, number: u32, index: u32) -> usize {
+    pub(crate) fn likely(&self, number: u32, index: u32) -> usize {
         match self.places.get(number as usize) {
             Some(first) => *first as usize + index as usize,
             None => index as usize,

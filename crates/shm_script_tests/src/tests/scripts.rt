@@ -1,19 +1,19 @@
 use super::{plays, replayed};
 use shm_debug::Summary;
-use shm_scripts::{Row, frames, going_back, losses, pages, purging, segments};
+use shm_scripts::{Script, frames, going_back, losses, pages, purging, segments};
 use std::alloc::{AllocError, Global};
 use std::process::Abort;
 use std::test::Fail;
 
-fn all_play(rt: &impl Abort, alloc: Global, rows: &[Row]) {
-    for row in rows {
-        plays(rt, alloc, row);
+fn all_play(rt: &impl Abort, alloc: Global, scripts: &[Script]) {
+    for script in scripts {
+        plays(rt, alloc, script);
     }
 }
 
 #[test]
 fn pages_come_and_go(rt: HostRuntime) {
-    let rows = [
+    let scripts = [
         pages::FIRST_READ_FAULT,
         pages::PAGES_AT_MANAGERS,
         pages::OWNER_UPGRADES,
@@ -25,12 +25,12 @@ fn pages_come_and_go(rt: HostRuntime) {
         frames::COPY_AGAIN,
         frames::DROPPED_COPY,
     ];
-    all_play(&rt, rt.alloc(), rows.as_slice());
+    all_play(&rt, rt.alloc(), scripts.as_slice());
 }
 
 #[test]
 fn messages_are_lost_late_or_repeated(rt: HostRuntime) {
-    let rows = [
+    let scripts = [
         losses::LOST_PAGE,
         losses::REPEATED_ASK,
         losses::REPEATED_HAND,
@@ -41,12 +41,12 @@ fn messages_are_lost_late_or_repeated(rt: HostRuntime) {
         losses::TICK_ORDER,
         losses::SIXTEEN_WAIT,
     ];
-    all_play(&rt, rt.alloc(), rows.as_slice());
+    all_play(&rt, rt.alloc(), scripts.as_slice());
 }
 
 #[test]
 fn segments_are_made_and_removed(rt: HostRuntime) {
-    let rows = [
+    let scripts = [
         segments::SEGMENT_CALLS,
         segments::ORDERS,
         segments::GET,
@@ -59,17 +59,17 @@ fn segments_are_made_and_removed(rt: HostRuntime) {
         purging::PURGE,
         purging::PURGE_ORDER,
     ];
-    all_play(&rt, rt.alloc(), rows.as_slice());
+    all_play(&rt, rt.alloc(), scripts.as_slice());
 }
 
 #[test]
 fn events_are_taken_back(rt: HostRuntime) {
-    let rows = [
+    let scripts = [
         going_back::LOST_REQUEST_AND_BACK,
         going_back::BACK_TO_THE_BEGINNING,
         going_back::BACK,
     ];
-    all_play(&rt, rt.alloc(), rows.as_slice());
+    all_play(&rt, rt.alloc(), scripts.as_slice());
 }
 
 /// 1,200 stores, each of its number's last eight bits; and their text.

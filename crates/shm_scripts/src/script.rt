@@ -1,9 +1,9 @@
 /// A script that is replayed to its end.
 #[derive(Clone, Copy)]
-pub struct Row {
+pub struct Script {
     pub name: &'static str,
     /// Its lines.
-    pub script: &'static [u8],
+    pub input: &'static [u8],
     /// What is told of its lines.
     pub text: &'static [u8],
     /// How many lines it has.
