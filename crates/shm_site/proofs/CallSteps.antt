@@ -1,5 +1,5 @@
 -- The steps of segment calls and purges, out of what the parts of the site say.
-use Rattle.std.proofs.Common.{◌≡◌, ℕ, Bool, true, false, not, List, [], ◌∷◌, ◌++◌, Option, Some, None, Result, Ok, Err, OnErr, filter, ◌==◌, if◌then◌else◌, refl, ap, ◌∙◌}
+use Rattle.std.proofs.Common.{◌≡◌, ℕ, Bool, true, false, not, List, [], ◌∷◌, ◌++◌, Option, Some, None, Result, Ok, Err, IfNone, IfSome, OnErr, filter, ◌==◌, if◌then◌else◌, refl, ap, ◌∙◌}
 use Rattle.std.proofs.lemmas.List.{append-nil}
 use Rattle.shm_place.specs.Home.{home_of_id}
 use Rattle.shm_place.specs.declared.page.PageId.{PageId}
@@ -17,6 +17,7 @@ use Rattle.shm_model.specs.SegmentCalls.{attached, begin_detach, call_begun, fra
 use Rattle.shm_model.specs.Site.{Site, Pending, is_attached, least_free}
 use Rattle.shm_attach.specs.Attachments.{segment_of}
 use Rattle.shm_site.specs.Site.{sent_after}
+use Rattle.shm_site.specs.Step.{is_refused}
 
 -- what holds anyway holds where there is an error
 pub on_err : {T E P : Type 0} (r : Result T E) → P → OnErr r P
@@ -46,6 +47,23 @@ began false sites me number id n old called new before sent e h =
     let a = ap (λ (s : Step). s.answer) e in
     let t = ap (λ (s : Step). s.sent) e in
     rw h (rw (← s) (rw (← a) (rw (← t) refl)))
+
+-- the refusal of a detach's call, or none
+pub detach_refused : (sites me number id : ℕ) (attachment : Option Attachment) (site : Site) (r : Option Answer)
+    → Some id ≡ segment_of attachment
+    → IfSome r (λ answer. (step : Step) → numbered site step ≡ still answer site)
+    → IfSome r (λ answer. begin_detach sites me number attachment site ≡ still answer site)
+detach_refused sites me number id None site r f h = cc
+detach_refused sites me number id (Some a) site None f h = tt
+detach_refused sites me number id (Some a) site (Some answer) f h = h (call_begun sites me (Detach a.id) (record site { attachments = at site.attachments number None }))
+
+pub detach_begins : (sites me number id : ℕ) (attachment : Option Attachment) (site : Site) (r : Option Answer)
+    → Some id ≡ segment_of attachment
+    → IfNone r ((step : Step) → numbered site step ≡ step)
+    → IfNone r (is_refused (begin_detach sites me number attachment site).answer ≡ false)
+detach_begins sites me number id None site r f h = cc
+detach_begins sites me number id (Some a) site None f h = ap (λ (t : Step). is_refused t.answer) (h (call_begun sites me (Detach a.id) (record site { attachments = at site.attachments number None })))
+detach_begins sites me number id (Some a) site (Some answer) f h = tt
 
 -- the call of a detach began, and its attachment was taken away
 pub detach_began : (sites me number id n : ℕ) (attachment : Option Attachment) (old called new : Site) (before sent : List Envelope)

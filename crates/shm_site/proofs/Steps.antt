@@ -1,5 +1,5 @@
 -- Steps of a site, behind what was to be sent before.
-use Rattle.std.proofs.Common.{◌≡◌, ◌∙◌, ap, sym, List, Result, Ok, Err}
+use Rattle.std.proofs.Common.{◌≡◌, ◌∙◌, ap, sym, List, Option, Some, None, Result, Ok, Err, IfNone}
 use Rattle.std.specs.Result.{OnErr}
 use Rattle.std.proofs.lemmas.List.{append-nil}
 use Rattle.shm_model.specs.declared.answer.Answer.{Answer}
@@ -25,3 +25,7 @@ in_turn first then after sent room e same rest = ap (sent_after sent) e ∙ ap (
 pub on_err : {X E : Type 0} (r : Result X E) (P : Type 0) → P → OnErr r P
 on_err (Ok x) P p = tt
 on_err (Err e) P p = p
+
+pub if_none : {X P : Type 0} (r : Option X) → P → IfNone r P
+if_none None p = p
+if_none (Some x) p = tt

@@ -9,11 +9,9 @@ use Rattle.shm_model.specs.Refusal.{numbers_used_up}
 use Rattle.shm_model.specs.Site.{Site, at_page}
 use Rattle.shm_model.specs.declared.answer.Answer.{Answer}
 use Rattle.shm_model.specs.declared.answer.Answer.TheVariants.{Refused, Stored, Waiting}
-use Rattle.shm_model.specs.declared.kind.Kind.{Kind}
 use Rattle.shm_model.specs.declared.kind.Kind.TheVariants.{Write}
 use Rattle.shm_attach.specs.Attachments.{attachments_of}
 use Rattle.shm_parts.specs.Holdings.{with_holdings}
-use Rattle.shm_site.specs.Step.{completes}
 use Rattle.shm_parts.specs.declared.holdings.Holdings.{Holdings}
 
 abbrev is_stored_answer : Answer → Bool
@@ -23,12 +21,6 @@ is_stored_answer _ = false
 both : {X : Type 0} (f : Step → X) (x : X) (test : Bool) (a b : Step) → f a ≡ x → f b ≡ x → f (if test then a else b) ≡ x
 both f x true a b p q = p
 both f x false a b p q = q
-
--- an access that asks isn't made at once
-pub ask_incomplete : (sites me : ℕ) (kind : Kind) (page : PageId) (site : Site) → completes (ask_for sites me kind page site).answer ≡ false
-ask_incomplete sites me kind page site =
-    both (λ s. completes s.answer) false (is_pending kind page site.pending) (still Waiting site) (if site.requests == greatest then still (Refused numbers_used_up) site else asked sites me kind page site) refl
-    (both (λ s. completes s.answer) false (site.requests == greatest) (still (Refused numbers_used_up) site) (asked sites me kind page site) refl refl)
 
 -- at a site that has no number left, an access without the right changes nothing
 ask_stays : {X : Type 0} (f : Step → X) (x : X) (sites me : ℕ) (page : PageId) (site : Site) → (site.requests == greatest) ≡ true → f (still Waiting site) ≡ x → f (still (Refused numbers_used_up) site) ≡ x → f (ask_for sites me Write page site) ≡ x

@@ -42,11 +42,9 @@ abbrev pub is_fault : Answer → Bool
 is_fault answer.Fault = true
 is_fault _ = false
 
--- the access was made at once
-abbrev pub completes : Answer → Bool
-completes (answer.Byte _) = true
-completes answer.Stored = true
-completes _ = false
+abbrev pub is_refused : Answer → Bool
+is_refused (answer.Refused _) = true
+is_refused _ = false
 
 -- Whether memory may be missing: never for a load or store that has the right, or that is refused, nor for a restart.
 abbrev pub may_grow : ℕ → ℕ → Site → model.Input → Bool

@@ -4,9 +4,9 @@ ghost use Rattle.shm_model.specs.Access as model;
 ghost use Rattle.shm_model.specs.declared.answer.Answer.TheVariants as answer;
 ghost use Rattle.shm_site.specs.Site.{SameSeat, sent_after, site_of, stepped};
 
-use crate::refusal::NUMBERS_USED_UP;
 use crate::sending::to_manager;
 use crate::site::Site;
+use shm_model::refusal::NUMBERS_USED_UP;
 use shm_model::{Answer, Kind};
 use shm_parts::{Kept, Loaded, Message, Outbox};
 use shm_place::PageId;
@@ -33,6 +33,7 @@ impl<A: Allocator + Copy> Site<A> {
     }
 
     /// The load with all that may come of it: the byte, a request to the page's manager, or a refusal.
+    // Out of line, so that a load with the right stays short.
     #[inline(never)]
     pub(crate) fn load_or_ask(
         &mut self,

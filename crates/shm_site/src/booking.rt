@@ -7,9 +7,9 @@ ghost use Rattle.shm_model.specs.Transfer.{to_book};
 ghost use Rattle.shm_parts.specs.Books.{booked_step};
 ghost use Rattle.shm_site.specs.Site.{SameSeat, sent_after, site_of, stepped};
 
-use crate::refusal::NUMBERS_USED_UP;
 use crate::sending::{MOST_ORDERS, send_orders};
 use crate::site::Site;
+use shm_model::refusal::NUMBERS_USED_UP;
 use shm_model::{Answer, Kind};
 use shm_parts::{Outbox, Outcome};
 use shm_place::{PageId, SiteId};

@@ -7,9 +7,9 @@ ghost use Rattle.shm_model.specs.SegmentCalls as model;
 ghost use Rattle.shm_site.specs.Site.{SameSeat, sent_after, site_of, stepped};
 
 use crate::homing::op_home;
-use crate::refusal::{BUSY, NO_ATTACHMENT, TOO_MANY_ATTACHMENTS};
 use crate::site::Site;
 use shm_attach::CallBook;
+use shm_model::refusal::{BUSY, NO_ATTACHMENT, TOO_MANY_ATTACHMENTS};
 use shm_model::{Answer, Attached, Op, Reply, Request};
 use shm_parts::{Envelope, Message, Outbox};
 use shm_place::SegId;

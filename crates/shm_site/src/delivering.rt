@@ -34,6 +34,7 @@ impl<A: Allocator + Copy> Site<A> {
         ensures refused { OnErr result ((site_of self.new ≡ site_of self.old) × (outbox.new.sent ≡ outbox.old.sent)) }
         ensures seat { SameSeat self.old self.new }
     {
+        // Reading it tells the proof its limits.
         let _count = self.sites.count();
         if self.foreign(&envelope) {
             return Err(StepError {

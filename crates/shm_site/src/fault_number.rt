@@ -1,8 +1,8 @@
 ghost use Rattle.std.specs.Prelude.{◌≡◌};
 ghost use Rattle.shm_site.specs.Step.{step_fault_number};
 
-use crate::refusal::{FOREIGN, OUT_OF_MEMORY};
 use crate::step_error::StepFault;
+use shm_model::refusal::{FOREIGN, OUT_OF_MEMORY};
 
 impl StepFault {
     /// The number of the refusal.

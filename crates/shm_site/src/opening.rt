@@ -11,7 +11,7 @@ use shm_attach::{CallBook, Home};
 use shm_keys::SegTable;
 use shm_number::Counter;
 use shm_parts::{Books, Holdings, Pendings};
-use shm_place::{SiteId, Sites};
+use shm_place::{MAX_FRAMES, PAGES, SiteId, Sites};
 use std::alloc::{AllocError, Allocator};
 
 impl<A: Allocator + Copy> Site<A> {
@@ -30,7 +30,7 @@ impl<A: Allocator + Copy> Site<A> {
     pub fn preset(alloc: A, sites: Sites, me: SiteId, pages: u32) -> Result<Site<A>, AllocError>
         requires below { me < sites }
         requires from { 1 ≤ pages }
-        requires to { pages ≤ 256 }
+        requires to { pages ≤ PAGES }
         ensures site { IfOk result (λ site. site_of site ≡ opened_site (Preset sites pages) me) }
         ensures seat { IfOk result (λ site. (site.sites ≡ sites) × (site.me ≡ me)) }
     {
@@ -47,9 +47,9 @@ impl<A: Allocator + Copy> Site<A> {
     ) -> Result<Site<A>, AllocError>
         requires below { me < sites }
         requires from { 1 ≤ pages }
-        requires to { pages ≤ 256 }
+        requires to { pages ≤ PAGES }
         requires one { 1 ≤ frames }
-        requires most { frames ≤ 65536 }
+        requires most { frames ≤ MAX_FRAMES }
         ensures site { IfOk result (λ site. site_of site ≡ opened_site (Framed sites pages frames) me) }
         ensures seat { IfOk result (λ site. (site.sites ≡ sites) × (site.me ≡ me)) }
     {
@@ -65,7 +65,7 @@ impl<A: Allocator + Copy> Site<A> {
     ) -> Result<Site<A>, AllocError>
         requires below { me < sites }
         requires from { 1 ≤ pages }
-        requires to { pages ≤ 256 }
+        requires to { pages ≤ PAGES }
         ensures site { IfOk result (λ site. site_of site ≡ record (preset_site sites pages me) { frames = option_map framed limit }) }
         ensures seat { IfOk result (λ site. (site.sites ≡ sites) × (site.me ≡ me)) }
     {

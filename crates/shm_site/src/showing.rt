@@ -1,5 +1,5 @@
 //! What a site shows of a page. A page outside the limits has nothing to show.
-ghost use Rattle.std.specs.Prelude.{◌≡◌, ◌==◌, ◌&&◌, Some, None, if◌then◌else◌, is_some, IfSome};
+ghost use Rattle.std.specs.Prelude.{◌≡◌, ◌==◌, ◌&&◌, Some, None, if◌then◌else◌, is_some, not, IfSome};
 ghost use Rattle.shm_place.specs.Page.{in_limits, manager_of};
 ghost use Rattle.shm_model.specs.Book.{untouched_book};
 ghost use Rattle.shm_manager.specs.Book.{book_of};
@@ -37,13 +37,17 @@ impl<A: Allocator + Copy> Site<A> {
         Some(self.holdings.shown(self.sites, self.me, *page))
     }
 
-    /// The page's book, at its manager. None: this site isn't the page's manager.
+    /// The page's book, at its manager. None: this site isn't the page's manager, or has purged its segment, or no segment can have
+    /// the page.
     pub fn book(&self, page: PageId) -> Option<BookView>
-        ensures found { is_some result ≡ (in_limits self.now.sites page && (manager_of self.now.sites page == self.now.me)) }
+        ensures found { is_some result ≡ (in_limits self.now.sites page && (manager_of self.now.sites page == self.now.me) && not ((site_of self.now).purged page.seg)) }
         ensures book { IfSome result (λ view. Tells view ((site_of self.now).books page)) }
     {
         let page = &page;
         if !in_limits(self.sites, *page) || manager_of(self.sites, *page) != self.me {
+            return None;
+        }
+        if self.holdings.is_purged(page.seg) {
             return None;
         }
         match self.books.get(*page) {

@@ -1,12 +1,10 @@
 -- How many envelopes a step of a site sends: but for a tick, at most the reply to a call and a purge to each of 16 sites.
-use Rattle.std.proofs.Common.{◌≡◌, ℕ, ◌≤◌, Bool, true, false, List, [], ◌∷◌, ◌&&◌, ◌==◌, Option, Some, None, Result, Ok, Err, arith, if◌then◌else◌, is_none, is_some, length, nat_le, refl}
+use Rattle.std.proofs.Common.{◌≡◌, ℕ, ◌≤◌, Bool, true, false, List, [], ◌∷◌, ◌&&◌, ◌==◌, Option, Some, None, Result, Ok, Err, arith, if◌then◌else◌, is_none, is_some, length, nat_le}
 use Rattle.std.proofs.lemmas.List.{length-map}
 use Rattle.std.proofs.lemmas.List.FromFn.{length-map-range_with_len, length-range_with_len}
 use Rattle.std.proofs.lemmas.List.Sums.{count_by-le-length, length-filter}
 use Rattle.std.specs.List.{range_with_len}
 use Rattle.shm_place.specs.declared.page.PageId.{PageId}
-use Rattle.shm_model.specs.declared.answer.Answer.{Answer}
-use Rattle.shm_model.specs.declared.answer.Answer.TheVariants.{Fault}
 use Rattle.shm_model.specs.declared.call.Op.{Op}
 use Rattle.shm_model.specs.declared.call.Op.TheVariants.{Attach, Detach}
 use Rattle.shm_model.specs.declared.call.Reply.{Reply}
@@ -20,7 +18,7 @@ use Rattle.shm_model.specs.Kernel.{Called, call, destroyed_by}
 use Rattle.shm_model.specs.Message.{Message, Of, Call, Replies, Purge, Purged, Input, Load, Store, Begin, Deliver, Tick, Restart}
 use Rattle.shm_model.specs.Calls.{Attachment, Freshness, Fresh, Again, Old, Outstanding, fits, freshness}
 use Rattle.shm_model.specs.Site.{Site, is_attached, least_free}
-use Rattle.shm_model.specs.Access.{Place, Step, ask_for, is_pending, load, load_if, right, store, store_if}
+use Rattle.shm_model.specs.Access.{Place, Step, ask_for, is_pending, load_if, right, store_if}
 use Rattle.shm_model.specs.Transfer.{on_note, to_book, to_entry}
 use Rattle.shm_model.specs.SegmentCalls.{attached_at, begin_detach, begin_op, executed, numbered, on_call_as, on_reply_to, purge_envelope, reply_counts}
 use Rattle.shm_model.specs.Step.{foreign, on_message, step}
@@ -30,7 +28,7 @@ abbrev Few : Step → Type 0
 Few done = length done.sent ≤ 17
 
 -- what holds on both branches
-either : {X : Type 0} (P : X → Type 0) (b : Bool) (x y : X) → P x → P y → P (if b then x else y)
+pub either : {X : Type 0} (P : X → Type 0) (b : Bool) (x y : X) → P x → P y → P (if b then x else y)
 either P true x y p q = p
 either P false x y p q = q
 

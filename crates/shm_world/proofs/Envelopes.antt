@@ -1,18 +1,19 @@
 -- What becomes of an envelope that was on its way.
-use Rattle.std.proofs.Common.{◌≡◌, ◌∙◌, ℕ, ◌<◌, ◌≤◌, Bool, true, false, List, [], ◌∷◌, Option, Some, None, Result, Ok, Err, IfNone, IfOk, IsErr, ⊎_elim, ap, arith, ◌==◌, if◌then◌else◌, length, refl, slice_get, subst, suc, sym, zero}
-use Rattle.std.proofs.lemmas.Bool.{cases_eq, cases_lt, cond-true}
+use Rattle.std.proofs.Common.{◌≡◌, ◌∙◌, ℕ, ◌<◌, ◌≤◌, Bool, true, false, List, Option, Some, None, Result, Ok, Err, IfNone, IfOk, IsErr, ⊎_elim, ap, arith, if◌then◌else◌, length, refl, slice_get, subst, sym}
+use Rattle.std.proofs.lemmas.Bool.{cases_lt, cond-true}
 use Rattle.std.proofs.lemmas.Bool.Decides.{nat_tests}
 use Rattle.std.proofs.lemmas.Option.{none-some, slice_get_past}
 use Rattle.shm_model.specs.declared.answer.Answer.{Answer}
 use Rattle.shm_model.specs.declared.answer.Answer.TheVariants.{Refused}
-use Rattle.shm_model.specs.Access.{still}
+use Rattle.shm_model.specs.Access.{Step, still}
 use Rattle.shm_model.specs.Book.{at}
-use Rattle.shm_model.specs.Message.{Deliver, Envelope}
-use Rattle.shm_model.specs.Refusal.{foreign_message, no_such_message}
+use Rattle.shm_model.specs.Message.{Deliver, Envelope, Input}
+use Rattle.shm_model.specs.Refusal.{foreign_message, no_such_message, numbers_used_up}
 use Rattle.shm_model.specs.Site as model
-use Rattle.shm_model.specs.Step.{deliver, foreign, on_message}
+use Rattle.shm_model.specs.Step.{deliver, foreign, on_message, step}
 use Rattle.shm_model.specs.World as world
 use Rattle.shm_network.specs.Network.{envelope_at, Carries}
+use Rattle.shm_parts.specs.Message.{envelope_of}
 use Rattle.shm_parts.specs.declared.message.Envelope as parts
 use Rattle.shm_site.specs.Step.{fault_of}
 use Rattle.shm_site.specs.declared.step_error.StepFault.{StepFault}
@@ -102,3 +103,42 @@ turned_away new w x e fault.Foreign r stands there few is refused memory =
     (stays new w e.to x (Deliver e) (Refused foreign_message) stands there few (if_foreign w.count e.to e x (fault_foreign (foreign w.count e.to e) (sym is))))
 turned_away new w x e fault.OutOfMemory (Err back) stands there few is refused memory = tt
 turned_away new w x e fault.OutOfMemory (Ok answer) stands there few is refused memory = let no_error = memory refl in absurd (cc)
+
+-- what became of an event, with this envelope gone
+abbrev gone_from : ℕ → world.Next → world.Next
+gone_from k n = record { world = world.without n.world k; done = n.done }
+
+-- a site's step is the same whether its envelope is gone or not
+chosen_without : (full : Bool) (w : world.World) (s : ℕ) (i : Input) (k : ℕ) (done : Step)
+    → (if full then world.unstepped (world.without w k) s (Refused numbers_used_up) else world.stepped (world.without w k) s i done)
+    ≡ gone_from k (if full then world.unstepped w s (Refused numbers_used_up) else world.stepped w s i done)
+chosen_without true w s i k done = refl
+chosen_without false w s i k done = refl
+
+site_without : (found : Option model.Site) (w : world.World) (s : ℕ) (i : Input) (k : ℕ) → world.step_site found (world.without w k) s i ≡ gone_from k (world.step_site found w s i)
+site_without None w s i k = refl
+site_without (Some x) w s i k = chosen_without (world.is_full w) w s i k (step w.count s x i)
+
+found_without : (found : Option Envelope) (w : world.World) (k : ℕ) → (world.deliver found w k).done ≡ (world.hand_over found w).done
+found_without None w k = refl
+found_without (Some e) w k = ap (λ (n : world.Next). n.done) (site_without (slice_get w.sites e.to) w e.to (Deliver e) k)
+
+pub same_answer : (w : world.World) (k : ℕ) → (world.deliver (world.live w k) w k).done.answer ≡ (world.hand_over (world.live w k) w).done.answer
+same_answer w k = ap (λ (d : world.Done). d.answer) (found_without (world.live w k) w k)
+
+-- what would answer this if it were handed over without going answers it, and is gone
+pub turned_back : {A : Type 0} (old new : World A) (w : world.World) (k : ℕ) (envelope : Option (parts.Envelope A)) (answer : Answer) → envelope_at envelope ≡ world.live w k → StandsFor old w
+    → new.members.count ≡ old.members.count → members_of new.members ≡ members_of old.members → ((sent : List Envelope) (gone : ℕ → Bool) → Carries old.network sent gone → Carries new.network sent (at gone k true))
+    → IfNone envelope ((sent : List Envelope) (gone : ℕ → Bool) → Carries old.network sent gone → Carries new.network sent gone)
+    → Went old (world.hand_over (world.live w k) w) answer → Went new (world.deliver (world.live w k) w k) answer
+turned_back old new w k None answer is stands count sites after missing went =
+    let was : Went old (world.hand_over None w) answer = subst (λ (e : Option Envelope). Went old (world.hand_over e w) answer) (sym is) went in
+    subst (λ (e : Option Envelope). Went new (world.deliver e w k) answer) is (record { stands = still_stands old new w stands count sites (missing w.sent w.gone stands.carries); answered = was.answered })
+turned_back old new w k (Some envelope) answer is stands count sites after missing went =
+    let e = envelope_of envelope in
+    let next = world.step_at w e.to (Deliver e) in
+    let was : Went old next answer = subst (λ (e : Option Envelope). Went old (world.hand_over e w) answer) (sym is) went in
+    let live : world.live next.world k ≡ Some e = sym (was.stands.carries.live k) ∙ stands.carries.live k ∙ sym is in
+    let now : Went new (gone_from k next) answer = record { stands = taken old new next.world k e live was.stands count sites (after next.world.sent next.world.gone was.stands.carries); answered = was.answered } in
+    subst (λ (e : Option Envelope). Went new (world.deliver e w k) answer) is
+    (subst (λ (n : world.Next). Went new n answer) (sym (site_without (slice_get w.sites e.to) w e.to (Deliver e) k)) now)

@@ -1,5 +1,7 @@
+pub mod Admitted
 pub mod Bounds
 pub mod Envelopes
+pub mod Loads
 pub mod Runs
 pub mod Seats
 pub mod Steps

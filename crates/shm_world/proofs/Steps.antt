@@ -1,5 +1,5 @@
 -- Steps of the world, as its code makes them.
-use Rattle.std.proofs.Common.{◌≡◌, ◌∙◌, ℕ, ◌+◌, ◌<◌, ◌≤◌, Bool, true, false, List, [], ◌∷◌, ◌++◌, Option, Some, None, Result, Ok, Err, IfNone, IfOk, IfSome, IsErr, OnErr, OnOk, ap, append-nil, arith, if◌then◌else◌, length, length-append, map, nat_lt, refl, slice_get, slice_set, subst, suc, sym, zero}
+use Rattle.std.proofs.Common.{◌≡◌, ◌∙◌, ℕ, ◌<◌, ◌≤◌, false, List, [], ◌∷◌, ◌++◌, Option, Some, None, Result, Ok, Err, IfNone, IfOk, IfSome, IsErr, OnErr, OnOk, ap, append-nil, arith, length, length-append, map, nat_lt, refl, slice_get, slice_set, subst, suc, sym, zero}
 use Rattle.std.proofs.lemmas.Bool.{cond-true, cond-false}
 use Rattle.std.proofs.lemmas.Bool.Decides.{nat_tests}
 use Rattle.std.proofs.lemmas.Option.{same_Some}
@@ -12,7 +12,6 @@ use Rattle.shm_model.specs.Site as model
 use Rattle.shm_model.specs.Step.{step}
 use Rattle.shm_model.specs.World as world
 use Rattle.shm_network.specs.Network.{Carries}
-use Rattle.shm_site.specs.declared.site.Site.{Site}
 use Rattle.shm_world.specs.Members.{members_of, Made}
 use Rattle.shm_world.specs.Steps.{is_tick, Went}
 use Rattle.shm_world.specs.World.{StandsFor}

@@ -1,7 +1,7 @@
 -- What a world shows of itself.
-use Rattle.std.specs.Prelude.{◌≡◌, ℕ, Option, Some, None, if◌then◌else◌, slice_get}
+use Rattle.std.specs.Prelude.{ℕ, Bool, false, Option, Some, None, if◌then◌else◌, not, slice_get}
 use Rattle.shm_place.specs.declared.page.PageId.{PageId}
-use Rattle.shm_place.specs.Page.{in_limits, manager_of}
+use Rattle.shm_place.specs.Page.{in_limits}
 use Rattle.shm_model.specs.declared.answer.Access.{Access}
 use Rattle.shm_model.specs.declared.answer.Shown.{Shown}
 use Rattle.shm_model.specs.Site.{Site}
@@ -15,6 +15,11 @@ access_at (Some site) page = Some (access_of (site.entries page))
 abbrev pub shown_at : Option Site → PageId → Option Shown
 shown_at None page = None
 shown_at (Some site) page = Some (shown_of (site.purged page.seg) (site.entries page))
+
+-- a page's manager keeps its book until it purges the page's segment
+abbrev pub keeps_book : Option Site → PageId → Bool
+keeps_book None page = false
+keeps_book (Some site) page = not (site.purged page.seg)
 
 -- the access that a site has to a page, if there are such a site and such a page
 abbrev pub access : World → ℕ → PageId → Option Access

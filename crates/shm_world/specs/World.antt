@@ -1,11 +1,13 @@
 -- A world of the code against one of the definitions; and what a list of events makes of a world.
-use Rattle.std.specs.Prelude.{◌≡◌, ℕ, ◌≤◌, Bool, true, false, not, List, [], ◌∷◌, ◌++◌, length, take}
+use Rattle.std.specs.Prelude.{◌≡◌, ◌==◌, ℕ, ◌≤◌, Bool, true, false, not, List, [], ◌∷◌, ◌++◌, length, take}
 use Rattle.shm_model.specs.declared.answer.Answer.{Answer}
+use Rattle.shm_model.specs.declared.answer.Answer.TheVariants as answer
 use Rattle.shm_model.specs.declared.event.Event.{Event}
 use Rattle.shm_model.specs.declared.event.Event.TheVariants as event
+use Rattle.shm_model.specs.Refusal.{numbers_used_up}
 use Rattle.shm_model.specs.World as model
 use Rattle.shm_network.specs.Network.{Carries}
-use Rattle.shm_site.specs.Step.{completes}
+use Rattle.shm_site.specs.Step.{is_fault, is_refused}
 use Rattle.shm_world.specs.Members.{members_of}
 use Rattle.shm_world.specs.declared.world.World.{World}
 
@@ -25,13 +27,23 @@ abbrev pub answers : model.World → List Event → List Answer
 answers w [] = []
 answers w (e ∷ es) = (model.next w e).done.answer ∷ answers (model.next w e).world es
 
--- Whether memory may be missing at an event that has this answer: never for a load or store that is made at once, a restart or a loss.
+-- a delivery may need memory unless it is refused for its number, its site or its message; a site may find that it has no number left
+-- for the transaction that is asked for only when it has room for it
+abbrev pub is_admitted : Answer → Bool
+is_admitted (answer.Refused n) = n == numbers_used_up
+is_admitted _ = true
+
+-- Whether memory may be missing at an event that has this answer: for a load or store only where it asks for its page; never for a
+-- restart or a loss, nor for a segment call or a tick that is refused.
 abbrev pub may_grow : Event → Answer → Bool
-may_grow (event.Load _ _ _) answer = not (completes answer)
-may_grow (event.Store _ _ _ _) answer = not (completes answer)
+may_grow (event.Load _ _ _) answer = is_fault answer
+may_grow (event.Store _ _ _ _) answer = is_fault answer
+may_grow (event.Begin _ _) answer = not (is_refused answer)
+may_grow (event.Tick _) answer = not (is_refused answer)
 may_grow (event.Restart _) answer = false
+may_grow (event.Deliver _) answer = is_admitted answer
+may_grow (event.Repeat _) answer = is_admitted answer
 may_grow (event.Lose _) answer = false
-may_grow _ answer = true
 
 -- of these events the first so many were answered, and the world stands after them
 pub record AnsweredSome {A : Type 0} (new : World A) (told out : List Answer) (w : model.World) (events : List Event) : Type 0 where

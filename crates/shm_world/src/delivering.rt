@@ -1,27 +1,44 @@
 //! What the network does with an envelope: it hands it over, once or again, or loses it.
-ghost use Rattle.std.specs.Prelude.{◌≡◌, ◌≤◌, ℕ, Ok, Some, IfErr, IfOk, IsErr, IsSome, OnErr};
+ghost use Rattle.std.specs.Prelude.{◌≡◌, ◌≤◌, ℕ, false, true, Ok, Some, IfErr, IfNone, IfOk, IfSome, IsErr, IsSome, OnErr};
 ghost use Rattle.shm_model.specs.Message as input;
 ghost use Rattle.shm_model.specs.World as model;
 ghost use Rattle.shm_network.specs.Network.{envelope_at, room_of};
 ghost use Rattle.shm_parts.specs.Message.{envelope_of};
 ghost use Rattle.shm_model.specs.Refusal.{foreign_message};
 ghost use Rattle.shm_model.specs.declared.answer.Answer.TheVariants as answer;
+ghost use Rattle.shm_model.specs.Access.{still};
+ghost use Rattle.shm_model.specs.Step.{deliver, foreign};
+ghost use Rattle.shm_site.specs.Site.{site_of};
 ghost use Rattle.shm_site.specs.Step.{envelope_if};
 ghost use Rattle.shm_site.specs.declared.step_error.StepFault.TheVariants as fault;
 ghost use Rattle.shm_world.specs.Steps.{Went};
-ghost use Rattle.shm_world.specs.World.{StandsFor};
+ghost use Rattle.shm_world.specs.World.{is_admitted, StandsFor};
 
-use crate::refusal::{FOREIGN, NO_SUCH_MESSAGE};
 use crate::stepping::MOST_SENT;
 use crate::world::World;
 use shm_model::Answer;
+use shm_model::refusal::{FOREIGN, NO_SUCH_MESSAGE};
 use shm_parts::Envelope;
-use shm_site::{Input, StepError, StepFault};
+use shm_site::{Input, Site, StepError, StepFault};
 use std::alloc::{AllocError, Allocator};
 
 impl<A: Allocator + Copy> World<A> {
-    /// Hands the envelope of this number over; it is gone then. Where memory is refused it is on its way as before.
+    /// Hands the envelope of this number over; it is gone then, even where its site can't have been sent it. Where memory is refused it
+    /// is on its way as before.
     pub(crate) fn deliver(&mut self, number: u64) -> Result<Answer, AllocError>
+        ensures step { (w : model.World) → StandsFor self.old w → IfOk result (λ answer. Went self.new (model.deliver (model.live w number) w number) answer) }
+        ensures refused { (w : model.World) → StandsFor self.old w → OnErr result (StandsFor self.new w) }
+        ensures memory { (w : model.World) → StandsFor self.old w → OnErr result (is_admitted (model.deliver (model.live w number) w number).done.answer ≡ true) }
+    {
+        if let Some(answer) = self.turned_back(number) {
+            drop(self.network.take(number));
+            return Ok(answer);
+        }
+        self.deliver_admitted(number)
+    }
+
+    /// The same with an envelope that may be for its site.
+    fn deliver_admitted(&mut self, number: u64) -> Result<Answer, AllocError>
         ensures step { (w : model.World) → StandsFor self.old w → IfOk result (λ answer. Went self.new (model.deliver (model.live w number) w number) answer) }
         ensures refused { (w : model.World) → StandsFor self.old w → OnErr result (StandsFor self.new w) }
     {
@@ -42,6 +59,18 @@ impl<A: Allocator + Copy> World<A> {
     pub(crate) fn repeat(&mut self, number: u64) -> Result<Answer, AllocError>
         ensures step { (w : model.World) → StandsFor self.old w → IfOk result (λ answer. Went self.new (model.hand_over (model.live w number) w) answer) }
         ensures refused { (w : model.World) → StandsFor self.old w → OnErr result (StandsFor self.new w) }
+        ensures memory { (w : model.World) → StandsFor self.old w → OnErr result (is_admitted (model.hand_over (model.live w number) w).done.answer ≡ true) }
+    {
+        if let Some(answer) = self.turned_back(number) {
+            return Ok(answer);
+        }
+        self.repeat_admitted(number)
+    }
+
+    /// The same with an envelope that may be for its site.
+    fn repeat_admitted(&mut self, number: u64) -> Result<Answer, AllocError>
+        ensures step { (w : model.World) → StandsFor self.old w → IfOk result (λ answer. Went self.new (model.hand_over (model.live w number) w) answer) }
+        ensures refused { (w : model.World) → StandsFor self.old w → OnErr result (StandsFor self.new w) }
     {
         let Some(envelope) = self.network.envelope(number) else {
             return Ok(Answer::Refused(NO_SUCH_MESSAGE));
@@ -49,6 +78,32 @@ impl<A: Allocator + Copy> World<A> {
         let copy = envelope.copy()?;
         self.network.reserve(MOST_SENT)?;
         unsent(self.handed(copy))
+    }
+
+    /// The refusal of an envelope that isn't on its way, or can't be for the site that it names. It takes no memory.
+    fn turned_back(&self, number: u64) -> Option<Answer>
+        ensures refused { (w : model.World) → StandsFor self.now w → IfSome result (λ answer. Went self.now (model.hand_over (model.live w number) w) answer) }
+        ensures admitted { (w : model.World) → StandsFor self.now w → IfNone result (is_admitted (model.hand_over (model.live w number) w).done.answer ≡ true) }
+    {
+        match self.network.envelope(number) {
+            Some(envelope) => self.unreached(envelope),
+            None => Some(Answer::Refused(NO_SUCH_MESSAGE)),
+        }
+    }
+
+    /// The refusal of an envelope that can't be for the site that it names.
+    fn unreached(&self, envelope: &Envelope<A>) -> Option<Answer>
+        ensures refused { (w : model.World) → StandsFor self.now w → IfSome result (λ answer. Went self.now (model.step_at w (envelope_of envelope.now).to (input.Deliver (envelope_of envelope.now))) answer) }
+        ensures admitted { (w : model.World) → StandsFor self.now w → IfNone result (is_admitted (model.step_at w (envelope_of envelope.now).to (input.Deliver (envelope_of envelope.now))).done.answer ≡ true) }
+    {
+        let to = envelope.to;
+        if let Some(answer) = self.refusal(to) {
+            return Some(answer);
+        }
+        match self.members.get(to) {
+            Some(site) => foreign_at(site, envelope),
+            None => None,
+        }
     }
 
     /// Loses the envelope of this number. It takes no memory.
@@ -75,6 +130,17 @@ impl<A: Allocator + Copy> World<A> {
             Err(error) => turned_away(error),
         }
     }
+}
+
+/// The site's refusal of an envelope that can't be for it.
+fn foreign_at<A: Allocator + Copy>(site: &Site<A>, envelope: &Envelope<A>) -> Option<Answer>
+    ensures refused { IfSome result (λ answer. deliver site.now.sites site.now.me (envelope_of envelope.now) (site_of site.now) ≡ still answer (site_of site.now)) }
+    ensures admitted { IfNone result (foreign site.now.sites site.now.me (envelope_of envelope.now) ≡ false) }
+{
+    if site.foreign(envelope) {
+        return Some(Answer::Refused(FOREIGN));
+    }
+    None
 }
 
 /// What the loss of an envelope answers.

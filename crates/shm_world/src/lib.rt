@@ -6,7 +6,6 @@ mod delivering;
 pub mod laws;
 mod members;
 mod opening;
-mod refusal;
 mod running;
 mod seating;
 mod showing;

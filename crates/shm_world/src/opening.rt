@@ -9,7 +9,7 @@ use crate::start::Start;
 use crate::world::World;
 use shm_network::Network;
 use shm_parts::Outbox;
-use shm_place::Sites;
+use shm_place::{MAX_FRAMES, PAGES, Sites};
 use std::alloc::{AllocError, Allocator};
 
 impl<A: Allocator + Copy> World<A> {
@@ -17,6 +17,7 @@ impl<A: Allocator + Copy> World<A> {
     pub fn new(alloc: A, sites: Sites) -> Result<World<A>, AllocError>
         ensures { IfOk result (λ world. StandsFor world (model.opened (model.New sites))) }
     {
+        // Reading it tells the proof its limits.
         let _count = sites.count();
         World::begun(alloc, sites, Start::New)
     }
@@ -24,9 +25,10 @@ impl<A: Allocator + Copy> World<A> {
     /// The same with segment 0 of so many pages, which every site has attached, to read and write, as attachment 0.
     pub fn preset(alloc: A, sites: Sites, pages: u32) -> Result<World<A>, AllocError>
         requires from { 1 ≤ pages }
-        requires to { pages ≤ 256 }
+        requires to { pages ≤ PAGES }
         ensures { IfOk result (λ world. StandsFor world (model.opened (model.Preset sites pages))) }
     {
+        // Reading it tells the proof its limits.
         let _count = sites.count();
         World::begun(alloc, sites, Start::Preset { pages })
     }
@@ -34,11 +36,12 @@ impl<A: Allocator + Copy> World<A> {
     /// The same with at most so many pages held as copies at each site.
     pub fn framed(alloc: A, sites: Sites, pages: u32, frames: u32) -> Result<World<A>, AllocError>
         requires from { 1 ≤ pages }
-        requires to { pages ≤ 256 }
+        requires to { pages ≤ PAGES }
         requires one { 1 ≤ frames }
-        requires most { frames ≤ 65536 }
+        requires most { frames ≤ MAX_FRAMES }
         ensures { IfOk result (λ world. StandsFor world (model.opened (model.Framed sites pages frames))) }
     {
+        // Reading it tells the proof its limits.
         let _count = sites.count();
         World::begun(alloc, sites, Start::Framed { pages, frames })
     }

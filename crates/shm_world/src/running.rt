@@ -1,8 +1,8 @@
 //! One event of the world, and a list of them: what they answer, what the world is afterwards, and what is promised of it.
-ghost use Rattle.std.specs.Prelude.{◌≡◌, [], ◌∷◌, ◌++◌, List, true, IfOk, OnErr, OnOk};
+ghost use Rattle.std.specs.Prelude.{◌≡◌, [], ◌∷◌, ◌++◌, List, length, true, IfOk, OnErr, OnOk};
 ghost use Rattle.shm_model.specs.World as model;
 ghost use Rattle.shm_model.specs.declared.event.Event.{Event};
-ghost use Rattle.shm_world.specs.Promise.{Promised};
+ghost use Rattle.shm_world.specs.Promise.{EachGivesLast, GivesLast, Promised, StoppedAfter};
 ghost use Rattle.shm_world.specs.Steps.{Went};
 ghost use Rattle.shm_world.specs.World.{after, answers, may_grow, AnsweredSome, StandsFor};
 
@@ -13,15 +13,17 @@ use std::alloc::{AllocError, Allocator};
 
 impl<A: Allocator + Copy> World<A> {
     /// One event. Where memory is refused nothing changes. A load or store that has the right takes no memory, nor does a restart or a loss.
+    /// Every other refusal comes before that for memory, but for an envelope's whose page's book has no number left.
     ///
     /// The headline: for every list of events that leads from an opening to the world as it was, what is promised holds of that list
-    /// followed by this event.
+    /// followed by this event, and a byte that this event gives was stored last to its place by the list.
     pub fn step(&mut self, event: Event) -> Result<Answer, AllocError>
         ensures next { (w : model.World) → StandsFor self.old w → IfOk result (λ answer. Went self.new (model.next w event) answer) }
         ensures refused { (w : model.World) → StandsFor self.old w → OnErr result (StandsFor self.new w) }
         ensures memory { (w : model.World) → StandsFor self.old w → OnErr result (may_grow event (model.next w event).done.answer ≡ true) }
         ensures led { (o : model.Opening) (before : List Event) → StandsFor self.old (model.run o before).world → OnOk result (StandsFor self.new (model.run o (before ++ event ∷ [])).world) }
         ensures headline { (o : model.Opening) (before : List Event) → model.IsOpening o → StandsFor self.old (model.run o before).world → Promised o (before ++ event ∷ []) }
+        ensures last { (o : model.Opening) (before : List Event) → model.IsOpening o → StandsFor self.old (model.run o before).world → IfOk result (λ answer. GivesLast o before event answer) }
     {
         laws::every_run_keeps_the_promise();
         self.take(&event)
@@ -31,12 +33,14 @@ impl<A: Allocator + Copy> World<A> {
     /// it, and the answers that joined are theirs.
     ///
     /// The headline: for every list of events that leads from an opening to the world as it was, what is promised holds of that list
-    /// followed by the events that were answered.
+    /// followed by the events that were answered, and each byte that joined was stored last to its place by the events before its own.
     pub fn run(&mut self, events: &[Event], out: &mut Vec<Answer, A>) -> Result<(), AllocError>
         ensures whole { (w : model.World) → StandsFor self.old w → OnOk result (StandsFor self.new (after w events.now) × (out.new.items ≡ out.old.items ++ answers w events.now)) }
         ensures part { (w : model.World) → StandsFor self.old w → OnErr result (AnsweredSome self.new out.old.items out.new.items w events.now) }
         ensures led { (o : model.Opening) (before : List Event) → StandsFor self.old (model.run o before).world → OnOk result (StandsFor self.new (model.run o (before ++ events.now)).world) }
         ensures headline { (o : model.Opening) (before : List Event) → model.IsOpening o → StandsFor self.old (model.run o before).world → Promised o (before ++ events.now) }
+        ensures last { (o : model.Opening) (before : List Event) → model.IsOpening o → StandsFor self.old (model.run o before).world → EachGivesLast o before events.now (length out.old.items) out.new.items }
+        ensures stopped { (o : model.Opening) (before : List Event) → model.IsOpening o → StandsFor self.old (model.run o before).world → OnErr result (StoppedAfter self.new out.old.items out.new.items o before events.now) }
     {
         laws::every_run_keeps_the_promise();
         out.reserve(events.len())?;

@@ -6,7 +6,8 @@ ghost use Rattle.shm_model.specs.Access.{store};
 ghost use Rattle.shm_model.specs.Site as model;
 ghost use Rattle.shm_model.specs.Step.{step};
 ghost use Rattle.shm_model.specs.World.{IsOpening, opened_site};
-ghost use Rattle.shm_site.specs.Step.{completes, envelope_if, fault_of, handed_in, input_of, is_foreign, may_grow};
+ghost use Rattle.shm_model.specs.declared.answer.Answer.TheVariants as answer;
+ghost use Rattle.shm_site.specs.Step.{envelope_if, fault_of, handed_in, input_of, is_foreign, may_grow};
 ghost use Rattle.shm_site.specs.declared.step_error.StepFault.TheVariants as fault;
 ghost use Rattle.shm_world.specs.Members.{members_of, seen_by, Made};
 ghost use Rattle.shm_world.specs.Start.{opening_of};
@@ -52,7 +53,7 @@ impl<A: Allocator + Copy> Members<A> {
     ) -> Option<Answer>
         requires { site < self.old.count }
         ensures here { IfSome result (λ answer. (x : model.Site) → slice_get (members_of self.old) site ≡ Some x → Made self.old self.new site [] [] answer (store self.old.count site at offset byte x)) }
-        ensures elsewhere { IfNone result ((x : model.Site) → slice_get (members_of self.old) site ≡ Some x → completes (store self.old.count site at offset byte x).answer ≡ false) }
+        ensures elsewhere { IfNone result ((x : model.Site) → slice_get (members_of self.old) site ≡ Some x → (store self.old.count site at offset byte x).answer ≡ answer.Fault) }
         ensures same { IfNone result (members_of self.new ≡ members_of self.old) }
         ensures count { self.new.count ≡ self.old.count }
     {

@@ -4,13 +4,13 @@ ghost use Rattle.shm_model.specs.Message.{Envelope};
 ghost use Rattle.shm_model.specs.Message as input;
 ghost use Rattle.shm_model.specs.World as model;
 ghost use Rattle.shm_network.specs.Network.{room_of, Carries};
-ghost use Rattle.shm_site.specs.Step.{envelope_if, fault_of, handed_in, input_of, is_delivery, is_foreign};
+ghost use Rattle.shm_site.specs.Step.{envelope_if, fault_of, handed_in, input_of, is_delivery, is_foreign, is_refused};
 ghost use Rattle.shm_world.specs.Steps.{is_tick, Went};
 ghost use Rattle.shm_world.specs.World.{StandsFor};
 
-use crate::refusal::{NO_SUCH_SITE, NUMBERS_USED_UP};
 use crate::world::World;
-use shm_model::{Answer, Request};
+use shm_model::refusal::{NO_SUCH_SITE, NUMBERS_USED_UP};
+use shm_model::{Answer, MAX_SENT, Request};
 use shm_network::Network;
 use shm_parts::Outbox;
 use shm_place::SiteId;
@@ -19,9 +19,6 @@ use std::alloc::{AllocError, Allocator};
 
 /// How many envelopes are sent at most at any input but a tick: a call's reply, and a purge to each site.
 pub(crate) const MOST_SENT: usize = 17;
-
-/// Past so many envelopes nothing is stepped any more.
-const MAX_SENT: u64 = 1 << 63;
 
 impl<A: Allocator + Copy> World<A> {
     /// Why no site is stepped, if none is: there is no such site, or envelopes have no numbers left.
@@ -54,6 +51,7 @@ impl<A: Allocator + Copy> World<A> {
         ensures network { OnErr result (self.new.network ≡ self.old.network) }
         ensures count { self.new.members.count ≡ self.old.members.count }
     {
+        // Reading it tells the proof its limits.
         let _count = self.members.count.count();
         match self.members.step(site, input, &mut self.outbox) {
             Ok(answer) => {
@@ -81,17 +79,35 @@ impl<A: Allocator + Copy> World<A> {
     pub(crate) fn begin(&mut self, site: SiteId, request: Request) -> Result<Answer, AllocError>
         ensures step { (w : model.World) → StandsFor self.old w → IfOk result (λ answer. Went self.new (model.step_at w site (input.Begin request)) answer) }
         ensures refused { (w : model.World) → StandsFor self.old w → OnErr result (StandsFor self.new w) }
+        ensures memory { (w : model.World) → StandsFor self.old w → OnErr result (is_refused (model.step_at w site (input.Begin request)).done.answer ≡ false) }
     {
         if let Some(answer) = self.refusal(site) {
             return Ok(answer);
         }
+        if let Some(answer) = self.begin_refused(site, &request) {
+            return Ok(answer);
+        }
         self.stepped(site, Input::Begin(request))
+    }
+
+    /// The refusal of a segment call that can't begin at its site.
+    fn begin_refused(&self, site: SiteId, request: &Request) -> Option<Answer>
+        requires site { site < self.now.members.count }
+        requires numbers { self.now.network.sent ≤ model.max_sent }
+        ensures refused { (w : model.World) → StandsFor self.now w → IfSome result (λ answer. Went self.now (model.step_at w site (input.Begin request.now)) answer) }
+        ensures begins { (w : model.World) → StandsFor self.now w → IfNone result (is_refused (model.step_at w site (input.Begin request.now)).done.answer ≡ false) }
+    {
+        match self.members.get(site) {
+            Some(member) => member.begin_refused(request),
+            None => None,
+        }
     }
 
     /// A site sends again what may be lost. Where there is no room for all of it nothing is sent.
     pub(crate) fn tick(&mut self, site: SiteId) -> Result<Answer, AllocError>
         ensures step { (w : model.World) → StandsFor self.old w → IfOk result (λ answer. Went self.new (model.step_at w site input.Tick) answer) }
         ensures refused { (w : model.World) → StandsFor self.old w → OnErr result (StandsFor self.new w) }
+        ensures memory { (w : model.World) → StandsFor self.old w → OnErr result (is_refused (model.step_at w site input.Tick).done.answer ≡ false) }
     {
         if let Some(answer) = self.refusal(site) {
             return Ok(answer);

@@ -2,7 +2,7 @@ use super::{Picture, load, picture_of, preset, restart, store, tick};
 use linked_list_allocator::LocalHeap;
 use shm_model::{Cred, Op, Request};
 use shm_place::{SegId, SiteId};
-use shm_world::Answer::{Began, Byte, Fault, Stored, Took};
+use shm_world::Answer::{Began, Byte, Fault, Refused, Stored, Took, Waiting};
 use shm_world::Event::{Begin, Deliver, Lose, Repeat};
 use shm_world::{Answer, Event, World};
 use std::alloc::{AllocError, Global};
@@ -63,20 +63,26 @@ fn refusals_of(rt: &impl Abort, alloc: Global, event: &Event) -> Result<(usize, 
     Ok(refusals(rt, &mut world, blocks, event).ok_or("no step was made")?)
 }
 
+/// A call at the site.
+fn begin(site: u32, request: Request) -> Event {
+    Begin {
+        site: SiteId(site),
+        request,
+    }
+}
+
+/// What segment 0 is, asked by its owner.
+const STAT: Request = Request::Op(Op::Stat {
+    cred: Cred { uid: 0, gid: 0 },
+    id: SegId(0),
+});
+
 #[test]
 fn an_event_is_refused_until_there_is_room(rt: HostRuntime) -> Result<(), Fail> {
-    let stat = Op::Stat {
-        cred: Cred { uid: 0, gid: 0 },
-        id: SegId(0),
-    };
-    let begin = Begin {
-        site: SiteId(1),
-        request: Request::Op(stat),
-    };
     let table = [
         (load(0, 0, 4096), Fault),
         (store(1, 0, 0, 1), Fault),
-        (begin, Began(1)),
+        (begin(1, STAT), Began(1)),
         (tick(0), Took),
         (tick(1), Took),
         (Deliver(1), Took),
@@ -95,6 +101,7 @@ fn what_takes_no_memory_is_done_on_a_full_heap(rt: HostRuntime) -> Result<(), Fa
     let table = [
         (load(0, 0, 0), Byte(0)),
         (store(0, 0, 0, 1), Stored),
+        (load(1, 0, 0), Waiting),
         (restart(0), Took),
         (restart(1), Took),
         (Lose(1), Took),
@@ -104,6 +111,38 @@ fn what_takes_no_memory_is_done_on_a_full_heap(rt: HostRuntime) -> Result<(), Fa
         assert_eq!(rt; answer, *wanted);
         assert_eq!(rt; tries, 0, "{event:?}");
     }
+    Ok(())
+}
+
+#[test]
+fn other_refusals_come_before_that_for_memory(rt: HostRuntime) -> Result<(), Fail> {
+    let table = [
+        (Deliver(99), Refused(15)),
+        (Repeat(99), Refused(15)),
+        (Deliver(0), Refused(15)),
+        (tick(2), Refused(14)),
+        (begin(2, STAT), Refused(14)),
+        (begin(1, Request::DetachAt(7)), Refused(9)),
+        (load(1, 7, 0), Refused(9)),
+        (store(1, 0, 8192, 1), Refused(11)),
+    ];
+    for (event, wanted) in table.as_slice() {
+        let (tries, answer) = refusals_of(&rt, rt.alloc(), event)?;
+        assert_eq!(rt; answer, *wanted);
+        assert_eq!(rt; tries, 0, "{event:?}");
+    }
+    Ok(())
+}
+
+#[test]
+fn a_call_at_a_busy_site_is_refused_on_a_full_heap(rt: HostRuntime) -> Result<(), Fail> {
+    let heap = LocalHeap::new(rt.alloc(), HEAP)?;
+    let mut calling = asked(&heap)?;
+    assert_eq!(rt; calling.step(begin(1, STAT)), Ok(Began(1)));
+    let mut world = calling.copy()?;
+    let blocks = filled(rt.alloc(), &heap)?;
+    let refused = refusals(&rt, &mut world, blocks, &begin(1, STAT));
+    assert_eq!(rt; refused, Some((0, Refused(8))));
     Ok(())
 }
 

@@ -1,9 +1,9 @@
-use super::expect_row;
-use shm_model::{Attached, Cred, Errno, GetFlags, Mode, Op, Reply, Request, Stat};
-use shm_place::{Key, SegId, SiteId, Sites};
+use super::{expect_row, preset};
+use shm_model::{Attached, Cred, Errno, GetFlags, Mode, Op, Reply, Request, Stat, State};
+use shm_place::{Key, PageId, SegId, SiteId, Sites};
 use shm_world::Answer::{Began, Dropped, Took};
 use shm_world::Event::{Deliver, Repeat};
-use shm_world::{Answer, Event, World};
+use shm_world::{Answer, Event, Shown, World};
 use std::alloc::{AllocError, Global};
 use std::process::Abort;
 use std::test::Fail;
@@ -179,5 +179,38 @@ fn a_segment_is_made_attached_removed_and_purged(rt: HostRuntime) -> Result<(), 
     remove_while_attached(&rt, rt.alloc(), &mut world)?;
     detach_at_one_site(&rt, rt.alloc(), &mut world)?;
     detach_everywhere(&rt, rt.alloc(), &mut world)?;
+    Ok(())
+}
+
+/// A world of one site whose segment 0 is destroyed; its purge is envelope 4.
+fn destroyed(rt: &impl Abort, alloc: Global) -> Result<World, Fail> {
+    let row = [
+        (remove(0, 0), Began(1)),
+        (Deliver(0), Took),
+        (Deliver(1), replied(1, Reply::Ok)),
+        (detach(0, 0), Began(2)),
+        (Deliver(2), Took),
+        (Deliver(3), replied(2, Reply::Ok)),
+    ];
+    let mut world = preset(alloc, 1, 1)?;
+    expect_row(rt, alloc, &mut world, row.as_slice())?;
+    Ok(world)
+}
+
+#[test]
+fn a_purged_page_has_no_book(rt: HostRuntime) -> Result<(), Fail> {
+    let page = &PageId {
+        seg: SegId(0),
+        index: 0,
+    };
+    let mut world = destroyed(&rt, rt.alloc())?;
+    assert!(rt; world.book(*page).is_some());
+    assert_eq!(rt; world.step(Deliver(4)), Ok(Took));
+    assert!(rt; world.book(*page).is_none());
+    let purged = Shown {
+        state: State::Purged,
+        seen: 0,
+    };
+    assert_eq!(rt; world.shown(SiteId(0), *page), Some(purged));
     Ok(())
 }

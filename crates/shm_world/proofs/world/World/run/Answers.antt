@@ -1,6 +1,7 @@
 use Rattle.std.proofs.Common.{◌++◌, arith, subst, sym, ◌∙◌}
 use Rattle.shm_model.specs.World as model
 use Rattle.shm_world.specs.World.{after, StandsFor}
+use Rattle.shm_world.proofs.Loads.{each-gives-last, stopped-after}
 use Rattle.shm_world.proofs.Runs.{Ran, ran-all, ran-more, ran-none, ran-some, run-then}
 use Rattle.shm_world.proofs.world.World.run.Goals as goal
 
@@ -15,6 +16,17 @@ returns-in_err-answer-clause-part g c = λ w stands.
     let ran = c.events.invariant.ran w stands in
     ran-some c.from_residual-in_err-answer.result _ _ _ _ w c.args.events.now c.events.event-index c.events.auto.event-index-end ran
     (c.in_err-answer.ensures.refused _ ran.stands)
+
+pub returns-in_err-answer-clause-last : goal.returns-in_err-answer-clause-last
+returns-in_err-answer-clause-last g c = λ o before opening stands.
+    each-gives-last c.every_run_keeps_the_promise.ensures c.events.self c.args.out.now.items c.events.out.items o before c.args.events.now c.events.event-index opening
+    (c.events.invariant.ran (model.run o before).world stands)
+
+pub returns-in_err-answer-clause-stopped : goal.returns-in_err-answer-clause-stopped
+returns-in_err-answer-clause-stopped g c = λ o before opening stands.
+    let ran = c.events.invariant.ran (model.run o before).world stands in
+    stopped-after c.every_run_keeps_the_promise.ensures c.from_residual-in_err-answer.result c.events.self c.take.new.self c.args.out.now.items c.events.out.items o before
+    c.args.events.now c.events.event-index c.events.auto.event-index-end opening ran (c.in_err-answer.ensures.refused _ ran.stands)
 
 pub push_reserved-requires : goal.push_reserved-requires
 push_reserved-requires g c = omega (arith, c.events.invariant.room, c.events-test.true)
@@ -40,3 +52,8 @@ returns-clause-led g c = λ o before stands.
 
 pub returns-clause-headline : goal.returns-clause-headline
 returns-clause-headline g c = λ o before opening stands. c.every_run_keeps_the_promise.ensures o (before ++ c.args.events.now) opening
+
+pub returns-clause-last : goal.returns-clause-last
+returns-clause-last g c = λ o before opening stands.
+    each-gives-last c.every_run_keeps_the_promise.ensures c.events.self c.args.out.now.items c.events.out.items o before c.args.events.now c.events.event-index opening
+    (c.events.invariant.ran (model.run o before).world stands)

@@ -1,11 +1,11 @@
-use Rattle.std.proofs.Common.{◌≡◌, ◌∙◌, IfOk, Option, Some, ap, refl, subst}
+use Rattle.std.proofs.Common.{◌∙◌, IfOk, Option, Some, ap, refl, subst}
 use Rattle.shm_model.specs.Message.{Envelope}
 use Rattle.shm_model.specs.World.{hand_over, live}
 use Rattle.shm_world.specs.Steps.{Went}
 use Rattle.shm_world.specs.World.{StandsFor}
 use Rattle.shm_world.proofs.Envelopes.{still_stands}
 use Rattle.shm_world.proofs.Steps.{err_through, ok_through, on_err}
-use Rattle.shm_world.proofs.world.World.repeat.Goals as goal
+use Rattle.shm_world.proofs.world.World.repeat_admitted.Goals as goal
 
 pub returns-in_err-reserve-clause-refused : goal.returns-in_err-reserve-clause-refused
 returns-in_err-reserve-clause-refused g c = λ w stands. on_err c.from_residual-in_err-reserve.result _ (still_stands c.args.self.now _ w stands refl refl (c.reserve.ensures.same w.sent w.gone stands.carries))
