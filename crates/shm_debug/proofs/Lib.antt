@@ -3,3 +3,4 @@ pub mod PlayerLemmas
 pub mod PromiseLemmas
 pub mod ReadingLemmas
 pub mod ReplayLemmas
+pub mod ToldLemmas

@@ -82,8 +82,11 @@ module _ (spelled : (bytes : List ℕ) (line : Line) → line_of bytes ≡ Some 
   read-lines number (bytes ∷ following ∷ others) =
       begun-lines (read_line number bytes) (read_on (number + 1) (following ∷ others)) (reads-line number bytes) (read-lines (number + 1) (following ∷ others))
 
-  pub script-lines : (bytes : List ℕ) → All IsLine (script_of bytes).lines
+  script-lines : (bytes : List ℕ) → All IsLine (script_of bytes).lines
   script-lines bytes = read-lines 1 (parts_of bytes)
+
+  pub begins-always : (bytes : List ℕ) (n : ℕ) → Begins (standing_after None (take n (script_of bytes).lines))
+  begins-always bytes n = begins-after None (take n (script_of bytes).lines) (All-take IsLine n (script_of bytes).lines (script-lines bytes)) tt
 
   -- the promise holds of all that begins as a world may
   module _ (promised : (o : Opening) (events : List Event) → IsOpening o → Promised o events) where
@@ -92,6 +95,4 @@ module _ (spelled : (bytes : List ℕ) (line : Line) → line_of bytes ≡ Some 
     kept (Some s) b = promised s.opening s.events b
 
     pub always-kept : (bytes : List ℕ) (n : ℕ) → Kept (standing_after None (take n (script_of bytes).lines))
-    always-kept bytes n =
-        kept (standing_after None (take n (script_of bytes).lines))
-        (begins-after None (take n (script_of bytes).lines) (All-take IsLine n (script_of bytes).lines (script-lines bytes)) tt)
+    always-kept bytes n = kept (standing_after None (take n (script_of bytes).lines)) (begins-always bytes n)

@@ -1,9 +1,15 @@
 -- What is promised of a script, wherever it is read up to.
-use Rattle.std.specs.Prelude.{ℕ, List, take, Option, None, Some}
+use Rattle.std.specs.Prelude.{◌≡◌, ℕ, List, ◌++◌, codes, length, slice_get, take, Option, None, Some}
+use Rattle.std.specs.Fmt.{decimal}
+use Rattle.shm_model.specs.declared.event.Event.TheVariants.{Load}
+use Rattle.shm_model.specs.Memory.{last_store, names}
+use Rattle.shm_model.specs.World.{run}
 use Rattle.shm_lines.specs.declared.line.Line.{Line}
-use Rattle.shm_session.specs.Standing.{Standing}
+use Rattle.shm_lines.specs.declared.line.Line.TheVariants.{Event as EventLine}
+use Rattle.shm_session.specs.Standing.{Standing, stood, with_event}
+use Rattle.shm_text.specs.Text.{sent_text}
 use Rattle.shm_world.specs.Promise.{Promised}
-use Rattle.shm_debug.specs.Said.{standing_after}
+use Rattle.shm_debug.specs.Said.{said_to_event, standing_after}
 
 -- the headline, of the run of what stands
 abbrev pub Kept : Option Standing → Type 0
@@ -13,3 +19,15 @@ Kept (Some s) = Promised s.opening s.events
 -- After each line it holds of what stands then: each byte that was loaded is the one stored last to its place, and so on.
 abbrev pub AlwaysKept : List Line → Type 0
 AlwaysKept lines = (n : ℕ) → Kept (standing_after None (take n lines))
+
+-- Where a load is told `byte B`, B is the byte stored last to its place by the events that stand before it, or 0 where there is none
+-- (Li and Hudak 1989, §2); the place is in the segment that the attachment names then. The envelopes that were sent follow.
+abbrev pub TellsLast : Option Standing → Line → Type 0
+TellsLast (Some s) (EventLine (Load site a offset)) = (rest : List ℕ) → said_to_event s (Load site a offset) ≡ codes "byte " ++ rest
+    → (id : ℕ) × (names s.opening (run s.opening s.events).account site a ≡ Some id)
+    × (rest ≡ decimal (last_store s.opening (run s.opening s.events).account id offset) ++ sent_text (stood (with_event s (Load site a offset))) (length (stood s).sent))
+TellsLast _ _ = Unit {0}
+
+-- so it is for each line
+abbrev pub AlwaysTellsLast : List Line → Type 0
+AlwaysTellsLast lines = (n : ℕ) (line : Line) → slice_get lines n ≡ Some line → TellsLast (standing_after None (take n lines)) line

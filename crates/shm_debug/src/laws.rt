@@ -1,13 +1,14 @@
 //! What holds of the definitions, whichever script is replayed.
 ghost use Rattle.std.specs.Prelude.{ℕ, List};
-ghost use Rattle.shm_debug.specs.Promise.{AlwaysKept};
+ghost use Rattle.shm_debug.specs.Promise.{AlwaysKept, AlwaysTellsLast};
 ghost use Rattle.shm_debug.specs.Script.{script_of};
 
 /// Wherever a script is read up to: in the run of the events that stand then, each load gives the byte that was stored last to its
 /// place, no page is writable at one site while readable at another, each segment call was executed once, attachments are counted, and
-/// nothing alive was purged (Li and Hudak 1989, §2: coherent memory).
+/// nothing alive was purged (Li and Hudak 1989, §2: coherent memory). So each byte that is told to a load is the last stored.
 pub fn every_script_keeps_the_promise()
-    ensures { (bytes : List ℕ) → AlwaysKept (script_of bytes).lines }
+    ensures kept { (bytes : List ℕ) → AlwaysKept (script_of bytes).lines }
+    ensures last { (bytes : List ℕ) → AlwaysTellsLast (script_of bytes).lines }
 {
     shm_lines::laws::lines_have_one_spelling();
     shm_world::laws::every_run_keeps_the_promise();

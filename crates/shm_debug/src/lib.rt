@@ -1,7 +1,6 @@
 //! Replays a script of events over sites that share memory, and tells what becomes of each line.
 #![tactic(auto)]
 
-mod input;
 pub mod laws;
 mod notice;
 mod outcome;

@@ -2,7 +2,7 @@
 ghost use Rattle.std.specs.Prelude.{◌≡◌, ℕ, [], OnOk, OnErr, IfOk, take};
 ghost use Rattle.std.specs.Io.KnownBytes.{Appends};
 
-use shm_text::Text;
+use shm_text::{NotWritten, Text, write_whole};
 use std::alloc::{AllocError, Allocator};
 use std::io::Write;
 
@@ -11,10 +11,6 @@ const FULL: usize = 1 << 15;
 
 /// How much room a line is given from the beginning.
 const LINE: usize = 512;
-
-/// The writer answered an error, or took nothing.
-#[derive(Clone, Copy, Debug)]
-pub struct NotWritten;
 
 /// No text yet, with room for what is gathered.
 pub fn gathering<A: Allocator + Copy>(alloc: A) -> Result<Text<A>, AllocError>
@@ -39,20 +35,5 @@ pub fn write_told<A: Allocator + Copy, W: Write>(
 {
     write_whole(writer, text.as_bytes())?;
     text.clear();
-    Ok(())
-}
-
-fn write_whole<W: Write>(writer: &mut W, text: &[u8]) -> Result<(), NotWritten>
-    ensures ok { OnOk result (Appends (W.contents writer.old) (W.contents writer.new) text.now) }
-    ensures err { OnErr result ((n : ℕ) × Appends (W.contents writer.old) (W.contents writer.new) (take n text.now)) }
-{
-    let mut done = 0;
-    while done < text.len() {
-        match writer.write(&text[done..]) {
-            Ok(0) => return Err(NotWritten),
-            Err(_) => return Err(NotWritten),
-            Ok(count) => done += count,
-        }
-    }
     Ok(())
 }

@@ -5,14 +5,13 @@ ghost use Rattle.shm_debug.specs.Limits.{max_bytes};
 ghost use Rattle.shm_debug.specs.Script.{script_of, Script};
 ghost use Rattle.shm_debug.specs.Replay;
 ghost use Rattle.shm_debug.specs.Replay.{Ends, Pauses};
-ghost use Rattle.shm_debug.specs.Promise.{AlwaysKept};
+ghost use Rattle.shm_debug.specs.Promise.{AlwaysKept, AlwaysTellsLast};
 
-use crate::input::read_up_to;
 use crate::laws;
 use crate::outcome::{DebugFault, Summary};
 use crate::output::{gathering, is_full, write_told};
 use crate::player::Player;
-use shm_text::Text;
+use shm_text::{Text, read_up_to};
 use std::alloc::Allocator;
 use std::io::{Read, Write};
 
@@ -32,8 +31,9 @@ pub fn replay<A: Allocator + Copy, R: Read, W: Write>(
         (text : List ℕ) × Appends (W.contents writer.old) (W.contents writer.new) text × Ends (script_of bytes) result text) }
     ensures limit { (taken : List ℕ) × Consumes (R.remaining reader.old) (R.remaining reader.new) taken × (length taken ≤ max_bytes) }
 
-    // The headline, of the run of the events that stand, after each line: each byte that is told was stored last to its place.
+    // The headline, of the run of the events that stand, after each line; and each byte that is told was stored last to its place.
     ensures headline { (bytes : List ℕ) → AlwaysKept (script_of bytes).lines }
+    ensures last { (bytes : List ℕ) → AlwaysTellsLast (script_of bytes).lines }
 {
     laws::every_script_keeps_the_promise();
     let Ok(mut output) = gathering(alloc) else {

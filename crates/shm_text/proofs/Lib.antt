@@ -1,4 +1,5 @@
 pub mod Booked
 pub mod Listing
+pub mod Paged
 pub mod Sending
 pub mod Telling

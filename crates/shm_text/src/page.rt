@@ -1,23 +1,21 @@
 //! What is told of a page.
-ghost use Rattle.std.specs.Prelude.{◌≡◌, ◌++◌, Option, Some, OnOk, string_bytes};
+ghost use Rattle.std.specs.Prelude.{◌≡◌, ◌++◌, Option, Some, IfSome, OnOk, is_some, string_bytes};
 ghost use Rattle.shm_model.specs.Book.{Book, Running};
 ghost use Rattle.shm_model.specs.Site.{Site};
 ghost use Rattle.shm_model.specs.World as model;
 ghost use Rattle.shm_manager.specs.Book.{kind_and_requester};
 ghost use Rattle.shm_site.specs.Showing.{Tells};
-ghost use Rattle.shm_world.specs.Showing.{shown_at};
+ghost use Rattle.shm_world.specs.Showing.{keeps_book, shown_at};
 ghost use Rattle.shm_world.specs.World.{StandsFor};
 ghost use Rattle.shm_text.specs.Page.{book_text, manager_text, page_text, running_text, state_name, state_text, states_text};
 
 use crate::answer_text::AnswerText;
 use crate::copies::tell_copies;
+use shm_model::refusal::FOREIGN;
 use shm_model::{Answer, Kind, State};
-use shm_place::{PageId, SiteId, manager_of};
+use shm_place::{PageId, SiteId, in_limits, manager_of};
 use shm_world::{BookView, Shown, World};
 use std::alloc::{AllocError, Allocator};
-
-/// The refusal of a page outside the limits.
-const FOREIGN: Answer = Answer::Refused(16);
 
 /// Tells what each site has of the page, and its manager's book.
 pub(crate) fn tell_page<A: Allocator + Copy>(
@@ -28,14 +26,19 @@ pub(crate) fn tell_page<A: Allocator + Copy>(
     ensures { (w : model.World) → StandsFor world.now w → OnOk result (string_bytes out.new ≡ string_bytes out.old ++ page_text w page) }
 {
     let place = &page;
-    let Some(book) = world.book(*place) else {
-        let refused = AnswerText(FOREIGN);
+    if !in_limits(world.sites(), *place) {
+        let refused = AnswerText(Answer::Refused(FOREIGN));
         return write!(out, "{refused}");
-    };
+    }
     out.push_str("page")?;
     tell_states(out, world, *place)?;
     let manager = manager_of(world.sites(), *place);
-    tell_manager(out, *place, world.shown(manager, *place), &book)
+    tell_manager(
+        out,
+        *place,
+        world.shown(manager, *place),
+        world.book(*place),
+    )
 }
 
 fn tell_states<A: Allocator + Copy>(
@@ -81,22 +84,22 @@ fn name_of(state: State) -> &'static str
     }
 }
 
-/// Tells the manager's book, unless the manager has purged the segment, as what it shows of the page says.
+/// Tells the manager's book, or that the manager has purged the segment. `shown` is what the manager shows of the page.
 fn tell_manager<A: Allocator>(
     out: &mut String<A>,
     page: PageId,
     shown: Option<Shown>,
-    book: &BookView,
+    book: Option<BookView>,
 ) -> Result<(), AllocError>
-    ensures { (o : Option Site) → shown ≡ shown_at o page → ((x : Site) → o ≡ Some x → Tells book.now (x.books page)) → OnOk result (string_bytes out.new ≡ string_bytes out.old ++ manager_text o page) }
+    ensures { (o : Option Site) → shown ≡ shown_at o page → is_some book ≡ keeps_book o page → ((x : Site) → o ≡ Some x → IfSome book (λ view. Tells view (x.books page))) → OnOk result (string_bytes out.new ≡ string_bytes out.old ++ manager_text o page) }
 {
     let _place = &page;
-    let Some(shown) = shown else {
+    if shown.is_none() {
         return Ok(());
-    };
-    match shown.state {
-        State::Purged => out.push_str(" purged"),
-        _ => tell_book(out, book),
+    }
+    match book {
+        Some(book) => tell_book(out, &book),
+        None => out.push_str(" purged"),
     }
 }
 
