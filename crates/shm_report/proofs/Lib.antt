@@ -1,3 +1,5 @@
+pub mod Causes
+pub mod CutInput
 pub mod Found
 pub mod Lines
 pub mod Reports

@@ -1,6 +1,9 @@
 -- A workload that is read is shorter than what is read at most.
-use Rattle.std.proofs.Common.{◌≡◌, ◌∙◌, ℕ, ◌+◌, ◌*◌, ◌-◌, ◌<◌, ◌≤◌, ◌==◌, Bool, true, false, List, [], ◌∷◌, ◌++◌, Option, None, Some, Result, Ok, Err, IfSome, length, length-append, nat_lt, option_map, take, ap, refl, sym, arith}
+use Rattle.std.proofs.Common.{◌≡◌, ◌∙◌, ℕ, ◌+◌, ◌*◌, ◌-◌, ◌<◌, ◌≤◌, ◌==◌, Bool, true, false, List, [], ◌∷◌, Option, None, Some, Result, Ok, Err, IfSome, append-nil, length, length-append, nat_lt, take, ap, refl, sym, subst, arith}
 use Rattle.std.specs.Prelude.{if◌then◌else◌}
+use Rattle.std.specs.Io.KnownBytes.{Consumes, IsAtEnd}
+use Rattle.std.proofs.KnownBytes.{Consumes-trans, Consumes-whole}
+use Rattle.std.proofs.Math.Seq.{take-append_seam}
 use Rattle.std.proofs.lemmas.List.{length-take, take_all}
 use Rattle.std.proofs.lemmas.List.Splits.{join_with_byte-slice_split}
 use Rattle.std.proofs.lemmas.Bool.Decides.{nat_tests}
@@ -18,7 +21,7 @@ no_limit false true number said x is = absurd (cc)
 no_limit false false number said x is = (refl, refl)
 
 -- a line that is read breaks no limit
-in_limits : {A : Type 0} (read : List ℕ → Option A) (number : ℕ) (bytes : List ℕ) (x : A) → read_line read number bytes ≡ Ok x
+pub in_limits : {A : Type 0} (read : List ℕ → Option A) (number : ℕ) (bytes : List ℕ) (x : A) → read_line read number bytes ≡ Ok x
     → (number ≤ 10000) × (length bytes ≤ 200)
 in_limits read number bytes x is =
     let h = no_limit (nat_lt 10000 number) (nat_lt 200 (length bytes)) number (or_bad number (read bytes)) x is in
@@ -82,8 +85,19 @@ pub whole_input : (sites : ℕ) (known : Option (List ℕ)) (bytes : List ℕ) (
 whole_input sites None bytes whole front is = tt
 whole_input sites (Some all) bytes whole front is = not_cut sites all whole (ap (workload_of sites) (sym front) ∙ is)
 
--- what is read through a limit is a front
-pub front_read : (known : Option (List ℕ)) (limit most : ℕ) (old bytes : List ℕ) → limit ≡ most → old ≡ []
-    → IfSome (option_map (take limit) known) (λ front. bytes ≡ old ++ front) → IfSome known (λ all. bytes ≡ take most all)
-front_read None limit most old bytes same empty read = tt
-front_read (Some all) limit most old bytes same empty read = read ∙ ap (λ old. old ++ take limit all) empty ∙ ap (λ n. take n all) same
+-- what was read up to the reader's end is a front
+pub read_to_end : (first last : Option (List ℕ)) (bytes : List ℕ) (most : ℕ) → length bytes ≤ most → Consumes first last bytes → IsAtEnd last
+    → IfSome first (λ all. bytes ≡ take most all)
+read_to_end first last bytes most few read end = Consumes-whole first last bytes (λ all. bytes ≡ take most all) read end (sym (take_all most bytes few))
+
+-- what was read up to the limit is a front
+pub read_to_limit : (first last : Option (List ℕ)) (bytes : List ℕ) (most : ℕ) → length bytes ≡ most → Consumes first last bytes
+    → IfSome first (λ all. bytes ≡ take most all)
+read_to_limit None last bytes most full read = tt
+read_to_limit (Some all) None bytes most full read = absurd read
+read_to_limit (Some all) (Some rest) bytes most full read =
+    sym (take-append_seam bytes rest) ∙ ap (take (length bytes)) (sym read) ∙ ap (λ n. take n all) full
+
+-- what was read before, and then nothing
+pub nothing_more : (first old new : Option (List ℕ)) (bytes : List ℕ) → Consumes first old bytes → Consumes old new [] → Consumes first new bytes
+nothing_more first old new bytes read none = subst (Consumes first new) (append-nil bytes) (Consumes-trans first old new bytes [] read none)

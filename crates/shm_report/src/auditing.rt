@@ -1,10 +1,12 @@
 //! The audit of what was run.
-ghost use Rattle.std.specs.Prelude.{List, OnOk};
+ghost use Rattle.std.specs.Prelude.{◌≡◌, List, None, IfErr, IfSome, OnOk};
 ghost use Rattle.shm_audit.specs.Audit.{IsAudited};
 ghost use Rattle.shm_audit.specs.Callers.{callers_of};
+ghost use Rattle.shm_audit.specs.Cause.{IsFirstCause};
 ghost use Rattle.shm_merge.specs.Logs.{logs_of, AreLogsOf};
 ghost use Rattle.shm_model.specs.World.{Preset};
 ghost use Rattle.shm_model.specs.declared.event.Event.{Event};
+ghost use Rattle.shm_report.specs.Causes.{audit_cause, input_cause};
 
 use crate::report_fault::ReportFault;
 use shm_audit::audit;
@@ -15,7 +17,9 @@ use std::alloc::Global;
 
 /// Whether the logs and receipts are those of so many sites that shared one plain memory; if not, the first cause.
 pub(crate) fn audited(alloc: Global, sites: Sites, pages: u32, ran: &Ran) -> Result<(), ReportFault>
-    ensures { OnOk result ((events : List Event) × IsAudited (Preset sites pages) (logs_of ran.now.logs.items) (callers_of ran.now.callers.items) events) }
+    ensures accepted { OnOk result ((events : List Event) × IsAudited (Preset sites pages) (logs_of ran.now.logs.items) (callers_of ran.now.callers.items) events) }
+    ensures cause { IfErr result (λ fault. IfSome (audit_cause fault) (IsFirstCause (logs_of ran.now.logs.items) (callers_of ran.now.callers.items))) }
+    ensures input { IfErr result (λ fault. input_cause fault ≡ None) }
 {
     if !logs_match(sites, pages, ran.logs.as_slice()) {
         return Err(ReportFault::Logs);
@@ -26,7 +30,9 @@ pub(crate) fn audited(alloc: Global, sites: Sites, pages: u32, ran: &Ran) -> Res
 /// The same of logs that match.
 fn accepted(alloc: Global, sites: Sites, pages: u32, ran: &Ran) -> Result<(), ReportFault>
     requires { AreLogsOf sites pages ran.now.logs.items }
-    ensures { OnOk result ((events : List Event) × IsAudited (Preset sites pages) (logs_of ran.now.logs.items) (callers_of ran.now.callers.items) events) }
+    ensures accepted { OnOk result ((events : List Event) × IsAudited (Preset sites pages) (logs_of ran.now.logs.items) (callers_of ran.now.callers.items) events) }
+    ensures cause { IfErr result (λ fault. IfSome (audit_cause fault) (IsFirstCause (logs_of ran.now.logs.items) (callers_of ran.now.callers.items))) }
+    ensures input { IfErr result (λ fault. input_cause fault ≡ None) }
 {
     match audit(
         alloc,

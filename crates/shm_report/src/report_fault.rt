@@ -1,3 +1,7 @@
+ghost use Rattle.std.specs.Prelude.{◌≡◌, ◌≢◌, None, Some, false};
+ghost use Rattle.shm_audit.specs.declared.audit_fault.AuditFault.TheVariants as audit;
+ghost use Rattle.shm_workload.specs.declared.fault.WorkloadFault.TheVariants as workload;
+
 use shm_audit::AuditFault;
 use shm_cluster::{ClientFault, StartFault};
 use shm_running::RunFault;
@@ -43,8 +47,15 @@ pub enum ReportFault {
 }
 
 impl ReportFault {
+    ghost use Rattle.shm_report.specs.Causes.{audit_cause, input_cause, is_after_reading, IsOther};
+
     /// Why there is no workload.
-    pub(crate) fn of_workload(fault: WorkloadFault) -> ReportFault {
+    pub(crate) fn of_workload(fault: WorkloadFault) -> ReportFault
+        ensures memory { fault ≡ workload.OutOfMemory → input_cause result ≡ None }
+        ensures cause { fault ≢ workload.OutOfMemory → input_cause result ≡ Some fault }
+        ensures audit { audit_cause result ≡ None }
+        ensures unread { is_after_reading result ≡ false }
+    {
         match fault {
             WorkloadFault::OutOfMemory => ReportFault::OutOfMemory,
             WorkloadFault::BadLine(line) => ReportFault::BadLine(line),
@@ -54,7 +65,9 @@ impl ReportFault {
     }
 
     /// Why the workload wasn't run to its end. The first access is that of line 2.
-    pub(crate) fn of_run(fault: RunFault) -> ReportFault {
+    pub(crate) fn of_run(fault: RunFault) -> ReportFault
+        ensures { IsOther result }
+    {
         match fault {
             RunFault::Start(StartFault::NoThread) => ReportFault::NoThread,
             RunFault::Start(StartFault::OutOfMemory) => ReportFault::OutOfMemory,
@@ -68,7 +81,11 @@ impl ReportFault {
     }
 
     /// What the audit found.
-    pub(crate) fn of_audit(fault: AuditFault) -> ReportFault {
+    pub(crate) fn of_audit(fault: AuditFault) -> ReportFault
+        ensures memory { fault ≡ audit.OutOfMemory → audit_cause result ≡ None }
+        ensures cause { fault ≢ audit.OutOfMemory → audit_cause result ≡ Some fault }
+        ensures input { input_cause result ≡ None }
+    {
         match fault {
             AuditFault::OutOfMemory => ReportFault::OutOfMemory,
             cause => ReportFault::Audit(cause),

@@ -1,9 +1,10 @@
 //! A whole workload, from a reader to a writer.
-ghost use Rattle.std.specs.Prelude.{◌≡◌, ◌≤◌, ◌⊎◌, ℕ, List, Ok, length, IfErr, IfOk, IfSome, OnOk};
+ghost use Rattle.std.specs.Prelude.{◌≡◌, ◌≤◌, ◌⊎◌, ℕ, List, None, Ok, false, length, true, IfErr, IfOk, IfSome, OnOk};
 ghost use Rattle.std.specs.Io.KnownBytes.{Appends};
 ghost use Rattle.shm_merge.specs.Logs.{logs_of};
 ghost use Rattle.shm_running.specs.Callers.{AllServed};
 ghost use Rattle.shm_workload.specs.Workload.{workload_of};
+ghost use Rattle.shm_report.specs.Causes.{audit_cause, input_cause, is_after_reading, IsFound, IsFoundIn, IsRight, IsWrongBy};
 ghost use Rattle.shm_report.specs.Report.{whole_of, IsReport, IsReportOf};
 ghost use Rattle.shm_report.specs.declared.report_fault.ReportFault.TheVariants as cause;
 
@@ -11,7 +12,7 @@ use crate::auditing::audited;
 use crate::reading::read_all;
 use crate::report_fault::ReportFault;
 use crate::telling::{told, write_report};
-use shm_place::Sites;
+use shm_place::{PAGES, Sites};
 use shm_running::{Ran, run_workload};
 use shm_workload::{Workload, parse_workload};
 use std::alloc::Global;
@@ -33,6 +34,9 @@ pub fn report<R: Threads + Wait + Copy + Send + Sync + 'static, I: Read, O: Writ
     ensures quiet { IfErr result (λ fault. (fault ≡ cause.WriteFault) ⊎ (writer.new ≡ writer.old)) }
     ensures told { OnOk result ((text : List ℕ) × Appends (O.contents writer.old) (O.contents writer.new) text
         × IsReport sites (I.remaining reader.old) text) }
+    ensures input { IfErr result (λ fault. IfSome (input_cause fault) (IsWrongBy sites (I.remaining reader.old))) }
+    ensures right { IfErr result (λ fault. is_after_reading fault ≡ true → IsRight sites (I.remaining reader.old)) }
+    ensures audit { IfErr result (λ fault. IfSome (audit_cause fault) (IsFound sites (I.remaining reader.old))) }
 {
     let workload = match read_workload(alloc, sites, reader) {
         Ok(workload) => workload,
@@ -53,7 +57,10 @@ fn read_workload<I: Read>(
 ) -> Result<Workload, ReportFault>
     ensures read { IfOk result (λ workload. IfSome (I.remaining reader.old) (λ bytes.
         workload_of sites bytes ≡ Ok (whole_of workload))) }
-    ensures pages { IfOk result (λ workload. (1 ≤ workload.pages) × (workload.pages ≤ 256)) }
+    ensures pages { IfOk result (λ workload. (1 ≤ workload.pages) × (workload.pages ≤ PAGES)) }
+    ensures input { IfErr result (λ fault. IfSome (input_cause fault) (IsWrongBy sites (I.remaining reader.old))) }
+    ensures unread { IfErr result (λ fault. is_after_reading fault ≡ false) }
+    ensures audit { IfErr result (λ fault. audit_cause fault ≡ None) }
 {
     let bytes = match read_all(alloc, reader) {
         Ok(bytes) => bytes,
@@ -78,6 +85,9 @@ fn tell<O: Write>(
     ensures quiet { IfErr result (λ fault. (fault ≡ cause.WriteFault) ⊎ (writer.new ≡ writer.old)) }
     ensures told { OnOk result ((text : List ℕ) × Appends (O.contents writer.old) (O.contents writer.new) text
         × IsReportOf sites (whole_of workload.now) (logs_of ran.now.logs.items) ran.now.callers.items text) }
+    ensures input { IfErr result (λ fault. input_cause fault ≡ None) }
+    ensures audit { IfErr result (λ fault. IfSome (audit_cause fault)
+        (IsFoundIn sites (whole_of workload.now) (logs_of ran.now.logs.items) ran.now.callers.items)) }
 {
     match audited(alloc, sites, workload.pages, ran) {
         Ok(()) => {}

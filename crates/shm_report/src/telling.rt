@@ -3,13 +3,14 @@ ghost use Rattle.std.specs.Prelude.{◌≡◌, ◌+◌, ◌++◌, ◌<◌, lengt
 ghost use Rattle.std.specs.Io.KnownBytes.{Appends};
 ghost use Rattle.shm_running.specs.Callers.{AllServed};
 ghost use Rattle.shm_workload.specs.Access.{site_of};
+ghost use Rattle.shm_report.specs.Causes.{IsOther};
 ghost use Rattle.shm_report.specs.Report.{audit_yes, HasReceipt, TellsLines, TellsReceipt};
 ghost use Rattle.shm_report.specs.declared.report_fault.ReportFault.TheVariants as cause;
 
 use crate::report_fault::ReportFault;
 use shm_boxes::Receipt;
 use shm_place::MAX_SITES;
-use shm_text::{AnswerText, Text};
+use shm_text::{AnswerText, Text, write_whole};
 use shm_workload::Access;
 use std::alloc::Global;
 use std::io::Write;
@@ -25,7 +26,8 @@ pub(crate) fn told(
     callers: &[Vec<Receipt>],
 ) -> Result<Text, ReportFault>
     requires { AllServed (length callers.now) accesses.now callers.now }
-    ensures { IfOk result (TellsLines accesses.now callers.now) }
+    ensures lines { IfOk result (TellsLines accesses.now callers.now) }
+    ensures fault { IfErr result IsOther }
 {
     let Ok(mut text) = Text::new(alloc, 0, 0) else {
         return Err(ReportFault::OutOfMemory);
@@ -53,6 +55,7 @@ fn tell(
     access: &Access,
     callers: &[Vec<Receipt>],
 ) -> Result<(), ReportFault>
+    ensures fault { IfErr result IsOther }
     ensures known { OnOk result (site_of access.now < length told_of.old) }
     ensures told { OnOk result (TellsReceipt callers.now (site_of access.now) (slice_index told_of.old (site_of access.now)) number text.old text.new) }
     ensures more { OnOk result (told_of.new ≡ slice_set told_of.old (site_of access.now) (slice_index told_of.old (site_of access.now) + 1)) }
@@ -102,15 +105,16 @@ fn receipt_at(callers: &[Vec<Receipt>], site: usize, place: usize) -> Option<Rec
     }
 }
 
-/// Writes the lines, and that the audit found nothing.
+/// Writes the lines, and that the audit found nothing. Where the writer answers an error, of whatever kind, or takes nothing, no more is
+/// written.
 pub(crate) fn write_report<O: Write>(text: &Text, writer: &mut O) -> Result<(), ReportFault>
     ensures fault { IfErr result (λ fault. fault ≡ cause.WriteFault) }
     ensures written { OnOk result (Appends (O.contents writer.old) (O.contents writer.new) (text.now ++ audit_yes)) }
 {
-    if writer.write_all(text.as_bytes()).is_err() {
+    if write_whole(writer, text.as_bytes()).is_err() {
         return Err(ReportFault::WriteFault);
     }
-    if writer.write_all(b"audit yes\n").is_err() {
+    if write_whole(writer, b"audit yes\n").is_err() {
         return Err(ReportFault::WriteFault);
     }
     match writer.flush() {

@@ -1,5 +1,5 @@
 -- Exit statuses, and what each tells of the script on standard input and of the text on standard output.
-use Rattle.std.specs.Prelude.{◌≡◌, ℕ, true, List, [], Option, Result, Ok, Err}
+use Rattle.std.specs.Prelude.{◌≡◌, ℕ, true, false, List, [], IfSome, Option, Result, Ok, Err}
 use Rattle.std.specs.Io.KnownBytes.{Appends}
 use Rattle.clap.specs.Words.{Text, fault_of}
 use Rattle.shm_debug.specs.Script.{Script}
@@ -7,6 +7,7 @@ use Rattle.shm_debug.specs.Replay.{Ends}
 use Rattle.shm_debug.specs.declared.outcome.Summary.{Summary}
 use Rattle.shm_debug.specs.declared.outcome.DebugFault.{DebugFault}
 use Rattle.shm_debug.specs.declared.outcome.DebugFault.TheVariants.{OutOfMemory, BadLine, LineTooLong, TooManyLines, ReadFault, WriteFault}
+use Rattle.shm_report.specs.Causes.{audit_cause, input_cause, IsFound, IsWrongBy}
 use Rattle.shm_report.specs.Report.{IsReport}
 use Rattle.shm_report.specs.declared.report_fault.ReportFault.{ReportFault}
 use Rattle.shm_report.specs.declared.report_fault.ReportFault.TheVariants as report
@@ -47,6 +48,10 @@ Takes words = fault_of app words ≡ []
 abbrev pub AsksReplay : List Text → Type 0
 AsksReplay words = Takes words × (asks_replay words ≡ true)
 
+-- and they ask for a run
+abbrev pub AsksRun : List Text → Type 0
+AsksRun words = Takes words × (asks_replay words ≡ false)
+
 -- the script was replayed to an end of this status, and what was then written is what such an end writes
 abbrev pub Replays : Script → ℕ → Option (List ℕ) → Option (List ℕ) → Type 0
 Replays script status old new =
@@ -56,3 +61,12 @@ Replays script status old new =
 abbrev pub Reports : Option (List ℕ) → Option (List ℕ) → Option (List ℕ) → Type 0
 Reports workload old new =
     (sites : ℕ) × (text : List ℕ) × Appends old new text × IsReport sites workload text
+
+-- A run of a workload over a number of sites failed by a fault of this status. What the fault says of the workload, or of what the sites
+-- logged, is so.
+pub record Fails (workload : Option (List ℕ)) (status : ℕ) : Type 0 where
+  pub sites : ℕ
+  pub fault : ReportFault
+  pub told : status ≡ run_status fault
+  pub input : IfSome (input_cause fault) (IsWrongBy sites workload)
+  pub audit : IfSome (audit_cause fault) (IsFound sites workload)

@@ -1,6 +1,6 @@
-ghost use Rattle.std.specs.Prelude.{◌≡◌, ◌≢◌, ◌<◌, ℕ, List, [], ◌∷◌, codes, false, map, IfSome};
+ghost use Rattle.std.specs.Prelude.{◌≡◌, ◌≢◌, ◌<◌, ◌⊎◌, ℕ, List, [], ◌∷◌, codes, false, map, IfSome};
 ghost use Rattle.shm_debug.specs.Script.{script_of};
-ghost use Rattle.shmdbg.specs.Status.{AsksReplay, Replays, Reports, Takes};
+ghost use Rattle.shmdbg.specs.Status.{AsksReplay, AsksRun, Fails, Replays, Reports, Takes};
 ghost use Rattle.shmdbg.specs.Words.{asks_replay};
 
 use crate::tell;
@@ -31,7 +31,10 @@ pub fn run_words<
         Replays (script_of bytes) result (O.contents out.old) (O.contents out.new)) }
     ensures reported { asks_replay (map S.text words.now) ≡ false → result ≡ 0 →
         Reports (I.remaining reader.old) (O.contents out.old) (O.contents out.new) }
-    ensures audit { result ≡ 4 → asks_replay (map S.text words.now) ≡ false }
+    ensures failed { AsksRun (map S.text words.now) → result ≢ 0 → Fails (I.remaining reader.old) result }
+    ensures audit { result ≡ 4 → AsksRun (map S.text words.now) }
+    ensures quiet { asks_replay (map S.text words.now) ≡ false → (result ≡ 1) ⊎ (result ≡ 4) → out.new ≡ out.old }
+    ensures refused { ¬ Takes (map S.text words.now) → (reader.new ≡ reader.old) × (out.new ≡ out.old) }
     ensures nothing_read { result ≡ 2 → reader.new ≡ reader.old }
     ensures nothing_written { result ≡ 2 → out.new ≡ out.old }
 {
@@ -58,6 +61,8 @@ fn run<R: AllocGlobal + Threads + Wait + Copy + Send + Sync + 'static, I: Read, 
     ensures range { result < 5 }
     ensures taken { result ≢ 2 }
     ensures reported { result ≡ 0 → Reports (I.remaining reader.old) (O.contents out.old) (O.contents out.new) }
+    ensures failed { result ≢ 0 → Fails (I.remaining reader.old) result }
+    ensures quiet { (result ≡ 1) ⊎ (result ≡ 4) → out.new ≡ out.old }
 {
     let Ok(sites) = Sites::new(sites) else {
         return tell::run_fault(ReportFault::Logs, errors);

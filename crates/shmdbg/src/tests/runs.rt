@@ -1,5 +1,6 @@
 use super::{Ran, expect, run_over};
 use std::sync::Wait;
+use std::test::Fail;
 use std::thread::Threads;
 
 /// Runs a workload that lies in memory, on one site.
@@ -37,4 +38,36 @@ fn wrong_workloads(rt: HostRuntime) {
         let ran = run_bytes(&rt, workload);
         expect(&rt, &ran, 1, b"", errors);
     }
+}
+
+/// A line of 200 bytes is read and then refused; at 201 the line is too long, also at the end.
+#[test]
+fn long_lines(rt: HostRuntime) -> Result<(), Fail> {
+    for (count, end, errors) in [
+        (200, "\n", b"shmdbg: line 2: bad line\n".as_slice()),
+        (201, "", b"shmdbg: line 2: too long\n".as_slice()),
+        (201, "\n", b"shmdbg: line 2: too long\n".as_slice()),
+    ] {
+        let mut workload = String::from_str(rt.alloc(), "preset 1\n")?;
+        for _ in 0..count {
+            workload.push('a')?;
+        }
+        workload.push_str(end)?;
+        let ran = run_bytes(&rt, workload.as_bytes());
+        expect(&rt, &ran, 1, b"", errors);
+    }
+    Ok(())
+}
+
+/// One byte after line 10,000 is refused, whatever it is.
+#[test]
+fn too_many_lines(rt: HostRuntime) -> Result<(), Fail> {
+    let mut workload = String::from_str(rt.alloc(), "preset 1\n")?;
+    for _ in 2..=10_000 {
+        workload.push_str("load 0 0\n")?;
+    }
+    workload.push('x')?;
+    let ran = run_bytes(&rt, workload.as_bytes());
+    expect(&rt, &ran, 1, b"", b"shmdbg: too many lines\n");
+    Ok(())
 }

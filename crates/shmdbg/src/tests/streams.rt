@@ -1,4 +1,4 @@
-use super::{replay_bytes, run_over};
+use super::{expect, run_over};
 use crate::program::run_words;
 use crate::tell;
 use shm_debug::DebugFault;
@@ -7,6 +7,12 @@ use std::io::{self, ErrorKind, Read, Write};
 const SCRIPT: &[u8] = b"sites 1 preset 1\nstore 0 0 7 9\nload 0 0 7\n";
 
 const TEXT: &[u8] = b"1 ready\n2 stored\n3 byte 9\n";
+
+const RUN: [&str; 6] = ["shmdbg", "run", "--sites", "1", "--seed", "1"];
+
+const WORKLOAD: &[u8] = b"preset 1\nstore 0 0 7\nload 0 0\n";
+
+const REPORT: &[u8] = b"1 ready\n2 stored\n3 byte 7\naudit yes\n";
 
 /// Gives one byte at a time, and then the end or an error.
 #[derive(Drop)]
@@ -118,6 +124,42 @@ fn writers_that_fail(rt: HostRuntime) {
             assert_eq!(rt; status, 3);
             assert_eq!(rt; errors.as_slice(), b"shmdbg: write fault\n".as_slice());
             assert_eq!(rt; out.taken.as_slice(), &TEXT[..room]);
+        }
+    }
+}
+
+/// The same of a run, which reads its whole workload before it writes anything.
+#[test]
+fn runs_with_readers_that_fail(rt: HostRuntime) {
+    for kind in [ErrorKind::Other, ErrorKind::Interrupted] {
+        for end in 0..=WORKLOAD.len() {
+            let mut reader = Trickle {
+                rest: &WORKLOAD[..end],
+                end: Some(kind),
+            };
+            let ran = run_over(&rt, &RUN, &mut reader);
+            expect(&rt, &ran, 3, b"", b"shmdbg: read fault\n");
+        }
+    }
+}
+
+/// The same of a run's writer: before the first line, amid a line, and amid what the audit found.
+#[test]
+fn runs_with_writers_that_fail(rt: HostRuntime) {
+    for end in [Some(ErrorKind::Other), Some(ErrorKind::Interrupted), None] {
+        for room in [0, 12, 30] {
+            let mut reader = WORKLOAD;
+            let mut out = Narrow {
+                taken: Vec::new(rt.alloc()),
+                room,
+                end,
+            };
+            let mut errors = Vec::new(rt.alloc());
+            let status = run_words(&rt, &RUN, &mut reader, &mut out, &mut errors);
+            assert_eq!(rt; status, 3);
+            assert_eq!(rt; errors.as_slice(), b"shmdbg: write fault\n".as_slice());
+            assert_eq!(rt; out.taken.len(), room);
+            assert!(rt; REPORT.starts_with(out.taken.as_slice()));
         }
     }
 }

@@ -13,15 +13,15 @@ returns-in-Ok-told-clause-told g c =
     let text = c.in-Ok-told.text in
     let tells : TellsLines workload.accesses.items ran.callers.items text =
     subst (λ accesses. TellsLines accesses ran.callers.items text) c.as_slice.ensures.value
-    (subst (λ callers. TellsLines c.as_slice.result.now callers text) c.as_slice-2.ensures.value c.in-Ok-told.ensures) in
+    (subst (λ callers. TellsLines c.as_slice.result.now callers text) c.as_slice-2.ensures.value c.in-Ok-told.ensures.lines) in
     on_ok c.write_report.result
     (λ appended. (
       text ++ audit_yes,
       appended,
       record {
-        events = c.in-Ok.ensures.0;
+        events = c.in-Ok.ensures.accepted.0;
         a_log_each = length-map ran.logs.items steps_of ∙ c.requires.logs;
-        audited = c.in-Ok.ensures.1;
+        audited = c.in-Ok.ensures.accepted.1;
         served = c.requires.served;
         receipts = tells.0;
         answered = tells.1;

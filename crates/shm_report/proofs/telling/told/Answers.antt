@@ -13,5 +13,5 @@ accesses-preserved c =
     c.accesses.place (c.accesses.place + 2) c.index-accesses-place.result c.requires c.accesses-test.true c.index-accesses-place.is c.accesses.invariant
     refl c.in-Ok-tell-2.ensures.known c.in-Ok-tell-2.ensures.told c.in-Ok-tell-2.ensures.more
 
-pub returns : goal.returns
-returns c = all_told c.args.accesses.now c.args.callers.now c.accesses.told_of c.accesses.text c.accesses.place (omega arith) c.accesses.invariant
+pub returns-clause-lines : goal.returns-clause-lines
+returns-clause-lines c = all_told c.args.accesses.now c.args.callers.now c.accesses.told_of c.accesses.text c.accesses.place (omega arith) c.accesses.invariant

@@ -3,7 +3,8 @@ use Rattle.std.specs.Prelude.{Err, None, Option, Some}
 use Rattle.std.proofs.KnownBytes.{Appends-nil}
 use Rattle.shm_debug.specs.Script.{script_of}
 use Rattle.shm_debug.specs.declared.outcome.DebugFault.TheVariants.{OutOfMemory}
-use Rattle.shmdbg.specs.Status.{AsksReplay, Replays}
+use Rattle.shmdbg.specs.Status.{AsksReplay, Fails, Replays}
+use Rattle.shm_report.specs.declared.report_fault.ReportFault.TheVariants as report
 use Rattle.shmdbg.proofs.Plain.{plain_words}
 use Rattle.shmdbg.proofs.program.run_words.Goals as goal
 
@@ -14,6 +15,9 @@ Leaves script written status = IfSome script (λ bytes. Replays (script_of bytes
 unread : (script written : Option (List ℕ)) → Leaves script written 3
 unread None written = tt
 unread (Some bytes) written = (Err OutOfMemory, [], refl, Appends-nil written, (0, refl))
+
+without_memory : (workload : Option (List ℕ)) → Fails workload 3
+without_memory workload = record { sites = 1; fault = report.OutOfMemory; told = refl; input = tt; audit = tt }
 
 -- src/program.rt:31:23
 pub returns-in-Err-clause-replayed : goal.returns-in-Err-clause-replayed
@@ -37,3 +41,12 @@ pub returns-in-Err-clause-plain : goal.returns-in-Err-clause-plain
 returns-in-Err-clause-plain g c name e =
     let asks : AsksReplay (map g.S.AsStr.text c.args.words.now) = subst AsksReplay (sym e) (plain_words name) in
     search rules
+
+pub returns-in-Err-clause-failed : goal.returns-in-Err-clause-failed
+returns-in-Err-clause-failed g c asks failed =
+    let taken : c.refused_words.result ≢ 2 = search rules in
+    let workload = g.I.Read.remaining c.args.reader.now in
+    elim c.refused_words.ensures.status [
+      | inl h ↦ subst (Fails workload) (sym h.1) (without_memory workload)
+      | inr h ↦ absurd {A = Fails workload c.refused_words.result} (taken h.1)
+    ]

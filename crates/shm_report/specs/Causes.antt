@@ -1,0 +1,84 @@
+-- Why nothing was reported, where the workload is wrong or an audit found a cause.
+use Rattle.std.specs.Prelude.{◌≡◌, ℕ, Bool, true, false, List, length, IfSome, Err, Ok, Option, None, Some, Vec}
+use Rattle.std.specs.declared.alloc.Global.{Global}
+use Rattle.shm_audit.specs.Callers.{callers_of}
+use Rattle.shm_audit.specs.Cause.{IsFirstCause}
+use Rattle.shm_audit.specs.declared.audit_fault.AuditFault.{AuditFault}
+use Rattle.shm_boxes.specs.declared.receipt.Receipt.{Receipt}
+use Rattle.shm_model.specs.Log.{Logged}
+use Rattle.shm_running.specs.Callers.{AllServed}
+use Rattle.shm_workload.specs.Workload.{Whole, workload_of}
+use Rattle.shm_workload.specs.declared.fault.WorkloadFault.{WorkloadFault}
+use Rattle.shm_workload.specs.declared.fault.WorkloadFault.TheVariants as workload
+use Rattle.shm_report.specs.declared.report_fault.ReportFault.{ReportFault}
+use Rattle.shm_report.specs.declared.report_fault.ReportFault.TheVariants as report
+
+-- what is wrong with the workload
+abbrev pub input_cause : ReportFault → Option WorkloadFault
+input_cause (report.BadLine number) = Some (workload.BadLine number)
+input_cause (report.LineTooLong number) = Some (workload.LineTooLong number)
+input_cause report.TooManyLines = Some workload.TooManyLines
+input_cause report.OutOfMemory = None
+input_cause report.ReadFault = None
+input_cause report.WriteFault = None
+input_cause report.NoThread = None
+input_cause (report.GaveUp number) = None
+input_cause report.ClockEnd = None
+input_cause report.Logs = None
+input_cause (report.Audit cause) = None
+
+-- what an audit found
+abbrev pub audit_cause : ReportFault → Option AuditFault
+audit_cause (report.BadLine number) = None
+audit_cause (report.LineTooLong number) = None
+audit_cause report.TooManyLines = None
+audit_cause report.OutOfMemory = None
+audit_cause report.ReadFault = None
+audit_cause report.WriteFault = None
+audit_cause report.NoThread = None
+audit_cause (report.GaveUp number) = None
+audit_cause report.ClockEnd = None
+audit_cause report.Logs = None
+audit_cause (report.Audit cause) = Some cause
+
+-- neither the workload nor an audit is to blame
+pub record IsOther (fault : ReportFault) : Type 0 where
+  pub input : input_cause fault ≡ None
+  pub audit : audit_cause fault ≡ None
+
+-- the workload was read before
+abbrev pub is_after_reading : ReportFault → Bool
+is_after_reading (report.BadLine number) = false
+is_after_reading (report.LineTooLong number) = false
+is_after_reading report.TooManyLines = false
+is_after_reading report.OutOfMemory = false
+is_after_reading report.ReadFault = false
+is_after_reading report.WriteFault = true
+is_after_reading report.NoThread = true
+is_after_reading (report.GaveUp number) = true
+is_after_reading report.ClockEnd = true
+is_after_reading report.Logs = true
+is_after_reading (report.Audit cause) = true
+
+-- these bytes, where they are known, are a workload for so many sites
+abbrev pub IsRight : ℕ → Option (List ℕ) → Type 0
+IsRight sites known = IfSome known (λ bytes. (whole : Whole) × (workload_of sites bytes ≡ Ok whole))
+
+-- these bytes, where they are known, are no workload for so many sites, for this cause
+abbrev pub IsWrongBy : ℕ → Option (List ℕ) → WorkloadFault → Type 0
+IsWrongBy sites known cause = IfSome known (λ bytes. workload_of sites bytes ≡ Err cause)
+
+-- This is the first cause why the logs of so many sites, and what their callers were told of the workload's lines, can't be those of sites
+-- that ran.
+pub record IsFoundIn (sites : ℕ) (workload : Whole) (logs : List (List Logged)) (callers : List (Vec Receipt Global)) (cause : AuditFault) : Type 0 where
+  pub a_log_each : length logs ≡ sites
+  pub served : AllServed sites workload.accesses callers
+  pub first : IsFirstCause logs (callers_of callers) cause
+
+-- so it is after a run of the workload that these bytes have, where they are known
+pub record IsFound (sites : ℕ) (bytes : Option (List ℕ)) (cause : AuditFault) : Type 0 where
+  pub workload : Whole
+  pub read : IfSome bytes (λ bytes. workload_of sites bytes ≡ Ok workload)
+  pub logs : List (List Logged)
+  pub callers : List (Vec Receipt Global)
+  pub found : IsFoundIn sites workload logs callers cause
