@@ -22,7 +22,8 @@ use std::thread::Threads;
 
 /// Runs the workload that is read from `reader` over so many sites, whose network draws its losses and repeats from the seed; one caller
 /// for each site runs the site's lines in their order. What each line was answered is written to `writer` when an audit of all that was
-/// logged has found nothing; before that nothing is written.
+/// logged has found nothing; before that nothing is written. An error of the reader or the writer, of whatever kind, ends it: nothing is
+/// tried again.
 pub fn report<R: Threads + Wait + Copy + Send + Sync + 'static, I: Read, O: Write>(
     rt: &R,
     alloc: Global,

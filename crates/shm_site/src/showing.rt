@@ -15,7 +15,7 @@ use shm_place::{PageId, SiteId, in_limits, manager_of};
 use std::alloc::Allocator;
 
 impl<A: Allocator + Copy> Site<A> {
-    /// The access that the site has to the page (Li and Hudak 1989, §3).
+    /// The access that the site has to the page (Li and Hudak 1989, §3). None: no segment can have the page.
     pub fn access(&self, page: PageId) -> Option<Access>
         ensures { result ≡ (if in_limits self.now.sites page then Some (access_of ((site_of self.now).entries page)) else None) }
     {
@@ -26,7 +26,7 @@ impl<A: Allocator + Copy> Site<A> {
         Some(self.holdings.access(self.sites, self.me, *page))
     }
 
-    /// The page's state at the site, and the greatest transaction number that it met there.
+    /// The page's state at the site, and the greatest transaction number that it met there. None: no segment can have the page.
     pub fn shown(&self, page: PageId) -> Option<Shown>
         ensures { result ≡ (if in_limits self.now.sites page then Some (shown_of ((site_of self.now).purged page.seg) ((site_of self.now).entries page)) else None) }
     {
