@@ -1,5 +1,5 @@
 -- A site's log, as the definitions speak of it.
-use Rattle.std.specs.Prelude.{◌≡◌, ℕ, List, map}
+use Rattle.std.specs.Prelude.{◌≡◌, ◌<◌, ℕ, List, length, map, vec_capacity}
 use Rattle.shm_model.specs.Log.{Logged, Told, inputs_of, moved_by}
 use Rattle.shm_model.specs.Message.{Input}
 use Rattle.shm_model.specs.Site.{Site}
@@ -28,6 +28,10 @@ abbrev pub tells_next : {A : Type 0} → SiteLog A → Input → Told
 tells_next log input =
     let done = step log.sites log.me (left_by_log log) input in
     record { answer = done.answer; sent = done.sent }
+
+-- there is room for one more step
+abbrev pub HasRoom : {A : Type 0} → SiteLog A → Type 0
+HasRoom log = length log.steps.items < vec_capacity log.steps
 
 abbrev pub SameOpening : {A : Type 0} → SiteLog A → SiteLog A → Type 0
 SameOpening old new = (new.sites ≡ old.sites) × (new.me ≡ old.me) × (new.pages ≡ old.pages)

@@ -1,12 +1,13 @@
-ghost use Rattle.std.specs.Prelude.{◌≡◌, IfOk};
-ghost use Rattle.shm_site.specs.Step.{input_of};
+ghost use Rattle.std.specs.Prelude.{◌≡◌, true, IfOk, OnErr};
+ghost use Rattle.shm_site.specs.Step.{input_of, is_delivery};
 
 use shm_site::Input;
 use std::alloc::{AllocError, Allocator};
 
 /// An equal input. Only a page's bytes may take memory.
 pub(crate) fn copy<A: Allocator + Copy>(input: &Input<A>) -> Result<Input<A>, AllocError>
-    ensures { IfOk result (λ copy. input_of copy ≡ input_of input.now) }
+    ensures copy { IfOk result (λ copy. input_of copy ≡ input_of input.now) }
+    ensures memory { OnErr result (is_delivery (input_of input.now) ≡ true) }
 {
     match input {
         Input::Load { at, offset } => Ok(Input::Load {

@@ -23,9 +23,9 @@ pub struct SiteLog<A: Allocator + Copy = Global> {
 }
 
 impl<A: Allocator + Copy> SiteLog<A> {
-    ghost use Rattle.std.specs.Prelude.{◌≡◌, ◌==◌, ◌++◌, [], ◌∷◌, length, IsTrue, OnOk, vec_capacity};
+    ghost use Rattle.std.specs.Prelude.{◌≡◌, ◌==◌, ◌++◌, [], ◌∷◌, length, IsOk, IsTrue, OnOk, vec_capacity};
     ghost use Rattle.shm_model.specs.Log.{is_logged, told};
-    ghost use Rattle.shm_boxes.specs.SiteLog.{opening_of, steps_of, tells_next, SameOpening};
+    ghost use Rattle.shm_boxes.specs.SiteLog.{opening_of, steps_of, tells_next, HasRoom, SameOpening};
 
     /// No steps yet, of a site of so many where segment 0 has so many pages.
     pub(crate) fn new(alloc: A, sites: Sites, me: SiteId, pages: u32) -> SiteLog<A>
@@ -43,11 +43,12 @@ impl<A: Allocator + Copy> SiteLog<A> {
         }
     }
 
-    /// Makes room for one more step.
+    /// Makes room for one more step. Where there is room already this takes no memory.
     pub(crate) fn reserve(&mut self) -> Result<(), AllocError>
         ensures steps { steps_of self.new ≡ steps_of self.old }
         ensures opening { SameOpening self.old self.new }
         ensures room { OnOk result (length self.new.steps.items < vec_capacity self.new.steps) }
+        ensures there { HasRoom self.old → IsOk result }
     {
         self.steps.reserve(1)
     }

@@ -1,13 +1,14 @@
 //! What a box does with an input: it logs the step that the site makes, or refuses.
-ghost use Rattle.std.specs.Prelude.{◌≡◌, ◌<◌, None, Some, false, Ok, length, unwrap_or, vec_capacity, IfErr, IfOk, IsErr, IsOk, OnErr, OnOk};
-ghost use Rattle.shm_boxes.specs.Box.{after, next_stamp, receipt, refusal};
+ghost use Rattle.std.specs.Prelude.{◌≡◌, ◌<◌, None, Some, false, true, Ok, length, unwrap_or, vec_capacity, IfErr, IfOk, IsErr, IsOk, OnErr, OnOk};
+ghost use Rattle.shm_boxes.specs.Box.{after, needs_memory, next_stamp, receipt, refusal};
 ghost use Rattle.shm_boxes.specs.Logged.{stamp_of};
 ghost use Rattle.shm_boxes.specs.Receipt.{receipt_of};
 ghost use Rattle.shm_boxes.specs.SiteBox.{box_of};
+ghost use Rattle.shm_boxes.specs.SiteLog.{HasRoom};
 ghost use Rattle.shm_boxes.specs.declared.box_fault.BoxFault.TheVariants as fault;
 ghost use Rattle.shm_model.specs.Step.{step};
 ghost use Rattle.shm_site.specs.Site.{sent_after, site_of, stepped as after_step, SameSeat};
-ghost use Rattle.shm_site.specs.Step.{input_of, is_foreign};
+ghost use Rattle.shm_site.specs.Step.{input_of, is_delivery, is_foreign, may_grow};
 
 use crate::box_fault::BoxFault;
 use crate::copying::copy;
@@ -22,11 +23,16 @@ use std::alloc::{AllocError, Allocator};
 impl<A: Allocator + Copy> SiteBox<A> {
     /// Makes one step and logs it; the receipt tells of it. `source` is where the envelope that is handed over was sent, and `NONE` for
     /// any other input. Where the step isn't made the box is as before; the input is spent.
+    ///
+    /// Memory is missing last: never where the input isn't taken anyway, nor, with room for one more step in the log, where the site's
+    /// step needs none: for an access that has the right, waits or is refused, for a segment call that is refused, and for a restart.
     pub fn take(&mut self, input: Input<A>, source: Stamp) -> Result<Receipt, BoxFault>
         ensures taken { IsOk result → refusal (box_of self.old) (input_of input) (stamp_of source) ≡ None }
         ensures step { OnOk result (box_of self.new ≡ after (box_of self.old) (input_of input) (stamp_of source)) }
         ensures told { IfOk result (λ told. receipt_of told ≡ receipt (box_of self.old) (input_of input)) }
         ensures fault { IfErr result (λ e. e ≡ unwrap_or (refusal (box_of self.old) (input_of input) (stamp_of source)) fault.OutOfMemory) }
+        ensures last { IfErr result (λ e. e ≡ fault.OutOfMemory → refusal (box_of self.old) (input_of input) (stamp_of source) ≡ None) }
+        ensures memory { IfErr result (λ e. e ≡ fault.OutOfMemory → HasRoom self.old.log → needs_memory (box_of self.old) (input_of input) ≡ true) }
         ensures refused { OnErr result (box_of self.new ≡ box_of self.old) }
     {
         match self.stamped(&input, source) {
@@ -64,6 +70,7 @@ impl<A: Allocator + Copy> SiteBox<A> {
     fn logged(&mut self, input: Input<A>, source: Stamp, stamp: u64) -> Result<Receipt, AllocError>
         requires stamp { stamp ≡ next_stamp self.old.clock (stamp_of source) }
         requires taken { is_foreign self.old.log.sites self.old.log.me (input_of input) ≡ false }
+        ensures memory { OnErr result (HasRoom self.old.log → needs_memory (box_of self.old) (input_of input) ≡ true) }
         ensures step { OnOk result (box_of self.new ≡ after (box_of self.old) (input_of input) (stamp_of source)) }
         ensures told { IfOk result (λ told. receipt_of told ≡ receipt (box_of self.old) (input_of input)) }
         ensures refused { OnErr result (box_of self.new ≡ box_of self.old) }
@@ -76,6 +83,7 @@ impl<A: Allocator + Copy> SiteBox<A> {
     fn copied(&mut self, input: &Input<A>) -> Result<Input<A>, AllocError>
         ensures copy { IfOk result (λ copy. input_of copy ≡ input_of input.now) }
         ensures room { OnOk result (length self.new.log.steps.items < vec_capacity self.new.log.steps) }
+        ensures memory { OnErr result (HasRoom self.old.log → is_delivery (input_of input.now) ≡ true) }
         ensures same { box_of self.new ≡ box_of self.old }
     {
         self.log.reserve()?;
@@ -94,6 +102,7 @@ impl<A: Allocator + Copy> SiteBox<A> {
         requires taken { is_foreign self.old.log.sites self.old.log.me (input_of input) ≡ false }
         requires copy { input_of copy ≡ input_of input }
         requires room { length self.old.log.steps.items < vec_capacity self.old.log.steps }
+        ensures memory { OnErr result (may_grow self.old.log.sites self.old.log.me (box_of self.old).site (input_of input) ≡ true) }
         ensures step { OnOk result (box_of self.new ≡ after (box_of self.old) (input_of input) (stamp_of source)) }
         ensures told { IfOk result (λ told. receipt_of told ≡ receipt (box_of self.old) (input_of input)) }
         ensures refused { OnErr result (box_of self.new ≡ box_of self.old) }
@@ -123,6 +132,7 @@ fn stepped<A: Allocator + Copy>(
 ) -> Result<Answer, AllocError>
     ensures step { IfOk result (λ answer. sent_after outbox.old.sent (step site.old.sites site.old.me (site_of site.old) (input_of input)) ≡ after_step site.new answer outbox.new.sent) }
     ensures refused { OnErr result (site_of site.new ≡ site_of site.old) }
+    ensures memory { OnErr result (is_foreign site.old.sites site.old.me (input_of input) ≡ false → may_grow site.old.sites site.old.me (site_of site.old) (input_of input) ≡ true) }
     ensures seat { SameSeat site.old site.new }
 {
     match site.step(input, outbox) {

@@ -1,5 +1,5 @@
 -- What shm_model sees of a book, and of what a call answers.
-use Rattle.std.specs.Prelude.{ℕ, List, Option, Some, None, Result, Ok, Err}
+use Rattle.std.specs.Prelude.{ℕ, Bool, true, false, List, Option, Some, None, Result, Ok, Err}
 use Rattle.shm_model.specs.declared.kind.Kind.{Kind}
 use Rattle.shm_model.specs.Book as model
 use Rattle.shm_number.specs.Served.{served_of}
@@ -43,3 +43,8 @@ row_of (Some orders) after = model.Taken after orders
 abbrev pub asked_row_of : Result (Option (List model.Order)) UsedUp → model.Book → model.Outcome
 asked_row_of (Ok answer) after = row_of answer after
 asked_row_of (Err _) after = model.UsedUp
+
+-- no number is left for the transaction that the message would start
+abbrev pub is_used_up : model.Outcome → Bool
+is_used_up model.UsedUp = true
+is_used_up _ = false

@@ -2,7 +2,8 @@
 ghost use Rattle.std.specs.Prelude.{◌≡◌, ◌<◌, map, IfOk, IfNone, OnErr};
 ghost use Rattle.shm_number.specs.Served.{served_of};
 ghost use Rattle.shm_model.specs.Book as model;
-ghost use Rattle.shm_manager.specs.Book.{book_of, run_of, row_of, asked_row_of};
+ghost use Rattle.shm_model.specs.declared.kind.Kind.{Kind};
+ghost use Rattle.shm_manager.specs.Book.{book_of, run_of, row_of, asked_row_of, is_used_up};
 
 use crate::ask::Ask;
 use crate::book::Book;
@@ -14,6 +15,14 @@ use shm_place::SiteId;
 use std::alloc::Allocator;
 
 impl<A: Allocator> Book<A> {
+    /// Whether the request would start a transaction for which no number is left.
+    pub fn lacks_number(&self, from: SiteId, request: u64) -> bool
+        requires { from < 16 }
+        ensures { (kind : Kind) → result ≡ is_used_up (model.on_ask from request kind (book_of self.now)) }
+    {
+        self.number == u64::MAX && self.running.is_none() && self.served.fresh(from, request)
+    }
+
     /// A request for a right. None: it was served, or waits already, or there is no room to wait.
     pub fn ask(&mut self, from: SiteId, request: u64, kind: Kind) -> Result<Option<Orders>, UsedUp>
         requires { from < 16 }

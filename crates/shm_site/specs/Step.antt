@@ -1,5 +1,5 @@
 -- Inputs of a site, as the definitions speak of them; and why a step isn't made.
-use Rattle.std.specs.Prelude.{ℕ, Bool, true, false, Option, Some, None, if◌then◌else◌}
+use Rattle.std.specs.Prelude.{ℕ, Bool, true, false, not, Option, Some, None, if◌then◌else◌}
 use Rattle.shm_model.specs.declared.answer.Answer.{Answer}
 use Rattle.shm_model.specs.declared.answer.Answer.TheVariants as answer
 use Rattle.shm_model.specs.Access.{load, store}
@@ -7,7 +7,8 @@ use Rattle.shm_model.specs.Entry as note
 use Rattle.shm_model.specs.Message as model
 use Rattle.shm_model.specs.Refusal.{foreign_message}
 use Rattle.shm_model.specs.Site.{Site}
-use Rattle.shm_model.specs.Step.{foreign}
+use Rattle.shm_model.specs.SegmentCalls.{begin}
+use Rattle.shm_model.specs.Step.{deliver, foreign}
 use Rattle.shm_parts.specs.Message.{envelope_of}
 use Rattle.shm_parts.specs.declared.message.Envelope.{Envelope}
 use Rattle.shm_site.specs.declared.input.Input.{Input}
@@ -46,12 +47,14 @@ abbrev pub is_refused : Answer → Bool
 is_refused (answer.Refused _) = true
 is_refused _ = false
 
--- Whether memory may be missing: never for a load or store that has the right, or that is refused, nor for a restart.
+-- Whether memory may be missing: never where the step is refused anyway, nor for an access that has the right or waits, nor for a restart.
 abbrev pub may_grow : ℕ → ℕ → Site → model.Input → Bool
 may_grow sites me site (model.Load at offset) = is_fault (load sites me at offset site).answer
 may_grow sites me site (model.Store at offset byte) = is_fault (store sites me at offset byte site).answer
+may_grow sites me site (model.Begin request) = not (is_refused (begin sites me request site).answer)
+may_grow sites me site (model.Deliver e) = not (is_refused (deliver sites me e site).answer)
+may_grow sites me site model.Tick = true
 may_grow sites me site model.Restart = false
-may_grow sites me site _ = true
 
 abbrev pub fault_of : Bool → StepFault
 fault_of foreign = if foreign then fault.Foreign else fault.OutOfMemory

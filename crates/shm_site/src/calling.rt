@@ -1,10 +1,12 @@
 //! Segment calls at the site that begins them: how a call goes out, and what its reply ends.
-ghost use Rattle.std.specs.Prelude.{◌≡◌, Bool, [], None, IfOk, OnErr};
+ghost use Rattle.std.specs.Prelude.{◌≡◌, Bool, [], None, false, IfOk, OnErr};
 ghost use Rattle.shm_model.specs.declared.call.Cred.{Cred};
 ghost use Rattle.shm_model.specs.declared.call.Op.TheVariants.{Attach};
 ghost use Rattle.shm_model.specs.declared.call.Reply.TheVariants.{Attached as AttachedReply};
+ghost use Rattle.shm_model.specs.Access.{Step};
 ghost use Rattle.shm_model.specs.SegmentCalls as model;
 ghost use Rattle.shm_site.specs.Site.{SameSeat, sent_after, site_of, stepped};
+ghost use Rattle.shm_site.specs.Step.{is_refused};
 
 use crate::homing::op_home;
 use crate::site::Site;
@@ -16,13 +18,14 @@ use shm_place::SegId;
 use std::alloc::{AllocError, Allocator};
 
 impl<A: Allocator + Copy> Site<A> {
-    /// Begins a segment call. A detach takes its attachment away at once.
+    /// Begins a segment call. A detach takes its attachment away at once. A call that is refused takes no memory.
     pub(crate) fn begin(
         &mut self,
         request: Request,
         outbox: &mut Outbox<A>,
     ) -> Result<Answer, AllocError>
         ensures step { IfOk result (λ answer. sent_after outbox.old.sent (model.begin self.old.sites self.old.me request (site_of self.old)) ≡ stepped self.new answer outbox.new.sent) }
+        ensures memory { OnErr result (is_refused (model.begin self.old.sites self.old.me request (site_of self.old)).answer ≡ false) }
         ensures refused { OnErr result ((site_of self.new ≡ site_of self.old) × (outbox.new.sent ≡ outbox.old.sent)) }
         ensures seat { SameSeat self.old self.new }
     {
@@ -38,6 +41,7 @@ impl<A: Allocator + Copy> Site<A> {
     fn begin_op(&mut self, op: Op, outbox: &mut Outbox<A>) -> Result<Answer, AllocError>
         requires { self.old.calls.outstanding ≡ None }
         ensures step { IfOk result (λ answer. sent_after outbox.old.sent (model.begin_op self.old.sites self.old.me op (site_of self.old)) ≡ stepped self.new answer outbox.new.sent) }
+        ensures memory { OnErr result (is_refused (model.begin_op self.old.sites self.old.me op (site_of self.old)).answer ≡ false) }
         ensures refused { OnErr result ((site_of self.new ≡ site_of self.old) × (outbox.new.sent ≡ outbox.old.sent)) }
         ensures seat { SameSeat self.old self.new }
     {
@@ -56,6 +60,7 @@ impl<A: Allocator + Copy> Site<A> {
     fn begin_detach(&mut self, number: u32, outbox: &mut Outbox<A>) -> Result<Answer, AllocError>
         requires { self.old.calls.outstanding ≡ None }
         ensures step { IfOk result (λ answer. sent_after outbox.old.sent (model.begin_detach self.old.sites self.old.me number ((site_of self.old).attachments number) (site_of self.old)) ≡ stepped self.new answer outbox.new.sent) }
+        ensures memory { OnErr result (is_refused (model.begin_detach self.old.sites self.old.me number ((site_of self.old).attachments number) (site_of self.old)).answer ≡ false) }
         ensures refused { OnErr result ((site_of self.new ≡ site_of self.old) × (outbox.new.sent ≡ outbox.old.sent)) }
         ensures seat { SameSeat self.old self.new }
     {
@@ -75,6 +80,7 @@ impl<A: Allocator + Copy> Site<A> {
     fn call(&mut self, op: Op, outbox: &mut Outbox<A>) -> Result<Answer, AllocError>
         requires { self.old.calls.outstanding ≡ None }
         ensures step { IfOk result (λ answer. sent_after outbox.old.sent (model.numbered (site_of self.old) (model.call_begun self.old.sites self.old.me op (site_of self.old))) ≡ stepped self.new answer outbox.new.sent) }
+        ensures memory { OnErr result ((step : Step) → model.numbered (site_of self.old) step ≡ step) }
         ensures refused { OnErr result ((site_of self.new ≡ site_of self.old) × (outbox.new.sent ≡ outbox.old.sent)) }
         ensures holdings { self.new.holdings ≡ self.old.holdings }
         ensures seat { SameSeat self.old self.new }

@@ -3,7 +3,8 @@ ghost use Rattle.std.specs.Prelude.{◌≡◌, ◌<◌, Some, true, false, IsOk,
 ghost use Rattle.shm_model.specs.Step.{deliver, foreign, is_proper, on_message};
 ghost use Rattle.shm_parts.specs.Message.{envelope_of, message_of};
 ghost use Rattle.shm_site.specs.Site.{SameSeat, sent_after, site_of, stepped};
-ghost use Rattle.shm_site.specs.Step.{envelope_if, fault_of, holds_page};
+ghost use Rattle.shm_site.specs.Step.{envelope_if, fault_of, holds_page, is_refused};
+ghost use Rattle.shm_site.specs.declared.step_error.StepFault.TheVariants as fault;
 
 use crate::foreign::is_foreign;
 use crate::site::Site;
@@ -21,7 +22,7 @@ impl<A: Allocator + Copy> Site<A> {
         is_foreign(self.sites, self.me, envelope)
     }
 
-    /// Takes an envelope that the network hands over.
+    /// Takes an envelope that the network hands over. An Ask for which no number is left is refused before memory is needed.
     pub(crate) fn deliver(
         &mut self,
         envelope: Envelope<A>,
@@ -30,6 +31,7 @@ impl<A: Allocator + Copy> Site<A> {
         ensures step { IfOk result (λ answer. sent_after outbox.old.sent (deliver self.old.sites self.old.me (envelope_of envelope) (site_of self.old)) ≡ stepped self.new answer outbox.new.sent) }
         ensures taken { IsOk result → foreign self.old.sites self.old.me (envelope_of envelope) ≡ false }
         ensures fault { IfErr result (λ e. e.fault ≡ fault_of (foreign self.old.sites self.old.me (envelope_of envelope))) }
+        ensures memory { IfErr result (λ e. e.fault ≡ fault.OutOfMemory → is_refused (deliver self.old.sites self.old.me (envelope_of envelope) (site_of self.old)).answer ≡ false) }
         ensures back { IfErr result (λ e. envelope_if e.envelope ≡ Some (envelope_of envelope)) }
         ensures refused { OnErr result ((site_of self.new ≡ site_of self.old) × (outbox.new.sent ≡ outbox.old.sent)) }
         ensures seat { SameSeat self.old self.new }
@@ -43,6 +45,9 @@ impl<A: Allocator + Copy> Site<A> {
             });
         }
         let Envelope { from, to, message } = envelope;
+        if let Some(answer) = self.message_refused(from, &message) {
+            return Ok(answer);
+        }
         match self.take(from, message, outbox) {
             Ok(answer) => Ok(answer),
             Err(message) => Err(out_of_memory(Envelope { from, to, message })),

@@ -16,7 +16,7 @@ use std::alloc::{AllocError, Allocator};
 
 impl<A: Allocator + Copy> Site<A> {
     /// Makes one step: what is sent joins the outbox. Where it isn't made, site and outbox are as before and an envelope that was
-    /// handed in comes back. A load or store that has the right takes no memory, nor does a restart.
+    /// handed in comes back. A load or store that has the right takes no memory, nor does a restart, nor what is refused anyway.
     pub fn step(&mut self, input: Input<A>, outbox: &mut Outbox<A>) -> Result<Answer, StepError<A>>
         ensures step { IfOk result (λ answer. sent_after outbox.old.sent (step self.old.sites self.old.me (site_of self.old) (input_of input)) ≡ stepped self.new answer outbox.new.sent) }
         ensures taken { IsOk result → is_foreign self.old.sites self.old.me (input_of input) ≡ false }

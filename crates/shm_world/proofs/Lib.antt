@@ -1,4 +1,3 @@
-pub mod Admitted
 pub mod Bounds
 pub mod Envelopes
 pub mod Loads

@@ -1,10 +1,8 @@
 -- A world of the code against one of the definitions; and what a list of events makes of a world.
-use Rattle.std.specs.Prelude.{◌≡◌, ◌==◌, ℕ, ◌≤◌, Bool, true, false, not, List, [], ◌∷◌, ◌++◌, length, take}
+use Rattle.std.specs.Prelude.{◌≡◌, ℕ, ◌≤◌, Bool, true, false, not, List, [], ◌∷◌, ◌++◌, length, take}
 use Rattle.shm_model.specs.declared.answer.Answer.{Answer}
-use Rattle.shm_model.specs.declared.answer.Answer.TheVariants as answer
 use Rattle.shm_model.specs.declared.event.Event.{Event}
 use Rattle.shm_model.specs.declared.event.Event.TheVariants as event
-use Rattle.shm_model.specs.Refusal.{numbers_used_up}
 use Rattle.shm_model.specs.World as model
 use Rattle.shm_network.specs.Network.{Carries}
 use Rattle.shm_site.specs.Step.{is_fault, is_refused}
@@ -27,22 +25,16 @@ abbrev pub answers : model.World → List Event → List Answer
 answers w [] = []
 answers w (e ∷ es) = (model.next w e).done.answer ∷ answers (model.next w e).world es
 
--- a delivery may need memory unless it is refused for its number, its site or its message; a site may find that it has no number left
--- for the transaction that is asked for only when it has room for it
-abbrev pub is_admitted : Answer → Bool
-is_admitted (answer.Refused n) = n == numbers_used_up
-is_admitted _ = true
-
--- Whether memory may be missing at an event that has this answer: for a load or store only where it asks for its page; never for a
--- restart or a loss, nor for a segment call or a tick that is refused.
+-- Whether memory may be missing at an event that has this answer: never where it is a refusal; for a load or store only where it asks
+-- for its page; never for a restart or a loss.
 abbrev pub may_grow : Event → Answer → Bool
 may_grow (event.Load _ _ _) answer = is_fault answer
 may_grow (event.Store _ _ _ _) answer = is_fault answer
 may_grow (event.Begin _ _) answer = not (is_refused answer)
 may_grow (event.Tick _) answer = not (is_refused answer)
 may_grow (event.Restart _) answer = false
-may_grow (event.Deliver _) answer = is_admitted answer
-may_grow (event.Repeat _) answer = is_admitted answer
+may_grow (event.Deliver _) answer = not (is_refused answer)
+may_grow (event.Repeat _) answer = not (is_refused answer)
 may_grow (event.Lose _) answer = false
 
 -- of these events the first so many were answered, and the world stands after them

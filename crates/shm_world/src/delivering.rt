@@ -6,20 +6,17 @@ ghost use Rattle.shm_network.specs.Network.{envelope_at, room_of};
 ghost use Rattle.shm_parts.specs.Message.{envelope_of};
 ghost use Rattle.shm_model.specs.Refusal.{foreign_message};
 ghost use Rattle.shm_model.specs.declared.answer.Answer.TheVariants as answer;
-ghost use Rattle.shm_model.specs.Access.{still};
-ghost use Rattle.shm_model.specs.Step.{deliver, foreign};
-ghost use Rattle.shm_site.specs.Site.{site_of};
-ghost use Rattle.shm_site.specs.Step.{envelope_if};
+ghost use Rattle.shm_site.specs.Step.{envelope_if, is_refused};
 ghost use Rattle.shm_site.specs.declared.step_error.StepFault.TheVariants as fault;
 ghost use Rattle.shm_world.specs.Steps.{Went};
-ghost use Rattle.shm_world.specs.World.{is_admitted, StandsFor};
+ghost use Rattle.shm_world.specs.World.{StandsFor};
 
 use crate::stepping::MOST_SENT;
 use crate::world::World;
 use shm_model::Answer;
 use shm_model::refusal::{FOREIGN, NO_SUCH_MESSAGE};
 use shm_parts::Envelope;
-use shm_site::{Input, Site, StepError, StepFault};
+use shm_site::{Input, StepError, StepFault};
 use std::alloc::{AllocError, Allocator};
 
 impl<A: Allocator + Copy> World<A> {
@@ -28,7 +25,7 @@ impl<A: Allocator + Copy> World<A> {
     pub(crate) fn deliver(&mut self, number: u64) -> Result<Answer, AllocError>
         ensures step { (w : model.World) → StandsFor self.old w → IfOk result (λ answer. Went self.new (model.deliver (model.live w number) w number) answer) }
         ensures refused { (w : model.World) → StandsFor self.old w → OnErr result (StandsFor self.new w) }
-        ensures memory { (w : model.World) → StandsFor self.old w → OnErr result (is_admitted (model.deliver (model.live w number) w number).done.answer ≡ true) }
+        ensures memory { (w : model.World) → StandsFor self.old w → OnErr result (is_refused (model.deliver (model.live w number) w number).done.answer ≡ false) }
     {
         if let Some(answer) = self.turned_back(number) {
             drop(self.network.take(number));
@@ -59,7 +56,7 @@ impl<A: Allocator + Copy> World<A> {
     pub(crate) fn repeat(&mut self, number: u64) -> Result<Answer, AllocError>
         ensures step { (w : model.World) → StandsFor self.old w → IfOk result (λ answer. Went self.new (model.hand_over (model.live w number) w) answer) }
         ensures refused { (w : model.World) → StandsFor self.old w → OnErr result (StandsFor self.new w) }
-        ensures memory { (w : model.World) → StandsFor self.old w → OnErr result (is_admitted (model.hand_over (model.live w number) w).done.answer ≡ true) }
+        ensures memory { (w : model.World) → StandsFor self.old w → OnErr result (is_refused (model.hand_over (model.live w number) w).done.answer ≡ false) }
     {
         if let Some(answer) = self.turned_back(number) {
             return Ok(answer);
@@ -83,7 +80,7 @@ impl<A: Allocator + Copy> World<A> {
     /// The refusal of an envelope that isn't on its way, or can't be for the site that it names. It takes no memory.
     fn turned_back(&self, number: u64) -> Option<Answer>
         ensures refused { (w : model.World) → StandsFor self.now w → IfSome result (λ answer. Went self.now (model.hand_over (model.live w number) w) answer) }
-        ensures admitted { (w : model.World) → StandsFor self.now w → IfNone result (is_admitted (model.hand_over (model.live w number) w).done.answer ≡ true) }
+        ensures admitted { (w : model.World) → StandsFor self.now w → IfNone result (is_refused (model.hand_over (model.live w number) w).done.answer ≡ false) }
     {
         match self.network.envelope(number) {
             Some(envelope) => self.unreached(envelope),
@@ -94,14 +91,14 @@ impl<A: Allocator + Copy> World<A> {
     /// The refusal of an envelope that can't be for the site that it names.
     fn unreached(&self, envelope: &Envelope<A>) -> Option<Answer>
         ensures refused { (w : model.World) → StandsFor self.now w → IfSome result (λ answer. Went self.now (model.step_at w (envelope_of envelope.now).to (input.Deliver (envelope_of envelope.now))) answer) }
-        ensures admitted { (w : model.World) → StandsFor self.now w → IfNone result (is_admitted (model.step_at w (envelope_of envelope.now).to (input.Deliver (envelope_of envelope.now))).done.answer ≡ true) }
+        ensures admitted { (w : model.World) → StandsFor self.now w → IfNone result (is_refused (model.step_at w (envelope_of envelope.now).to (input.Deliver (envelope_of envelope.now))).done.answer ≡ false) }
     {
         let to = envelope.to;
         if let Some(answer) = self.refusal(to) {
             return Some(answer);
         }
         match self.members.get(to) {
-            Some(site) => foreign_at(site, envelope),
+            Some(site) => site.deliver_refused(envelope),
             None => None,
         }
     }
@@ -130,17 +127,6 @@ impl<A: Allocator + Copy> World<A> {
             Err(error) => turned_away(error),
         }
     }
-}
-
-/// The site's refusal of an envelope that can't be for it.
-fn foreign_at<A: Allocator + Copy>(site: &Site<A>, envelope: &Envelope<A>) -> Option<Answer>
-    ensures refused { IfSome result (λ answer. deliver site.now.sites site.now.me (envelope_of envelope.now) (site_of site.now) ≡ still answer (site_of site.now)) }
-    ensures admitted { IfNone result (foreign site.now.sites site.now.me (envelope_of envelope.now) ≡ false) }
-{
-    if site.foreign(envelope) {
-        return Some(Answer::Refused(FOREIGN));
-    }
-    None
 }
 
 /// What the loss of an envelope answers.

@@ -13,7 +13,7 @@ use std::alloc::{AllocError, Allocator};
 
 impl<A: Allocator + Copy> World<A> {
     /// One event. Where memory is refused nothing changes. A load or store that has the right takes no memory, nor does a restart or a loss.
-    /// Every other refusal comes before that for memory, but for an envelope's whose page's book has no number left.
+    /// Every other refusal comes before that for memory: what would be refused anyway is never refused for it.
     ///
     /// The headline: for every list of events that leads from an opening to the world as it was, what is promised holds of that list
     /// followed by this event, and a byte that this event gives was stored last to its place by the list.

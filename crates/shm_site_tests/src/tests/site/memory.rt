@@ -19,12 +19,13 @@ const ATTACHED: Reply = Reply::Attached(Attached {
     ro: false,
 });
 
-/// What needs no memory: accesses with the right, and a restart.
-const FRUGAL: [(Given, Answer); 4] = [
+/// What needs no memory: accesses with the right, a restart, and what is refused anyway.
+const FRUGAL: [(Given, Answer); 5] = [
     (Given::Store(1, 7), Answer::Stored),
     (Given::Load(1), Answer::Byte(7)),
     (Given::Load(16_384), Answer::Refused(11)),
     (Given::Restart, Answer::Took),
+    (Given::Begin(Request::DetachAt(9)), Answer::Refused(9)),
 ];
 
 /// What takes memory, at site 0 of 2.

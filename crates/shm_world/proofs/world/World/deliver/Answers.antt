@@ -1,5 +1,5 @@
 use Rattle.std.proofs.Common.{◌∙◌, ap, refl}
-use Rattle.shm_world.specs.World.{is_admitted}
+use Rattle.shm_site.specs.Step.{is_refused}
 use Rattle.shm_world.proofs.Envelopes.{same_answer, turned_back}
 use Rattle.shm_world.proofs.Steps.{on_err}
 use Rattle.shm_world.proofs.world.World.deliver.Goals as goal
@@ -11,4 +11,4 @@ returns-in-Some-clause-step g c = λ w stands.
 
 pub returns-clause-memory : goal.returns-clause-memory
 returns-clause-memory g c = λ w stands.
-    on_err c.deliver_admitted.result _ (ap is_admitted (same_answer w c.args.number) ∙ c.in_default.ensures.admitted w stands)
+    on_err c.deliver_admitted.result _ (ap (λ a. is_refused a) (same_answer w c.args.number) ∙ c.in_default.ensures.admitted w stands)
