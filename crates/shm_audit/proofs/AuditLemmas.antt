@@ -21,12 +21,14 @@ pub step-first : (logs : List (List Logged)) (callers : List (List Receipt)) (f 
 step-first logs callers (fault.Unsent s i) h = h
 step-first logs callers (fault.StampOrder s i) h = h
 step-first logs callers (fault.Forged s i) h = absurd h.this.wrong
+step-first logs callers (fault.Untold s i) h = absurd h.this.wrong
 step-first logs callers fault.OutOfMemory h = absurd h.this.wrong
 
 pub receipt-first : (logs : List (List Logged)) (callers : List (List Receipt)) (f : AuditFault) → AllSound logs → IsForged logs callers f → IsFirstCause logs callers f
 receipt-first logs callers (fault.Unsent s i) sound h = absurd h
 receipt-first logs callers (fault.StampOrder s i) sound h = absurd h
 receipt-first logs callers (fault.Forged s i) sound h = (sound, h)
+receipt-first logs callers (fault.Untold s i) sound h = absurd h
 receipt-first logs callers fault.OutOfMemory sound h = absurd h
 
 -- the logs' opening is one
@@ -52,12 +54,21 @@ audited o logs callers events order merged named sound held runs legal coherent 
   last_stores = λ j d b. tells-last-store o logs order _ merged (subst (Legal o) runs.account legal) (held.tell j d b);
 }
 
-pub audited-if : {A : Type 0} (o : Opening) (logs : List (List Logged)) (callers : List (List Receipt)) (r : Result (Vec Event A) AuditFault) (m : Result (Vec Event A) AllocError)
+-- the events are audited with any receipts that hold
+abbrev pub IsAuditedWithAll : Opening → List (List Logged) → List Event → Type 0
+IsAuditedWithAll o logs events = (callers : List (List Receipt)) → ReceiptsHold logs callers → IsAudited o logs callers events
+
+pub audited-if : {A : Type 0} (o : Opening) (logs : List (List Logged)) (r : Result (Vec Event A) AuditFault) (m : Result (Vec Event A) AllocError)
     → IfOk r (λ events. m ≡ Ok events) → IfOk m (λ events. (order : List SiteStep) × IsMerged logs order × (events.items ≡ events_in order))
-    → AllSound logs → ReceiptsHold logs callers → ((order : List SiteStep) → IsMerged logs order → RunsAs o logs order (run o (events_in order)))
+    → AllSound logs → ((order : List SiteStep) → IsMerged logs order → RunsAs o logs order (run o (events_in order)))
     → ((events : List Event) → Legal o (run o events).account) → ((events : List Event) → Coherent (run o events).world)
-    → IfOk r (λ events. IsAudited o logs callers events.items)
-audited-if o logs callers (Err f) m same made sound held runs legal coherent = tt
-audited-if o logs callers (Ok events) m same made sound held runs legal coherent =
+    → IfOk r (λ events. IsAuditedWithAll o logs events.items)
+audited-if o logs (Err f) m same made sound runs legal coherent = tt
+audited-if o logs (Ok events) m same made sound runs legal coherent =
     let found = subst (λ n. IfOk n (λ es. (order : List SiteStep) × IsMerged logs order × (es.items ≡ events_in order))) same made in
-    audited o logs callers events.items found.0 found.1 found.2 sound held (runs found.0 found.1) (legal (events_in found.0)) (coherent (events_in found.0))
+    λ callers held. audited o logs callers events.items found.0 found.1 found.2 sound held (runs found.0 found.1) (legal (events_in found.0)) (coherent (events_in found.0))
+
+pub audited-with : {A : Type 0} (o : Opening) (logs : List (List Logged)) (callers : List (List Receipt)) (r : Result (Vec Event A) AuditFault)
+    → IfOk r (λ events. IsAuditedWithAll o logs events.items) → ReceiptsHold logs callers → IfOk r (λ events. IsAudited o logs callers events.items)
+audited-with o logs callers (Err f) all held = tt
+audited-with o logs callers (Ok events) all held = all callers held

@@ -22,6 +22,7 @@ not-sound : (logs : List (List Logged)) (s i : ℕ) (l : Logged) (f : AuditFault
 not-sound logs s i l (fault.Unsent t j) w h = w.2.never h.sent
 not-sound logs s i l (fault.StampOrder t j) w h = elim (w.2) [ inl n ↦ n h.rises | inr b ↦ b.below h.above ]
 not-sound logs s i l (fault.Forged t j) w h = w
+not-sound logs s i l (fault.Untold t j) w h = w
 not-sound logs s i l fault.OutOfMemory w h = w
 
 not-both : (logs : List (List Logged)) (s i : ℕ) (l : Logged) → IsUnsent logs s i l → IsMisordered logs s i l → ⊥
@@ -31,15 +32,18 @@ wrong-one : (logs : List (List Logged)) (s i : ℕ) (l : Logged) (f g : AuditFau
 wrong-one logs s i l (fault.Unsent t j) (fault.Unsent u k) w v = let a = w.0 in let b = w.1 in let c = v.0 in let d = v.1 in cc
 wrong-one logs s i l (fault.Unsent t j) (fault.StampOrder u k) w v = absurd (not-both logs s i l w.2 v.2)
 wrong-one logs s i l (fault.Unsent t j) (fault.Forged u k) w v = absurd v
+wrong-one logs s i l (fault.Unsent t j) (fault.Untold u k) w v = absurd v
 wrong-one logs s i l (fault.Unsent t j) fault.OutOfMemory w v = absurd v
 wrong-one logs s i l (fault.StampOrder t j) (fault.Unsent u k) w v = absurd (not-both logs s i l v.2 w.2)
 wrong-one logs s i l (fault.StampOrder t j) (fault.StampOrder u k) w v = let a = w.0 in let b = w.1 in let c = v.0 in let d = v.1 in cc
 wrong-one logs s i l (fault.StampOrder t j) (fault.Forged u k) w v = absurd v
+wrong-one logs s i l (fault.StampOrder t j) (fault.Untold u k) w v = absurd v
 wrong-one logs s i l (fault.StampOrder t j) fault.OutOfMemory w v = absurd v
 wrong-one logs s i l (fault.Forged t j) g w v = absurd w
+wrong-one logs s i l (fault.Untold t j) g w v = absurd w
 wrong-one logs s i l fault.OutOfMemory g w v = absurd w
 
-in-order : (m n : ℕ) → (m < n) ⊎ ((m ≡ n) ⊎ (n < m))
+pub in-order : (m n : ℕ) → (m < n) ⊎ ((m ≡ n) ⊎ (n < m))
 in-order m n = elim (leb_tells (suc m) n) [
   | inl p ↦ inl p.1
   | inr q ↦ elim (leb_tells (suc n) m) [ inl p ↦ inr (inr p.1) | inr r ↦ inr (inl (omega arith)) ]
@@ -166,19 +170,28 @@ pub one-cause : (logs : List (List Logged)) (callers : List (List Receipt)) (one
 one-cause logs callers (fault.Unsent s i) (fault.Unsent t j) h k = step-one logs (fault.Unsent s i) (fault.Unsent t j) h k
 one-cause logs callers (fault.Unsent s i) (fault.StampOrder t j) h k = step-one logs (fault.Unsent s i) (fault.StampOrder t j) h k
 one-cause logs callers (fault.Unsent s i) (fault.Forged t j) h k = absurd (step-not-sound logs (fault.Unsent s i) h k.0)
+one-cause logs callers (fault.Unsent s i) (fault.Untold t j) h k = absurd k
 one-cause logs callers (fault.Unsent s i) fault.OutOfMemory h k = absurd k
 one-cause logs callers (fault.StampOrder s i) (fault.Unsent t j) h k = step-one logs (fault.StampOrder s i) (fault.Unsent t j) h k
 one-cause logs callers (fault.StampOrder s i) (fault.StampOrder t j) h k = step-one logs (fault.StampOrder s i) (fault.StampOrder t j) h k
 one-cause logs callers (fault.StampOrder s i) (fault.Forged t j) h k = absurd (step-not-sound logs (fault.StampOrder s i) h k.0)
+one-cause logs callers (fault.StampOrder s i) (fault.Untold t j) h k = absurd k
 one-cause logs callers (fault.StampOrder s i) fault.OutOfMemory h k = absurd k
 one-cause logs callers (fault.Forged s i) (fault.Unsent t j) h k = absurd (step-not-sound logs (fault.Unsent t j) k h.0)
 one-cause logs callers (fault.Forged s i) (fault.StampOrder t j) h k = absurd (step-not-sound logs (fault.StampOrder t j) k h.0)
 one-cause logs callers (fault.Forged s i) (fault.Forged t j) h k = let same = receipt-one logs callers s i t j h.1 k.1 in let a = same.0 in let b = same.1 in cc
+one-cause logs callers (fault.Forged s i) (fault.Untold t j) h k = absurd k
 one-cause logs callers (fault.Forged s i) fault.OutOfMemory h k = absurd k
+one-cause logs callers (fault.Untold s i) other h k = absurd h
 one-cause logs callers fault.OutOfMemory other h k = absurd h
 
+-- where nothing is wrong with the steps and the receipts hold there is none
+pub held-no-cause : (logs : List (List Logged)) (callers : List (List Receipt)) (f : AuditFault) → AllSound logs → ReceiptsHold logs callers → IsFirstCause logs callers f → ⊥
+held-no-cause logs callers (fault.Unsent s i) sound held h = step-not-sound logs (fault.Unsent s i) h sound
+held-no-cause logs callers (fault.StampOrder s i) sound held h = step-not-sound logs (fault.StampOrder s i) h sound
+held-no-cause logs callers (fault.Forged s i) sound held h = h.1.not_with (all-earlier logs callers h.1.caller h.1.place h.1.receipt h.1.found held)
+held-no-cause logs callers (fault.Untold s i) sound held h = h
+held-no-cause logs callers fault.OutOfMemory sound held h = h
+
 pub no-cause : (o : Opening) (logs : List (List Logged)) (callers : List (List Receipt)) (events : List Event) (f : AuditFault) → IsAudited o logs callers events → IsFirstCause logs callers f → ⊥
-no-cause o logs callers events (fault.Unsent s i) a h = step-not-sound logs (fault.Unsent s i) h a.sound
-no-cause o logs callers events (fault.StampOrder s i) a h = step-not-sound logs (fault.StampOrder s i) h a.sound
-no-cause o logs callers events (fault.Forged s i) a h = h.1.not_with (all-earlier logs callers h.1.caller h.1.place h.1.receipt h.1.found a.receipts)
-no-cause o logs callers events fault.OutOfMemory a h = h
+no-cause o logs callers events f a h = held-no-cause logs callers f a.sound a.receipts h

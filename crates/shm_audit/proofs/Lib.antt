@@ -7,3 +7,4 @@ pub mod SoundLemmas
 pub mod StoreLemmas
 pub mod AuditLemmas
 pub mod CauseLemmas
+pub mod CompleteLemmas

@@ -56,6 +56,7 @@ abbrev pub IsWrong : List (List Logged) → ℕ → ℕ → Logged → AuditFaul
 IsWrong logs s i l (fault.Unsent t j) = (t ≡ s) × (j ≡ i) × IsUnsent logs s i l
 IsWrong logs s i l (fault.StampOrder t j) = (t ≡ s) × (j ≡ i) × IsMisordered logs s i l
 IsWrong logs s i l (fault.Forged _ _) = ⊥
+IsWrong logs s i l (fault.Untold _ _) = ⊥
 IsWrong logs s i l fault.OutOfMemory = ⊥
 
 -- nothing is wrong with the step of this index at this site, or there is none
@@ -104,6 +105,7 @@ abbrev pub IsFirstCause : List (List Logged) → List (List Receipt) → AuditFa
 IsFirstCause logs callers (fault.Unsent s i) = IsFirstStep logs (fault.Unsent s i)
 IsFirstCause logs callers (fault.StampOrder s i) = IsFirstStep logs (fault.StampOrder s i)
 IsFirstCause logs callers (fault.Forged s i) = AllSound logs × IsFirstReceipt logs callers s i
+IsFirstCause logs callers (fault.Untold _ _) = ⊥
 IsFirstCause logs callers fault.OutOfMemory = ⊥
 
 -- the numbers under which programs tell of them
@@ -111,4 +113,5 @@ abbrev pub audit_fault_number : AuditFault → ℕ
 audit_fault_number (fault.Unsent _ _) = 23
 audit_fault_number (fault.StampOrder _ _) = 24
 audit_fault_number (fault.Forged _ _) = 25
+audit_fault_number (fault.Untold _ _) = 30
 audit_fault_number fault.OutOfMemory = 17

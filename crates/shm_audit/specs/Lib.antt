@@ -1,4 +1,5 @@
 pub mod Callers
 pub mod Cause
 pub mod Marks
+pub mod Complete
 pub mod Audit

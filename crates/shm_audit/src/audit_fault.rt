@@ -16,6 +16,9 @@ pub enum AuditFault {
     /// told of a later step of the site before.
     #[error("forged {} {index}", .site.0)]
     Forged { site: SiteId, index: usize },
+    /// No receipt names this step, which was answered a byte, or that it stored, where the receipts claim to be all.
+    #[error("untold {} {index}", .site.0)]
+    Untold { site: SiteId, index: usize },
     /// Memory was refused.
     #[error("out of memory")]
     OutOfMemory,
@@ -33,6 +36,7 @@ impl AuditFault {
             AuditFault::Unsent { .. } => 23,
             AuditFault::StampOrder { .. } => 24,
             AuditFault::Forged { .. } => 25,
+            AuditFault::Untold { .. } => 30,
             AuditFault::OutOfMemory => refusal::OUT_OF_MEMORY,
         }
     }

@@ -9,6 +9,7 @@ mod marks;
 mod receipts;
 mod same;
 mod steps;
+mod untold;
 
 pub use audit_fault::AuditFault;
-pub use auditing::audit;
+pub use auditing::{audit, audit_complete};

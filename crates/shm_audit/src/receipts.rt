@@ -1,5 +1,5 @@
 //! Whether the receipts hold: each tells of a step, no two of one step, and each caller's steps at one site come in the site's order.
-ghost use Rattle.std.specs.Prelude.{◌≡◌, ℕ, ◌+◌, ◌≤◌, ◌<◌, List, [], Some, None, length, map, slice_get, slice_index_or, slice_set, take, true, IfNone, IfSome, MatchOption};
+ghost use Rattle.std.specs.Prelude.{◌≡◌, ℕ, ◌+◌, ◌≤◌, ◌<◌, List, [], Some, None, length, map, slice_get, slice_index_or, slice_set, take, true, IfNone, IfSome};
 ghost use Rattle.std.specs.Bool.{Decides};
 ghost use Rattle.shm_boxes.specs.Receipt.{asked_of, receipt_of};
 ghost use Rattle.shm_model.specs.Receipt.{of_all, IsTrueOf, ReceiptsHold};
@@ -14,7 +14,7 @@ use crate::steps::step_at;
 use shm_boxes::{Answer, Asked, Receipt, SiteLog};
 use std::alloc::Allocator;
 
-/// The first receipt with which the receipts don't hold.
+/// The first receipt with which the receipts don't hold; where they do, the steps that they name are marked.
 pub(crate) fn first_forged<A: Allocator + Copy>(
     logs: &[SiteLog<A>],
     callers: &[Vec<Receipt, A>],
@@ -22,7 +22,9 @@ pub(crate) fn first_forged<A: Allocator + Copy>(
 ) -> Option<AuditFault>
     requires sites { length logs.now ≤ 16 }
     requires marks { marks_of marks.old ≡ map unmarked (logs_of logs.now) }
-    ensures { MatchOption result (ReceiptsHold (logs_of logs.now) (callers_of callers.now)) (IsForged (logs_of logs.now) (callers_of callers.now)) }
+    ensures held { IfNone result (ReceiptsHold (logs_of logs.now) (callers_of callers.now)) }
+    ensures marks { IfNone result (MarksName (logs_of logs.now) (marks_of marks.new) (of_all (callers_of callers.now))) }
+    ensures forged { IfSome result (IsForged (logs_of logs.now) (callers_of callers.now)) }
 {
     'callers: for caller in 0..callers.len() {
         let fault = forged_of(logs, callers, caller, callers[caller].as_slice(), marks);

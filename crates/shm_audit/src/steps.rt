@@ -43,7 +43,7 @@ fn fault_at_site<A: Allocator + Copy>(logs: &[SiteLog<A>], site: SiteId) -> Opti
 }
 
 /// How many steps the site's log has.
-fn steps_of_site<A: Allocator + Copy>(logs: &[SiteLog<A>], site: SiteId) -> usize
+pub(crate) fn steps_of_site<A: Allocator + Copy>(logs: &[SiteLog<A>], site: SiteId) -> usize
     ensures { result ≡ length (log_of (logs_of logs.now) site) }
 {
     match logs.get(site.0 as usize) {

@@ -11,6 +11,7 @@ use shm_place::{PageId, SegId, SiteId, Sites};
 use std::alloc::{AllocError, Allocator};
 use std::test::Fail;
 
+mod complete;
 mod deliveries;
 mod memory;
 
@@ -29,6 +30,9 @@ enum Given {
 type Logs<A> = Vec<SiteLog<A>, A>;
 
 type Told<A> = Vec<Receipt, A>;
+
+/// What an audit says, if the logs are those of sites.
+type Verdict<A> = Option<Result<Vec<Event, A>, AuditFault>>;
 
 const SEVEN: [(Given, Stamp); 2] = [
     (Given::Store(0, 7), Stamp::NONE),
@@ -190,7 +194,7 @@ fn audited<A: Allocator + Copy>(
     count: u32,
     logs: &[SiteLog<A>],
     callers: &[Told<A>],
-) -> Option<Result<Vec<Event, A>, AuditFault>> {
+) -> Verdict<A> {
     let Ok(sites) = Sites::new(count) else {
         return None;
     };
@@ -201,30 +205,21 @@ fn audited<A: Allocator + Copy>(
 }
 
 /// What it says where no caller was told anything.
-fn audited_alone<A: Allocator + Copy>(
-    alloc: A,
-    count: u32,
-    logs: &[SiteLog<A>],
-) -> Option<Result<Vec<Event, A>, AuditFault>> {
+fn audited_alone<A: Allocator + Copy>(alloc: A, count: u32, logs: &[SiteLog<A>]) -> Verdict<A> {
     let callers = Vec::new(alloc);
     let audited = audited(alloc, count, logs, &callers);
     drop(callers);
     audited
 }
 
-fn are_events<A: Allocator + Copy>(
-    audited: &Option<Result<Vec<Event, A>, AuditFault>>,
-    expected: &[Event],
-) -> bool {
+fn are_events<A: Allocator + Copy>(audited: &Verdict<A>, expected: &[Event]) -> bool {
     match audited {
         Some(Ok(events)) => events.as_slice() == expected,
         _ => false,
     }
 }
 
-fn fault<A: Allocator + Copy>(
-    audited: &Option<Result<Vec<Event, A>, AuditFault>>,
-) -> Option<AuditFault> {
+fn fault<A: Allocator + Copy>(audited: &Verdict<A>) -> Option<AuditFault> {
     match audited {
         Some(Err(fault)) => Some(*fault),
         _ => None,
@@ -234,6 +229,17 @@ fn fault<A: Allocator + Copy>(
 fn one_log<A: Allocator + Copy>(alloc: A, given: &[(Given, Stamp)]) -> Result<Logs<A>, AllocError> {
     let log = logged(alloc, 1, 0, given)?;
     alone(alloc, log)
+}
+
+/// The logs of two sites that were given these inputs.
+fn two_logs<A: Allocator + Copy>(
+    alloc: A,
+    at_0: &[(Given, Stamp)],
+    at_1: &[(Given, Stamp)],
+) -> Result<Logs<A>, AllocError> {
+    let at_0 = logged(alloc, 2, 0, at_0)?;
+    let at_1 = logged(alloc, 2, 1, at_1)?;
+    pair(alloc, at_0, at_1)
 }
 
 fn alone<T: Drop, A: Allocator + Copy>(alloc: A, item: T) -> Result<Vec<T, A>, AllocError> {

@@ -1,5 +1,5 @@
 //! What the audit says of deliveries between two sites.
-use super::{Given, Logs, are_events, audited_alone, expect, fault, logged, pair};
+use super::{Given, are_events, audited_alone, expect, fault, two_logs};
 use shm_audit::AuditFault;
 use shm_boxes::Stamp;
 use shm_merge::Event;
@@ -84,14 +84,4 @@ fn wrong_with<A: Allocator + Copy>(
     drop(audited);
     drop(logs);
     Ok(fault)
-}
-
-fn two_logs<A: Allocator + Copy>(
-    alloc: A,
-    at_0: &[(Given, Stamp)],
-    at_1: &[(Given, Stamp)],
-) -> Result<Logs<A>, AllocError> {
-    let at_0 = logged(alloc, 2, 0, at_0)?;
-    let at_1 = logged(alloc, 2, 1, at_1)?;
-    pair(alloc, at_0, at_1)
 }
