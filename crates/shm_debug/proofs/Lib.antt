@@ -1,3 +1,4 @@
+pub mod OutputLemmas
 pub mod PartsLemmas
 pub mod PlayerLemmas
 pub mod PromiseLemmas

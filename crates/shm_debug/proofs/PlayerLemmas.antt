@@ -8,11 +8,11 @@ use Rattle.shm_lines.specs.declared.line.Line.TheVariants.{Sites, Event as Event
 use Rattle.shm_session.specs.Standing.{Standing}
 use Rattle.shm_text.specs.Text.{line_text}
 use Rattle.shm_debug.specs.Said.{next, said}
-use Rattle.shm_debug.specs.Script.{placed, read_line, broken, whole}
+use Rattle.shm_debug.specs.Script.{Script, placed, read_line, broken, whole}
 use Rattle.shm_debug.specs.Reading.{Moment, IsBeingRead, rest_of, passed, Plays, Fails}
 use Rattle.shm_debug.specs.declared.outcome.DebugFault.{DebugFault}
 use Rattle.shm_debug.specs.declared.outcome.DebugFault.TheVariants.{OutOfMemory, BadLine, LineTooLong, TooManyLines}
-use Rattle.shm_debug.proofs.ReadingLemmas.{Plays-line, Fails-line, Fails-limit, Fails-late, Fails-memory, read-within, read-long, placed-yes, placed-no, rest-broken, rest-whole}
+use Rattle.shm_debug.proofs.ReadingLemmas.{Plays-line, Fails-line, Fails-limit, Fails-late, Fails-memory, read-within, read-long, placed-yes, placed-no, rest-broken, rest-open, rest-whole}
 
 pub empty-from : (l : List ℕ) → length l ≡ 0 → l ≡ []
 empty-from [] h = refl
@@ -35,6 +35,9 @@ module _ (lines : ℕ) (standing : Option Standing) (line : List ℕ) (now : Mom
 
   pub good_ending : 0 < lines → line ≡ [] → rest_of now [] ≡ whole
   good_ending some empty = ap (λ m. rest_of m []) (sym e) ∙ rest-whole (moment lines standing line) empty some
+
+  pub open_line : (rest_of now []).lines ≡ []
+  open_line = ap (λ m. (rest_of m []).lines) (sym e) ∙ rest-open (moment lines standing line) is.unended
 
   reads : lines < 100000 → read_line (lines + 1) line ≡ placed (lines + 1) (line_of line)
   reads early = read-within (lines + 1) line (omega arith) is.short

@@ -62,7 +62,7 @@ Breaks-after a b x y xs ys f o h more =
 
 Stops-after : (a b : Moment) (x y : List ℕ) (xs ys : List Line) (f : DebugFault) → Onward a x xs b → Stops b y ys f → Stops a (x ++ y) (xs ++ ys) f
 Stops-after a b x y xs ys OutOfMemory o h = Begins-after a b x y xs ys o h
-Stops-after a b x y xs ys ReadFault o h = Begins-after a b x y xs ys o h
+Stops-after a b x y xs ys ReadFault o h = absurd h
 Stops-after a b x y xs ys WriteFault o h = Begins-after a b x y xs ys o h
 Stops-after a b x y xs ys (BadLine n) o h = Breaks-after a b x y xs ys (BadLine n) o h
 Stops-after a b x y xs ys (LineTooLong n) o h = Breaks-after a b x y xs ys (LineTooLong n) o h
@@ -82,7 +82,7 @@ Breaks-more a x y xs f h more = rest-after a x y more ∙ h (y ++ more)
 
 Stops-more : (a : Moment) (x y : List ℕ) (xs : List Line) (f : DebugFault) → Stops a x xs f → Stops a (x ++ y) xs f
 Stops-more a x y xs OutOfMemory h = Begins-more a x y xs h
-Stops-more a x y xs ReadFault h = Begins-more a x y xs h
+Stops-more a x y xs ReadFault h = absurd h
 Stops-more a x y xs WriteFault h = Begins-more a x y xs h
 Stops-more a x y xs (BadLine n) h = Breaks-more a x y xs (BadLine n) h
 Stops-more a x y xs (LineTooLong n) h = Breaks-more a x y xs (LineTooLong n) h
@@ -213,6 +213,16 @@ unended-placed number (Some line) = go (cases_Bool (may_stand number line))
 
 alone : (m : Moment) → NoFeed m.line → rest_of m [] ≡ read_on (m.lines + 1) (m.line ∷ [])
 alone m closed = ap (λ l. read_on (m.lines + 1) (parts_of l)) (append-nil m.line) ∙ ap (read_on (m.lines + 1)) (parts-alone m.line closed)
+
+no-lines : (b : Bool) (number : ℕ) (r : Result Line DebugFault) → (cond b whole (unended number r)).lines ≡ []
+no-lines true number r = refl
+no-lines false number (Ok line) = refl
+no-lines false number (Err fault) = refl
+
+-- what stands after the last line feed is no line
+pub rest-open : (m : Moment) → NoFeed m.line → (rest_of m []).lines ≡ []
+rest-open m closed =
+    ap (λ (s : Script). s.lines) (alone m closed) ∙ no-lines ((length m.line == 0) && nat_lt 1 (m.lines + 1)) (m.lines + 1) (read_line (m.lines + 1) m.line)
 
 -- the input ends inside a line, or before there is one
 pub rest-broken : (m : Moment) → NoFeed m.line → length m.line ≤ 200 → m.lines < 100000 → ((length m.line == 0) && nat_lt 1 (m.lines + 1)) ≡ false

@@ -2,13 +2,13 @@
 use Rattle.std.proofs.Common.{◌≡◌, ℕ, Bool, true, false, ◌+◌, ◌≤◌, ◌<◌, List, [], ◌∷◌, ◌++◌, length, take, drop, take-append-drop, Option, None, Some, IfSome, Result, Ok, Err, refl, sym, ap, ap₂, zero-add, subst, ◌∙◌, arith, append_assoc, append-nil, length-append}
 use Rattle.std.proofs.Math.Seq.{take-append_seam}
 use Rattle.std.specs.Io.KnownBytes.{Appends, Consumes, Keeps, IsAtEnd}
-use Rattle.std.proofs.KnownBytes.{Consumes-nil, Consumes-trans, Consumes-kept, Consumes-whole, Appends-nil, Appends-trans}
+use Rattle.std.proofs.KnownBytes.{Consumes-nil, Consumes-trans, Consumes-kept, Consumes-whole, Appends-kept, Appends-nil, Appends-trans}
 use Rattle.shm_debug.specs.Limits.{max_bytes}
 use Rattle.shm_debug.specs.Script.{Script, after, broken, whole, script_of}
 use Rattle.shm_debug.specs.Text.{text_of, text_from}
 use Rattle.shm_debug.specs.Said.{standing_after}
 use Rattle.shm_debug.specs.Reading.{Moment, start, reach, rest_of, Onward, Tells, Begins, Breaks, Stops, Plays, Fails, Ended}
-use Rattle.shm_debug.specs.Replay.{summary_at, Ends, Pauses, Gathers, IsTextOfFirst, IsFrontOfText, IsFaultOf, is_write_fault}
+use Rattle.shm_debug.specs.Replay.{summary_at, Ends, Pauses, Gathers, IsTextOfFirst, IsFrontOfText, IsFaultOf, is_write_fault, PausesAllRead, TellsAllRead}
 use Rattle.shm_lines.specs.declared.line.Line.{Line}
 use Rattle.shm_debug.specs.declared.outcome.Summary.{Summary}
 use Rattle.shm_debug.specs.declared.outcome.DebugFault.{DebugFault}
@@ -113,7 +113,7 @@ front script lines others text written pending e t g = (
 stopped : (w0 w : Option (List ℕ)) (taken text pending more : List ℕ) (lines : List Line) (fault : DebugFault) → Gathers w0 w pending text → Stops start taken lines fault → text ≡ text_of lines
     → Pauses w0 w pending (script_of (taken ++ more)) (Err fault)
 stopped w0 w taken text pending more lines OutOfMemory g h t = let r = h more in (text, g, first-begun (script_of (taken ++ more)) lines r.0 text r.1 t)
-stopped w0 w taken text pending more lines ReadFault g h t = let r = h more in (text, g, first-begun (script_of (taken ++ more)) lines r.0 text r.1 t)
+stopped w0 w taken text pending more lines ReadFault g h t = absurd h
 stopped w0 w taken text pending more lines WriteFault g h t = let r = h more in
     (g.0, g.1, front (script_of (taken ++ more)) lines r.0 text g.0 pending r.1 t g.2)
 stopped w0 w taken text pending more lines (BadLine n) g h t = (text, g, broken-there (script_of (taken ++ more)) lines (BadLine n) text (h more) t)
@@ -206,3 +206,47 @@ some_written old new last pending n script (Err TooManyLines) p e a = torn old n
 pub IfSome-map : (o : Option (List ℕ)) (P Q : List ℕ → Type 0) → IfSome o P → ((x : List ℕ) → P x → Q x) → IfSome o Q
 IfSome-map None P Q p f = tt
 IfSome-map (Some x) P Q p f = f x p
+
+-- ---- no whole line that was read is missing
+
+pub all_told : (r0 r r1 w0 w : Option (List ℕ)) (pending : List ℕ) (player : Moment) → SoFar r0 r w0 w pending player → pending ≡ []
+    → (rest_of player []).lines ≡ [] → Keeps r r1 → PausesAllRead r0 r1 w0 w pending (Err ReadFault)
+all_told r0 r r1 w0 w pending player s none none_yet kept =
+    let lines = s.2.0 in
+    let read : (script_of s.0).lines ≡ lines =
+    ap (λ (t : Script). t.lines) (ap script_of (sym (append-nil s.0)) ∙ s.2.1.rest []) ∙ ap (λ l. lines ++ l) none_yet ∙ append-nil lines in
+    let whole : s.4.0 ≡ text_of (script_of s.0).lines = sym (append-nil s.4.0) ∙ ap (λ l. s.4.0 ++ l) (sym none) ∙ sym s.4.2 ∙ s.2.2 ∙ ap text_of (sym read) in
+    (none, (s.0, Consumes-kept r0 r r1 s.0 s.3 kept, subst (Appends w0 w) whole s.4.1))
+
+-- neither a line's fault nor the end is a failure of the reader
+pub ended_read : (r0 r w0 w : Option (List ℕ)) (pending : List ℕ) (player : Moment) (result : Result Summary DebugFault) → Ended player result → PausesAllRead r0 r w0 w pending result
+ended_read r0 r w0 w pending player (Ok summary) e = tt
+ended_read r0 r w0 w pending player (Err fault) e = subst (λ f. PausesAllRead r0 r w0 w pending (Err f)) (sym e.1) tt
+
+pub stopped_read : (r0 r w0 w : Option (List ℕ)) (pending : List ℕ) (player : Moment) (bytes old new : List ℕ) (fault : DebugFault) → Fails player bytes fault old new
+    → PausesAllRead r0 r w0 w pending (Err fault)
+stopped_read r0 r w0 w pending player bytes old new OutOfMemory f = tt
+stopped_read r0 r w0 w pending player bytes old new ReadFault f = absurd f.1
+stopped_read r0 r w0 w pending player bytes old new WriteFault f = tt
+stopped_read r0 r w0 w pending player bytes old new (BadLine n) f = tt
+stopped_read r0 r w0 w pending player bytes old new (LineTooLong n) f = tt
+stopped_read r0 r w0 w pending player bytes old new TooManyLines f = tt
+
+-- nor does it change to the end
+pub told_read : (r0 r w0 w1 w2 w3 : Option (List ℕ)) (pending : List ℕ) (played ended result : Result Summary DebugFault) → PausesAllRead r0 r w0 w1 pending played
+    → (is_write_fault ended ≡ false → ended ≡ played) → (is_write_fault ended ≡ false → Appends w1 w2 pending) → Keeps w2 w3
+    → (is_write_fault result ≡ false → result ≡ ended) → TellsAllRead r0 r w0 w3 result
+told_read r0 r w0 w1 w2 w3 pending played ended (Err ReadFault) p as_played written kept as_ended =
+    let same : Err ReadFault ≡ ended = as_ended refl in
+    let fine : is_write_fault ended ≡ false = ap is_write_fault (sym same) in
+    let read : PausesAllRead r0 r w0 w1 pending (Err ReadFault) = subst (PausesAllRead r0 r w0 w1 pending) (sym (same ∙ as_played fine)) p in
+    let text = text_of (script_of read.1.0).lines in
+    let none : Appends w1 w2 [] = subst (Appends w1 w2) read.0 (written fine) in
+    let all : Appends w0 w2 text = subst (Appends w0 w2) (append-nil text) (Appends-trans w0 w1 w2 text [] read.1.2 none) in
+    (read.1.0, read.1.1, Appends-kept w0 w2 w3 text all kept)
+told_read r0 r w0 w1 w2 w3 pending played ended (Ok summary) p as_played written kept as_ended = tt
+told_read r0 r w0 w1 w2 w3 pending played ended (Err OutOfMemory) p as_played written kept as_ended = tt
+told_read r0 r w0 w1 w2 w3 pending played ended (Err WriteFault) p as_played written kept as_ended = tt
+told_read r0 r w0 w1 w2 w3 pending played ended (Err (BadLine n)) p as_played written kept as_ended = tt
+told_read r0 r w0 w1 w2 w3 pending played ended (Err (LineTooLong n)) p as_played written kept as_ended = tt
+told_read r0 r w0 w1 w2 w3 pending played ended (Err TooManyLines) p as_played written kept as_ended = tt

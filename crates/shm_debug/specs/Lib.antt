@@ -4,5 +4,6 @@ pub mod Script
 pub mod Said
 pub mod Text
 pub mod Promise
+pub mod Told
 pub mod Replay
 pub mod Reading

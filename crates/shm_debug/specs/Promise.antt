@@ -20,12 +20,16 @@ Kept (Some s) = Promised s.opening s.events
 abbrev pub AlwaysKept : List Line → Type 0
 AlwaysKept lines = (n : ℕ) → Kept (standing_after None (take n lines))
 
--- Where a load is told `byte B`, B is the byte stored last to its place by the events that stand before it, or 0 where there is none
--- (Li and Hudak 1989, §2); the place is in the segment that the attachment names then. The envelopes that were sent follow.
-abbrev pub TellsLast : Option Standing → Line → Type 0
-TellsLast (Some s) (EventLine (Load site a offset)) = (rest : List ℕ) → said_to_event s (Load site a offset) ≡ codes "byte " ++ rest
-    → (id : ℕ) × (names s.opening (run s.opening s.events).account site a ≡ Some id)
+-- This follows `byte `, where a load of these is told so: the byte stored last to its place by the events that stand before it, or 0 where
+-- there is none (Li and Hudak 1989, §2); the place is in the segment that the attachment names then. The envelopes that were sent follow.
+abbrev pub IsLastByte : Standing → ℕ → ℕ → ℕ → List ℕ → Type 0
+IsLastByte s site a offset rest =
+    (id : ℕ) × (names s.opening (run s.opening s.events).account site a ≡ Some id)
     × (rest ≡ decimal (last_store s.opening (run s.opening s.events).account id offset) ++ sent_text (stood (with_event s (Load site a offset))) (length (stood s).sent))
+
+-- where a load is told `byte B`, B is that byte
+abbrev pub TellsLast : Option Standing → Line → Type 0
+TellsLast (Some s) (EventLine (Load site a offset)) = (rest : List ℕ) → said_to_event s (Load site a offset) ≡ codes "byte " ++ rest → IsLastByte s site a offset rest
 TellsLast _ _ = Unit {0}
 
 -- so it is for each line

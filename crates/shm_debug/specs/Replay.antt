@@ -1,9 +1,9 @@
 -- How a replay ends, and what it has written by then.
-use Rattle.std.specs.Prelude.{◌≡◌, ℕ, Bool, true, false, List, ◌++◌, length, take, Option, None, Some, Result, Ok, Err}
-use Rattle.std.specs.Io.KnownBytes.{Appends}
+use Rattle.std.specs.Prelude.{◌≡◌, ℕ, Bool, true, false, List, [], ◌++◌, length, take, Option, None, Some, Result, Ok, Err}
+use Rattle.std.specs.Io.KnownBytes.{Appends, Consumes}
 use Rattle.shm_session.specs.Standing.{Standing, stood}
 use Rattle.shm_debug.specs.Said.{standing_after}
-use Rattle.shm_debug.specs.Script.{Script}
+use Rattle.shm_debug.specs.Script.{Script, script_of}
 use Rattle.shm_debug.specs.Text.{text_of}
 use Rattle.shm_debug.specs.declared.outcome.Summary.{Summary}
 use Rattle.shm_debug.specs.declared.outcome.DebugFault.{DebugFault}
@@ -37,6 +37,16 @@ Ends script (Err WriteFault) text = IsFrontOfText script text
 Ends script (Err (BadLine number)) text = IsFaultOf script (BadLine number) text
 Ends script (Err (LineTooLong number)) text = IsFaultOf script (LineTooLong number) text
 Ends script (Err TooManyLines) text = IsFaultOf script TooManyLines text
+
+-- where reading failed, the text of all whole lines that were read was written
+abbrev pub TellsAllRead : Option (List ℕ) → Option (List ℕ) → Option (List ℕ) → Option (List ℕ) → Result Summary DebugFault → Type 0
+TellsAllRead remaining left old new (Err ReadFault) = (taken : List ℕ) × Consumes remaining left taken × Appends old new (text_of (script_of taken).lines)
+TellsAllRead remaining left old new _ = Unit {0}
+
+-- the same before the end, where nothing is pending then
+abbrev pub PausesAllRead : Option (List ℕ) → Option (List ℕ) → Option (List ℕ) → Option (List ℕ) → List ℕ → Result Summary DebugFault → Type 0
+PausesAllRead remaining left old new pending (Err ReadFault) = (pending ≡ []) × TellsAllRead remaining left old new (Err ReadFault)
+PausesAllRead remaining left old new pending _ = Unit {0}
 
 -- some of the text is written, and the rest is pending
 abbrev pub Gathers : Option (List ℕ) → Option (List ℕ) → List ℕ → List ℕ → Type 0

@@ -4,7 +4,7 @@ ghost use Rattle.shm_lines.specs.Line.{may_stand};
 ghost use Rattle.shm_lines.specs.Spelling.{IsLine};
 ghost use Rattle.shm_text.specs.Text.{line_text};
 ghost use Rattle.shm_debug.specs.Limits.{max_bytes, max_lines};
-ghost use Rattle.shm_debug.specs.Reading.{start, reach, passed, Plays, Fails, Ended};
+ghost use Rattle.shm_debug.specs.Reading.{start, reach, rest_of, passed, Plays, Fails, Ended};
 ghost use Rattle.shm_debug.specs.Said.{said};
 
 use crate::outcome::{DebugFault, Summary};
@@ -55,10 +55,11 @@ impl<A: Allocator + Copy> Player<A> {
         })
     }
 
-    /// How many bytes may still be read.
+    /// How many bytes may still be read. The line that is being read is none yet.
     pub fn room(&self) -> usize
         ensures room { reach self.now + result ≡ max_bytes }
         ensures some { 1 ≤ result }
+        ensures none_yet { (rest_of self.now []).lines ≡ [] }
     {
         MAX_BYTES - self.lines as usize * (MAX_LINE_BYTES + 1) - self.line.len()
     }

@@ -1,15 +1,16 @@
 //! A whole script, from a reader to a writer.
-ghost use Rattle.std.specs.Prelude.{◌≡◌, ◌≤◌, ℕ, List, [], Option, Err, IfErr, IfSome, length};
+ghost use Rattle.std.specs.Prelude.{◌≡◌, ◌≤◌, ℕ, List, [], Option, Err, IfErr, IfSome, false, length};
 ghost use Rattle.std.specs.Io.KnownBytes.{Appends, Consumes, Keeps};
 ghost use Rattle.shm_debug.specs.Limits.{max_bytes};
 ghost use Rattle.shm_debug.specs.Script.{script_of, Script};
 ghost use Rattle.shm_debug.specs.Replay;
-ghost use Rattle.shm_debug.specs.Replay.{Ends, Pauses};
+ghost use Rattle.shm_debug.specs.Replay.{Ends, Pauses, PausesAllRead, TellsAllRead};
 ghost use Rattle.shm_debug.specs.Promise.{AlwaysKept, AlwaysTellsLast};
+ghost use Rattle.shm_debug.specs.Told.{ToldLast};
 
 use crate::laws;
 use crate::outcome::{DebugFault, Summary};
-use crate::output::{gathering, is_full, write_told};
+use crate::output::{gathering, write_and_flush, write_told};
 use crate::player::Player;
 use shm_text::{Text, read_up_to};
 use std::alloc::Allocator;
@@ -21,7 +22,8 @@ const CHUNK: usize = 8192;
 /// Replays a script, which is read from `reader`, and writes what is said to each line to `writer`.
 ///
 /// The reader is read up to its end or to the first fault, and a little further. Where it answers an error, of whatever kind, the
-/// replay ends; so it does where the writer answers an error or takes nothing. The writer is flushed at the end, after a fault too.
+/// replay ends; so it does where the writer answers an error or takes nothing. Before each read all that was told is written, and the
+/// writer is flushed; so it is at the end, after a fault too, and there a flush that fails counts only where nothing else has failed.
 pub fn replay<A: Allocator + Copy, R: Read, W: Write>(
     alloc: A,
     reader: &mut R,
@@ -30,6 +32,13 @@ pub fn replay<A: Allocator + Copy, R: Read, W: Write>(
     ensures ends { IfSome (R.remaining reader.old) (λ bytes.
         (text : List ℕ) × Appends (W.contents writer.old) (W.contents writer.new) text × Ends (script_of bytes) result text) }
     ensures limit { (taken : List ℕ) × Consumes (R.remaining reader.old) (R.remaining reader.new) taken × (length taken ≤ max_bytes) }
+
+    // Where reading fails, no whole line that was read is missing.
+    ensures read { TellsAllRead (R.remaining reader.old) (R.remaining reader.new) (W.contents writer.old) (W.contents writer.new) result }
+
+    // What was written is output lines, and each byte that a load is told there was stored last to its place.
+    ensures told_last { IfSome (R.remaining reader.old) (λ bytes.
+        (text : List ℕ) × Appends (W.contents writer.old) (W.contents writer.new) text × ToldLast (script_of bytes) result text) }
 
     // The headline, of the run of the events that stand, after each line; and each byte that is told was stored last to its place.
     ensures headline { (bytes : List ℕ) → AlwaysKept (script_of bytes).lines }
@@ -50,8 +59,10 @@ fn written<A: Allocator + Copy, W: Write>(
     output: &mut Text<A>,
     writer: &mut W,
 ) -> Result<Summary, DebugFault>
-    ensures { (first : Option (List ℕ)) (script : Script) → Pauses first (W.contents writer.old) output.old script played →
+    ensures ends { (first : Option (List ℕ)) (script : Script) → Pauses first (W.contents writer.old) output.old script played →
         (text : List ℕ) × Appends first (W.contents writer.new) text × Ends script result text }
+    ensures same { Replay.is_write_fault result ≡ false → result ≡ played }
+    ensures all { Replay.is_write_fault result ≡ false → Appends (W.contents writer.old) (W.contents writer.new) output.old }
 {
     if is_write_fault(&played) {
         return played;
@@ -70,6 +81,7 @@ fn flushed<W: Write>(
     ensures keeps { Keeps (W.contents writer.old) (W.contents writer.new) }
     ensures ends { (script : Script) (text : List ℕ) → Ends script ended text → Ends script result text }
     ensures fault { IfErr ended (λ fault. result ≡ Err fault) }
+    ensures same { Replay.is_write_fault result ≡ false → result ≡ ended }
 {
     let flush = writer.flush();
     match ended {
@@ -94,6 +106,7 @@ fn is_write_fault(played: &Result<Summary, DebugFault>) -> bool
     }
 }
 
+/// Reads the script block by block, plays each, and writes what is told of it before the next is read.
 fn play_all<A: Allocator + Copy, R: Read, W: Write>(
     alloc: A,
     reader: &mut R,
@@ -103,6 +116,7 @@ fn play_all<A: Allocator + Copy, R: Read, W: Write>(
     requires { output.old ≡ [] }
     ensures ends { IfSome (R.remaining reader.old) (λ bytes.
         Pauses (W.contents writer.old) (W.contents writer.new) output.new (script_of bytes) result) }
+    ensures read { PausesAllRead (R.remaining reader.old) (R.remaining reader.new) (W.contents writer.old) (W.contents writer.new) output.new result }
     ensures limit { (taken : List ℕ) × Consumes (R.remaining reader.old) (R.remaining reader.new) taken × (length taken ≤ max_bytes) }
 {
     let Ok(mut player) = Player::new(alloc) else {
@@ -110,6 +124,7 @@ fn play_all<A: Allocator + Copy, R: Read, W: Write>(
     };
     let mut chunk = [0u8; CHUNK];
     'chunks: loop {
+        prove_eq!(output.len(), 0);
         let Ok(count) = read_up_to(reader, &mut chunk, player.room()) else {
             return Err(DebugFault::ReadFault);
         };
@@ -120,11 +135,9 @@ fn play_all<A: Allocator + Copy, R: Read, W: Write>(
             Ok(()) => {}
             Err(fault) => return Err(fault),
         }
-        if is_full(output) {
-            match write_told(output, writer) {
-                Ok(()) => {}
-                Err(_) => return Err(DebugFault::WriteFault),
-            }
+        match write_and_flush(output, writer) {
+            Ok(()) => {}
+            Err(_) => return Err(DebugFault::WriteFault),
         }
     }
 }

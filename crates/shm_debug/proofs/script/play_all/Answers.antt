@@ -2,7 +2,7 @@ use Rattle.std.proofs.Common.{◌+◌, ◌<◌, ◌≤◌, ℕ, [], length, leng
 use Rattle.std.specs.Io.KnownBytes.{Consumes, IsAtEnd}
 use Rattle.shm_debug.specs.Limits.{max_bytes}
 use Rattle.shm_debug.specs.Reading.{reach, Plays, Fails}
-use Rattle.shm_debug.proofs.ReplayLemmas.{SoFar, SoFar-end, SoFar-played, SoFar-written, within, read_failed, all_read, stopped_there, write_failed}
+use Rattle.shm_debug.proofs.ReplayLemmas.{SoFar, SoFar-end, SoFar-played, SoFar-written, within, read_failed, all_read, stopped_there, write_failed, all_told, ended_read, stopped_read}
 use Rattle.shm_debug.proofs.script.play_all.Goals as goal
 
 pub returns-in_default-read_up_to-clause-ends : goal.returns-in_default-read_up_to-clause-ends
@@ -51,30 +51,19 @@ chunks-preserved g c =
     let contents = g.W.Write.contents in
     let count = c.in-Ok-read_up_to.count in
     let played : Plays c.chunks.player (take c.in-Ok-read_up_to.count c.read_up_to.new.chunk) c.play.new.self c.chunks.output c.play.new.output =
-    c.in-Ok-play.ensures.ok in (
-      SoFar-played (remaining c.args.reader.now) (remaining c.chunks.reader) (remaining c.read_up_to.new.reader) (contents c.args.writer.now) (contents c.chunks.writer)
-          c.chunks.output c.play.new.output c.chunks.player c.play.new.self (take count c.read_up_to.new.chunk) c.chunks.invariant.0 c.in-Ok-read_up_to.ensures.bytes played,
-      omega arith,
-    )
-
-pub chunks-preserved-in-Ok-write_told : goal.chunks-preserved-in-Ok-write_told
-chunks-preserved-in-Ok-write_told g c =
-    let remaining = g.R.Read.remaining in
-    let contents = g.W.Write.contents in
-    let count = c.in-Ok-read_up_to.count in
-    let played : Plays c.chunks.player (take c.in-Ok-read_up_to.count c.read_up_to.new.chunk) c.play.new.self c.chunks.output c.play.new.output =
     c.in-Ok-play.ensures.ok in
     let then_played = SoFar-played (remaining c.args.reader.now) (remaining c.chunks.reader) (remaining c.read_up_to.new.reader) (contents c.args.writer.now) (contents c.chunks.writer)
     c.chunks.output c.play.new.output c.chunks.player c.play.new.self (take count c.read_up_to.new.chunk) c.chunks.invariant.0 c.in-Ok-read_up_to.ensures.bytes played in (
-      subst (λ o. SoFar (remaining c.args.reader.now) (remaining c.read_up_to.new.reader) (contents c.args.writer.now) (contents c.write_told.new.writer) o c.play.new.self)
-          (sym c.in-Ok-write_told.ensures.none_left)
-          (SoFar-written (remaining c.args.reader.now) (remaining c.read_up_to.new.reader) (contents c.args.writer.now) (contents c.chunks.writer) (contents c.write_told.new.writer)
-          c.play.new.output c.play.new.self then_played c.in-Ok-write_told.ensures.ok),
+      subst (λ o. SoFar (remaining c.args.reader.now) (remaining c.read_up_to.new.reader) (contents c.args.writer.now) (contents c.write_and_flush.new.writer) o c.play.new.self)
+          (sym c.in-Ok-write_and_flush.ensures.none_left)
+          (SoFar-written (remaining c.args.reader.now) (remaining c.read_up_to.new.reader) (contents c.args.writer.now) (contents c.chunks.writer) (contents c.write_and_flush.new.writer)
+          c.play.new.output c.play.new.self then_played c.in-Ok-write_and_flush.ensures.ok),
       omega arith,
+      c.in-Ok-write_and_flush.ensures.none_left,
     )
 
-pub returns-in-Err-write_told-clause-ends : goal.returns-in-Err-write_told-clause-ends
-returns-in-Err-write_told-clause-ends g c =
+pub returns-in-Err-write_and_flush-clause-ends : goal.returns-in-Err-write_and_flush-clause-ends
+returns-in-Err-write_and_flush-clause-ends g c =
     let remaining = g.R.Read.remaining in
     let contents = g.W.Write.contents in
     let count = c.in-Ok-read_up_to.count in
@@ -82,11 +71,11 @@ returns-in-Err-write_told-clause-ends g c =
     c.in-Ok-play.ensures.ok in
     let then_played = SoFar-played (remaining c.args.reader.now) (remaining c.chunks.reader) (remaining c.read_up_to.new.reader) (contents c.args.writer.now) (contents c.chunks.writer)
     c.chunks.output c.play.new.output c.chunks.player c.play.new.self (take count c.read_up_to.new.chunk) c.chunks.invariant.0 c.in-Ok-read_up_to.ensures.bytes played in
-    write_failed (remaining c.args.reader.now) (remaining c.read_up_to.new.reader) (contents c.args.writer.now) (contents c.chunks.writer) (contents c.write_told.new.writer)
-    c.play.new.output c.play.new.self c.in-Err-write_told.ensures.err.0 then_played c.in-Err-write_told.ensures.err.1
+    write_failed (remaining c.args.reader.now) (remaining c.read_up_to.new.reader) (contents c.args.writer.now) (contents c.chunks.writer) (contents c.write_and_flush.new.writer)
+    c.play.new.output c.play.new.self c.in-Err-write_and_flush.ensures.err.0 then_played c.in-Err-write_and_flush.ensures.err.1
 
-pub returns-in-Err-write_told-clause-limit : goal.returns-in-Err-write_told-clause-limit
-returns-in-Err-write_told-clause-limit g c =
+pub returns-in-Err-write_and_flush-clause-limit : goal.returns-in-Err-write_and_flush-clause-limit
+returns-in-Err-write_and_flush-clause-limit g c =
     let remaining = g.R.Read.remaining in
     let contents = g.W.Write.contents in
     let bytes = take c.in-Ok-read_up_to.count c.read_up_to.new.chunk in
@@ -94,3 +83,24 @@ returns-in-Err-write_told-clause-limit g c =
     omega (arith, length-take c.in-Ok-read_up_to.count c.read_up_to.new.chunk, c.room.ensures.room, c.in-Ok-read_up_to.ensures.most) in
     within (remaining c.args.reader.now) (remaining c.chunks.reader) (remaining c.read_up_to.new.reader) (contents c.args.writer.now) (contents c.chunks.writer)
     c.chunks.output c.chunks.player bytes c.chunks.invariant.0 c.in-Ok-read_up_to.ensures.bytes fits
+
+pub returns-in_default-read_up_to-clause-read : goal.returns-in_default-read_up_to-clause-read
+returns-in_default-read_up_to-clause-read g c =
+    let remaining = g.R.Read.remaining in
+    let contents = g.W.Write.contents in
+    all_told (remaining c.args.reader.now) (remaining c.chunks.reader) (remaining c.read_up_to.new.reader) (contents c.args.writer.now) (contents c.chunks.writer)
+    c.chunks.output c.chunks.player c.chunks.invariant.0 c.chunks.invariant.2 c.room.ensures.none_yet c.in_default-read_up_to.ensures.err
+
+pub returns-then-count-eq0-clause-read : goal.returns-then-count-eq0-clause-read
+returns-then-count-eq0-clause-read g c =
+    let remaining = g.R.Read.remaining in
+    let contents = g.W.Write.contents in
+    ended_read (remaining c.args.reader.now) (remaining c.read_up_to.new.reader) (contents c.args.writer.now) (contents c.chunks.writer)
+    c.chunks.output c.chunks.player c.finish.result c.finish.ensures
+
+pub returns-in-Err-clause-read : goal.returns-in-Err-clause-read
+returns-in-Err-clause-read g c =
+    let remaining = g.R.Read.remaining in
+    let contents = g.W.Write.contents in
+    stopped_read (remaining c.args.reader.now) (remaining c.read_up_to.new.reader) (contents c.args.writer.now) (contents c.chunks.writer)
+    c.play.new.output c.chunks.player (take c.in-Ok-read_up_to.count c.read_up_to.new.chunk) c.chunks.output c.play.new.output c.in-Err.fault c.in-Err.ensures.err

@@ -1,6 +1,6 @@
 //! A whole script is replayed on a heap that is full but for a hole.
 
-use crate::tests::summary_of;
+use crate::tests::{first_lines, lines_within, summary_of};
 use linked_list_allocator::LocalHeap;
 use shm_debug::{DebugFault, Summary, replay};
 use shm_scripts::{Script, going_back, pages, segments};
@@ -26,6 +26,29 @@ fn replayed_in(
     Ok((result, text))
 }
 
+/// All lines before the one that is refused memory were told: these lines alone play in the same hole, and with one more line they are
+/// refused.
+fn expect_all_told(
+    rt: &impl Abort,
+    alloc: Global,
+    heap: &LocalHeap,
+    hole: usize,
+    script: &Script,
+    text: &[u8],
+) -> Result<(), AllocError> {
+    let lines = lines_within(text, text.len());
+    let more = first_lines(script.input, lines.saturating_add(1));
+    let (refused, told) = replayed_in(alloc, heap, hole, more)?;
+    assert_eq!(rt; refused, Err(DebugFault::OutOfMemory));
+    assert_eq!(rt; told.as_slice(), text);
+    if lines > 0 {
+        let (played, told) = replayed_in(alloc, heap, hole, first_lines(script.input, lines))?;
+        assert!(rt; played.is_ok(), "line {lines} is the one that is refused");
+        assert_eq!(rt; told.as_slice(), text);
+    }
+    Ok(())
+}
+
 /// The script is refused memory while the hole widens, after a front of its lines; then it plays. Answers the longest text of a refused
 /// one.
 fn longest_refused(rt: &impl Abort, alloc: Global, script: &Script) -> Result<usize, Fail> {
@@ -41,6 +64,9 @@ fn longest_refused(rt: &impl Abort, alloc: Global, script: &Script) -> Result<us
         assert!(rt; script.text.starts_with(&text));
         assert!(rt; text.is_empty() || text.ends_with(b"\n".as_slice()));
         assert!(rt; text.len() >= longest);
+        if hole == 0 || text.len() > longest {
+            expect_all_told(rt, alloc, &heap, hole, script, &text)?;
+        }
         longest = text.len();
     }
     Err(Fail::new("no script was played"))

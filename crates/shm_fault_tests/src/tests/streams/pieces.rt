@@ -40,7 +40,8 @@ pub(super) struct Taker {
     /// The calls before the one that fails, if one does.
     pub(super) calls: Option<usize>,
     pub(super) failure: Failure,
-    pub(super) flushes: bool,
+    /// The flushes before the one that fails, if one does.
+    pub(super) flushes: Option<usize>,
 }
 
 impl Write for Taker {
@@ -59,10 +60,10 @@ impl Write for Taker {
     }
 
     fn flush(&mut self) -> io::Result<()> {
-        if self.flushes {
-            return Ok(());
+        if fails_now(&mut self.flushes) {
+            return Err(io::Error::from(ErrorKind::Other));
         }
-        Err(io::Error::from(ErrorKind::Other))
+        Ok(())
     }
 }
 

@@ -1,8 +1,7 @@
 ghost use Rattle.std.specs.Prelude.{◌<◌};
 
 use super::pieces::{Failure, Giver, Taker};
-use super::{first_lines, lines_within};
-use crate::tests::summary_of;
+use crate::tests::{first_lines, lines_within, summary_of};
 use shm_debug::{DebugFault, Summary, replay};
 use shm_scripts::pages::FIRST_READ_FAULT;
 use std::alloc::Global;
@@ -27,8 +26,8 @@ fn read_in_pieces(
         most: 1000,
         calls: None,
         failure: Failure::TakesNothing,
-        // a flush that fails changes no other fault
-        flushes: calls.is_none(),
+        // after each read that didn't fail it flushes; that the last flush fails changes no other fault
+        flushes: calls,
     };
     let result = replay(alloc, &mut reader, &mut writer);
     (result, writer.text)

@@ -16,7 +16,7 @@ fn taker(alloc: Global, most: usize, calls: Option<usize>, failure: Failure) -> 
         most,
         calls,
         failure,
-        flushes: true,
+        flushes: None,
     }
 }
 

@@ -157,7 +157,9 @@ fn a_writer_that_does_not_flush(rt: HostRuntime) -> Result<(), Fail> {
         (b"".as_slice(), DebugFault::WriteFault),
         (b"nonsense\n".as_slice(), DebugFault::BadLine(9)),
     ] {
-        let mut reader = SCRIPT.chain(further);
+        let mut script = SCRIPT.to_vec(rt.alloc())?;
+        script.extend_from_slice(further)?;
+        let mut reader = script.as_slice();
         let mut writer = Taker {
             text: Vec::new(rt.alloc()),
             most: TEXT.len(),
@@ -167,6 +169,21 @@ fn a_writer_that_does_not_flush(rt: HostRuntime) -> Result<(), Fail> {
         assert_eq!(rt; result, Err(fault));
         assert_eq!(rt; writer.text.as_slice(), TEXT);
     }
+    Ok(())
+}
+
+/// The writer is flushed before a line is read that would be a fault.
+#[test]
+fn a_writer_that_does_not_flush_before_a_line(rt: HostRuntime) -> Result<(), Fail> {
+    let mut reader = SCRIPT.chain(b"nonsense\n".as_slice());
+    let mut writer = Taker {
+        text: Vec::new(rt.alloc()),
+        most: TEXT.len(),
+        fails: true,
+    };
+    let result = replay(rt.alloc(), &mut reader, &mut writer);
+    assert_eq!(rt; result, Err(DebugFault::WriteFault));
+    assert_eq!(rt; writer.text.as_slice(), TEXT);
     Ok(())
 }
 
