@@ -103,7 +103,7 @@ impl<'a, A: Allocator + Copy> Client<'a, A> {
         thread::yield_now();
     }
 
-    /// One step under the site's lock, which is let go before anything is sent.
+    /// One step under the site's lock, which is let go before anything is sent. Where memory is refused for what it sent, nothing is.
     fn step<R: Wait>(&self, rt: &R, asked: Asked) -> Result<Receipt, ClientFault>
         ensures { IfOk result (TellsOf self.now.site (access_of asked)) }
     {
@@ -112,7 +112,9 @@ impl<'a, A: Allocator + Copy> Client<'a, A> {
             Ok(receipt) => {
                 let posted = posted_by(self.shared.alloc, held.log(), receipt.index());
                 drop(held);
-                self.shared.send_all(rt, posted);
+                if let Ok(posted) = posted {
+                    self.shared.send_all(rt, posted);
+                }
                 Ok(receipt)
             }
             Err(fault) => Err(fault),

@@ -1,53 +1,55 @@
 //! What a step sent, copied from the site's log for the channels.
-ghost use Rattle.std.specs.Prelude.{◌≡◌, All};
-ghost use Rattle.shm_boxes.specs.Logged.{logged_of};
+ghost use Rattle.std.specs.Prelude.{◌≡◌, ◌++◌, ◌∷◌, [], IfOk, OnOk};
+ghost use Rattle.shm_parts.specs.Message.{envelope_of};
+ghost use Rattle.shm_boxes.specs.Logged.{logged_of, stamp_of};
 ghost use Rattle.shm_boxes.specs.SiteLog.{steps_of};
-ghost use Rattle.shm_cluster.specs.Posted.{IsOf, IsSent};
+ghost use Rattle.shm_cluster.specs.Posted.{all_sent, sent_at, sent_by};
 
 use crate::posted::Posted;
-use shm_boxes::{SiteLog, Stamp, Step};
+use shm_boxes::{Envelope, SiteLog, Stamp, Step};
 use std::alloc::{AllocError, Allocator};
 
-/// What the step of this index sent. An envelope for which there is no memory is left out.
+/// All that the step of this index sent; nothing, where the log has no such step.
 pub(crate) fn posted_by<A: Allocator + Copy>(
     alloc: A,
     log: &SiteLog<A>,
     index: usize,
-) -> Vec<Posted<A>, A>
-    ensures { All (IsSent (steps_of log.now)) result.items }
+) -> Result<Vec<Posted<A>, A>, AllocError>
+    ensures { IfOk result (λ all. all_sent all.items ≡ sent_at (steps_of log.now) index) }
 {
     let steps = log.steps();
     if index >= steps.len() {
-        return Vec::new(alloc);
+        return Ok(Vec::new(alloc));
     }
     copies(alloc, &steps[index], index)
 }
 
-fn copies<A: Allocator + Copy>(alloc: A, step: &Step<A>, index: usize) -> Vec<Posted<A>, A>
-    ensures { All (IsOf index (logged_of step.now)) result.items }
-{
-    let mut all = Vec::new(alloc);
-    'places: for place in 0..step.sent.len() {
-        let _ = add(&mut all, step, index, place);
-    }
-    all
-}
-
-/// Adds a copy of the envelope at this place.
-fn add<A: Allocator + Copy>(
-    all: &mut Vec<Posted<A>, A>,
+/// All that the step sent, each envelope with its place.
+fn copies<A: Allocator + Copy>(
+    alloc: A,
     step: &Step<A>,
     index: usize,
-    place: usize,
-) -> Result<(), AllocError>
-    ensures { All (IsOf index (logged_of step.now)) all.old.items → All (IsOf index (logged_of step.now)) all.new.items }
+) -> Result<Vec<Posted<A>, A>, AllocError>
+    ensures { IfOk result (λ all. all_sent all.items ≡ sent_by index (logged_of step.now)) }
 {
-    if place >= step.sent.len() {
-        return Ok(());
-    }
-    all.reserve(1)?;
+    let mut all = Vec::new(alloc);
     let at = step.stamp;
-    let posted = Posted::of(&step.sent[place], Stamp { at, index, place })?;
+    'places: for (place, envelope) in step.sent.iter().enumerate() {
+        add(&mut all, envelope, Stamp { at, index, place })?;
+    }
+    Ok(all)
+}
+
+/// Adds a copy of an envelope that was sent there.
+fn add<A: Allocator + Copy>(
+    all: &mut Vec<Posted<A>, A>,
+    envelope: &Envelope<A>,
+    source: Stamp,
+) -> Result<(), AllocError>
+    ensures { OnOk result (all_sent all.new.items ≡ all_sent all.old.items ++ record { envelope = envelope_of envelope.now; source = stamp_of source } ∷ []) }
+{
+    let posted = Posted::of(envelope, source)?;
+    all.reserve(1)?;
     all.push_reserved(posted);
     Ok(())
 }

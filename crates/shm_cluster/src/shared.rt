@@ -1,11 +1,11 @@
 //! What the threads and the clients of a cluster share.
-use crate::fate::Fate;
+ghost use Rattle.std.specs.Slice.{IsItemAt};
+
 use crate::mail::Mail;
 use crate::posted::Posted;
 use crossbeam_channel::Sender;
-use rand_core::Rng;
-use rand_pcg::Lcg64Xsh32;
 use shm_boxes::SiteBox;
+use shm_place::SiteId;
 use std::alloc::{AllocError, Allocator, Global};
 use std::sync::{Mutex, Wait};
 
@@ -24,6 +24,13 @@ pub(crate) struct Shared<A: Allocator + Copy = Global> {
 }
 
 impl<A: Allocator + Copy> Shared<A> {
+    /// What is shared of the site of this number, where there is one.
+    pub(crate) fn post_of(&self, site: SiteId) -> Option<&Post<A>>
+        ensures { IsItemAt self.now.posts.items site result }
+    {
+        self.posts.get(site.0 as usize)
+    }
+
     /// Puts each envelope into the channel of the site that it is for.
     pub(crate) fn send_all<R: Wait>(&self, rt: &R, all: Vec<Posted<A>, A>) {
         'envelopes: for posted in all {
@@ -31,34 +38,9 @@ impl<A: Allocator + Copy> Shared<A> {
         }
     }
 
-    /// The same over a network that loses and repeats: what becomes of each envelope is drawn.
-    pub(crate) fn send_over_network<R: Wait>(
-        &self,
-        rt: &R,
-        all: Vec<Posted<A>, A>,
-        draws: &mut Lcg64Xsh32,
-    ) {
-        'envelopes: for posted in all {
-            self.send_by_fate(rt, posted, Fate::of(draws.next_u32()));
-        }
-    }
-
-    fn send_by_fate<R: Wait>(&self, rt: &R, posted: Posted<A>, fate: Fate) {
-        match fate {
-            Fate::Lost => drop(posted),
-            Fate::Once => self.send(rt, posted),
-            Fate::Twice => {
-                if let Ok(again) = posted.copy() {
-                    self.send(rt, again);
-                }
-                self.send(rt, posted);
-            }
-        }
-    }
-
     /// An envelope for no site, or for which there is no memory, is lost.
     fn send<R: Wait>(&self, rt: &R, posted: Posted<A>) {
-        let Some(post) = self.posts.get(posted.to().0 as usize) else {
+        let Some(post) = self.post_of(posted.to()) else {
             return;
         };
         let _ = post.mail.send(rt, Mail::Envelope(posted));

@@ -1,21 +1,21 @@
 //! The thread of a site.
-ghost use Rattle.std.specs.Prelude.{◌≡◌, ◌⊎◌, All};
+ghost use Rattle.std.specs.Prelude.{◌≡◌, ◌⊎◌, length, IfOk};
 ghost use Rattle.shm_boxes.specs.Box.{after};
 ghost use Rattle.shm_boxes.specs.Logged.{stamp_of};
 ghost use Rattle.shm_boxes.specs.SiteBox.{box_of};
 ghost use Rattle.shm_site.specs.Step.{input_of as input_in};
-ghost use Rattle.shm_cluster.specs.Posted.{IsSent};
+ghost use Rattle.shm_cluster.specs.Posted.{all_sent, sent_at};
 
+use crate::carrying::{carry, draws_of};
 use crate::copies::posted_by;
 use crate::gate::Gate;
 use crate::mail::Mail;
 use crate::posted::Posted;
 use crate::shared::{Post, Shared};
 use crossbeam_channel::Receiver;
-use rand_pcg::Lcg64Xsh32;
 use shm_boxes::{Input, SiteBox, Stamp};
 use shm_place::SiteId;
-use std::alloc::{Allocator, Global};
+use std::alloc::{AllocError, Allocator, Global};
 use std::sync::Wait;
 
 /// What a site's thread is given: which site it is, and its end of the channel.
@@ -25,8 +25,8 @@ pub(crate) struct Desk<A: Allocator + Copy = Global> {
     pub(crate) mail: Receiver<Mail<A>, A>,
 }
 
-/// Makes a step of the site for all that its channel brings, until it is told to stop. The network is drawn from the generator of this
-/// seed that has the site's number for its stream.
+/// Makes a step of the site for all that its channel brings, until it is told to stop, and sends what goes on of that which the step
+/// sent. Where memory is refused for that nothing of the step is sent.
 pub(crate) fn work<R: Wait, A: Allocator + Copy, G: Gate>(
     rt: &R,
     shared: &Shared<A>,
@@ -35,16 +35,20 @@ pub(crate) fn work<R: Wait, A: Allocator + Copy, G: Gate>(
     seed: u64,
 ) {
     let Desk { site, mail } = desk;
-    let mut draws = Lcg64Xsh32::new(seed, u64::from(site.0));
-    let Some(post) = shared.posts.get(site.0 as usize) else {
+    let mut draws = draws_of(seed, site);
+    let Some(post) = shared.post_of(site) else {
         return;
     };
     'mail: for _ in rt.forever() {
         let Some((input, source)) = input_of(mail.recv(rt).unwrap_or(Mail::Stop)) else {
             break;
         };
-        let posted = step(rt, post, gate, site, shared.alloc, input, source);
-        shared.send_over_network(rt, posted, &mut draws);
+        let Ok(posted) = step(rt, post, gate, site, shared.alloc, input, source) else {
+            continue;
+        };
+        if let Ok(on) = carry(shared.alloc, posted, &mut draws) {
+            shared.send_all(rt, on);
+        }
     }
 }
 
@@ -66,7 +70,7 @@ fn step<R: Wait, A: Allocator + Copy, G: Gate>(
     alloc: A,
     input: Input<A>,
     source: Stamp,
-) -> Vec<Posted<A>, A> {
+) -> Result<Vec<Posted<A>, A>, AllocError> {
     let mut held = post.site.lock(rt);
     gate.pass(site);
     let posted = taken(&mut held, alloc, input, source);
@@ -74,18 +78,19 @@ fn step<R: Wait, A: Allocator + Copy, G: Gate>(
     posted
 }
 
-/// Gives the box its input, and tells what the step sent. Where the box doesn't take it, nothing happens.
+/// Gives the box its input, and tells all that the step sent. Where the box doesn't take it, nothing happens and nothing was sent. It fails
+/// where memory was refused for the copies.
 pub(crate) fn taken<A: Allocator + Copy>(
     site: &mut SiteBox<A>,
     alloc: A,
     input: Input<A>,
     source: Stamp,
-) -> Vec<Posted<A>, A>
+) -> Result<Vec<Posted<A>, A>, AllocError>
     ensures step { (box_of site.new ≡ box_of site.old) ⊎ (box_of site.new ≡ after (box_of site.old) (input_in input) (stamp_of source)) }
-    ensures sent { All (IsSent (box_of site.new).log) result.items }
+    ensures sent { IfOk result (λ posted. all_sent posted.items ≡ sent_at (box_of site.new).log (length (box_of site.old).log)) }
 {
     match site.take(input, source) {
         Ok(receipt) => posted_by(alloc, site.log(), receipt.index()),
-        Err(_) => Vec::new(alloc),
+        Err(_) => Ok(Vec::new(alloc)),
     }
 }

@@ -49,8 +49,7 @@ fn takes<'a>(
     let blocks = filled_but(alloc, heap, bytes)?;
     let posted = taken(site, heap, asking(), Stamp::NONE);
     drop(blocks);
-    let sent = posted.len();
-    drop(posted);
+    let sent = posted.map_or(0, |posted| posted.len());
     Ok((site.log().len(), sent))
 }
 
