@@ -1,12 +1,17 @@
 -- Why nothing was reported, where the workload is wrong or an audit found a cause.
-use Rattle.std.specs.Prelude.{◌≡◌, ℕ, Bool, true, false, List, length, IfSome, Err, Ok, Option, None, Some, Vec}
+use Rattle.std.specs.Prelude.{◌≡◌, ℕ, ◌+◌, Bool, true, false, List, length, min, IfSome, Err, Ok, Option, None, Some, Vec}
 use Rattle.std.specs.declared.alloc.Global.{Global}
 use Rattle.shm_audit.specs.Callers.{callers_of}
-use Rattle.shm_audit.specs.Cause.{IsFirstCause}
+use Rattle.shm_audit.specs.Complete.{IsFirstCauseOfAll}
 use Rattle.shm_audit.specs.declared.audit_fault.AuditFault.{AuditFault}
 use Rattle.shm_boxes.specs.declared.receipt.Receipt.{Receipt}
+use Rattle.shm_cluster.specs.declared.client_fault.ClientFault.{ClientFault}
+use Rattle.shm_cluster.specs.declared.client_fault.ClientFault.TheVariants as client
+use Rattle.shm_cluster.specs.declared.start_fault.StartFault.TheVariants as start
 use Rattle.shm_model.specs.Log.{Logged}
 use Rattle.shm_running.specs.Callers.{AllServed}
+use Rattle.shm_running.specs.declared.run_fault.RunFault.{RunFault}
+use Rattle.shm_running.specs.declared.run_fault.RunFault.TheVariants as run
 use Rattle.shm_workload.specs.Workload.{Whole, workload_of}
 use Rattle.shm_workload.specs.declared.fault.WorkloadFault.{WorkloadFault}
 use Rattle.shm_workload.specs.declared.fault.WorkloadFault.TheVariants as workload
@@ -41,6 +46,20 @@ audit_cause report.ClockEnd = None
 audit_cause report.Logs = None
 audit_cause (report.Audit cause) = Some cause
 
+-- why the access of this place in the workload was not made; the first access is that of line 2
+abbrev pub fault_of_access : ℕ → ClientFault → ReportFault
+fault_of_access place client.OutOfMemory = report.OutOfMemory
+fault_of_access place client.GaveUp = report.GaveUp (min (place + 2) 18446744073709551615)
+fault_of_access place client.ClockEnd = report.ClockEnd
+
+-- why the workload was not run to its end
+abbrev pub fault_of_run : RunFault → ReportFault
+fault_of_run (run.Start start.OutOfMemory) = report.OutOfMemory
+fault_of_run (run.Start start.NoThread) = report.NoThread
+fault_of_run (run.Call call) = fault_of_access call.place call.fault
+fault_of_run run.OutOfMemory = report.OutOfMemory
+fault_of_run run.Logs = report.Logs
+
 -- neither the workload nor an audit is to blame
 pub record IsOther (fault : ReportFault) : Type 0 where
   pub input : input_cause fault ≡ None
@@ -73,7 +92,7 @@ IsWrongBy sites known cause = IfSome known (λ bytes. workload_of sites bytes �
 pub record IsFoundIn (sites : ℕ) (workload : Whole) (logs : List (List Logged)) (callers : List (Vec Receipt Global)) (cause : AuditFault) : Type 0 where
   pub a_log_each : length logs ≡ sites
   pub served : AllServed sites workload.accesses callers
-  pub first : IsFirstCause logs (callers_of callers) cause
+  pub first : IsFirstCauseOfAll logs (callers_of callers) cause
 
 -- so it is after a run of the workload that these bytes have, where they are known
 pub record IsFound (sites : ℕ) (bytes : Option (List ℕ)) (cause : AuditFault) : Type 0 where

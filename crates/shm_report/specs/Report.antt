@@ -1,8 +1,10 @@
 -- The report of a workload that was run and audited: what its lines were answered, and that the audit found nothing.
 use Rattle.std.specs.Prelude.{◌≡◌, ℕ, ◌+◌, List, [], ◌∷◌, ◌++◌, codes, length, take, IfSome, Ok, Option, Some, Vec, slice_get}
+use Rattle.std.specs.Io.KnownBytes.{Appends}
 use Rattle.std.specs.declared.alloc.Global.{Global}
 use Rattle.shm_audit.specs.Audit.{IsAudited}
 use Rattle.shm_audit.specs.Callers.{callers_of}
+use Rattle.shm_audit.specs.Complete.{AllTold}
 use Rattle.shm_boxes.specs.Receipt.{receipt_of}
 use Rattle.shm_boxes.specs.declared.receipt.Receipt.{Receipt}
 use Rattle.shm_model.specs.declared.event.Event.{Event}
@@ -67,11 +69,13 @@ abbrev pub whole_of : {A : Type 0} → Workload A → Whole
 whole_of workload = record { size = workload.pages; accesses = workload.accesses.items }
 
 -- The text reports what came of a workload that was run over so many sites: an audit accepted what the sites logged and what their callers
--- were told, each caller was told a receipt for each of its site's lines, and each line of the text tells its own receipt's answer.
+-- were told, each caller was told a receipt for each of its site's lines, and each line of the text tells its own receipt's answer. Every
+-- byte that any site loaded or stored is named by the receipt of a line, so the accesses that were made are exactly the lines'.
 pub record IsReportOf (sites : ℕ) (workload : Whole) (logs : List (List Logged)) (callers : List (Vec Receipt Global)) (text : List ℕ) : Type 0 where
   pub events : List Event
   pub a_log_each : length logs ≡ sites
   pub audited : IsAudited (Preset sites workload.size) logs (callers_of callers) events
+  pub complete : AllTold logs (callers_of callers)
   pub served : AllServed sites workload.accesses callers
   pub receipts : List Receipt
   pub answered : AreReceiptsOf workload.accesses callers receipts
@@ -84,3 +88,10 @@ pub record IsReport (sites : ℕ) (bytes : Option (List ℕ)) (text : List ℕ) 
   pub logs : List (List Logged)
   pub callers : List (Vec Receipt Global)
   pub reported : IsReportOf sites workload logs callers text
+
+-- a front of this text was written, where what was written is known
+pub record IsCutShort (old new : Option (List ℕ)) (text : List ℕ) : Type 0 where
+  pub front : List ℕ
+  pub rest : List ℕ
+  pub parts : text ≡ front ++ rest
+  pub written : Appends old new front

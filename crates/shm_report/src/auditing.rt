@@ -1,40 +1,31 @@
 //! The audit of what was run.
-ghost use Rattle.std.specs.Prelude.{◌≡◌, List, None, IfErr, IfSome, OnOk};
+ghost use Rattle.std.specs.Prelude.{◌≡◌, ◌≢◌, List, None, IfErr, IfSome, OnOk};
 ghost use Rattle.shm_audit.specs.Audit.{IsAudited};
 ghost use Rattle.shm_audit.specs.Callers.{callers_of};
-ghost use Rattle.shm_audit.specs.Cause.{IsFirstCause};
+ghost use Rattle.shm_audit.specs.Complete.{AllTold, IsFirstCauseOfAll};
 ghost use Rattle.shm_merge.specs.Logs.{logs_of, AreLogsOf};
 ghost use Rattle.shm_model.specs.World.{Preset};
 ghost use Rattle.shm_model.specs.declared.event.Event.{Event};
 ghost use Rattle.shm_report.specs.Causes.{audit_cause, input_cause};
+ghost use Rattle.shm_report.specs.declared.report_fault.ReportFault.TheVariants as cause;
 
 use crate::report_fault::ReportFault;
-use shm_audit::audit;
-use shm_merge::logs_match;
+use shm_audit::audit_complete;
 use shm_place::Sites;
 use shm_running::Ran;
 use std::alloc::Global;
 
-/// Whether the logs and receipts are those of so many sites that shared one plain memory; if not, the first cause.
+/// Whether the logs and receipts are those of so many sites that shared one plain memory, and the receipts are all; if not, the first
+/// cause.
 pub(crate) fn audited(alloc: Global, sites: Sites, pages: u32, ran: &Ran) -> Result<(), ReportFault>
-    ensures accepted { OnOk result ((events : List Event) × IsAudited (Preset sites pages) (logs_of ran.now.logs.items) (callers_of ran.now.callers.items) events) }
-    ensures cause { IfErr result (λ fault. IfSome (audit_cause fault) (IsFirstCause (logs_of ran.now.logs.items) (callers_of ran.now.callers.items))) }
-    ensures input { IfErr result (λ fault. input_cause fault ≡ None) }
-{
-    if !logs_match(sites, pages, ran.logs.as_slice()) {
-        return Err(ReportFault::Logs);
-    }
-    accepted(alloc, sites, pages, ran)
-}
-
-/// The same of logs that match.
-fn accepted(alloc: Global, sites: Sites, pages: u32, ran: &Ran) -> Result<(), ReportFault>
     requires { AreLogsOf sites pages ran.now.logs.items }
     ensures accepted { OnOk result ((events : List Event) × IsAudited (Preset sites pages) (logs_of ran.now.logs.items) (callers_of ran.now.callers.items) events) }
-    ensures cause { IfErr result (λ fault. IfSome (audit_cause fault) (IsFirstCause (logs_of ran.now.logs.items) (callers_of ran.now.callers.items))) }
+    ensures complete { OnOk result (AllTold (logs_of ran.now.logs.items) (callers_of ran.now.callers.items)) }
+    ensures cause { IfErr result (λ fault. IfSome (audit_cause fault) (IsFirstCauseOfAll (logs_of ran.now.logs.items) (callers_of ran.now.callers.items))) }
     ensures input { IfErr result (λ fault. input_cause fault ≡ None) }
+    ensures unwritten { IfErr result (λ fault. fault ≢ cause.WriteFault) }
 {
-    match audit(
+    match audit_complete(
         alloc,
         sites,
         pages,

@@ -1,7 +1,8 @@
 //! The whole input, before anything runs.
-ghost use Rattle.std.specs.Prelude.{◌≡◌, false, take, IfErr, IfOk, IfSome};
+ghost use Rattle.std.specs.Prelude.{◌≡◌, ◌≢◌, false, take, IfErr, IfOk, IfSome};
 ghost use Rattle.shm_workload.specs.Limits.{max_bytes};
 ghost use Rattle.shm_report.specs.Causes.{is_after_reading, IsOther};
+ghost use Rattle.shm_report.specs.declared.report_fault.ReportFault.TheVariants as cause;
 
 use crate::report_fault::ReportFault;
 use shm_text::read_up_to;
@@ -20,6 +21,7 @@ pub(crate) fn read_all<I: Read>(alloc: Global, reader: &mut I) -> Result<Vec<u8>
     ensures front { IfOk result (λ bytes. IfSome (I.remaining reader.old) (λ all. bytes.items ≡ take max_bytes all)) }
     ensures fault { IfErr result IsOther }
     ensures unread { IfErr result (λ fault. is_after_reading fault ≡ false) }
+    ensures unwritten { IfErr result (λ fault. fault ≢ cause.WriteFault) }
 {
     let mut bytes = Vec::new(alloc);
     let mut chunk = [0u8; CHUNK];

@@ -1,5 +1,6 @@
 ghost use Rattle.std.specs.Prelude.{◌≡◌, ◌≢◌, None, Some, false};
 ghost use Rattle.shm_audit.specs.declared.audit_fault.AuditFault.TheVariants as audit;
+ghost use Rattle.shm_report.specs.declared.report_fault.ReportFault.TheVariants as cause;
 ghost use Rattle.shm_workload.specs.declared.fault.WorkloadFault.TheVariants as workload;
 
 use shm_audit::AuditFault;
@@ -47,7 +48,7 @@ pub enum ReportFault {
 }
 
 impl ReportFault {
-    ghost use Rattle.shm_report.specs.Causes.{audit_cause, input_cause, is_after_reading, IsOther};
+    ghost use Rattle.shm_report.specs.Causes.{audit_cause, fault_of_run, input_cause, is_after_reading, IsOther};
 
     /// Why there is no workload.
     pub(crate) fn of_workload(fault: WorkloadFault) -> ReportFault
@@ -55,6 +56,7 @@ impl ReportFault {
         ensures cause { fault ≢ workload.OutOfMemory → input_cause result ≡ Some fault }
         ensures audit { audit_cause result ≡ None }
         ensures unread { is_after_reading result ≡ false }
+        ensures unwritten { result ≢ cause.WriteFault }
     {
         match fault {
             WorkloadFault::OutOfMemory => ReportFault::OutOfMemory,
@@ -66,12 +68,15 @@ impl ReportFault {
 
     /// Why the workload wasn't run to its end. The first access is that of line 2.
     pub(crate) fn of_run(fault: RunFault) -> ReportFault
-        ensures { IsOther result }
+        ensures same { result ≡ fault_of_run fault }
+        ensures other { IsOther result }
+        ensures unwritten { result ≢ cause.WriteFault }
     {
         match fault {
             RunFault::Start(StartFault::NoThread) => ReportFault::NoThread,
             RunFault::Start(StartFault::OutOfMemory) => ReportFault::OutOfMemory,
             RunFault::OutOfMemory => ReportFault::OutOfMemory,
+            RunFault::Logs => ReportFault::Logs,
             RunFault::Call(call) => match call.fault {
                 ClientFault::OutOfMemory => ReportFault::OutOfMemory,
                 ClientFault::ClockEnd => ReportFault::ClockEnd,
@@ -85,6 +90,7 @@ impl ReportFault {
         ensures memory { fault ≡ audit.OutOfMemory → audit_cause result ≡ None }
         ensures cause { fault ≢ audit.OutOfMemory → audit_cause result ≡ Some fault }
         ensures input { input_cause result ≡ None }
+        ensures unwritten { result ≢ cause.WriteFault }
     {
         match fault {
             AuditFault::OutOfMemory => ReportFault::OutOfMemory,

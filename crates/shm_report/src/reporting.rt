@@ -1,11 +1,11 @@
 //! A whole workload, from a reader to a writer.
-ghost use Rattle.std.specs.Prelude.{◌≡◌, ◌≤◌, ◌⊎◌, ℕ, List, None, Ok, false, length, true, IfErr, IfOk, IfSome, OnOk};
+ghost use Rattle.std.specs.Prelude.{◌≡◌, ◌≢◌, ◌≤◌, ◌⊎◌, ℕ, List, None, Ok, false, true, IfErr, IfOk, IfSome, OnOk};
 ghost use Rattle.std.specs.Io.KnownBytes.{Appends};
-ghost use Rattle.shm_merge.specs.Logs.{logs_of};
+ghost use Rattle.shm_merge.specs.Logs.{logs_of, AreLogsOf};
 ghost use Rattle.shm_running.specs.Callers.{AllServed};
 ghost use Rattle.shm_workload.specs.Workload.{workload_of};
 ghost use Rattle.shm_report.specs.Causes.{audit_cause, input_cause, is_after_reading, IsFound, IsFoundIn, IsRight, IsWrongBy};
-ghost use Rattle.shm_report.specs.Report.{whole_of, IsReport, IsReportOf};
+ghost use Rattle.shm_report.specs.Report.{whole_of, IsCutShort, IsReport, IsReportOf};
 ghost use Rattle.shm_report.specs.declared.report_fault.ReportFault.TheVariants as cause;
 
 use crate::auditing::audited;
@@ -23,7 +23,7 @@ use std::thread::Threads;
 /// Runs the workload that is read from `reader` over so many sites, whose network draws its losses and repeats from the seed; one caller
 /// for each site runs the site's lines in their order. What each line was answered is written to `writer` when an audit of all that was
 /// logged has found nothing; before that nothing is written. An error of the reader or the writer, of whatever kind, ends it: nothing is
-/// tried again.
+/// tried again; where the writer failed, a front of the report was written.
 pub fn report<R: Threads + Wait + Copy + Send + Sync + 'static, I: Read, O: Write>(
     rt: &R,
     alloc: Global,
@@ -35,6 +35,8 @@ pub fn report<R: Threads + Wait + Copy + Send + Sync + 'static, I: Read, O: Writ
     ensures quiet { IfErr result (λ fault. (fault ≡ cause.WriteFault) ⊎ (writer.new ≡ writer.old)) }
     ensures told { OnOk result ((text : List ℕ) × Appends (O.contents writer.old) (O.contents writer.new) text
         × IsReport sites (I.remaining reader.old) text) }
+    ensures cut { IfErr result (λ fault. fault ≡ cause.WriteFault → (text : List ℕ)
+        × IsCutShort (O.contents writer.old) (O.contents writer.new) text × IsReport sites (I.remaining reader.old) text) }
     ensures input { IfErr result (λ fault. IfSome (input_cause fault) (IsWrongBy sites (I.remaining reader.old))) }
     ensures right { IfErr result (λ fault. is_after_reading fault ≡ true → IsRight sites (I.remaining reader.old)) }
     ensures audit { IfErr result (λ fault. IfSome (audit_cause fault) (IsFound sites (I.remaining reader.old))) }
@@ -61,6 +63,7 @@ fn read_workload<I: Read>(
     ensures pages { IfOk result (λ workload. (1 ≤ workload.pages) × (workload.pages ≤ PAGES)) }
     ensures input { IfErr result (λ fault. IfSome (input_cause fault) (IsWrongBy sites (I.remaining reader.old))) }
     ensures unread { IfErr result (λ fault. is_after_reading fault ≡ false) }
+    ensures unwritten { IfErr result (λ fault. fault ≢ cause.WriteFault) }
     ensures audit { IfErr result (λ fault. audit_cause fault ≡ None) }
 {
     let bytes = match read_all(alloc, reader) {
@@ -82,9 +85,12 @@ fn tell<O: Write>(
     writer: &mut O,
 ) -> Result<(), ReportFault>
     requires served { AllServed sites workload.now.accesses.items ran.now.callers.items }
-    requires logs { length ran.now.logs.items ≡ sites }
+    requires logs { AreLogsOf sites workload.now.pages ran.now.logs.items }
     ensures quiet { IfErr result (λ fault. (fault ≡ cause.WriteFault) ⊎ (writer.new ≡ writer.old)) }
     ensures told { OnOk result ((text : List ℕ) × Appends (O.contents writer.old) (O.contents writer.new) text
+        × IsReportOf sites (whole_of workload.now) (logs_of ran.now.logs.items) ran.now.callers.items text) }
+    ensures cut { IfErr result (λ fault. fault ≡ cause.WriteFault → (text : List ℕ)
+        × IsCutShort (O.contents writer.old) (O.contents writer.new) text
         × IsReportOf sites (whole_of workload.now) (logs_of ran.now.logs.items) ran.now.callers.items text) }
     ensures input { IfErr result (λ fault. input_cause fault ≡ None) }
     ensures audit { IfErr result (λ fault. IfSome (audit_cause fault)

@@ -1,10 +1,10 @@
 //! The text of a report.
-ghost use Rattle.std.specs.Prelude.{◌≡◌, ◌+◌, ◌++◌, ◌<◌, length, slice_index, slice_set, IfErr, IfOk, IfSome, IsSome, OnOk};
+ghost use Rattle.std.specs.Prelude.{◌≡◌, ◌≢◌, ◌+◌, ◌++◌, ◌<◌, length, slice_index, slice_set, IfErr, IfOk, IfSome, IsSome, OnErr, OnOk};
 ghost use Rattle.std.specs.Io.KnownBytes.{Appends};
 ghost use Rattle.shm_running.specs.Callers.{AllServed};
 ghost use Rattle.shm_workload.specs.Access.{site_of};
 ghost use Rattle.shm_report.specs.Causes.{IsOther};
-ghost use Rattle.shm_report.specs.Report.{audit_yes, HasReceipt, TellsLines, TellsReceipt};
+ghost use Rattle.shm_report.specs.Report.{audit_yes, IsCutShort, HasReceipt, TellsLines, TellsReceipt};
 ghost use Rattle.shm_report.specs.declared.report_fault.ReportFault.TheVariants as cause;
 
 use crate::report_fault::ReportFault;
@@ -28,6 +28,7 @@ pub(crate) fn told(
     requires { AllServed (length callers.now) accesses.now callers.now }
     ensures lines { IfOk result (TellsLines accesses.now callers.now) }
     ensures fault { IfErr result IsOther }
+    ensures unwritten { IfErr result (λ fault. fault ≢ cause.WriteFault) }
 {
     let Ok(mut text) = Text::new(alloc, 0, 0) else {
         return Err(ReportFault::OutOfMemory);
@@ -56,6 +57,7 @@ fn tell(
     callers: &[Vec<Receipt>],
 ) -> Result<(), ReportFault>
     ensures fault { IfErr result IsOther }
+    ensures unwritten { IfErr result (λ fault. fault ≢ cause.WriteFault) }
     ensures known { OnOk result (site_of access.now < length told_of.old) }
     ensures told { OnOk result (TellsReceipt callers.now (site_of access.now) (slice_index told_of.old (site_of access.now)) number text.old text.new) }
     ensures more { OnOk result (told_of.new ≡ slice_set told_of.old (site_of access.now) (slice_index told_of.old (site_of access.now) + 1)) }
@@ -106,16 +108,19 @@ fn receipt_at(callers: &[Vec<Receipt>], site: usize, place: usize) -> Option<Rec
 }
 
 /// Writes the lines, and that the audit found nothing. Where the writer answers an error, of whatever kind, or takes nothing, no more is
-/// written.
+/// written: a front of the text was.
 pub(crate) fn write_report<O: Write>(text: &Text, writer: &mut O) -> Result<(), ReportFault>
     ensures fault { IfErr result (λ fault. fault ≡ cause.WriteFault) }
     ensures written { OnOk result (Appends (O.contents writer.old) (O.contents writer.new) (text.now ++ audit_yes)) }
+    ensures cut { OnErr result (IsCutShort (O.contents writer.old) (O.contents writer.new) (text.now ++ audit_yes)) }
 {
-    if write_whole(writer, text.as_bytes()).is_err() {
-        return Err(ReportFault::WriteFault);
+    match write_whole(writer, text.as_bytes()) {
+        Ok(()) => {}
+        Err(_) => return Err(ReportFault::WriteFault),
     }
-    if write_whole(writer, b"audit yes\n").is_err() {
-        return Err(ReportFault::WriteFault);
+    match write_whole(writer, b"audit yes\n") {
+        Ok(()) => {}
+        Err(_) => return Err(ReportFault::WriteFault),
     }
     match writer.flush() {
         Ok(()) => Ok(()),

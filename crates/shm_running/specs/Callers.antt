@@ -1,9 +1,10 @@
 -- What the caller of a site does of a workload, and what it is told.
-use Rattle.std.specs.Prelude.{◌≡◌, ℕ, ◌<◌, ◌==◌, List, [], ◌∷◌, ◌++◌, Result, Vec, IfOk, MatchBool, length, slice_index_or}
+use Rattle.std.specs.Prelude.{◌≡◌, ℕ, ◌<◌, ◌==◌, List, [], ◌∷◌, ◌++◌, Result, Vec, IfErr, IfOk, MatchBool, length, slice_index_or}
 use Rattle.std.specs.List.{AllZip, filter}
 use Rattle.shm_model.specs.Message.{Input, Load as LoadInput, Store as StoreInput}
 use Rattle.shm_boxes.specs.declared.receipt.Receipt.{Receipt}
 use Rattle.shm_cluster.specs.Client.{IsServed, TellsOf}
+use Rattle.shm_running.specs.declared.run_fault.CallFault.{CallFault}
 use Rattle.shm_workload.specs.Access.{site_of}
 use Rattle.shm_workload.specs.declared.access.Access.{Access}
 use Rattle.shm_workload.specs.declared.access.Access.TheVariants.{Load, Store}
@@ -31,10 +32,13 @@ Adds site access old new =
     MatchBool (site_of access == site) ((receipt : Receipt) × (new ≡ old ++ receipt ∷ []) × Serves access receipt) (new ≡ old)
 
 -- what the callers of so many sites were told, each at its site's number: a receipt for each of the site's lines, unless a fault ended it
-pub record ServedUnlessEnded {A Fault : Type 0} (sites : ℕ) (accesses : List Access) (told : List (Result (Vec Receipt A) Fault)) : Type 0 where
+-- at one of the accesses
+pub record ServedUnlessEnded {A : Type 0} (sites : ℕ) (accesses : List Access) (told : List (Result (Vec Receipt A) CallFault)) : Type 0 where
   pub count : length told ≡ sites
-  pub each : (site : ℕ) (default : Result (Vec Receipt A) Fault) → site < sites
+  pub each : (site : ℕ) (default : Result (Vec Receipt A) CallFault) → site < sites
       → IfOk (slice_index_or told site default) (λ receipts. ServesAll site accesses receipts.items)
+  pub place : (site : ℕ) (default : Result (Vec Receipt A) CallFault) → site < sites
+      → IfErr (slice_index_or told site default) (λ fault. fault.place < length accesses)
 
 -- one list of receipts for each of so many sites, in the sites' order: those of the site's lines
 pub record AllServed {A : Type 0} (sites : ℕ) (accesses : List Access) (callers : List (Vec Receipt A)) : Type 0 where

@@ -1,5 +1,5 @@
 //! The caller of one site.
-ghost use Rattle.std.specs.Prelude.{◌≡◌, IfOk, OnOk};
+ghost use Rattle.std.specs.Prelude.{◌≡◌, ◌<◌, length, IfErr, IfOk, OnOk};
 ghost use Rattle.shm_cluster.specs.Client.{IsServed, TellsOf};
 ghost use Rattle.shm_running.specs.Callers.{Adds, ServesAll, input_of};
 
@@ -17,7 +17,8 @@ pub(crate) fn call_all<R: Wait>(
     client: &Client<'_>,
     accesses: &[Access],
 ) -> Result<Vec<Receipt>, CallFault>
-    ensures { IfOk result (λ receipts. ServesAll client.now.site accesses.now receipts.items) }
+    ensures served { IfOk result (λ receipts. ServesAll client.now.site accesses.now receipts.items) }
+    ensures place { IfErr result (λ fault. fault.place < length accesses.now) }
 {
     let mut receipts = Vec::new(alloc);
     'accesses: for (place, access) in accesses.iter().enumerate() {

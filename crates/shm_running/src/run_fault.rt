@@ -17,4 +17,6 @@ pub enum RunFault {
     Call(CallFault),
     /// Memory was refused when the logs were to be taken back.
     OutOfMemory,
+    /// The logs that were given back aren't those of so many sites, each its site's.
+    Logs,
 }

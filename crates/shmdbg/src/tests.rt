@@ -1,3 +1,4 @@
+mod failed_runs;
 mod rows;
 mod runs;
 mod streams;

@@ -1,4 +1,6 @@
 mod runs;
+mod seeds;
+mod streams;
 
 use shm_place::Sites;
 use shm_report::{ReportFault, report};

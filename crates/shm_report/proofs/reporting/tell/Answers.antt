@@ -20,8 +20,9 @@ returns-in-Ok-told-clause-told g c =
       appended,
       record {
         events = c.in-Ok.ensures.accepted.0;
-        a_log_each = length-map ran.logs.items steps_of ∙ c.requires.logs;
+        a_log_each = length-map ran.logs.items steps_of ∙ c.requires.logs.count;
         audited = c.in-Ok.ensures.accepted.1;
+        complete = c.in-Ok.ensures.complete;
         served = c.requires.served;
         receipts = tells.0;
         answered = tells.1;

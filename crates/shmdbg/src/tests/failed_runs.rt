@@ -1,0 +1,53 @@
+//! Runs over several sites that fail: their status and what is told of them.
+use super::{expect, run_over};
+use crate::program::run_words;
+use std::io::{self, Write};
+
+/// The words of a run over three sites.
+const WORDS: [&str; 6] = ["shmdbg", "run", "--sites", "3", "--seed", "2"];
+
+/// Takes nothing.
+#[derive(Drop)]
+struct Full;
+
+impl Write for Full {
+    fn write(&mut self, _buf: &[u8]) -> io::Result<usize> {
+        Ok(0)
+    }
+
+    fn flush(&mut self) -> io::Result<()> {
+        Ok(())
+    }
+}
+
+/// A line that no workload of three sites has is told under its number, also behind lines of other sites; nothing is written.
+#[test]
+fn bad_lines_of_three_sites(rt: HostRuntime) {
+    let cases: [(&[u8], &[u8]); 3] = [
+        (b"preset 257\n", b"shmdbg: line 1: bad line\n"),
+        (
+            b"preset 1\nstore 0 0 1\nload 2 0\nload 3 0\n",
+            b"shmdbg: line 4: bad line\n",
+        ),
+        (
+            b"preset 1\nstore 0 0 1\nload 2 4096\nload 1 0\n",
+            b"shmdbg: line 3: bad line\n",
+        ),
+    ];
+    for (workload, errors) in cases {
+        let mut reader = workload;
+        let ran = run_over(&rt, &WORDS, &mut reader);
+        expect(&rt, &ran, 1, b"", errors);
+    }
+}
+
+/// What three sites did can't be written: that is told when all has run.
+#[test]
+fn three_sites_and_no_room(rt: HostRuntime) {
+    let mut reader = b"preset 2\nstore 0 4096 1\nload 1 4096\nload 2 0\n".as_slice();
+    let mut errors = Vec::new(rt.alloc());
+    let status = run_words(&rt, &WORDS, &mut reader, &mut Full, &mut errors);
+    assert_eq!(rt; status, 3);
+    assert_eq!(rt; errors.as_slice(), b"shmdbg: write fault\n".as_slice());
+    assert_eq!(rt; reader, b"".as_slice());
+}
