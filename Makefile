@@ -2,7 +2,7 @@
 
 PROGRAM := crates/shmdbg
 
-.PHONY: replay build examples test wrong-bodies
+.PHONY: replay build examples refused test wrong-bodies
 
 # Replays an example without proving anything: within a minute on a fresh machine.
 replay:
@@ -24,8 +24,13 @@ examples:
 		cat "$$script" "examples/$$name.out" | cmp - /tmp/copy.$$$$ || exit 1; rm /tmp/copy.$$$$; echo "$$name: equal"; \
 	done
 
-# The gate: proves every crate from nothing, and runs every test, every program and every edit that must fail.
-test:
+# Programs that the types alone must refuse, each with the words of its refusal. Within a minute; nothing is proved.
+refused:
+	@refused/try
+
+# The gate: tries the programs that must not compile, proves every crate from nothing, and runs every test, every program and every edit
+# that must fail.
+test: refused
 	rt ci 2>&1
 
 # The wrong bodies that the gate leaves out for its time: the prover must refuse each of these, too. Tried in a clone of the last commit,

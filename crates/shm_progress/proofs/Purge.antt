@@ -1,0 +1,5 @@
+pub mod Tables
+pub mod Homes
+pub mod Answers
+pub mod Dead
+pub mod GoOn

@@ -1,0 +1,4 @@
+pub mod Replies
+pub mod Free
+pub mod Answers
+pub mod GoOn

@@ -1,0 +1,6 @@
+pub mod Deliveries
+pub mod OnTheWay
+pub mod Purging
+pub mod Serving
+pub mod Rounds
+pub mod Queues

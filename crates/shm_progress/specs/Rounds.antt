@@ -1,0 +1,15 @@
+-- Rounds: every site ticks, and what is on its way is handed over until nothing is. The profile's own.
+use Rattle.std.specs.Prelude.{◌≡◌, ℕ, ◌<◌, false, List, Some, None, Contains, slice_get}
+use Rattle.shm_model.specs.declared.event.Event.{Event}
+use Rattle.shm_model.specs.declared.event.Event.TheVariants.{Tick}
+use Rattle.shm_model.specs.Site.{Site}
+use Rattle.shm_model.specs.World.{World}
+
+-- each site ticks among these events
+abbrev pub AllTick : ℕ → List Event → Type 0
+AllTick sites events = (site : ℕ) → site < sites → Contains events (Tick site)
+
+-- no site waits for a reply, and no home for the answer to a purge
+pub record Settled (w : World) : Type 0 where
+  pub answered : (site : ℕ) (x : Site) → slice_get w.sites site ≡ Some x → x.outstanding ≡ None
+  pub purged : (home id site : ℕ) (x : Site) → slice_get w.sites home ≡ Some x → x.missing id site ≡ false

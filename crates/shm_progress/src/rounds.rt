@@ -1,0 +1,15 @@
+//! Rounds settle what was begun.
+ghost use Rattle.std.specs.Prelude.{◌≡◌, false, List, ◌++◌};
+ghost use Rattle.shm_model.specs.World.{IsOpening, Opening, is_full, run, sites_of};
+ghost use Rattle.shm_model.specs.declared.event.Event.{Event};
+ghost use Rattle.shm_progress.specs.Deliveries.{IsAtRest};
+ghost use Rattle.shm_progress.specs.OnTheWay.{NothingLost};
+ghost use Rattle.shm_progress.specs.Rounds.{AllTick, Settled};
+
+/// Rounds settle calls and purges: from every world that some events lead to, further events that lose nothing, among which each site
+/// ticks and after which nothing is on its way, leave no call outstanding and no purge unanswered; whatever else is among them, restarts
+/// too. No more envelopes were sent than a world counts.
+pub fn rounds_settle_calls_and_purges()
+    ensures { (o : Opening) (earlier later : List Event) → IsOpening o → NothingLost later → AllTick (sites_of o) later → is_full (run o (earlier ++ later)).world ≡ false
+        → IsAtRest (run o (earlier ++ later)).world → Settled (run o (earlier ++ later)).world }
+{}
