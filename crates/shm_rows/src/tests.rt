@@ -2,8 +2,10 @@ ghost use Rattle.std.specs.Prelude.{◌≤◌};
 
 mod copies;
 mod refused;
+mod refused_in_turn;
 mod rows;
 mod segments;
+mod worked;
 
 use shm_place::{NoSuchSite, PageId, SegId, SiteId, Sites};
 use shm_world::{Access, Answer, Event, Shown, World};

@@ -1,3 +1,4 @@
+mod held;
 mod report;
 mod running;
 mod workload;

@@ -1,10 +1,10 @@
-use super::{expect_row, preset};
+use super::{expect_row, load, preset, store};
 use shm_model::{Attached, Cred, Errno, GetFlags, Mode, Op, Reply, Request, Stat, State};
 use shm_place::{Key, PageId, SegId, SiteId, Sites};
-use shm_world::Answer::{Began, Dropped, Took};
+use shm_world::Answer::{Began, Byte, Dropped, Refused, Stored, Took};
 use shm_world::Event::{Deliver, Repeat};
 use shm_world::{Answer, Event, Shown, World};
-use std::alloc::{AllocError, Global};
+use std::alloc::Global;
 use std::process::Abort;
 use std::test::Fail;
 
@@ -18,7 +18,7 @@ const CREATE: GetFlags = GetFlags(0o1000);
 
 const PLAIN: GetFlags = GetFlags(0);
 
-/// How many bytes the segments have that are made.
+/// How many bytes the segments have that are made at two sites.
 const SIZE: u32 = 256;
 
 fn begin(site: u32, op: Op) -> Event {
@@ -29,13 +29,13 @@ fn begin(site: u32, op: Op) -> Event {
     }
 }
 
-fn get(site: u32, key: u32, flags: GetFlags) -> Event {
+fn get(site: u32, key: u32, size: u32, flags: GetFlags) -> Event {
     begin(
         site,
         Op::Get {
             cred: ROOT,
             key: Key(key),
-            size: SIZE,
+            size,
             mode: PRIVATE,
             flags,
         },
@@ -73,10 +73,10 @@ fn replied(number: u64, reply: Reply) -> Answer {
     }
 }
 
-fn attached(number: u64, attachment: u32, ro: bool) -> Answer {
+fn attached(number: u64, attachment: u32, size: u32, ro: bool) -> Answer {
     Answer::Replied {
         number,
-        reply: Reply::Attached(Attached { size: SIZE, ro }),
+        reply: Reply::Attached(Attached { size, ro }),
         attachment: Some(attachment),
     }
 }
@@ -97,41 +97,56 @@ fn marked(number: u64, nattch: u64) -> Answer {
     replied(number, Reply::Stat(stat))
 }
 
+/// A segment of one byte is made and attached twice. All of its page is reached, and nothing beyond. 1 site.
+pub(super) fn attach_and_reach() -> [(Event, Answer); 14] {
+    [
+        (get(0, 0, 1, PLAIN), Began(1)),
+        (attach(0, 0, false), Refused(8)),
+        (Deliver(0), Took),
+        (Deliver(1), replied(1, Reply::Id(SegId(0)))),
+        (attach(0, 0, false), Began(2)),
+        (Deliver(2), Took),
+        (Deliver(3), attached(2, 0, 1, false)),
+        (store(0, 0, 4095, 9), Stored),
+        (load(0, 0, 4096), Refused(11)),
+        (attach(0, 0, true), Began(3)),
+        (Deliver(4), Took),
+        (Deliver(5), attached(3, 1, 1, true)),
+        (store(0, 1, 4095, 1), Refused(10)),
+        (load(0, 1, 4095), Byte(9)),
+    ]
+}
+
 /// Segment 1 is made, attached by both sites, and removed: it stays, marked, while it is attached.
-fn remove_while_attached(
-    rt: &impl Abort,
-    alloc: Global,
-    world: &mut World,
-) -> Result<(), AllocError> {
-    let row = [
-        (get(0, 3, CREATE), Began(1)),
+pub(super) fn remove_while_attached() -> [(Event, Answer); 15] {
+    [
+        (get(0, 3, SIZE, CREATE), Began(1)),
         (Deliver(0), Took),
         (Deliver(1), replied(1, Reply::Id(SegId(1)))),
         (attach(0, 1, false), Began(2)),
         (Deliver(2), Took),
-        (Deliver(3), attached(2, 0, false)),
+        (Deliver(3), attached(2, 0, SIZE, false)),
         (attach(1, 1, false), Began(1)),
         (Deliver(4), Took),
-        (Deliver(5), attached(1, 0, false)),
+        (Deliver(5), attached(1, 0, SIZE, false)),
         (remove(0, 1), Began(3)),
         (Deliver(6), Took),
         (Deliver(7), replied(3, Reply::Ok)),
         (stat(0, 1), Began(4)),
         (Deliver(8), Took),
         (Deliver(9), marked(4, 2)),
-    ];
-    expect_row(rt, alloc, world, row.as_slice())
+    ]
 }
 
 /// Its key has a new segment. Marked, it may still be attached; then site 0 detaches it twice.
-fn detach_at_one_site(rt: &impl Abort, alloc: Global, world: &mut World) -> Result<(), AllocError> {
-    let row = [
-        (get(0, 3, CREATE), Began(5)),
+pub(super) fn detach_at_one_site() -> [(Event, Answer); 20] {
+    [
+        (get(0, 3, SIZE, CREATE), Began(5)),
         (Deliver(10), Took),
         (Deliver(11), replied(5, Reply::Id(SegId(3)))),
         (attach(0, 1, true), Began(6)),
         (Deliver(12), Took),
-        (Deliver(13), attached(6, 1, true)),
+        (Deliver(13), attached(6, 1, SIZE, true)),
         (detach(0, 0), Began(7)),
         (Deliver(14), Took),
         (Deliver(15), replied(7, Reply::Ok)),
@@ -146,13 +161,12 @@ fn detach_at_one_site(rt: &impl Abort, alloc: Global, world: &mut World) -> Resu
         (Deliver(20), Took),
         (Deliver(21), marked(2, 1)),
         (detach(1, 0), Began(3)),
-    ];
-    expect_row(rt, alloc, world, row.as_slice())
+    ]
 }
 
 /// With its last attachment it is destroyed and purged.
-fn detach_everywhere(rt: &impl Abort, alloc: Global, world: &mut World) -> Result<(), AllocError> {
-    let row = [
+pub(super) fn detach_everywhere() -> [(Event, Answer); 15] {
+    [
         (Repeat(22), Took),
         (Repeat(22), Took),
         (Deliver(22), Took),
@@ -165,20 +179,24 @@ fn detach_everywhere(rt: &impl Abort, alloc: Global, world: &mut World) -> Resul
         (stat(0, 5), Began(10)),
         (Deliver(30), Took),
         (Deliver(31), replied(10, Reply::Refused(Errno::Einval))),
-        (get(0, 3, PLAIN), Began(11)),
+        (get(0, 3, SIZE, PLAIN), Began(11)),
         (Deliver(32), Took),
         (Deliver(33), replied(11, Reply::Id(SegId(3)))),
-    ];
-    expect_row(rt, alloc, world, row.as_slice())
+    ]
 }
 
 #[test]
 fn a_segment_is_made_attached_removed_and_purged(rt: HostRuntime) -> Result<(), Fail> {
     let sites = Sites::new(2).ok().ok_or("1 to 16 sites")?;
     let mut world = World::new(rt.alloc(), sites)?;
-    remove_while_attached(&rt, rt.alloc(), &mut world)?;
-    detach_at_one_site(&rt, rt.alloc(), &mut world)?;
-    detach_everywhere(&rt, rt.alloc(), &mut world)?;
+    let (remove, detach, destroy) = (
+        remove_while_attached(),
+        detach_at_one_site(),
+        detach_everywhere(),
+    );
+    expect_row(&rt, rt.alloc(), &mut world, remove.as_slice())?;
+    expect_row(&rt, rt.alloc(), &mut world, detach.as_slice())?;
+    expect_row(&rt, rt.alloc(), &mut world, destroy.as_slice())?;
     Ok(())
 }
 
