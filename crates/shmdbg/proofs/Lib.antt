@@ -1,1 +1,3 @@
 mod Plain
+mod Numbers
+mod Other

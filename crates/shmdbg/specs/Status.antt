@@ -1,5 +1,5 @@
 -- Exit statuses, and what each tells of the script on standard input and of the text on standard output.
-use Rattle.std.specs.Prelude.{◌≡◌, ℕ, true, false, List, [], IfSome, Option, Result, Ok, Err}
+use Rattle.std.specs.Prelude.{◌≡◌, ℕ, true, false, List, [], IfSome, IsSomeAnd, Option, Result, Ok, Err}
 use Rattle.std.specs.Io.KnownBytes.{Appends}
 use Rattle.clap.specs.Words.{Text, fault_of}
 use Rattle.shm_debug.specs.Script.{Script}
@@ -7,7 +7,7 @@ use Rattle.shm_debug.specs.Replay.{Ends}
 use Rattle.shm_debug.specs.declared.outcome.Summary.{Summary}
 use Rattle.shm_debug.specs.declared.outcome.DebugFault.{DebugFault}
 use Rattle.shm_debug.specs.declared.outcome.DebugFault.TheVariants.{OutOfMemory, BadLine, LineTooLong, TooManyLines, ReadFault, WriteFault}
-use Rattle.shm_report.specs.Causes.{audit_cause, input_cause, IsFound, IsWrongBy}
+use Rattle.shm_report.specs.Causes.{audit_cause, input_cause, is_after_reading, IsFound, IsRight, IsWrongBy}
 use Rattle.shm_report.specs.Report.{IsReport}
 use Rattle.shm_report.specs.declared.report_fault.ReportFault.{ReportFault}
 use Rattle.shm_report.specs.declared.report_fault.ReportFault.TheVariants as report
@@ -57,16 +57,15 @@ abbrev pub Replays : Script → ℕ → Option (List ℕ) → Option (List ℕ) 
 Replays script status old new =
     (end : Result Summary DebugFault) × (text : List ℕ) × (status ≡ status_of end) × Appends old new text × Ends script end text
 
--- a workload was run over a number of sites, and what was then written is the report of it
-abbrev pub Reports : Option (List ℕ) → Option (List ℕ) → Option (List ℕ) → Type 0
-Reports workload old new =
-    (sites : ℕ) × (text : List ℕ) × Appends old new text × IsReport sites workload text
+-- a workload was run over as many sites as are given, and what was then written is the report of it
+abbrev pub Reports : Option ℕ → Option (List ℕ) → Option (List ℕ) → Option (List ℕ) → Type 0
+Reports given workload old new = IsSomeAnd given (λ sites. (text : List ℕ) × Appends old new text × IsReport sites workload text)
 
--- A run of a workload over a number of sites failed by a fault of this status. What the fault says of the workload, or of what the sites
--- logged, is so.
-pub record Fails (workload : Option (List ℕ)) (status : ℕ) : Type 0 where
-  pub sites : ℕ
+-- A run of a workload failed by a fault of this status. What the fault says of the workload, or of what the sites logged, is so over as
+-- many sites as are given.
+pub record Fails (given : Option ℕ) (workload : Option (List ℕ)) (status : ℕ) : Type 0 where
   pub fault : ReportFault
   pub told : status ≡ run_status fault
-  pub input : IfSome (input_cause fault) (IsWrongBy sites workload)
-  pub audit : IfSome (audit_cause fault) (IsFound sites workload)
+  pub input : IfSome (input_cause fault) (λ cause. IsSomeAnd given (λ sites. IsWrongBy sites workload cause))
+  pub right : is_after_reading fault ≡ true → IsSomeAnd given (λ sites. IsRight sites workload)
+  pub audit : IfSome (audit_cause fault) (λ cause. IsSomeAnd given (λ sites. IsFound sites workload cause))

@@ -1,13 +1,13 @@
-ghost use Rattle.std.specs.Prelude.{◌≡◌, ◌≢◌, ◌<◌, ◌⊎◌, ℕ, List, [], ◌∷◌, codes, false, map, IfSome};
+ghost use Rattle.std.specs.Prelude.{◌≡◌, ◌≢◌, ◌<◌, ◌⊎◌, ℕ, List, [], ◌∷◌, codes, false, map, IfSome, Some};
 ghost use Rattle.shm_debug.specs.Script.{script_of};
 ghost use Rattle.shmdbg.specs.Status.{AsksReplay, AsksRun, Fails, Replays, Reports, Takes};
-ghost use Rattle.shmdbg.specs.Words.{asks_replay};
+ghost use Rattle.shmdbg.specs.Words.{asks_replay, sites_given};
 
 use crate::tell;
 use crate::words::{Task, parse_words};
 use shm_debug::replay;
 use shm_place::Sites;
-use shm_report::{ReportFault, report};
+use shm_report::report;
 use std::convert::AsStr;
 use std::io::{Read, Write};
 use std::sync::Wait;
@@ -30,8 +30,9 @@ pub fn run_words<
     ensures replayed { AsksReplay (map S.text words.now) → IfSome (I.remaining reader.old) (λ bytes.
         Replays (script_of bytes) result (O.contents out.old) (O.contents out.new)) }
     ensures reported { asks_replay (map S.text words.now) ≡ false → result ≡ 0 →
-        Reports (I.remaining reader.old) (O.contents out.old) (O.contents out.new) }
-    ensures failed { AsksRun (map S.text words.now) → result ≢ 0 → Fails (I.remaining reader.old) result }
+        Reports (sites_given (map S.text words.now)) (I.remaining reader.old) (O.contents out.old) (O.contents out.new) }
+    ensures failed { AsksRun (map S.text words.now) → result ≢ 0 →
+        Fails (sites_given (map S.text words.now)) (I.remaining reader.old) result }
     ensures audit { result ≡ 4 → AsksRun (map S.text words.now) }
     ensures quiet { asks_replay (map S.text words.now) ≡ false → (result ≡ 1) ⊎ (result ≡ 4) → out.new ≡ out.old }
     ensures refused { ¬ Takes (map S.text words.now) → (reader.new ≡ reader.old) × (out.new ≡ out.old) }
@@ -39,8 +40,10 @@ pub fn run_words<
     ensures nothing_written { result ≡ 2 → out.new ≡ out.old }
 {
     match parse_words(rt.alloc(), words) {
-        Ok(Task::Replay) => {}
-        Ok(Task::Run { sites, seed }) => return run(rt, sites, seed, reader, out, errors),
+        Ok(task) => match task {
+            Task::Replay => {}
+            Task::Run { sites, seed } => return run(rt, sites, seed, reader, out, errors),
+        },
         Err(error) => return tell::refused_words(&error, errors),
     }
     match replay(rt.alloc(), reader, out) {
@@ -49,10 +52,10 @@ pub fn run_words<
     }
 }
 
-/// Runs a workload, and answers the exit status. The words that were taken have 1 to 16 sites: no run would stand for another number.
+/// Runs a workload, and answers the exit status.
 fn run<R: AllocGlobal + Threads + Wait + Copy + Send + Sync + 'static, I: Read, O: Write, E: Write>(
     rt: &R,
-    sites: u32,
+    sites: Sites,
     seed: u32,
     reader: &mut I,
     out: &mut O,
@@ -60,13 +63,11 @@ fn run<R: AllocGlobal + Threads + Wait + Copy + Send + Sync + 'static, I: Read, 
 ) -> u8
     ensures range { result < 5 }
     ensures taken { result ≢ 2 }
-    ensures reported { result ≡ 0 → Reports (I.remaining reader.old) (O.contents out.old) (O.contents out.new) }
-    ensures failed { result ≢ 0 → Fails (I.remaining reader.old) result }
+    ensures reported { result ≡ 0 →
+        Reports (Some sites) (I.remaining reader.old) (O.contents out.old) (O.contents out.new) }
+    ensures failed { result ≢ 0 → Fails (Some sites) (I.remaining reader.old) result }
     ensures quiet { (result ≡ 1) ⊎ (result ≡ 4) → out.new ≡ out.old }
 {
-    let Ok(sites) = Sites::new(sites) else {
-        return tell::run_fault(ReportFault::Logs, errors);
-    };
     match report(rt, rt.alloc(), sites, seed, reader, out) {
         Ok(()) => 0,
         Err(fault) => tell::run_fault(fault, errors),

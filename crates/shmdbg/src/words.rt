@@ -1,10 +1,12 @@
-ghost use Rattle.std.specs.Prelude.{◌≡◌, false, map, IfErr, IfOk};
-ghost use Rattle.clap.specs.Words.{FailsBy, app_of, fault_of, kind_of, rule_of};
+ghost use Rattle.std.specs.Prelude.{◌≡◌, Some, false, map, option_map, IfErr, IfOk, IfSome};
+ghost use Rattle.clap.specs.Words.{FailsBy, app_of, fault_of, found_of, kind_of, one_of, rows_of, rule_of, subcommand_rows_of};
 ghost use Rattle.clap.specs.declared.error.kind.ErrorKind.TheVariants as kind;
-ghost use Rattle.shmdbg.specs.Words.{app, asks_replay, is_replay, seed_rule, sites_rule};
+ghost use Rattle.shmdbg.specs.Words.{app, asks_replay, is_replay, number_given, number_in, number_of, seed_rule, sites_rule, HasNumbers};
+ghost use Rattle.shmdbg.specs.declared.words.Task.TheVariants.{Run};
 
 use crate::help;
 use clap::{Arg, ArgAction, ArgMatches, Command, Error, value_parser};
+use shm_place::Sites;
 use std::alloc::{AllocError, Global};
 use std::convert::AsStr;
 
@@ -14,13 +16,14 @@ pub enum Task {
     /// Replay the script on standard input.
     Replay,
     /// Run the workload on standard input on so many sites in threads, with losses and repeats drawn from the seed.
-    Run { sites: u32, seed: u32 },
+    Run { sites: Sites, seed: u32 },
 }
 
 /// Reads the words, the first of which is the program's name. A request for help is an `Err` too, whose text is the help.
 pub fn parse_words<S: AsStr>(alloc: Global, words: &[S]) -> Result<Task, Error>
     ensures fault { FailsBy (fault_of app (map S.text words.now)) result }
     ensures task { IfOk result (λ task. is_replay task ≡ asks_replay (map S.text words.now)) }
+    ensures numbers { IfOk result (HasNumbers (number_given (map S.text words.now))) }
 {
     let matches = command(alloc)?.try_get_matches_from(words)?;
     match matches.subcommand_matches("replay") {
@@ -32,6 +35,7 @@ pub fn parse_words<S: AsStr>(alloc: Global, words: &[S]) -> Result<Task, Error>
 /// A run on so many sites. Both numbers are required and in range, so words that were taken have them.
 fn run_task(matches: &ArgMatches<'_>) -> Result<Task, Error>
     ensures ok { IfOk result (λ task. is_replay task ≡ false) }
+    ensures numbers { IfOk result (HasNumbers (number_in (subcommand_rows_of matches.now))) }
     ensures err { IfErr result (λ error. kind_of error ≡ kind.OutOfMemory) }
 {
     match numbers(matches) {
@@ -40,11 +44,21 @@ fn run_task(matches: &ArgMatches<'_>) -> Result<Task, Error>
     }
 }
 
-fn numbers(matches: &ArgMatches<'_>) -> Option<(u32, u32)> {
+/// The number of sites and the seed.
+fn numbers(matches: &ArgMatches<'_>) -> Option<(Sites, u32)>
+    ensures { IfSome result (λ numbers. HasNumbers (number_in (subcommand_rows_of matches.now)) (Run numbers.0 numbers.1)) }
+{
     let run = matches.subcommand_matches("run")?;
-    let sites = run.get_one("sites")?;
-    let seed = run.get_one("seed")?;
+    let sites = Sites::new(number(run, "sites")?).ok()?;
+    let seed = number(run, "seed")?;
     Some((sites, seed))
+}
+
+/// The number that the words of a run have for an option.
+fn number(run: &ArgMatches<'_>, option: &str) -> Option<u32>
+    ensures { IfSome result (λ number. option_map number_of (one_of option.now (rows_of (found_of run.now))) ≡ Some number) }
+{
+    run.get_one(option)
 }
 
 fn command<'a>(alloc: Global) -> Result<Command<'a>, AllocError>

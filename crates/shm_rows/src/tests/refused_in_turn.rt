@@ -38,7 +38,7 @@ fn filled_but<'a>(
 ) -> Result<Blocks<'a>, AllocError> {
     let hole: Vec<u8, &LocalHeap> = Vec::with_capacity(heap, bytes)?;
     let mut blocks = Vec::new(alloc);
-    for size in [1 << 14, 1 << 10, 1 << 7, 16] {
+    'sizes: for size in [1 << 14, 1 << 10, 1 << 7, 16] {
         fill_with(heap, size, &mut blocks)?;
     }
     drop(hole);
@@ -51,7 +51,7 @@ fn fill_with<'a>(
     size: usize,
     blocks: &mut Blocks<'a>,
 ) -> Result<(), AllocError> {
-    for _ in 0..heap.free() / 16 {
+    'blocks: for _ in 0..heap.free() / 16 {
         let Ok(block) = Vec::with_capacity(heap, size) else {
             return Ok(());
         };
@@ -71,7 +71,7 @@ fn refusals<'a>(
 ) -> Result<(usize, Answer), Fail> {
     let before = look(alloc, world)?;
     let mut hole = 0usize;
-    for tries in 0..TRIES {
+    'tries: for tries in 0..TRIES {
         let used = heap.used();
         let blocks = filled_but(alloc, heap, hole)?;
         let made = world.step(*event);
@@ -97,7 +97,7 @@ fn refuse_each<'a>(
     world: &mut World<&'a LocalHeap>,
     list: &[(Event, Answer)],
 ) -> Result<(), Fail> {
-    for (event, wanted) in list {
+    'events: for (event, wanted) in list {
         let sent = world.sent();
         *world = world.copy()?;
         let (tries, answer) = refusals(rt, alloc, heap, world, event)?;
@@ -120,7 +120,7 @@ fn refuse_all(
 {
     let heap = LocalHeap::new(alloc, HEAP)?;
     let mut world = preset(&heap, sites, pages)?;
-    for list in lists {
+    'lists: for list in lists {
         refuse_each(rt, alloc, &heap, &mut world, list)?;
     }
     Ok(())
@@ -136,7 +136,7 @@ fn refuse_calls(
     let sites = Sites::new(sites).ok().ok_or("1 to 16 sites")?;
     let heap = LocalHeap::new(alloc, HEAP)?;
     let mut world = World::new(&heap, sites)?;
-    for list in lists {
+    'lists: for list in lists {
         refuse_each(rt, alloc, &heap, &mut world, list)?;
     }
     Ok(())

@@ -130,7 +130,7 @@ const ANSWERS: [Answer; 7] = [
 fn answers(alloc: Global, told: &Told) -> Result<Vec<Answer>, AllocError> {
     let mut answers = Vec::new(alloc);
     answers.push(told.late.answer())?;
-    for receipt in told.beside.iter().chain(told.after.iter()) {
+    'receipts: for receipt in told.beside.iter().chain(told.after.iter()) {
         answers.push(receipt.answer())?;
     }
     Ok(answers)

@@ -1,4 +1,7 @@
 use super::run_over;
+use crate::words::{Task, parse_words};
+use shm_place::Sites;
+use std::test::Fail;
 
 /// Words that are refused; what the parser's text begins with; nothing is read and nothing is written.
 #[test]
@@ -41,4 +44,23 @@ fn refused_words(rt: HostRuntime) {
         assert_eq!(rt; ran.out.as_slice(), b"".as_slice());
         assert_eq!(rt; reader, b"sites 1 preset 1\n".as_slice());
     }
+}
+
+/// What a run's options say, in the ways in which its numbers may be spelled.
+#[test]
+fn numbers_of_a_run(rt: HostRuntime) -> Result<(), Fail> {
+    let cases: [(&[&str], u32, u32); 4] = [
+        (&["--sites", "3", "--seed", "2"], 3, 2),
+        (&["--seed", "1", "--sites", "16"], 16, 1),
+        (&["--sites=+4", "--seed", "0007"], 4, 7),
+        (&["--seed=4294967295", "--sites=1"], 1, 4294967295),
+    ];
+    for (options, of_sites, seed) in cases {
+        let mut words = vec![in rt.alloc(); "shmdbg", "run"]?;
+        words.extend_from_slice(options)?;
+        let sites = Sites::new(of_sites)?;
+        let task = parse_words(rt.alloc(), words.as_slice())?;
+        assert_eq!(rt; task, Task::Run { sites, seed });
+    }
+    Ok(())
 }

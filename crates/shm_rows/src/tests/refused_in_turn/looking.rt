@@ -58,7 +58,7 @@ pub(super) fn look<A: Allocator + Copy>(
     world: &World<A>,
 ) -> Result<Seen, AllocError> {
     let mut pages = Vec::new(alloc);
-    for (segment, index) in PAGES {
+    'pages: for (segment, index) in PAGES {
         let page = look_at(alloc, world, segment, index)?;
         pages.push(page)?;
     }
@@ -79,7 +79,7 @@ fn look_at<A: Allocator + Copy>(
     let seg = SegId(segment);
     let page = &PageId { seg, index };
     let mut sites = Vec::new(alloc);
-    for site in 0..world.sites().count() {
+    'sites: for site in 0..world.sites().count() {
         let access = world.access(SiteId(site), *page);
         let shown = world.shown(SiteId(site), *page);
         sites.push((access, shown))?;
@@ -90,7 +90,7 @@ fn look_at<A: Allocator + Copy>(
 
 fn book_of(view: &BookView) -> SeenBook {
     let mut copies = 0;
-    for site in 0..MAX_SITES {
+    'sites: for site in 0..MAX_SITES {
         copies = 2u32.wrapping_mul(copies) | u32::from(view.copies.contains(SiteId(site)));
     }
     SeenBook {
@@ -106,7 +106,7 @@ fn on_their_way<A: Allocator + Copy>(
     world: &World<A>,
 ) -> Result<Vec<Option<SeenEnvelope>>, AllocError> {
     let mut envelopes = Vec::new(alloc);
-    for number in 0..world.sent() {
+    'numbers: for number in 0..world.sent() {
         let envelope = world.envelope(number).map(|envelope| envelope_of(envelope));
         envelopes.push(envelope)?;
     }
@@ -159,7 +159,7 @@ fn page_of<A: Allocator + Copy>(page: PageId, grant: &Grant<A>) -> SeenMessage {
 /// A sum that tells apart where bytes stand.
 fn sum(bytes: &[u8]) -> u64 {
     let mut sum = 0u64;
-    for byte in bytes {
+    'bytes: for byte in bytes {
         sum = sum.wrapping_mul(257).wrapping_add(u64::from(*byte));
     }
     sum

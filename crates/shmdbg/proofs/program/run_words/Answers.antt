@@ -4,6 +4,7 @@ use Rattle.std.proofs.KnownBytes.{Appends-nil}
 use Rattle.shm_debug.specs.Script.{script_of}
 use Rattle.shm_debug.specs.declared.outcome.DebugFault.TheVariants.{OutOfMemory}
 use Rattle.shmdbg.specs.Status.{AsksReplay, Fails, Replays}
+use Rattle.shmdbg.specs.Words.{sites_given}
 use Rattle.shm_report.specs.declared.report_fault.ReportFault.TheVariants as report
 use Rattle.shmdbg.proofs.Plain.{plain_words}
 use Rattle.shmdbg.proofs.program.run_words.Goals as goal
@@ -16,8 +17,8 @@ unread : (script written : Option (List ℕ)) → Leaves script written 3
 unread None written = tt
 unread (Some bytes) written = (Err OutOfMemory, [], refl, Appends-nil written, (0, refl))
 
-without_memory : (workload : Option (List ℕ)) → Fails workload 3
-without_memory workload = record { sites = 1; fault = report.OutOfMemory; told = refl; input = tt; audit = tt }
+without_memory : (sites : Option ℕ) (workload : Option (List ℕ)) → Fails sites workload 3
+without_memory sites workload = record { fault = report.OutOfMemory; told = refl; input = tt; right = λ e. absurd (cc); audit = tt }
 
 -- src/program.rt:31:23
 pub returns-in-Err-clause-replayed : goal.returns-in-Err-clause-replayed
@@ -31,8 +32,8 @@ returns-in-Err-clause-replayed g c asks =
     ]
 
 -- src/program.rt:31:26
-pub returns-in-Ok-Run-clause-plain : goal.returns-in-Ok-Run-clause-plain
-returns-in-Ok-Run-clause-plain g c name e =
+pub returns-in-Run-clause-plain : goal.returns-in-Run-clause-plain
+returns-in-Run-clause-plain g c name e =
     let asks : AsksReplay (map g.S.AsStr.text c.args.words.now) = subst AsksReplay (sym e) (plain_words name) in
     search rules
 
@@ -45,8 +46,9 @@ returns-in-Err-clause-plain g c name e =
 pub returns-in-Err-clause-failed : goal.returns-in-Err-clause-failed
 returns-in-Err-clause-failed g c asks failed =
     let taken : c.refused_words.result ≢ 2 = search rules in
+    let sites = sites_given (map g.S.AsStr.text c.args.words.now) in
     let workload = g.I.Read.remaining c.args.reader.now in
     elim c.refused_words.ensures.status [
-      | inl h ↦ subst (Fails workload) (sym h.1) (without_memory workload)
-      | inr h ↦ absurd {A = Fails workload c.refused_words.result} (taken h.1)
+      | inl h ↦ subst (Fails sites workload) (sym h.1) (without_memory sites workload)
+      | inr h ↦ absurd {A = Fails sites workload c.refused_words.result} (taken h.1)
     ]

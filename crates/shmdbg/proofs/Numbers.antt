@@ -1,0 +1,23 @@
+-- The numbers that clap reads of a run's options are those that the words give.
+use Rattle.std.proofs.Common.{◌≡◌, ℕ, List, IfSome, option_map, refl}
+use Rattle.std.specs.Prelude.{None, Ok, Option, Result, Some}
+use Rattle.clap.specs.Words.{ReadsOne, Row, Text, one_of}
+use Rattle.shmdbg.specs.Words.{number_in, number_of}
+
+pub number_read : (E : Type 0) (G : List ℕ → Result ℕ E → Type 0) → ((t : List ℕ) (n : ℕ) → G t (Ok n) → n ≡ number_of t)
+    → (text : Option (List ℕ)) (r : Option ℕ) → (text ≡ None → r ≡ None) → ((t : List ℕ) → text ≡ Some t → ReadsOne G t r)
+    → IfSome r (λ n. option_map number_of text ≡ Some n)
+number_read E G says text None none value = tt
+number_read E G says None (Some n) none value =
+    let bad : Some n ≡ None = none refl in
+    cc
+number_read E G says (Some t) (Some n) none value =
+    let is : n ≡ number_of t = says t n (value t refl) in
+    cc
+
+pub number_at : (named : Option (Text × List Row)) (rows : List Row) (option : Text) (n : ℕ) → option_map (λ p. p.1) named ≡ Some rows
+    → option_map number_of (one_of option rows) ≡ Some n → number_in named option ≡ Some n
+number_at None rows option n there read = cc
+number_at (Some run) rows option n there read =
+    let is : run.1 ≡ rows = cc in
+    rw is read
