@@ -52,7 +52,7 @@ pub set_run : (cred : Cred) (id uid gid : ℕ) (mode : Mode) (before after : Tab
 set_run cred id uid gid mode before after reply called rest =
     let later : after.segments ≡ (call before.sites before.home (Set cred id uid gid mode) before.segments).segments = ap (λ (c : Called). c.segments) (sym called) in
     let s = before.segments in
-    told_run (Set cred id uid gid mode) before after reply called (ap (λ (t : List Segment). destroyed_in (Some id) s t) later ∙ on_live_keeps id s (λ g. set cred id uid gid mode.0 g s) (with_id id s) refl (λ g found alive. set_keeps cred id uid gid mode.0 s g found alive)) rest
+    told_run (Set cred id uid gid mode) before after reply called (ap (λ (t : List Segment). destroyed_in (Some id) s t) later ∙ on_live_keeps id s (λ g. set cred id uid gid mode g s) (with_id id s) refl (λ g found alive. set_keeps cred id uid gid mode s g found alive)) rest
 
 -- a call that was done, and may have destroyed the segment
 pub done_run : (op : Op) (id : ℕ) (before after : Table) (done : Done) → named_by op ≡ Some id → is_destroyed (with_id id before.segments) ≡ false

@@ -1,8 +1,7 @@
-ghost use Rattle.std.specs.Prelude.{◌≡◌};
 ghost use Rattle.shm_attach.specs.CallBook.{fault_number};
 ghost use Rattle.shm_attach.specs.Right.{denied_number};
 
-use shm_model::refusal;
+use shm_model::refusal::{self, Numbered};
 
 /// Why a segment call didn't begin.
 #[derive(Clone, Copy, Debug, PartialEq, Eq)]
@@ -13,11 +12,10 @@ pub enum BeginFault {
     UsedUp,
 }
 
-impl BeginFault {
-    /// The number of the refusal.
-    pub fn number(self) -> u8
-        ensures { result ≡ fault_number self }
-    {
+impl Numbered for BeginFault {
+    ghost number_of = { fault_number };
+
+    fn number(&self) -> u8 {
         match self {
             BeginFault::Busy => refusal::BUSY,
             BeginFault::UsedUp => refusal::NUMBERS_USED_UP,
@@ -36,11 +34,10 @@ pub enum Denied {
     OutOfSegment,
 }
 
-impl Denied {
-    /// The number of the refusal.
-    pub fn number(self) -> u8
-        ensures { result ≡ denied_number self }
-    {
+impl Numbered for Denied {
+    ghost number_of = { denied_number };
+
+    fn number(&self) -> u8 {
         match self {
             Denied::NoAttachment => refusal::NO_ATTACHMENT,
             Denied::ReadOnly => refusal::READ_ONLY,

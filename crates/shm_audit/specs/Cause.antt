@@ -4,6 +4,7 @@ use Rattle.std.specs.Prelude.{◌≡◌, ℕ, ◌+◌, ◌-◌, ◌<◌, ◌⊎�
 use Rattle.shm_model.specs.Log.{Logged, log_of}
 use Rattle.shm_model.specs.Message.{Envelope, Input, Deliver}
 use Rattle.shm_model.specs.Receipt.{Receipt, ReceiptsHold}
+use Rattle.shm_model.specs.Refusal.{forged, out_of_memory, stamp_order, unsent, untold}
 use Rattle.shm_audit.specs.declared.audit_fault.AuditFault.{AuditFault}
 use Rattle.shm_audit.specs.declared.audit_fault.AuditFault.TheVariants as fault
 
@@ -110,8 +111,8 @@ IsFirstCause logs callers fault.OutOfMemory = ⊥
 
 -- the numbers under which programs tell of them
 abbrev pub audit_fault_number : AuditFault → ℕ
-audit_fault_number (fault.Unsent _ _) = 23
-audit_fault_number (fault.StampOrder _ _) = 24
-audit_fault_number (fault.Forged _ _) = 25
-audit_fault_number (fault.Untold _ _) = 30
-audit_fault_number fault.OutOfMemory = 17
+audit_fault_number (fault.Unsent _ _) = unsent
+audit_fault_number (fault.StampOrder _ _) = stamp_order
+audit_fault_number (fault.Forged _ _) = forged
+audit_fault_number (fault.Untold _ _) = untold
+audit_fault_number fault.OutOfMemory = out_of_memory

@@ -1,4 +1,4 @@
-use shm_model::refusal;
+use shm_model::refusal::{self, Numbered};
 use shm_place::SiteId;
 use thiserror::Error;
 
@@ -24,19 +24,17 @@ pub enum AuditFault {
     OutOfMemory,
 }
 
-impl AuditFault {
-    ghost use Rattle.std.specs.Prelude.{◌≡◌};
+impl Numbered for AuditFault {
     ghost use Rattle.shm_audit.specs.Cause.{audit_fault_number};
 
-    /// The number of the refusal.
-    pub fn number(self) -> u8
-        ensures { result ≡ audit_fault_number self }
-    {
+    ghost number_of = { audit_fault_number };
+
+    fn number(&self) -> u8 {
         match self {
-            AuditFault::Unsent { .. } => 23,
-            AuditFault::StampOrder { .. } => 24,
-            AuditFault::Forged { .. } => 25,
-            AuditFault::Untold { .. } => 30,
+            AuditFault::Unsent { .. } => refusal::UNSENT,
+            AuditFault::StampOrder { .. } => refusal::STAMP_ORDER,
+            AuditFault::Forged { .. } => refusal::FORGED,
+            AuditFault::Untold { .. } => refusal::UNTOLD,
             AuditFault::OutOfMemory => refusal::OUT_OF_MEMORY,
         }
     }

@@ -3,11 +3,11 @@ use Rattle.std.specs.Prelude.{ℕ, ◌+◌, Bool, ◌||◌, List, [], ◌∷◌,
 use Rattle.shm_model.specs.Log.{Logged, Stamp}
 use Rattle.shm_model.specs.Message.{Input}
 use Rattle.shm_model.specs.Receipt as model
-use Rattle.shm_model.specs.Refusal.{foreign_message}
+use Rattle.shm_model.specs.Refusal.{clock_end, foreign_message, out_of_memory}
 use Rattle.shm_model.specs.Site.{Site}
 use Rattle.shm_model.specs.Step.{step}
 use Rattle.shm_model.specs.World.{Preset, opened_site}
-use Rattle.shm_site.specs.Step.{is_delivery, is_foreign, may_grow, out_of_memory}
+use Rattle.shm_site.specs.Step.{is_delivery, is_foreign, may_grow}
 use Rattle.shm_boxes.specs.declared.box_fault.BoxFault.{BoxFault}
 use Rattle.shm_boxes.specs.declared.box_fault.BoxFault.TheVariants as fault
 
@@ -75,9 +75,6 @@ receipt box input = record {
   asked = model.access input;
   answer = (step box.sites box.me box.site input).answer;
 }
-
-abbrev pub clock_end : ℕ
-clock_end = 27
 
 abbrev pub box_fault_number : BoxFault → ℕ
 box_fault_number fault.Foreign = foreign_message

@@ -1,4 +1,4 @@
-use shm_model::refusal;
+use shm_model::refusal::{self, Numbered};
 
 /// Why a box took no input.
 #[derive(Clone, Copy, Debug, PartialEq, Eq)]
@@ -11,14 +11,12 @@ pub enum BoxFault {
     OutOfMemory,
 }
 
-impl BoxFault {
-    ghost use Rattle.std.specs.Prelude.{◌≡◌};
+impl Numbered for BoxFault {
     ghost use Rattle.shm_boxes.specs.Box.{box_fault_number};
 
-    /// The number of the refusal.
-    pub fn number(self) -> u8
-        ensures { result ≡ box_fault_number self }
-    {
+    ghost number_of = { box_fault_number };
+
+    fn number(&self) -> u8 {
         match self {
             BoxFault::Foreign => refusal::FOREIGN,
             BoxFault::ClockEnd => refusal::CLOCK_END,

@@ -2,20 +2,14 @@
 use Rattle.std.specs.Prelude.{ℕ, ◌==◌, if◌then◌else◌, unwrap_or}
 use Rattle.shm_model.specs.Log.{Stamp}
 use Rattle.shm_model.specs.Message.{Input}
-use Rattle.shm_boxes.specs.Box.{Box, clock_end, refusal}
+use Rattle.shm_model.specs.Refusal.{clock_end, gave_up, no_thread, out_of_memory}
+use Rattle.shm_boxes.specs.Box.{Box, refusal}
 use Rattle.shm_boxes.specs.declared.box_fault.BoxFault.{BoxFault}
 use Rattle.shm_boxes.specs.declared.box_fault.BoxFault.TheVariants as box
-use Rattle.shm_site.specs.Step.{out_of_memory}
 use Rattle.shm_cluster.specs.declared.client_fault.ClientFault.{ClientFault}
 use Rattle.shm_cluster.specs.declared.client_fault.ClientFault.TheVariants as client
 use Rattle.shm_cluster.specs.declared.start_fault.StartFault.{StartFault}
 use Rattle.shm_cluster.specs.declared.start_fault.StartFault.TheVariants as start
-
-abbrev pub gave_up : ℕ
-gave_up = 26
-
-abbrev pub no_thread : ℕ
-no_thread = 29
 
 abbrev pub client_fault_number : ClientFault → ℕ
 client_fault_number client.OutOfMemory = out_of_memory

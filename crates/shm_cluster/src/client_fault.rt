@@ -1,4 +1,4 @@
-use shm_model::refusal;
+use shm_model::refusal::{self, Numbered};
 
 /// Why a client gave no receipt.
 #[derive(Clone, Copy, Debug, PartialEq, Eq)]
@@ -11,17 +11,15 @@ pub enum ClientFault {
     ClockEnd,
 }
 
-impl ClientFault {
-    ghost use Rattle.std.specs.Prelude.{◌≡◌};
-    ghost use Rattle.shm_cluster.specs.Faults.{client_fault_number, client_fault_of};
+impl Numbered for ClientFault {
+    ghost use Rattle.shm_cluster.specs.Faults.{client_fault_number};
 
-    /// The number of the refusal.
-    pub fn number(self) -> u8
-        ensures { result ≡ client_fault_number self }
-    {
+    ghost number_of = { client_fault_number };
+
+    fn number(&self) -> u8 {
         match self {
             ClientFault::OutOfMemory => refusal::OUT_OF_MEMORY,
-            ClientFault::GaveUp => 26,
+            ClientFault::GaveUp => refusal::GAVE_UP,
             ClientFault::ClockEnd => refusal::CLOCK_END,
         }
     }

@@ -1,4 +1,4 @@
-use shm_model::refusal;
+use shm_model::refusal::{self, Numbered};
 
 /// Why no cluster was started. The threads that had been started have ended.
 #[derive(Clone, Copy, Debug, PartialEq, Eq)]
@@ -9,17 +9,15 @@ pub enum StartFault {
     NoThread,
 }
 
-impl StartFault {
-    ghost use Rattle.std.specs.Prelude.{◌≡◌};
+impl Numbered for StartFault {
     ghost use Rattle.shm_cluster.specs.Faults.{start_fault_number};
 
-    /// The number of the refusal.
-    pub fn number(self) -> u8
-        ensures { result ≡ start_fault_number self }
-    {
+    ghost number_of = { start_fault_number };
+
+    fn number(&self) -> u8 {
         match self {
             StartFault::OutOfMemory => refusal::OUT_OF_MEMORY,
-            StartFault::NoThread => 29,
+            StartFault::NoThread => refusal::NO_THREAD,
         }
     }
 }

@@ -7,3 +7,4 @@ pub mod Promise
 pub mod Told
 pub mod Replay
 pub mod Reading
+pub mod Faults

@@ -1,3 +1,4 @@
+use shm_model::refusal::{self, Numbered};
 use thiserror::Error;
 
 /// What a whole script was.
@@ -32,4 +33,21 @@ pub enum DebugFault {
     /// The writer answered an error, or took nothing.
     #[error("write fault")]
     WriteFault,
+}
+
+impl Numbered for DebugFault {
+    ghost use Rattle.shm_debug.specs.Faults.{debug_fault_number};
+
+    ghost number_of = { debug_fault_number };
+
+    fn number(&self) -> u8 {
+        match self {
+            DebugFault::OutOfMemory => refusal::OUT_OF_MEMORY,
+            DebugFault::BadLine(_) => refusal::BAD_LINE,
+            DebugFault::LineTooLong(_) => refusal::LINE_TOO_LONG,
+            DebugFault::TooManyLines => refusal::TOO_MANY_LINES,
+            DebugFault::ReadFault => refusal::READ_FAULT,
+            DebugFault::WriteFault => refusal::WRITE_FAULT,
+        }
+    }
 }

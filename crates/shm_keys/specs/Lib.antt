@@ -2,3 +2,4 @@ pub mod SiteSet
 pub mod Purge
 pub mod Table
 pub mod Answer
+pub mod GetFault

@@ -9,6 +9,7 @@ use crate::purge::Purge;
 use crate::segment::Segment;
 use crate::table::SegTable;
 use indexmap::IndexMap;
+use shm_model::refusal::{Numbered, OUT_OF_MEMORY};
 use shm_model::{Cred, Errno, GetFlags, Mode};
 use shm_place::{Key, MAX_SEGMENT_BYTES, SEGMENTS_OF_A_HOME, SegId, SiteId, Sites};
 use std::alloc::{AllocError, Allocator};
@@ -24,6 +25,19 @@ pub enum GetFault {
     Refused(Errno),
     /// There was no memory for the new segment's record. Nothing has changed.
     OutOfMemory,
+}
+
+impl Numbered for GetFault {
+    ghost use Rattle.shm_keys.specs.GetFault.{get_fault_number};
+
+    ghost number_of = { get_fault_number };
+
+    fn number(&self) -> u8 {
+        match self {
+            GetFault::Refused(errno) => errno.number(),
+            GetFault::OutOfMemory => OUT_OF_MEMORY,
+        }
+    }
 }
 
 /// Makes the room that a further segment needs, also for when it is destroyed.
@@ -106,7 +120,7 @@ impl<A: Allocator + Copy> SegTable<A> {
     /// Makes a segment: EINVAL for a size of 0 or above the greatest, ENOSPC where the home may have no more.
     fn make(&mut self, cred: Cred, key: Key, size: u32, mode: Mode) -> Result<SegId, GetFault>
         requires { key ≢ 0 → with_key key self.old.segments ≡ None }
-        ensures answer { IsGetAnswer result (next_id self.old.sites self.old.home self.old.segments) (make self.old.sites self.old.home cred key size mode.0 self.old.segments) self.new.segments }
+        ensures answer { IsGetAnswer result (next_id self.old.sites self.old.home self.old.segments) (make self.old.sites self.old.home cred key size mode self.old.segments) self.new.segments }
         ensures rest { self.new ≡ record self.old { segments = self.new.segments } }
         ensures unchanged { OnErr result (self.new ≡ self.old) }
     {
@@ -163,7 +177,7 @@ impl Segment {
 
     /// The key has a segment: EEXIST, EINVAL where it is smaller than asked, and only then EACCES.
     fn get(&self, cred: Cred, size: u32, mode: Mode, flags: GetFlags) -> Result<SegId, GetFault>
-        ensures { (fresh : ℕ) (segments : List Record) → IsGetAnswer result fresh (get_present self.now (has_creat flags.0 && has_excl flags.0) cred size mode.0 segments) segments }
+        ensures { (fresh : ℕ) (segments : List Record) → IsGetAnswer result fresh (get_present self.now (has_creat flags.0 && has_excl flags.0) cred size mode segments) segments }
     {
         if creates_only(flags) {
             return Err(GetFault::Refused(Errno::Eexist));

@@ -26,15 +26,15 @@ fn permits(reads: bool, writes: bool, bits: u32) -> bool
 }
 
 fn asks_to_read(mode: Mode) -> bool
-    ensures { result ≡ asks_to_read mode.0 }
+    ensures { result ≡ asks_to_read mode }
 {
-    may_read(mode.0 / 0o100) || may_read(mode.0 / 0o10) || may_read(mode.0)
+    may_read(mode.bits() / 0o100) || may_read(mode.bits() / 0o10) || may_read(mode.bits())
 }
 
 fn asks_to_write(mode: Mode) -> bool
-    ensures { result ≡ asks_to_write mode.0 }
+    ensures { result ≡ asks_to_write mode }
 {
-    may_write(mode.0 / 0o100) || may_write(mode.0 / 0o10) || may_write(mode.0)
+    may_write(mode.bits() / 0o100) || may_write(mode.bits() / 0o10) || may_write(mode.bits())
 }
 
 impl Segment {
@@ -56,17 +56,17 @@ impl Segment {
         ensures { result ≡ class_of cred self.now }
     {
         if self.is_owner(cred) {
-            return self.mode.0 / 0o100;
+            return self.mode.bits() / 0o100;
         }
         if self.is_in_group(cred) {
-            return self.mode.0 / 0o10;
+            return self.mode.bits() / 0o10;
         }
-        self.mode.0
+        self.mode.bits()
     }
 
     /// Whether the caller may have what a `get` asks for by its mode.
     pub fn may_get(&self, cred: Cred, mode: Mode) -> bool
-        ensures { result ≡ may_get cred mode.0 self.now }
+        ensures { result ≡ may_get cred mode self.now }
     {
         permits(asks_to_read(mode), asks_to_write(mode), self.class_of(cred))
     }

@@ -21,7 +21,7 @@ fn first_segment(sites: Sites, pages: u32) -> Segment
         gid: 0,
         cuid: 0,
         cgid: 0,
-        mode: Mode(0o666),
+        mode: Mode::ALL_READ_WRITE,
         size: PAGE_BYTES as u32 * pages,
         nattch: sites.count() as u64,
         marked: false,

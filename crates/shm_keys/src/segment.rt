@@ -26,15 +26,15 @@ impl Model for Segment {
 
     ghost Value = { Record };
 
-    ghost view = { λ g. record { id = g.id; key = g.key; uid = g.uid; gid = g.gid; cuid = g.cuid; cgid = g.cgid; mode = g.mode.0; size = g.size; nattch = g.nattch; marked = g.marked } };
+    ghost view = { λ g. record { id = g.id; key = g.key; uid = g.uid; gid = g.gid; cuid = g.cuid; cgid = g.cgid; mode = g.mode; size = g.size; nattch = g.nattch; marked = g.marked } };
 
-    ghost inverse = { λ g. record { id = g.id; key = g.key; uid = g.uid; gid = g.gid; cuid = g.cuid; cgid = g.cgid; mode = record { 0 = g.mode }; size = g.size; nattch = g.nattch; marked = g.marked } };
+    ghost inverse = { λ g. record { id = g.id; key = g.key; uid = g.uid; gid = g.gid; cuid = g.cuid; cgid = g.cgid; mode = g.mode; size = g.size; nattch = g.nattch; marked = g.marked } };
 }
 
 impl Segment {
     /// A new segment, which belongs to its maker.
     pub fn new(id: SegId, cred: Cred, key: Key, size: u32, mode: Mode) -> Segment
-        ensures { result ≡ new_segment id cred key size mode.0 }
+        ensures { result ≡ new_segment id cred key size mode }
     {
         Segment {
             id,
@@ -59,7 +59,7 @@ impl Segment {
 
     /// What `stat` tells of it.
     pub fn stat(&self) -> Stat
-        ensures { result ≡ record { key = self.now.key; uid = self.now.uid; gid = self.now.gid; cuid = self.now.cuid; cgid = self.now.cgid; mode = record { 0 = self.now.mode }; size = self.now.size; nattch = self.now.nattch; marked = self.now.marked } }
+        ensures { result ≡ record { key = self.now.key; uid = self.now.uid; gid = self.now.gid; cuid = self.now.cuid; cgid = self.now.cgid; mode = self.now.mode; size = self.now.size; nattch = self.now.nattch; marked = self.now.marked } }
     {
         Stat {
             key: self.key,

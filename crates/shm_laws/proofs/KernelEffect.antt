@@ -175,8 +175,8 @@ effect-call sites home caller below (Get cred key size mode flags) segments at =
     let op = Get cred key size mode flags in
     let here : key ≢ 0 → key % sites ≡ home = key-home sites caller key home at in
     effect-if sites home op segments (key == 0) _ _
-    (λ is. does-make sites home below op segments cred key size mode.0 here (λ i. refl) (λ i. refl))
-    (λ is. does-get_found sites home below op segments (with_key key segments) cred key size mode.0 flags.0 here (λ i. refl) (λ i. refl))
+    (λ is. does-make sites home below op segments cred key size mode here (λ i. refl) (λ i. refl))
+    (λ is. does-get_found sites home below op segments (with_key key segments) cred key size mode flags.0 here (λ i. refl) (λ i. refl))
 effect-call sites home caller below (Attach cred id ro) segments at =
     let op = Attach cred id ro in
     does-on_live sites home below op segments (with_id id segments) _ (λ i. refl) (λ g found alive.
@@ -193,7 +193,7 @@ effect-call sites home caller below (Set cred id uid gid mode) segments at =
     let op = Set cred id uid gid mode in
     does-on_live sites home below op segments (with_id id segments) _ (λ i. refl) (λ g found alive.
     effect-if sites home op segments (not (is_owner cred g)) _ _ (λ is. does-nothing sites home below op segments (Refused Eperm) refl (λ i. refl)) (λ is.
-    changed _ id g _ found alive (plain-change sites id op g (record g { uid = uid; gid = gid; mode = mode.0 }) (found-id id segments g found) refl (λ keyed. refl) (λ i. refl) (λ i. refl))))
+    changed _ id g _ found alive (plain-change sites id op g (record g { uid = uid; gid = gid; mode = mode }) (found-id id segments g found) refl (λ keyed. refl) (λ i. refl) (λ i. refl))))
 effect-call sites home caller below (Stat cred id) segments at =
     let op = Stat cred id in
     does-on_live sites home below op segments (with_id id segments) _ (λ i. refl) (λ g found alive.

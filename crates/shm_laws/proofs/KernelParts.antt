@@ -144,7 +144,7 @@ module _ (sites home : ℕ) (below : home < sites) (segments : List Segment) whe
   -- a call on a home's part is the call on the whole
   pub fits-call : (caller : ℕ) (op : Op) → op_home sites caller op ≡ home → AllByRecursion (HasKeyAtHome sites) segments
       → Fits (call sites home op (part sites home segments)) (call sites home op segments)
-  fits-call caller (Get cred key size mode flags) at kept = fits-get (key == 0) caller key cred size mode.0 flags.0 refl at kept
+  fits-call caller (Get cred key size mode flags) at kept = fits-get (key == 0) caller key cred size mode flags.0 refl at kept
   fits-call caller (Attach cred id ro) at kept = fits-named id _ _ at (λ g is.
       fits-if (not (may_attach cred ro g)) _ _ _ _ (fits-same _)
       (fits-if (g.nattch == greatest) _ _ _ _ (fits-same _) (fits-replaced id _ _ is at)))

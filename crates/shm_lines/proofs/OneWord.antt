@@ -10,7 +10,6 @@ use Rattle.std.proofs.lemmas.Bool.Decides.{nat_tests}
 use Rattle.std.proofs.lemmas.Fmt.{decimal_digit}
 use Rattle.std.proofs.lemmas.List.Elements.{All-nil, All-cons}
 use Rattle.std.proofs.lemmas.Slice.Eq.{bytes_eq-Decides}
-use Rattle.shm_model.specs.declared.mode.Mode.{Mode}
 use Rattle.shm_model.specs.declared.mode.GetFlags.{GetFlags}
 use Rattle.shm_lines.proofs.NumberWords.{number_of-is, number_of-decimal, NoBlank-decimal}
 use Rattle.shm_lines.proofs.StepLemmas.{step, step-is, some-is, cond-some, and-parts, lt-true, lt-test, NoBlank, NoBlank-test}
@@ -65,23 +64,23 @@ three (a ∷ b ∷ c ∷ d ∷ rest) h = absurd (grind (arith, nat_tests))
 abbrev from_digits : ℕ → ℕ → ℕ → ℕ
 from_digits a b c = ((0 * 8 + a) * 8 + b) * 8 + c
 
-mode_of_three : (a b c : ℕ) (m : Mode) → is_digit a 8 ≡ true → is_digit b 8 ≡ true → is_digit c 8 ≡ true → m.0 ≡ digits_value 8 (a ∷ b ∷ c ∷ [])
+mode_of_three : (a b c : ℕ) (m : ℕ) → is_digit a 8 ≡ true → is_digit b 8 ≡ true → is_digit c 8 ≡ true → m ≡ digits_value 8 (a ∷ b ∷ c ∷ [])
     → (a ∷ b ∷ c ∷ [] ≡ mode_word m) × IsMode m
 mode_of_three a b c m x y z e =
     let p = octal a x in
     let q = octal b y in
     let r = octal c z in
-    let high : m.0 / 64 ≡ digit_value a = omega arith in
-    let middle : m.0 / 8 % 8 ≡ digit_value b = omega arith in
-    let low : m.0 % 8 ≡ digit_value c = omega arith in
-    let first : decimal (m.0 / 64) ≡ a ∷ [] = ap decimal high ∙ decimal_digit (digit_value a) (omega arith) ∙ ap (λ n. n ∷ []) (sym p.0) in
-    let second : decimal (m.0 / 8 % 8) ≡ b ∷ [] = ap decimal middle ∙ decimal_digit (digit_value b) (omega arith) ∙ ap (λ n. n ∷ []) (sym q.0) in
-    let third : decimal (m.0 % 8) ≡ c ∷ [] = ap decimal low ∙ decimal_digit (digit_value c) (omega arith) ∙ ap (λ n. n ∷ []) (sym r.0) in
+    let high : m / 64 ≡ digit_value a = omega arith in
+    let middle : m / 8 % 8 ≡ digit_value b = omega arith in
+    let low : m % 8 ≡ digit_value c = omega arith in
+    let first : decimal (m / 64) ≡ a ∷ [] = ap decimal high ∙ decimal_digit (digit_value a) (omega arith) ∙ ap (λ n. n ∷ []) (sym p.0) in
+    let second : decimal (m / 8 % 8) ≡ b ∷ [] = ap decimal middle ∙ decimal_digit (digit_value b) (omega arith) ∙ ap (λ n. n ∷ []) (sym q.0) in
+    let third : decimal (m % 8) ≡ c ∷ [] = ap decimal low ∙ decimal_digit (digit_value c) (omega arith) ∙ ap (λ n. n ∷ []) (sym r.0) in
     (sym (ap₂ ◌++◌ first (ap₂ ◌++◌ second third)), omega arith)
 
-mode_of-is : (word : List ℕ) (m : Mode) → mode_of word ≡ Some m → (word ≡ mode_word m) × IsMode m
+mode_of-is : (word : List ℕ) (m : ℕ) → mode_of word ≡ Some m → (word ≡ mode_word m) × IsMode m
 mode_of-is word m h =
-    let t = cond-some ((length word == 3) && list_all (λ b. is_digit b 8) word) (record { 0 = digits_value 8 word }) m h in
+    let t = cond-some ((length word == 3) && list_all (λ b. is_digit b 8) word) (digits_value 8 word) m h in
     let p = and-parts (length word == 3) (list_all (λ b. is_digit b 8) word) t.0 in
     let w = three word p.0 in
     let a = w.0 in
@@ -92,43 +91,40 @@ mode_of-is word m h =
     let x = and-parts (is_digit a 8) (is_digit b 8 && (is_digit c 8 && true)) all in
     let y = and-parts (is_digit b 8) (is_digit c 8 && true) x.1 in
     let z = and-parts (is_digit c 8) true y.1 in
-    let value : m.0 ≡ digits_value 8 (a ∷ b ∷ c ∷ []) = ap (λ (k : Mode). k.0) (sym t.1) ∙ ap (digits_value 8) e in
+    let value : m ≡ digits_value 8 (a ∷ b ∷ c ∷ []) = sym t.1 ∙ ap (digits_value 8) e in
     let r = mode_of_three a b c m x.0 y.0 z.0 value in
     (e ∙ r.0, r.1)
 
-abbrev some_mode : ℕ → Option Mode
-some_mode n = Some (record { 0 = n })
-
 by_parts : (p q r : Bool) (u v w a b c : ℕ) → p ≡ true → q ≡ true → r ≡ true → u ≡ a → v ≡ b → w ≡ c
-    → cond (p && (q && (r && true))) (some_mode (from_digits u v w)) None ≡ some_mode (from_digits a b c)
+    → cond (p && (q && (r && true))) (Some (from_digits u v w)) None ≡ Some (from_digits a b c)
 by_parts true true true u v w a b c x y z e f g = rw (e, f, g) refl
 by_parts true true false u v w a b c x y z e f g = absurd (cc)
 by_parts true false r u v w a b c x y z e f g = absurd (cc)
 by_parts false q r u v w a b c x y z e f g = absurd (cc)
 
-mode_of_digits : (a b c : ℕ) → a < 8 → b < 8 → c < 8 → mode_of ((48 + a) ∷ (48 + b) ∷ (48 + c) ∷ []) ≡ some_mode (from_digits a b c)
+mode_of_digits : (a b c : ℕ) → a < 8 → b < 8 → c < 8 → mode_of ((48 + a) ∷ (48 + b) ∷ (48 + c) ∷ []) ≡ Some (from_digits a b c)
 mode_of_digits a b c x y z =
     let p = octal_digit a x in
     let q = octal_digit b y in
     let r = octal_digit c z in
     by_parts (is_digit (48 + a) 8) (is_digit (48 + b) 8) (is_digit (48 + c) 8) (digit_value (48 + a)) (digit_value (48 + b)) (digit_value (48 + c)) a b c p.0 q.0 r.0 p.1 q.1 r.1
 
-mode_digits : (m : Mode) → IsMode m → mode_word m ≡ (48 + m.0 / 64) ∷ (48 + m.0 / 8 % 8) ∷ (48 + m.0 % 8) ∷ []
+mode_digits : (m : ℕ) → IsMode m → mode_word m ≡ (48 + m / 64) ∷ (48 + m / 8 % 8) ∷ (48 + m % 8) ∷ []
 mode_digits m h =
-    ap₂ ◌++◌ (decimal_digit (m.0 / 64) (omega arith)) (ap₂ ◌++◌ (decimal_digit (m.0 / 8 % 8) (omega arith)) (decimal_digit (m.0 % 8) (omega arith)))
+    ap₂ ◌++◌ (decimal_digit (m / 64) (omega arith)) (ap₂ ◌++◌ (decimal_digit (m / 8 % 8) (omega arith)) (decimal_digit (m % 8) (omega arith)))
 
-mode_of-word : (m : Mode) → IsMode m → mode_of (mode_word m) ≡ Some m
+mode_of-word : (m : ℕ) → IsMode m → mode_of (mode_word m) ≡ Some m
 mode_of-word m h =
-    let whole : from_digits (m.0 / 64) (m.0 / 8 % 8) (m.0 % 8) ≡ m.0 = omega arith in
+    let whole : from_digits (m / 64) (m / 8 % 8) (m % 8) ≡ m = omega arith in
     ap mode_of (mode_digits m h)
-    ∙ mode_of_digits (m.0 / 64) (m.0 / 8 % 8) (m.0 % 8) (omega arith) (omega arith) (omega arith)
-    ∙ ap some_mode whole
+    ∙ mode_of_digits (m / 64) (m / 8 % 8) (m % 8) (omega arith) (omega arith) (omega arith)
+    ∙ ap (λ n. Some n) whole
 
-NoBlank-mode : (m : Mode) → IsMode m → NoBlank (mode_word m)
+NoBlank-mode : (m : ℕ) → IsMode m → NoBlank (mode_word m)
 NoBlank-mode m h = subst NoBlank (sym (mode_digits m h)) (
-    All-cons test (48 + m.0 / 64) ((48 + m.0 / 8 % 8) ∷ (48 + m.0 % 8) ∷ []) (apart (m.0 / 64)) (
-    All-cons test (48 + m.0 / 8 % 8) ((48 + m.0 % 8) ∷ []) (apart (m.0 / 8 % 8)) (
-    All-cons test (48 + m.0 % 8) [] (apart (m.0 % 8)) (All-nil test)
+    All-cons test (48 + m / 64) ((48 + m / 8 % 8) ∷ (48 + m % 8) ∷ []) (apart (m / 64)) (
+    All-cons test (48 + m / 8 % 8) ((48 + m % 8) ∷ []) (apart (m / 8 % 8)) (
+    All-cons test (48 + m % 8) [] (apart (m % 8)) (All-nil test)
     )
     )
     )

@@ -11,7 +11,6 @@ use Rattle.shm_model.specs.declared.call.Request.{Request}
 use Rattle.shm_model.specs.declared.call.Request.TheVariants.{Op as OpRequest, DetachAt}
 use Rattle.shm_model.specs.declared.event.Event.{Event}
 use Rattle.shm_model.specs.declared.event.Event.TheVariants.{Load, Store, Begin, Tick, Restart, Deliver, Repeat, Lose}
-use Rattle.shm_model.specs.declared.mode.Mode.{Mode}
 use Rattle.shm_model.specs.declared.mode.GetFlags.{GetFlags}
 use Rattle.shm_model.specs.Book.{max_sites}
 use Rattle.shm_lines.specs.declared.line.Line.{Line}
@@ -26,8 +25,8 @@ abbrev pub IsCred : Cred → Type 0
 IsCred cred = IsNumber cred.uid × IsNumber cred.gid
 
 -- nine bits
-abbrev pub IsMode : Mode → Type 0
-IsMode mode = mode.0 < 512
+abbrev pub IsMode : ℕ → Type 0
+IsMode mode = mode < 512
 
 -- no bit but those of IPC_CREAT and IPC_EXCL
 abbrev pub IsFlags : GetFlags → Type 0
@@ -72,8 +71,8 @@ IsLine (Back n) = IsNumber n
 -- ---- their words
 
 -- three octal digits
-abbrev pub mode_word : Mode → List ℕ
-mode_word mode = decimal (mode.0 / 64) ++ (decimal (mode.0 / 8 % 8) ++ decimal (mode.0 % 8))
+abbrev pub mode_word : ℕ → List ℕ
+mode_word mode = decimal (mode / 64) ++ (decimal (mode / 8 % 8) ++ decimal (mode % 8))
 
 abbrev pub flags_word : GetFlags → List ℕ
 flags_word flags =

@@ -6,7 +6,6 @@ use Rattle.std.specs.Char.{is_ascii_digit, is_digit}
 use Rattle.std.specs.Str.{bytes_eq}
 use Rattle.std.specs.Str.Parse.{digits_value}
 use Rattle.shm_model.specs.declared.call.Cred.{Cred}
-use Rattle.shm_model.specs.declared.mode.Mode.{Mode}
 use Rattle.shm_model.specs.declared.mode.GetFlags.{GetFlags}
 
 infixl 20 ◌>>=◌
@@ -34,8 +33,8 @@ byte_of word = do
   n ← number_of word
   if nat_lt n 256 then Some n else None
 
-abbrev pub mode_of : List ℕ → Option Mode
-mode_of word = if (length word == 3) && list_all (λ byte. is_digit byte 8) word then Some (record { 0 = digits_value 8 word }) else None
+abbrev pub mode_of : List ℕ → Option ℕ
+mode_of word = if (length word == 3) && list_all (λ byte. is_digit byte 8) word then Some (digits_value 8 word) else None
 
 -- c is IPC_CREAT, octal 1000, and x is IPC_EXCL, octal 2000
 abbrev pub flags_of : List ℕ → Option GetFlags

@@ -15,7 +15,7 @@ pub fn mode(word: &[u8]) -> Option<Mode>
     if !is_octal(*owner) || !is_octal(*group) || !is_octal(*others) {
         return None;
     }
-    Some(Mode(digit(*owner) * 64 + digit(*group) * 8 + digit(*others)))
+    Mode::from_bits(digit(*owner) * 64 + digit(*group) * 8 + digit(*others))
 }
 
 fn is_octal(byte: u8) -> bool

@@ -117,9 +117,9 @@ impl fmt::Display for ModeWord {
 
     fn fmt<W: fmt::Write>(&self, f: &mut fmt::Formatter<W>) -> fmt::Result {
         let mode = self.0;
-        let owner = mode.0 / 64;
-        let group = mode.0 / 8 % 8;
-        let others = mode.0 % 8;
+        let owner = mode.bits() / 64;
+        let group = mode.bits() / 8 % 8;
+        let others = mode.bits() % 8;
         write!(f, "{owner}{group}{others}")
     }
 }

@@ -112,15 +112,15 @@ set cred id uid gid mode g segments =
 abbrev pub stat : Cred → Segment → List Segment → Called
 stat cred g segments =
     if not (may_stat cred g) then refuse Eacces segments
-    else record { reply = StatReply (record { key = g.key; uid = g.uid; gid = g.gid; cuid = g.cuid; cgid = g.cgid; mode = record { 0 = g.mode }; size = g.size; nattch = g.nattch; marked = g.marked }); segments = segments }
+    else record { reply = StatReply (record { key = g.key; uid = g.uid; gid = g.gid; cuid = g.cuid; cgid = g.cgid; mode = g.mode; size = g.size; nattch = g.nattch; marked = g.marked }); segments = segments }
 
 -- One call at its home. The home counts in `get` alone: in what is full there, and in a new identifier.
 abbrev pub call : ℕ → ℕ → Op → List Segment → Called
-call sites home (Get cred key size mode flags) segments = get sites home cred key size mode.0 flags.0 segments
+call sites home (Get cred key size mode flags) segments = get sites home cred key size mode flags.0 segments
 call sites home (Attach cred id ro) segments = on_live (with_id id segments) (λ g. attach cred id ro g segments) segments
 call sites home (Detach id) segments = on_live (with_id id segments) (λ g. detach id g segments) segments
 call sites home (Remove cred id) segments = on_live (with_id id segments) (λ g. remove cred id g segments) segments
-call sites home (Set cred id uid gid mode) segments = on_live (with_id id segments) (λ g. set cred id uid gid mode.0 g segments) segments
+call sites home (Set cred id uid gid mode) segments = on_live (with_id id segments) (λ g. set cred id uid gid mode g segments) segments
 call sites home (Stat cred id) segments = on_live (with_id id segments) (λ g. stat cred g segments) segments
 
 -- the segment that a call is about, where it names one

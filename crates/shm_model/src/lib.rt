@@ -16,3 +16,4 @@ pub use event::Event;
 pub use kind::Kind;
 pub use limits::MAX_SENT;
 pub use mode::{GetFlags, Mode};
+pub use refusal::Numbered;

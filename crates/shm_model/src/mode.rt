@@ -1,47 +1,48 @@
-ghost use Rattle.std.specs.Prelude.{⊤, [], ◌∷◌, codes};
+ghost use Rattle.std.specs.Prelude.{⊤, [], ◌∷◌, codes, ℕ, ◌≡◌, ◌<◌, Some, None, nat_lt, if◌then◌else◌};
 
 use bitflags::{Flag, Flags, bitflag_items};
+use std::marker::Model;
 
 /// The nine mode bits of a segment: read, write and execute for the owner, the group and the others, in octal 400 to 001
 /// (`shmget(2)`). Execute bits are kept and have no use.
 #[derive(Clone, Copy, Debug, PartialEq, Eq)]
-pub struct Mode(pub u32);
-
-bitflag_items! {
-    impl Mode: u32 {
-        const OWNER_READ = 0o400;
-        const OWNER_WRITE = 0o200;
-        const OWNER_EXECUTE = 0o100;
-        const GROUP_READ = 0o40;
-        const GROUP_WRITE = 0o20;
-        const GROUP_EXECUTE = 0o10;
-        const OTHERS_READ = 0o4;
-        const OTHERS_WRITE = 0o2;
-        const OTHERS_EXECUTE = 0o1;
-    }
+pub struct Mode {
+    bits: u32,
 }
 
-impl Flags for Mode {
-    type Bits = u32;
+impl Model for Mode {
+    ghost Value = { ℕ };
 
-    ghost exact = { ⊤ };
+    ghost view = { λ mode. mode.bits };
 
-    ghost table = { (codes "OWNER_READ", 0o400) ∷ (codes "OWNER_WRITE", 0o200) ∷ (codes "OWNER_EXECUTE", 0o100)
-        ∷ (codes "GROUP_READ", 0o40) ∷ (codes "GROUP_WRITE", 0o20) ∷ (codes "GROUP_EXECUTE", 0o10)
-        ∷ (codes "OTHERS_READ", 0o4) ∷ (codes "OTHERS_WRITE", 0o2) ∷ (codes "OTHERS_EXECUTE", 0o1) ∷ [] };
+    ghost invariant = { λ mode. mode.bits < 512 };
 
-    ghost set_of = { λ mode. mode.0 };
+    ghost inverse = { λ n. record { bits = n } };
+}
 
-    fn flags<'a>() -> &'a [Flag<Mode>] {
-        Mode::FLAGS
+impl Mode {
+    /// The owner may read and write, and nobody else: octal 600.
+    pub const OWNER_READ_WRITE: Mode = Mode { bits: 0o600 };
+
+    /// All may read and write: octal 666, the mode of the segment that a preset has.
+    pub const ALL_READ_WRITE: Mode = Mode { bits: 0o666 };
+
+    /// The mode of these bits, or `None` where there are others than the nine.
+    pub fn from_bits(bits: u32) -> Option<Mode>
+        ensures { result ≡ (if nat_lt bits 512 then Some bits else None) }
+    {
+        if bits < 0o1000 {
+            return Some(Mode { bits });
+        }
+        None
     }
 
-    fn bits(&self) -> u32 {
-        self.0
-    }
-
-    fn from_bits_retain(bits: u32) -> Mode {
-        Mode(bits)
+    /// The nine bits, the owner's highest.
+    pub fn bits(self) -> u32
+        ensures bits { result ≡ self }
+        ensures nine { result < 512 }
+    {
+        self.bits
     }
 }
 

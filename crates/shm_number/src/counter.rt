@@ -1,10 +1,21 @@
 ghost use Rattle.std.specs.Prelude.{◌≡◌, ◌+◌, if◌then◌else◌, nat_lt};
 
+use shm_model::refusal::{NUMBERS_USED_UP, Numbered};
 use std::marker::Model;
 
 /// Every number was given: nothing comes after the greatest `u64`.
 #[derive(Clone, Copy, Debug, PartialEq, Eq)]
 pub struct UsedUp;
+
+impl Numbered for UsedUp {
+    ghost use Rattle.shm_model.specs.Refusal.{numbers_used_up};
+
+    ghost number_of = { λ _. numbers_used_up };
+
+    fn number(&self) -> u8 {
+        NUMBERS_USED_UP
+    }
+}
 
 /// Gives numbers in turn, each once.
 #[derive(Drop)]

@@ -1,10 +1,24 @@
+//! What a manager's books do at each message, at a restart and at a purge.
+ghost use Rattle.std.specs.Prelude.{◌≡◌, ℕ, ◌<◌, ◌==◌, cond, true, [], None, option_copied, is_some, IfNone, IfOk, IfSome, OnErr};
 ghost use Rattle.shm_parts.specs.Booked.{IsBooked};
+ghost use Rattle.std.specs.Map.{lookup};
+ghost use Rattle.shm_place.specs.declared.page.PageId.{PageId as Page};
+ghost use Rattle.shm_place.specs.Page.{same_page};
+ghost use Rattle.shm_manager.specs.Book.{book_of};
+ghost use Rattle.shm_model.specs.Book as model;
+ghost use Rattle.shm_model.specs.SegmentCalls.{of_segment, without_segment};
+ghost use Rattle.shm_model.specs.Site.{Site};
+ghost use Rattle.shm_model.specs.Transfer.{to_book, without_page};
 
+use crate::book_map::{copy_all, forget_all};
+use crate::book_row::{ask_in, cleared_in, confirm_in, runs};
 use crate::bookings::Bookings;
+use crate::outcome::Outcome;
+use crate::page_map::put;
 use indexmap::IndexMap;
-use shm_manager::Book;
-use shm_place::PageId;
-use std::alloc::{Allocator, Global};
+use shm_manager::{Book, Kind};
+use shm_place::{PAGES, PageId, SegId, SiteId};
+use std::alloc::{AllocError, Allocator, Global};
 use std::hash::{BuildHasherDefault, FoldHasher};
 
 /// The books of the pages that a site manages and that were asked for, in the order of their first transactions.
@@ -13,4 +27,170 @@ pub struct Books<A: Allocator + Copy = Global> {
     pub(crate) map: IndexMap<PageId, Book<A>, BuildHasherDefault<FoldHasher>, A>,
     pub(crate) bookings: Bookings<A>,
     ghost booked: { IsBooked map.entries bookings },
+}
+
+impl<A: Allocator + Copy> Books<A> {
+    ghost use Rattle.shm_parts.specs.Bookings.{is_marked};
+    ghost use Rattle.shm_parts.specs.Books.{book_or, booked_after, booked_of, booked_step, books_of, with_books, AllIdle, IsNextRunning};
+
+    /// No page was asked for.
+    pub fn new(alloc: A) -> Books<A>
+        ensures books { (me : ℕ) → books_of me result ≡ (λ _. model.untouched_book me) }
+        ensures booked { booked_of result ≡ [] }
+    {
+        Books {
+            map: IndexMap::new(alloc),
+            bookings: Bookings::new(alloc),
+        }
+    }
+
+    /// A request for a right to the page. The page's first one takes memory for its book, and one that starts a transaction may take
+    /// some; where it is refused nothing changes. It is refused too where no segment has a page of this index.
+    pub fn ask(
+        &mut self,
+        alloc: A,
+        me: SiteId,
+        page: PageId,
+        from: SiteId,
+        request: u64,
+        kind: Kind,
+    ) -> Result<Outcome, AllocError>
+        requires { from < 16 }
+        ensures step { IfOk result (λ outcome. (site : Site) → to_book me page (model.on_ask from request kind (books_of me self.old page)) (with_books me self.old site) ≡ booked_step me page outcome (with_books me self.new site)) }
+        ensures refused { OnErr result (((me : ℕ) → books_of me self.new ≡ books_of me self.old) × (booked_of self.new ≡ booked_of self.old)) }
+    {
+        if self.map.contains_key(&page) {
+            self.bookings.mark(&page)?;
+            return Ok(self.again(page, from, request, kind));
+        }
+        if request == 0 {
+            return Ok(Outcome::Ignored);
+        }
+        self.first(alloc, me, page, from, request, kind)
+    }
+
+    /// The page's first request.
+    fn first(
+        &mut self,
+        alloc: A,
+        me: SiteId,
+        page: PageId,
+        from: SiteId,
+        request: u64,
+        kind: Kind,
+    ) -> Result<Outcome, AllocError>
+        requires site { from < 16 }
+        requires fresh { 0 < request }
+        requires absent { lookup (same_page page) self.old.map.entries ≡ None }
+        ensures step { IfOk result (λ outcome. (site : Site) → to_book me page (model.on_ask from request kind (books_of me self.old page)) (with_books me self.old site) ≡ booked_step me page outcome (with_books me self.new site)) }
+        ensures refused { OnErr result ((self.new.map.entries ≡ self.old.map.entries) × (booked_of self.new ≡ booked_of self.old)) }
+    {
+        let mut book = Book::new(alloc, me)?;
+        let outcome = ask_in(&mut book, from, request, kind);
+        self.map.reserve(1)?;
+        self.bookings.add(&page)?;
+        put(&mut self.map, page, book);
+        Ok(outcome)
+    }
+
+    /// A further request. The page is marked, since it may start a transaction.
+    fn again(&mut self, page: PageId, from: SiteId, request: u64, kind: Kind) -> Outcome
+        requires site { from < 16 }
+        requires there { is_some (lookup (same_page page) self.old.map.entries) ≡ true }
+        requires marked { is_marked self.old.bookings page ≡ true }
+        ensures { (me : ℕ) (site : Site) → to_book me page (model.on_ask from request kind (books_of me self.old page)) (with_books me self.old site) ≡ booked_step me page result (with_books me self.new site) }
+    {
+        let Some(book) = self.map.get_mut(&page) else {
+            unreachable!()
+        };
+        let outcome = ask_in(book, from, request, kind);
+        let runs = runs(book);
+        self.bookings.settle(&page, runs);
+        outcome
+    }
+
+    /// A site has given up its copy of the page.
+    pub fn cleared(&mut self, page: PageId, from: SiteId, number: u64) -> Outcome
+        requires { from < 16 }
+        ensures { (me : ℕ) (site : Site) → to_book me page (model.on_cleared from number (books_of me self.old page)) (with_books me self.old site) ≡ booked_step me page result (with_books me self.new site) }
+    {
+        match self.map.get_mut(&page) {
+            None => Outcome::Ignored,
+            Some(book) => cleared_in(book, from, number),
+        }
+    }
+
+    /// A site has what it asked for.
+    pub fn confirm(&mut self, page: PageId, from: SiteId, number: u64) -> Outcome
+        requires { from < 16 }
+        ensures { (me : ℕ) (site : Site) → to_book me page (model.on_confirm from number (books_of me self.old page)) (with_books me self.old site) ≡ booked_step me page result (with_books me self.new site) }
+    {
+        let Some(book) = self.map.get_mut(&page) else {
+            return Outcome::Ignored;
+        };
+        let outcome = confirm_in(book, from, number);
+        let runs = runs(book);
+        self.bookings.settle(&page, runs);
+        outcome
+    }
+
+    /// What a restart of the manager loses of each book.
+    pub fn forget_volatile(&mut self)
+        ensures books { (me : ℕ) → books_of me self.new ≡ (λ page. model.without_volatile (books_of me self.old page)) }
+        ensures booked { booked_of self.new ≡ booked_of self.old }
+    {
+        forget_all(&mut self.map);
+    }
+
+    /// Drops the books of a segment's pages. The others keep their order.
+    pub fn remove_segment(&mut self, id: SegId)
+        ensures books { (me : ℕ) → books_of me self.new ≡ of_segment id (model.untouched_book me) (books_of me self.old) }
+        ensures booked { booked_of self.new ≡ without_segment id (booked_of self.old) }
+    {
+        'pages: for index in 0..PAGES {
+            self.remove(PageId { seg: id, index });
+        }
+    }
+
+    /// Drops the page's book.
+    fn remove(&mut self, page: PageId)
+        ensures books { (other : Page) → lookup (same_page other) self.new.map.entries ≡ cond (same_page page other) None (lookup (same_page other) self.old.map.entries) }
+        ensures booked { booked_of self.new ≡ without_page page (booked_of self.old) }
+    {
+        let _ = self.map.swap_remove(&page);
+        self.bookings.remove(&page);
+    }
+
+    /// The page's book, if the page was asked for.
+    pub fn get(&self, page: PageId) -> Option<&Book<A>>
+        ensures { (me : ℕ) → book_or (model.untouched_book me) (option_copied result) ≡ books_of me self.now page }
+    {
+        self.map.get(&page)
+    }
+
+    /// The next page, in the order of the first transactions, whose transaction may run, with its place in that order and its book.
+    /// `last`: the place behind which it is looked for, if any. No transaction of a page that is passed over runs.
+    pub fn running_after(&self, last: Option<u64>) -> Option<(u64, PageId, &Book<A>)>
+        ensures next { IfSome result (λ r. IsNextRunning last self.now r.0 r.1) }
+        ensures rest { IfNone result (AllIdle self.now (booked_after last self.now)) }
+        ensures book { IfSome result (λ r. (me : ℕ) → book_of r.2.now ≡ books_of me self.now r.1) }
+    {
+        let Some((place, page)) = self.bookings.next_marked(last) else {
+            return None;
+        };
+        let Some(book) = self.map.get(&page) else {
+            unreachable!()
+        };
+        Some((place, page, book))
+    }
+
+    /// Equal books in equal order.
+    pub fn copy(&self) -> Result<Books<A>, AllocError>
+        ensures books { IfOk result (λ copy. (me : ℕ) → books_of me copy ≡ books_of me self.now) }
+        ensures booked { IfOk result (λ copy. booked_of copy ≡ booked_of self.now) }
+    {
+        let map = copy_all(&self.map)?;
+        let bookings = self.bookings.copy()?;
+        Ok(Books { map, bookings })
+    }
 }

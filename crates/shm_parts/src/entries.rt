@@ -1,11 +1,176 @@
+//! What is done with the entries that a site has stored.
+ghost use Rattle.std.specs.Prelude.{◌≡◌, ℕ, ◌+◌, ◌<◌, ◌≤◌, ◌==◌, true, false, if◌then◌else◌, None, Some, option_copied, IfOk, IfErr, OnOk, OnErr};
+ghost use Rattle.shm_place.specs.declared.page.PageId.{PageId as Page};
+ghost use Rattle.indexmap.specs.IndexMap.{get as get_at, index_of_by, insert_entry, spare};
+ghost use Rattle.shm_place.specs.Limits.{page_bytes};
+ghost use Rattle.shm_place.specs.Page.{same_page};
+ghost use Rattle.shm_model.specs.Access.{stored_entry};
+ghost use Rattle.shm_model.specs.Entry as model;
+ghost use Rattle.shm_model.specs.Site.{at_page, untouched};
+ghost use Rattle.shm_page.specs.Out.{out_of};
+
+use crate::change::Change;
+use crate::slot::{forget_in, opened, store_in, turn_in};
+use crate::turn::Turn;
 use indexmap::IndexMap;
-use shm_page::Entry;
-use shm_place::PageId;
-use std::alloc::{Allocator, Global};
+use shm_page::{Entry, Out};
+use shm_place::{PAGES, PageId, SegId, SiteId, Sites};
+use std::alloc::{AllocError, Allocator, Global};
 use std::hash::{BuildHasherDefault, FoldHasher};
 
 /// The page entries that a site has stored. A page that isn't among them is untouched.
 #[derive(Drop)]
 pub struct Entries<A: Allocator + Copy = Global> {
     pub(crate) map: IndexMap<PageId, Entry<A>, BuildHasherDefault<FoldHasher>, A>,
+}
+
+impl<A: Allocator + Copy> Entries<A> {
+    ghost use Rattle.shm_parts.specs.Entries.{change_of, entries_of, is_stored, note_of, row, stored_at};
+
+    /// Nothing is stored.
+    pub fn new(alloc: A) -> Entries<A>
+        ensures entries { (rest : Page → model.Entry) → entries_of rest result ≡ rest }
+        ensures stored { is_stored result ≡ (λ _. false) }
+    {
+        Entries {
+            map: IndexMap::new(alloc),
+        }
+    }
+
+    /// The page's entry, if one is stored.
+    // Out of line, so that the short way of `get_near` stays short.
+    #[inline(never)]
+    pub fn get(&self, page: PageId) -> Option<&Entry<A>>
+        ensures { option_copied result ≡ stored_at self.now page }
+    {
+        self.map.get(&page)
+    }
+
+    /// Where the page's entry stands among those that are stored, if one is.
+    pub(crate) fn place_of(&self, page: PageId) -> Option<usize>
+        ensures { result ≡ index_of_by (same_page page) self.now.map }
+    {
+        self.map.get_index_of(&page)
+    }
+
+    /// The page's entry, if one is stored: as [`Entries::get`] tells it, and sooner where it stands at this place.
+    #[inline(always)]
+    pub(crate) fn get_near(&self, place: usize, page: PageId) -> Option<&Entry<A>>
+        ensures { option_copied result ≡ stored_at self.now page }
+    {
+        if let Some((other, entry)) = self.map.get_index(place)
+            && *other == page
+        {
+            return Some(entry);
+        }
+        self.get(page)
+    }
+
+    /// Stores the entry of an untouched page, unless its entry is stored already. Seen through the definitions nothing changes.
+    pub fn ensure(
+        &mut self,
+        alloc: A,
+        sites: Sites,
+        me: SiteId,
+        page: PageId,
+    ) -> Result<(), AllocError>
+        ensures same { (rest : Page → model.Entry) → rest page ≡ untouched sites me page → entries_of rest self.new ≡ entries_of rest self.old }
+        ensures stored { OnOk result (is_stored self.new page ≡ true) }
+        ensures others { (other : Page) → is_stored self.old other ≡ true → is_stored self.new other ≡ true }
+    {
+        if self.map.contains_key(&page) {
+            return Ok(());
+        }
+        self.map.reserve(1)?;
+        let entry = opened(alloc, sites, me, page)?;
+        add(&mut self.map, page, entry);
+        Ok(())
+    }
+
+    /// Stores a byte where the page may be written, and tells whether it did.
+    pub fn store(&mut self, page: PageId, within: usize, byte: u8) -> bool
+        requires stored { is_stored self.old page ≡ true }
+        requires within { within < page_bytes }
+        ensures writable { (rest : Page → model.Entry) → result ≡ model.writable (entries_of rest self.old page) }
+        ensures after { (rest : Page → model.Entry) → entries_of rest self.new ≡ (if result then at_page (entries_of rest self.old) page (stored_entry within byte (entries_of rest self.old page)) else entries_of rest self.old) }
+        ensures same { is_stored self.new ≡ is_stored self.old }
+    {
+        let Some(entry) = self.map.get_mut(&page) else {
+            return false;
+        };
+        store_in(entry, within, byte)
+    }
+
+    /// Runs the message's row of the entry's table. Where memory is refused, the message comes back and nothing changes.
+    pub fn turn(
+        &mut self,
+        me: SiteId,
+        page: PageId,
+        turn: Turn<A>,
+    ) -> Result<(Out<A>, Change), Turn<A>>
+        requires stored { is_stored self.old page ≡ true }
+        ensures after { OnOk result ((rest : Page → model.Entry) → entries_of rest self.new ≡ at_page (entries_of rest self.old) page (row me (note_of turn) (entries_of rest self.old page)).0) }
+        ensures out { IfOk result (λ r. (rest : Page → model.Entry) → out_of r.0 ≡ (row me (note_of turn) (entries_of rest self.old page)).1) }
+        ensures change { IfOk result (λ r. (rest : Page → model.Entry) → r.1 ≡ change_of (entries_of rest self.old page) (row me (note_of turn) (entries_of rest self.old page)).0) }
+        ensures same { is_stored self.new ≡ is_stored self.old }
+        ensures back { IfErr result (λ back. note_of back ≡ note_of turn) }
+        ensures refused { OnErr result ((rest : Page → model.Entry) → entries_of rest self.new ≡ entries_of rest self.old) }
+    {
+        let Some(entry) = self.map.get_mut(&page) else {
+            return Err(turn);
+        };
+        turn_in(entry, me, turn)
+    }
+
+    /// Gives the page's bytes up; what it met stays met.
+    pub fn forget(&mut self, page: PageId)
+        requires { is_stored self.old page ≡ true }
+        ensures after { (rest : Page → model.Entry) → entries_of rest self.new ≡ at_page (entries_of rest self.old) page (model.forget (entries_of rest self.old page)) }
+        ensures same { is_stored self.new ≡ is_stored self.old }
+    {
+        if let Some(entry) = self.map.get_mut(&page) {
+            forget_in(entry);
+        }
+    }
+
+    /// Drops what is stored of a segment's pages.
+    pub fn remove_segment(&mut self, id: SegId)
+        ensures gone { (index : ℕ) → index < PAGES → stored_at self.new (record { seg = id; index = index }) ≡ None }
+        ensures others { (page : Page) → (id == page.seg) ≡ false → stored_at self.new page ≡ stored_at self.old page }
+    {
+        for index in 0..PAGES {
+            self.map.swap_remove(&PageId { seg: id, index });
+        }
+    }
+
+    /// Equal entries.
+    pub fn copy(&self) -> Result<Entries<A>, AllocError>
+        ensures entries { IfOk result (λ copy. (rest : Page → model.Entry) → entries_of rest copy ≡ entries_of rest self.now) }
+        ensures stored { IfOk result (λ copy. is_stored copy ≡ is_stored self.now) }
+    {
+        let count = self.map.len();
+        let mut map = IndexMap::with_capacity(*self.map.allocator(), count)?;
+        for index in 0..count {
+            let Some((page, entry)) = self.map.get_index(index) else {
+                return Err(AllocError);
+            };
+            let entry = entry.copy()?;
+            add(&mut map, *page, entry);
+        }
+        Ok(Entries { map })
+    }
+}
+
+/// Puts a value at a page, for which there is room.
+fn add<V: Drop, A: Allocator + Copy>(
+    map: &mut IndexMap<PageId, V, BuildHasherDefault<FoldHasher>, A>,
+    page: PageId,
+    value: V,
+)
+    requires { 0 < spare map.old }
+    ensures entries { map.new.entries ≡ insert_entry same_page map.old.entries page value }
+    ensures values { (other : Page) → get_at same_page map.new other ≡ (if same_page page other then Some value else get_at same_page map.old other) }
+    ensures room { spare map.old ≤ spare map.new + 1 }
+{
+    let _ = map.insert(page, value);
 }

@@ -1,6 +1,11 @@
+//! The order in which copies are given up.
+ghost use Rattle.std.specs.Prelude.{◌≡◌, [], None, IfOk, OnOk};
+ghost use Rattle.shm_model.specs.SegmentCalls.{without_segment};
+
+use crate::change::Change;
 use crate::line::Line;
-use shm_place::PageId;
-use std::alloc::{Allocator, Global};
+use shm_place::{PageId, SegId};
+use std::alloc::{AllocError, Allocator, Global};
 
 /// How many pages may be held as copies, and those that are, the next to go first.
 #[derive(Drop)]
@@ -10,4 +15,95 @@ pub struct Frames<A: Allocator + Copy = Global> {
     pub(crate) line: Line<(), A>,
     /// The page for which room was made: it stands in the line, and is no copy yet.
     pub(crate) awaited: Option<PageId>,
+}
+
+impl<A: Allocator + Copy> Frames<A> {
+    ghost use Rattle.shm_parts.specs.Frames.{arranged_by, frames_of, has_room, overflowed};
+
+    /// No copies, and at most `limit` from now on.
+    #[tactic(auto, unfolding(crate::specs::Frames::copies_in))]
+    pub fn new(alloc: A, limit: u32) -> Frames<A>
+        ensures { frames_of result ≡ record { limit = limit; copies = [] } }
+    {
+        Frames {
+            limit,
+            line: Line::new(alloc),
+            awaited: None,
+        }
+    }
+
+    /// Makes room for the page as a copy, in place of the room made before.
+    pub fn reserve(&mut self, page: &PageId) -> Result<(), AllocError>
+        ensures same { frames_of self.new ≡ frames_of self.old }
+        ensures room { OnOk result (has_room page.now self.new) }
+    {
+        self.let_go();
+        if self.line.contains(page) {
+            return Ok(());
+        }
+        self.line.put(*page, ())?;
+        self.awaited = Some(*page);
+        Ok(())
+    }
+
+    /// Gives up the room that was made and not used.
+    fn let_go(&mut self)
+        ensures same { frames_of self.new ≡ frames_of self.old }
+        ensures none { self.new.awaited ≡ None }
+    {
+        let Some(page) = &self.awaited else {
+            return;
+        };
+        self.line.remove(page);
+        self.awaited = None;
+    }
+
+    /// A copy that was installed goes last among the copies; what is no copy any more leaves them.
+    pub fn arrange(&mut self, page: PageId, change: Change)
+        requires { has_room page self.old }
+        ensures { frames_of self.new ≡ record (frames_of self.old) { copies = arranged_by change page (frames_of self.old).copies } }
+    {
+        if !change.copy {
+            self.line.remove(&page);
+            self.awaited = None;
+            return;
+        }
+        if change.newer {
+            self.line.move_last(&page);
+            self.awaited = None;
+        }
+    }
+
+    /// Takes the first copy out where there are more than there may be.
+    #[tactic(auto, unfolding(crate::specs::Frames::copies_in))]
+    pub fn overflow(&mut self) -> Option<PageId>
+        ensures { (result, frames_of self.new) ≡ overflowed (frames_of self.old) }
+    {
+        self.let_go();
+        if self.line.len() <= self.limit as usize {
+            return None;
+        }
+        self.line.pop_first()
+    }
+
+    /// Forgets the copies of a segment's pages.
+    pub fn remove_segment(&mut self, id: SegId)
+        ensures { frames_of self.new ≡ record (frames_of self.old) { copies = without_segment id (frames_of self.old).copies } }
+    {
+        self.let_go();
+        self.line.remove_segment(id);
+    }
+
+    /// An equal limit, and equal copies in equal order.
+    #[tactic(auto, unfolding(crate::specs::Frames::copies_in))]
+    pub fn copy(&self) -> Result<Frames<A>, AllocError>
+        ensures { IfOk result (λ copy. frames_of copy ≡ frames_of self.now) }
+    {
+        let line = self.line.copy()?;
+        Ok(Frames {
+            limit: self.limit,
+            line,
+            awaited: self.awaited,
+        })
+    }
 }

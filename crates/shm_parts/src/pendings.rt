@@ -1,6 +1,14 @@
+//! What is done with the requests that are pending.
+ghost use Rattle.std.specs.Prelude.{◌≡◌, ◌==◌, [], filter, length, map, not, IfOk, OnOk, OnErr};
+ghost use Rattle.shm_model.specs.Access.{is_pending, put_pending};
+ghost use Rattle.shm_model.specs.Book as model;
+ghost use Rattle.shm_model.specs.Transfer.{settle};
+
 use crate::line::Line;
+use crate::line_pages::LinePages;
 use shm_model::Kind;
-use std::alloc::{Allocator, Global};
+use shm_place::{PageId, SegId};
+use std::alloc::{AllocError, Allocator, Global};
 
 /// The last request of each page whose access waits for a right: the request's number, and what it asks for.
 ///
@@ -10,4 +18,104 @@ use std::alloc::{Allocator, Global};
 #[derive(Drop)]
 pub struct Pendings<A: Allocator + Copy = Global> {
     pub(crate) line: Line<(u64, Kind), A>,
+}
+
+fn is_write(kind: Kind) -> bool
+    ensures { result ≡ model.is_write kind }
+{
+    matches!(kind, Kind::Write)
+}
+
+impl<A: Allocator + Copy> Pendings<A> {
+    ghost use Rattle.shm_parts.specs.Pendings.{pending_of, pendings_of, settles};
+
+    /// Nothing is pending.
+    pub fn new(alloc: A) -> Pendings<A>
+        ensures { pendings_of result ≡ [] }
+    {
+        Pendings {
+            line: Line::new(alloc),
+        }
+    }
+
+    /// Whether a request is pending that serves this kind of access: one to write serves all, one to read the loads.
+    pub fn serves(&self, kind: Kind, page: PageId) -> bool
+        ensures { result ≡ is_pending kind page (pendings_of self.now) }
+    {
+        match self.line.get(&page) {
+            Some(pending) => is_write(pending.1) || !is_write(kind),
+            None => false,
+        }
+    }
+
+    /// The page's new request takes the place of its old one, or joins at the end. Where memory is refused nothing changes.
+    pub fn put(&mut self, page: PageId, request: u64, kind: Kind) -> Result<(), AllocError>
+        ensures put { OnOk result (pendings_of self.new ≡ put_pending (record { page = page; request = request; kind = kind }) (pendings_of self.old)) }
+        ensures refused { OnErr result (pendings_of self.new ≡ pendings_of self.old) }
+    {
+        self.line.put(page, (request, kind))
+    }
+
+    /// Drops the page's request where a right has come that serves it: the right to read serves a request to read, the right to
+    /// write any. The others keep their order.
+    pub fn settle(&mut self, reads: bool, writes: bool, page: PageId)
+        ensures { pendings_of self.new ≡ settle reads writes page (pendings_of self.old) }
+    {
+        if self.is_settled(reads, writes, page) {
+            self.line.remove(&page);
+        }
+    }
+
+    /// Whether one of these rights serves the page's request.
+    fn is_settled(&self, reads: bool, writes: bool, page: PageId) -> bool
+        ensures { result ≡ settles reads writes page (pendings_of self.now) }
+    {
+        match self.line.get(&page) {
+            Some(pending) => writes || (reads && !is_write(pending.1)),
+            None => false,
+        }
+    }
+
+    /// Drops the requests of a segment's pages.
+    pub fn remove_segment(&mut self, id: SegId)
+        ensures { pendings_of self.new ≡ filter (λ p. not (id == p.page.seg)) (pendings_of self.old) }
+    {
+        self.line.remove_segment(id);
+    }
+
+    /// Drops all requests.
+    pub fn clear(&mut self)
+        ensures { pendings_of self.new ≡ [] }
+    {
+        self.line.clear();
+    }
+
+    /// How many requests are pending.
+    pub fn len(&self) -> usize
+        ensures { result ≡ length (pendings_of self.now) }
+    {
+        self.line.len()
+    }
+
+    /// Whether no request is pending.
+    pub fn is_empty(&self) -> bool
+        ensures { result ≡ (length (pendings_of self.now) == 0) }
+    {
+        self.line.len() == 0
+    }
+
+    /// The requests in their order, each as its page, its number and what it asks for.
+    pub fn iter(&self) -> LinePages<'_, (u64, Kind)>
+        ensures { map pending_of result ≡ pendings_of self.now }
+    {
+        self.line.iter()
+    }
+
+    /// Equal requests in equal order.
+    pub fn copy(&self) -> Result<Pendings<A>, AllocError>
+        ensures { IfOk result (λ copy. pendings_of copy ≡ pendings_of self.now) }
+    {
+        let line = self.line.copy()?;
+        Ok(Pendings { line })
+    }
 }

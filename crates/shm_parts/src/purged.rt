@@ -1,9 +1,55 @@
+//! What is done with the segments that a site has purged.
+ghost use Rattle.std.specs.Prelude.{◌≡◌, false, true, IfOk, OnOk, OnErr};
+ghost use Rattle.shm_model.specs.Book.{at};
+
 use indexmap::IndexMap;
-use std::alloc::{Allocator, Global};
+use shm_place::SegId;
+use std::alloc::{AllocError, Allocator, Global};
 use std::hash::{BuildHasherDefault, FoldHasher};
 
 /// The identifiers of the segments that a site has purged. They are never forgotten.
 #[derive(Drop)]
 pub struct Purged<A: Allocator + Copy = Global> {
     pub(crate) map: IndexMap<u32, (), BuildHasherDefault<FoldHasher>, A>,
+}
+
+impl<A: Allocator + Copy> Purged<A> {
+    ghost use Rattle.shm_parts.specs.Purged.{purged_of};
+
+    /// Nothing was purged.
+    pub fn new(alloc: A) -> Purged<A>
+        ensures { purged_of result ≡ (λ _. false) }
+    {
+        Purged {
+            map: IndexMap::new(alloc),
+        }
+    }
+
+    /// Whether the segment was purged.
+    pub fn contains(&self, id: SegId) -> bool
+        ensures { result ≡ purged_of self.now id }
+    {
+        self.map.contains_key(&id.0)
+    }
+
+    /// Notes the segment as purged. Where memory is refused nothing changes.
+    pub fn insert(&mut self, id: SegId) -> Result<(), AllocError>
+        ensures added { OnOk result (purged_of self.new ≡ at (purged_of self.old) id true) }
+        ensures refused { OnErr result (purged_of self.new ≡ purged_of self.old) }
+    {
+        match self.map.insert(id.0, ()) {
+            Ok(_) => Ok(()),
+            Err(_) => Err(AllocError),
+        }
+    }
+
+    /// The same segments.
+    pub fn copy(&self) -> Result<Purged<A>, AllocError>
+        ensures { IfOk result (λ copy. purged_of copy ≡ purged_of self.now) }
+    {
+        match self.map.clone() {
+            Ok(map) => Ok(Purged { map }),
+            Err(error) => Err(error),
+        }
+    }
 }

@@ -3,6 +3,7 @@
 #![tactic(auto)]
 
 mod auditing;
+mod fault_number;
 mod reading;
 mod report_fault;
 mod reporting;

@@ -1,6 +1,8 @@
 -- Which fault is told where callers ended before their last lines.
 use Rattle.std.specs.Prelude.{◌≡◌, ℕ, ◌<◌, ◌≤◌, List, Result, Ok, Err, Vec, Option, None, Some, if◌then◌else◌, nat_lt, slice_get}
+use Rattle.shm_model.specs.Refusal.{other_logs, out_of_memory}
 use Rattle.shm_boxes.specs.declared.receipt.Receipt.{Receipt}
+use Rattle.shm_cluster.specs.Faults.{client_fault_number, start_fault_number}
 use Rattle.shm_running.specs.declared.run_fault.CallFault.{CallFault}
 use Rattle.shm_running.specs.declared.run_fault.RunFault.{RunFault}
 use Rattle.shm_running.specs.declared.run_fault.RunFault.TheVariants as run
@@ -44,3 +46,10 @@ TellsFirst told (run.Call call) = IsFirstFault told call
 TellsFirst told (run.Start fault) = NoneFailed told
 TellsFirst told run.OutOfMemory = NoneFailed told
 TellsFirst told run.Logs = NoneFailed told
+
+-- the numbers of the causes
+abbrev pub run_fault_number : RunFault → ℕ
+run_fault_number (run.Start cause) = start_fault_number cause
+run_fault_number (run.Call call) = client_fault_number call.fault
+run_fault_number run.OutOfMemory = out_of_memory
+run_fault_number run.Logs = other_logs

@@ -1,4 +1,5 @@
 use shm_cluster::{ClientFault, StartFault};
+use shm_model::refusal::{self, Numbered};
 
 /// Why an access of a workload was not made.
 #[derive(Clone, Copy, Debug, PartialEq, Eq)]
@@ -19,4 +20,29 @@ pub enum RunFault {
     OutOfMemory,
     /// The logs that were given back aren't those of so many sites, each its site's.
     Logs,
+}
+
+impl Numbered for CallFault {
+    ghost use Rattle.shm_cluster.specs.Faults.{client_fault_number};
+
+    ghost number_of = { λ call. client_fault_number call.fault };
+
+    fn number(&self) -> u8 {
+        self.fault.number()
+    }
+}
+
+impl Numbered for RunFault {
+    ghost use Rattle.shm_running.specs.Faults.{run_fault_number};
+
+    ghost number_of = { run_fault_number };
+
+    fn number(&self) -> u8 {
+        match self {
+            RunFault::Start(fault) => fault.number(),
+            RunFault::Call(call) => call.number(),
+            RunFault::OutOfMemory => refusal::OUT_OF_MEMORY,
+            RunFault::Logs => refusal::LOGS,
+        }
+    }
 }

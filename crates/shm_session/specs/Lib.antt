@@ -1,3 +1,4 @@
 pub mod Checkpoints
 pub mod Opening
 pub mod Standing
+pub mod Faults

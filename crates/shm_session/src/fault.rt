@@ -1,3 +1,4 @@
+use shm_model::refusal::{self, Numbered};
 use thiserror::Error;
 
 /// Why a session didn't go back.
@@ -9,4 +10,17 @@ pub enum BackFault {
     /// Fewer events stand than were to be taken back.
     #[error("past the beginning")]
     PastBeginning,
+}
+
+impl Numbered for BackFault {
+    ghost use Rattle.shm_session.specs.Faults.{back_fault_number};
+
+    ghost number_of = { back_fault_number };
+
+    fn number(&self) -> u8 {
+        match self {
+            BackFault::OutOfMemory => refusal::OUT_OF_MEMORY,
+            BackFault::PastBeginning => refusal::PAST_BEGINNING,
+        }
+    }
 }

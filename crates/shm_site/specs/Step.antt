@@ -5,7 +5,7 @@ use Rattle.shm_model.specs.declared.answer.Answer.TheVariants as answer
 use Rattle.shm_model.specs.Access.{load, store}
 use Rattle.shm_model.specs.Entry as note
 use Rattle.shm_model.specs.Message as model
-use Rattle.shm_model.specs.Refusal.{foreign_message}
+use Rattle.shm_model.specs.Refusal.{foreign_message, out_of_memory}
 use Rattle.shm_model.specs.Site.{Site}
 use Rattle.shm_model.specs.SegmentCalls.{begin}
 use Rattle.shm_model.specs.Step.{deliver, foreign}
@@ -58,9 +58,6 @@ may_grow sites me site model.Restart = false
 
 abbrev pub fault_of : Bool → StepFault
 fault_of foreign = if foreign then fault.Foreign else fault.OutOfMemory
-
-abbrev pub out_of_memory : ℕ
-out_of_memory = 17
 
 abbrev pub step_fault_number : StepFault → ℕ
 step_fault_number fault.Foreign = foreign_message

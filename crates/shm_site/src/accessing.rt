@@ -7,7 +7,7 @@ ghost use Rattle.shm_site.specs.Site.{SameSeat, sent_after, site_of, stepped};
 use crate::sending::to_manager;
 use crate::site::Site;
 use shm_model::refusal::NUMBERS_USED_UP;
-use shm_model::{Answer, Kind};
+use shm_model::{Answer, Kind, Numbered};
 use shm_parts::{Kept, Loaded, Message, Outbox};
 use shm_place::PageId;
 use std::alloc::{AllocError, Allocator};

@@ -12,7 +12,7 @@ use crate::homing::op_home;
 use crate::site::Site;
 use shm_attach::CallBook;
 use shm_model::refusal::{BUSY, NO_ATTACHMENT, TOO_MANY_ATTACHMENTS};
-use shm_model::{Answer, Attached, Op, Reply, Request};
+use shm_model::{Answer, Attached, Numbered, Op, Reply, Request};
 use shm_parts::{Envelope, Message, Outbox};
 use shm_place::SegId;
 use std::alloc::{AllocError, Allocator};

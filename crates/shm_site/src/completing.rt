@@ -6,7 +6,7 @@ ghost use Rattle.shm_site.specs.Site.{SameSeat, site_of, stepped};
 
 use crate::site::Site;
 use shm_model::refusal::NUMBERS_USED_UP;
-use shm_model::{Answer, Kind};
+use shm_model::{Answer, Kind, Numbered};
 use shm_parts::{Kept, Loaded};
 use shm_place::PageId;
 use std::alloc::Allocator;

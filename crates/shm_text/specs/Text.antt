@@ -4,24 +4,13 @@ use Rattle.std.specs.Fmt.{decimal}
 use Rattle.std.specs.List.{flat_map, range_with_len}
 use Rattle.shm_model.specs.declared.answer.Answer.{Answer}
 use Rattle.shm_model.specs.declared.answer.Answer.TheVariants.{Byte, Stored, Fault, Waiting, Began, Replied, Took, Dropped, Refused}
-use Rattle.shm_model.specs.declared.call.Errno.{Errno}
-use Rattle.shm_model.specs.declared.call.Errno.TheVariants.{Eacces, Eexist, Eidrm, Einval, Enoent, Enospc, Eperm}
 use Rattle.shm_model.specs.declared.call.Reply.{Reply}
 use Rattle.shm_model.specs.declared.call.Reply.TheVariants.{Id, Attached, Ok as OkReply, Stat as StatReply, Refused as RefusedReply}
 use Rattle.shm_model.specs.declared.call.Stat.{Stat}
 use Rattle.shm_model.specs.Entry.{Note, Ask, Clear, Cleared, Hand, Page, Confirm}
 use Rattle.shm_model.specs.Message.{Message, Of, Call, Replies, Purge, Purged, Envelope}
+use Rattle.shm_model.specs.Refusal.{errno_number}
 use Rattle.shm_model.specs.World.{World, live}
-
--- the numbers of the errors
-abbrev pub error_number : Errno → ℕ
-error_number Eacces = 1
-error_number Eexist = 2
-error_number Eidrm = 3
-error_number Einval = 4
-error_number Enoent = 5
-error_number Enospc = 6
-error_number Eperm = 7
 
 -- an attachment's number, or a dash where there is none
 abbrev pub attachment_text : Option ℕ → List ℕ
@@ -45,7 +34,7 @@ use_text s = codes "size " ++ (decimal s.size ++ (codes " nattch " ++ (decimal s
 
 abbrev pub stat_text : Stat → List ℕ
 stat_text s =
-    codes "stat key " ++ (decimal s.key ++ (codes " " ++ (people_text s ++ (codes " mode " ++ (mode_text s.mode.0 ++ (codes " " ++ use_text s))))))
+    codes "stat key " ++ (decimal s.key ++ (codes " " ++ (people_text s ++ (codes " mode " ++ (mode_text s.mode ++ (codes " " ++ use_text s))))))
 
 -- a reply, and the attachment that it made
 abbrev pub reply_text : Reply → Option ℕ → List ℕ
@@ -53,7 +42,7 @@ reply_text (Id id) attachment = codes "id " ++ decimal id
 reply_text (Attached _) attachment = codes "attached " ++ attachment_text attachment
 reply_text OkReply attachment = codes "ok"
 reply_text (StatReply stat) attachment = stat_text stat
-reply_text (RefusedReply error) attachment = codes "error " ++ decimal (error_number error)
+reply_text (RefusedReply error) attachment = codes "error " ++ decimal (errno_number error)
 
 abbrev pub answer_text : Answer → List ℕ
 answer_text (Byte byte) = codes "byte " ++ decimal byte

@@ -7,6 +7,7 @@ mod copies;
 pub mod laws;
 mod page;
 mod printing;
+mod pushing;
 mod reply_text;
 mod sent;
 mod stat_text;

@@ -1,8 +1,8 @@
-ghost use Rattle.std.specs.Prelude.{◌≡◌, Some};
-ghost use Rattle.shm_text.specs.Text.{attachment_text, error_number, reply_text};
+ghost use Rattle.std.specs.Prelude.{Some};
+ghost use Rattle.shm_text.specs.Text.{attachment_text, reply_text};
 
 use crate::stat_text::StatText;
-use shm_model::{Errno, Reply};
+use shm_model::{Numbered, Reply};
 use std::fmt;
 
 /// A reply to a segment call, and the number of the attachment that it made.
@@ -31,7 +31,7 @@ impl fmt::Display for ReplyText {
                 write!(f, "{stat}")
             }
             Reply::Refused(error) => {
-                let number = number_of(error);
+                let number = error.number();
                 write!(f, "error {number}")
             }
         }
@@ -50,19 +50,5 @@ impl fmt::Display for AttachmentText {
             Some(number) => write!(f, "{number}"),
             None => write!(f, "-"),
         }
-    }
-}
-
-fn number_of(error: Errno) -> u8
-    ensures { result ≡ error_number error }
-{
-    match error {
-        Errno::Eacces => 1,
-        Errno::Eexist => 2,
-        Errno::Eidrm => 3,
-        Errno::Einval => 4,
-        Errno::Enoent => 5,
-        Errno::Enospc => 6,
-        Errno::Eperm => 7,
     }
 }

@@ -5,6 +5,7 @@ ghost use Rattle.shm_parts.specs.Message.{envelope_of, message_of};
 ghost use Rattle.shm_world.specs.World.{StandsFor};
 ghost use Rattle.shm_text.specs.Text.{envelope_text, live_text, message_name, sent_text};
 
+use crate::pushing::push_number;
 use shm_parts::{Envelope, Message};
 use shm_world::World;
 use std::alloc::{AllocError, Allocator};
@@ -44,9 +45,14 @@ fn tell_envelope<A: Allocator + Copy>(
 ) -> Result<(), AllocError>
     ensures { OnOk result (string_bytes out.new ≡ string_bytes out.old ++ envelope_text number (envelope_of envelope.now)) }
 {
-    let site = envelope.to.0;
+    let site = envelope.to.0 as u64;
     let name = name_of(&envelope.message);
-    write!(out, " m{number}>{site}:{name}")
+    out.push_str(" m")?;
+    push_number(out, number)?;
+    out.push_str(">")?;
+    push_number(out, site)?;
+    out.push_str(":")?;
+    out.push_str(name)
 }
 
 /// What a message is called.

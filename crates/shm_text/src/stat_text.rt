@@ -41,10 +41,10 @@ impl fmt::Display for PeopleText {
 struct ModeText(Mode);
 
 impl fmt::Display for ModeText {
-    ghost output = { λ text. Some (mode_text text.0.0) };
+    ghost output = { λ text. Some (mode_text text.0) };
 
     fn fmt<W: fmt::Write>(&self, f: &mut fmt::Formatter<W>) -> fmt::Result {
-        let bits = self.0.0;
+        let bits = self.0.bits();
         let owner = bits / 64 % 8;
         let group = bits / 8 % 8;
         let others = bits % 8;

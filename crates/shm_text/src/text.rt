@@ -5,8 +5,8 @@ ghost use Rattle.shm_world.specs.World.{StandsFor};
 ghost use Rattle.shm_text.specs.Page.{page_text};
 ghost use Rattle.shm_text.specs.Text.{event_text, line_text};
 
-use crate::answer_text::AnswerText;
 use crate::page::tell_page;
+use crate::pushing::{push_answer, push_number};
 use crate::sent::tell_sent;
 use shm_model::Answer;
 use shm_place::PageId;
@@ -110,8 +110,9 @@ pub(crate) fn write_answer<A: Allocator + Copy>(
 ) -> Result<(), AllocError>
     ensures { (w : model.World) → StandsFor world.now w → OnOk result (string_bytes out.new ≡ string_bytes out.old ++ line_text line (event_text answer.now w first)) }
 {
-    let answer = AnswerText(*answer);
-    write!(out, "{line} {answer}")?;
+    push_number(out, line)?;
+    out.push_str(" ")?;
+    push_answer(out, answer)?;
     tell_sent(out, world, first)?;
     out.push_str("\n")
 }

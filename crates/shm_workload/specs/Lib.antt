@@ -1,3 +1,4 @@
 pub mod Access
 pub mod Limits
 pub mod Workload
+pub mod Faults

@@ -1,3 +1,4 @@
+use shm_model::refusal::{self, Numbered};
 use thiserror::Error;
 
 /// Why there is no workload. Lines count from 1.
@@ -14,4 +15,19 @@ pub enum WorkloadFault {
     /// Something stands after line 10,000.
     #[error("too many lines")]
     TooManyLines,
+}
+
+impl Numbered for WorkloadFault {
+    ghost use Rattle.shm_workload.specs.Faults.{workload_fault_number};
+
+    ghost number_of = { workload_fault_number };
+
+    fn number(&self) -> u8 {
+        match self {
+            WorkloadFault::OutOfMemory => refusal::OUT_OF_MEMORY,
+            WorkloadFault::BadLine(_) => refusal::BAD_LINE,
+            WorkloadFault::LineTooLong(_) => refusal::LINE_TOO_LONG,
+            WorkloadFault::TooManyLines => refusal::TOO_MANY_LINES,
+        }
+    }
 }

@@ -7,7 +7,6 @@ pub mod laws;
 mod members;
 mod opening;
 mod running;
-mod seating;
 mod showing;
 mod start;
 mod stepping;

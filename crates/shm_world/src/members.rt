@@ -1,9 +1,22 @@
-ghost use Rattle.std.specs.Prelude.{◌≡◌, length};
+//! What is done with the sites, each at its number.
+ghost use Rattle.std.specs.Prelude.{◌≡◌, length, [], false, true, ◌<◌, Some, map, slice_get, IfErr, IfNone, IfOk, IfSome, IsOk, OnErr};
 ghost use Rattle.shm_world.specs.Seats.{Seated};
+ghost use Rattle.std.specs.List.{range_with_len};
+ghost use Rattle.std.specs.Option.{option_copied};
+ghost use Rattle.shm_model.specs.Access.{store};
+ghost use Rattle.shm_model.specs.Site as model;
+ghost use Rattle.shm_model.specs.Step.{step};
+ghost use Rattle.shm_model.specs.World.{IsOpening, opened_site};
+ghost use Rattle.shm_model.specs.declared.answer.Answer.TheVariants as answer;
+ghost use Rattle.shm_site.specs.Step.{envelope_if, fault_of, handed_in, input_of, is_foreign, may_grow};
+ghost use Rattle.shm_site.specs.declared.step_error.StepFault.TheVariants as fault;
 
-use shm_place::Sites;
-use shm_site::Site;
-use std::alloc::{Allocator, Global};
+use crate::start::{Start, begun};
+use shm_model::Answer;
+use shm_parts::Outbox;
+use shm_place::{SiteId, Sites};
+use shm_site::{Input, Site, StepError};
+use std::alloc::{AllocError, Allocator, Global};
 
 /// The sites of a world, each at its number.
 #[derive(Drop)]
@@ -12,4 +25,83 @@ pub struct Members<A: Allocator + Copy = Global> {
     pub(crate) sites: Vec<Site<A>, A>,
     ghost whole: { length sites.items ≡ count },
     ghost seats: { Seated count sites.items },
+}
+
+impl<A: Allocator + Copy> Members<A> {
+    ghost use Rattle.shm_world.specs.Members.{members_of, seen_by, Made};
+    ghost use Rattle.shm_world.specs.Start.{opening_of};
+
+    /// All sites as they begin.
+    pub(crate) fn begun(alloc: A, count: Sites, start: Start) -> Result<Members<A>, AllocError>
+        requires { IsOpening (opening_of start count) }
+        ensures sites { IfOk result (λ members. members_of members ≡ map (opened_site (opening_of start count)) (range_with_len 0 count)) }
+        ensures count { IfOk result (λ members. members.count ≡ count) }
+    {
+        let mut sites = Vec::with_capacity(alloc, count.count() as usize)?;
+        'sites: for site in 0..count.count() {
+            let site = begun(alloc, count, SiteId(site), start)?;
+            sites.push_reserved(site);
+        }
+        Ok(Members { count, sites })
+    }
+
+    /// The site of this number, if there is one.
+    pub(crate) fn get(&self, site: SiteId) -> Option<&Site<A>>
+        ensures site { seen_by (option_copied result) ≡ slice_get (members_of self.now) site }
+        ensures seat { IfSome result (λ x. (x.now.sites ≡ self.now.count) × (x.now.me ≡ site)) }
+    {
+        self.sites.get(site.0 as usize)
+    }
+
+    /// A site's store, where nothing has to be sent for it. It takes no memory.
+    pub(crate) fn store_here(
+        &mut self,
+        site: SiteId,
+        at: u32,
+        offset: u32,
+        byte: u8,
+    ) -> Option<Answer>
+        requires { site < self.old.count }
+        ensures here { IfSome result (λ answer. (x : model.Site) → slice_get (members_of self.old) site ≡ Some x → Made self.old self.new site [] [] answer (store self.old.count site at offset byte x)) }
+        ensures elsewhere { IfNone result ((x : model.Site) → slice_get (members_of self.old) site ≡ Some x → (store self.old.count site at offset byte x).answer ≡ answer.Fault) }
+        ensures same { IfNone result (members_of self.new ≡ members_of self.old) }
+        ensures count { self.new.count ≡ self.old.count }
+    {
+        self.sites[site.0 as usize].store_here(at, offset, byte)
+    }
+
+    /// A site's step. Where it isn't made, the sites are as before and an envelope that was handed in comes back.
+    pub(crate) fn step(
+        &mut self,
+        site: SiteId,
+        input: Input<A>,
+        outbox: &mut Outbox<A>,
+    ) -> Result<Answer, StepError<A>>
+        requires { site < self.old.count }
+        ensures step { IfOk result (λ answer. (x : model.Site) → slice_get (members_of self.old) site ≡ Some x → Made self.old self.new site outbox.old.sent outbox.new.sent answer (step self.old.count site x (input_of input))) }
+        ensures taken { IsOk result → is_foreign self.old.count site (input_of input) ≡ false }
+        ensures fault { IfErr result (λ e. e.fault ≡ fault_of (is_foreign self.old.count site (input_of input))) }
+        ensures memory { IfErr result (λ e. e.fault ≡ fault.OutOfMemory → (x : model.Site) → slice_get (members_of self.old) site ≡ Some x → may_grow self.old.count site x (input_of input) ≡ true) }
+        ensures back { IfErr result (λ e. envelope_if e.envelope ≡ handed_in (input_of input)) }
+        ensures refused { OnErr result ((members_of self.new ≡ members_of self.old) × (outbox.new.sent ≡ outbox.old.sent)) }
+        ensures count { self.new.count ≡ self.old.count }
+    {
+        self.sites[site.0 as usize].step(input, outbox)
+    }
+
+    /// Equal sites.
+    pub(crate) fn copy(&self, alloc: A) -> Result<Members<A>, AllocError>
+        ensures sites { IfOk result (λ copy. members_of copy ≡ members_of self.now) }
+        ensures count { IfOk result (λ copy. copy.count ≡ self.now.count) }
+    {
+        let mut sites = Vec::with_capacity(alloc, self.sites.len())?;
+        'sites: for site in self.sites.iter() {
+            let copy = site.copy()?;
+            sites.push_reserved(copy);
+        }
+        Ok(Members {
+            count: self.count,
+            sites,
+        })
+    }
 }

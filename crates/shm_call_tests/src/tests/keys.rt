@@ -37,9 +37,12 @@ impl<A: Allocator + Copy> Lone<A> {
         mode: u32,
         flags: u32,
     ) -> Result<u32, GetFault> {
+        let Some(mode) = Mode::from_bits(mode) else {
+            return Err(GetFault::Refused(Errno::Einval));
+        };
         match self
             .table
-            .get(cred, Key(key), size, Mode(mode), GetFlags(flags))
+            .get(cred, Key(key), size, mode, GetFlags(flags))
         {
             Ok(id) => Ok(id.0),
             Err(fault) => Err(fault),
@@ -59,7 +62,10 @@ impl<A: Allocator + Copy> Lone<A> {
     }
 
     fn set(&mut self, cred: Cred, id: u32, uid: u32, gid: u32, mode: u32) -> Result<(), Errno> {
-        self.table.set(cred, SegId(id), uid, gid, Mode(mode))
+        let Some(mode) = Mode::from_bits(mode) else {
+            return Err(Errno::Einval);
+        };
+        self.table.set(cred, SegId(id), uid, gid, mode)
     }
 
     fn stat(&self, cred: Cred, id: u32) -> Result<Stat, Errno> {

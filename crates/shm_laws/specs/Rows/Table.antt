@@ -21,7 +21,7 @@ RepliedSo ops rs = replies ops [] ≡ rs
 
 -- user 0 makes a segment of its own, or asks for a key that nobody has
 abbrev pub get : ℕ → ℕ → Op
-get key size = Get (cred 0 0) key size (record { 0 = 0o600 }) (record { 0 = 0 })
+get key size = Get (cred 0 0) key size 0o600 (record { 0 = 0 })
 
 abbrev pub full_table : List Op
 full_table =

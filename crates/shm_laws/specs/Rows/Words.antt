@@ -62,7 +62,7 @@ cred user group = record { uid = user; gid = group }
 
 -- site, user, group, key, size, mode, flags
 abbrev pub get : ℕ → ℕ → ℕ → ℕ → ℕ → ℕ → ℕ → Event
-get site user group key size mode flags = Begin site (Op (Get (cred user group) key size (record { 0 = mode }) (record { 0 = flags })))
+get site user group key size mode flags = Begin site (Op (Get (cred user group) key size mode (record { 0 = flags })))
 
 abbrev pub creat : ℕ
 creat = 0o1000
@@ -90,7 +90,7 @@ remove site user group segment = Begin site (Op (Remove (cred user group) segmen
 
 -- site, user, group, segment, new user, new group, mode
 abbrev pub set : ℕ → ℕ → ℕ → ℕ → ℕ → ℕ → ℕ → Event
-set site user group segment owner owners mode = Begin site (Op (Set (cred user group) segment owner owners (record { 0 = mode })))
+set site user group segment owner owners mode = Begin site (Op (Set (cred user group) segment owner owners mode))
 
 -- site, user, group, segment
 abbrev pub stat : ℕ → ℕ → ℕ → ℕ → Event
@@ -139,7 +139,7 @@ error e = RefusedReply e
 
 -- key, user, group, creator, creator's group, mode, size, attachments, marked or live
 abbrev pub state : ℕ → ℕ → ℕ → ℕ → ℕ → ℕ → ℕ → ℕ → Bool → Reply
-state key uid gid cuid cgid mode size nattch is_marked = StatReply (record { key = key; uid = uid; gid = gid; cuid = cuid; cgid = cgid; mode = record { 0 = mode }; size = size; nattch = nattch; marked = is_marked })
+state key uid gid cuid cgid mode size nattch is_marked = StatReply (record { key = key; uid = uid; gid = gid; cuid = cuid; cgid = cgid; mode = mode; size = size; nattch = nattch; marked = is_marked })
 
 abbrev pub marked : Bool
 marked = true

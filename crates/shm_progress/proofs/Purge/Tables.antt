@@ -83,11 +83,11 @@ module _ (P : ℕ → ℕ → Type 0) (sites home : ℕ) (segments : List Segmen
 
   call-all : (op : Op) → CalledLimited (call sites home op segments)
   call-all (Get cred key size mode flags) =
-      cond_both (key == 0) _ _ CalledLimited (λ e. make-limited cred key size mode.0) (λ e. found-limited (with_key key segments) cred key size mode.0 flags.0)
+      cond_both (key == 0) _ _ CalledLimited (λ e. make-limited cred key size mode) (λ e. found-limited (with_key key segments) cred key size mode flags.0)
   call-all (Attach cred id ro) = live-limited (with_id id segments) _ (λ g found. attach-limited id g found cred ro)
   call-all (Detach id) = live-limited (with_id id segments) _ (λ g found. detach-limited id g found)
   call-all (Remove cred id) = live-limited (with_id id segments) _ (λ g found. remove-limited id g found cred)
-  call-all (Set cred id uid gid mode) = live-limited (with_id id segments) _ (λ g found. set-limited id g found cred uid gid mode.0)
+  call-all (Set cred id uid gid mode) = live-limited (with_id id segments) _ (λ g found. set-limited id g found cred uid gid mode)
   call-all (Stat cred id) = live-limited (with_id id segments) _ (λ g found. stat-limited id g found cred)
 
 pub call-limited : (sites home : ℕ) → home < sites → (segments : List Segment) → Limited sites segments → (op : Op) → Limited sites (call sites home op segments).segments

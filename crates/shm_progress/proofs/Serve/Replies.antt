@@ -55,22 +55,22 @@ module _ (sites home : ℕ) (segments : List Segment) (all : Sized segments) whe
       Gets : Called → Type 0
       Gets c = fits (Get cred key size mode flags) c.reply ≡ true
 
-      make-fits : fits (Get cred key size mode flags) (make sites home cred key size mode.0 segments).reply ≡ true
+      make-fits : fits (Get cred key size mode flags) (make sites home cred key size mode segments).reply ≡ true
       make-fits =
           cond_both ((size == 0) || nat_lt max_segment_bytes size) _ _ Gets (λ e. refl)
           (λ e. cond_both (nat_le max_live (live_at sites home segments) || nat_le segments_of_a_home (made_at sites home segments)) _ _ Gets (λ f. refl) (λ f. refl))
 
-      absent-fits : fits (Get cred key size mode flags) (get_found None sites home cred key size mode.0 flags.0 segments).reply ≡ true
+      absent-fits : fits (Get cred key size mode flags) (get_found None sites home cred key size mode flags.0 segments).reply ≡ true
       absent-fits =
           cond_both (has_creat flags.0) _ _ Gets
           (λ h. cond_both ((size == 0) || nat_lt max_segment_bytes size) _ _ Gets (λ e. refl)
           (λ e. cond_both (nat_le max_live (live_at sites home segments) || nat_le segments_of_a_home (made_at sites home segments)) _ _ Gets (λ f. refl) (λ f. refl))) (λ h. refl)
 
-      found-fits : (found : Option Segment) → fits (Get cred key size mode flags) (get_found found sites home cred key size mode.0 flags.0 segments).reply ≡ true
+      found-fits : (found : Option Segment) → fits (Get cred key size mode flags) (get_found found sites home cred key size mode flags.0 segments).reply ≡ true
       found-fits None = absent-fits
       found-fits (Some g) =
           cond_both (has_creat flags.0 && has_excl flags.0) _ _ Gets (λ e. refl)
-          (λ e. cond_both (nat_lt g.size size) _ _ Gets (λ f. refl) (λ f. cond_both (may_get cred mode.0 g) _ _ Gets (λ h. refl) (λ h. refl)))
+          (λ e. cond_both (nat_lt g.size size) _ _ Gets (λ f. refl) (λ f. cond_both (may_get cred mode g) _ _ Gets (λ h. refl) (λ h. refl)))
   call-fits (Attach cred id ro) =
       live-fits (Attach cred id ro) (with_id id segments) _
       (λ g found. cond_both (not (may_attach cred ro g)) _ _ (Fit (Attach cred id ro)) (λ e. refl)

@@ -126,9 +126,13 @@ fn events(rt: HostRuntime) -> Result<(), Fail> {
 fn segment_calls(rt: HostRuntime) -> Result<(), Fail> {
     let cred = Cred { uid: 10, gid: 20 };
     let id = SegId(3);
+    let modes = [0o640, 0o007, 0o777].map(Mode::from_bits);
+    let [Some(plain), Some(others), Some(all)] = modes else {
+        return Err("a mode has nine bits".into());
+    };
     let cases: [(&str, Op); 7] = [
-        ("get 1 10 20 5 300 640 cx", made(0o640, 0o3000)),
-        ("get 1 10 20 5 300 007 -", made(0o007, 0)),
+        ("get 1 10 20 5 300 640 cx", made(plain, 0o3000)),
+        ("get 1 10 20 5 300 007 -", made(others, 0)),
         ("attach 1 10 20 3 ro", Op::Attach { cred, id, ro: true }),
         (
             "attach 1 10 20 3 rw",
@@ -146,7 +150,7 @@ fn segment_calls(rt: HostRuntime) -> Result<(), Fail> {
                 id,
                 uid: 11,
                 gid: 21,
-                mode: Mode(0o777),
+                mode: all,
             },
         ),
         ("stat 1 10 20 3", Op::Stat { cred, id }),
@@ -164,12 +168,12 @@ fn segment_calls(rt: HostRuntime) -> Result<(), Fail> {
     Ok(())
 }
 
-fn made(mode: u32, flags: u32) -> Op {
+fn made(mode: Mode, flags: u32) -> Op {
     Op::Get {
         cred: Cred { uid: 10, gid: 20 },
         key: Key(5),
         size: 300,
-        mode: Mode(mode),
+        mode,
         flags: GetFlags(flags),
     }
 }

@@ -11,7 +11,7 @@ use std::test::Fail;
 const ROOT: Cred = Cred { uid: 0, gid: 0 };
 
 /// The mode of the segments that are made: the owner may read and write them.
-const PRIVATE: Mode = Mode(0o600);
+const PRIVATE: Mode = Mode::OWNER_READ_WRITE;
 
 /// Makes a segment where the key has none (`IPC_CREAT`).
 const CREATE: GetFlags = GetFlags(0o1000);

@@ -36,7 +36,7 @@ impl<A: Allocator + Copy> Lone<A> {
             cred: ROOT,
             key: Key(5),
             size: 1,
-            mode: Mode(0o600),
+            mode: Mode::OWNER_READ_WRITE,
             flags: GetFlags(0o1000),
         };
         self.home.serve(SiteId(0), number, op)

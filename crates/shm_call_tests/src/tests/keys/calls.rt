@@ -75,7 +75,7 @@ fn one_class_of_bits_counts(rt: HostRuntime) -> Result<(), Fail> {
         gid: 20,
         cuid: 10,
         cgid: 20,
-        mode: Mode(0o600),
+        mode: Mode::OWNER_READ_WRITE,
         size: 256,
         nattch: 4,
         marked: false,

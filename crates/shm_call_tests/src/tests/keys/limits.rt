@@ -36,7 +36,7 @@ fn identifiers_go_by_the_number_of_sites(rt: HostRuntime) -> Result<(), Fail> {
     assert!(rt; home.0 < sites.count());
     let mut table = SegTable::new(rt.alloc(), home, sites);
     for id in [1, 3, 5] {
-        let answer = table.get(ROOT, Key(0), 1, Mode(0o600), GetFlags(0));
+        let answer = table.get(ROOT, Key(0), 1, Mode::OWNER_READ_WRITE, GetFlags(0));
         assert_eq!(rt; answer, Ok(SegId(id)));
     }
     Ok(())

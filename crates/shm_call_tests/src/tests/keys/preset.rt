@@ -18,7 +18,7 @@ fn segment_0_is_made_at_site_0(rt: HostRuntime) -> Result<(), Fail> {
         gid: 0,
         cuid: 0,
         cgid: 0,
-        mode: Mode(0o666),
+        mode: Mode::ALL_READ_WRITE,
         size: 8192,
         nattch: 3,
         marked: false,

@@ -38,7 +38,7 @@ fn each_site_purges_for_itself(rt: HostRuntime) -> Result<(), Fail> {
     let home = SiteId(0);
     assert!(rt; home.0 < sites.count());
     let mut table = SegTable::new(rt.alloc(), home, sites);
-    let made = table.get(ROOT, Key(0), 1, Mode(0o600), GetFlags(0));
+    let made = table.get(ROOT, Key(0), 1, Mode::OWNER_READ_WRITE, GetFlags(0));
     assert_eq!(rt; made, Ok(SegId(0)));
     expect_answer(&rt, table.remove(ROOT, SegId(0)), Ok(()));
     expect(&rt, table.purged(SegId(0), SiteId(1)));

@@ -89,15 +89,15 @@ fn an_attach_has_its_attachment(rt: HostRuntime) -> Result<(), AllocError> {
     expect_reply(&rt, rt.alloc(), attached(), None, "replied 8 attached -")
 }
 
-/// What `stat` tells of a segment that is attached so often, and marked or not.
-fn stat(nattch: u64, marked: bool) -> Reply {
+/// What `stat` tells of a segment with this mode that is attached so often, and marked or not.
+fn stat(mode: Mode, nattch: u64, marked: bool) -> Reply {
     Reply::Stat(Stat {
         key: Key(0),
         uid: 3,
         gid: 4,
         cuid: 1,
         cgid: 2,
-        mode: Mode(0o640),
+        mode,
         size: 10,
         nattch,
         marked,
@@ -105,11 +105,13 @@ fn stat(nattch: u64, marked: bool) -> Reply {
 }
 
 #[test]
-fn stat_tells_of_a_segment(rt: HostRuntime) -> Result<(), AllocError> {
+fn stat_tells_of_a_segment(rt: HostRuntime) -> Result<(), Fail> {
+    let mode = Mode::from_bits(0o640).ok_or("a mode has nine bits")?;
     let marked = "replied 8 stat key 0 uid 3 gid 4 cuid 1 cgid 2 mode 640 size 10 nattch 1 marked";
     let live = "replied 8 stat key 0 uid 3 gid 4 cuid 1 cgid 2 mode 640 size 10 nattch 0 live";
-    expect_reply(&rt, rt.alloc(), stat(1, true), None, marked)?;
-    expect_reply(&rt, rt.alloc(), stat(0, false), None, live)
+    expect_reply(&rt, rt.alloc(), stat(mode, 1, true), None, marked)?;
+    expect_reply(&rt, rt.alloc(), stat(mode, 0, false), None, live)?;
+    Ok(())
 }
 
 /// Each event's line, of all envelopes that aren't gone.

@@ -19,7 +19,7 @@ const GET: Given = Given::Begin(Request::Op(Op::Get {
     cred: ROOT,
     key: Key(5),
     size: 1,
-    mode: Mode(0o600),
+    mode: Mode::OWNER_READ_WRITE,
     flags: GetFlags(0o1000),
 }));
 

@@ -59,7 +59,7 @@ const GROWING: [(Given, Answer); 10] = [
                     cred: ROOT,
                     key: Key(2),
                     size: 1,
-                    mode: Mode(0o600),
+                    mode: Mode::OWNER_READ_WRITE,
                     flags: GetFlags(0o1000),
                 },
             ),

@@ -14,20 +14,20 @@ returns-then-self-ge-MAX_LIVE-clause-answer g c =
       | then-self-ge-MAX_LIVE-via-then-self-ge-MAX_LIVE w ↦ inl w.if-self-ge-MAX_LIVE.true
       | then-self-ge-MAX_LIVE-via-else-self-ge-MAX_LIVE+then-place w ↦ inr (let h = w.if-place.true in omega (arith, h))
     ] in
-    rw (← c.self.view_is) (make_full c.self.inside.home c.self.inside.sites c.args.cred c.args.key c.args.size c.args.mode.0 c.self.inside.segments.items c.self.inside.live
+    rw (← c.self.view_is) (make_full c.self.inside.home c.self.inside.sites c.args.cred c.args.key c.args.size c.args.mode c.self.inside.segments.items c.self.inside.live
     c.self.invariant.numbered c.self.invariant.counted c.if-size-eq0.false c.if-size-gt-MAX_SEGMENT_BYTES.false full)
 
 pub returns-then-is_err-clause-answer : goal.returns-then-is_err-clause-answer
 returns-then-is_err-clause-answer g c =
     let fewer : length c.self.inside.segments.items < 65536 = let h = c.if-place.false in omega (arith, h) in
-    let called = make_new c.self.inside.home c.self.inside.sites c.args.cred c.args.key c.args.size c.args.mode.0 c.self.inside.segments.items c.self.inside.live
+    let called = make_new c.self.inside.home c.self.inside.sites c.args.cred c.args.key c.args.size c.args.mode c.self.inside.segments.items c.self.inside.live
     c.self.invariant.numbered c.self.invariant.counted c.if-size-eq0.false c.if-size-gt-MAX_SEGMENT_BYTES.false c.if-self-ge-MAX_LIVE.false fewer in
     rw (← c.self.view_is) (ap (λ (r : Called). r.reply) called ∙ ap Id (sym (next c.self.inside.home c.self.inside.sites c.self.inside.segments.items c.self.invariant.numbered)))
 
 pub invariant_of-self-2 : goal.invariant_of-self-2
 invariant_of-self-2 g c =
     let items = c.self.inside.segments.items in
-    let new : Segment = new_segment c.id_at-id.result c.args.cred c.args.key c.args.size c.args.mode.0 in
+    let new : Segment = new_segment c.id_at-id.result c.args.cred c.args.key c.args.size c.args.mode in
     let pushed : c.push.new.self.items ≡ items ++ (new ∷ []) = grind (arith, common_steps) in
     let count : c.len-place.result ≡ length items = omega arith in
     let fewer : length items < 65536 = let h = c.if-place.false in omega (arith, h, count) in
@@ -46,11 +46,11 @@ invariant_of-self-2 g c =
 pub returns-clause-answer : goal.returns-clause-answer
 returns-clause-answer g c =
     let items = c.self.inside.segments.items in
-    let new : Segment = new_segment c.id_at-id.result c.args.cred c.args.key c.args.size c.args.mode.0 in
+    let new : Segment = new_segment c.id_at-id.result c.args.cred c.args.key c.args.size c.args.mode in
     let pushed : c.push.new.self.items ≡ items ++ (new ∷ []) = grind (arith, common_steps) in
     let count : c.len-place.result ≡ length items = omega arith in
     let fewer : length items < 65536 = let h = c.if-place.false in omega (arith, h, count) in
     let is_id : c.id_at-id.result ≡ length items * c.self.inside.sites + c.self.inside.home = c.id_at-id.ensures ∙ ap (λ n. n * c.self.inside.sites + c.self.inside.home) count in
-    let called = make_new c.self.inside.home c.self.inside.sites c.args.cred c.args.key c.args.size c.args.mode.0 items c.self.inside.live
+    let called = make_new c.self.inside.home c.self.inside.sites c.args.cred c.args.key c.args.size c.args.mode items c.self.inside.live
     c.self.invariant.numbered c.self.invariant.counted c.if-size-eq0.false c.if-size-gt-MAX_SEGMENT_BYTES.false c.if-self-ge-MAX_LIVE.false fewer in
-    rw (← c.self.view_is, pushed) (subst (λ n. make c.self.inside.sites c.self.inside.home c.args.cred c.args.key c.args.size c.args.mode.0 items ≡ record { reply = Id n; segments = items ++ (new_segment n c.args.cred c.args.key c.args.size c.args.mode.0 ∷ []) }) (sym is_id) called)
+    rw (← c.self.view_is, pushed) (subst (λ n. make c.self.inside.sites c.self.inside.home c.args.cred c.args.key c.args.size c.args.mode items ≡ record { reply = Id n; segments = items ++ (new_segment n c.args.cred c.args.key c.args.size c.args.mode ∷ []) }) (sym is_id) called)
