@@ -9,7 +9,7 @@ use Rattle.shm_model.specs.Entry.{Ask}
 use Rattle.shm_model.specs.Book.{Book, Outcome, Running, Waiting, ask_while, awaits, cleared_while, confirm_while, ended, greatest, is_waiting, is_write, max_waiting, on_ask, serve_next, start, start_first, unserved}
 use Rattle.shm_model.specs.Message.{Envelope, Of}
 use Rattle.shm_model.specs.Site.{Site}
-use Rattle.shm_model.specs.World.{Opening, run}
+use Rattle.shm_model.specs.World.{Opening, run, sites_of}
 use Rattle.shm_laws.proofs.PageOrders.{Each, each-imp}
 use Rattle.shm_progress.proofs.Ending.Books.{AllAsked}
 use Rattle.shm_progress.proofs.Ending.Steps.{WaitingAsked}
@@ -65,12 +65,12 @@ module _ (A : ℕ → ℕ → Kind → Type 0) where
 abbrev pub Waits : List Envelope → ℕ → PageId → Book → Type 0
 Waits sent s q b = AllAsked (λ from r kind. Contains sent (record { from = from; to = s; message = Of q (Ask r kind) })) b.waiting
 
-waits-rule : WorldRule Waits
-waits-rule = record {
-  rule = λ sent s. record {
+waits-rule : (sites : ℕ) → WorldRule sites Waits
+waits-rule sites = record {
+  rule = λ sent s small. record {
     fresh = λ q. tt;
     restarted = λ q b h. tt;
-    asked = λ q b from r kind h was. ask-waits (λ from r kind. Contains sent (record { from = from; to = s; message = Of q (Ask r kind) })) from r kind b was h;
+    asked = λ q b from r kind h was proper. ask-waits (λ from r kind. Contains sent (record { from = from; to = s; message = Of q (Ask r kind) })) from r kind b was h;
     cleared = λ q b from n h. cleared-waits-while (λ from r kind. Contains sent (record { from = from; to = s; message = Of q (Ask r kind) })) b.running from n b h;
     confirmed = λ q b from n h. confirm-waits-while (λ from r kind. Contains sent (record { from = from; to = s; message = Of q (Ask r kind) })) b.running from n b h;
   };
@@ -79,4 +79,4 @@ waits-rule = record {
 }
 
 pub run-waits : (o : Opening) (events : List Event) (sites s : ℕ) (x : Site) → slice_get (run o events).world.sites s ≡ Some x → WaitingAsked sites s (run o events).world.sent x
-run-waits o events sites s x found = record { asked = λ page. (run-books Waits o waits-rule events).each s x found page }
+run-waits o events sites s x found = record { asked = λ page. (run-books Waits o (waits-rule (sites_of o)) events).each s x found page }

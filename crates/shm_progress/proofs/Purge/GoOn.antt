@@ -104,7 +104,7 @@ module _ (w : World) (all : length w.sites ≡ w.count) (home : ℕ) (known-here
   moved-goes : (v : Event) (u : World) → Fresh w → is_loss v ≡ false → is_full w ≡ false → Moved w v u → PurgesGoOn u home
   moved-goes v u fresh kept free same = goes
   moved-goes v u fresh kept free (drops k e h why) = dropped-goes k e h (why kept free)
-  moved-goes v u fresh kept free (steps gone s x input found honest takes only) = stepped-goes fresh gone s x input found takes only
+  moved-goes v u fresh kept free (steps gone s x input found honest takes only restarts) = stepped-goes fresh gone s x input found takes only
 
 -- the home's tick asks all who are missing
 tick-goes : (w : World) (fresh : Fresh w) (home : ℕ) (known-here : (x : Site) (id t : ℕ) → slice_get w.sites home ≡ Some x → x.missing id t ≡ true → Known w home x id t)

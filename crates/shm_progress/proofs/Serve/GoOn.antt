@@ -144,7 +144,7 @@ module _ (w : World) (all : length w.sites ≡ w.count) (me : ℕ) (known-here :
   moved-goes : (v : Event) (u : World) → Fresh w → is_loss v ≡ false → is_full w ≡ false → Moved w v u → CallGoesOn u me
   moved-goes v u fresh kept free same = goes
   moved-goes v u fresh kept free (drops k e h why) = dropped-goes k e h (why kept free)
-  moved-goes v u fresh kept free (steps gone s x input found honest takes only) = stepped-goes fresh gone s x input found takes only
+  moved-goes v u fresh kept free (steps gone s x input found honest takes only restarts) = stepped-goes fresh gone s x input found takes only
 
 -- the site's tick sends its call again
 tick-goes : (w : World) (fresh : Fresh w) (me : ℕ) → is_full w ≡ false → (found : Option Site) → slice_get w.sites me ≡ found → CallGoesOn (step_site found w me Tick).world me
