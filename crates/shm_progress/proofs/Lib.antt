@@ -4,4 +4,7 @@ pub mod Purge
 pub mod Serve
 pub mod Round
 pub mod BooksKept
+pub mod SitesKept
 pub mod Behind
+pub mod Transfer
+pub mod Since

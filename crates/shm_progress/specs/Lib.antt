@@ -4,3 +4,4 @@ pub mod Purging
 pub mod Serving
 pub mod Rounds
 pub mod Queues
+pub mod Transactions

@@ -1,4 +1,4 @@
-//! Progress: deliveries end, and calls and purges are served. Theorems about Leddwyfan's definitions, each the contract of a function
+//! Progress: deliveries end, calls and purges are served, and transactions end. Theorems about Leddwyfan's definitions, each the contract of a function
 //! without parameters and with an empty body.
 #![tactic(auto)]
 
@@ -7,6 +7,7 @@ mod purging;
 mod queues;
 mod rounds;
 mod serving;
+mod transactions;
 
 pub use deliveries::{
     deliveries_are_few, deliveries_end, each_delivery_counts, worlds_come_to_rest,
@@ -15,3 +16,4 @@ pub use purging::{purges_end, purges_go_on};
 pub use queues::none_waits_for_nothing;
 pub use rounds::rounds_settle_calls_and_purges;
 pub use serving::{calls_end, calls_go_on};
+pub use transactions::{transactions_end, transactions_go_on};

@@ -34,14 +34,14 @@ module _ (A : ℕ → ℕ → Kind → Type 0) where
       (λ e. cond_both (nat_le max_waiting (length b.waiting)) _ _ (OutcomeWaits A) (λ f. tt)
       (λ f. each-push (λ (w : Waiting). A w.from w.request w.kind) b.waiting (record { from = s; request = r; kind = kind }) waits asked))
 
-  ask-waits : (s r : ℕ) (kind : Kind) (b : Book) → A s r kind → AllAsked A b.waiting → OutcomeWaits A (on_ask s r kind b)
+  pub ask-waits : (s r : ℕ) (kind : Kind) (b : Book) → A s r kind → AllAsked A b.waiting → OutcomeWaits A (on_ask s r kind b)
   ask-waits s r kind b asked waits = cond_both (nat_le r (b.served s)) _ _ (OutcomeWaits A) (λ e. tt) (λ e. while-waits b.running s r kind b asked waits)
 
-  cleared-waits-while : (running : Option Running) (s n : ℕ) (b : Book) → AllAsked A b.waiting → OutcomeWaits A (cleared_while running s n b)
+  pub cleared-waits-while : (running : Option Running) (s n : ℕ) (b : Book) → AllAsked A b.waiting → OutcomeWaits A (cleared_while running s n b)
   cleared-waits-while None s n b waits = tt
   cleared-waits-while (Some run) s n b waits = cond_both ((n == b.number) && awaits b run s) _ _ (OutcomeWaits A) (λ e. waits) (λ e. tt)
 
-  unserved-waits : (served : ℕ → ℕ) (ws : List Waiting) → AllAsked A ws → AllAsked A (unserved served ws)
+  pub unserved-waits : (served : ℕ → ℕ) (ws : List Waiting) → AllAsked A ws → AllAsked A (unserved served ws)
   unserved-waits served [] waits = tt
   unserved-waits served (w ∷ ws) waits = cond_both (nat_le w.request (served w.from)) _ _ (AllAsked A) (λ e. unserved-waits served ws waits.1) (λ e. waits)
 
@@ -52,11 +52,11 @@ module _ (A : ℕ → ℕ → Kind → Type 0) where
   serve-waits : (b : Book) → AllAsked A b.waiting → OutcomeWaits A (serve_next b)
   serve-waits b waits = cond_both (b.number == greatest) _ _ (OutcomeWaits A) (λ e. tt) (λ e. first-waits (unserved b.served b.waiting) b (unserved-waits b.served b.waiting waits))
 
-  ended-waits : (run : Running) (b : Book) → AllAsked A b.waiting → AllAsked A (ended run b).waiting
+  pub ended-waits : (run : Running) (b : Book) → AllAsked A b.waiting → AllAsked A (ended run b).waiting
   ended-waits run b waits =
       cond_both (is_write run.kind) _ _ (λ (c : Book). AllAsked A c.waiting) (λ e. waits) (λ e. cond_both (run.requester == b.owner) _ _ (λ (c : Book). AllAsked A c.waiting) (λ f. waits) (λ f. waits))
 
-  confirm-waits-while : (running : Option Running) (s n : ℕ) (b : Book) → AllAsked A b.waiting → OutcomeWaits A (confirm_while running s n b)
+  pub confirm-waits-while : (running : Option Running) (s n : ℕ) (b : Book) → AllAsked A b.waiting → OutcomeWaits A (confirm_while running s n b)
   confirm-waits-while None s n b waits = tt
   confirm-waits-while (Some run) s n b waits =
       cond_both ((n == b.number) && (s == run.requester)) _ _ (OutcomeWaits A) (λ e. serve-waits (ended run b) (ended-waits run b waits)) (λ e. tt)
