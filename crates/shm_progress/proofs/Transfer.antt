@@ -6,3 +6,4 @@ pub mod Rows
 pub mod Steps
 pub mod Kept
 pub mod GoOn
+pub mod Ends

@@ -14,6 +14,6 @@ pub use deliveries::{
 };
 pub use purging::{purges_end, purges_go_on};
 pub use queues::none_waits_for_nothing;
-pub use rounds::rounds_settle_calls_and_purges;
+pub use rounds::{rounds_settle_calls_and_purges, rounds_settle_transactions};
 pub use serving::{calls_end, calls_go_on};
 pub use transactions::{transactions_end, transactions_go_on};
