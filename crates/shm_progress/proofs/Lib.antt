@@ -8,3 +8,5 @@ pub mod SitesKept
 pub mod Behind
 pub mod Transfer
 pub mod Since
+pub mod Along
+pub mod Request

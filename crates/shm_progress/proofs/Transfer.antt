@@ -4,6 +4,7 @@ pub mod Told
 pub mod Heard
 pub mod Rows
 pub mod Steps
+pub mod Gone
 pub mod Kept
 pub mod GoOn
 pub mod Ends

@@ -5,3 +5,4 @@ pub mod Serving
 pub mod Queues
 pub mod Transactions
 pub mod Rounds
+pub mod Requests

@@ -29,9 +29,10 @@ use Rattle.shm_progress.proofs.Purge.Answers.{contains-first}
 use Rattle.shm_progress.proofs.Since.{since}
 use Rattle.shm_progress.proofs.Transfer.Booked.{Booked, run-booked}
 use Rattle.shm_progress.proofs.Transfer.Bounds.{Asker, Bounds, run-bounds}
+use Rattle.shm_progress.proofs.Transfer.Gone.{purged-here, purged-still}
 use Rattle.shm_progress.proofs.Transfer.Kept.{awaited-is, goes-cleared, goes-still, told-goes, waiting-goes}
 use Rattle.shm_progress.proofs.Transfer.Rows.{BookMove, Unheard, asks, clears, keeps, note_envelope, stops}
-use Rattle.shm_progress.proofs.Transfer.Steps.{step-gone, step-moves}
+use Rattle.shm_progress.proofs.Transfer.Steps.{step-moves}
 use Rattle.shm_progress.proofs.Transfer.Told.{Told, awaited-has, tick-told, told}
 
 same-site : (found : Option Site) (x y : Site) → found ≡ Some x → found ≡ Some y → x ≡ y
@@ -86,16 +87,6 @@ module _ (o : Opening) (r : Run) (sound : Sound o r) (shape : Shape o r.world) (
       abbrev u : World
       u = (stepped (record w { gone = gone }) s input st).world
 
-      purged-here : (id : ℕ) → x.purged id ≡ true → IsPurgedSomewhere u id
-      purged-here id is = (s, st.site, set-here w.sites s x st.site found, step-gone w.count s x id is input)
-
-      purged-still : (id : ℕ) → IsPurgedSomewhere w id → IsPurgedSomewhere u id
-      purged-still id (t, y, at, is) = by-site (cases_eq t s)
-        where
-          by-site : (t ≡ s) ⊎ (t ≢ s) → IsPurgedSomewhere u id
-          by-site (inl here) = purged-here id (ap (λ (z : Site). z.purged id) (same-site (slice_get w.sites s) x y found (ap (slice_get w.sites) (sym here) ∙ at)) ∙ is)
-          by-site (inr there) = (t, y, set-there w.sites s t st.site there ∙ at, is)
-
       -- the transaction that runs at the manager before the step
       module _ (q : PageId) (z : Site) (at_m : slice_get w.sites m ≡ Some z) (open_m : z.purged q.seg ≡ false) (open_s : x.purged q.seg ≡ false) (run : Running) (is : (z.books q).running ≡ Some run)
           (going : TransactionGoesOn w m q (z.books q) run) where
@@ -139,12 +130,12 @@ module _ (o : Opening) (r : Run) (sound : Sound o r) (shape : Shape o r.world) (
           by-purged : TransactionGoesOn w m q (y.books q) run → (y.purged q.seg ≡ true) ⊎ (y.purged q.seg ≡ false) → (x.purged q.seg ≡ true) ⊎ (x.purged q.seg ≡ false)
               → TransactionGoesOn u m q (y.books q) run ⊎ IsPurgedSomewhere u q.seg
           by-purged g (inl p) other = inr (m, y, now, p)
-          by-purged g (inr open_m) (inl p) = inr (purged-here q.seg p)
+          by-purged g (inr open_m) (inl p) = inr (purged-here w gone s x input found q.seg p)
           by-purged g (inr open_m) (inr open_s) = inl (still-going q y at_m open_m open_s run is g (λ here. absurd (there here)))
 
           by-going : TransactionGoesOn w m q (y.books q) run ⊎ IsPurgedSomewhere w q.seg → TransactionGoesOn u m q (y.books q) run ⊎ IsPurgedSomewhere u q.seg
           by-going (inl g) = by-purged g (cases_Bool (y.purged q.seg)) (cases_Bool (x.purged q.seg))
-          by-going (inr p) = inr (purged-still q.seg p)
+          by-going (inr p) = inr (purged-still w gone s x input found q.seg p)
 
     -- the manager steps
     module _ (x : Site) (input : Input) (found : slice_get w.sites m ≡ Some x) (takes : Takes w gone m input) (honest : (e : Envelope) → input ≡ Deliver e → e.to ≡ m) (unrestarted : input ≢ Restart) where
@@ -163,7 +154,7 @@ module _ (o : Opening) (r : Run) (sound : Sound o r) (shape : Shape o r.world) (
           where
             by-going : TransactionGoesOn w m q (x.books q) run ⊎ IsPurgedSomewhere w q.seg → TransactionGoesOn u-m m q (record (x.books q) { waiting = ws }) run ⊎ IsPurgedSomewhere u-m q.seg
             by-going (inl g) = inl (waiting-goes u-m m q (x.books q) ws run (still-going m x input found takes q x found open_here open_here run is g (λ here. unheard)))
-            by-going (inr p) = inr (purged-still m x input found takes q.seg p)
+            by-going (inr p) = inr (purged-still w gone m x input found q.seg p)
 
         cleared-one : (before : Running) (t : ℕ) → (x.books q).running ≡ Some before → input ≡ Deliver (note_envelope t m q (Cleared (x.books q).number))
             → (awaited (record (x.books q) { cleared = at (x.books q).cleared t true }) before ≡ [] → (f : Envelope)
@@ -177,7 +168,7 @@ module _ (o : Opening) (r : Run) (sound : Sound o r) (shape : Shape o r.world) (
             by-going : TransactionGoesOn w m q (x.books q) run ⊎ IsPurgedSomewhere w q.seg → TransactionGoesOn u-m m q (record (x.books q) { cleared = at (x.books q).cleared t true }) run ⊎ IsPurgedSomewhere u-m q.seg
             by-going (inl g) = inl (cleared-going m x input found takes q x found open_here open_here run is g t heard
                 (λ none. told m q (record (x.books q) { cleared = at (x.books q).cleared t true }) run st-m.sent is (hands (ap (awaited (record (x.books q) { cleared = at (x.books q).cleared t true })) one ∙ none))))
-            by-going (inr p) = inr (purged-still m x input found takes q.seg p)
+            by-going (inr p) = inr (purged-still w gone m x input found q.seg p)
 
         by-move : (c : Book) → BookMove m q (x.books q) input c st-m.sent → Goal c
         by-move c (stops idle) is = absurd (some-none c.running run idle is)
@@ -196,7 +187,7 @@ module _ (o : Opening) (r : Run) (sound : Sound o r) (shape : Shape o r.world) (
           mine = same-site (slice_get u-m.sites m) st-m.site y (set-here w.sites m x st-m.site found) now
 
           by-purged : (x.purged q.seg ≡ true) ⊎ (x.purged q.seg ≡ false) → TransactionGoesOn u-m m q (y.books q) run ⊎ IsPurgedSomewhere u-m q.seg
-          by-purged (inl p) = inr (purged-here m x input found takes q.seg p)
+          by-purged (inl p) = inr (purged-here w gone m x input found q.seg p)
           by-purged (inr open_here) =
               subst (λ (t : Site). (t.books q).running ≡ Some run → TransactionGoesOn u-m m q (t.books q) run ⊎ IsPurgedSomewhere u-m q.seg) mine
               (by-move q run open_here (st-m.site.books q) (step-moves w.count m q x (bounds-at x found q) open_here input honest unrestarted)) is
@@ -234,10 +225,10 @@ module _ (o : Opening) (r : Run) (sound : Sound o r) (shape : Shape o r.world) (
       (λ runs. inl (told-goes w fresh w.gone m x Tick (λ j f h. inl (live-parts w j f h).0) (λ j past only. only) m q (x.books q) run (tick-told w.count m x q run (booked x found) runs))) is)
 
 -- neither loses an envelope nor restarts the site
-abbrev Keeps : ℕ → Event → Type 0
+abbrev pub Keeps : ℕ → Event → Type 0
 Keeps m e = (is_loss e ≡ false) × (e ≢ RestartEvent m)
 
-both-kept : (m : ℕ) (events : List Event) → NothingLost events → NotRestarted m events → Each (Keeps m) events
+pub both-kept : (m : ℕ) (events : List Event) → NothingLost events → NotRestarted m events → Each (Keeps m) events
 both-kept m [] kept unrestarted = tt
 both-kept m (e ∷ es) kept unrestarted = ((kept.0, unrestarted.0), both-kept m es kept.1 unrestarted.1)
 

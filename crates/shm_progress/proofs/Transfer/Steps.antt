@@ -25,7 +25,7 @@ about : (p q : PageId) (note other : Note) → Of p note ≡ Of q other → p �
 about p q note other e = cc
 
 -- books and purged segments of a step that isn't about them
-record Aside (x : Site) (st : Step) : Type 0 where
+pub record Aside (x : Site) (st : Step) : Type 0 where
   pub books : st.site.books ≡ x.books
   pub purged : st.site.purged ≡ x.purged
 
@@ -35,15 +35,15 @@ module _ (sites m : ℕ) (x : Site) where
       cond_both (is_pending kind page x.pending) _ _ (Aside x) (λ e. record { books = refl; purged = refl })
       (λ e. cond_both (x.requests == greatest) _ _ (Aside x) (λ f. record { books = refl; purged = refl }) (λ f. record { books = refl; purged = refl }))
 
-  load-aside : (place : Result Place ℕ) → Aside x (load_if sites m place x)
+  pub load-aside : (place : Result Place ℕ) → Aside x (load_if sites m place x)
   load-aside (Err refusal) = record { books = refl; purged = refl }
   load-aside (Ok place) = cond_both (readable (x.entries place.page)) _ _ (Aside x) (λ e. record { books = refl; purged = refl }) (λ e. ask_for-aside Read place.page)
 
-  store-aside : (place : Result Place ℕ) (byte : ℕ) → Aside x (store_if sites m place byte x)
+  pub store-aside : (place : Result Place ℕ) (byte : ℕ) → Aside x (store_if sites m place byte x)
   store-aside (Err refusal) byte = record { books = refl; purged = refl }
   store-aside (Ok place) byte = cond_both (writable (x.entries place.page)) _ _ (Aside x) (λ e. record { books = refl; purged = refl }) (λ e. ask_for-aside Write place.page)
 
-  entry-aside : (page : PageId) (row : Entry × Out) → Aside x (to_entry sites m page row x)
+  pub entry-aside : (page : PageId) (row : Entry × Out) → Aside x (to_entry sites m page row x)
   entry-aside page (e, out) =
       cond_both (is_nothing out) _ _ (Aside x) (λ h. record { books = refl; purged = refl })
       (λ h. let same = limited-books (arranged page (x.entries page) e x.frames)

@@ -1,0 +1,4 @@
+pub mod Books
+pub mod Pending
+pub mod Steps
+pub mod GoOn
