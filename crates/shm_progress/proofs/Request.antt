@@ -2,3 +2,4 @@ pub mod Books
 pub mod Pending
 pub mod Steps
 pub mod GoOn
+pub mod Ends

@@ -40,3 +40,12 @@ RequestGoesOn o before since manager from p =
 abbrev pub RequestsGoOn : Opening → List Event → List Event → ℕ → ℕ → Type 0
 RequestsGoOn o before since manager from = (x : Site) (p : Pending) → slice_get (run o (before ++ since)).world.sites from ≡ Some x → Contains x.pending p
     → manager_of (sites_of o) p.page ≡ manager → IsTrue (in_limits (sites_of o) p.page) → RequestGoesOn o before since manager from p
+
+-- the page's manager has started the request's transaction
+abbrev pub IsStarted : World → ℕ → Pending → Type 0
+IsStarted w from p = (x : Site) × (slice_get w.sites (manager_of w.count p.page) ≡ Some x) × (p.request ≤ (x.books p.page).served from)
+
+-- each request that is pending was started, or turned away in the later events, or its site has purged the segment
+abbrev pub RequestsSettled : Opening → List Event → List Event → Type 0
+RequestsSettled o before since = (from : ℕ) (x : Site) (p : Pending) → slice_get (run o (before ++ since)).world.sites from ≡ Some x → Contains x.pending p → IsTrue (in_limits (sites_of o) p.page)
+    → IsStarted (run o (before ++ since)).world from p ⊎ (WasTurnedAway o before since (manager_of (sites_of o) p.page) p.page ⊎ (x.purged p.page.seg ≡ true))

@@ -1,5 +1,5 @@
-//! Progress: deliveries end, calls and purges are served, transactions end, and requests are taken up. Theorems about Leddwyfan's definitions, each the contract of a function
-//! without parameters and with an empty body.
+//! Progress: deliveries end, calls and purges are served, transactions end, and requests are taken up. Theorems about Leddwyfan's
+//! definitions, each the contract of a function without parameters and with an empty body.
 #![tactic(auto)]
 
 mod deliveries;
@@ -16,6 +16,8 @@ pub use deliveries::{
 pub use purging::{purges_end, purges_go_on};
 pub use queues::none_waits_for_nothing;
 pub use requests::{requests_end, requests_go_on};
-pub use rounds::{rounds_settle_calls_and_purges, rounds_settle_transactions};
+pub use rounds::{
+    rounds_settle_calls_and_purges, rounds_settle_requests, rounds_settle_transactions,
+};
 pub use serving::{calls_end, calls_go_on};
 pub use transactions::{transactions_end, transactions_go_on};

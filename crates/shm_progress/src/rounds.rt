@@ -4,6 +4,7 @@ ghost use Rattle.shm_model.specs.World.{IsOpening, Opening, is_full, run, sites_
 ghost use Rattle.shm_model.specs.declared.event.Event.{Event};
 ghost use Rattle.shm_progress.specs.Deliveries.{IsAtRest};
 ghost use Rattle.shm_progress.specs.OnTheWay.{NothingLost};
+ghost use Rattle.shm_progress.specs.Requests.{RequestsSettled};
 ghost use Rattle.shm_progress.specs.Rounds.{AllTick, ManagersSettled, NoneRestarted, Settled};
 
 /// Rounds settle calls and purges: from every world that some events lead to, further events that lose nothing, among which each site
@@ -19,4 +20,11 @@ pub fn rounds_settle_calls_and_purges()
 pub fn rounds_settle_transactions()
     ensures { (o : Opening) (earlier later : List Event) → IsOpening o → NothingLost later → NoneRestarted later → AllTick (sites_of o) later
         → is_full (run o (earlier ++ later)).world ≡ false → IsAtRest (run o (earlier ++ later)).world → ManagersSettled (run o (earlier ++ later)).world }
+{}
+
+/// Rounds settle requests: where none of those events restarts a site, each request that is still pending has had its transaction
+/// started, or was turned away among them, or its site has purged the segment.
+pub fn rounds_settle_requests()
+    ensures { (o : Opening) (earlier later : List Event) → IsOpening o → NothingLost later → NoneRestarted later → AllTick (sites_of o) later
+        → is_full (run o (earlier ++ later)).world ≡ false → IsAtRest (run o (earlier ++ later)).world → RequestsSettled o earlier later }
 {}

@@ -21,7 +21,7 @@ use Rattle.shm_progress.proofs.Purge.Everyone.{everyone-purges}
 use Rattle.shm_progress.proofs.Round.{same-world, settles, since, split}
 use Rattle.shm_progress.proofs.Transfer.GoOn.{ended-at-rest, transactions-go-on}
 
-back-unrestarted : (s : ℕ) (front : List Event) (e : Event) (back : List Event) → NotRestarted s (front ++ (e ∷ back)) → NotRestarted s back
+pub back-unrestarted : (s : ℕ) (front : List Event) (e : Event) (back : List Event) → NotRestarted s (front ++ (e ∷ back)) → NotRestarted s back
 back-unrestarted s [] e back kept = kept.1
 back-unrestarted s (x ∷ xs) e back kept = back-unrestarted s xs e back kept.1
 
@@ -38,7 +38,7 @@ module _ (o : Opening) (opening : IsOpening o) (earlier later : List Event) (kep
     small = let within = slice_get_within w.sites s x found in let all = (run-shape o (earlier ++ later)).sites in omega (arith, within, all)
 
     -- what one site has purged this one has
-    purged-too : IsPurgedSomewhere w q.seg → x.purged q.seg ≡ true
+    pub purged-too : IsPurgedSomewhere w q.seg → x.purged q.seg ≡ true
     purged-too (t, y, at, is) = by-way (everyone-purges o (earlier ++ later) t q.seg y at is s small)
       where
         home-small : (n id : ℕ) → 1 ≤ n → home_of_id n id < n
