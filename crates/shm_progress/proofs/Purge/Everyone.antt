@@ -1,7 +1,7 @@
 -- What one site has purged every site purges: each has done it, or its home misses its answer.
-use Rattle.std.proofs.Common.{◌≡◌, ◌≢◌, ℕ, ◌<◌, ◌⊎◌, inl, inr, Bool, true, false, nat_lt, List, [], ◌∷◌, ◌++◌, Option, Some, None, map, arith, refl, sym, ◌∙◌, ap, subst, Contains, slice_get}
+use Rattle.std.proofs.Common.{◌≡◌, ◌≢◌, ℕ, ◌<◌, ◌⊎◌, inl, inr, Bool, true, false, nat_lt, List, [], ◌∷◌, ◌++◌, Option, Some, None, map, refl, sym, ◌∙◌, ap, subst, Contains, slice_get}
 use Rattle.std.specs.List.{AllByRecursion, range_with_len}
-use Rattle.std.proofs.lemmas.Bool.{cases_eq, lt-ltb}
+use Rattle.std.proofs.lemmas.Bool.{lt-ltb}
 use Rattle.std.proofs.lemmas.List.Elements.{Contains-append_cases}
 use Rattle.std.proofs.lemmas.Option.{get_or_from_slice_get}
 use Rattle.shm_place.specs.Home.{home_of_id}
@@ -15,7 +15,7 @@ use Rattle.shm_model.specs.Message.{Deliver, Envelope, Input, Purge, Purged}
 use Rattle.shm_model.specs.SegmentCalls.{purge_envelope, purges, reply_envelope}
 use Rattle.shm_model.specs.Site.{Site}
 use Rattle.shm_model.specs.World.{Done, Framed, New, Opening, Preset, opened_site, run, sites_of}
-use Rattle.shm_laws.proofs.CallsTurn.{Desk, Repeats, Turn, again, attached, desk_of, detach_begun, ended, executed, hears_purged, missing_with, old, op_begun, purges_one, quiet}
+use Rattle.shm_laws.proofs.CallsTurn.{Desk, Repeats, Turn, again, attached, detach_begun, ended, executed, hears_purged, missing_with, old, op_begun, purges_one, quiet}
 use Rattle.shm_laws.proofs.CallsInvariant.{at-cases}
 use Rattle.shm_laws.proofs.CallsSteps.{at-here}
 use Rattle.shm_laws.proofs.CallsRun.{ByTurns, Honest, desks, run-turns}
@@ -151,12 +151,14 @@ module _ (o : Opening) (d : ℕ → Desk) (sent : List Envelope) (account : List
       next o d sent account s by x misses purges (Deliver e) answer (f ∷ []) once
       (λ id t h. on id (by.missing s id t (ap (λ (g : ℕ → ℕ → Bool). g id t) (sym m) ∙ h)))
       (λ id h. at-cases (λ b. b ≡ true → Heard (sites_of o) (at d s x) id) (d s).purged i true id (λ same k. subst (Heard (sites_of o) (at d s x)) same (on i (by.asked e i was is))) (λ other k. on id (by.purged s id k))
-      (ap (λ (g : ℕ → Bool). g id) (sym p) ∙ h))
-      (record {
-        asks = λ id same. let both : Purged i ≡ Purge id = sym says ∙ same in cc;
-        answers = λ id same. let both : Purged i ≡ Purged id = sym says ∙ same in let one : i ≡ id = cc in
-            ap (λ (y : Desk). y.purged id) (at-here d s x f.from (sym from)) ∙ (ap (λ (g : ℕ → Bool). g id) p ∙ at-here (d s).purged i true id one);
-      }, tt)
+      (ap (λ (g : ℕ → Bool). g id) (sym p) ∙ h)) (
+        record {
+          asks = λ id same. let both : Purged i ≡ Purge id = sym says ∙ same in cc;
+          answers = λ id same. let both : Purged i ≡ Purged id = sym says ∙ same in let one : i ≡ id = cc in
+              ap (λ (y : Desk). y.purged id) (at-here d s x f.from (sym from)) ∙ (ap (λ (g : ℕ → Bool). g id) p ∙ at-here (d s).purged i true id one);
+        },
+        tt,
+      )
     where
       misses : (id t : ℕ) → t < sites_of o → (d s).missing id t ≡ true → (x.missing id t ≡ true) ⊎ ((at d s x t).purged id ≡ true)
       misses id t small h = inl (ap (λ (g : ℕ → ℕ → Bool). g id t) m ∙ h)

@@ -1,10 +1,9 @@
 -- A request that a book has taken up stays so, and an Ask that is heard is taken up unless the book takes none.
 use Rattle.std.proofs.Common.{◌≡◌, ℕ, ◌<◌, ◌≤◌, ◌⊎◌, inl, inr, Bool, true, false, ◌==◌, ◌&&◌, ◌||◌, Option, Some, None, List, [], ◌∷◌, ◌++◌, length, nat_le, arith, refl, sym, ◌∙◌, ap, subst}
-use Rattle.std.specs.List.{list_any}
-use Rattle.std.proofs.lemmas.Bool.{and_parts, and_from, cond_both, cond-true, cond-false, eq-eqb, eqb-true, leb-true, leb-false}
+use Rattle.std.proofs.lemmas.Bool.{and_parts, cond_both, cond-true, cond-false, eq-eqb, eqb-true, leb-true, leb-false}
 use Rattle.std.proofs.lemmas.Bool.Decides.{nat_tests}
 use Rattle.shm_model.specs.declared.kind.Kind.{Kind}
-use Rattle.shm_model.specs.Book.{Book, Outcome, Ignored, UsedUp, Taken, Running, Waiting, ask_while, at, awaits, cleared_while, confirm_while, ended, greatest, is_waiting, is_write, max_waiting, on_ask, orders, serve_next, start, start_first, started, unserved}
+use Rattle.shm_model.specs.Book.{Book, Outcome, Ignored, UsedUp, Taken, Running, Waiting, ask_while, at, awaits, cleared_while, confirm_while, greatest, is_waiting, is_write, max_waiting, on_ask, serve_next, start, start_first, started, unserved}
 use Rattle.shm_progress.specs.Requests.{IsTakenUp, TakesNone}
 use Rattle.shm_progress.proofs.BooksKept.{OutcomeHolds}
 

@@ -1,5 +1,5 @@
 -- A request goes on until it is taken up, as long as nothing is lost and its manager doesn't restart.
-use Rattle.std.proofs.Common.{◌≡◌, ◌≢◌, ℕ, ◌+◌, ◌%◌, ◌<◌, ◌≤◌, ◌⊎◌, inl, inr, Bool, true, false, ◌==◌, Option, Some, None, List, [], ◌∷◌, ◌++◌, append_assoc, append-nil, length, IsTrue, slice_get, slice_set, arith, refl, sym, ◌∙◌, ap, subst, Contains}
+use Rattle.std.proofs.Common.{◌≡◌, ◌≢◌, ℕ, ◌+◌, ◌%◌, ◌<◌, ◌≤◌, ◌⊎◌, inl, inr, Bool, true, false, ◌==◌, Option, Some, None, List, [], ◌∷◌, ◌++◌, append_assoc, append-nil, IsTrue, slice_get, slice_set, arith, refl, sym, ◌∙◌, ap, subst, Contains}
 use Rattle.std.proofs.lemmas.Bool.{cases_eq, cases_Bool, cond_both, eqb-true}
 use Rattle.std.proofs.lemmas.Option.{slice_get_within}
 use Rattle.shm_place.specs.declared.page.PageId.{PageId}
@@ -7,14 +7,13 @@ use Rattle.shm_place.specs.Page.{in_limits, manager_of}
 use Rattle.shm_model.specs.declared.event.Event.{Event}
 use Rattle.shm_model.specs.declared.event.Event.TheVariants.{Tick as TickEvent, Restart as RestartEvent}
 use Rattle.shm_model.specs.Entry.{Ask}
-use Rattle.shm_model.specs.Book.{Book, greatest}
+use Rattle.shm_model.specs.Book.{greatest}
 use Rattle.shm_model.specs.Message.{Envelope, Input, Deliver, Restart, Tick}
 use Rattle.shm_model.specs.Site.{Pending, Site}
 use Rattle.shm_model.specs.Access.{Step}
 use Rattle.shm_model.specs.Step.{ask_again, deliver, step}
 use Rattle.shm_model.specs.World.{IsOpening, Next, Opening, Run, World, begun, extended, is_full, live, next, run, run_on, sites_of, step_site, stepped, without}
-use Rattle.shm_laws.proofs.RunInduction.{IsHonest, Shape, run-shape}
-use Rattle.shm_laws.proofs.PageOrders.{Each}
+use Rattle.shm_laws.proofs.RunInduction.{Shape, run-shape}
 use Rattle.shm_laws.proofs.RunsOn.{run_on-append}
 use Rattle.shm_laws.proofs.Sound.{set-here, set-there}
 use Rattle.shm_laws.proofs.Headline.{size-of}

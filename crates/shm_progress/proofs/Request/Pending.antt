@@ -1,6 +1,5 @@
 -- What is pending after a site's step was pending before, or is asked for now.
-use Rattle.std.proofs.Common.{◌≡◌, ℕ, zero, suc, ◌+◌, ◌⊎◌, inl, inr, Bool, true, false, ◌==◌, not, Option, Some, None, Result, Ok, Err, List, [], ◌∷◌, length, filter, map, nat_lt, if◌then◌else◌, arith, refl, sym, ◌∙◌, ap, subst, Contains}
-use Rattle.std.specs.List.{flat_map}
+use Rattle.std.proofs.Common.{◌≡◌, ℕ, zero, suc, ◌+◌, ◌⊎◌, inl, inr, Bool, true, false, ◌==◌, not, Option, Some, None, Result, Ok, Err, List, [], ◌∷◌, length, filter, map, nat_lt, arith, refl, sym, subst, Contains}
 use Rattle.std.proofs.lemmas.Bool.{cond_both}
 use Rattle.std.proofs.lemmas.List.Elements.{Contains-append_left}
 use Rattle.shm_place.specs.declared.page.PageId.{PageId}
@@ -13,7 +12,6 @@ use Rattle.shm_model.specs.Message.{Envelope, Input, Load, Store, Begin, Deliver
 use Rattle.shm_model.specs.Site.{Frames, Pending, Site, at_page, is_attached}
 use Rattle.shm_model.specs.Access.{Place, Step, ask_for, is_pending, load_if, put_pending, right, store_if}
 use Rattle.shm_model.specs.Transfer.{arranged, drop_first, is_nothing, is_settled, limited, on_note, settle, to_book, to_entry}
-use Rattle.shm_model.specs.SegmentCalls.{begin, on_call, on_purged, on_reply}
 use Rattle.shm_model.specs.Step.{ask_again, foreign, on_message, step, tick_envelopes}
 use Rattle.shm_laws.proofs.CallsAreQuiet.{begin-quiet, call-quiet, purged-quiet, reply-quiet}
 use Rattle.shm_progress.proofs.Purge.Answers.{contains-first, contains-later}

@@ -1,16 +1,15 @@
 -- What a step of a manager does to a request that it has taken up, and to an Ask.
-use Rattle.std.proofs.Common.{◌≡◌, ◌≢◌, ℕ, ◌<◌, ◌⊎◌, inl, inr, Bool, true, false, ◌==◌, not, ◌||◌, if◌then◌else◌, Result, Ok, Err, refl, sym, ◌∙◌, ap, subst}
-use Rattle.std.proofs.lemmas.Bool.{cond_both, cond-true, cond-false, eq-eqb}
+use Rattle.std.proofs.Common.{◌≡◌, ◌≢◌, ℕ, ◌<◌, ◌⊎◌, inl, inr, Bool, true, false, ◌==◌, if◌then◌else◌, refl, sym, subst}
+use Rattle.std.proofs.lemmas.Bool.{cond_both, cond-true, eq-eqb}
 use Rattle.shm_place.specs.declared.page.PageId.{PageId}
 use Rattle.shm_place.specs.Page.{in_limits, manager_of, same_page}
 use Rattle.shm_model.specs.declared.kind.Kind.{Kind}
 use Rattle.shm_model.specs.Entry.{Note, Ask, Clear, Cleared, Hand, Page, Confirm, on_clear, on_hand, on_page}
-use Rattle.shm_model.specs.Book.{Book, Outcome, Ignored, UsedUp, Taken, at, greatest, on_ask, on_cleared, on_confirm, untouched_book}
-use Rattle.shm_model.specs.Message.{Envelope, Input, Load, Store, Begin, Deliver, Tick, Restart, Message, Of, Call, Replies, Purge, Purged}
-use Rattle.shm_model.specs.Site.{Site, at_page, is_attached}
+use Rattle.shm_model.specs.Book.{Book, Outcome, Ignored, UsedUp, Taken, greatest, on_ask, on_cleared, on_confirm, untouched_book}
+use Rattle.shm_model.specs.Message.{Input, Load, Store, Begin, Deliver, Tick, Restart, Message, Of, Call, Replies, Purge, Purged}
+use Rattle.shm_model.specs.Site.{Site, is_attached}
 use Rattle.shm_model.specs.Access.{Step, right}
 use Rattle.shm_model.specs.Transfer.{on_note, to_book}
-use Rattle.shm_model.specs.SegmentCalls.{begin, on_call, on_purged, on_reply}
 use Rattle.shm_model.specs.Step.{deliver, foreign, on_message, step}
 use Rattle.shm_laws.proofs.PageMoves.{page-same, same-page}
 use Rattle.shm_laws.proofs.CallsAreQuiet.{begin-quiet, call-quiet, purged-quiet, reply-quiet}

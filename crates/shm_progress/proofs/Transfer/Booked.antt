@@ -1,5 +1,5 @@
 -- A page whose book runs a transaction is among the pages that a tick asks for again.
-use Rattle.std.proofs.Common.{◌≡◌, ℕ, Bool, true, false, ◌==◌, not, Option, Some, None, Result, Ok, Err, List, [], ◌∷◌, ◌++◌, slice_get, arith, refl, sym, ◌∙◌, ap, subst, Contains}
+use Rattle.std.proofs.Common.{◌≡◌, ℕ, Bool, true, false, ◌==◌, not, Some, None, Result, Ok, Err, List, [], ◌∷◌, ◌++◌, slice_get, arith, refl, sym, ◌∙◌, ap, subst, Contains}
 use Rattle.std.specs.List.{list_any}
 use Rattle.std.proofs.lemmas.Bool.{cond_both}
 use Rattle.std.proofs.lemmas.Bool.Decides.{nat_tests}
@@ -11,8 +11,8 @@ use Rattle.shm_model.specs.declared.kind.Kind.{Kind}
 use Rattle.shm_model.specs.declared.kind.Kind.TheVariants.{Read, Write}
 use Rattle.shm_model.specs.declared.event.Event.{Event}
 use Rattle.shm_model.specs.Entry.{Entry, Note, Ask, Clear, Cleared, Hand, Page, Confirm, Out, on_clear, on_hand, on_page, readable, writable}
-use Rattle.shm_model.specs.Book.{Book, Outcome, Ignored, Running, UsedUp, Taken, greatest, on_ask, on_cleared, on_confirm, untouched_book}
-use Rattle.shm_model.specs.Message.{Envelope, Input, Load, Store, Begin, Deliver, Tick, Restart, Message, Of, Call, Replies, Purge, Purged}
+use Rattle.shm_model.specs.Book.{Book, Outcome, Ignored, Running, UsedUp, Taken, greatest, untouched_book}
+use Rattle.shm_model.specs.Message.{Input, Load, Store, Begin, Deliver, Tick, Restart, Message, Of, Call, Replies, Purge, Purged}
 use Rattle.shm_model.specs.Site.{Site, at_page, is_attached}
 use Rattle.shm_model.specs.Access.{Place, Step, ask_for, is_pending, load_if, right, store_if}
 use Rattle.shm_model.specs.Transfer.{arranged, booked_with, is_nothing, on_note, settle, to_book, to_entry, with_entry}
@@ -104,8 +104,10 @@ module _ (sites s : ℕ) (x : Site) (holds : Booked x) where
   message-booked from (Replies number reply) = quiet-booked (on_reply number reply x) (reply-quiet number reply x)
   message-booked from (Purge id) =
       cond_both (is_attached x id) _ _ Keeps (λ e. holds)
-      (λ e. record { booked = λ q run. cond_both (id == q.seg) (untouched_book s) (x.books q) (λ (c : Book). c.running ≡ Some run → Contains (without_segment id x.booked) q)
-      (λ f is. absurd (some-none run is)) (λ f is. stays q (holds.booked q run is) f) })
+      (λ e. record {
+        booked = λ q run. cond_both (id == q.seg) (untouched_book s) (x.books q) (λ (c : Book). c.running ≡ Some run → Contains (without_segment id x.booked) q)
+            (λ f is. absurd (some-none run is)) (λ f is. stays q (holds.booked q run is) f);
+      })
     where
       stays : (q : PageId) → Contains x.booked q → (id == q.seg) ≡ false → Contains (without_segment id x.booked) q
       stays q (k, l, is) other = filter-passes (λ (p : PageId). not (id == p.seg)) x.booked k q (slice_get-get_or x.booked k q l ∙ ap Some is) (ap not other)

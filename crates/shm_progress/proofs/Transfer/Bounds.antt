@@ -1,18 +1,18 @@
 -- Whom a manager's book names are sites, and a page that was asked for is in the limits and at its manager.
-use Rattle.std.proofs.Common.{◌≡◌, ℕ, ◌<◌, Bool, true, false, ◌==◌, ◌&&◌, not, ◌||◌, Option, Some, None, List, [], ◌∷◌, length, nat_le, nat_lt, slice_get, arith, refl, sym, ◌∙◌, ap, subst}
-use Rattle.std.proofs.lemmas.Bool.{and_parts, cond_both, eqb-true, ltb-true}
+use Rattle.std.proofs.Common.{◌≡◌, ℕ, ◌<◌, Bool, true, false, ◌==◌, ◌&&◌, not, ◌||◌, Option, Some, None, List, [], ◌∷◌, length, nat_le, nat_lt, slice_get, refl, ap, subst}
+use Rattle.std.proofs.lemmas.Bool.{cond_both, eqb-true, ltb-true}
 use Rattle.shm_place.specs.declared.page.PageId.{PageId}
 use Rattle.shm_place.specs.Page.{in_limits, manager_of}
 use Rattle.shm_model.specs.declared.event.Event.{Event}
 use Rattle.shm_model.specs.declared.kind.Kind.{Kind}
 use Rattle.shm_model.specs.Entry.{Ask}
 use Rattle.shm_model.specs.Book.{Book, Running, Waiting, ask_while, at, awaits, cleared_while, confirm_while, ended, greatest, is_waiting, is_write, max_waiting, on_ask, serve_next, start, start_first, unserved}
-use Rattle.shm_model.specs.Message.{Envelope, Of}
+use Rattle.shm_model.specs.Message.{Of}
 use Rattle.shm_model.specs.Site.{Site}
 use Rattle.shm_model.specs.Step.{foreign}
 use Rattle.shm_model.specs.World.{Opening, run, sites_of}
 use Rattle.shm_progress.proofs.Ending.Books.{AllAsked}
-use Rattle.shm_progress.proofs.Ending.Waiting.{ask-waits, cleared-waits-while, confirm-waits-while, unserved-waits, ended-waits}
+use Rattle.shm_progress.proofs.Ending.Waiting.{ask-waits, unserved-waits}
 use Rattle.shm_progress.proofs.BooksKept.{OutcomeHolds, WorldRule, run-books}
 
 -- a site that can have asked for the page

@@ -1,25 +1,25 @@
 -- A transaction goes on until it ends, as long as nothing is lost and its manager doesn't restart.
-use Rattle.std.proofs.Common.{◌≡◌, ◌≢◌, ℕ, ◌<◌, ◌⊎◌, inl, inr, Bool, true, false, Option, Some, None, List, [], ◌∷◌, ◌++◌, length, slice_get, slice_set, arith, refl, sym, ◌∙◌, ap, subst, Contains}
+use Rattle.std.proofs.Common.{◌≡◌, ◌≢◌, ℕ, ◌<◌, ◌⊎◌, inl, inr, Bool, true, false, Option, Some, None, List, [], ◌∷◌, ◌++◌, slice_get, slice_set, arith, refl, sym, ◌∙◌, ap, subst, Contains}
 use Rattle.std.proofs.lemmas.Bool.{cases_eq, cases_Bool, cond_both}
 use Rattle.std.proofs.lemmas.Option.{slice_get_within}
 use Rattle.shm_place.specs.declared.page.PageId.{PageId}
 use Rattle.shm_place.specs.Page.{manager_of}
 use Rattle.shm_model.specs.declared.event.Event.{Event}
 use Rattle.shm_model.specs.declared.event.Event.TheVariants.{Tick as TickEvent, Restart as RestartEvent}
-use Rattle.shm_model.specs.Entry.{Note, Clear, Cleared, Hand, Page, Confirm}
+use Rattle.shm_model.specs.Entry.{Note, Cleared}
 use Rattle.shm_model.specs.Book.{Book, Running, Waiting, at, awaited, orders}
-use Rattle.shm_model.specs.Message.{Envelope, Input, Deliver, Of, Restart, Tick}
+use Rattle.shm_model.specs.Message.{Envelope, Input, Deliver, Restart, Tick}
 use Rattle.shm_model.specs.Site.{Site}
 use Rattle.shm_model.specs.Access.{Step}
 use Rattle.shm_model.specs.Step.{step}
 use Rattle.shm_model.specs.Transfer.{order_envelopes}
-use Rattle.shm_model.specs.World.{IsOpening, Next, Opening, Run, World, is_full, live, next, run, sites_of, step_site, stepped, without}
+use Rattle.shm_model.specs.World.{IsOpening, Next, Opening, Run, World, is_full, live, run, sites_of, step_site, stepped, without}
 use Rattle.shm_laws.proofs.RunInduction.{IsHonest, Shape, run-shape}
 use Rattle.shm_laws.proofs.PageView.{Fits, Holds, View}
 use Rattle.shm_laws.proofs.PageOrders.{Each}
 use Rattle.shm_laws.proofs.PageBook.{with_book}
-use Rattle.shm_laws.proofs.PageMoves.{EnvelopeFits, Local, now_of}
-use Rattle.shm_laws.proofs.Sound.{PageSound, Sound, each-in, set-here, set-there}
+use Rattle.shm_laws.proofs.PageMoves.{EnvelopeFits, now_of}
+use Rattle.shm_laws.proofs.Sound.{Sound, each-in, set-here, set-there}
 use Rattle.shm_laws.proofs.Headline.{run-sound}
 use Rattle.shm_progress.specs.Deliveries.{IsAtRest}
 use Rattle.shm_progress.specs.OnTheWay.{IsOnItsWay, NothingLost, is_loss}

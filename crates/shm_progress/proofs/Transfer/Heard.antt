@@ -1,20 +1,19 @@
 -- What the notes of a running transaction do at the sites that they are for: each of them is answered.
-use Rattle.std.proofs.Common.{◌≡◌, ◌≢◌, ℕ, ◌<◌, ◌≤◌, ◌⊎◌, inl, inr, Bool, true, false, not, ◌==◌, ◌&&◌, ◌||◌, Option, Some, None, List, [], ◌∷◌, nat_le, nat_lt, arith, refl, sym, ◌∙◌, ap, subst, Contains}
-use Rattle.std.proofs.lemmas.Bool.{cases_eq, cond_both, cond-true, cond-false, eq-eqb, lt-ltb, leb-false, ltb-false, ltb-true, eqb-true, eqb-false, and_parts}
+use Rattle.std.proofs.Common.{◌≡◌, ◌≢◌, ℕ, ◌<◌, ◌≤◌, ◌⊎◌, inl, inr, Bool, true, false, not, ◌==◌, ◌&&◌, ◌||◌, List, [], ◌∷◌, nat_le, nat_lt, arith, refl, sym, ◌∙◌, ap, subst, Contains}
+use Rattle.std.proofs.lemmas.Bool.{cond_both, cond-false, eq-eqb, lt-ltb, leb-false, ltb-false, ltb-true, eqb-true, eqb-false, and_parts}
 use Rattle.std.proofs.lemmas.Bool.Decides.{nat_tests}
 use Rattle.shm_place.specs.declared.page.PageId.{PageId}
 use Rattle.shm_place.specs.Page.{in_limits, manager_of}
 use Rattle.shm_model.specs.declared.kind.Kind.{Kind}
 use Rattle.shm_model.specs.declared.kind.Kind.TheVariants.{Read, Write}
-use Rattle.shm_model.specs.Entry.{Entry, Nil, OwnWrite, Handed, Note, Clear, Cleared, Hand, Page, Confirm, Out, Nothing, ToManager, ToSite, bytes, handed_to, hand_read, hand_write, installed, meet, on_clear, on_hand, on_page, owned, readable, seen}
-use Rattle.shm_model.specs.Book.{Running, awaited, awaits, is_write}
+use Rattle.shm_model.specs.Entry.{Entry, Nil, OwnWrite, Handed, Note, Cleared, Page, Confirm, Out, ToManager, bytes, hand_read, hand_write, installed, meet, on_clear, on_hand, on_page, owned, seen}
 use Rattle.shm_model.specs.Message.{Envelope, Of}
 use Rattle.shm_model.specs.Site.{Site}
-use Rattle.shm_model.specs.Step.{deliver, foreign, is_to_manager, is_proper}
+use Rattle.shm_model.specs.Step.{deliver, foreign, is_to_manager}
 use Rattle.shm_model.specs.Transfer.{on_note, to_entry}
-use Rattle.shm_laws.proofs.PageView.{Fits, GaveAway, Holds, InFlight, IsKept, Runs, View}
+use Rattle.shm_laws.proofs.PageView.{GaveAway, Holds, InFlight, IsKept, Runs, View}
 use Rattle.shm_laws.proofs.PageHand.{own-readable-of}
-use Rattle.shm_progress.proofs.Purge.Answers.{contains-first, three}
+use Rattle.shm_progress.proofs.Purge.Answers.{contains-first}
 
 -- a note that isn't foreign
 pub not-foreign : (sites s from : ℕ) (q : PageId) (note : Note) → from < sites → in_limits sites q ≡ true → not (is_to_manager note) || (manager_of sites q == s) ≡ true

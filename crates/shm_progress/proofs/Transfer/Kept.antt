@@ -1,27 +1,27 @@
 -- A running transaction that goes on still does after any site's step.
-use Rattle.std.proofs.Common.{◌≡◌, ◌≢◌, ℕ, ◌<◌, ◌≤◌, ◌⊎◌, inl, inr, Bool, true, false, not, ◌==◌, ◌&&◌, ◌||◌, Some, List, [], length, slice_get, arith, refl, sym, ◌∙◌, ap, subst, Contains}
-use Rattle.std.proofs.lemmas.Bool.{and_from, and_parts, cases_eq, cond_both, eq-eqb, eqb-true}
+use Rattle.std.proofs.Common.{◌≡◌, ◌≢◌, ℕ, ◌<◌, ◌⊎◌, inl, inr, Bool, true, false, not, ◌==◌, ◌&&◌, ◌||◌, Some, List, [], arith, refl, sym, ◌∙◌, ap, subst, Contains}
+use Rattle.std.proofs.lemmas.Bool.{and_from, and_parts, cond_both}
 use Rattle.std.proofs.lemmas.Bool.Decides.{nat_tests}
 use Rattle.shm_place.specs.declared.page.PageId.{PageId}
 use Rattle.shm_place.specs.Page.{manager_of}
 use Rattle.shm_model.specs.declared.kind.Kind.TheVariants.{Write}
-use Rattle.shm_model.specs.Entry.{Note, Clear, Cleared, Hand, Page, Confirm, seen}
+use Rattle.shm_model.specs.Entry.{Note, Clear, Cleared, Hand, Page, Confirm}
 use Rattle.shm_model.specs.Book.{Book, Running, Waiting, at, awaited, awaits, is_write}
 use Rattle.shm_model.specs.Message.{Envelope, Input, Deliver, Of}
 use Rattle.shm_model.specs.Site.{Site}
 use Rattle.shm_model.specs.Access.{Step}
-use Rattle.shm_model.specs.Step.{deliver, is_to_manager, step}
+use Rattle.shm_model.specs.Step.{is_to_manager, step}
 use Rattle.shm_model.specs.Transfer.{on_note}
-use Rattle.shm_model.specs.World.{World, live, stepped}
+use Rattle.shm_model.specs.World.{World, stepped}
 use Rattle.shm_laws.proofs.PageView.{Fits, Holds, Runs, View}
 use Rattle.shm_laws.proofs.PageOrders.{write-of}
 use Rattle.shm_laws.proofs.PageBook.{with_book}
 use Rattle.shm_progress.specs.OnTheWay.{IsOnItsWay}
-use Rattle.shm_progress.specs.Transactions.{IsBeingCleared, IsBeingHanded, NoteGoes, TransactionGoesOn}
+use Rattle.shm_progress.specs.Transactions.{IsBeingCleared, IsBeingHanded, TransactionGoesOn}
 use Rattle.shm_progress.proofs.OnTheWay.{Fresh, OnlySent, Takes, joins, live-sent, stays}
 use Rattle.shm_progress.proofs.Transfer.Bounds.{Asker, Bounds}
 use Rattle.shm_progress.proofs.Transfer.Heard.{clear-answered, hand-answered, note-heard, page-answered}
-use Rattle.shm_progress.proofs.Transfer.Rows.{Unheard, deliver-same, note_envelope}
+use Rattle.shm_progress.proofs.Transfer.Rows.{Unheard, note_envelope}
 use Rattle.shm_progress.proofs.Transfer.Told.{Told, awaited-has, has-awaited}
 
 -- whom a transaction waits for: a write, for the copies but the requester's

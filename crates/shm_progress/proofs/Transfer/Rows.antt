@@ -1,23 +1,12 @@
 -- What a step of a manager does to the running transaction of one of its books.
-use Rattle.std.proofs.Common.{◌≡◌, ℕ, ◌<◌, Bool, true, false, ◌==◌, ◌&&◌, Option, Some, None, Result, Ok, Err, List, [], ◌∷◌, length, nat_le, refl, sym, ◌∙◌, ap, subst, Contains}
+use Rattle.std.proofs.Common.{◌≡◌, ℕ, Bool, true, false, ◌==◌, ◌&&◌, Option, Some, None, List, [], ◌∷◌, length, nat_le, refl, sym, ◌∙◌, ap, subst, Contains}
 use Rattle.std.proofs.lemmas.Bool.{and_parts, cond_both, cond-true, cond-false, eqb-true, eq-eqb, and_from}
 use Rattle.shm_place.specs.declared.page.PageId.{PageId}
-use Rattle.shm_place.specs.Page.{in_limits, manager_of, same_page}
 use Rattle.shm_model.specs.declared.kind.Kind.{Kind}
-use Rattle.shm_model.specs.declared.kind.Kind.TheVariants.{Read, Write}
-use Rattle.shm_model.specs.Entry.{Entry, Note, Ask, Clear, Cleared, Hand, Page, Confirm, Out, on_clear, on_hand, on_page, readable, writable}
-use Rattle.shm_model.specs.Book.{Book, Outcome, Ignored, UsedUp, Taken, Running, Waiting, ask_while, at, awaited, awaits, cleared_while, confirm_while, ended, greatest, hand_if_cleared, is_waiting, is_write, max_waiting, on_ask, on_cleared, on_confirm, orders, serve_next, start, start_first, started, unserved, untouched_book}
-use Rattle.shm_model.specs.Message.{Envelope, Input, Load, Store, Begin, Deliver, Tick, Restart, Message, Of, Call, Replies, Purge, Purged}
-use Rattle.shm_model.specs.Site.{Site, at_page, is_attached}
-use Rattle.shm_model.specs.Access.{Place, Step, ask_for, is_pending, load_if, right, store_if}
-use Rattle.shm_model.specs.Transfer.{arranged, is_nothing, on_note, order_envelopes, settle, to_book, to_entry}
-use Rattle.shm_model.specs.SegmentCalls.{begin, on_call, on_purged, on_reply}
-use Rattle.shm_model.specs.Step.{foreign, on_message, step}
-use Rattle.shm_laws.proofs.PageMoves.{page-same, same-page}
-use Rattle.shm_laws.proofs.CallsAreQuiet.{begin-quiet, call-quiet, purged-quiet, reply-quiet}
-use Rattle.shm_progress.proofs.Ending.Steps.{limited-books}
-use Rattle.shm_progress.proofs.Transfer.Bounds.{Asker, Bounds}
-use Rattle.shm_progress.proofs.Transfer.Heard.{not-foreign}
+use Rattle.shm_model.specs.Entry.{Note, Ask, Cleared, Confirm}
+use Rattle.shm_model.specs.Book.{Book, Outcome, Ignored, UsedUp, Taken, Running, Waiting, ask_while, at, awaited, awaits, cleared_while, confirm_while, ended, greatest, hand_if_cleared, is_waiting, is_write, max_waiting, on_ask, orders, serve_next, start, start_first, started, unserved}
+use Rattle.shm_model.specs.Message.{Envelope, Input, Deliver, Of}
+use Rattle.shm_model.specs.Transfer.{order_envelopes}
 
 abbrev pub note_envelope : ℕ → ℕ → PageId → Note → Envelope
 note_envelope from to q note = record { from = from; to = to; message = Of q note }

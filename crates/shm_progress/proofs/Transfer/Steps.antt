@@ -1,18 +1,17 @@
 -- What any step of a manager but a restart does to the running transaction of one of its books; and what was purged stays so.
-use Rattle.std.proofs.Common.{◌≡◌, ◌≢◌, ℕ, ◌<◌, ◌⊎◌, inl, inr, Bool, true, false, ◌==◌, ◌&&◌, ◌||◌, not, if◌then◌else◌, Option, Some, None, Result, Ok, Err, List, [], ◌∷◌, refl, sym, ◌∙◌, ap, subst, Contains}
+use Rattle.std.proofs.Common.{◌≡◌, ◌≢◌, ℕ, ◌<◌, Bool, true, false, ◌==◌, ◌&&◌, ◌||◌, not, if◌then◌else◌, Result, Ok, Err, List, [], ◌∷◌, refl, sym, ◌∙◌, ap, subst}
 use Rattle.std.proofs.lemmas.Bool.{and_parts, cond_both, cond-true, cond-false, eq-eqb}
 use Rattle.shm_place.specs.declared.page.PageId.{PageId}
 use Rattle.shm_place.specs.Home.{home_of_id}
-use Rattle.shm_place.specs.Page.{in_limits, manager_of, same_page}
+use Rattle.shm_place.specs.Page.{manager_of, same_page}
 use Rattle.shm_model.specs.declared.kind.Kind.{Kind}
 use Rattle.shm_model.specs.declared.kind.Kind.TheVariants.{Read, Write}
 use Rattle.shm_model.specs.Entry.{Entry, Note, Ask, Clear, Cleared, Hand, Page, Confirm, Out, on_clear, on_hand, on_page, readable, writable}
-use Rattle.shm_model.specs.Book.{Book, Outcome, Ignored, UsedUp, Taken, Running, at, awaits, greatest, is_write, on_ask, on_cleared, on_confirm, untouched_book}
+use Rattle.shm_model.specs.Book.{Book, Outcome, Ignored, UsedUp, Taken, greatest, is_write, on_ask, on_cleared, on_confirm, untouched_book}
 use Rattle.shm_model.specs.Message.{Envelope, Input, Load, Store, Begin, Deliver, Tick, Restart, Message, Of, Call, Replies, Purge, Purged}
 use Rattle.shm_model.specs.Site.{Site, at_page, is_attached}
 use Rattle.shm_model.specs.Access.{Place, Step, ask_for, is_pending, load_if, right, store_if}
 use Rattle.shm_model.specs.Transfer.{arranged, is_nothing, on_note, order_envelopes, settle, to_book, to_entry}
-use Rattle.shm_model.specs.SegmentCalls.{begin, on_call, on_purged, on_reply}
 use Rattle.shm_model.specs.Step.{foreign, is_to_manager, on_message, step}
 use Rattle.shm_laws.proofs.PageMoves.{page-same, same-page}
 use Rattle.shm_laws.proofs.CallsAreQuiet.{begin-quiet, call-quiet, purged-quiet, reply-quiet}

@@ -1,15 +1,15 @@
 -- What a running transaction asks for, and whom it waits for.
-use Rattle.std.proofs.Common.{◌≡◌, ℕ, zero, suc, ◌<◌, true, List, [], ◌∷◌, Option, Some, map, slice_get, arith, refl, sym, ◌∙◌, ap, subst, Contains}
+use Rattle.std.proofs.Common.{◌≡◌, ℕ, zero, suc, ◌<◌, true, List, [], ◌∷◌, Some, map, slice_get, arith, sym, ◌∙◌, ap, subst, Contains}
 use Rattle.std.specs.List.{flat_map, range_with_len}
 use Rattle.std.proofs.lemmas.List.Concat.{flat_map-cons}
 use Rattle.std.proofs.lemmas.List.Elements.{Contains-append_left, Contains-append_right}
-use Rattle.std.proofs.lemmas.Option.{get_or_from_slice_get, slice_get-get_or, slice_get_within}
+use Rattle.std.proofs.lemmas.Option.{slice_get-get_or}
 use Rattle.shm_place.specs.declared.page.PageId.{PageId}
 use Rattle.shm_model.specs.Entry.{Clear, Hand}
-use Rattle.shm_model.specs.Book.{Book, Order, ClearTo, HandTo, Running, awaited, awaits, max_sites, orders, orders_of, orders_to}
+use Rattle.shm_model.specs.Book.{Book, ClearTo, Running, awaited, awaits, max_sites, orders, orders_of, orders_to}
 use Rattle.shm_model.specs.Message.{Envelope, Of}
 use Rattle.shm_model.specs.Site.{Site}
-use Rattle.shm_model.specs.Step.{ask_again, call_again, orders_again, purges_again, tick_envelopes}
+use Rattle.shm_model.specs.Step.{ask_again, orders_again, tick_envelopes}
 use Rattle.shm_model.specs.Transfer.{order_envelope, order_envelopes}
 use Rattle.shm_laws.proofs.PageOrders.{awaited-each}
 use Rattle.shm_laws.proofs.Sound.{each-in}
