@@ -1,5 +1,6 @@
 pub mod Ending
 pub mod OnTheWay
+pub mod Along
 pub mod Purge
 pub mod Serve
 pub mod Round
@@ -7,6 +8,4 @@ pub mod BooksKept
 pub mod SitesKept
 pub mod Behind
 pub mod Transfer
-pub mod Since
-pub mod Along
 pub mod Request

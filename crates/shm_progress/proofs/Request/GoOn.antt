@@ -21,7 +21,7 @@ use Rattle.shm_progress.specs.Deliveries.{IsAtRest}
 use Rattle.shm_progress.specs.OnTheWay.{IsOnItsWay, NothingLost, is_loss}
 use Rattle.shm_progress.specs.Requests.{IsTakenUp, IsTakenUpAt, RequestGoesOn, RequestsGoOn, TakesNone, WasTurnedAway}
 use Rattle.shm_progress.specs.Transactions.{IsPurgedSomewhere, NoteGoes, NotRestarted}
-use Rattle.shm_progress.proofs.Along.{along, run-more}
+use Rattle.shm_progress.proofs.Along.{along, free-first, run-more, run-started}
 use Rattle.shm_progress.proofs.OnTheWay.{Fresh, Moved, same, drops, steps, OnlySent, Takes, free-before, joins, moved, others-stay, run-fresh, stays}
 use Rattle.shm_progress.proofs.Request.Pending.{step-before, tick-asks}
 use Rattle.shm_progress.proofs.Request.Steps.{ask-handed, step-keeps}
@@ -196,8 +196,7 @@ module _ (o : Opening) (earlier : List Event) (m s : ℕ) where
   pub tick-goes : is_full first ≡ false → RequestsGoOn o before [] m s
   tick-goes free =
       let asked : Asked (next first (TickEvent s)).world = ticked free (slice_get first.sites s) refl in
-      let is : run o (before ++ []) ≡ extended (run o earlier) (next first (TickEvent s)) = ap (run o) (append-nil before) ∙ run_on-append (begun o) earlier (TickEvent s ∷ []) in
-      let all : Asked (run o (before ++ [])).world = subst (λ (r : Run). Asked r.world) (sym is) asked in
+      let all : Asked (run o (before ++ [])).world = subst (λ (r : Run). Asked r.world) (sym (run-started o earlier (TickEvent s))) asked in
       λ x p found here manager limits. inl (all x p found here manager)
 
 pub requests-go-on : (o : Opening) → IsOpening o → (m s : ℕ) (earlier later : List Event) → NothingLost later → NotRestarted m later → is_full (run o ((earlier ++ (TickEvent s ∷ [])) ++ later)).world ≡ false
@@ -205,12 +204,7 @@ pub requests-go-on : (o : Opening) → IsOpening o → (m s : ℕ) (earlier late
 requests-go-on o opening m s earlier later kept unrestarted free =
     along o (earlier ++ (TickEvent s ∷ [])) (Keeps m) (λ done. RequestsGoOn o (earlier ++ (TickEvent s ∷ [])) done m s)
     (λ done e k not_full goes. next-goes o opening (earlier ++ (TickEvent s ∷ [])) m s done e k not_full goes)
-    [] later (both-kept m later kept unrestarted) free (tick-goes o earlier m s not_full)
-  where
-    not_full : is_full (run o earlier).world ≡ false
-    not_full =
-        let parts : run o ((earlier ++ (TickEvent s ∷ [])) ++ later) ≡ run_on (run o earlier) (TickEvent s ∷ later) = ap (run o) (append_assoc earlier (TickEvent s ∷ []) later) ∙ run_on-append (begun o) earlier (TickEvent s ∷ later) in
-        free-before (run o earlier) (TickEvent s ∷ later) (subst (λ (r : Run). is_full r.world ≡ false) parts free)
+    [] later (both-kept m later kept unrestarted) free (tick-goes o earlier m s (free-first o earlier (TickEvent s) later free))
 
 -- where nothing is on its way it was taken up or turned away
 pub taken-at-rest : (o : Opening) (before since : List Event) (m s : ℕ) (x : Site) (p : Pending) → RequestsGoOn o before since m s → IsAtRest (run o (before ++ since)).world

@@ -26,7 +26,7 @@ use Rattle.shm_progress.specs.OnTheWay.{IsOnItsWay, NothingLost, is_loss}
 use Rattle.shm_progress.specs.Transactions.{IsBeingCleared, IsBeingHanded, IsPurgedSomewhere, NotRestarted, TransactionGoesOn, TransactionsGoOn}
 use Rattle.shm_progress.proofs.OnTheWay.{Fresh, Moved, same, drops, steps, OnlySent, Takes, live-parts, moved, others-stay, run-fresh}
 use Rattle.shm_progress.proofs.Purge.Answers.{contains-first}
-use Rattle.shm_progress.proofs.Since.{since}
+use Rattle.shm_progress.proofs.Along.{since}
 use Rattle.shm_progress.proofs.Transfer.Booked.{Booked, run-booked}
 use Rattle.shm_progress.proofs.Transfer.Bounds.{Asker, Bounds, run-bounds}
 use Rattle.shm_progress.proofs.Transfer.Gone.{purged-here, purged-still}
