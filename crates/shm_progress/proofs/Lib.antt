@@ -9,3 +9,4 @@ pub mod SitesKept
 pub mod Behind
 pub mod Transfer
 pub mod Request
+pub mod RoundExists

@@ -1,10 +1,12 @@
 -- Rounds: every site ticks, and what is on its way is handed over until nothing is. The profile's own.
-use Rattle.std.specs.Prelude.{◌≡◌, ℕ, ◌<◌, false, List, [], Some, None, Contains, slice_get}
+use Rattle.std.specs.Prelude.{◌≡◌, ℕ, ◌<◌, false, List, [], ◌++◌, Some, None, Contains, slice_get}
 use Rattle.shm_place.specs.declared.page.PageId.{PageId}
 use Rattle.shm_model.specs.declared.event.Event.{Event}
 use Rattle.shm_model.specs.declared.event.Event.TheVariants.{Tick}
 use Rattle.shm_model.specs.Site.{Site}
-use Rattle.shm_model.specs.World.{World}
+use Rattle.shm_model.specs.World.{Opening, World, run, sites_of}
+use Rattle.shm_progress.specs.Deliveries.{IsAtRest}
+use Rattle.shm_progress.specs.OnTheWay.{NothingLost}
 use Rattle.shm_progress.specs.Transactions.{NotRestarted}
 
 -- each site ticks among these events
@@ -24,3 +26,11 @@ NoneRestarted events = (site : ℕ) → NotRestarted site events
 pub record ManagersSettled (w : World) : Type 0 where
   pub ended : (site : ℕ) (x : Site) (page : PageId) → slice_get w.sites site ≡ Some x → (x.books page).running ≡ None
   pub served : (site : ℕ) (x : Site) (page : PageId) → slice_get w.sites site ≡ Some x → (x.books page).waiting ≡ []
+
+-- further events that lose nothing and restart no site, among which each site ticks and after which nothing is on its way
+pub record Round (o : Opening) (events : List Event) : Type 0 where
+  pub later : List Event
+  pub kept : NothingLost later
+  pub unrestarted : NoneRestarted later
+  pub ticks : AllTick (sites_of o) later
+  pub at_rest : IsAtRest (run o (events ++ later)).world

@@ -5,7 +5,13 @@ ghost use Rattle.shm_model.specs.declared.event.Event.{Event};
 ghost use Rattle.shm_progress.specs.Deliveries.{IsAtRest};
 ghost use Rattle.shm_progress.specs.OnTheWay.{NothingLost};
 ghost use Rattle.shm_progress.specs.Requests.{RequestsSettled};
-ghost use Rattle.shm_progress.specs.Rounds.{AllTick, ManagersSettled, NoneRestarted, Settled};
+ghost use Rattle.shm_progress.specs.Rounds.{AllTick, ManagersSettled, NoneRestarted, Round, Settled};
+
+/// Rounds exist: from every world that some events lead to, each site's tick and then some deliveries, with no loss and no restart, leave
+/// nothing on its way. So the laws on rounds are about each world.
+pub fn rounds_exist()
+    ensures { (o : Opening) (events : List Event) → Round o events }
+{}
 
 /// Rounds settle calls and purges: from every world that some events lead to, further events that lose nothing, among which each site
 /// ticks and after which nothing is on its way, leave no call outstanding and no purge unanswered; whatever else is among them, restarts

@@ -30,7 +30,7 @@ contains-later x y xs (k, l, e) = (suc k, omega arith, e)
 pub contains-first : {X : Type 0} (x : X) (xs : List X) → Contains (x ∷ xs) x
 contains-first x xs = (0, omega arith, refl)
 
-contains-range : {X : Type 0} (f : ℕ → X) (n t : ℕ) → t < n → Contains (map f (range_with_len 0 n)) (f t)
+pub contains-range : {X : Type 0} (f : ℕ → X) (n t : ℕ) → t < n → Contains (map f (range_with_len 0 n)) (f t)
 contains-range f n t l =
     let found = slice_get-range f n t l in
     (t, slice_get_within (map f (range_with_len 0 n)) t (f t) found, get_or_from_slice_get (map f (range_with_len 0 n)) t (f t) (f t) found)
