@@ -55,6 +55,7 @@ pub record Repeats (sites me : ℕ) (d : Desk) (e : Envelope) : Type 0 where
   pub call : (n : ℕ) (op : Op) → e.message ≡ Call n op → (d.outstanding ≡ Some (record { number = n; op = op })) × (e ≡ call_envelope sites me n op)
   pub reply : (n : ℕ) (reply : Reply) → e.message ≢ Replies n reply
   pub purge : (id : ℕ) → e.message ≡ Purge id → d.missing id e.to ≡ true
+  pub purged : (id : ℕ) → e.message ≢ Purged id
 
 -- the sites that are asked to purge what a call destroyed
 abbrev pub missing_with : ℕ → Option ℕ → (ℕ → ℕ → Bool) → ℕ → ℕ → Bool

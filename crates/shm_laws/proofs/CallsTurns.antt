@@ -33,6 +33,7 @@ note-repeats sites me d e note = record {
   call = λ n op h. let k = note.is in cc;
   reply = λ n reply h. let k = note.is in cc;
   purge = λ id h. let k = note.is in cc;
+  purged = λ id h. let k = note.is in cc;
 }
 
 turn-quiet : (sites me : ℕ) (site : Site) (input : Input) (done : Step) → ((calls : List Numbered) → with_done (Some input) done.answer calls ≡ calls)
@@ -84,6 +85,7 @@ module _ (sites me : ℕ) (site : Site) where
           (is ∙ ap₂ (λ a b. Some (record { number = a; op = b })) p q, ap₂ (λ a b. call_envelope sites me a b) p q);
       reply = λ n reply h. cc;
       purge = λ id h. cc;
+      purged = λ id h. cc;
     },
     tt,
   )
@@ -93,6 +95,7 @@ module _ (sites me : ℕ) (site : Site) where
     call = λ n op h. cc;
     reply = λ n reply h. cc;
     purge = λ i h. let same : id ≡ i = cc in subst (λ x. site.missing x to ≡ true) same missing;
+    purged = λ i h. cc;
   }
 
   purges-repeated : (g : Segment) → AllByRecursion (Repeats sites me (desk_of site)) (purges_again sites me site g)

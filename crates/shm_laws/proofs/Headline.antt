@@ -1,6 +1,6 @@
 -- Every run is sound, and so legal and coherent.
 use Rattle.std.proofs.Common.{◌≡◌, ◌≢◌, ℕ, ◌+◌, ◌<◌, ◌≤◌, ◌⊎◌, inl, inr, Bool, true, ◌==◌, Some, None, List, [], ◌∷◌, map, ◌%◌, slice_get, slice_set, if◌then◌else◌, arith, refl, sym, ◌∙◌, ap, subst, zero, suc}
-use Rattle.std.proofs.lemmas.Bool.{cases_eq, cond_both, cond-true, cond-false, false_from_ne_true}
+use Rattle.std.proofs.lemmas.Bool.{cases_eq, cond_both, cond-true, cond-false, eq-eqb, false_from_ne_true}
 use Rattle.std.proofs.lemmas.Bool.Decides.{nat_tests}
 use Rattle.shm_place.specs.declared.page.PageId.{PageId}
 use Rattle.shm_place.specs.Limits.{page_bytes}
@@ -142,6 +142,8 @@ module _ (Now : List ℕ → Type 0) (n : ℕ) (q : PageId) (now : Now blank) (s
     owner_lent = λ p r other m. absurd (not-running (untouched_book (manager_of n q)) Read p refl r);
     cleared = λ k p s r c. absurd (false-true c);
     bounded = λ s w. subst (λ t. t < max_sites) (sym (untouched-here s w)) small;
+    owner_no_copy = refl;
+    kept = inl (ap owned (cond-true (manager_of n q == manager_of n q) (OwnWrite 0 blank) (Nil 0) (eq-eqb (manager_of n q) (manager_of n q) refl)));
   }
 
 pub record Size (o : Opening) : Type 0 where

@@ -1,10 +1,10 @@
 -- The rows of the manager's book keep the invariant, and what they ask for fits.
-use Rattle.std.proofs.Common.{◌≡◌, ℕ, ◌<◌, ◌≤◌, true, None, List, arith, sym, ◌∙◌}
+use Rattle.std.proofs.Common.{◌≡◌, ℕ, ◌<◌, ◌≤◌, true, None, List, arith, sym, ◌∙◌, ap}
 use Rattle.shm_model.specs.declared.kind.Kind.{Kind}
 use Rattle.shm_model.specs.declared.kind.Kind.TheVariants.{Read, Write}
-use Rattle.shm_model.specs.Entry.{Note, Ask, Clear, Cleared, Hand, Page, Confirm, seen}
+use Rattle.shm_model.specs.Entry.{Handed, Note, Ask, Clear, Cleared, Hand, Page, Confirm, owned, seen}
 use Rattle.shm_model.specs.Book.{Book, Order, Outcome, Ignored, UsedUp, Taken}
-use Rattle.shm_laws.proofs.PageView.{View, either, Runs, AllMet, InFlight, Holds, ClearRuns, HandFits, Fits}
+use Rattle.shm_laws.proofs.PageView.{View, GaveAway, either, Runs, AllMet, InFlight, Holds, ClearRuns, HandFits, Fits}
 use Rattle.shm_laws.proofs.PageOrders.{Each, OrderFits}
 
 abbrev pub with_book : View → Book → View
@@ -95,8 +95,13 @@ module _ (Now : List ℕ → Type 0) (v : View) (h : Holds Now v) (b : Book)
       owner_lent = λ q r o m. rw owner (h.owner_lent q (runs-from Read q r) (λ e. o (e ∙ sym owner)) (le-from _ (rw (← owner) m)));
       cleared = λ kind q s r c. le-to _ (met kind q s (runs-from kind q r) c);
       bounded = h.bounded;
+      owner_no_copy = copies b.owner ∙ (ap v.book.copies owner ∙ h.owner_no_copy);
+      kept = either (λ (w : owned (v.entries v.book.owner) ≡ true). ap (λ s. owned (v.entries s)) owner ∙ w) (λ (g : GaveAway v). gave g) h.kept;
     };
   }
     where
       le-of : (s : ℕ) → seen (v.entries s) ≤ b.number
       le-of s = omega (arith, h.met s, number)
+
+      gave : GaveAway v → GaveAway (with_book v b)
+      gave g = record { to = g.to; given = g.given; is = ap v.entries owner ∙ (g.is ∙ ap (λ n. Handed n g.to g.given) (sym number)); runs = runs-to Write g.to g.runs }

@@ -1,14 +1,15 @@
 -- Each message to the manager's book keeps the invariant.
-use Rattle.std.proofs.Common.{◌≡◌, ◌≢◌, ℕ, ◌≤◌, ◌⊎◌, inl, inr, Bool, true, false, ◌&&◌, ◌==◌, Option, Some, None, List, [], ◌∷◌, ◌++◌, nat_le, length, if◌then◌else◌, arith, refl, sym, subst}
-use Rattle.std.proofs.lemmas.Bool.{cases_eq}
+use Rattle.std.proofs.Common.{◌≡◌, ◌≢◌, ℕ, ◌≤◌, ◌⊎◌, inl, inr, Bool, true, false, ◌&&◌, ◌==◌, Option, Some, None, List, [], ◌∷◌, ◌++◌, nat_le, length, if◌then◌else◌, arith, refl, sym, ◌∙◌, subst}
+use Rattle.std.proofs.lemmas.Bool.{cases_eq, cond-false}
 use Rattle.std.proofs.lemmas.Bool.Decides.{nat_tests}
 use Rattle.shm_model.specs.declared.kind.Kind.{Kind}
 use Rattle.shm_model.specs.declared.kind.Kind.TheVariants.{Read, Write}
 use Rattle.shm_model.specs.Entry.{Entry, Nil, Copy, OwnRead, OwnWrite, Handed, is_copy, owned, readable, seen, writable}
 use Rattle.shm_model.specs.Book.{Book, Outcome, Ignored, UsedUp, Taken, Running, Waiting, ask_while, at, awaited, awaits, cleared_while, confirm_while, ended, greatest, hand_if_cleared, is_waiting, is_write, max_waiting, on_ask, on_cleared, on_confirm, orders, serve_next, start_first, started, unserved, with_cleared, without_volatile}
-use Rattle.shm_laws.proofs.PageView.{View, Runs, Holds}
+use Rattle.shm_laws.proofs.PageView.{View, IsKept, Runs, Holds}
 use Rattle.shm_laws.proofs.PageEntry.{false-true}
 use Rattle.shm_laws.proofs.PageHand.{own-readable-of}
+use Rattle.shm_laws.proofs.PageHandOver.{writable-owned}
 use Rattle.shm_laws.proofs.PageOrders.{Each, OrderFits, orders-fit}
 use Rattle.shm_laws.proofs.PageBook.{Goes, OutcomeFits, ignored, used_up, taken, goes-on, side-goes, with_book}
 use Rattle.shm_laws.proofs.PageTurn.{end-goes, start-goes}
@@ -105,7 +106,7 @@ module _ (Now : List ℕ → Type 0) (v : View) (h : Holds Now v) (q : ℕ) (met
 
     write-ended : Goes Now v (record v.book { owner = q; copies = λ _. false; running = None })
     write-ended = end-goes Now v h Write q runs met (record v.book { owner = q; copies = λ _. false; running = None }) refl refl
-        (λ s w. owner-is s w (cases_eq s q)) (λ s w. absurd (no-copy s w (cases_eq s q)))
+        (λ s w. owner-is s w (cases_eq s q)) (λ s w. absurd (no-copy s w (cases_eq s q))) refl (writable-owned (v.entries q) (h.writer q runs met))
       where
         owner-is : (s : ℕ) → owned (v.entries s) ≡ true → (s ≡ q) ⊎ (s ≢ q) → s ≡ q
         owner-is s w (inl e) = e
@@ -119,18 +120,26 @@ module _ (Now : List ℕ → Type 0) (v : View) (h : Holds Now v) (q : ℕ) (met
     owner-stays : (s : ℕ) → owned (v.entries s) ≡ true → s ≡ v.book.owner
     owner-stays s w = grind (arith, h.owner s w, runs.is)
 
+    owner-has : IsKept v → owned (v.entries v.book.owner) ≡ true
+    owner-has (inl w) = w
+    owner-has (inr g) = absurd (grind (arith, g.runs.is, runs.is))
+
     own-ended : q ≡ v.book.owner → Goes Now v (record v.book { running = None })
     own-ended e = end-goes Now v h Read q runs met (record v.book { running = None }) refl refl owner-stays
-        (λ s w. (h.copy_other s w, grind (arith, h.copy s w, h.copy_other s w, runs.is)))
+        (λ s w. (h.copy_other s w, grind (arith, h.copy s w, h.copy_other s w, runs.is))) h.owner_no_copy (owner-has h.kept)
 
-    read-ended : Goes Now v (record v.book { copies = at v.book.copies q true; running = None })
-    read-ended = end-goes Now v h Read q runs met (record v.book { copies = at v.book.copies q true; running = None }) refl refl owner-stays
+    read-ended : q ≢ v.book.owner → Goes Now v (record v.book { copies = at v.book.copies q true; running = None })
+    read-ended other = end-goes Now v h Read q runs met (record v.book { copies = at v.book.copies q true; running = None }) refl refl owner-stays
         (λ s w. (h.copy_other s w, grind (arith, nat_tests, h.copy s w, runs.is)))
+        (cond-false (q == v.book.owner) true (v.book.copies v.book.owner) (grind (arith, nat_tests)) ∙ h.owner_no_copy) (owner-has h.kept)
 
   read-ended-if : (run : Running) → Runs v.book Read q → run.requester ≡ q → (own : Bool) → (run.requester == v.book.owner) ≡ own
       → Goes Now v (if own then record v.book { running = None } else record v.book { copies = at v.book.copies run.requester true; running = None })
   read-ended-if run runs e true o = own-ended runs (grind (arith, nat_tests))
-  read-ended-if run runs e false o = subst (λ s. Goes Now v (record v.book { copies = at v.book.copies s true; running = None })) (sym e) (read-ended runs)
+  read-ended-if run runs e false o = subst (λ s. Goes Now v (record v.book { copies = at v.book.copies s true; running = None })) (sym e) (read-ended runs (not-owner e o))
+    where
+      not-owner : run.requester ≡ q → (run.requester == v.book.owner) ≡ false → q ≢ v.book.owner
+      not-owner e o same = grind (arith, nat_tests)
 
 ended-goes : (Now : List ℕ → Type 0) (v : View) → Holds Now v → (kind : Kind) (q : ℕ) → Runs v.book kind q → v.book.number ≤ seen (v.entries q)
     → Goes Now v (ended (record { kind = kind; requester = q }) v.book)

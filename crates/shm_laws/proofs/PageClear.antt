@@ -1,12 +1,12 @@
 -- A Clear that its site hasn't met takes the site's copy away, and keeps the invariant.
-use Rattle.std.proofs.Common.{◌≡◌, ℕ, ◌<◌, ◌≤◌, inr, false, List, arith}
+use Rattle.std.proofs.Common.{◌≡◌, ℕ, ◌<◌, ◌≤◌, inr, true, false, List, arith, sym, ◌∙◌, subst}
 use Rattle.std.proofs.lemmas.Bool.Decides.{nat_tests}
 use Rattle.shm_model.specs.declared.kind.Kind.{Kind}
 use Rattle.shm_model.specs.declared.kind.Kind.TheVariants.{Write}
 use Rattle.shm_model.specs.Entry.{Nil, Handed, Note, owned, seen}
 use Rattle.shm_model.specs.Book.{at}
 use Rattle.shm_laws.proofs.PageView.{View, InFlight, Holds, ClearRuns, Fits, with_entry_at}
-use Rattle.shm_laws.proofs.PageEntry.{all_met-after, fits-after, seen-after, seen-before, false-true}
+use Rattle.shm_laws.proofs.PageEntry.{all_met-after, fits-after, kept-there, seen-after, seen-before, false-true}
 
 module _ (Now : List ℕ → Type 0) (v : View) (h : Holds Now v) (n d : ℕ) (above : seen (v.entries d) < n) (free : owned (v.entries d) ≡ false) (c : ClearRuns v n d) where
   grows : seen (v.entries d) ≤ seen (Nil n)
@@ -46,6 +46,8 @@ module _ (Now : List ℕ → Type 0) (v : View) (h : Holds Now v) (n d : ℕ) (a
     owner_lent = λ q r o m. grind (arith, nat_tests, c.runs.is, r.is);
     cleared = λ kind q s r k. met-after s (h.cleared kind q s r k);
     bounded = λ s w. grind (arith, nat_tests, h.bounded s);
+    owner_no_copy = h.owner_no_copy;
+    kept = kept-there v d (Nil n) (λ e. false-true (sym h.owner_no_copy ∙ subst (λ s. v.book.copies s ≡ true) e c.copy)) h.kept;
   }
 
   pub clear-fits : (from to : ℕ) (note : Note) → Fits Now v from to note → Fits Now (with_entry_at v d (Nil n)) from to note

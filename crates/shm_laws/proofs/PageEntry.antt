@@ -6,7 +6,7 @@ use Rattle.shm_model.specs.declared.kind.Kind.{Kind}
 use Rattle.shm_model.specs.declared.kind.Kind.TheVariants.{Read, Write}
 use Rattle.shm_model.specs.Entry.{Entry, Note, Ask, Clear, Cleared, Hand, Page, Confirm, owned, seen, writable}
 use Rattle.shm_model.specs.Book.{at}
-use Rattle.shm_laws.proofs.PageView.{View, either, AllMet, InFlight, ClearRuns, HandFits, Fits, with_entry_at}
+use Rattle.shm_laws.proofs.PageView.{View, GaveAway, IsKept, either, AllMet, InFlight, ClearRuns, HandFits, Fits, with_entry_at}
 
 -- a Hand that is handed over again at d, whose entry is owned and has met it, changes nothing there
 pub record IsAgain (kind : Kind) (q d : ℕ) (e : Entry) : Type 0 where
@@ -19,6 +19,15 @@ false-true h = cc
 
 pub at-here : {X : Type 0} (f : ℕ → X) (k : ℕ) (x : X) → at f k x k ≡ x
 at-here f k x = grind (arith, nat_tests)
+
+-- the page is kept where another entry than the owner's changes, or where the owner has it afterwards
+pub kept-there : (v : View) (d : ℕ) (e : Entry) → d ≢ v.book.owner → IsKept v → IsKept (with_entry_at v d e)
+kept-there v d e other k =
+    let same : at v.entries d e v.book.owner ≡ v.entries v.book.owner = grind (arith, nat_tests) in
+    either (λ (w : owned (v.entries v.book.owner) ≡ true). ap owned same ∙ w) (λ (g : GaveAway v). record { to = g.to; given = g.given; is = same ∙ g.is; runs = g.runs }) k
+
+pub kept-here : (v : View) (d : ℕ) (e : Entry) → d ≡ v.book.owner → owned e ≡ true → IsKept (with_entry_at v d e)
+kept-here v d e here own = inl (ap owned (ap (at v.entries d e) (sym here) ∙ at-here v.entries d e) ∙ own)
 
 module _ (v : View) (d : ℕ) (e : Entry) (grows : seen (v.entries d) ≤ seen e) where
   pub seen-after : (s m : ℕ) → m ≤ seen (v.entries s) → m ≤ seen (at v.entries d e s)

@@ -7,7 +7,7 @@ use Rattle.shm_model.specs.declared.kind.Kind.TheVariants.{Read, Write}
 use Rattle.shm_model.specs.Entry.{Entry, Nil, Copy, OwnRead, OwnWrite, Handed, Note, bytes, owned, readable, seen, writable}
 use Rattle.shm_model.specs.Book.{Running, at}
 use Rattle.shm_laws.proofs.PageView.{View, Runs, AllMet, InFlight, Holds, HandFits, Fits, with_entry_at}
-use Rattle.shm_laws.proofs.PageEntry.{IsAgain, fits-after, seen-after, seen-before, false-true}
+use Rattle.shm_laws.proofs.PageEntry.{IsAgain, fits-after, kept-here, seen-after, seen-before, false-true}
 
 pub read-is-not-write : Read ≡ Write → ⊥
 read-is-not-write h = cc
@@ -97,6 +97,8 @@ module _ (Now : List ℕ → Type 0) (v : View) (h : Holds Now v) (n q d : ℕ) 
       owner_lent = λ p r o m. unwritable v.book.owner;
       cleared = λ kind p s r k. met-after (OwnRead n (bytes (v.entries d))) refl s (h.cleared kind p s r k);
       bounded = λ s w. grind (arith, nat_tests, h.bounded s, h.bounded d (own-readable (v.entries d) own));
+      owner_no_copy = h.owner_no_copy;
+      kept = kept-here v d (OwnRead n (bytes (v.entries d))) c.owner refl;
     }
 
     lend-again : (m : ℕ) (k : Kind) (p : ℕ) → HandFits v m k p d → m ≡ n → IsAgain k p d (OwnRead n (bytes (v.entries d)))

@@ -88,6 +88,13 @@ module _ (Now : List ℕ → Type 0) (v : View) (h : Holds Now v) (n q d : ℕ) 
     owner_lent = λ p r o m. unwritable v.book.owner;
     cleared = λ kind p s r k. met-after Now v h n q d above own (Handed n q b) refl s (h.cleared kind p s r k);
     bounded = λ s w. grind (arith, nat_tests, h.bounded s);
+    owner_no_copy = h.owner_no_copy;
+    kept = inr (record {
+      to = q;
+      given = b;
+      is = ap (at v.entries d (Handed n q b)) (sym c.owner) ∙ (at-here v.entries d (Handed n q b) ∙ ap (λ k. Handed k q b) c.number);
+      runs = c.runs;
+    });
   }
 
   pub hand_over-fits : (from to : ℕ) (note : Note) → Fits Now v from to note → Fits Now (with_entry_at v d (Handed n q b)) from to note

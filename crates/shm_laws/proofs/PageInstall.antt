@@ -6,7 +6,7 @@ use Rattle.shm_model.specs.declared.kind.Kind.TheVariants.{Read, Write}
 use Rattle.shm_model.specs.Entry.{Entry, Copy, OwnWrite, Handed, Note, seen}
 use Rattle.shm_model.specs.Book.{at, max_sites}
 use Rattle.shm_laws.proofs.PageView.{View, InFlight, Holds, Fits, with_entry_at}
-use Rattle.shm_laws.proofs.PageEntry.{all_met-after, fits-after, seen-after, seen-before, false-true}
+use Rattle.shm_laws.proofs.PageEntry.{all_met-after, fits-after, kept-there, seen-after, seen-before, false-true}
 
 module _ (Now : List ℕ → Type 0) (v : View) (h : Holds Now v) (n d : ℕ) (b : List ℕ) (above : seen (v.entries d) < n) (small : d < max_sites) where
   in-limit : (kind : Kind) → InFlight Now v n kind d b → (e : Entry) → seen e ≡ n → (s : ℕ) → seen (at v.entries d e s) ≤ v.book.number
@@ -50,6 +50,8 @@ module _ (Now : List ℕ → Type 0) (v : View) (h : Holds Now v) (n d : ℕ) (b
       owner_lent = λ q r o m. grind (arith, nat_tests, f.unwritable v.book.owner);
       cleared = λ kind q s r k. met-after (Copy n b) refl s (h.cleared kind q s r k);
       bounded = λ s w. grind (arith, nat_tests, h.bounded s);
+      owner_no_copy = h.owner_no_copy;
+      kept = kept-there v d (Copy n b) f.other h.kept;
     }
 
     pub read-fits : (from to : ℕ) (note : Note) → Fits Now v from to note → Fits Now (with_entry_at v d (Copy n b)) from to note
@@ -81,6 +83,8 @@ module _ (Now : List ℕ → Type 0) (v : View) (h : Holds Now v) (n d : ℕ) (b
       owner_lent = λ q r o m. absurd (grind (arith, f.runs.is, r.is));
       cleared = λ kind q s r k. met-after (OwnWrite n b) refl s (h.cleared kind q s r k);
       bounded = λ s w. grind (arith, nat_tests, h.bounded s);
+      owner_no_copy = h.owner_no_copy;
+      kept = kept-there v d (OwnWrite n b) f.other h.kept;
     }
 
     pub write-fits : (from to : ℕ) (note : Note) → Fits Now v from to note → Fits Now (with_entry_at v d (OwnWrite n b)) from to note

@@ -7,7 +7,7 @@ use Rattle.shm_model.specs.declared.kind.Kind.TheVariants.{Read, Write}
 use Rattle.shm_model.specs.Entry.{Entry, Nil, Copy, OwnRead, OwnWrite, Handed, Note, bytes, is_copy, meet, owned, readable, seen, writable}
 use Rattle.shm_model.specs.Book.{at}
 use Rattle.shm_laws.proofs.PageView.{View, Runs, Holds, HandFits, Fits, with_entry_at}
-use Rattle.shm_laws.proofs.PageEntry.{IsAgain, all_met-after, false-true}
+use Rattle.shm_laws.proofs.PageEntry.{IsAgain, all_met-after, false-true, kept-here}
 use Rattle.shm_laws.proofs.PageHand.{HandNow, own-readable, now-here, grows, met-here, met-after, in-limit, not-handed, keeps}
 
 -- who may read owns the page or has a copy
@@ -78,6 +78,8 @@ module _ (Now : List ℕ → Type 0) (v : View) (h : Holds Now v) (n q d : ℕ) 
       owner_lent = λ p r o m. absurd (grind (arith, c.runs.is, r.is, c.owner, self));
       cleared = λ kind p s r k. met-after Now v h n q d above own e is s (h.cleared kind p s r k);
       bounded = λ s w. h.bounded s (sym (same-readable s) ∙ w);
+      owner_no_copy = h.owner_no_copy;
+      kept = kept-here v d e c.owner (same.owned_same ∙ own);
     }
 
     meet-again : (m : ℕ) (k : Kind) (p : ℕ) → HandFits v m k p d → m ≡ seen e → IsAgain k p d e
@@ -109,6 +111,8 @@ module _ (Now : List ℕ → Type 0) (v : View) (h : Holds Now v) (n q d : ℕ) 
       owner_lent = λ p r o m. absurd (grind (arith, c.runs.is, r.is));
       cleared = λ kind p s r k. met-after Now v h n q d above own (OwnWrite n b) refl s (h.cleared kind p s r k);
       bounded = λ s w. grind (arith, nat_tests, h.bounded s, h.bounded d (own-readable Now v h n q d above own (v.entries d) own));
+      owner_no_copy = h.owner_no_copy;
+      kept = kept-here v d (OwnWrite n b) c.owner refl;
     }
 
     keep-again : (m : ℕ) (k : Kind) (p : ℕ) → HandFits v m k p d → m ≡ n → IsAgain k p d (OwnWrite n b)

@@ -131,6 +131,8 @@ holds-map Now Next f v h = record {
   owner_lent = h.owner_lent;
   cleared = h.cleared;
   bounded = h.bounded;
+  owner_no_copy = h.owner_no_copy;
+  kept = h.kept;
 }
 
 pub fits-map : (Now Next : List ℕ → Type 0) → ((b : List ℕ) → Now b → Next b) → (v : View) (from to : ℕ) (note : Note) → Fits Now v from to note → Fits Next v from to note

@@ -70,7 +70,7 @@ abbrev pub OrderFits : (List ℕ → Type 0) → View → Order → Type 0
 OrderFits Now v (ClearTo s) = Fits Now v 0 s (Clear v.book.number)
 OrderFits Now v (HandTo owner q kind) = Fits Now v 0 owner (Hand v.book.number kind q)
 
-write-of : (kind : Kind) → is_write kind ≡ true → kind ≡ Write
+pub write-of : (kind : Kind) → is_write kind ≡ true → kind ≡ Write
 write-of Read e = absurd (false-true e)
 write-of Write e = refl
 

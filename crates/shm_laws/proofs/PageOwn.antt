@@ -1,12 +1,13 @@
 -- Stores, and copies given up for want of frames.
-use Rattle.std.proofs.Common.{◌≡◌, ℕ, ◌≤◌, inr, true, false, List, arith, refl, sym, ◌∙◌, ap}
+use Rattle.std.proofs.Common.{◌≡◌, ◌≢◌, ℕ, ◌≤◌, ◌⊎◌, inl, inr, true, false, List, arith, refl, sym, ◌∙◌, ap}
+use Rattle.std.proofs.lemmas.Bool.{cases_eq}
 use Rattle.std.proofs.lemmas.Bool.Decides.{nat_tests}
 use Rattle.shm_model.specs.declared.kind.Kind.{Kind}
 use Rattle.shm_model.specs.declared.kind.Kind.TheVariants.{Write}
 use Rattle.shm_model.specs.Entry.{Entry, Nil, Copy, OwnRead, OwnWrite, Handed, Note, is_copy, owned, readable, seen, writable}
 use Rattle.shm_model.specs.Book.{at}
-use Rattle.shm_laws.proofs.PageView.{View, InFlight, Holds, HandFits, Fits, with_entry_at}
-use Rattle.shm_laws.proofs.PageEntry.{IsAgain, all_met-after, fits-after, false-true}
+use Rattle.shm_laws.proofs.PageView.{View, InFlight, IsKept, Holds, HandFits, Fits, with_entry_at}
+use Rattle.shm_laws.proofs.PageEntry.{IsAgain, all_met-after, fits-after, false-true, kept-here, kept-there}
 
 -- the writer stores: what is stored last changes with its bytes, and nobody else can read them
 module _ (Now Next : List ℕ → Type 0) (v : View) (h : Holds Now v) (n d : ℕ) (b x : List ℕ) (here : v.entries d ≡ OwnWrite n b) (stored : Next x) where
@@ -53,7 +54,13 @@ module _ (Now Next : List ℕ → Type 0) (v : View) (h : Holds Now v) (n d : �
     owner_lent = λ q r o m. same-writable v.book.owner ∙ h.owner_lent q r o (grind (arith, same-seen v.book.owner));
     cleared = λ kind q s r k. rw (same-seen s) (h.cleared kind q s r k);
     bounded = λ s w. h.bounded s (sym (same-readable s) ∙ w);
+    owner_no_copy = h.owner_no_copy;
+    kept = kept-on (cases_eq d v.book.owner);
   }
+    where
+      kept-on : (d ≡ v.book.owner) ⊎ (d ≢ v.book.owner) → IsKept (with_entry_at v d (OwnWrite n x))
+      kept-on (inl e) = kept-here v d (OwnWrite n x) e refl
+      kept-on (inr e) = kept-there v d (OwnWrite n x) e h.kept
 
   store-again : (m : ℕ) (kind : Kind) (q : ℕ) → HandFits v m kind q d → m ≡ n → IsAgain kind q d (OwnWrite n x)
   store-again m kind q f e = record {
@@ -114,6 +121,8 @@ module _ (Now : List ℕ → Type 0) (v : View) (h : Holds Now v) (d : ℕ) (cop
     owner_lent = λ q r o m. grind (arith, nat_tests, h.owner_lent q r o, forget-seen v.book.owner);
     cleared = λ kind q s r k. rw (forget-seen s) (h.cleared kind q s r k);
     bounded = λ s w. grind (arith, nat_tests, h.bounded s);
+    owner_no_copy = h.owner_no_copy;
+    kept = kept-there v d (Nil (seen (v.entries d))) (h.copy_other d copy) h.kept;
   }
 
   pub forget-fits : (from to : ℕ) (note : Note) → Fits Now v from to note → Fits Now (with_entry_at v d (Nil (seen (v.entries d)))) from to note

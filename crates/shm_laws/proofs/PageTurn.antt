@@ -1,10 +1,10 @@
 -- A transaction starts, and a transaction ends.
-use Rattle.std.proofs.Common.{◌≡◌, ◌≢◌, ℕ, ◌+◌, ◌<◌, ◌≤◌, ◌⊎◌, inl, inr, true, Some, None, List, arith, sym, ◌∙◌, subst}
+use Rattle.std.proofs.Common.{◌≡◌, ◌≢◌, ℕ, ◌+◌, ◌<◌, ◌≤◌, ◌⊎◌, inl, inr, true, false, Some, None, List, arith, sym, ◌∙◌, subst}
 use Rattle.shm_model.specs.declared.kind.Kind.{Kind}
 use Rattle.shm_model.specs.declared.kind.Kind.TheVariants.{Read, Write}
 use Rattle.shm_model.specs.Entry.{Note, Ask, Clear, Cleared, Hand, Page, Confirm, is_copy, owned, seen}
 use Rattle.shm_model.specs.Book.{Book, Running, started}
-use Rattle.shm_laws.proofs.PageView.{View, Runs, InFlight, Holds, ClearRuns, HandFits, Fits}
+use Rattle.shm_laws.proofs.PageView.{View, IsKept, Runs, InFlight, Holds, ClearRuns, HandFits, Fits}
 use Rattle.shm_laws.proofs.PageEntry.{false-true}
 use Rattle.shm_laws.proofs.PageBook.{Goes, with_book}
 
@@ -38,8 +38,14 @@ module _ (Now : List ℕ → Type 0) (v : View) (h : Holds Now v) (idle : v.book
     owner_lent = λ q w o m. absurd (fresh v.book.owner m);
     cleared = λ k q x w c. absurd (false-true c);
     bounded = h.bounded;
+    owner_no_copy = h.owner_no_copy;
+    kept = inl (only-kept h.kept);
   }
     where
+      only-kept : IsKept v → owned (v.entries v.book.owner) ≡ true
+      only-kept (inl w) = w
+      only-kept (inr g) = absurd (quiet Write g.to g.runs)
+
       only-left : {x : ℕ} → (x ≡ v.book.owner) ⊎ (Runs v.book Write x × (v.book.number ≤ seen (v.entries x))) → x ≡ v.book.owner
       only-left (inl e) = e
       only-left {x} (inr p) = absurd (quiet Write x p.0)
@@ -120,8 +126,8 @@ module _ (Now : List ℕ → Type 0) (v : View) (h : Holds Now v) (kind : Kind) 
     end-fits from to (Page m k x) (inr w) = inl (arrived m k to x w)
     end-fits from to (Confirm m) f = f
 
-    end-holds : ((s : ℕ) → owned (v.entries s) ≡ true → s ≡ b.owner) → ((s : ℕ) → is_copy (v.entries s) ≡ true → (s ≢ b.owner) × (b.copies s ≡ true)) → Holds Now (with_book v b)
-    end-holds owner copies = record {
+    end-holds : ((s : ℕ) → owned (v.entries s) ≡ true → s ≡ b.owner) → ((s : ℕ) → is_copy (v.entries s) ≡ true → (s ≢ b.owner) × (b.copies s ≡ true)) → b.copies b.owner ≡ false → owned (v.entries b.owner) ≡ true → Holds Now (with_book v b)
+    end-holds owner copies free own = record {
       met = λ s. rw number (h.met s);
       owner = λ s w. inl (owner s w);
       copy_other = λ s w. (copies s w).0;
@@ -136,10 +142,12 @@ module _ (Now : List ℕ → Type 0) (v : View) (h : Holds Now v) (kind : Kind) 
       owner_lent = λ p r o m. absurd (idle-runs b idle Read p r);
       cleared = λ k p s r c. absurd (idle-runs b idle k p r);
       bounded = h.bounded;
+      owner_no_copy = free;
+      kept = inl own;
     }
       where
         behind : (m to : ℕ) (x : List ℕ) → seen (v.entries to) < m → InFlight Now v m Write to x → ⊥
         behind m to x l f = omega (arith, arrived m Write to x f)
 
-    pub end-goes : ((s : ℕ) → owned (v.entries s) ≡ true → s ≡ b.owner) → ((s : ℕ) → is_copy (v.entries s) ≡ true → (s ≢ b.owner) × (b.copies s ≡ true)) → Goes Now v b
-    end-goes owner copies = record { holds = end-holds owner copies; fits = end-fits }
+    pub end-goes : ((s : ℕ) → owned (v.entries s) ≡ true → s ≡ b.owner) → ((s : ℕ) → is_copy (v.entries s) ≡ true → (s ≢ b.owner) × (b.copies s ≡ true)) → b.copies b.owner ≡ false → owned (v.entries b.owner) ≡ true → Goes Now v b
+    end-goes owner copies free own = record { holds = end-holds owner copies free own; fits = end-fits }

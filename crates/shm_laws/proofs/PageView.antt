@@ -36,6 +36,17 @@ pub record InFlight (Now : List ℕ → Type 0) (v : View) (n : ℕ) (kind : Kin
   pub unreadable : kind ≡ Write → (s : ℕ) → s ≢ to → readable (v.entries s) ≡ false
   pub all_met : kind ≡ Write → AllMet v to
 
+-- the owner gave the page away, in the write that runs
+pub record GaveAway (v : View) : Type 0 where
+  pub to : ℕ
+  pub given : List ℕ
+  pub is : v.entries v.book.owner ≡ Handed v.book.number to given
+  pub runs : Runs v.book Write to
+
+-- the page isn't lost: its owner has it, or gave it away and keeps its bytes
+abbrev pub IsKept : View → Type 0
+IsKept v = (owned (v.entries v.book.owner) ≡ true) ⊎ GaveAway v
+
 pub record Holds (Now : List ℕ → Type 0) (v : View) : Type 0 where
   pub met : (s : ℕ) → seen (v.entries s) ≤ v.book.number
   pub owner : (s : ℕ) → owned (v.entries s) ≡ true → (s ≡ v.book.owner) ⊎ (Runs v.book Write s × (v.book.number ≤ seen (v.entries s)))
@@ -51,6 +62,8 @@ pub record Holds (Now : List ℕ → Type 0) (v : View) : Type 0 where
   pub owner_lent : (q : ℕ) → Runs v.book Read q → q ≢ v.book.owner → v.book.number ≤ seen (v.entries v.book.owner) → writable (v.entries v.book.owner) ≡ false
   pub cleared : (kind : Kind) (q s : ℕ) → Runs v.book kind q → v.book.cleared s ≡ true → v.book.number ≤ seen (v.entries s)
   pub bounded : (s : ℕ) → readable (v.entries s) ≡ true → s < max_sites
+  pub owner_no_copy : v.book.copies v.book.owner ≡ false
+  pub kept : IsKept v
 
 -- a Clear that d hasn't met is the running Write's
 pub record ClearRuns (v : View) (n d : ℕ) : Type 0 where

@@ -4,7 +4,7 @@ use Rattle.std.proofs.lemmas.Bool.{cond_both}
 use Rattle.shm_model.specs.declared.event.Event.{Event}
 use Rattle.shm_model.specs.declared.kind.Kind.{Kind}
 use Rattle.shm_model.specs.Book.{Book, Running, Waiting, ask_while, awaits, cleared_while, confirm_while, ended, greatest, is_waiting, max_waiting, on_ask, serve_next, start, start_first, unserved}
-use Rattle.shm_model.specs.World.{Opening, run}
+use Rattle.shm_model.specs.World.{Opening, run, sites_of}
 use Rattle.shm_progress.specs.Queues.{NoneWaitsForNothing}
 use Rattle.shm_progress.proofs.BooksKept.{OutcomeHolds, WorldRule, run-books}
 
@@ -44,12 +44,12 @@ confirm-behind : (running : Option Running) (s n : ℕ) (b : Book) → OutcomeHo
 confirm-behind None s n b = tt
 confirm-behind (Some run) s n b = cond_both ((n == b.number) && (s == run.requester)) _ _ (OutcomeHolds Behind) (λ e. serve-behind (ended run b)) (λ e. tt)
 
-behind-rule : WorldRule (λ sent s q b. Behind b)
-behind-rule = record {
-  rule = λ sent s. record {
+behind-rule : (sites : ℕ) → WorldRule sites (λ sent s q b. Behind b)
+behind-rule sites = record {
+  rule = λ sent s small. record {
     fresh = λ q. record { behind = λ none. refl };
     restarted = λ q b h. record { behind = λ none. refl };
-    asked = λ q b from r kind h was. ask-behind from r kind b;
+    asked = λ q b from r kind h was proper. ask-behind from r kind b;
     cleared = λ q b from n h. cleared-behind b.running from n b h;
     confirmed = λ q b from n h. confirm-behind b.running from n b;
   };
@@ -57,4 +57,4 @@ behind-rule = record {
 }
 
 pub none-waits : (o : Opening) (events : List Event) → NoneWaitsForNothing (run o events).world
-none-waits o events = λ page site x found none. ((run-books (λ sent s q b. Behind b) o behind-rule events).each site x found page).behind none
+none-waits o events = λ page site x found none. ((run-books (λ sent s q b. Behind b) o (behind-rule (sites_of o)) events).each site x found page).behind none

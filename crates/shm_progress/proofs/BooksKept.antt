@@ -31,15 +31,16 @@ OutcomeHolds P UsedUp = Unit {0}
 OutcomeHolds P (Taken b os) = P b
 
 -- an untouched book has it, and each row and a restart keep it
-pub record BookRule (B : PageId → Book → Type 0) (s : ℕ) (sent : List Envelope) : Type 0 where
+pub record BookRule (B : PageId → Book → Type 0) (sites s : ℕ) (sent : List Envelope) : Type 0 where
   pub fresh : (q : PageId) → B q (untouched_book s)
   pub restarted : (q : PageId) (b : Book) → B q b → B q (without_volatile b)
-  pub asked : (q : PageId) (b : Book) (from r : ℕ) (kind : Kind) → B q b → Contains sent (record { from = from; to = s; message = Of q (Ask r kind) }) → OutcomeHolds (B q) (on_ask from r kind b)
+  pub asked : (q : PageId) (b : Book) (from r : ℕ) (kind : Kind) → B q b → Contains sent (record { from = from; to = s; message = Of q (Ask r kind) })
+      → foreign sites s (record { from = from; to = s; message = Of q (Ask r kind) }) ≡ false → OutcomeHolds (B q) (on_ask from r kind b)
   pub cleared : (q : PageId) (b : Book) (from n : ℕ) → B q b → OutcomeHolds (B q) (on_cleared from n b)
   pub confirmed : (q : PageId) (b : Book) (from n : ℕ) → B q b → OutcomeHolds (B q) (on_confirm from n b)
 
 -- the step of a site
-module _ (B : PageId → Book → Type 0) (sites s : ℕ) (sent : List Envelope) (rule : BookRule B s sent) (x : Site) (holds : (q : PageId) → B q (x.books q)) where
+module _ (B : PageId → Book → Type 0) (sites s : ℕ) (sent : List Envelope) (rule : BookRule B sites s sent) (x : Site) (holds : (q : PageId) → B q (x.books q)) where
   abbrev Holds : Step → Type 0
   Holds st = (q : PageId) → B q (st.site.books q)
 
@@ -69,21 +70,23 @@ module _ (B : PageId → Book → Type 0) (sites s : ℕ) (sent : List Envelope)
   book-holds page UsedUp f = holds
   book-holds page (Taken b os) f = λ q. cond_both (same_page page q) b (x.books q) (B q) (λ e. subst (λ p. B p b) (page-same page q e) f) (λ e. holds q)
 
-  note-holds : (from : ℕ) (page : PageId) (note : Note) → Contains sent (record { from = from; to = s; message = Of page note }) → Holds (on_note sites s from page note x)
-  note-holds from page (Ask r kind) was = book-holds page _ (rule.asked page (x.books page) from r kind (holds page) was)
-  note-holds from page (Clear n) was = entry-holds page (on_clear n (x.entries page))
-  note-holds from page (Cleared n) was = book-holds page _ (rule.cleared page (x.books page) from n (holds page))
-  note-holds from page (Hand n kind to) was = entry-holds page (on_hand s n kind to (x.entries page))
-  note-holds from page (Page n kind b) was = entry-holds page (on_page n kind b (x.entries page))
-  note-holds from page (Confirm n) was = book-holds page _ (rule.confirmed page (x.books page) from n (holds page))
+  note-holds : (from : ℕ) (page : PageId) (note : Note) → Contains sent (record { from = from; to = s; message = Of page note })
+      → foreign sites s (record { from = from; to = s; message = Of page note }) ≡ false → Holds (on_note sites s from page note x)
+  note-holds from page (Ask r kind) was proper = book-holds page _ (rule.asked page (x.books page) from r kind (holds page) was proper)
+  note-holds from page (Clear n) was proper = entry-holds page (on_clear n (x.entries page))
+  note-holds from page (Cleared n) was proper = book-holds page _ (rule.cleared page (x.books page) from n (holds page))
+  note-holds from page (Hand n kind to) was proper = entry-holds page (on_hand s n kind to (x.entries page))
+  note-holds from page (Page n kind b) was proper = entry-holds page (on_page n kind b (x.entries page))
+  note-holds from page (Confirm n) was proper = book-holds page _ (rule.confirmed page (x.books page) from n (holds page))
 
-  message-holds : (from : ℕ) (m : Message) → Contains sent (record { from = from; to = s; message = m }) → Holds (on_message sites s from m x)
-  message-holds from (Of page note) was = cond_both (x.purged page.seg) _ _ Holds (λ e. holds) (λ e. note-holds from page note was)
-  message-holds from (Call number op) was = same-holds (on_call sites s from number op x).site (call-quiet sites s from number op x).books
-  message-holds from (Replies number reply) was = same-holds (on_reply number reply x).site (reply-quiet number reply x).books
-  message-holds from (Purge id) was =
+  message-holds : (from : ℕ) (m : Message) → Contains sent (record { from = from; to = s; message = m })
+      → foreign sites s (record { from = from; to = s; message = m }) ≡ false → Holds (on_message sites s from m x)
+  message-holds from (Of page note) was proper = cond_both (x.purged page.seg) _ _ Holds (λ e. holds) (λ e. note-holds from page note was proper)
+  message-holds from (Call number op) was proper = same-holds (on_call sites s from number op x).site (call-quiet sites s from number op x).books
+  message-holds from (Replies number reply) was proper = same-holds (on_reply number reply x).site (reply-quiet number reply x).books
+  message-holds from (Purge id) was proper =
       cond_both (is_attached x id) _ _ Holds (λ e. holds) (λ e. λ q. cond_both (id == q.seg) (untouched_book s) (x.books q) (B q) (λ f. rule.fresh q) (λ f. holds q))
-  message-holds from (Purged id) was = same-holds (on_purged from id x).site (purged-quiet from id x).books
+  message-holds from (Purged id) was proper = same-holds (on_purged from id x).site (purged-quiet from id x).books
 
   step-holds : (w : World) → w.sent ≡ sent → (input : Input) → IsHonest w s input → Holds (step sites s x input)
   step-holds w is (Load a offset) honest = load-holds (right x.attachments a offset false)
@@ -91,24 +94,27 @@ module _ (B : PageId → Book → Type 0) (sites s : ℕ) (sent : List Envelope)
   step-holds w is (Begin request) honest = same-holds (begin sites s request x).site (begin-quiet sites s request x).books
   step-holds w is (Deliver e) honest =
       cond_both (foreign sites s e) _ _ Holds (λ h. holds)
-      (λ h. message-holds e.from e.message (subst (λ t. Contains sent (record { from = e.from; to = t; message = e.message })) honest.1 (subst (λ es. Contains es e) is honest.0)))
+      (λ h. message-holds e.from e.message (subst (λ t. Contains sent (record { from = e.from; to = t; message = e.message })) honest.1 (subst (λ es. Contains es e) is honest.0))
+      (subst (λ t. foreign sites s (record { from = e.from; to = t; message = e.message }) ≡ false) honest.1 h))
   step-holds w is Tick honest = holds
   step-holds w is Restart honest = λ q. rule.restarted q (x.books q) (holds q)
 
 -- a run
-module _ (B : List Envelope → ℕ → PageId → Book → Type 0) where
+module _ (sites : ℕ) (B : List Envelope → ℕ → PageId → Book → Type 0) where
   pub record WorldRule : Type 0 where
-    pub rule : (sent : List Envelope) (s : ℕ) → BookRule (B sent s) s sent
+    pub rule : (sent : List Envelope) (s : ℕ) → s < sites → BookRule (B sent s) sites s sent
     pub more : (sent new : List Envelope) (s : ℕ) (q : PageId) (b : Book) → B sent s q b → B (sent ++ new) s q b
 
+-- what holds of all books of a world
+module _ (B : List Envelope → ℕ → PageId → Book → Type 0) where
   pub record AllBooks (w : World) : Type 0 where
     pub each : (t : ℕ) (y : Site) → slice_get w.sites t ≡ Some y → (q : PageId) → B w.sent t q (y.books q)
 
-  module _ (o : Opening) (world : WorldRule) where
-    opened-books : (o : Opening) (t : ℕ) (q : PageId) → B [] t q ((opened_site o t).books q)
-    opened-books (New n) t q = (world.rule [] t).fresh q
-    opened-books (Preset n pages) t q = (world.rule [] t).fresh q
-    opened-books (Framed n pages frames) t q = (world.rule [] t).fresh q
+  module _ (o : Opening) (world : WorldRule (sites_of o) B) where
+    opened-books : (p : Opening) (t : ℕ) → t < sites_of o → (q : PageId) → B [] t q ((opened_site p t).books q)
+    opened-books (New n) t small q = (world.rule [] t small).fresh q
+    opened-books (Preset n pages) t small q = (world.rule [] t small).fresh q
+    opened-books (Framed n pages frames) t small q = (world.rule [] t small).fresh q
 
     some-same : (x y : Site) → Some x ≡ Some y → x ≡ y
     some-same x y e = cc
@@ -117,7 +123,7 @@ module _ (B : List Envelope → ℕ → PageId → Book → Type 0) where
     first-all = record {
       each = λ t y found. let within = slice_get_within (map (opened_site o) (range_with_len 0 (sites_of o))) t y found in
           let all = length-map-range_with_len (opened_site o) 0 (sites_of o) in
-          subst (λ (z : Site). (q : PageId) → B [] t q (z.books q)) (some-same (opened_site o t) y (sym (slice_get-range (opened_site o) (sites_of o) t (omega (arith, within, all))) ∙ found)) (opened-books o t);
+          subst (λ (z : Site). (q : PageId) → B [] t q (z.books q)) (some-same (opened_site o t) y (sym (slice_get-range (opened_site o) (sites_of o) t (omega (arith, within, all))) ∙ found)) (opened-books o t (omega (arith, within, all)));
     }
 
     stepped-all : (r : Run) (gone : ℕ → Bool) (s : ℕ) (site : Site) (input : Input) → AllBooks r.world → Shape o r.world → s < sites_of o
@@ -131,7 +137,7 @@ module _ (B : List Envelope → ℕ → PageId → Book → Type 0) where
             (sym (set-here r.world.sites s site (step (sites_of o) s site input).site found) ∙ subst (λ u. slice_get (slice_set r.world.sites s (step (sites_of o) s site input).site) u ≡ Some y) here at) in
             subst (λ u. (q : PageId) → B r.world.sent u q (y.books q)) (sym here)
             (subst (λ (z : Site). (q : PageId) → B r.world.sent s q (z.books q)) same
-            (step-holds (B r.world.sent s) (sites_of o) s r.world.sent (world.rule r.world.sent s) site (books.each s site found) r.world refl input honest))
+            (step-holds (B r.world.sent s) (sites_of o) s r.world.sent (world.rule r.world.sent s small) site (books.each s site found) r.world refl input honest))
         of-site t y (inr there) at = books.each t y (sym (set-there r.world.sites s t (step (sites_of o) s site input).site there) ∙ at)
 
     books-kept : Kept o (λ r. AllBooks r.world)

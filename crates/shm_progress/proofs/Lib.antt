@@ -1,7 +1,12 @@
 pub mod Ending
 pub mod OnTheWay
+pub mod Along
 pub mod Purge
 pub mod Serve
 pub mod Round
 pub mod BooksKept
+pub mod SitesKept
 pub mod Behind
+pub mod Transfer
+pub mod Request
+pub mod RoundExists

@@ -28,7 +28,7 @@ pub data Moved (w : World) (v : Event) : World → Type 0 where
   same : Moved w v w
   drops : (k : ℕ) (e : Envelope) → live w k ≡ Some e → (is_loss v ≡ false → is_full w ≡ false → slice_get w.sites e.to ≡ None) → Moved w v (without w k)
   steps : (gone : ℕ → Bool) (s : ℕ) (x : Site) (input : Input) → slice_get w.sites s ≡ Some x → IsHonest w s input → Takes w gone s input → OnlySent w gone
-      → Moved w v (stepped (record w { gone = gone }) s input (step w.count s x input)).world
+      → (input ≡ Restart → v ≡ RestartEvent s) → Moved w v (stepped (record w { gone = gone }) s input (step w.count s x input)).world
 
 pub live-parts : (w : World) (k : ℕ) (e : Envelope) → live w k ≡ Some e → (w.gone k ≡ false) × (slice_get w.sent k ≡ Some e)
 live-parts w k e h = by-gone (w.gone k) refl h
@@ -60,16 +60,16 @@ only-one w k e h j past free =
     cond-false (k == j) true (w.gone j) other ∙ free
 
 module _ (w : World) (v : Event) where
-  still-moved : (found : Option Site) (s : ℕ) (input : Input) → slice_get w.sites s ≡ found → IsHonest w s input → Moved w v (step_site found w s input).world
-  still-moved None s input h honest = same
-  still-moved (Some x) s input h honest =
-      cond_both (is_full w) _ _ (λ (n : Next). Moved w v n.world) (λ e. same) (λ e. steps w.gone s x input h honest (all-stay w s input) (λ j past free. free))
+  still-moved : (found : Option Site) (s : ℕ) (input : Input) → slice_get w.sites s ≡ found → IsHonest w s input → (input ≡ Restart → v ≡ RestartEvent s) → Moved w v (step_site found w s input).world
+  still-moved None s input h honest restarts = same
+  still-moved (Some x) s input h honest restarts =
+      cond_both (is_full w) _ _ (λ (n : Next). Moved w v n.world) (λ e. same) (λ e. steps w.gone s x input h honest (all-stay w s input) (λ j past free. free) restarts)
 
   handed-moved : (k : ℕ) (e : Envelope) → live w k ≡ Some e → (found : Option Site) → slice_get w.sites e.to ≡ found → Moved w v (step_site found (without w k) e.to (Deliver e)).world
   handed-moved k e h None none = drops k e h (λ loss free. none)
   handed-moved k e h (Some x) found =
       cond_both (is_full (without w k)) _ _ (λ (n : Next). Moved w v n.world) (λ full. drops k e h (λ loss free. let both : true ≡ false = sym full ∙ free in cc))
-      (λ free. steps (without w k).gone e.to x (Deliver e) found (live-sent w k e h, refl) (one-goes w k e h) (only-one w k e h))
+      (λ free. steps (without w k).gone e.to x (Deliver e) found (live-sent w k e h, refl) (one-goes w k e h) (only-one w k e h) (λ r. cc))
 
   deliver-moved : (k : ℕ) (found : Option Envelope) → live w k ≡ found → Moved w v (deliver found w k).world
   deliver-moved k None h = same
@@ -77,18 +77,18 @@ module _ (w : World) (v : Event) where
 
   repeat-moved : (k : ℕ) (found : Option Envelope) → live w k ≡ found → Moved w v (hand_over found w).world
   repeat-moved k None h = same
-  repeat-moved k (Some e) h = still-moved (slice_get w.sites e.to) e.to (Deliver e) refl (live-sent w k e h, refl)
+  repeat-moved k (Some e) h = still-moved (slice_get w.sites e.to) e.to (Deliver e) refl (live-sent w k e h, refl) (λ r. cc)
 
 lose-moved : (w : World) (k : ℕ) (found : Option Envelope) → live w k ≡ found → Moved w (Lose k) (lose found w k).world
 lose-moved w k None h = same
 lose-moved w k (Some e) h = drops k e h (λ loss free. cc)
 
 pub moved : (w : World) (v : Event) → Moved w v (next w v).world
-moved w (LoadEvent s a offset) = still-moved w _ (slice_get w.sites s) s (Load a offset) refl tt
-moved w (StoreEvent s a offset byte) = still-moved w _ (slice_get w.sites s) s (Store a offset byte) refl tt
-moved w (BeginEvent s request) = still-moved w _ (slice_get w.sites s) s (Begin request) refl tt
-moved w (TickEvent s) = still-moved w _ (slice_get w.sites s) s Tick refl tt
-moved w (RestartEvent s) = still-moved w _ (slice_get w.sites s) s Restart refl tt
+moved w (LoadEvent s a offset) = still-moved w _ (slice_get w.sites s) s (Load a offset) refl tt (λ r. cc)
+moved w (StoreEvent s a offset byte) = still-moved w _ (slice_get w.sites s) s (Store a offset byte) refl tt (λ r. cc)
+moved w (BeginEvent s request) = still-moved w _ (slice_get w.sites s) s (Begin request) refl tt (λ r. cc)
+moved w (TickEvent s) = still-moved w _ (slice_get w.sites s) s Tick refl tt (λ r. cc)
+moved w (RestartEvent s) = still-moved w _ (slice_get w.sites s) s Restart refl tt (λ r. refl)
 moved w (DeliverEvent k) = deliver-moved w _ k (live w k) refl
 moved w (Repeat k) = repeat-moved w _ k (live w k) refl
 moved w (Lose k) = lose-moved w k (live w k) refl
@@ -100,7 +100,7 @@ pub record Fresh (w : World) : Type 0 where
 moved-fresh : (w : World) (v : Event) (u : World) → Moved w v u → Fresh w → Fresh u
 moved-fresh w v u same fresh = fresh
 moved-fresh w v u (drops k e h why) fresh = record { fresh = λ j past. only-one w k e h j past (fresh.fresh j past) }
-moved-fresh w v u (steps gone s x input found honest takes only) fresh = record {
+moved-fresh w v u (steps gone s x input found honest takes only restarts) fresh = record {
   fresh = λ j past. let longer = length-append w.sent (step w.count s x input).sent in
       let before : length w.sent ≤ j = omega (arith, past, longer) in
       only j before (fresh.fresh j before);
@@ -117,7 +117,7 @@ run-fresh o events = on-fresh (begun o) events (record { fresh = λ j past. refl
 moved-longer : (w : World) (v : Event) (u : World) → Moved w v u → length w.sent ≤ length u.sent
 moved-longer w v u same = omega arith
 moved-longer w v u (drops k e h why) = omega arith
-moved-longer w v u (steps gone s x input found honest takes only) = let longer = length-append w.sent (step w.count s x input).sent in omega (arith, longer)
+moved-longer w v u (steps gone s x input found honest takes only restarts) = let longer = length-append w.sent (step w.count s x input).sent in omega (arith, longer)
 
 on-longer : (r : Run) (events : List Event) → length r.world.sent ≤ length (run_on r events).world.sent
 on-longer r [] = omega arith

@@ -3,3 +3,4 @@ pub mod Homes
 pub mod Answers
 pub mod Dead
 pub mod GoOn
+pub mod Everyone

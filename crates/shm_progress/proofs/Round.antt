@@ -13,7 +13,7 @@ use Rattle.shm_progress.proofs.Purge.GoOn.{purged-at-rest, purges-go-on}
 use Rattle.shm_progress.proofs.Serve.GoOn.{answered-at-rest, calls-go-on}
 
 -- a list about one of its elements
-record Split (events : List Event) (e : Event) : Type 0 where
+pub record Split (events : List Event) (e : Event) : Type 0 where
   pub front : List Event
   pub back : List Event
   pub is : events ≡ front ++ (e ∷ back)
@@ -37,7 +37,7 @@ module _ (o : Opening) (opening : IsOpening o) (earlier later : List Event) (kep
   w = (run o (earlier ++ later)).world
 
   module _ (s : ℕ) (x : Site) (found : slice_get w.sites s ≡ Some x) where
-    split : Split later (Tick s)
+    pub split : Split later (Tick s)
     split =
         let within = slice_get_within w.sites s x found in
         let all = (run-shape o (earlier ++ later)).sites in
@@ -46,10 +46,10 @@ module _ (o : Opening) (opening : IsOpening o) (earlier later : List Event) (kep
         at-tick : Contains later (Tick s) → Split later (Tick s)
         at-tick (k, l, e) = split-at later k (Tick s) (slice_get-get_or later k (Tick s) l ∙ ap Some e)
 
-    same-world : w ≡ world_since o (earlier ++ split.front) s split.back
+    pub same-world : w ≡ world_since o (earlier ++ split.front) s split.back
     same-world = ap (λ es. (run o es).world) (ap (λ es. earlier ++ es) split.is ∙ sym (append_assoc earlier split.front (Tick s ∷ split.back)))
 
-    since : NothingLost split.back
+    pub since : NothingLost split.back
     since = back-kept split.front (Tick s) split.back (subst NothingLost split.is kept)
 
     no-call : x.outstanding ≡ None

@@ -2,5 +2,7 @@ pub mod Deliveries
 pub mod OnTheWay
 pub mod Purging
 pub mod Serving
-pub mod Rounds
 pub mod Queues
+pub mod Transactions
+pub mod Rounds
+pub mod Requests

@@ -4,7 +4,14 @@ ghost use Rattle.shm_model.specs.World.{IsOpening, Opening, is_full, run, sites_
 ghost use Rattle.shm_model.specs.declared.event.Event.{Event};
 ghost use Rattle.shm_progress.specs.Deliveries.{IsAtRest};
 ghost use Rattle.shm_progress.specs.OnTheWay.{NothingLost};
-ghost use Rattle.shm_progress.specs.Rounds.{AllTick, Settled};
+ghost use Rattle.shm_progress.specs.Requests.{RequestsSettled};
+ghost use Rattle.shm_progress.specs.Rounds.{AllTick, ManagersSettled, NoneRestarted, Round, Settled};
+
+/// Rounds exist: from every world that some events lead to, each site's tick and then some deliveries, with no loss and no restart, leave
+/// nothing on its way. So the laws on rounds are about each world.
+pub fn rounds_exist()
+    ensures { (o : Opening) (events : List Event) → Round o events }
+{}
 
 /// Rounds settle calls and purges: from every world that some events lead to, further events that lose nothing, among which each site
 /// ticks and after which nothing is on its way, leave no call outstanding and no purge unanswered; whatever else is among them, restarts
@@ -12,4 +19,18 @@ ghost use Rattle.shm_progress.specs.Rounds.{AllTick, Settled};
 pub fn rounds_settle_calls_and_purges()
     ensures { (o : Opening) (earlier later : List Event) → IsOpening o → NothingLost later → AllTick (sites_of o) later → is_full (run o (earlier ++ later)).world ≡ false
         → IsAtRest (run o (earlier ++ later)).world → Settled (run o (earlier ++ later)).world }
+{}
+
+/// Rounds settle transactions: where none of those events restarts a site, they leave no transaction running at any manager, and no Ask
+/// waiting there; nor does one wait for a segment that is being purged, for all sites have purged it then.
+pub fn rounds_settle_transactions()
+    ensures { (o : Opening) (earlier later : List Event) → IsOpening o → NothingLost later → NoneRestarted later → AllTick (sites_of o) later
+        → is_full (run o (earlier ++ later)).world ≡ false → IsAtRest (run o (earlier ++ later)).world → ManagersSettled (run o (earlier ++ later)).world }
+{}
+
+/// Rounds settle requests: where none of those events restarts a site, each request that is still pending has had its transaction
+/// started, or was turned away among them, or its site has purged the segment.
+pub fn rounds_settle_requests()
+    ensures { (o : Opening) (earlier later : List Event) → IsOpening o → NothingLost later → NoneRestarted later → AllTick (sites_of o) later
+        → is_full (run o (earlier ++ later)).world ≡ false → IsAtRest (run o (earlier ++ later)).world → RequestsSettled o earlier later }
 {}

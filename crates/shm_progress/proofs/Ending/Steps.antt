@@ -42,14 +42,14 @@ asks-nothing (Hand k kind to) from page manager n = refl
 asks-nothing (Page k kind b) from page manager n = refl
 asks-nothing (Confirm k) from page manager n = refl
 
-pub limited-books : (frames : Option Frames) (x : Site) → ((limited frames x).books ≡ x.books) × ((limited frames x).purged ≡ x.purged)
-limited-books None x = (refl, refl)
+pub limited-books : (frames : Option Frames) (x : Site) → ((limited frames x).books ≡ x.books) × ((limited frames x).purged ≡ x.purged) × ((limited frames x).booked ≡ x.booked)
+limited-books None x = (refl, refl, refl)
 limited-books (Some f) x =
-    cond_both (nat_lt f.limit (length f.copies)) (drop_first f.copies f x) x (λ y. (y.books ≡ x.books) × (y.purged ≡ x.purged)) (λ e. dropped-books f.copies f x) (λ e. (refl, refl))
+    cond_both (nat_lt f.limit (length f.copies)) (drop_first f.copies f x) x (λ y. (y.books ≡ x.books) × (y.purged ≡ x.purged) × (y.booked ≡ x.booked)) (λ e. dropped-books f.copies f x) (λ e. (refl, refl, refl))
   where
-    dropped-books : (copies : List PageId) (f : Frames) (x : Site) → ((drop_first copies f x).books ≡ x.books) × ((drop_first copies f x).purged ≡ x.purged)
-    dropped-books [] f x = (refl, refl)
-    dropped-books (p ∷ ps) f x = (refl, refl)
+    dropped-books : (copies : List PageId) (f : Frames) (x : Site) → ((drop_first copies f x).books ≡ x.books) × ((drop_first copies f x).purged ≡ x.purged) × ((drop_first copies f x).booked ≡ x.booked)
+    dropped-books [] f x = (refl, refl, refl)
+    dropped-books (p ∷ ps) f x = (refl, refl, refl)
 
 pub some-delivery : (sites : ℕ) (m : Message) → 0 < message_deliveries sites m
 some-delivery sites (Of page (Ask r kind)) = omega arith

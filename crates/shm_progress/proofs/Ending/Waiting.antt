@@ -9,7 +9,7 @@ use Rattle.shm_model.specs.Entry.{Ask}
 use Rattle.shm_model.specs.Book.{Book, Outcome, Running, Waiting, ask_while, awaits, cleared_while, confirm_while, ended, greatest, is_waiting, is_write, max_waiting, on_ask, serve_next, start, start_first, unserved}
 use Rattle.shm_model.specs.Message.{Envelope, Of}
 use Rattle.shm_model.specs.Site.{Site}
-use Rattle.shm_model.specs.World.{Opening, run}
+use Rattle.shm_model.specs.World.{Opening, run, sites_of}
 use Rattle.shm_laws.proofs.PageOrders.{Each, each-imp}
 use Rattle.shm_progress.proofs.Ending.Books.{AllAsked}
 use Rattle.shm_progress.proofs.Ending.Steps.{WaitingAsked}
@@ -34,14 +34,14 @@ module _ (A : ℕ → ℕ → Kind → Type 0) where
       (λ e. cond_both (nat_le max_waiting (length b.waiting)) _ _ (OutcomeWaits A) (λ f. tt)
       (λ f. each-push (λ (w : Waiting). A w.from w.request w.kind) b.waiting (record { from = s; request = r; kind = kind }) waits asked))
 
-  ask-waits : (s r : ℕ) (kind : Kind) (b : Book) → A s r kind → AllAsked A b.waiting → OutcomeWaits A (on_ask s r kind b)
+  pub ask-waits : (s r : ℕ) (kind : Kind) (b : Book) → A s r kind → AllAsked A b.waiting → OutcomeWaits A (on_ask s r kind b)
   ask-waits s r kind b asked waits = cond_both (nat_le r (b.served s)) _ _ (OutcomeWaits A) (λ e. tt) (λ e. while-waits b.running s r kind b asked waits)
 
-  cleared-waits-while : (running : Option Running) (s n : ℕ) (b : Book) → AllAsked A b.waiting → OutcomeWaits A (cleared_while running s n b)
+  pub cleared-waits-while : (running : Option Running) (s n : ℕ) (b : Book) → AllAsked A b.waiting → OutcomeWaits A (cleared_while running s n b)
   cleared-waits-while None s n b waits = tt
   cleared-waits-while (Some run) s n b waits = cond_both ((n == b.number) && awaits b run s) _ _ (OutcomeWaits A) (λ e. waits) (λ e. tt)
 
-  unserved-waits : (served : ℕ → ℕ) (ws : List Waiting) → AllAsked A ws → AllAsked A (unserved served ws)
+  pub unserved-waits : (served : ℕ → ℕ) (ws : List Waiting) → AllAsked A ws → AllAsked A (unserved served ws)
   unserved-waits served [] waits = tt
   unserved-waits served (w ∷ ws) waits = cond_both (nat_le w.request (served w.from)) _ _ (AllAsked A) (λ e. unserved-waits served ws waits.1) (λ e. waits)
 
@@ -52,11 +52,11 @@ module _ (A : ℕ → ℕ → Kind → Type 0) where
   serve-waits : (b : Book) → AllAsked A b.waiting → OutcomeWaits A (serve_next b)
   serve-waits b waits = cond_both (b.number == greatest) _ _ (OutcomeWaits A) (λ e. tt) (λ e. first-waits (unserved b.served b.waiting) b (unserved-waits b.served b.waiting waits))
 
-  ended-waits : (run : Running) (b : Book) → AllAsked A b.waiting → AllAsked A (ended run b).waiting
+  pub ended-waits : (run : Running) (b : Book) → AllAsked A b.waiting → AllAsked A (ended run b).waiting
   ended-waits run b waits =
       cond_both (is_write run.kind) _ _ (λ (c : Book). AllAsked A c.waiting) (λ e. waits) (λ e. cond_both (run.requester == b.owner) _ _ (λ (c : Book). AllAsked A c.waiting) (λ f. waits) (λ f. waits))
 
-  confirm-waits-while : (running : Option Running) (s n : ℕ) (b : Book) → AllAsked A b.waiting → OutcomeWaits A (confirm_while running s n b)
+  pub confirm-waits-while : (running : Option Running) (s n : ℕ) (b : Book) → AllAsked A b.waiting → OutcomeWaits A (confirm_while running s n b)
   confirm-waits-while None s n b waits = tt
   confirm-waits-while (Some run) s n b waits =
       cond_both ((n == b.number) && (s == run.requester)) _ _ (OutcomeWaits A) (λ e. serve-waits (ended run b) (ended-waits run b waits)) (λ e. tt)
@@ -65,12 +65,12 @@ module _ (A : ℕ → ℕ → Kind → Type 0) where
 abbrev pub Waits : List Envelope → ℕ → PageId → Book → Type 0
 Waits sent s q b = AllAsked (λ from r kind. Contains sent (record { from = from; to = s; message = Of q (Ask r kind) })) b.waiting
 
-waits-rule : WorldRule Waits
-waits-rule = record {
-  rule = λ sent s. record {
+waits-rule : (sites : ℕ) → WorldRule sites Waits
+waits-rule sites = record {
+  rule = λ sent s small. record {
     fresh = λ q. tt;
     restarted = λ q b h. tt;
-    asked = λ q b from r kind h was. ask-waits (λ from r kind. Contains sent (record { from = from; to = s; message = Of q (Ask r kind) })) from r kind b was h;
+    asked = λ q b from r kind h was proper. ask-waits (λ from r kind. Contains sent (record { from = from; to = s; message = Of q (Ask r kind) })) from r kind b was h;
     cleared = λ q b from n h. cleared-waits-while (λ from r kind. Contains sent (record { from = from; to = s; message = Of q (Ask r kind) })) b.running from n b h;
     confirmed = λ q b from n h. confirm-waits-while (λ from r kind. Contains sent (record { from = from; to = s; message = Of q (Ask r kind) })) b.running from n b h;
   };
@@ -79,4 +79,4 @@ waits-rule = record {
 }
 
 pub run-waits : (o : Opening) (events : List Event) (sites s : ℕ) (x : Site) → slice_get (run o events).world.sites s ≡ Some x → WaitingAsked sites s (run o events).world.sent x
-run-waits o events sites s x found = record { asked = λ page. (run-books Waits o waits-rule events).each s x found page }
+run-waits o events sites s x found = record { asked = λ page. (run-books Waits o (waits-rule (sites_of o)) events).each s x found page }

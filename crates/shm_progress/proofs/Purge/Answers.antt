@@ -30,7 +30,7 @@ contains-later x y xs (k, l, e) = (suc k, omega arith, e)
 pub contains-first : {X : Type 0} (x : X) (xs : List X) → Contains (x ∷ xs) x
 contains-first x xs = (0, omega arith, refl)
 
-contains-range : {X : Type 0} (f : ℕ → X) (n t : ℕ) → t < n → Contains (map f (range_with_len 0 n)) (f t)
+pub contains-range : {X : Type 0} (f : ℕ → X) (n t : ℕ) → t < n → Contains (map f (range_with_len 0 n)) (f t)
 contains-range f n t l =
     let found = slice_get-range f n t l in
     (t, slice_get_within (map f (range_with_len 0 n)) t (f t) found, get_or_from_slice_get (map f (range_with_len 0 n)) t (f t) (f t) found)
@@ -40,10 +40,10 @@ range-from a zero i l = absurd (omega arith)
 range-from a (suc n) zero l = ap Some (omega arith)
 range-from a (suc n) (suc i) l = range-from (a + 1) n i (omega arith) ∙ ap Some (omega arith)
 
-range-at : (n i : ℕ) → i < n → slice_get (range_with_len 0 n) i ≡ Some i
+pub range-at : (n i : ℕ) → i < n → slice_get (range_with_len 0 n) i ≡ Some i
 range-at n i l = range-from 0 n i l ∙ ap Some (omega arith)
 
-filter-passes : {X : Type 0} (p : X → Bool) (xs : List X) (k : ℕ) (y : X) → slice_get xs k ≡ Some y → p y ≡ true → Contains (filter p xs) y
+pub filter-passes : {X : Type 0} (p : X → Bool) (xs : List X) (k : ℕ) (y : X) → slice_get xs k ≡ Some y → p y ≡ true → Contains (filter p xs) y
 filter-passes p [] k y found is = absurd (none-some y found)
   where
     none-some : {X : Type 0} (x : X) → None ≡ Some x → ⊥
@@ -57,7 +57,7 @@ filter-passes p (x ∷ xs) zero y found is =
 filter-passes p (x ∷ xs) (suc k) y found is =
     cond_both (p x) (x ∷ filter p xs) (filter p xs) (λ ys. Contains ys y) (λ e. contains-later x y (filter p xs) (filter-passes p xs k y found is)) (λ e. filter-passes p xs k y found is)
 
-contains-map : {X Y : Type 0} (f : X → Y) (xs : List X) (k : ℕ) (x : X) → slice_get xs k ≡ Some x → Contains (map f xs) (f x)
+pub contains-map : {X Y : Type 0} (f : X → Y) (xs : List X) (k : ℕ) (x : X) → slice_get xs k ≡ Some x → Contains (map f xs) (f x)
 contains-map f [] k x found = absurd (none-some x found)
   where
     none-some : {X : Type 0} (x : X) → None ≡ Some x → ⊥

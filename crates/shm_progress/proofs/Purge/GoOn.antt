@@ -10,14 +10,14 @@ use Rattle.shm_model.specs.Access.{Step}
 use Rattle.shm_model.specs.Step.{deliver, step}
 use Rattle.shm_model.specs.World.{IsOpening, Next, Opening, Run, World, begun, extended, is_full, live, next, run, run_on, step_site, stepped, without}
 use Rattle.shm_laws.proofs.RunInduction.{run-shape}
-use Rattle.shm_laws.proofs.RunsOn.{run_on-append}
 use Rattle.shm_laws.proofs.Sound.{set-here, set-there}
 use Rattle.shm_laws.proofs.CallsTurn.{desk_of}
 use Rattle.shm_laws.proofs.CallsTurns.{turn-step}
 use Rattle.shm_progress.specs.Deliveries.{IsAtRest}
 use Rattle.shm_progress.specs.OnTheWay.{IsOnItsWay, NothingLost, is_loss}
 use Rattle.shm_progress.specs.Purging.{IsBeingPurged, PurgesGoOn, purged_envelope}
-use Rattle.shm_progress.proofs.OnTheWay.{Fresh, Moved, same, drops, steps, OnlySent, Takes, free-before, joins, moved, others-stay, run-fresh, stays}
+use Rattle.shm_progress.proofs.Along.{each-kept, since}
+use Rattle.shm_progress.proofs.OnTheWay.{Fresh, Moved, same, drops, steps, OnlySent, Takes, joins, moved, others-stay, run-fresh, stays}
 use Rattle.shm_progress.proofs.Purge.Answers.{missing-before, purge-answered, purged-heard, tick-purges}
 use Rattle.shm_progress.proofs.Purge.Dead.{Known, known}
 
@@ -104,7 +104,7 @@ module _ (w : World) (all : length w.sites ≡ w.count) (home : ℕ) (known-here
   moved-goes : (v : Event) (u : World) → Fresh w → is_loss v ≡ false → is_full w ≡ false → Moved w v u → PurgesGoOn u home
   moved-goes v u fresh kept free same = goes
   moved-goes v u fresh kept free (drops k e h why) = dropped-goes k e h (why kept free)
-  moved-goes v u fresh kept free (steps gone s x input found honest takes only) = stepped-goes fresh gone s x input found takes only
+  moved-goes v u fresh kept free (steps gone s x input found honest takes only restarts) = stepped-goes fresh gone s x input found takes only
 
 -- the home's tick asks all who are missing
 tick-goes : (w : World) (fresh : Fresh w) (home : ℕ) (known-here : (x : Site) (id t : ℕ) → slice_get w.sites home ≡ Some x → x.missing id t ≡ true → Known w home x id t)
@@ -121,29 +121,14 @@ tick-goes w fresh home known-here free (Some x) found =
     let k = known-here x id t found was in
     inl (joins w fresh w.gone home x Tick (λ j past only. only) (purge_envelope home id t) (tick-purges w.count home id t x k.segment k.found k.site_is was)))
 
-module _ (o : Opening) (opening : IsOpening o) (home : ℕ) where
-  on-goes : (earlier later : List Event) → NothingLost later → is_full (run_on (run o earlier) later).world ≡ false → PurgesGoOn (run o earlier).world home → PurgesGoOn (run_on (run o earlier) later).world home
-  on-goes earlier [] kept free goes = goes
-  on-goes earlier (e ∷ es) kept free goes =
-      let shape = run-shape o earlier in
-      let w = (run o earlier).world in
-      let first : PurgesGoOn (next w e).world home =
-      moved-goes w (shape.sites ∙ sym shape.count) home (known o opening earlier home) goes e (next w e).world (run-fresh o earlier) kept.0 (free-before (run o earlier) (e ∷ es) free) (moved w e) in
-      let goes_on : run o (earlier ++ (e ∷ [])) ≡ extended (run o earlier) (next w e) = run_on-append (begun o) earlier (e ∷ []) in
-      subst (λ (r : Run). PurgesGoOn (run_on r es).world home) goes_on
-      (on-goes (earlier ++ (e ∷ [])) es kept.1 (subst (λ (r : Run). is_full (run_on r es).world ≡ false) (sym goes_on) free) (subst (λ (r : Run). PurgesGoOn r.world home) (sym goes_on) first))
-
-  pub purges-go-on : (earlier later : List Event) → NothingLost later → is_full (run o (earlier ++ (TickEvent home ∷ later))).world ≡ false → PurgesGoOn (run o (earlier ++ (TickEvent home ∷ later))).world home
-  purges-go-on earlier later kept free =
-      let w = (run o earlier).world in
-      let parts : run o (earlier ++ (TickEvent home ∷ later)) ≡ run_on (run o earlier) (TickEvent home ∷ later) = run_on-append (begun o) earlier (TickEvent home ∷ later) in
-      let free_on : is_full (run_on (run o earlier) (TickEvent home ∷ later)).world ≡ false = subst (λ (r : Run). is_full r.world ≡ false) parts free in
-      let ticked : PurgesGoOn (next w (TickEvent home)).world home =
-      tick-goes w (run-fresh o earlier) home (known o opening earlier home) (free-before (run o earlier) (TickEvent home ∷ later) free_on) (slice_get w.sites home) refl in
-      let goes_on : run o (earlier ++ (TickEvent home ∷ [])) ≡ extended (run o earlier) (next w (TickEvent home)) = run_on-append (begun o) earlier (TickEvent home ∷ []) in
-      subst (λ (r : Run). PurgesGoOn r.world home) (sym parts)
-      (subst (λ (r : Run). PurgesGoOn (run_on r later).world home) goes_on
-      (on-goes (earlier ++ (TickEvent home ∷ [])) later kept (subst (λ (r : Run). is_full (run_on r later).world ≡ false) (sym goes_on) free_on) (subst (λ (r : Run). PurgesGoOn r.world home) (sym goes_on) ticked)))
+pub purges-go-on : (o : Opening) → IsOpening o → (home : ℕ) (earlier later : List Event) → NothingLost later → is_full (run o (earlier ++ (TickEvent home ∷ later))).world ≡ false
+    → PurgesGoOn (run o (earlier ++ (TickEvent home ∷ later))).world home
+purges-go-on o opening home earlier later kept free =
+    since o (λ e. is_loss e ≡ false) (λ w. PurgesGoOn w home)
+    (λ es e k not_full goes. let shape = run-shape o es in
+    moved-goes (run o es).world (shape.sites ∙ sym shape.count) home (known o opening es home) goes e (next (run o es).world e).world (run-fresh o es) k not_full (moved (run o es).world e))
+    (TickEvent home) (λ es not_full. tick-goes (run o es).world (run-fresh o es) home (known o opening es home) not_full (slice_get (run o es).world.sites home) refl)
+    earlier later (each-kept later kept) free
 
 -- where nothing is on its way nobody is missing
 pub purged-at-rest : (w : World) (home : ℕ) (x : Site) (id t : ℕ) → PurgesGoOn w home → IsAtRest w → slice_get w.sites home ≡ Some x → x.missing id t ≡ false

@@ -15,7 +15,6 @@ use Rattle.shm_model.specs.Access.{Step}
 use Rattle.shm_model.specs.Step.{deliver, step}
 use Rattle.shm_model.specs.World.{IsOpening, Next, Opening, Run, World, begun, extended, is_full, live, next, run, run_on, step_site, stepped, without}
 use Rattle.shm_laws.proofs.RunInduction.{run-shape}
-use Rattle.shm_laws.proofs.RunsOn.{run_on-append}
 use Rattle.shm_laws.proofs.Sound.{set-here, set-there}
 use Rattle.shm_laws.proofs.CallsInvariant.{kept_number}
 use Rattle.shm_laws.proofs.CallsTurn.{desk_of}
@@ -23,7 +22,8 @@ use Rattle.shm_laws.proofs.CallsTurns.{turn-step}
 use Rattle.shm_progress.specs.Deliveries.{IsAtRest}
 use Rattle.shm_progress.specs.OnTheWay.{IsOnItsWay, NothingLost, is_loss}
 use Rattle.shm_progress.specs.Serving.{CallGoesOn, IsBeingServed}
-use Rattle.shm_progress.proofs.OnTheWay.{Fresh, Moved, same, drops, steps, OnlySent, Takes, free-before, joins, live-sent, moved, others-stay, run-fresh, stays}
+use Rattle.shm_progress.proofs.Along.{each-kept, since}
+use Rattle.shm_progress.proofs.OnTheWay.{Fresh, Moved, same, drops, steps, OnlySent, Takes, joins, live-sent, moved, others-stay, run-fresh, stays}
 use Rattle.shm_progress.proofs.Serve.Answers.{call-answered, home-small, outstanding-before, reply-heard, tick-calls}
 use Rattle.shm_progress.proofs.Serve.Free.{attaches, is_attaching, run-free}
 use Rattle.shm_progress.proofs.Serve.Replies.{Counts, kept-below, reply-counts, some-number}
@@ -144,7 +144,7 @@ module _ (w : World) (all : length w.sites ≡ w.count) (me : ℕ) (known-here :
   moved-goes : (v : Event) (u : World) → Fresh w → is_loss v ≡ false → is_full w ≡ false → Moved w v u → CallGoesOn u me
   moved-goes v u fresh kept free same = goes
   moved-goes v u fresh kept free (drops k e h why) = dropped-goes k e h (why kept free)
-  moved-goes v u fresh kept free (steps gone s x input found honest takes only) = stepped-goes fresh gone s x input found takes only
+  moved-goes v u fresh kept free (steps gone s x input found honest takes only restarts) = stepped-goes fresh gone s x input found takes only
 
 -- the site's tick sends its call again
 tick-goes : (w : World) (fresh : Fresh w) (me : ℕ) → is_full w ≡ false → (found : Option Site) → slice_get w.sites me ≡ found → CallGoesOn (step_site found w me Tick).world me
@@ -159,29 +159,14 @@ tick-goes w fresh me free (Some x) found =
     let was : x.outstanding ≡ Some c = ap (λ (v : Site). v.outstanding) (sym mine) ∙ is in
     inl (joins w fresh w.gone me x Tick (λ j past only. only) (call_envelope w.count me c.number c.op) (tick-calls w.count me x c was)))
 
-module _ (o : Opening) (opening : IsOpening o) (me : ℕ) where
-  on-goes : (earlier later : List Event) → NothingLost later → is_full (run_on (run o earlier) later).world ≡ false → CallGoesOn (run o earlier).world me → CallGoesOn (run_on (run o earlier) later).world me
-  on-goes earlier [] kept free goes = goes
-  on-goes earlier (e ∷ es) kept free goes =
-      let shape = run-shape o earlier in
-      let w = (run o earlier).world in
-      let first : CallGoesOn (next w e).world me =
-      moved-goes w (shape.sites ∙ sym shape.count) me (λ x c found is. known o opening earlier me x c found is) goes e (next w e).world (run-fresh o earlier) kept.0 (free-before (run o earlier) (e ∷ es) free) (moved w e) in
-      let goes_on : run o (earlier ++ (e ∷ [])) ≡ extended (run o earlier) (next w e) = run_on-append (begun o) earlier (e ∷ []) in
-      subst (λ (r : Run). CallGoesOn (run_on r es).world me) goes_on
-      (on-goes (earlier ++ (e ∷ [])) es kept.1 (subst (λ (r : Run). is_full (run_on r es).world ≡ false) (sym goes_on) free) (subst (λ (r : Run). CallGoesOn r.world me) (sym goes_on) first))
-
-  pub calls-go-on : (earlier later : List Event) → NothingLost later → is_full (run o (earlier ++ (TickEvent me ∷ later))).world ≡ false → CallGoesOn (run o (earlier ++ (TickEvent me ∷ later))).world me
-  calls-go-on earlier later kept free =
-      let w = (run o earlier).world in
-      let parts : run o (earlier ++ (TickEvent me ∷ later)) ≡ run_on (run o earlier) (TickEvent me ∷ later) = run_on-append (begun o) earlier (TickEvent me ∷ later) in
-      let free_on : is_full (run_on (run o earlier) (TickEvent me ∷ later)).world ≡ false = subst (λ (r : Run). is_full r.world ≡ false) parts free in
-      let ticked : CallGoesOn (next w (TickEvent me)).world me =
-      tick-goes w (run-fresh o earlier) me (free-before (run o earlier) (TickEvent me ∷ later) free_on) (slice_get w.sites me) refl in
-      let goes_on : run o (earlier ++ (TickEvent me ∷ [])) ≡ extended (run o earlier) (next w (TickEvent me)) = run_on-append (begun o) earlier (TickEvent me ∷ []) in
-      subst (λ (r : Run). CallGoesOn r.world me) (sym parts)
-      (subst (λ (r : Run). CallGoesOn (run_on r later).world me) goes_on
-      (on-goes (earlier ++ (TickEvent me ∷ [])) later kept (subst (λ (r : Run). is_full (run_on r later).world ≡ false) (sym goes_on) free_on) (subst (λ (r : Run). CallGoesOn r.world me) (sym goes_on) ticked)))
+pub calls-go-on : (o : Opening) → IsOpening o → (me : ℕ) (earlier later : List Event) → NothingLost later → is_full (run o (earlier ++ (TickEvent me ∷ later))).world ≡ false
+    → CallGoesOn (run o (earlier ++ (TickEvent me ∷ later))).world me
+calls-go-on o opening me earlier later kept free =
+    since o (λ e. is_loss e ≡ false) (λ w. CallGoesOn w me)
+    (λ es e k not_full goes. let shape = run-shape o es in
+    moved-goes (run o es).world (shape.sites ∙ sym shape.count) me (λ x c found is. known o opening es me x c found is) goes e (next (run o es).world e).world (run-fresh o es) k not_full (moved (run o es).world e))
+    (TickEvent me) (λ es not_full. tick-goes (run o es).world (run-fresh o es) me not_full (slice_get (run o es).world.sites me) refl)
+    earlier later (each-kept later kept) free
 
 -- where nothing is on its way no call is outstanding
 pub answered-at-rest : (w : World) (me : ℕ) (x : Site) → CallGoesOn w me → IsAtRest w → slice_get w.sites me ≡ Some x → x.outstanding ≡ None

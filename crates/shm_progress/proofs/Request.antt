@@ -1,0 +1,5 @@
+pub mod Books
+pub mod Pending
+pub mod Steps
+pub mod GoOn
+pub mod Ends

@@ -1,0 +1,84 @@
+-- After a round without restarts each request was started or turned away in it.
+use Rattle.std.proofs.Common.{◌≡◌, ℕ, ◌≤◌, ◌⊎◌, inl, inr, true, false, List, [], ◌∷◌, ◌++◌, Some, append_assoc, IsTrue, slice_get, refl, sym, ◌∙◌, ap, subst, Contains}
+use Rattle.shm_place.specs.declared.page.PageId.{PageId}
+use Rattle.shm_place.specs.Page.{in_limits, manager_of}
+use Rattle.shm_model.specs.declared.event.Event.{Event}
+use Rattle.shm_model.specs.declared.event.Event.TheVariants.{Tick}
+use Rattle.shm_model.specs.Book.{Waiting, is_waiting}
+use Rattle.shm_model.specs.Site.{Pending, Site}
+use Rattle.shm_model.specs.World.{IsOpening, Opening, World, is_full, run, sites_of}
+use Rattle.shm_laws.proofs.RunInduction.{run-shape}
+use Rattle.shm_progress.specs.Deliveries.{IsAtRest}
+use Rattle.shm_progress.specs.OnTheWay.{NothingLost}
+use Rattle.shm_progress.specs.Requests.{IsStarted, IsTakenUp, IsTakenUpAt, RequestsSettled, WasTurnedAway}
+use Rattle.shm_progress.specs.Rounds.{AllTick, NoneRestarted}
+use Rattle.shm_progress.specs.Transactions.{IsPurgedSomewhere, NotRestarted}
+use Rattle.shm_progress.proofs.Round.{Split, since, split}
+use Rattle.shm_progress.proofs.Request.GoOn.{requests-go-on, taken-at-rest}
+use Rattle.shm_progress.proofs.Transfer.Ends.{back-unrestarted, managers-settle, purged-too}
+
+-- the events about a tick among the later ones
+module _ (o : Opening) (earlier later : List Event) (s : ℕ) (tick : Split later (Tick s)) where
+  abbrev before : List Event
+  before = (earlier ++ tick.front) ++ (Tick s ∷ [])
+
+  pub whole : (es : List Event) → before ++ es ≡ earlier ++ (tick.front ++ (Tick s ∷ es))
+  whole es = append_assoc (earlier ++ tick.front) (Tick s ∷ []) es ∙ append_assoc earlier tick.front (Tick s ∷ es)
+
+  pub all-events : before ++ tick.back ≡ earlier ++ later
+  all-events = whole tick.back ∙ ap (λ es. earlier ++ es) (sym tick.is)
+
+  pub turned-in : (m : ℕ) (q : PageId) → WasTurnedAway o before tick.back m q → WasTurnedAway o earlier later m q
+  turned-in m q t = record {
+    front = tick.front ++ (Tick s ∷ t.front);
+    back = t.back;
+    is = tick.is ∙ (ap (λ es. tick.front ++ (Tick s ∷ es)) t.is ∙ sym (append_assoc tick.front (Tick s ∷ t.front) t.back));
+    site = t.site;
+    found = ap (λ es. slice_get (run o es).world.sites m) (sym (whole t.front)) ∙ t.found;
+    full = t.full;
+  }
+
+none-waits : (ws : List Waiting) (s r : ℕ) → ws ≡ [] → is_waiting s r ws ≡ true → ⊥
+none-waits [] s r e h = cc
+none-waits (w ∷ ws) s r e h = cc
+
+module _ (o : Opening) (opening : IsOpening o) (earlier later : List Event) (kept : NothingLost later) (unrestarted : NoneRestarted later) (ticks : AllTick (sites_of o) later)
+    (free : is_full (run o (earlier ++ later)).world ≡ false) (rest : IsAtRest (run o (earlier ++ later)).world) where
+  abbrev w : World
+  w = (run o (earlier ++ later)).world
+
+  module _ (s : ℕ) (x : Site) (p : Pending) (found : slice_get w.sites s ≡ Some x) (here : Contains x.pending p) (limits : IsTrue (in_limits (sites_of o) p.page)) where
+    started : IsTakenUpAt w (manager_of (sites_of o) p.page) s p → IsStarted w s p
+    started (y, at, taken) =
+        (y, ap (λ n. slice_get w.sites (manager_of n p.page)) (run-shape o (earlier ++ later)).count ∙ at, by-taken taken)
+      where
+        by-taken : IsTakenUp (y.books p.page) s p.request → p.request ≤ (y.books p.page).served s
+        by-taken (inl waits) =
+            absurd (none-waits (y.books p.page).waiting s p.request ((managers-settle o opening earlier later kept unrestarted ticks free rest).served (manager_of (sites_of o) p.page) y p.page at) waits)
+        by-taken (inr low) = low
+
+    settle-one : IsStarted w s p ⊎ (WasTurnedAway o earlier later (manager_of (sites_of o) p.page) p.page ⊎ (x.purged p.page.seg ≡ true))
+    settle-one = by-end (ends-at found rest)
+      where
+        tick : Split later (Tick s)
+        tick = split o opening earlier later kept ticks free rest s x found
+
+        ends-at : slice_get w.sites s ≡ Some x → IsAtRest w → IsTakenUpAt w (manager_of (sites_of o) p.page) s p
+            ⊎ (WasTurnedAway o ((earlier ++ tick.front) ++ (Tick s ∷ [])) tick.back (manager_of (sites_of o) p.page) p.page ⊎ IsPurgedSomewhere w p.page.seg)
+        ends-at =
+            subst (λ es. slice_get (run o es).world.sites s ≡ Some x → IsAtRest (run o es).world → IsTakenUpAt (run o es).world (manager_of (sites_of o) p.page) s p
+            ⊎ (WasTurnedAway o ((earlier ++ tick.front) ++ (Tick s ∷ [])) tick.back (manager_of (sites_of o) p.page) p.page ⊎ IsPurgedSomewhere (run o es).world p.page.seg)) (all-events o earlier later s tick)
+            (λ at quiet. taken-at-rest o ((earlier ++ tick.front) ++ (Tick s ∷ [])) tick.back (manager_of (sites_of o) p.page) s x p
+            (requests-go-on o opening (manager_of (sites_of o) p.page) s (earlier ++ tick.front) tick.back (since o opening earlier later kept ticks free rest s x found)
+            (back-unrestarted (manager_of (sites_of o) p.page) tick.front (Tick s) tick.back (subst (NotRestarted (manager_of (sites_of o) p.page)) tick.is (unrestarted (manager_of (sites_of o) p.page))))
+            (subst (λ es. is_full (run o es).world ≡ false) (sym (all-events o earlier later s tick)) free)) quiet at here refl limits)
+
+        by-end : IsTakenUpAt w (manager_of (sites_of o) p.page) s p
+            ⊎ (WasTurnedAway o ((earlier ++ tick.front) ++ (Tick s ∷ [])) tick.back (manager_of (sites_of o) p.page) p.page ⊎ IsPurgedSomewhere w p.page.seg)
+            → IsStarted w s p ⊎ (WasTurnedAway o earlier later (manager_of (sites_of o) p.page) p.page ⊎ (x.purged p.page.seg ≡ true))
+        by-end (inl taken) = inl (started taken)
+        by-end (inr (inl turned)) = inr (inl (turned-in o earlier later s tick (manager_of (sites_of o) p.page) p.page turned))
+        by-end (inr (inr purged)) = inr (inr (purged-too o opening earlier later kept unrestarted ticks free rest s x found p.page purged))
+
+  pub requests-settle : RequestsSettled o earlier later
+  requests-settle s x p found here limits = settle-one s x p found here limits

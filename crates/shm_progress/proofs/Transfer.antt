@@ -1,0 +1,10 @@
+pub mod Bounds
+pub mod Booked
+pub mod Told
+pub mod Heard
+pub mod Rows
+pub mod Steps
+pub mod Gone
+pub mod Kept
+pub mod GoOn
+pub mod Ends

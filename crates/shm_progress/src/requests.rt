@@ -1,0 +1,29 @@
+//! Requests are taken up.
+ghost use Rattle.std.specs.Prelude.{◌≡◌, ℕ, ◌⊎◌, false, List, [], ◌∷◌, ◌++◌, Some, IsTrue, Contains, slice_get};
+ghost use Rattle.shm_place.specs.Page.{in_limits, manager_of};
+ghost use Rattle.shm_model.specs.Site.{Pending, Site};
+ghost use Rattle.shm_model.specs.World.{IsOpening, Opening, is_full, run, sites_of};
+ghost use Rattle.shm_model.specs.declared.event.Event.{Event};
+ghost use Rattle.shm_model.specs.declared.event.Event.TheVariants.{Tick};
+ghost use Rattle.shm_progress.specs.Deliveries.{IsAtRest};
+ghost use Rattle.shm_progress.specs.OnTheWay.{NothingLost};
+ghost use Rattle.shm_progress.specs.Requests.{IsTakenUpAt, RequestsGoOn, WasTurnedAway};
+ghost use Rattle.shm_progress.specs.Transactions.{IsPurgedSomewhere, NotRestarted};
+
+/// Requests go on: once a site ticked, as long as nothing is lost and a manager doesn't restart, each request that the site has pending
+/// at that manager has its Ask on its way, or waits there, or its transaction was started; unless the manager took up no request of the
+/// page at some time since, as sixteen waited or no transaction's number was left, or the page's segment is being purged. Whatever else
+/// happens, new accesses and restarts of other sites too. No more envelopes were sent than a world counts.
+pub fn requests_go_on()
+    ensures { (o : Opening) (earlier later : List Event) (site manager : ℕ) → IsOpening o → NothingLost later → NotRestarted manager later
+        → is_full (run o ((earlier ++ (Tick site ∷ [])) ++ later)).world ≡ false → RequestsGoOn o (earlier ++ (Tick site ∷ [])) later manager site }
+{}
+
+/// Requests end: if nothing is on its way any more then, each of them was taken up, or turned away since, or is purged.
+pub fn requests_end()
+    ensures { (o : Opening) (earlier later : List Event) (site manager : ℕ) (x : Site) (p : Pending) → IsOpening o → NothingLost later → NotRestarted manager later
+        → is_full (run o ((earlier ++ (Tick site ∷ [])) ++ later)).world ≡ false → IsAtRest (run o ((earlier ++ (Tick site ∷ [])) ++ later)).world
+        → slice_get (run o ((earlier ++ (Tick site ∷ [])) ++ later)).world.sites site ≡ Some x → Contains x.pending p → manager_of (sites_of o) p.page ≡ manager → IsTrue (in_limits (sites_of o) p.page)
+        → IsTakenUpAt (run o ((earlier ++ (Tick site ∷ [])) ++ later)).world manager site p
+        ⊎ (WasTurnedAway o (earlier ++ (Tick site ∷ [])) later manager p.page ⊎ IsPurgedSomewhere (run o ((earlier ++ (Tick site ∷ [])) ++ later)).world p.page.seg) }
+{}
