@@ -15,6 +15,11 @@ use std::alloc::AllocError;
 
 const SITE: SiteId = SiteId(3);
 
+const UNTOLD: AuditFault = AuditFault::Untold {
+    site: SITE,
+    index: 4,
+};
+
 /// The numbers of the system's errors, in the order of their names.
 #[test]
 fn the_errors_of_the_system(rt: HostRuntime) {
@@ -74,44 +79,37 @@ fn want_of_memory(rt: HostRuntime) {
     assert_eq!(rt; told, [17; 15]);
 }
 
-/// Why a script isn't replayed and a workload isn't run.
+/// Why a script isn't replayed, and a workload isn't read.
 #[test]
 fn what_ends_a_reading(rt: HostRuntime) {
-    let script = [
-        DebugFault::BadLine(2),
-        DebugFault::LineTooLong(2),
-        DebugFault::TooManyLines,
-        DebugFault::ReadFault,
-        DebugFault::WriteFault,
-    ];
-    assert_eq!(rt; script.map(|fault| fault.number()), [18, 19, 20, 21, 22]);
-    let workload = [
-        WorkloadFault::BadLine(2),
-        WorkloadFault::LineTooLong(2),
-        WorkloadFault::TooManyLines,
-    ];
-    assert_eq!(rt; workload.map(|fault| fault.number()), [18, 19, 20]);
-    let report = [
-        ReportFault::BadLine(2),
-        ReportFault::LineTooLong(2),
-        ReportFault::TooManyLines,
-        ReportFault::ReadFault,
-        ReportFault::WriteFault,
-    ];
-    assert_eq!(rt; report.map(|fault| fault.number()), [18, 19, 20, 21, 22]);
+    assert_eq!(rt; DebugFault::BadLine(2).number(), 18);
+    assert_eq!(rt; DebugFault::LineTooLong(2).number(), 19);
+    assert_eq!(rt; DebugFault::TooManyLines.number(), 20);
+    assert_eq!(rt; DebugFault::ReadFault.number(), 21);
+    assert_eq!(rt; DebugFault::WriteFault.number(), 22);
+    assert_eq!(rt; WorkloadFault::BadLine(2).number(), 18);
+    assert_eq!(rt; WorkloadFault::LineTooLong(2).number(), 19);
+    assert_eq!(rt; WorkloadFault::TooManyLines.number(), 20);
 }
 
-/// What an audit finds, by itself and in a report.
+/// Why a workload isn't reported.
+#[test]
+fn what_ends_a_report(rt: HostRuntime) {
+    assert_eq!(rt; ReportFault::BadLine(2).number(), 18);
+    assert_eq!(rt; ReportFault::LineTooLong(2).number(), 19);
+    assert_eq!(rt; ReportFault::TooManyLines.number(), 20);
+    assert_eq!(rt; ReportFault::ReadFault.number(), 21);
+    assert_eq!(rt; ReportFault::WriteFault.number(), 22);
+    assert_eq!(rt; ReportFault::Audit(UNTOLD).number(), 30);
+}
+
+/// What an audit finds.
 #[test]
 fn what_an_audit_finds(rt: HostRuntime) {
-    let found = [
-        AuditFault::Unsent { site: SITE, index: 4 },
-        AuditFault::StampOrder { site: SITE, index: 4 },
-        AuditFault::Forged { site: SITE, index: 4 },
-        AuditFault::Untold { site: SITE, index: 4 },
-    ];
-    assert_eq!(rt; found.map(|fault| fault.number()), [23, 24, 25, 30]);
-    assert_eq!(rt; found.map(|fault| ReportFault::Audit(fault).number()), [23, 24, 25, 30]);
+    assert_eq!(rt; AuditFault::Unsent { site: SITE, index: 4 }.number(), 23);
+    assert_eq!(rt; AuditFault::StampOrder { site: SITE, index: 4 }.number(), 24);
+    assert_eq!(rt; AuditFault::Forged { site: SITE, index: 4 }.number(), 25);
+    assert_eq!(rt; UNTOLD.number(), 30);
 }
 
 /// Why a run doesn't end well before its audit.

@@ -1,0 +1,11 @@
+pub mod WideWords
+pub mod NameWords
+pub mod Reading
+pub mod CallWords
+pub mod ReplyWords
+pub mod PageWords
+pub mod MessageWords
+pub mod SpelledMessages
+pub mod SentWords
+pub mod AskWords
+pub mod SpelledAsks

@@ -1,0 +1,115 @@
+-- What a caller asks of a site, under a tag of its own: `SITE TAG`, and what a script's line says, less the site.
+use Rattle.std.specs.Prelude.{⊤, ◌≡◌, ℕ, ◌<◌, ◌&&◌, Bool, true, if◌then◌else◌, List, [], ◌∷◌, codes, length, nat_lt, Option, None, Some}
+use Rattle.std.specs.Char.{is_ascii_graphic}
+use Rattle.std.specs.Fmt.{decimal}
+use Rattle.std.specs.List.{join_with_byte, list_all}
+use Rattle.shm_model.specs.declared.call.Request.TheVariants.{Op as OpRequest, DetachAt}
+use Rattle.shm_model.specs.declared.event.Event.TheVariants as event
+use Rattle.shm_lines.specs.Words.{◌>>=◌, byte_of, words_of, next_word, next_of, next_number}
+use Rattle.shm_lines.specs.Spelling as script
+use Rattle.shm_lines.specs.Spelling.{IsNumber}
+use Rattle.shm_wire.specs.Calls.{common_of, less_site}
+use Rattle.shm_wire.specs.Messages.{IsPageId, next_page}
+use Rattle.shm_wire.specs.Words.{Verbs, by_verb, ended}
+use Rattle.shm_wire.specs.declared.ask.Ask.{Ask as CodeAsk}
+use Rattle.shm_wire.specs.declared.ask.Asked.{Asked}
+use Rattle.shm_wire.specs.declared.ask.Asked.TheVariants.{Load, Store, Begin, Tick, Show}
+
+-- ---- tags
+
+-- 1 to 32 bytes of printable ASCII without the blank
+abbrev pub is_tag : List ℕ → Bool
+is_tag word = nat_lt 0 (length word) && nat_lt (length word) 33 && list_all is_ascii_graphic word
+
+abbrev pub IsTag : List ℕ → Type 0
+IsTag word = is_tag word ≡ true
+
+abbrev pub tag_of : List ℕ → Option (List ℕ)
+tag_of word = if is_tag word then Some word else None
+
+-- ---- what is asked
+
+abbrev pub IsAsked : Asked → Type 0
+IsAsked (Load at offset) = IsNumber at × IsNumber offset
+IsAsked (Store at offset byte) = IsNumber at × IsNumber offset × (byte < 256)
+IsAsked (Begin request) = script.IsRequest request
+IsAsked Tick = ⊤
+IsAsked (Show page) = IsPageId page
+
+abbrev pub asked_words : Asked → List (List ℕ)
+asked_words (Load at offset) = less_site (script.event_words (event.Load 0 at offset))
+asked_words (Store at offset byte) = less_site (script.event_words (event.Store 0 at offset byte))
+asked_words (Begin request) = less_site (script.request_words 0 request)
+asked_words Tick = less_site (script.event_words (event.Tick 0))
+asked_words (Show page) = codes "show" ∷ decimal page.seg ∷ decimal page.index ∷ []
+
+-- `load attachment offset`
+abbrev pub load_of : List (List ℕ) → Option Asked
+load_of words = do
+  (at, words) ← next_number words
+  (offset, words) ← next_number words
+  ended (Load at offset) words
+
+-- `store attachment offset byte`
+abbrev pub store_of : List (List ℕ) → Option Asked
+store_of words = do
+  (at, words) ← next_number words
+  (offset, words) ← next_number words
+  (byte, words) ← next_of byte_of words
+  ended (Store at offset byte) words
+
+-- `detach attachment`
+abbrev pub detach_of : List (List ℕ) → Option Asked
+detach_of words = do
+  (at, words) ← next_number words
+  ended (Begin (DetachAt at)) words
+
+-- `show segment index`
+abbrev pub show_of : List (List ℕ) → Option Asked
+show_of words = do
+  (page, words) ← next_page words
+  ended (Show page) words
+
+-- the other segment calls
+abbrev pub begun_of : List ℕ → List (List ℕ) → Option Asked
+begun_of verb words = do
+  op ← common_of verb words
+  Some (Begin (OpRequest op))
+
+abbrev pub own : Verbs Asked
+own = (codes "load", load_of) ∷ (codes "store", store_of) ∷ (codes "detach", detach_of) ∷ (codes "tick", ended Tick) ∷ (codes "show", show_of) ∷ []
+
+abbrev pub asked_of : List (List ℕ) → Option Asked
+asked_of words = do
+  (verb, words) ← next_word words
+  by_verb own begun_of verb words
+
+-- ---- the line
+
+pub record Ask : Type 0 where
+  pub site : ℕ
+  pub tag : List ℕ
+  pub asked : Asked
+
+abbrev pub ask_of : CodeAsk → Ask
+ask_of ask = record { site = ask.site; tag = ask.tag.now; asked = ask.asked }
+
+-- the asks that have a line
+abbrev pub IsAsk : Ask → Type 0
+IsAsk ask = IsNumber ask.site × IsTag ask.tag × IsAsked ask.asked
+
+abbrev pub ask_words : Ask → List (List ℕ)
+ask_words ask = decimal ask.site ∷ ask.tag ∷ asked_words ask.asked
+
+abbrev pub ask_line : Ask → List ℕ
+ask_line ask = join_with_byte 32 (ask_words ask)
+
+abbrev pub ask_of_words : List (List ℕ) → Option Ask
+ask_of_words words = do
+  (site, words) ← next_number words
+  (tag, words) ← next_of tag_of words
+  asked ← asked_of words
+  Some (record { site = site; tag = tag; asked = asked })
+
+abbrev pub read_ask : List ℕ → Option Ask
+read_ask line = ask_of_words (words_of line)

@@ -1,0 +1,12 @@
+-- Envelopes of the code, as the definitions speak of them.
+use Rattle.shm_model.specs.Log as model
+use Rattle.shm_parts.specs.Message.{envelope_of}
+use Rattle.shm_wire.specs.Sent as wire
+use Rattle.shm_wire.specs.declared.sent.Sent.{Sent}
+use Rattle.shm_wire.specs.declared.sent.Stamp.{Stamp}
+
+abbrev pub stamp_of : Stamp → model.Stamp
+stamp_of stamp = record { at = stamp.clock; index = stamp.index; place = stamp.place }
+
+abbrev pub sent_of : {A : Type 0} → Sent A → wire.Sent
+sent_of sent = record { source = stamp_of sent.source; envelope = envelope_of sent.envelope }

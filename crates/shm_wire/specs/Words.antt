@@ -1,0 +1,83 @@
+-- What single words stand for, beside those that a script has: numbers below 2 to the 64, and names from a table.
+use Rattle.std.specs.Prelude.{ℕ, ◌^◌, ◌<◌, Bool, true, false, if◌then◌else◌, List, [], ◌∷◌, codes, nat_lt, Option, None, Some}
+use Rattle.std.specs.Str.{bytes_eq}
+use Rattle.std.specs.Str.Parse.{digits_value}
+use Rattle.shm_model.specs.declared.call.Errno.{Errno}
+use Rattle.shm_model.specs.declared.call.Errno.TheVariants.{Eacces, Eexist, Eidrm, Einval, Enoent, Enospc, Eperm}
+use Rattle.shm_model.specs.declared.kind.Kind.{Kind}
+use Rattle.shm_model.specs.declared.kind.Kind.TheVariants.{Read, Write}
+use Rattle.shm_lines.specs.Words.{is_plain, is_end}
+
+-- ---- numbers
+
+abbrev pub IsWide : ℕ → Type 0
+IsWide n = n < 2 ^ 64
+
+abbrev pub wide_of : List ℕ → Option ℕ
+wide_of word = if is_plain word then (if nat_lt (digits_value 10 word) (2 ^ 64) then Some (digits_value 10 word) else None) else None
+
+-- ---- names
+
+-- names, and what each stands for
+abbrev pub Names : Type 0 → Type 0
+Names A = List (List ℕ × A)
+
+abbrev pub named : {A : Type 0} → Names A → List ℕ → Option A
+named [] word = None
+named ((name, x) ∷ rest) word = if bytes_eq word name then Some x else named rest word
+
+abbrev pub kind_word : Kind → List ℕ
+kind_word Read = codes "read"
+kind_word Write = codes "write"
+
+abbrev pub kinds : Names Kind
+kinds = (codes "read", Read) ∷ (codes "write", Write) ∷ []
+
+abbrev pub kind_of : List ℕ → Option Kind
+kind_of = named kinds
+
+-- whether a segment is marked to be destroyed
+abbrev pub standing_word : Bool → List ℕ
+standing_word true = codes "marked"
+standing_word false = codes "live"
+
+abbrev pub standings : Names Bool
+standings = (codes "marked", true) ∷ (codes "live", false) ∷ []
+
+abbrev pub standing_of : List ℕ → Option Bool
+standing_of = named standings
+
+abbrev pub errno_word : Errno → List ℕ
+errno_word Eacces = codes "eacces"
+errno_word Eexist = codes "eexist"
+errno_word Eidrm = codes "eidrm"
+errno_word Einval = codes "einval"
+errno_word Enoent = codes "enoent"
+errno_word Enospc = codes "enospc"
+errno_word Eperm = codes "eperm"
+
+abbrev pub errnos : Names Errno
+errnos =
+    (codes "eacces", Eacces) ∷ (codes "eexist", Eexist) ∷ (codes "eidrm", Eidrm) ∷ (codes "einval", Einval)
+    ∷ (codes "enoent", Enoent) ∷ (codes "enospc", Enospc) ∷ (codes "eperm", Eperm) ∷ []
+
+abbrev pub errno_of : List ℕ → Option Errno
+errno_of = named errnos
+
+-- ---- several words
+
+-- what was read, if no word is left
+abbrev pub ended : {A : Type 0} → A → List (List ℕ) → Option A
+ended x words = if is_end words then Some x else None
+
+-- names, and what the words after each say
+abbrev pub Verbs : Type 0 → Type 0
+Verbs A = List (List ℕ × (List (List ℕ) → Option A))
+
+-- by the first word; what no name is of, the other reader has
+abbrev pub by_verb : {A : Type 0} → Verbs A → (List ℕ → List (List ℕ) → Option A) → List ℕ → List (List ℕ) → Option A
+by_verb [] other word words = other word words
+by_verb ((verb, says) ∷ rest) other word words = if bytes_eq word verb then says words else by_verb rest other word words
+
+abbrev pub nothing : {A : Type 0} → List ℕ → List (List ℕ) → Option A
+nothing word words = None

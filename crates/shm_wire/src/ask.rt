@@ -1,0 +1,57 @@
+//! What a caller asks of a site, under a tag of its own.
+use crate::spelling_calls::CallWords;
+use shm_model::Request;
+use shm_place::{PageId, SiteId};
+use std::fmt;
+
+/// What a caller may ask of a site: each event that a site can be made to have, and what it holds of a page.
+#[derive(Clone, Copy, Debug, PartialEq, Eq)]
+pub enum Asked {
+    Load { at: u32, offset: u32 },
+    Store { at: u32, offset: u32, byte: u8 },
+    Begin(Request),
+    Tick,
+    Show(PageId),
+}
+
+/// What a caller asks of a site. The tag is the caller's own, 1 to 32 bytes of printable ASCII without the blank.
+#[derive(Clone, Copy, Debug, PartialEq, Eq)]
+pub struct Ask<'a> {
+    pub site: SiteId,
+    pub tag: &'a str,
+    pub asked: Asked,
+}
+
+impl<'a> fmt::Display for Ask<'a> {
+    ghost use Rattle.std.specs.Prelude.{Some};
+    ghost use Rattle.shm_wire.specs.Asks as spelled;
+
+    ghost output = { λ ask. Some (spelled.ask_line (spelled.ask_of ask)) };
+
+    /// The ask's line, without a line feed.
+    fn fmt<W: fmt::Write>(&self, f: &mut fmt::Formatter<W>) -> fmt::Result {
+        let site = self.site.0;
+        let tag = self.tag;
+        let asked = self.asked;
+        write!(f, "{site} {tag} {asked}")
+    }
+}
+
+impl fmt::Display for Asked {
+    ghost use Rattle.std.specs.Prelude.{Some};
+    ghost use Rattle.std.specs.List.{join_with_byte};
+    ghost use Rattle.shm_wire.specs.Asks as spelled;
+
+    ghost output = { λ asked. Some (join_with_byte 32 (spelled.asked_words asked)) };
+
+    fn fmt<W: fmt::Write>(&self, f: &mut fmt::Formatter<W>) -> fmt::Result {
+        match self {
+            Asked::Load { at, offset } => write!(f, "load {at} {offset}"),
+            Asked::Store { at, offset, byte } => write!(f, "store {at} {offset} {byte}"),
+            Asked::Begin(Request::Op(op)) => write!(f, "{}", CallWords(*op)),
+            Asked::Begin(Request::DetachAt(at)) => write!(f, "detach {at}"),
+            Asked::Tick => write!(f, "tick"),
+            Asked::Show(page) => write!(f, "show {} {}", page.seg.0, page.index),
+        }
+    }
+}

@@ -1,0 +1,129 @@
+//! How the line of a caller is read.
+ghost use Rattle.std.specs.Prelude.{◌≡◌, option_map};
+ghost use Rattle.std.specs.Char.{is_ascii_graphic};
+ghost use Rattle.std.specs.List.{list_all};
+ghost use Rattle.shm_wire.specs.Words.{ended};
+ghost use Rattle.shm_wire.specs.Asks.{ask_of, asked_of, begun_of, detach_of, load_of, read_ask, show_of, store_of, tag_of};
+
+use crate::ask::{Ask, Asked};
+use crate::calls::common;
+use crate::messages::page_id;
+use shm_lines::Words;
+use shm_model::Request;
+use shm_place::SiteId;
+use std::str;
+
+/// What this line asks, which stands without its line feed; `None` where it is no ask. It takes no memory.
+pub fn parse_ask(line: &[u8]) -> Option<Ask<'_>>
+    ensures { option_map ask_of result ≡ read_ask line.now }
+{
+    let (site, words) = Words::of(line).number()?;
+    let (word, words) = words.word()?;
+    let tag = tag(word)?;
+    let asked = asked(words)?;
+    Some(Ask {
+        site: SiteId(site),
+        tag,
+        asked,
+    })
+}
+
+#[tactic(auto, using(crate::proofs::AskWords::graphic_is_utf8))]
+fn tag(word: &[u8]) -> Option<&str>
+    ensures { option_map (λ tag. tag.now) result ≡ tag_of word.now }
+{
+    if word.is_empty() || word.len() > 32 || !is_graphic(word) {
+        return None;
+    }
+    let Ok(text) = str::from_utf8(word) else {
+        unreachable!();
+    };
+    Some(text)
+}
+
+fn is_graphic(word: &[u8]) -> bool
+    ensures { result ≡ list_all is_ascii_graphic word.now }
+{
+    word.iter().all(|byte| byte.is_ascii_graphic())
+}
+
+fn asked(words: Words<'_>) -> Option<Asked>
+    ensures { result ≡ asked_of words.entry }
+{
+    let (verb, words) = words.word()?;
+    if verb == b"load".as_slice() {
+        return load(words);
+    }
+    if verb == b"store".as_slice() {
+        return store(words);
+    }
+    if verb == b"detach".as_slice() {
+        return detach(words);
+    }
+    if verb == b"tick".as_slice() {
+        return tick(words);
+    }
+    if verb == b"show".as_slice() {
+        return show(words);
+    }
+    begun(verb, words)
+}
+
+fn load(words: Words<'_>) -> Option<Asked>
+    ensures { result ≡ load_of words.entry }
+{
+    let (at, words) = words.number()?;
+    let (offset, words) = words.number()?;
+    if !words.is_empty() {
+        return None;
+    }
+    Some(Asked::Load { at, offset })
+}
+
+fn store(words: Words<'_>) -> Option<Asked>
+    ensures { result ≡ store_of words.entry }
+{
+    let (at, words) = words.number()?;
+    let (offset, words) = words.number()?;
+    let (byte, words) = words.byte()?;
+    if !words.is_empty() {
+        return None;
+    }
+    Some(Asked::Store { at, offset, byte })
+}
+
+fn detach(words: Words<'_>) -> Option<Asked>
+    ensures { result ≡ detach_of words.entry }
+{
+    let (at, words) = words.number()?;
+    if !words.is_empty() {
+        return None;
+    }
+    Some(Asked::Begin(Request::DetachAt(at)))
+}
+
+fn tick(words: Words<'_>) -> Option<Asked>
+    ensures { result ≡ ended Asked.Tick words.entry }
+{
+    if !words.is_empty() {
+        return None;
+    }
+    Some(Asked::Tick)
+}
+
+fn show(words: Words<'_>) -> Option<Asked>
+    ensures { result ≡ show_of words.entry }
+{
+    let (page, words) = page_id(words)?;
+    if !words.is_empty() {
+        return None;
+    }
+    Some(Asked::Show(page))
+}
+
+fn begun(verb: &[u8], words: Words<'_>) -> Option<Asked>
+    ensures { result ≡ begun_of verb.now words.entry }
+{
+    let op = common(verb, words)?;
+    Some(Asked::Begin(Request::Op(op)))
+}

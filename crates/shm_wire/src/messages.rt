@@ -1,0 +1,163 @@
+//! How messages are read, but for a page's bytes.
+ghost use Rattle.std.specs.Prelude.{◌≡◌, option_map};
+ghost use Rattle.shm_model.specs.Entry.{Clear, Cleared, Confirm};
+ghost use Rattle.shm_model.specs.Message.{Purge, Purged};
+ghost use Rattle.shm_parts.specs.Message.{message_of};
+ghost use Rattle.shm_wire.specs.Messages.{next_page, plain_of, ask_of, numbered_of, hand_of, called_of, replied_of, of_segment};
+
+use crate::calls::call;
+use crate::replies::reply;
+use crate::words::{kind, wide};
+use shm_lines::Words;
+use shm_parts::Message;
+use shm_place::{PageId, SegId, SiteId};
+
+/// The message of this kind, if it brings no page.
+pub fn plain(verb: &[u8], words: Words<'_>) -> Option<Message>
+    ensures { option_map message_of result ≡ plain_of verb.now words.entry }
+{
+    if verb == b"ask".as_slice() {
+        return ask(words);
+    }
+    if verb == b"clear".as_slice() {
+        return clear(words);
+    }
+    if verb == b"cleared".as_slice() {
+        return cleared(words);
+    }
+    if verb == b"hand".as_slice() {
+        return hand(words);
+    }
+    if verb == b"confirm".as_slice() {
+        return confirm(words);
+    }
+    if verb == b"call".as_slice() {
+        return called(words);
+    }
+    if verb == b"reply".as_slice() {
+        return replied(words);
+    }
+    if verb == b"purge".as_slice() {
+        return purge(words);
+    }
+    if verb == b"purged".as_slice() {
+        return purged(words);
+    }
+    None
+}
+
+/// The next two words as a page, and those after them.
+pub fn page_id(words: Words<'_>) -> Option<(PageId, Words<'_>)>
+    ensures { result ≡ next_page words.entry }
+{
+    let (seg, words) = words.number()?;
+    let (index, words) = words.number()?;
+    let page = PageId {
+        seg: SegId(seg),
+        index,
+    };
+    Some((page, words))
+}
+
+fn ask(words: Words<'_>) -> Option<Message>
+    ensures { option_map message_of result ≡ ask_of words.entry }
+{
+    let (page, words) = page_id(words)?;
+    let (request, words) = wide(words)?;
+    let (kind, words) = kind(words)?;
+    if !words.is_empty() {
+        return None;
+    }
+    Some(Message::Ask {
+        page,
+        request,
+        kind,
+    })
+}
+
+fn clear(words: Words<'_>) -> Option<Message>
+    ensures { option_map message_of result ≡ numbered_of Clear words.entry }
+{
+    let (page, words) = page_id(words)?;
+    let (number, words) = wide(words)?;
+    if !words.is_empty() {
+        return None;
+    }
+    Some(Message::Clear { page, number })
+}
+
+fn cleared(words: Words<'_>) -> Option<Message>
+    ensures { option_map message_of result ≡ numbered_of Cleared words.entry }
+{
+    let (page, words) = page_id(words)?;
+    let (number, words) = wide(words)?;
+    if !words.is_empty() {
+        return None;
+    }
+    Some(Message::Cleared { page, number })
+}
+
+fn hand(words: Words<'_>) -> Option<Message>
+    ensures { option_map message_of result ≡ hand_of words.entry }
+{
+    let (page, words) = page_id(words)?;
+    let (number, words) = wide(words)?;
+    let (kind, words) = kind(words)?;
+    let (to, words) = words.number()?;
+    if !words.is_empty() {
+        return None;
+    }
+    Some(Message::Hand {
+        page,
+        number,
+        kind,
+        to: SiteId(to),
+    })
+}
+
+fn confirm(words: Words<'_>) -> Option<Message>
+    ensures { option_map message_of result ≡ numbered_of Confirm words.entry }
+{
+    let (page, words) = page_id(words)?;
+    let (number, words) = wide(words)?;
+    if !words.is_empty() {
+        return None;
+    }
+    Some(Message::Confirm { page, number })
+}
+
+fn called(words: Words<'_>) -> Option<Message>
+    ensures { option_map message_of result ≡ called_of words.entry }
+{
+    let (number, words) = wide(words)?;
+    let op = call(words)?;
+    Some(Message::Call { number, op })
+}
+
+fn replied(words: Words<'_>) -> Option<Message>
+    ensures { option_map message_of result ≡ replied_of words.entry }
+{
+    let (number, words) = wide(words)?;
+    let reply = reply(words)?;
+    Some(Message::Reply { number, reply })
+}
+
+fn purge(words: Words<'_>) -> Option<Message>
+    ensures { option_map message_of result ≡ of_segment Purge words.entry }
+{
+    let (id, words) = words.number()?;
+    if !words.is_empty() {
+        return None;
+    }
+    Some(Message::Purge { id: SegId(id) })
+}
+
+fn purged(words: Words<'_>) -> Option<Message>
+    ensures { option_map message_of result ≡ of_segment Purged words.entry }
+{
+    let (id, words) = words.number()?;
+    if !words.is_empty() {
+        return None;
+    }
+    Some(Message::Purged { id: SegId(id) })
+}

@@ -1,0 +1,104 @@
+//! How a page's bytes are read, and the grant that brings them.
+ghost use Rattle.std.specs.Prelude.{◌≡◌, ◌<◌, length, option_map, IfOk, IfSome};
+ghost use Rattle.shm_place.specs.Limits.{page_bytes};
+ghost use Rattle.shm_model.specs.Entry as note;
+ghost use Rattle.shm_page.specs.State as state;
+ghost use Rattle.shm_parts.specs.Message.{grant_of, message_of};
+ghost use Rattle.shm_wire.specs.Messages.{page_of};
+ghost use Rattle.shm_wire.specs.PageWord.{bytes_of};
+
+use crate::messages::page_id;
+use crate::words::{kind, wide};
+use base64::DecodeAllocError;
+use base64::engine::general_purpose::STANDARD;
+use shm_lines::Words;
+use shm_model::Kind;
+use shm_page::{Entry, OwnWritePage};
+use shm_parts::{Grant, Message};
+use shm_place::{PAGE_BYTES, SiteId};
+use std::alloc::{AllocError, Global};
+
+/// The message that brings a page.
+pub fn page(alloc: Global, words: Words<'_>) -> Result<Option<Message>, AllocError>
+    ensures { IfOk result (λ message. option_map message_of message ≡ page_of words.entry) }
+{
+    let Some((page, words)) = page_id(words) else {
+        return Ok(None);
+    };
+    let Some((number, words)) = wide(words) else {
+        return Ok(None);
+    };
+    let Some((kind, words)) = kind(words) else {
+        return Ok(None);
+    };
+    let Some((word, words)) = words.word() else {
+        return Ok(None);
+    };
+    let Some(bytes) = decoded(alloc, word)? else {
+        return Ok(None);
+    };
+    if number == 0 || !words.is_empty() {
+        return Ok(None);
+    }
+    let grant = granted(alloc, number, kind, bytes.as_slice())?;
+    Ok(Some(Message::Page { page, grant }))
+}
+
+/// The bytes of a page that the word is the base64 of.
+fn decoded(alloc: Global, word: &[u8]) -> Result<Option<Vec<u8>>, AllocError>
+    ensures bytes { IfOk result (λ bytes. option_map (λ v. v.items) bytes ≡ bytes_of word.now) }
+    ensures whole { IfOk result (λ bytes. IfSome bytes (λ v. length v.items ≡ page_bytes)) }
+{
+    match STANDARD.decode(alloc, word) {
+        Ok(bytes) => {
+            if bytes.len() != PAGE_BYTES {
+                return Ok(None);
+            }
+            Ok(Some(bytes))
+        }
+        Err(DecodeAllocError::OutOfMemory) => Err(AllocError),
+        Err(DecodeAllocError::DecodeError(_)) => Ok(None),
+    }
+}
+
+/// The grant of a page with these bytes. As each grant it is made by an owner's page, which is lent or handed.
+fn granted(alloc: Global, number: u64, kind: Kind, bytes: &[u8]) -> Result<Grant, AllocError>
+    requires number { 0 < number }
+    requires whole { length bytes.now ≡ page_bytes }
+    ensures { IfOk result (λ grant. grant_of grant ≡ note.Page number kind bytes.now) }
+{
+    let owned = owned(alloc, bytes)?;
+    match kind {
+        Kind::Read => match owned.downgrade(number) {
+            Ok((_page, grant)) => Ok(Grant::Read(grant)),
+            Err((_page, error)) => Err(error),
+        },
+        Kind::Write => match owned.hand(number, SiteId(0)) {
+            Ok((_page, grant)) => Ok(Grant::Write(grant)),
+            Err((_page, error)) => Err(error),
+        },
+    }
+}
+
+/// A page with these bytes, at an owner that has met no transaction.
+fn owned(alloc: Global, bytes: &[u8]) -> Result<OwnWritePage, AllocError>
+    requires { length bytes.now ≡ page_bytes }
+    ensures { IfOk result (λ page. page ≡ state.page_of 0 bytes.now) }
+{
+    let Entry::OwnWrite(mut page) = Entry::opening(alloc, true)? else {
+        unreachable!();
+    };
+    fill(&mut page, bytes);
+    Ok(page)
+}
+
+/// Stores each of a page's bytes.
+fn fill(page: &mut OwnWritePage, bytes: &[u8])
+    requires page { length page.old.bytes ≡ page_bytes }
+    requires whole { length bytes.now ≡ page_bytes }
+    ensures { page.new ≡ state.page_of page.old.seen bytes.now }
+{
+    'bytes: for (at, byte) in bytes.iter().enumerate() {
+        page.store(at, *byte);
+    }
+}

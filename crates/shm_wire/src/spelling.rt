@@ -1,0 +1,143 @@
+//! How an envelope is spelled: the one line that is read back as it.
+use crate::sent::Sent;
+use crate::spelling_calls::{CallWords, ReplyWords};
+use base64::display::Base64Display;
+use base64::engine::general_purpose::STANDARD;
+use shm_model::Kind;
+use shm_parts::{Grant, Message};
+use shm_place::PageId;
+use std::alloc::Allocator;
+use std::fmt;
+
+impl<A: Allocator + Copy> fmt::Display for Sent<A> {
+    ghost use Rattle.std.specs.Prelude.{Some};
+    ghost use Rattle.shm_wire.specs.Sent.{envelope_line};
+    ghost use Rattle.shm_wire.specs.SentOf.{sent_of};
+
+    ghost output = { λ sent. Some (envelope_line (sent_of sent)) };
+
+    /// The envelope's line, without a line feed.
+    fn fmt<W: fmt::Write>(&self, f: &mut fmt::Formatter<W>) -> fmt::Result {
+        let from = self.envelope.from.0;
+        let to = self.envelope.to.0;
+        let clock = self.source.clock;
+        let index = self.source.index;
+        let place = self.source.place;
+        let message = Told {
+            message: &self.envelope.message,
+        };
+        write!(f, "env {from} {to} {clock} {index} {place} {message}")
+    }
+}
+
+/// A message, as its words spell it.
+#[derive(Clone, Copy)]
+struct Told<'a, A: Allocator + Copy> {
+    message: &'a Message<A>,
+}
+
+impl<'a, A: Allocator + Copy> fmt::Display for Told<'a, A> {
+    ghost use Rattle.std.specs.Prelude.{Some};
+    ghost use Rattle.std.specs.List.{join_with_byte};
+    ghost use Rattle.shm_parts.specs.Message.{message_of};
+    ghost use Rattle.shm_wire.specs.Messages.{message_words};
+
+    ghost output = { λ told. Some (join_with_byte 32 (message_words (message_of told.message.now))) };
+
+    fn fmt<W: fmt::Write>(&self, f: &mut fmt::Formatter<W>) -> fmt::Result {
+        match self.message {
+            Message::Ask {
+                page,
+                request,
+                kind,
+            } => write!(
+                f,
+                "ask {} {} {request} {}",
+                page.seg.0,
+                page.index,
+                KindWord(*kind)
+            ),
+            Message::Clear { page, number } => {
+                write!(f, "clear {} {} {number}", page.seg.0, page.index)
+            }
+            Message::Cleared { page, number } => {
+                write!(f, "cleared {} {} {number}", page.seg.0, page.index)
+            }
+            Message::Hand {
+                page,
+                number,
+                kind,
+                to,
+            } => write!(
+                f,
+                "hand {} {} {number} {} {}",
+                page.seg.0,
+                page.index,
+                KindWord(*kind),
+                to.0
+            ),
+            Message::Page { page, grant } => {
+                let granted = Granted { page: *page, grant };
+                write!(f, "{granted}")
+            }
+            Message::Confirm { page, number } => {
+                write!(f, "confirm {} {} {number}", page.seg.0, page.index)
+            }
+            Message::Call { number, op } => write!(f, "call {number} {}", CallWords(*op)),
+            Message::Reply { number, reply } => write!(f, "reply {number} {}", ReplyWords(*reply)),
+            Message::Purge { id } => write!(f, "purge {}", id.0),
+            Message::Purged { id } => write!(f, "purged {}", id.0),
+        }
+    }
+}
+
+/// A page's bytes on their way, as their words spell them.
+#[derive(Clone, Copy)]
+struct Granted<'a, A: Allocator + Copy> {
+    page: PageId,
+    grant: &'a Grant<A>,
+}
+
+impl<'a, A: Allocator + Copy> fmt::Display for Granted<'a, A> {
+    ghost use Rattle.std.specs.Prelude.{Some};
+    ghost use Rattle.std.specs.List.{join_with_byte};
+    ghost use Rattle.shm_parts.specs.Message.{grant_of};
+    ghost use Rattle.shm_wire.specs.Messages.{note_words};
+
+    ghost output = { λ granted. Some (join_with_byte 32 (note_words granted.page (grant_of granted.grant.now))) };
+
+    fn fmt<W: fmt::Write>(&self, f: &mut fmt::Formatter<W>) -> fmt::Result {
+        let seg = self.page.seg.0;
+        let index = self.page.index;
+        match self.grant {
+            Grant::Read(grant) => {
+                let number = grant.number();
+                let bytes = Base64Display::new(grant.bytes(), &STANDARD);
+                write!(f, "page {seg} {index} {number} read {bytes}")
+            }
+            Grant::Write(grant) => {
+                let number = grant.number();
+                let bytes = Base64Display::new(grant.bytes(), &STANDARD);
+                write!(f, "page {seg} {index} {number} write {bytes}")
+            }
+        }
+    }
+}
+
+/// What a transaction gives, as a word.
+#[derive(Clone, Copy)]
+struct KindWord(Kind);
+
+impl fmt::Display for KindWord {
+    ghost use Rattle.std.specs.Prelude.{Some};
+    ghost use Rattle.shm_wire.specs.Words.{kind_word};
+
+    ghost output = { λ word. Some (kind_word word.0) };
+
+    fn fmt<W: fmt::Write>(&self, f: &mut fmt::Formatter<W>) -> fmt::Result {
+        match self.0 {
+            Kind::Read => write!(f, "read"),
+            Kind::Write => write!(f, "write"),
+        }
+    }
+}

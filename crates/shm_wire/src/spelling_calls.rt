@@ -1,0 +1,246 @@
+//! How segment calls and their replies are spelled.
+use shm_model::{Cred, Errno, GetFlags, Mode, Op, Reply, Stat};
+use shm_place::SegId;
+use std::fmt;
+
+/// A segment call, as its words spell it.
+#[derive(Clone, Copy)]
+pub struct CallWords(pub Op);
+
+impl fmt::Display for CallWords {
+    ghost use Rattle.std.specs.Prelude.{Some};
+    ghost use Rattle.std.specs.List.{join_with_byte};
+    ghost use Rattle.shm_wire.specs.Calls.{call_words};
+
+    ghost output = { λ words. Some (join_with_byte 32 (call_words words.0)) };
+
+    fn fmt<W: fmt::Write>(&self, f: &mut fmt::Formatter<W>) -> fmt::Result {
+        match self.0 {
+            Op::Get {
+                cred,
+                key,
+                size,
+                mode,
+                flags,
+            } => {
+                let uid = cred.uid;
+                let gid = cred.gid;
+                let mode = ModeWord(mode);
+                write!(
+                    f,
+                    "get {uid} {gid} {} {size} {mode} {}",
+                    key.0,
+                    FlagsWord(flags)
+                )
+            }
+            Op::Attach { cred, id, ro } => {
+                let on = On { cred, id };
+                write!(f, "attach {on} {}", AccessWord(ro))
+            }
+            Op::Detach { id } => write!(f, "detach id {}", id.0),
+            Op::Remove { cred, id } => {
+                let on = On { cred, id };
+                write!(f, "remove {on}")
+            }
+            Op::Set {
+                cred,
+                id,
+                uid,
+                gid,
+                mode,
+            } => {
+                let on = On { cred, id };
+                write!(f, "set {on} {uid} {gid} {}", ModeWord(mode))
+            }
+            Op::Stat { cred, id } => {
+                let on = On { cred, id };
+                write!(f, "stat {on}")
+            }
+        }
+    }
+}
+
+/// Who calls, and the segment that the call names.
+#[derive(Clone, Copy)]
+struct On {
+    cred: Cred,
+    id: SegId,
+}
+
+impl fmt::Display for On {
+    ghost use Rattle.std.specs.Prelude.{Some, [], ◌∷◌};
+    ghost use Rattle.std.specs.Fmt.{decimal};
+    ghost use Rattle.std.specs.List.{join_with_byte};
+
+    ghost output = { λ on. Some (join_with_byte 32 (decimal on.cred.uid ∷ decimal on.cred.gid ∷ decimal on.id ∷ [])) };
+
+    fn fmt<W: fmt::Write>(&self, f: &mut fmt::Formatter<W>) -> fmt::Result {
+        let uid = self.cred.uid;
+        let gid = self.cred.gid;
+        write!(f, "{uid} {gid} {}", self.id.0)
+    }
+}
+
+/// The reply to a segment call, as its words spell it.
+#[derive(Clone, Copy)]
+pub struct ReplyWords(pub Reply);
+
+impl fmt::Display for ReplyWords {
+    ghost use Rattle.std.specs.Prelude.{Some};
+    ghost use Rattle.std.specs.List.{join_with_byte};
+    ghost use Rattle.shm_wire.specs.Replies.{reply_words};
+
+    ghost output = { λ words. Some (join_with_byte 32 (reply_words words.0)) };
+
+    fn fmt<W: fmt::Write>(&self, f: &mut fmt::Formatter<W>) -> fmt::Result {
+        match self.0 {
+            Reply::Id(id) => write!(f, "id {}", id.0),
+            Reply::Attached(attached) => {
+                let size = attached.size;
+                write!(f, "attached {size} {}", AccessWord(attached.ro))
+            }
+            Reply::Ok => write!(f, "ok"),
+            Reply::Stat(stat) => {
+                let stat = StatWords(stat);
+                write!(f, "stat {stat}")
+            }
+            Reply::Refused(error) => write!(f, "refused {}", ErrnoWord(error)),
+        }
+    }
+}
+
+/// What `stat` tells of a segment, as words.
+#[derive(Clone, Copy)]
+struct StatWords(Stat);
+
+impl fmt::Display for StatWords {
+    ghost use Rattle.std.specs.Prelude.{Some};
+    ghost use Rattle.std.specs.List.{join_with_byte};
+    ghost use Rattle.shm_wire.specs.Replies.{stat_words};
+
+    ghost output = { λ words. Some (join_with_byte 32 (stat_words words.0)) };
+
+    fn fmt<W: fmt::Write>(&self, f: &mut fmt::Formatter<W>) -> fmt::Result {
+        let Stat {
+            key,
+            uid,
+            gid,
+            cuid,
+            cgid,
+            mode,
+            size,
+            nattch,
+            marked,
+        } = self.0;
+        let key = key.0;
+        let mode = ModeWord(mode);
+        let standing = StandingWord(marked);
+        write!(
+            f,
+            "{key} {uid} {gid} {cuid} {cgid} {mode} {size} {nattch} {standing}"
+        )
+    }
+}
+
+/// A mode as three octal digits.
+#[derive(Clone, Copy)]
+struct ModeWord(Mode);
+
+impl fmt::Display for ModeWord {
+    ghost use Rattle.std.specs.Prelude.{Some};
+    ghost use Rattle.shm_lines.specs.Spelling as script;
+
+    ghost output = { λ word. Some (script.mode_word word.0) };
+
+    fn fmt<W: fmt::Write>(&self, f: &mut fmt::Formatter<W>) -> fmt::Result {
+        let mode = self.0;
+        let owner = mode.bits() / 64;
+        let group = mode.bits() / 8 % 8;
+        let others = mode.bits() % 8;
+        write!(f, "{owner}{group}{others}")
+    }
+}
+
+/// Flags as a word.
+#[derive(Clone, Copy)]
+struct FlagsWord(GetFlags);
+
+impl fmt::Display for FlagsWord {
+    ghost use Rattle.std.specs.Prelude.{Some};
+    ghost use Rattle.shm_lines.specs.Spelling as script;
+
+    ghost output = { λ word. Some (script.flags_word word.0) };
+
+    fn fmt<W: fmt::Write>(&self, f: &mut fmt::Formatter<W>) -> fmt::Result {
+        let flags = self.0;
+        if flags.0 == 0 {
+            return write!(f, "-");
+        }
+        if flags.0 == 0o1000 {
+            return write!(f, "c");
+        }
+        if flags.0 == 0o2000 {
+            return write!(f, "x");
+        }
+        write!(f, "cx")
+    }
+}
+
+/// How an attachment may be used, as a word.
+#[derive(Clone, Copy)]
+struct AccessWord(bool);
+
+impl fmt::Display for AccessWord {
+    ghost use Rattle.std.specs.Prelude.{Some};
+    ghost use Rattle.shm_lines.specs.Spelling as script;
+
+    ghost output = { λ word. Some (script.access_word word.0) };
+
+    fn fmt<W: fmt::Write>(&self, f: &mut fmt::Formatter<W>) -> fmt::Result {
+        if self.0 {
+            return write!(f, "ro");
+        }
+        write!(f, "rw")
+    }
+}
+
+/// Whether a segment is marked to be destroyed, as a word.
+#[derive(Clone, Copy)]
+struct StandingWord(bool);
+
+impl fmt::Display for StandingWord {
+    ghost use Rattle.std.specs.Prelude.{Some};
+    ghost use Rattle.shm_wire.specs.Words.{standing_word};
+
+    ghost output = { λ word. Some (standing_word word.0) };
+
+    fn fmt<W: fmt::Write>(&self, f: &mut fmt::Formatter<W>) -> fmt::Result {
+        if self.0 {
+            return write!(f, "marked");
+        }
+        write!(f, "live")
+    }
+}
+
+/// A system's error, as a word.
+#[derive(Clone, Copy)]
+struct ErrnoWord(Errno);
+
+impl fmt::Display for ErrnoWord {
+    ghost use Rattle.std.specs.Prelude.{Some};
+    ghost use Rattle.shm_wire.specs.Words.{errno_word};
+
+    ghost output = { λ word. Some (errno_word word.0) };
+
+    fn fmt<W: fmt::Write>(&self, f: &mut fmt::Formatter<W>) -> fmt::Result {
+        match self.0 {
+            Errno::Eacces => write!(f, "eacces"),
+            Errno::Eexist => write!(f, "eexist"),
+            Errno::Eidrm => write!(f, "eidrm"),
+            Errno::Einval => write!(f, "einval"),
+            Errno::Enoent => write!(f, "enoent"),
+            Errno::Enospc => write!(f, "enospc"),
+            Errno::Eperm => write!(f, "eperm"),
+        }
+    }
+}
