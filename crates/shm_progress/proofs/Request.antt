@@ -1,5 +1,6 @@
 pub mod Books
 pub mod Pending
 pub mod Steps
+pub mod Sizes
 pub mod GoOn
 pub mod Ends
