@@ -23,7 +23,7 @@ use Rattle.shm_progress.specs.Requests.{IsTakenUp, IsTakenUpAt, RequestGoesOn, R
 use Rattle.shm_progress.specs.Transactions.{IsPurgedSomewhere, NoteGoes, NotRestarted}
 use Rattle.shm_progress.proofs.Along.{along, free-first, run-more, run-started}
 use Rattle.shm_progress.proofs.OnTheWay.{Fresh, Moved, same, drops, steps, OnlySent, Takes, free-before, joins, moved, others-stay, run-fresh, stays}
-use Rattle.shm_progress.proofs.Request.Pending.{step-before, tick-asks}
+use Rattle.shm_progress.proofs.Request.Pending.{Placed, step-before, tick-asks}
 use Rattle.shm_progress.proofs.Request.Steps.{ask-handed, step-keeps}
 use Rattle.shm_progress.proofs.Transfer.Gone.{purged-here, purged-still}
 use Rattle.shm_progress.proofs.Transfer.GoOn.{Keeps, both-kept}
@@ -144,9 +144,9 @@ module _ (o : Opening) (opening : IsOpening o) (before : List Event) (m s : ℕ)
       stepped-goes : All u
       stepped-goes y p now here manager limits = by-site (cases_eq s t)
         where
-          by-before : s ≡ t → Contains x.pending p ⊎ Contains st.sent (ask_again w.count t p) → Is u p
+          by-before : s ≡ t → Contains x.pending p ⊎ (Contains st.sent (ask_again w.count t p) × Placed x p.page) → Is u p
           by-before it (inl was) = was-still x p (ap (slice_get w.sites) it ∙ found) manager limits (goes x p (ap (slice_get w.sites) it ∙ found) was manager limits)
-          by-before it (inr asked) =
+          by-before it (inr (asked, placed)) =
               inl (joins w fresh gone t x input only (note_envelope s m p.page (Ask p.request p.kind))
               (subst (λ k. Contains st.sent (note_envelope k m p.page (Ask p.request p.kind))) (sym it)
               (subst (λ k. Contains st.sent (note_envelope t k p.page (Ask p.request p.kind))) (ap (λ n. manager_of n p.page) shape.count ∙ manager) asked)))
