@@ -1,6 +1,6 @@
 //! Requests are taken up.
-ghost use Rattle.std.specs.Prelude.{◌≡◌, ℕ, ◌⊎◌, false, List, [], ◌∷◌, ◌++◌, Some, IsTrue, Contains, slice_get};
-ghost use Rattle.shm_place.specs.Page.{in_limits, manager_of};
+ghost use Rattle.std.specs.Prelude.{◌≡◌, ℕ, ◌⊎◌, false, List, [], ◌∷◌, ◌++◌, Some, Contains, slice_get};
+ghost use Rattle.shm_place.specs.Page.{manager_of};
 ghost use Rattle.shm_model.specs.Site.{Pending, Site};
 ghost use Rattle.shm_model.specs.World.{IsOpening, Opening, is_full, run, sites_of};
 ghost use Rattle.shm_model.specs.declared.event.Event.{Event};
@@ -23,7 +23,7 @@ pub fn requests_go_on()
 pub fn requests_end()
     ensures { (o : Opening) (earlier later : List Event) (site manager : ℕ) (x : Site) (p : Pending) → IsOpening o → NothingLost later → NotRestarted manager later
         → is_full (run o ((earlier ++ (Tick site ∷ [])) ++ later)).world ≡ false → IsAtRest (run o ((earlier ++ (Tick site ∷ [])) ++ later)).world
-        → slice_get (run o ((earlier ++ (Tick site ∷ [])) ++ later)).world.sites site ≡ Some x → Contains x.pending p → manager_of (sites_of o) p.page ≡ manager → IsTrue (in_limits (sites_of o) p.page)
+        → slice_get (run o ((earlier ++ (Tick site ∷ [])) ++ later)).world.sites site ≡ Some x → Contains x.pending p → manager_of (sites_of o) p.page ≡ manager
         → IsTakenUpAt (run o ((earlier ++ (Tick site ∷ [])) ++ later)).world manager site p
         ⊎ (WasTurnedAway o (earlier ++ (Tick site ∷ [])) later manager p.page ⊎ IsPurgedSomewhere (run o ((earlier ++ (Tick site ∷ [])) ++ later)).world p.page.seg) }
 {}

@@ -47,7 +47,7 @@ module _ (o : Opening) (opening : IsOpening o) (earlier later : List Event) (kep
   abbrev w : World
   w = (run o (earlier ++ later)).world
 
-  module _ (s : ℕ) (x : Site) (p : Pending) (found : slice_get w.sites s ≡ Some x) (here : Contains x.pending p) (limits : IsTrue (in_limits (sites_of o) p.page)) where
+  module _ (s : ℕ) (x : Site) (p : Pending) (found : slice_get w.sites s ≡ Some x) (here : Contains x.pending p) where
     started : IsTakenUpAt w (manager_of (sites_of o) p.page) s p → IsStarted w s p
     started (y, at, taken) =
         (y, ap (λ n. slice_get w.sites (manager_of n p.page)) (run-shape o (earlier ++ later)).count ∙ at, by-taken taken)
@@ -71,7 +71,7 @@ module _ (o : Opening) (opening : IsOpening o) (earlier later : List Event) (kep
             (λ at quiet. taken-at-rest o ((earlier ++ tick.front) ++ (Tick s ∷ [])) tick.back (manager_of (sites_of o) p.page) s x p
             (requests-go-on o opening (manager_of (sites_of o) p.page) s (earlier ++ tick.front) tick.back (since o opening earlier later kept ticks free rest s x found)
             (back-unrestarted (manager_of (sites_of o) p.page) tick.front (Tick s) tick.back (subst (NotRestarted (manager_of (sites_of o) p.page)) tick.is (unrestarted (manager_of (sites_of o) p.page))))
-            (subst (λ es. is_full (run o es).world ≡ false) (sym (all-events o earlier later s tick)) free)) quiet at here refl limits)
+            (subst (λ es. is_full (run o es).world ≡ false) (sym (all-events o earlier later s tick)) free)) quiet at here refl)
 
         by-end : IsTakenUpAt w (manager_of (sites_of o) p.page) s p
             ⊎ (WasTurnedAway o ((earlier ++ tick.front) ++ (Tick s ∷ [])) tick.back (manager_of (sites_of o) p.page) p.page ⊎ IsPurgedSomewhere w p.page.seg)
@@ -81,4 +81,4 @@ module _ (o : Opening) (opening : IsOpening o) (earlier later : List Event) (kep
         by-end (inr (inr purged)) = inr (inr (purged-too o opening earlier later kept unrestarted ticks free rest s x found p.page purged))
 
   pub requests-settle : RequestsSettled o earlier later
-  requests-settle s x p found here limits = settle-one s x p found here limits
+  requests-settle s x p found here = settle-one s x p found here
