@@ -1,7 +1,7 @@
 -- After a round without restarts each request was started or turned away in it.
-use Rattle.std.proofs.Common.{◌≡◌, ℕ, ◌≤◌, ◌⊎◌, inl, inr, true, false, List, [], ◌∷◌, ◌++◌, Some, append_assoc, IsTrue, slice_get, refl, sym, ◌∙◌, ap, subst, Contains}
+use Rattle.std.proofs.Common.{◌≡◌, ℕ, ◌≤◌, ◌⊎◌, inl, inr, true, false, List, [], ◌∷◌, ◌++◌, Some, append_assoc, slice_get, refl, sym, ◌∙◌, ap, subst, Contains}
 use Rattle.shm_place.specs.declared.page.PageId.{PageId}
-use Rattle.shm_place.specs.Page.{in_limits, manager_of}
+use Rattle.shm_place.specs.Page.{manager_of}
 use Rattle.shm_model.specs.declared.event.Event.{Event}
 use Rattle.shm_model.specs.declared.event.Event.TheVariants.{Tick}
 use Rattle.shm_model.specs.Book.{Waiting, is_waiting}

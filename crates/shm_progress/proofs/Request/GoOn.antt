@@ -1,5 +1,5 @@
 -- A request goes on until it is taken up, as long as nothing is lost and its manager doesn't restart.
-use Rattle.std.proofs.Common.{◌≡◌, ◌≢◌, ℕ, ◌+◌, ◌%◌, ◌<◌, ◌≤◌, ◌⊎◌, inl, inr, Bool, true, false, ◌==◌, Option, Some, None, List, [], ◌∷◌, ◌++◌, append_assoc, append-nil, IsTrue, slice_get, slice_set, arith, refl, sym, ◌∙◌, ap, subst, Contains}
+use Rattle.std.proofs.Common.{◌≡◌, ◌≢◌, ℕ, ◌+◌, ◌%◌, ◌<◌, ◌≤◌, ◌⊎◌, inl, inr, Bool, true, false, ◌==◌, Option, Some, None, List, [], ◌∷◌, ◌++◌, append_assoc, slice_get, slice_set, arith, refl, sym, ◌∙◌, ap, subst, Contains}
 use Rattle.std.proofs.lemmas.Bool.{cases_eq, cases_Bool, cond_both, eqb-true}
 use Rattle.std.proofs.lemmas.Option.{slice_get_within}
 use Rattle.shm_place.specs.declared.page.PageId.{PageId}
@@ -12,9 +12,8 @@ use Rattle.shm_model.specs.Message.{Envelope, Input, Deliver, Restart, Tick}
 use Rattle.shm_model.specs.Site.{Pending, Site}
 use Rattle.shm_model.specs.Access.{Step}
 use Rattle.shm_model.specs.Step.{ask_again, deliver, step}
-use Rattle.shm_model.specs.World.{IsOpening, Next, Opening, Run, World, begun, extended, is_full, live, next, run, run_on, sites_of, step_site, stepped, without}
+use Rattle.shm_model.specs.World.{IsOpening, Next, Opening, Run, World, is_full, live, next, run, sites_of, step_site, stepped, without}
 use Rattle.shm_laws.proofs.RunInduction.{Shape, run-shape}
-use Rattle.shm_laws.proofs.RunsOn.{run_on-append}
 use Rattle.shm_laws.proofs.Sound.{set-here, set-there}
 use Rattle.shm_laws.proofs.Headline.{size-of}
 use Rattle.shm_progress.specs.Deliveries.{IsAtRest}
@@ -22,7 +21,7 @@ use Rattle.shm_progress.specs.OnTheWay.{IsOnItsWay, NothingLost, is_loss}
 use Rattle.shm_progress.specs.Requests.{IsTakenUp, IsTakenUpAt, RequestGoesOn, RequestsGoOn, TakesNone, WasTurnedAway}
 use Rattle.shm_progress.specs.Transactions.{IsPurgedSomewhere, NoteGoes, NotRestarted}
 use Rattle.shm_progress.proofs.Along.{along, free-first, run-more, run-started}
-use Rattle.shm_progress.proofs.OnTheWay.{Fresh, Moved, same, drops, steps, OnlySent, Takes, free-before, joins, moved, others-stay, run-fresh, stays}
+use Rattle.shm_progress.proofs.OnTheWay.{Fresh, Moved, same, drops, steps, OnlySent, Takes, joins, moved, others-stay, run-fresh, stays}
 use Rattle.shm_progress.proofs.Request.Limits.{pending-limits}
 use Rattle.shm_progress.proofs.Request.Pending.{Placed, step-before, tick-asks}
 use Rattle.shm_progress.proofs.Request.Steps.{ask-handed, step-keeps}

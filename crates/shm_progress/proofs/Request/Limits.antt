@@ -1,21 +1,18 @@
 -- What is pending is of a page in the limits.
-use Rattle.std.proofs.Common.{◌≡◌, ◌≢◌, ℕ, ◌+◌, ◌*◌, ◌/◌, ◌<◌, ◌≤◌, ◌⊎◌, inl, inr, true, false, Some, List, [], ◌∷◌, ◌++◌, length, map, slice_get, arith, refl, sym, ◌∙◌, ap, subst, Contains}
+use Rattle.std.proofs.Common.{◌≡◌, ◌≢◌, ℕ, ◌+◌, ◌*◌, ◌/◌, ◌<◌, ◌≤◌, ◌⊎◌, inl, inr, true, false, Some, List, [], ◌∷◌, map, slice_get, arith, sym, ◌∙◌, ap, subst, Contains}
 use Rattle.std.specs.List.{range_with_len}
 use Rattle.std.proofs.lemmas.Bool.{and_from, cases_eq, lt-ltb}
 use Rattle.std.proofs.lemmas.Option.{slice_get_within}
 use Rattle.std.proofs.lemmas.List.FromFn.{length-map-range_with_len}
-use Rattle.shm_place.specs.declared.page.PageId.{PageId}
 use Rattle.shm_place.specs.Limits.{max_segment_bytes, segments_of_a_home}
 use Rattle.shm_place.specs.Offset.{rounded}
 use Rattle.shm_place.specs.Page.{in_limits}
 use Rattle.shm_model.specs.declared.event.Event.{Event}
 use Rattle.shm_model.specs.Calls.{Attachment}
-use Rattle.shm_model.specs.Message.{Input}
 use Rattle.shm_model.specs.Site.{Pending, Site}
 use Rattle.shm_model.specs.Access.{place_in}
 use Rattle.shm_model.specs.Step.{ask_again, step}
 use Rattle.shm_model.specs.World.{Framed, IsOpening, New, Opening, Preset, Run, World, is_full, next, opened_site, run, sites_of, stepped}
-use Rattle.shm_laws.proofs.RunInduction.{run-shape}
 use Rattle.shm_laws.proofs.PageOrders.{Each}
 use Rattle.shm_laws.proofs.RunsOn.{slice_get-range}
 use Rattle.shm_laws.proofs.Sound.{set-here, set-there}

@@ -1,5 +1,5 @@
 -- What is pending after a site's step was pending before, or is asked for now.
-use Rattle.std.proofs.Common.{◌≡◌, ℕ, ◌<◌, zero, suc, ◌+◌, ◌⊎◌, inl, inr, Bool, true, false, ◌==◌, not, Option, Some, None, Result, Ok, Err, List, [], ◌∷◌, length, filter, map, nat_lt, arith, refl, sym, subst, Contains, ◌&&◌, ap, ◌∙◌}
+use Rattle.std.proofs.Common.{◌≡◌, ℕ, ◌<◌, zero, suc, ◌+◌, ◌⊎◌, inl, inr, Bool, true, false, ◌==◌, not, Option, Some, None, Result, Ok, Err, List, [], ◌∷◌, length, filter, map, nat_lt, arith, refl, sym, subst, Contains, ◌&&◌, ap}
 use Rattle.std.proofs.lemmas.Bool.{cond_both, ltb-true}
 use Rattle.std.proofs.lemmas.List.Elements.{Contains-append_left}
 use Rattle.shm_place.specs.declared.page.PageId.{PageId}
