@@ -18,7 +18,7 @@ use Rattle.shm_laws.proofs.Sound.{set-here, set-there}
 use Rattle.shm_laws.proofs.Headline.{size-of}
 use Rattle.shm_progress.specs.Deliveries.{IsAtRest}
 use Rattle.shm_progress.specs.OnTheWay.{IsOnItsWay, NothingLost, is_loss}
-use Rattle.shm_progress.specs.Requests.{IsTakenUp, IsTakenUpAt, RequestGoesOn, RequestsGoOn, TakesNone, WasTurnedAway}
+use Rattle.shm_progress.specs.Requests.{IsTakenUp, IsTakenUpAt, RequestGoesOn, RequestsGoOn, TakesNone, TookNone}
 use Rattle.shm_progress.specs.Transactions.{IsPurgedSomewhere, NoteGoes, NotRestarted}
 use Rattle.shm_progress.proofs.Along.{along, free-first, run-more, run-started}
 use Rattle.shm_progress.proofs.OnTheWay.{Fresh, Moved, same, drops, steps, OnlySent, Takes, joins, moved, others-stay, run-fresh, stays}
@@ -33,7 +33,7 @@ same-site : (found : Option Site) (x y : Site) → found ≡ Some x → found �
 same-site found x y p q = cc
 
 -- what was turned away stays so
-turned-longer : (o : Opening) (before done : List Event) (e : Event) (m : ℕ) (q : PageId) → WasTurnedAway o before done m q → WasTurnedAway o before (done ++ (e ∷ [])) m q
+turned-longer : (o : Opening) (before done : List Event) (e : Event) (m : ℕ) (q : PageId) → TookNone o before done m q → TookNone o before (done ++ (e ∷ [])) m q
 turned-longer o before done e m q t = record {
   front = t.front;
   back = t.back ++ (e ∷ []);
@@ -52,12 +52,12 @@ module _ (o : Opening) (opening : IsOpening o) (before : List Event) (m s : ℕ)
 
   -- where a request is in this world, or that it was turned away
   abbrev Is : World → Pending → Type 0
-  Is u p = NoteGoes u p.page s m (Ask p.request p.kind) ⊎ (IsTakenUpAt u m s p ⊎ (WasTurnedAway o before (done ++ (e ∷ [])) m p.page ⊎ IsPurgedSomewhere u p.page.seg))
+  Is u p = NoteGoes u p.page s m (Ask p.request p.kind) ⊎ (IsTakenUpAt u m s p ⊎ (TookNone o before (done ++ (e ∷ [])) m p.page ⊎ IsPurgedSomewhere u p.page.seg))
 
   abbrev All : World → Type 0
   All u = (x : Site) (p : Pending) → slice_get u.sites s ≡ Some x → Contains x.pending p → manager_of (sites_of o) p.page ≡ m → Is u p
 
-  turned-now : (x : Site) (q : PageId) → slice_get w.sites m ≡ Some x → TakesNone (x.books q) → WasTurnedAway o before (done ++ (e ∷ [])) m q
+  turned-now : (x : Site) (q : PageId) → slice_get w.sites m ≡ Some x → TakesNone (x.books q) → TookNone o before (done ++ (e ∷ [])) m q
   turned-now x q found full = record { front = done; back = e ∷ []; is = refl; site = x; found = found; full = full }
 
   manager-small : (q : PageId) → manager_of (sites_of o) q ≡ m → m < w.count
@@ -209,12 +209,12 @@ requests-go-on o opening m s earlier later kept unrestarted free =
 -- where nothing is on its way it was taken up or turned away
 pub taken-at-rest : (o : Opening) (before since : List Event) (m s : ℕ) (x : Site) (p : Pending) → RequestsGoOn o before since m s → IsAtRest (run o (before ++ since)).world
     → slice_get (run o (before ++ since)).world.sites s ≡ Some x → Contains x.pending p → manager_of (sites_of o) p.page ≡ m
-    → IsTakenUpAt (run o (before ++ since)).world m s p ⊎ (WasTurnedAway o before since m p.page ⊎ IsPurgedSomewhere (run o (before ++ since)).world p.page.seg)
+    → IsTakenUpAt (run o (before ++ since)).world m s p ⊎ (TookNone o before since m p.page ⊎ IsPurgedSomewhere (run o (before ++ since)).world p.page.seg)
 taken-at-rest o before since m s x p goes rest found here manager = by-way (goes x p found here manager)
   where
     nothing : (f : Envelope) → IsOnItsWay (run o (before ++ since)).world f → ⊥
     nothing f (k, h) = let none = rest k in cc
 
-    by-way : RequestGoesOn o before since m s p → IsTakenUpAt (run o (before ++ since)).world m s p ⊎ (WasTurnedAway o before since m p.page ⊎ IsPurgedSomewhere (run o (before ++ since)).world p.page.seg)
+    by-way : RequestGoesOn o before since m s p → IsTakenUpAt (run o (before ++ since)).world m s p ⊎ (TookNone o before since m p.page ⊎ IsPurgedSomewhere (run o (before ++ since)).world p.page.seg)
     by-way (inl asked) = absurd (nothing (note_envelope s m p.page (Ask p.request p.kind)) asked)
     by-way (inr other) = other
