@@ -1,5 +1,5 @@
 -- Every world has a round: all sites tick, and what is on its way is handed over until nothing is.
-use Rattle.std.proofs.Common.{◌≡◌, ◌≢◌, ℕ, ◌<◌, false, List, [], ◌∷◌, ◌++◌, append_assoc, append-nil, map, refl, sym, ◌∙◌, ap, subst, Contains}
+use Rattle.std.proofs.Common.{◌≡◌, ◌≢◌, ℕ, false, List, [], ◌∷◌, ◌++◌, append_assoc, append-nil, map, refl, sym, ◌∙◌, ap, subst}
 use Rattle.std.specs.List.{range_with_len}
 use Rattle.std.proofs.lemmas.List.Elements.{Contains-append_left}
 use Rattle.shm_model.specs.declared.event.Event.{Event}
@@ -7,7 +7,7 @@ use Rattle.shm_model.specs.declared.event.Event.TheVariants.{Deliver, Restart, T
 use Rattle.shm_model.specs.World.{Opening, run, sites_of}
 use Rattle.shm_progress.specs.Deliveries.{ComesToRest, IsAtRest}
 use Rattle.shm_progress.specs.OnTheWay.{NothingLost, is_loss}
-use Rattle.shm_progress.specs.Rounds.{AllTick, NoneRestarted, Round}
+use Rattle.shm_progress.specs.Rounds.{Round}
 use Rattle.shm_progress.specs.Transactions.{NotRestarted}
 use Rattle.shm_progress.proofs.Ending.Rests.{rests}
 use Rattle.shm_progress.proofs.Purge.Answers.{contains-range}

@@ -1,8 +1,8 @@
 -- A request goes on until its page's manager takes it up: what can't be served yet waits there (Li and Hudak 1989, §3.2). A network that
 -- drops every message, or a manager that forgets who waits, breaks it: a pending request would be nowhere.
-use Rattle.std.specs.Prelude.{◌≡◌, ℕ, ◌≤◌, true, ◌⊎◌, List, ◌++◌, Some, IsTrue, Contains, length, slice_get}
+use Rattle.std.specs.Prelude.{◌≡◌, ℕ, ◌≤◌, true, ◌⊎◌, List, ◌++◌, Some, Contains, length, slice_get}
 use Rattle.shm_place.specs.declared.page.PageId.{PageId}
-use Rattle.shm_place.specs.Page.{in_limits, manager_of}
+use Rattle.shm_place.specs.Page.{manager_of}
 use Rattle.shm_model.specs.declared.event.Event.{Event}
 use Rattle.shm_model.specs.Entry.{Ask}
 use Rattle.shm_model.specs.Book.{Book, greatest, is_waiting, max_waiting}
@@ -19,7 +19,7 @@ abbrev pub TakesNone : Book → Type 0
 TakesNone b = (max_waiting ≤ length b.waiting) ⊎ (b.number ≡ greatest)
 
 -- at some time in the later events the manager's book of the page took up no request
-pub record WasTurnedAway (o : Opening) (before since : List Event) (manager : ℕ) (page : PageId) : Type 0 where
+pub record TookNone (o : Opening) (before since : List Event) (manager : ℕ) (page : PageId) : Type 0 where
   pub front : List Event
   pub back : List Event
   pub is : since ≡ front ++ back
@@ -30,22 +30,22 @@ pub record WasTurnedAway (o : Opening) (before since : List Event) (manager : �
 abbrev pub IsTakenUpAt : World → ℕ → ℕ → Pending → Type 0
 IsTakenUpAt w manager from p = (x : Site) × (slice_get w.sites manager ≡ Some x) × IsTakenUp (x.books p.page) from p.request
 
--- its Ask is on its way, or it was taken up, or turned away, or the page's segment is being purged
+-- its Ask is on its way, or it was taken up, or the manager took up none at some time, or the page's segment is being purged
 abbrev pub RequestGoesOn : Opening → List Event → List Event → ℕ → ℕ → Pending → Type 0
 RequestGoesOn o before since manager from p =
     NoteGoes (run o (before ++ since)).world p.page from manager (Ask p.request p.kind)
-    ⊎ (IsTakenUpAt (run o (before ++ since)).world manager from p ⊎ (WasTurnedAway o before since manager p.page ⊎ IsPurgedSomewhere (run o (before ++ since)).world p.page.seg))
+    ⊎ (IsTakenUpAt (run o (before ++ since)).world manager from p ⊎ (TookNone o before since manager p.page ⊎ IsPurgedSomewhere (run o (before ++ since)).world p.page.seg))
 
--- each request that the site has pending at this manager goes on; every page that can be attached is in the limits
+-- each request that the site has pending at this manager goes on
 abbrev pub RequestsGoOn : Opening → List Event → List Event → ℕ → ℕ → Type 0
 RequestsGoOn o before since manager from = (x : Site) (p : Pending) → slice_get (run o (before ++ since)).world.sites from ≡ Some x → Contains x.pending p
-    → manager_of (sites_of o) p.page ≡ manager → IsTrue (in_limits (sites_of o) p.page) → RequestGoesOn o before since manager from p
+    → manager_of (sites_of o) p.page ≡ manager → RequestGoesOn o before since manager from p
 
 -- the page's manager has started the request's transaction
 abbrev pub IsStarted : World → ℕ → Pending → Type 0
 IsStarted w from p = (x : Site) × (slice_get w.sites (manager_of w.count p.page) ≡ Some x) × (p.request ≤ (x.books p.page).served from)
 
--- each request that is pending was started, or turned away in the later events, or its site has purged the segment
+-- each request that is pending was started, or its manager took up none at some time in the later events, or its site has purged the segment
 abbrev pub RequestsSettled : Opening → List Event → List Event → Type 0
-RequestsSettled o before since = (from : ℕ) (x : Site) (p : Pending) → slice_get (run o (before ++ since)).world.sites from ≡ Some x → Contains x.pending p → IsTrue (in_limits (sites_of o) p.page)
-    → IsStarted (run o (before ++ since)).world from p ⊎ (WasTurnedAway o before since (manager_of (sites_of o) p.page) p.page ⊎ (x.purged p.page.seg ≡ true))
+RequestsSettled o before since = (from : ℕ) (x : Site) (p : Pending) → slice_get (run o (before ++ since)).world.sites from ≡ Some x → Contains x.pending p
+    → IsStarted (run o (before ++ since)).world from p ⊎ (TookNone o before since (manager_of (sites_of o) p.page) p.page ⊎ (x.purged p.page.seg ≡ true))

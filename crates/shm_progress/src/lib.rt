@@ -17,7 +17,8 @@ pub use purging::{purges_end, purges_go_on};
 pub use queues::none_waits_for_nothing;
 pub use requests::{requests_end, requests_go_on};
 pub use rounds::{
-    rounds_exist, rounds_settle_calls_and_purges, rounds_settle_requests, rounds_settle_transactions,
+    rounds_exist, rounds_settle_calls_and_purges, rounds_settle_requests,
+    rounds_settle_transactions,
 };
 pub use serving::{calls_end, calls_go_on};
 pub use transactions::{transactions_end, transactions_go_on};

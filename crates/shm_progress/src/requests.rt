@@ -1,13 +1,13 @@
 //! Requests are taken up.
-ghost use Rattle.std.specs.Prelude.{◌≡◌, ℕ, ◌⊎◌, false, List, [], ◌∷◌, ◌++◌, Some, IsTrue, Contains, slice_get};
-ghost use Rattle.shm_place.specs.Page.{in_limits, manager_of};
+ghost use Rattle.std.specs.Prelude.{◌≡◌, ℕ, ◌⊎◌, false, List, [], ◌∷◌, ◌++◌, Some, Contains, slice_get};
+ghost use Rattle.shm_place.specs.Page.{manager_of};
 ghost use Rattle.shm_model.specs.Site.{Pending, Site};
 ghost use Rattle.shm_model.specs.World.{IsOpening, Opening, is_full, run, sites_of};
 ghost use Rattle.shm_model.specs.declared.event.Event.{Event};
 ghost use Rattle.shm_model.specs.declared.event.Event.TheVariants.{Tick};
 ghost use Rattle.shm_progress.specs.Deliveries.{IsAtRest};
 ghost use Rattle.shm_progress.specs.OnTheWay.{NothingLost};
-ghost use Rattle.shm_progress.specs.Requests.{IsTakenUpAt, RequestsGoOn, WasTurnedAway};
+ghost use Rattle.shm_progress.specs.Requests.{IsTakenUpAt, RequestsGoOn, TookNone};
 ghost use Rattle.shm_progress.specs.Transactions.{IsPurgedSomewhere, NotRestarted};
 
 /// Requests go on: once a site ticked, as long as nothing is lost and a manager doesn't restart, each request that the site has pending
@@ -19,11 +19,12 @@ pub fn requests_go_on()
         → is_full (run o ((earlier ++ (Tick site ∷ [])) ++ later)).world ≡ false → RequestsGoOn o (earlier ++ (Tick site ∷ [])) later manager site }
 {}
 
-/// Requests end: if nothing is on its way any more then, each of them was taken up, or turned away since, or is purged.
+/// Requests end: if nothing is on its way any more then, each of them was taken up, or the manager took up none of the page at
+/// some time since, or the segment is being purged.
 pub fn requests_end()
     ensures { (o : Opening) (earlier later : List Event) (site manager : ℕ) (x : Site) (p : Pending) → IsOpening o → NothingLost later → NotRestarted manager later
         → is_full (run o ((earlier ++ (Tick site ∷ [])) ++ later)).world ≡ false → IsAtRest (run o ((earlier ++ (Tick site ∷ [])) ++ later)).world
-        → slice_get (run o ((earlier ++ (Tick site ∷ [])) ++ later)).world.sites site ≡ Some x → Contains x.pending p → manager_of (sites_of o) p.page ≡ manager → IsTrue (in_limits (sites_of o) p.page)
+        → slice_get (run o ((earlier ++ (Tick site ∷ [])) ++ later)).world.sites site ≡ Some x → Contains x.pending p → manager_of (sites_of o) p.page ≡ manager
         → IsTakenUpAt (run o ((earlier ++ (Tick site ∷ [])) ++ later)).world manager site p
-        ⊎ (WasTurnedAway o (earlier ++ (Tick site ∷ [])) later manager p.page ⊎ IsPurgedSomewhere (run o ((earlier ++ (Tick site ∷ [])) ++ later)).world p.page.seg) }
+        ⊎ (TookNone o (earlier ++ (Tick site ∷ [])) later manager p.page ⊎ IsPurgedSomewhere (run o ((earlier ++ (Tick site ∷ [])) ++ later)).world p.page.seg) }
 {}

@@ -8,7 +8,7 @@ ghost use Rattle.shm_progress.specs.Requests.{RequestsSettled};
 ghost use Rattle.shm_progress.specs.Rounds.{AllTick, ManagersSettled, NoneRestarted, Round, Settled};
 
 /// Rounds exist: from every world that some events lead to, each site's tick and then some deliveries, with no loss and no restart, leave
-/// nothing on its way. So the laws on rounds are about each world.
+/// nothing on its way. So the laws on rounds are about each world, as long as no more envelopes are sent than a world counts.
 pub fn rounds_exist()
     ensures { (o : Opening) (events : List Event) → Round o events }
 {}
@@ -29,7 +29,7 @@ pub fn rounds_settle_transactions()
 {}
 
 /// Rounds settle requests: where none of those events restarts a site, each request that is still pending has had its transaction
-/// started, or was turned away among them, or its site has purged the segment.
+/// started, or its manager took up none of the page at some time among them, or its site has purged the segment.
 pub fn rounds_settle_requests()
     ensures { (o : Opening) (earlier later : List Event) → IsOpening o → NothingLost later → NoneRestarted later → AllTick (sites_of o) later
         → is_full (run o (earlier ++ later)).world ≡ false → IsAtRest (run o (earlier ++ later)).world → RequestsSettled o earlier later }

@@ -1,5 +1,5 @@
 -- A purge goes on until it is answered, whatever else happens, as long as nothing is lost.
-use Rattle.std.proofs.Common.{◌≡◌, ◌≢◌, ℕ, ◌⊎◌, inl, inr, Bool, true, false, List, [], ◌∷◌, ◌++◌, Option, Some, None, length, slice_get, slice_set, refl, sym, ◌∙◌, ap, subst, Contains}
+use Rattle.std.proofs.Common.{◌≡◌, ◌≢◌, ℕ, ◌⊎◌, inl, inr, Bool, true, false, List, ◌∷◌, ◌++◌, Option, Some, None, length, slice_get, slice_set, refl, sym, ◌∙◌, ap, subst, Contains}
 use Rattle.std.proofs.lemmas.Bool.{cases_eq, cond_both, false_from_ne_true}
 use Rattle.shm_model.specs.declared.event.Event.{Event}
 use Rattle.shm_model.specs.declared.event.Event.TheVariants.{Tick as TickEvent}
@@ -8,7 +8,7 @@ use Rattle.shm_model.specs.SegmentCalls.{purge_envelope}
 use Rattle.shm_model.specs.Site.{Site}
 use Rattle.shm_model.specs.Access.{Step}
 use Rattle.shm_model.specs.Step.{deliver, step}
-use Rattle.shm_model.specs.World.{IsOpening, Next, Opening, Run, World, begun, extended, is_full, live, next, run, run_on, step_site, stepped, without}
+use Rattle.shm_model.specs.World.{IsOpening, Next, Opening, World, is_full, live, next, run, step_site, stepped, without}
 use Rattle.shm_laws.proofs.RunInduction.{run-shape}
 use Rattle.shm_laws.proofs.Sound.{set-here, set-there}
 use Rattle.shm_laws.proofs.CallsTurn.{desk_of}

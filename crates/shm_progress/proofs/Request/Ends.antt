@@ -1,7 +1,7 @@
--- After a round without restarts each request was started or turned away in it.
-use Rattle.std.proofs.Common.{◌≡◌, ℕ, ◌≤◌, ◌⊎◌, inl, inr, true, false, List, [], ◌∷◌, ◌++◌, Some, append_assoc, IsTrue, slice_get, refl, sym, ◌∙◌, ap, subst, Contains}
+-- After a round without restarts each request was started, or its manager took up none at some time in it.
+use Rattle.std.proofs.Common.{◌≡◌, ℕ, ◌≤◌, ◌⊎◌, inl, inr, true, false, List, [], ◌∷◌, ◌++◌, Some, append_assoc, slice_get, refl, sym, ◌∙◌, ap, subst, Contains}
 use Rattle.shm_place.specs.declared.page.PageId.{PageId}
-use Rattle.shm_place.specs.Page.{in_limits, manager_of}
+use Rattle.shm_place.specs.Page.{manager_of}
 use Rattle.shm_model.specs.declared.event.Event.{Event}
 use Rattle.shm_model.specs.declared.event.Event.TheVariants.{Tick}
 use Rattle.shm_model.specs.Book.{Waiting, is_waiting}
@@ -10,7 +10,7 @@ use Rattle.shm_model.specs.World.{IsOpening, Opening, World, is_full, run, sites
 use Rattle.shm_laws.proofs.RunInduction.{run-shape}
 use Rattle.shm_progress.specs.Deliveries.{IsAtRest}
 use Rattle.shm_progress.specs.OnTheWay.{NothingLost}
-use Rattle.shm_progress.specs.Requests.{IsStarted, IsTakenUp, IsTakenUpAt, RequestsSettled, WasTurnedAway}
+use Rattle.shm_progress.specs.Requests.{IsStarted, IsTakenUp, IsTakenUpAt, RequestsSettled, TookNone}
 use Rattle.shm_progress.specs.Rounds.{AllTick, NoneRestarted}
 use Rattle.shm_progress.specs.Transactions.{IsPurgedSomewhere, NotRestarted}
 use Rattle.shm_progress.proofs.Round.{Split, since, split}
@@ -28,7 +28,7 @@ module _ (o : Opening) (earlier later : List Event) (s : ℕ) (tick : Split late
   pub all-events : before ++ tick.back ≡ earlier ++ later
   all-events = whole tick.back ∙ ap (λ es. earlier ++ es) (sym tick.is)
 
-  pub turned-in : (m : ℕ) (q : PageId) → WasTurnedAway o before tick.back m q → WasTurnedAway o earlier later m q
+  pub turned-in : (m : ℕ) (q : PageId) → TookNone o before tick.back m q → TookNone o earlier later m q
   turned-in m q t = record {
     front = tick.front ++ (Tick s ∷ t.front);
     back = t.back;
@@ -47,7 +47,7 @@ module _ (o : Opening) (opening : IsOpening o) (earlier later : List Event) (kep
   abbrev w : World
   w = (run o (earlier ++ later)).world
 
-  module _ (s : ℕ) (x : Site) (p : Pending) (found : slice_get w.sites s ≡ Some x) (here : Contains x.pending p) (limits : IsTrue (in_limits (sites_of o) p.page)) where
+  module _ (s : ℕ) (x : Site) (p : Pending) (found : slice_get w.sites s ≡ Some x) (here : Contains x.pending p) where
     started : IsTakenUpAt w (manager_of (sites_of o) p.page) s p → IsStarted w s p
     started (y, at, taken) =
         (y, ap (λ n. slice_get w.sites (manager_of n p.page)) (run-shape o (earlier ++ later)).count ∙ at, by-taken taken)
@@ -57,28 +57,28 @@ module _ (o : Opening) (opening : IsOpening o) (earlier later : List Event) (kep
             absurd (none-waits (y.books p.page).waiting s p.request ((managers-settle o opening earlier later kept unrestarted ticks free rest).served (manager_of (sites_of o) p.page) y p.page at) waits)
         by-taken (inr low) = low
 
-    settle-one : IsStarted w s p ⊎ (WasTurnedAway o earlier later (manager_of (sites_of o) p.page) p.page ⊎ (x.purged p.page.seg ≡ true))
+    settle-one : IsStarted w s p ⊎ (TookNone o earlier later (manager_of (sites_of o) p.page) p.page ⊎ (x.purged p.page.seg ≡ true))
     settle-one = by-end (ends-at found rest)
       where
         tick : Split later (Tick s)
         tick = split o opening earlier later kept ticks free rest s x found
 
         ends-at : slice_get w.sites s ≡ Some x → IsAtRest w → IsTakenUpAt w (manager_of (sites_of o) p.page) s p
-            ⊎ (WasTurnedAway o ((earlier ++ tick.front) ++ (Tick s ∷ [])) tick.back (manager_of (sites_of o) p.page) p.page ⊎ IsPurgedSomewhere w p.page.seg)
+            ⊎ (TookNone o ((earlier ++ tick.front) ++ (Tick s ∷ [])) tick.back (manager_of (sites_of o) p.page) p.page ⊎ IsPurgedSomewhere w p.page.seg)
         ends-at =
             subst (λ es. slice_get (run o es).world.sites s ≡ Some x → IsAtRest (run o es).world → IsTakenUpAt (run o es).world (manager_of (sites_of o) p.page) s p
-            ⊎ (WasTurnedAway o ((earlier ++ tick.front) ++ (Tick s ∷ [])) tick.back (manager_of (sites_of o) p.page) p.page ⊎ IsPurgedSomewhere (run o es).world p.page.seg)) (all-events o earlier later s tick)
+            ⊎ (TookNone o ((earlier ++ tick.front) ++ (Tick s ∷ [])) tick.back (manager_of (sites_of o) p.page) p.page ⊎ IsPurgedSomewhere (run o es).world p.page.seg)) (all-events o earlier later s tick)
             (λ at quiet. taken-at-rest o ((earlier ++ tick.front) ++ (Tick s ∷ [])) tick.back (manager_of (sites_of o) p.page) s x p
             (requests-go-on o opening (manager_of (sites_of o) p.page) s (earlier ++ tick.front) tick.back (since o opening earlier later kept ticks free rest s x found)
             (back-unrestarted (manager_of (sites_of o) p.page) tick.front (Tick s) tick.back (subst (NotRestarted (manager_of (sites_of o) p.page)) tick.is (unrestarted (manager_of (sites_of o) p.page))))
-            (subst (λ es. is_full (run o es).world ≡ false) (sym (all-events o earlier later s tick)) free)) quiet at here refl limits)
+            (subst (λ es. is_full (run o es).world ≡ false) (sym (all-events o earlier later s tick)) free)) quiet at here refl)
 
         by-end : IsTakenUpAt w (manager_of (sites_of o) p.page) s p
-            ⊎ (WasTurnedAway o ((earlier ++ tick.front) ++ (Tick s ∷ [])) tick.back (manager_of (sites_of o) p.page) p.page ⊎ IsPurgedSomewhere w p.page.seg)
-            → IsStarted w s p ⊎ (WasTurnedAway o earlier later (manager_of (sites_of o) p.page) p.page ⊎ (x.purged p.page.seg ≡ true))
+            ⊎ (TookNone o ((earlier ++ tick.front) ++ (Tick s ∷ [])) tick.back (manager_of (sites_of o) p.page) p.page ⊎ IsPurgedSomewhere w p.page.seg)
+            → IsStarted w s p ⊎ (TookNone o earlier later (manager_of (sites_of o) p.page) p.page ⊎ (x.purged p.page.seg ≡ true))
         by-end (inl taken) = inl (started taken)
         by-end (inr (inl turned)) = inr (inl (turned-in o earlier later s tick (manager_of (sites_of o) p.page) p.page turned))
         by-end (inr (inr purged)) = inr (inr (purged-too o opening earlier later kept unrestarted ticks free rest s x found p.page purged))
 
   pub requests-settle : RequestsSettled o earlier later
-  requests-settle s x p found here limits = settle-one s x p found here limits
+  requests-settle s x p found here = settle-one s x p found here

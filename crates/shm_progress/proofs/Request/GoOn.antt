@@ -1,5 +1,5 @@
 -- A request goes on until it is taken up, as long as nothing is lost and its manager doesn't restart.
-use Rattle.std.proofs.Common.{◌≡◌, ◌≢◌, ℕ, ◌+◌, ◌%◌, ◌<◌, ◌≤◌, ◌⊎◌, inl, inr, Bool, true, false, ◌==◌, Option, Some, None, List, [], ◌∷◌, ◌++◌, append_assoc, append-nil, IsTrue, slice_get, slice_set, arith, refl, sym, ◌∙◌, ap, subst, Contains}
+use Rattle.std.proofs.Common.{◌≡◌, ◌≢◌, ℕ, ◌+◌, ◌%◌, ◌<◌, ◌≤◌, ◌⊎◌, inl, inr, Bool, true, false, ◌==◌, Option, Some, None, List, [], ◌∷◌, ◌++◌, append_assoc, slice_get, slice_set, arith, refl, sym, ◌∙◌, ap, subst, Contains}
 use Rattle.std.proofs.lemmas.Bool.{cases_eq, cases_Bool, cond_both, eqb-true}
 use Rattle.std.proofs.lemmas.Option.{slice_get_within}
 use Rattle.shm_place.specs.declared.page.PageId.{PageId}
@@ -12,18 +12,18 @@ use Rattle.shm_model.specs.Message.{Envelope, Input, Deliver, Restart, Tick}
 use Rattle.shm_model.specs.Site.{Pending, Site}
 use Rattle.shm_model.specs.Access.{Step}
 use Rattle.shm_model.specs.Step.{ask_again, deliver, step}
-use Rattle.shm_model.specs.World.{IsOpening, Next, Opening, Run, World, begun, extended, is_full, live, next, run, run_on, sites_of, step_site, stepped, without}
+use Rattle.shm_model.specs.World.{IsOpening, Next, Opening, Run, World, is_full, live, next, run, sites_of, step_site, stepped, without}
 use Rattle.shm_laws.proofs.RunInduction.{Shape, run-shape}
-use Rattle.shm_laws.proofs.RunsOn.{run_on-append}
 use Rattle.shm_laws.proofs.Sound.{set-here, set-there}
 use Rattle.shm_laws.proofs.Headline.{size-of}
 use Rattle.shm_progress.specs.Deliveries.{IsAtRest}
 use Rattle.shm_progress.specs.OnTheWay.{IsOnItsWay, NothingLost, is_loss}
-use Rattle.shm_progress.specs.Requests.{IsTakenUp, IsTakenUpAt, RequestGoesOn, RequestsGoOn, TakesNone, WasTurnedAway}
+use Rattle.shm_progress.specs.Requests.{IsTakenUp, IsTakenUpAt, RequestGoesOn, RequestsGoOn, TakesNone, TookNone}
 use Rattle.shm_progress.specs.Transactions.{IsPurgedSomewhere, NoteGoes, NotRestarted}
 use Rattle.shm_progress.proofs.Along.{along, free-first, run-more, run-started}
-use Rattle.shm_progress.proofs.OnTheWay.{Fresh, Moved, same, drops, steps, OnlySent, Takes, free-before, joins, moved, others-stay, run-fresh, stays}
-use Rattle.shm_progress.proofs.Request.Pending.{step-before, tick-asks}
+use Rattle.shm_progress.proofs.OnTheWay.{Fresh, Moved, same, drops, steps, OnlySent, Takes, joins, moved, others-stay, run-fresh, stays}
+use Rattle.shm_progress.proofs.Request.Limits.{pending-limits}
+use Rattle.shm_progress.proofs.Request.Pending.{Placed, step-before, tick-asks}
 use Rattle.shm_progress.proofs.Request.Steps.{ask-handed, step-keeps}
 use Rattle.shm_progress.proofs.Transfer.Gone.{purged-here, purged-still}
 use Rattle.shm_progress.proofs.Transfer.GoOn.{Keeps, both-kept}
@@ -33,7 +33,7 @@ same-site : (found : Option Site) (x y : Site) → found ≡ Some x → found �
 same-site found x y p q = cc
 
 -- what was turned away stays so
-turned-longer : (o : Opening) (before done : List Event) (e : Event) (m : ℕ) (q : PageId) → WasTurnedAway o before done m q → WasTurnedAway o before (done ++ (e ∷ [])) m q
+turned-longer : (o : Opening) (before done : List Event) (e : Event) (m : ℕ) (q : PageId) → TookNone o before done m q → TookNone o before (done ++ (e ∷ [])) m q
 turned-longer o before done e m q t = record {
   front = t.front;
   back = t.back ++ (e ∷ []);
@@ -52,12 +52,12 @@ module _ (o : Opening) (opening : IsOpening o) (before : List Event) (m s : ℕ)
 
   -- where a request is in this world, or that it was turned away
   abbrev Is : World → Pending → Type 0
-  Is u p = NoteGoes u p.page s m (Ask p.request p.kind) ⊎ (IsTakenUpAt u m s p ⊎ (WasTurnedAway o before (done ++ (e ∷ [])) m p.page ⊎ IsPurgedSomewhere u p.page.seg))
+  Is u p = NoteGoes u p.page s m (Ask p.request p.kind) ⊎ (IsTakenUpAt u m s p ⊎ (TookNone o before (done ++ (e ∷ [])) m p.page ⊎ IsPurgedSomewhere u p.page.seg))
 
   abbrev All : World → Type 0
-  All u = (x : Site) (p : Pending) → slice_get u.sites s ≡ Some x → Contains x.pending p → manager_of (sites_of o) p.page ≡ m → IsTrue (in_limits (sites_of o) p.page) → Is u p
+  All u = (x : Site) (p : Pending) → slice_get u.sites s ≡ Some x → Contains x.pending p → manager_of (sites_of o) p.page ≡ m → Is u p
 
-  turned-now : (x : Site) (q : PageId) → slice_get w.sites m ≡ Some x → TakesNone (x.books q) → WasTurnedAway o before (done ++ (e ∷ [])) m q
+  turned-now : (x : Site) (q : PageId) → slice_get w.sites m ≡ Some x → TakesNone (x.books q) → TookNone o before (done ++ (e ∷ [])) m q
   turned-now x q found full = record { front = done; back = e ∷ []; is = refl; site = x; found = found; full = full }
 
   manager-small : (q : PageId) → manager_of (sites_of o) q ≡ m → m < w.count
@@ -68,7 +68,7 @@ module _ (o : Opening) (opening : IsOpening o) (before : List Event) (m s : ℕ)
 
   module _ (goes : RequestsGoOn o before done m s) where
     same-goes : All w
-    same-goes x p found here manager limits = still (goes x p found here manager limits)
+    same-goes x p found here manager = still (goes x p found here manager)
       where
         still : RequestGoesOn o before done m s p → Is w p
         still (inl asked) = inl asked
@@ -78,7 +78,7 @@ module _ (o : Opening) (opening : IsOpening o) (before : List Event) (m s : ℕ)
 
     -- one envelope goes that was for no site
     dropped-goes : (k : ℕ) (f : Envelope) → live w k ≡ Some f → slice_get w.sites f.to ≡ None → All (without w k)
-    dropped-goes k f gone nowhere x p found here manager limits = still (goes x p found here manager limits)
+    dropped-goes k f gone nowhere x p found here manager = still (goes x p found here manager)
       where
         still : RequestGoesOn o before done m s p → Is (without w k) p
         still (inl asked) = inl (others-stay w (shape.sites ∙ sym shape.count) k f gone nowhere (note_envelope s m p.page (Ask p.request p.kind)) x (manager-small p.page manager) asked)
@@ -87,14 +87,14 @@ module _ (o : Opening) (opening : IsOpening o) (before : List Event) (m s : ℕ)
         still (inr (inr (inr (t, y, at, is)))) = inr (inr (inr (t, y, at, is)))
 
     -- a site steps
-    module _ (fresh : Fresh w) (gone : ℕ → Bool) (t : ℕ) (x : Site) (input : Input) (found : slice_get w.sites t ≡ Some x) (takes : Takes w gone t input) (only : OnlySent w gone) (unrestarted : t ≡ m → input ≢ Restart) where
+    module _ (fresh : Fresh w) (gone : ℕ → Bool) (t : ℕ) (x : Site) (input : Input) (found : slice_get w.sites t ≡ Some x) (takes : Takes w gone t input) (only : OnlySent w gone) (unrestarted : t ≡ m → input ≢ Restart) (free : is_full w ≡ false) where
       abbrev st : Step
       st = step w.count t x input
 
       abbrev u : World
       u = (stepped (record w { gone = gone }) t input st).world
 
-      module _ (z : Site) (p : Pending) (at_s : slice_get w.sites s ≡ Some z) (manager : manager_of (sites_of o) p.page ≡ m) (limits : IsTrue (in_limits (sites_of o) p.page)) where
+      module _ (z : Site) (p : Pending) (at_s : slice_get w.sites s ≡ Some z) (manager : manager_of (sites_of o) p.page ≡ m) (limits : in_limits (sites_of o) p.page ≡ true) where
         -- the Ask is handed over to the manager
         asked-now : input ≡ Deliver (note_envelope s m p.page (Ask p.request p.kind)) → m ≡ t → (x.purged p.page.seg ≡ true) ⊎ (x.purged p.page.seg ≡ false) → Is u p
         asked-now handed here (inl is) = inr (inr (inr (purged-here w gone t x input found p.page.seg is)))
@@ -142,11 +142,11 @@ module _ (o : Opening) (opening : IsOpening o) (before : List Event) (m s : ℕ)
         was-still (inr (inr (inr purged))) = inr (inr (inr (purged-still w gone t x input found p.page.seg purged)))
 
       stepped-goes : All u
-      stepped-goes y p now here manager limits = by-site (cases_eq s t)
+      stepped-goes y p now here manager = by-site (cases_eq s t)
         where
-          by-before : s ≡ t → Contains x.pending p ⊎ Contains st.sent (ask_again w.count t p) → Is u p
-          by-before it (inl was) = was-still x p (ap (slice_get w.sites) it ∙ found) manager limits (goes x p (ap (slice_get w.sites) it ∙ found) was manager limits)
-          by-before it (inr asked) =
+          by-before : s ≡ t → Contains x.pending p ⊎ (Contains st.sent (ask_again w.count t p) × Placed x p.page) → Is u p
+          by-before it (inl was) = was-still x p (ap (slice_get w.sites) it ∙ found) manager (pending-limits o opening (before ++ done) free t x p found was) (goes x p (ap (slice_get w.sites) it ∙ found) was manager)
+          by-before it (inr (asked, placed)) =
               inl (joins w fresh gone t x input only (note_envelope s m p.page (Ask p.request p.kind))
               (subst (λ k. Contains st.sent (note_envelope k m p.page (Ask p.request p.kind))) (sym it)
               (subst (λ k. Contains st.sent (note_envelope t k p.page (Ask p.request p.kind))) (ap (λ n. manager_of n p.page) shape.count ∙ manager) asked)))
@@ -157,13 +157,13 @@ module _ (o : Opening) (opening : IsOpening o) (before : List Event) (m s : ℕ)
               by-before it (step-before w.count t x p input (subst (λ (k : Site). Contains k.pending p) mine here))
           by-site (inr there) =
               let at_s : slice_get w.sites s ≡ Some y = sym (set-there w.sites t s st.site there) ∙ now in
-              was-still y p at_s manager limits (goes y p at_s here manager limits)
+              was-still y p at_s manager (pending-limits o opening (before ++ done) free s y p at_s here) (goes y p at_s here manager)
 
     moved-goes : (u : World) → is_loss e ≡ false → e ≢ RestartEvent m → is_full w ≡ false → Moved w e u → All u
     moved-goes u kept unrestarted free same = same-goes
     moved-goes u kept unrestarted free (drops k f h why) = dropped-goes k f h (why kept free)
     moved-goes u kept unrestarted free (steps gone t x input found honest takes only restarts) =
-        stepped-goes (run-fresh o (before ++ done)) gone t x input found takes only (λ here is. unrestarted (restarts is ∙ ap RestartEvent here))
+        stepped-goes (run-fresh o (before ++ done)) gone t x input found takes only (λ here is. unrestarted (restarts is ∙ ap RestartEvent here)) free
 
   pub next-goes : Keeps m e → is_full w ≡ false → RequestsGoOn o before done m s → RequestsGoOn o before (done ++ (e ∷ [])) m s
   next-goes kept free goes =
@@ -197,7 +197,7 @@ module _ (o : Opening) (earlier : List Event) (m s : ℕ) where
   tick-goes free =
       let asked : Asked (next first (TickEvent s)).world = ticked free (slice_get first.sites s) refl in
       let all : Asked (run o (before ++ [])).world = subst (λ (r : Run). Asked r.world) (sym (run-started o earlier (TickEvent s))) asked in
-      λ x p found here manager limits. inl (all x p found here manager)
+      λ x p found here manager. inl (all x p found here manager)
 
 pub requests-go-on : (o : Opening) → IsOpening o → (m s : ℕ) (earlier later : List Event) → NothingLost later → NotRestarted m later → is_full (run o ((earlier ++ (TickEvent s ∷ [])) ++ later)).world ≡ false
     → RequestsGoOn o (earlier ++ (TickEvent s ∷ [])) later m s
@@ -208,13 +208,13 @@ requests-go-on o opening m s earlier later kept unrestarted free =
 
 -- where nothing is on its way it was taken up or turned away
 pub taken-at-rest : (o : Opening) (before since : List Event) (m s : ℕ) (x : Site) (p : Pending) → RequestsGoOn o before since m s → IsAtRest (run o (before ++ since)).world
-    → slice_get (run o (before ++ since)).world.sites s ≡ Some x → Contains x.pending p → manager_of (sites_of o) p.page ≡ m → IsTrue (in_limits (sites_of o) p.page)
-    → IsTakenUpAt (run o (before ++ since)).world m s p ⊎ (WasTurnedAway o before since m p.page ⊎ IsPurgedSomewhere (run o (before ++ since)).world p.page.seg)
-taken-at-rest o before since m s x p goes rest found here manager limits = by-way (goes x p found here manager limits)
+    → slice_get (run o (before ++ since)).world.sites s ≡ Some x → Contains x.pending p → manager_of (sites_of o) p.page ≡ m
+    → IsTakenUpAt (run o (before ++ since)).world m s p ⊎ (TookNone o before since m p.page ⊎ IsPurgedSomewhere (run o (before ++ since)).world p.page.seg)
+taken-at-rest o before since m s x p goes rest found here manager = by-way (goes x p found here manager)
   where
     nothing : (f : Envelope) → IsOnItsWay (run o (before ++ since)).world f → ⊥
     nothing f (k, h) = let none = rest k in cc
 
-    by-way : RequestGoesOn o before since m s p → IsTakenUpAt (run o (before ++ since)).world m s p ⊎ (WasTurnedAway o before since m p.page ⊎ IsPurgedSomewhere (run o (before ++ since)).world p.page.seg)
+    by-way : RequestGoesOn o before since m s p → IsTakenUpAt (run o (before ++ since)).world m s p ⊎ (TookNone o before since m p.page ⊎ IsPurgedSomewhere (run o (before ++ since)).world p.page.seg)
     by-way (inl asked) = absurd (nothing (note_envelope s m p.page (Ask p.request p.kind)) asked)
     by-way (inr other) = other

@@ -1,8 +1,9 @@
 -- What is pending after a site's step was pending before, or is asked for now.
-use Rattle.std.proofs.Common.{◌≡◌, ℕ, zero, suc, ◌+◌, ◌⊎◌, inl, inr, Bool, true, false, ◌==◌, not, Option, Some, None, Result, Ok, Err, List, [], ◌∷◌, length, filter, map, nat_lt, arith, refl, sym, subst, Contains}
-use Rattle.std.proofs.lemmas.Bool.{cond_both}
+use Rattle.std.proofs.Common.{◌≡◌, ℕ, ◌<◌, zero, suc, ◌+◌, ◌⊎◌, inl, inr, Bool, true, false, ◌==◌, not, Option, Some, None, Result, Ok, Err, List, [], ◌∷◌, length, filter, map, nat_lt, arith, refl, sym, subst, Contains, ◌&&◌, ap}
+use Rattle.std.proofs.lemmas.Bool.{cond_both, ltb-true}
 use Rattle.std.proofs.lemmas.List.Elements.{Contains-append_left}
 use Rattle.shm_place.specs.declared.page.PageId.{PageId}
+use Rattle.shm_place.specs.Offset.{rounded}
 use Rattle.shm_place.specs.Page.{same_page}
 use Rattle.shm_model.specs.declared.kind.Kind.{Kind}
 use Rattle.shm_model.specs.declared.kind.Kind.TheVariants.{Read, Write}
@@ -10,7 +11,8 @@ use Rattle.shm_model.specs.Entry.{Entry, Note, Ask, Clear, Cleared, Hand, Page, 
 use Rattle.shm_model.specs.Book.{Outcome, Ignored, UsedUp, Taken, greatest, on_ask, on_cleared, on_confirm}
 use Rattle.shm_model.specs.Message.{Envelope, Input, Load, Store, Begin, Deliver, Tick, Restart, Message, Of, Call, Replies, Purge, Purged}
 use Rattle.shm_model.specs.Site.{Frames, Pending, Site, at_page, is_attached}
-use Rattle.shm_model.specs.Access.{Place, Step, ask_for, is_pending, load_if, put_pending, right, store_if}
+use Rattle.shm_model.specs.Calls.{Attachment}
+use Rattle.shm_model.specs.Access.{Place, Step, place_in, right_through, ask_for, is_pending, load_if, put_pending, right, store_if}
 use Rattle.shm_model.specs.Transfer.{arranged, drop_first, is_nothing, is_settled, limited, on_note, settle, to_book, to_entry}
 use Rattle.shm_model.specs.Step.{ask_again, foreign, on_message, step, tick_envelopes}
 use Rattle.shm_laws.proofs.CallsAreQuiet.{begin-quiet, call-quiet, purged-quiet, reply-quiet}
@@ -70,30 +72,47 @@ limited-pending (Some f) x = cond_both (nat_lt f.limit (length f.copies)) (drop_
     dropped-pending [] = refl
     dropped-pending (p ∷ ps) = refl
 
+-- a page of one of the site's attachments
+pub record Placed (x : Site) (page : PageId) : Type 0 where
+  pub number : ℕ
+  pub offset : ℕ
+  pub through : Attachment
+  pub is : x.attachments number ≡ Some through
+  pub low : offset < rounded through.size
+  pub page_is : (place_in through offset).page ≡ page
+
+right-placed : (x : Site) (a offset : ℕ) (for_store : Bool) (found : Option Attachment) (place : Place) → x.attachments a ≡ found → right_through found offset for_store ≡ Ok place → Placed x place.page
+right-placed x a offset for_store None place at is = cc
+right-placed x a offset for_store (Some t) place at is =
+    cond_both (for_store && t.ro) _ _ (λ r. r ≡ Ok place → Placed x place.page) (λ e h. cc)
+    (λ e. cond_both (nat_lt offset (rounded t.size)) _ _ (λ r. r ≡ Ok place → Placed x place.page)
+    (λ f h. let same : place_in t offset ≡ place = cc in record { number = a; offset = offset; through = t; is = at; low = ltb-true offset (rounded t.size) f; page_is = ap (λ (q : Place). q.page) same })
+    (λ f h. cc)) is
+
 module _ (sites s : ℕ) (x : Site) (p : Pending) where
   abbrev Before : Step → Type 0
-  Before st = Contains st.site.pending p → Contains x.pending p ⊎ Contains st.sent (ask_again sites s p)
+  Before st = Contains st.site.pending p → Contains x.pending p ⊎ (Contains st.sent (ask_again sites s p) × Placed x p.page)
 
-  same-before : {ps : List Pending} (sent : List Envelope) → ps ≡ x.pending → Contains ps p → Contains x.pending p ⊎ Contains sent (ask_again sites s p)
+  same-before : {ps : List Pending} (sent : List Envelope) → ps ≡ x.pending → Contains ps p → Contains x.pending p ⊎ (Contains sent (ask_again sites s p) × Placed x p.page)
   same-before sent same here = inl (subst (λ l. Contains l p) same here)
 
-  ask_for-before : (kind : Kind) (page : PageId) → Before (ask_for sites s kind page x)
-  ask_for-before kind page =
+  ask_for-before : (kind : Kind) (page : PageId) → Placed x page → Before (ask_for sites s kind page x)
+  ask_for-before kind page placed =
       cond_both (is_pending kind page x.pending) _ _ Before (λ e h. inl h)
       (λ e. cond_both (x.requests == greatest) _ _ Before (λ f h. inl h) (λ f h. asked (put-before (record { page = page; request = x.requests + 1; kind = kind }) x.pending p h)))
     where
       asked : Contains x.pending p ⊎ (record { page = page; request = x.requests + 1; kind = kind } ≡ p)
-          → Contains x.pending p ⊎ Contains (ask_again sites s (record { page = page; request = x.requests + 1; kind = kind }) ∷ []) (ask_again sites s p)
+          → Contains x.pending p ⊎ (Contains (ask_again sites s (record { page = page; request = x.requests + 1; kind = kind }) ∷ []) (ask_again sites s p) × Placed x p.page)
       asked (inl before) = inl before
-      asked (inr now) = inr (subst (λ (q : Pending). Contains (ask_again sites s q ∷ []) (ask_again sites s p)) (sym now) (contains-first (ask_again sites s p) []))
+      asked (inr now) = inr (subst (λ (q : Pending). Contains (ask_again sites s q ∷ []) (ask_again sites s p)) (sym now) (contains-first (ask_again sites s p) []), subst (Placed x) (ap (λ (q : Pending). q.page) now) placed)
 
-  load-before : (place : Result Place ℕ) → Before (load_if sites s place x)
-  load-before (Err refusal) = λ h. inl h
-  load-before (Ok place) = cond_both (readable (x.entries place.page)) _ _ Before (λ e h. inl h) (λ e. ask_for-before Read place.page)
+  load-before : (place : Result Place ℕ) → ((q : Place) → place ≡ Ok q → Placed x q.page) → Before (load_if sites s place x)
+  load-before (Err refusal) placed = λ h. inl h
+  load-before (Ok place) placed = cond_both (readable (x.entries place.page)) _ _ Before (λ e h. inl h) (λ e. ask_for-before Read place.page (placed place refl))
 
-  store-before : (place : Result Place ℕ) (byte : ℕ) → Before (store_if sites s place byte x)
-  store-before (Err refusal) byte = λ h. inl h
-  store-before (Ok place) byte = cond_both (writable (x.entries place.page)) _ _ Before (λ e h. inl h) (λ e. ask_for-before Write place.page)
+  store-before : (place : Result Place ℕ) (byte : ℕ) → ((q : Place) → place ≡ Ok q → Placed x q.page) → Before (store_if sites s place byte x)
+  store-before (Err refusal) byte placed = λ h. inl h
+  store-before (Ok place) byte placed = cond_both (writable (x.entries place.page)) _ _ Before (λ e h. inl h) (λ e. ask_for-before Write place.page (placed place refl))
 
   entry-before : (page : PageId) (row : Entry × Out) → Before (to_entry sites s page row x)
   entry-before page (e, out) =
@@ -123,8 +142,8 @@ module _ (sites s : ℕ) (x : Site) (p : Pending) where
   message-before from (Purged id) = same-before _ (purged-quiet from id x).pending
 
   pub step-before : (input : Input) → Before (step sites s x input)
-  step-before (Load a offset) = load-before (right x.attachments a offset false)
-  step-before (Store a offset byte) = store-before (right x.attachments a offset true) byte
+  step-before (Load a offset) = load-before (right x.attachments a offset false) (λ q. right-placed x a offset false (x.attachments a) q refl)
+  step-before (Store a offset byte) = store-before (right x.attachments a offset true) byte (λ q. right-placed x a offset true (x.attachments a) q refl)
   step-before (Begin request) = same-before _ (begin-quiet sites s request x).pending
   step-before (Deliver e) = cond_both (foreign sites s e) _ _ Before (λ h here. inl here) (λ h. message-before e.from e.message)
   step-before Tick = λ h. inl h

@@ -1,5 +1,5 @@
 -- A call goes on until it is answered, whatever else happens, as long as nothing is lost.
-use Rattle.std.proofs.Common.{◌≡◌, ◌≢◌, ℕ, ◌<◌, ◌≤◌, ◌⊎◌, inl, inr, Bool, true, false, List, [], ◌∷◌, ◌++◌, Option, Some, None, is_none, length, slice_get, slice_set, arith, refl, sym, ◌∙◌, ap, subst, Contains}
+use Rattle.std.proofs.Common.{◌≡◌, ◌≢◌, ℕ, ◌<◌, ◌≤◌, ◌⊎◌, inl, inr, Bool, true, false, List, ◌∷◌, ◌++◌, Option, Some, None, is_none, length, slice_get, slice_set, arith, refl, sym, ◌∙◌, ap, subst, Contains}
 use Rattle.std.proofs.lemmas.Bool.{cases_eq, cond_both}
 use Rattle.std.proofs.lemmas.Option.{slice_get_within}
 use Rattle.shm_model.specs.declared.call.Cred.{Cred}
@@ -13,7 +13,7 @@ use Rattle.shm_model.specs.SegmentCalls.{call_envelope, reply_envelope}
 use Rattle.shm_model.specs.Site.{Site, least_free}
 use Rattle.shm_model.specs.Access.{Step}
 use Rattle.shm_model.specs.Step.{deliver, step}
-use Rattle.shm_model.specs.World.{IsOpening, Next, Opening, Run, World, begun, extended, is_full, live, next, run, run_on, step_site, stepped, without}
+use Rattle.shm_model.specs.World.{IsOpening, Next, Opening, World, is_full, live, next, run, step_site, stepped, without}
 use Rattle.shm_laws.proofs.RunInduction.{run-shape}
 use Rattle.shm_laws.proofs.Sound.{set-here, set-there}
 use Rattle.shm_laws.proofs.CallsInvariant.{kept_number}
