@@ -1,8 +1,7 @@
 -- Asks: each line that is read is spelled so, and each that is spelled so is read.
-use Rattle.std.proofs.Common.{◌≡◌, ℕ, ◌<◌, ◌==◌, ◌&&◌, Bool, true, false, List, [], ◌∷◌, length, All, Option, None, Some, cond, nat_lt, refl, sym, ap, ap₂, subst, ◌∙◌, arith}
+use Rattle.std.proofs.Common.{◌≡◌, ℕ, ◌<◌, ◌==◌, ◌&&◌, Bool, true, false, List, ◌∷◌, length, None, Some, cond, nat_lt, refl, sym, ap, subst, ◌∙◌, arith}
 use Rattle.std.specs.Prelude.{codes}
 use Rattle.std.specs.Char.{is_ascii_graphic}
-use Rattle.std.specs.Fmt.{decimal}
 use Rattle.std.specs.List.{join_with_byte, list_all}
 use Rattle.std.specs.Str.{IsUtf8}
 use Rattle.std.proofs.lemmas.Bool.Decides.{nat_tests}
@@ -11,18 +10,16 @@ use Rattle.std.proofs.lemmas.List.Splits.{join_with_byte-slice_split}
 use Rattle.std.proofs.lemmas.List.Sums.{AllPass-from_list_all}
 use Rattle.std.proofs.lemmas.Str.{IsUtf8-from_ascii}
 use Rattle.std.proofs.lemmas.Str.Ascii.{IsAscii-from_all}
-use Rattle.shm_model.specs.declared.call.Op.{Op}
 use Rattle.shm_model.specs.declared.call.Request.TheVariants.{Op as OpRequest, DetachAt}
 use Rattle.shm_lines.proofs.OneWord.{IsPrinter, number, byte}
 use Rattle.shm_lines.proofs.ReadLemmas.{onto, onto2}
-use Rattle.shm_lines.proofs.StepLemmas.{step, some-is, cond-some, NoBlank, NoBlanks, NoBlank-test, words_of-join}
-use Rattle.shm_lines.specs.Words.{◌>>=◌, words_of}
-use Rattle.shm_wire.proofs.CallWords.{common-is, common-spelled}
+use Rattle.shm_lines.proofs.StepLemmas.{step, some-is, cond-some}
+use Rattle.shm_lines.specs.Words.{words_of}
+use Rattle.shm_wire.proofs.CallWords.{common-is}
 use Rattle.shm_wire.proofs.MessageWords.{took_page}
-use Rattle.shm_wire.proofs.Reading.{took, ended-is, prints, Reads, Sound, SoundReader, Spelled, by_verb-is, verb-is}
-use Rattle.shm_wire.proofs.SpelledMessages.{prints_page}
+use Rattle.shm_wire.proofs.Reading.{took, ended-is, Reads, Sound, SoundReader, by_verb-is, verb-is}
 use Rattle.shm_wire.specs.Asks.{Ask, IsAsk, IsAsked, IsTag, ask_line, ask_of_words, ask_words, asked_of, asked_words, begun_of, detach_of, is_tag, load_of, own, read_ask, show_of, store_of, tag_of}
-use Rattle.shm_wire.specs.Calls.{call_words, common_of}
+use Rattle.shm_wire.specs.Calls.{common_of}
 use Rattle.shm_wire.specs.Words.{by_verb, ended}
 use Rattle.shm_wire.specs.declared.ask.Asked.{Asked}
 use Rattle.shm_wire.specs.declared.ask.Asked.TheVariants.{Load, Store, Begin, Tick, Show}

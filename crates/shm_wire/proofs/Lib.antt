@@ -9,3 +9,4 @@ pub mod SpelledMessages
 pub mod SentWords
 pub mod AskWords
 pub mod SpelledAsks
+pub mod AnswerWords

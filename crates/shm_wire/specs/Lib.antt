@@ -6,3 +6,4 @@ pub mod Messages
 pub mod Sent
 pub mod SentOf
 pub mod Asks
+pub mod Answers

@@ -28,8 +28,9 @@ pub fn parse_ask(line: &[u8]) -> Option<Ask<'_>>
     })
 }
 
+/// The tag that a word is, if it is one.
 #[tactic(auto, using(crate::proofs::AskWords::graphic_is_utf8))]
-fn tag(word: &[u8]) -> Option<&str>
+pub fn tag(word: &[u8]) -> Option<&str>
     ensures { option_map (λ tag. tag.now) result ≡ tag_of word.now }
 {
     if word.is_empty() || word.len() > 32 || !is_graphic(word) {

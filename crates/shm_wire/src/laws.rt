@@ -1,5 +1,6 @@
 //! What holds of the definitions, whichever line is read.
 ghost use Rattle.std.specs.Prelude.{◌≡◌, ℕ, List, Some};
+ghost use Rattle.shm_wire.specs.Answers.{Answer, IsAnswer, answer_line, read_answer};
 ghost use Rattle.shm_wire.specs.Asks.{Ask, IsAsk, ask_line, read_ask};
 ghost use Rattle.shm_wire.specs.Sent.{Sent, IsSent, envelope_line, read_envelope};
 
@@ -13,4 +14,10 @@ pub fn envelopes_have_one_spelling()
 pub fn asks_have_one_spelling()
     ensures read { (bytes : List ℕ) (ask : Ask) → read_ask bytes ≡ Some ask → IsAsk ask × (bytes ≡ ask_line ask) }
     ensures spelled { (ask : Ask) → IsAsk ask → read_ask (ask_line ask) ≡ Some ask }
+{}
+
+/// Each answer has one spelling: what is read is spelled so, and what is spelled so is read.
+pub fn answers_have_one_spelling()
+    ensures read { (bytes : List ℕ) (answer : Answer) → read_answer bytes ≡ Some answer → IsAnswer answer × (bytes ≡ answer_line answer) }
+    ensures spelled { (answer : Answer) → IsAnswer answer → read_answer (answer_line answer) ≡ Some answer }
 {}

@@ -1,7 +1,14 @@
-//! What sites and callers say to each other on one stream, as lines of text: envelopes, each with where it was sent, and what callers
-//! ask of a site. Each has one spelling, a page's bytes are base64, and nothing else is read.
+//! What sites and callers say to each other on one stream, as lines of text.
+//!
+//! - An envelope, with where it was sent: `env FROM TO CLOCK INDEX PLACE KIND ..`. A page's bytes are base64.
+//! - What a caller asks of a site: `SITE TAG`, and what a script's line says, less the site.
+//! - What a caller is answered: `SITE TAG TEXT`.
+//!
+//! Each has one spelling: what is printed is read back equal, and nothing else is read. A line stands without its line feed.
 #![tactic(auto)]
 
+mod answer;
+mod answers;
 mod ask;
 mod asks;
 mod calls;
@@ -16,6 +23,8 @@ mod spelling;
 mod spelling_calls;
 mod words;
 
+pub use answer::Answer;
+pub use answers::parse_answer;
 pub use ask::{Ask, Asked};
 pub use asks::parse_ask;
 pub use parse::parse_envelope;

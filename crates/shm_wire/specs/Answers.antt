@@ -1,0 +1,45 @@
+-- The line that answers an ask: `SITE TAG`, and a text, which may have blanks.
+use Rattle.std.specs.Prelude.{◌≡◌, ℕ, Bool, true, if◌then◌else◌, List, [], ◌∷◌, drop, Option, None, Some}
+use Rattle.std.specs.Fmt.{decimal}
+use Rattle.std.specs.Int.{is_in_range}
+use Rattle.std.specs.List.{join_with_byte, list_all}
+use Rattle.shm_lines.specs.Words.{◌>>=◌, words_of, next_of, next_number, is_end}
+use Rattle.shm_lines.specs.Spelling.{IsNumber}
+use Rattle.shm_wire.specs.Asks.{IsTag, tag_of}
+use Rattle.shm_wire.specs.declared.answer.Answer.{Answer as CodeAnswer}
+
+-- printable ASCII, and blanks
+abbrev pub is_text : List ℕ → Bool
+is_text text = list_all (λ byte. is_in_range 32 126 byte) text
+
+abbrev pub text_of : List ℕ → Option (List ℕ)
+text_of text = if is_text text then Some text else None
+
+-- all words that are left make the text
+abbrev pub text_of_words : List (List ℕ) → Option (List ℕ)
+text_of_words words = if is_end words then None else text_of (join_with_byte 32 words)
+
+pub record Answer : Type 0 where
+  pub site : ℕ
+  pub tag : List ℕ
+  pub text : List ℕ
+
+abbrev pub answer_of : CodeAnswer → Answer
+answer_of answer = record { site = answer.site; tag = answer.tag.now; text = answer.text.now }
+
+-- the answers that have a line
+abbrev pub IsAnswer : Answer → Type 0
+IsAnswer answer = IsNumber answer.site × IsTag answer.tag × (is_text answer.text ≡ true)
+
+abbrev pub answer_line : Answer → List ℕ
+answer_line answer = join_with_byte 32 (decimal answer.site ∷ answer.tag ∷ answer.text ∷ [])
+
+abbrev pub answer_of_words : List (List ℕ) → Option Answer
+answer_of_words words = do
+  (site, others) ← next_number words
+  (tag, others) ← next_of tag_of others
+  text ← text_of_words (drop 2 words)
+  Some (record { site = site; tag = tag; text = text })
+
+abbrev pub read_answer : List ℕ → Option Answer
+read_answer line = answer_of_words (words_of line)

@@ -1,0 +1,26 @@
+//! What a caller is answered, under its tag.
+use shm_place::SiteId;
+use std::fmt;
+
+/// What a caller is answered. The tag is that of its ask, and the text is printable ASCII, in which blanks may stand.
+#[derive(Clone, Copy, Debug, PartialEq, Eq)]
+pub struct Answer<'a> {
+    pub site: SiteId,
+    pub tag: &'a str,
+    pub text: &'a str,
+}
+
+impl<'a> fmt::Display for Answer<'a> {
+    ghost use Rattle.std.specs.Prelude.{Some};
+    ghost use Rattle.shm_wire.specs.Answers as spelled;
+
+    ghost output = { λ answer. Some (spelled.answer_line (spelled.answer_of answer)) };
+
+    /// The answer's line, without a line feed.
+    fn fmt<W: fmt::Write>(&self, f: &mut fmt::Formatter<W>) -> fmt::Result {
+        let site = self.site.0;
+        let tag = self.tag;
+        let text = self.text;
+        write!(f, "{site} {tag} {text}")
+    }
+}
