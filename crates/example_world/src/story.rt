@@ -1,0 +1,50 @@
+ghost use Rattle.std.specs.Prelude.{◌≡◌, [], ◌∷◌, ◌++◌, List, IfOk, OnOk};
+ghost use Rattle.shm_model.specs.World as model;
+ghost use Rattle.shm_model.specs.declared.event.Event.{Event};
+ghost use Rattle.shm_world.specs.Promise.{GivesLast};
+ghost use Rattle.shm_world.specs.World.{StandsFor};
+
+use anyhow::Result;
+use shm_text::print_answer;
+use shm_world::{Answer, Event, World};
+use std::alloc::Global;
+use std::io::Write;
+
+/// A world, and how many events of it were told.
+#[derive(Drop)]
+pub struct Story {
+    alloc: Global,
+    world: World,
+    told: u64,
+}
+
+impl Story {
+    /// Nothing was told yet.
+    pub fn new(alloc: Global, world: World) -> Story
+        ensures { result.world ≡ world }
+    {
+        Story {
+            alloc,
+            world,
+            told: 0,
+        }
+    }
+
+    /// Makes one event of the world, and prints a line: what it is in words, its number, the answer, and the envelopes that were sent.
+    ///
+    /// Where a list of events led to the world as it was, that list followed by this event leads to the world as it is now; and a byte
+    /// that is answered was stored last to its place by that list.
+    pub fn tell<W: Write>(&mut self, out: &mut W, said: &str, event: Event) -> Result<Answer>
+        ensures led { (o : model.Opening) (before : List Event) → StandsFor self.old.world (model.run o before).world → OnOk result (StandsFor self.new.world (model.run o (before ++ event ∷ [])).world) }
+        ensures last { (o : model.Opening) (before : List Event) → model.IsOpening o → StandsFor self.old.world (model.run o before).world → IfOk result (λ answer. GivesLast o before event answer) }
+    {
+        // What is sent from now on has this number, or a later one.
+        let first = self.world.sent();
+        let answer = self.world.step(event)?;
+        self.told = self.told.saturating_add(1);
+        let line = print_answer(self.alloc, self.told, &answer, &self.world, first)?;
+        write!(out, "{said:<30} ")?;
+        out.write_all(line.as_slice())?;
+        Ok(answer)
+    }
+}
