@@ -42,7 +42,11 @@ fn lost_ask<W: Write>(story: &mut Story, out: &mut W) -> Result<()> {
     story.tell(out, "site 1 stores 8, and may not", store(1, 8))?;
     story.tell(out, "its Ask is lost", Event::Lose(4))?;
     story.tell(out, "site 1 is still waiting", store(1, 8))?;
-    story.tell(out, "a tick: it asks again", Event::Tick { site: SiteId(1) })?;
+    story.tell(
+        out,
+        "a tick: it asks again",
+        Event::Tick { site: SiteId(1) },
+    )?;
     story.tell(out, "the manager is asked", Event::Deliver(5))?;
     story.tell(out, "the owner hands the page over", Event::Deliver(6))?;
     story.tell(out, "site 1 owns the page", Event::Deliver(7))?;
