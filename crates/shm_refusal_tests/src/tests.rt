@@ -33,7 +33,10 @@ fn the_errors_of_the_system(rt: HostRuntime) {
         Errno::Eperm,
     ];
     assert_eq!(rt; errors.map(|error| error.number()), [1, 2, 3, 4, 5, 6, 7]);
-    assert_eq!(rt; errors.map(|error| GetFault::Refused(error).number()), [1, 2, 3, 4, 5, 6, 7]);
+    assert_eq!(rt;
+        errors.map(|error| GetFault::Refused(error).number()),
+        [1, 2, 3, 4, 5, 6, 7]
+    );
 }
 
 /// What a site, a world, a box and a session refuse.
@@ -106,9 +109,30 @@ fn what_ends_a_report(rt: HostRuntime) {
 /// What an audit finds.
 #[test]
 fn what_an_audit_finds(rt: HostRuntime) {
-    assert_eq!(rt; AuditFault::Unsent { site: SITE, index: 4 }.number(), 23);
-    assert_eq!(rt; AuditFault::StampOrder { site: SITE, index: 4 }.number(), 24);
-    assert_eq!(rt; AuditFault::Forged { site: SITE, index: 4 }.number(), 25);
+    assert_eq!(rt;
+        AuditFault::Unsent {
+            site: SITE,
+            index: 4
+        }
+        .number(),
+        23
+    );
+    assert_eq!(rt;
+        AuditFault::StampOrder {
+            site: SITE,
+            index: 4
+        }
+        .number(),
+        24
+    );
+    assert_eq!(rt;
+        AuditFault::Forged {
+            site: SITE,
+            index: 4
+        }
+        .number(),
+        25
+    );
     assert_eq!(rt; UNTOLD.number(), 30);
 }
 
@@ -119,9 +143,32 @@ fn what_ends_a_run(rt: HostRuntime) {
         place: 5,
         fault: ClientFault::GaveUp,
     };
-    assert_eq!(rt; [gave_up.number(), RunFault::Call(gave_up).number(), ReportFault::GaveUp(7).number()], [26; 3]);
-    assert_eq!(rt; [ClientFault::ClockEnd.number(), ReportFault::ClockEnd.number()], [27; 2]);
+    assert_eq!(rt;
+        [
+            gave_up.number(),
+            RunFault::Call(gave_up).number(),
+            ReportFault::GaveUp(7).number()
+        ],
+        [26; 3]
+    );
+    assert_eq!(rt;
+        [
+            ClientFault::ClockEnd.number(),
+            ReportFault::ClockEnd.number()
+        ],
+        [27; 2]
+    );
     let no_thread = StartFault::NoThread;
-    assert_eq!(rt; [no_thread.number(), RunFault::Start(no_thread).number(), ReportFault::NoThread.number()], [29; 3]);
-    assert_eq!(rt; [RunFault::Logs.number(), ReportFault::Logs.number()], [31; 2]);
+    assert_eq!(rt;
+        [
+            no_thread.number(),
+            RunFault::Start(no_thread).number(),
+            ReportFault::NoThread.number()
+        ],
+        [29; 3]
+    );
+    assert_eq!(rt;
+        [RunFault::Logs.number(), ReportFault::Logs.number()],
+        [31; 2]
+    );
 }

@@ -40,10 +40,7 @@ impl<A: Allocator + Copy> Lone<A> {
         let Some(mode) = Mode::from_bits(mode) else {
             return Err(GetFault::Refused(Errno::Einval));
         };
-        match self
-            .table
-            .get(cred, Key(key), size, mode, GetFlags(flags))
-        {
+        match self.table.get(cred, Key(key), size, mode, GetFlags(flags)) {
             Ok(id) => Ok(id.0),
             Err(fault) => Err(fault),
         }
