@@ -1,7 +1,7 @@
 ghost use Rattle.std.specs.Prelude.{◌≡◌, [], ◌∷◌, ◌++◌, List, IfOk, OnOk};
 ghost use Rattle.shm_model.specs.World as model;
 ghost use Rattle.shm_model.specs.declared.event.Event.{Event};
-ghost use Rattle.shm_world.specs.Promise.{GivesLast};
+ghost use Rattle.shm_model.specs.Promise.{GivesLast};
 ghost use Rattle.shm_world.specs.World.{StandsFor};
 
 use anyhow::Result;

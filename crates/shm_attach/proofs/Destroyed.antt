@@ -2,7 +2,7 @@
 use Rattle.std.proofs.Common.{◌≡◌, ◌∙◌, sym, ℕ, ◌+◌, ◌<◌, Bool, true, false, not, ◌&&◌, ◌==◌, if◌then◌else◌, List, [], ◌∷◌, Option, Some, None, IfSome, IfNone, ap, refl, arith, ⊎_elim}
 use Rattle.std.proofs.lemmas.Bool.{cases_Bool, cases_eq, eq-eqb, ne_eqb, lt-ltb, false≢true}
 use Rattle.std.proofs.lemmas.Option.{same_Some, none-some}
-use Rattle.shm_model.specs.Book.{greatest}
+use Rattle.shm_model.specs.Basics.{greatest}
 use Rattle.shm_model.specs.Permission.{Segment, destroyed, may_attach, is_owner}
 use Rattle.shm_model.specs.Kernel.{Called, with_id, replaced, is_destroyed, destroyed_in, on_live, attach, set}
 use Rattle.shm_model.specs.declared.call.Cred.{Cred}

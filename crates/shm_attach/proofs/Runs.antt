@@ -9,12 +9,11 @@ use Rattle.shm_model.specs.declared.call.Op.TheVariants.{Get, Attach, Detach, Re
 use Rattle.shm_model.specs.declared.call.Reply.{Reply}
 use Rattle.shm_model.specs.declared.call.Reply.TheVariants.{Ok as OkReply}
 use Rattle.shm_model.specs.declared.mode.Mode.{Mode}
-use Rattle.shm_model.specs.Book.{at}
+use Rattle.shm_model.specs.Basics.{at}
 use Rattle.shm_model.specs.Calls.{Kept, Freshness, Fresh, freshness, op_home}
 use Rattle.shm_model.specs.Kernel.{Called, attach, call, destroyed_by, destroyed_in, is_destroyed, named_by, set, with_id}
 use Rattle.shm_model.specs.Permission.{Segment}
-use Rattle.shm_model.specs.Access.{Step}
-use Rattle.shm_model.specs.Site.{Site}
+use Rattle.shm_model.specs.Site.{Step, Site}
 use Rattle.shm_model.specs.SegmentCalls.{executed, on_call, on_call_as, with_missing}
 use Rattle.shm_number.specs.Kept.{kept_at, kept_then}
 use Rattle.shm_keys.specs.Purge.{missing_after}

@@ -2,7 +2,7 @@
 use Rattle.std.specs.Prelude.{ℕ, List, Option, Some, None, slice_index_or}
 use Rattle.shm_model.specs.Calls.{Attachment}
 use Rattle.shm_model.specs.Site.{Site}
-use Rattle.shm_model.specs.Book.{at}
+use Rattle.shm_model.specs.Basics.{at}
 
 abbrev pub attachments_of : List (Option Attachment) → ℕ → Option Attachment
 attachments_of slots number = slice_index_or slots number None

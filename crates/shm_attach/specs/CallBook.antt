@@ -4,11 +4,10 @@ use Rattle.shm_model.specs.declared.answer.Answer.{Answer}
 use Rattle.shm_model.specs.declared.answer.Answer.TheVariants.{Began, Refused}
 use Rattle.shm_model.specs.declared.call.Op.{Op}
 use Rattle.shm_model.specs.declared.call.Reply.{Reply}
-use Rattle.shm_model.specs.Book.{greatest}
+use Rattle.shm_model.specs.Basics.{greatest}
 use Rattle.shm_model.specs.Refusal.{busy, numbers_used_up}
 use Rattle.shm_model.specs.Calls.{Outstanding, fits}
-use Rattle.shm_model.specs.Site.{Site}
-use Rattle.shm_model.specs.Access.{Step, dropped, still}
+use Rattle.shm_model.specs.Site.{Site, Step, dropped, still}
 use Rattle.shm_model.specs.SegmentCalls.{call_begun, numbered, reply_counts}
 use Rattle.shm_attach.specs.declared.fault.BeginFault.{BeginFault}
 use Rattle.shm_attach.specs.declared.fault.BeginFault.TheVariants as fault

@@ -1,6 +1,6 @@
 ghost use Rattle.std.specs.Prelude.{◌≡◌, ℕ, ◌<◌, false, IfSome, is_none, length};
 ghost use Rattle.std.specs.List.{list_any, position_from};
-ghost use Rattle.shm_model.specs.Book.{at};
+ghost use Rattle.shm_model.specs.Basics.{at};
 ghost use Rattle.shm_model.specs.Site.{Site, is_attached, is_attachment_of, least_free};
 ghost use Rattle.shm_attach.specs.Attachments.{attachments_of, put_at, segment_of, with_attachments};
 

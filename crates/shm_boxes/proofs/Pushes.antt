@@ -3,10 +3,9 @@ use Rattle.std.proofs.Common.{◌≡◌, ◌∙◌, ℕ, List, [], ◌∷◌, �
 use Rattle.std.specs.Prelude.{IsTrue, map}
 use Rattle.std.proofs.lemmas.List.{map-append}
 use Rattle.std.proofs.lemmas.List.Elements.{All-push}
-use Rattle.shm_model.specs.Access.{Step}
+use Rattle.shm_model.specs.Site.{Step, Site}
 use Rattle.shm_model.specs.Log.{Fits, Logged, Told, inputs_of, is_logged, moved_by, tells, told}
 use Rattle.shm_model.specs.Message.{Input}
-use Rattle.shm_model.specs.Site.{Site}
 use Rattle.shm_model.specs.Step.{step}
 use Rattle.shm_model.specs.World.{Preset, opened_site}
 use Rattle.shm_boxes.specs.Box.{last_stamp_or}

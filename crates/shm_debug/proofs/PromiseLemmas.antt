@@ -8,7 +8,7 @@ use Rattle.shm_lines.specs.Spelling.{IsLine, spelling}
 use Rattle.shm_lines.specs.declared.line.Line.{Line}
 use Rattle.shm_lines.specs.declared.line.Line.TheVariants.{Sites, Event as EventLine, Show, Back}
 use Rattle.shm_session.specs.Standing.{Standing, opening_of, without_last}
-use Rattle.shm_world.specs.Promise.{Promised}
+use Rattle.shm_model.specs.Promise.{Promised}
 use Rattle.shm_debug.specs.Said.{next, standing_after}
 use Rattle.shm_debug.specs.Promise.{Kept}
 use Rattle.shm_debug.specs.Script.{Script, begun, parts_of, placed, read_line, read_on, script_of, unended, whole}

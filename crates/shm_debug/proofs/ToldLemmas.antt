@@ -13,7 +13,7 @@ use Rattle.shm_lines.specs.declared.line.Line.{Line}
 use Rattle.shm_lines.specs.declared.line.Line.TheVariants.{Event as EventLine}
 use Rattle.shm_session.specs.Standing.{Standing, stood, with_event}
 use Rattle.shm_text.specs.Text.{answer_text, sent_text}
-use Rattle.shm_world.specs.Promise.{Promised}
+use Rattle.shm_model.specs.Promise.{Promised}
 use Rattle.shm_world.proofs.Loads.{gives-last}
 use Rattle.shm_debug.specs.Promise.{AlwaysTellsLast, TellsLast}
 use Rattle.shm_debug.specs.Said.{standing_after}

@@ -8,7 +8,7 @@ use Rattle.shm_lines.specs.declared.line.Line.{Line}
 use Rattle.shm_lines.specs.declared.line.Line.TheVariants.{Event as EventLine}
 use Rattle.shm_session.specs.Standing.{Standing, stood, with_event}
 use Rattle.shm_text.specs.Text.{sent_text}
-use Rattle.shm_world.specs.Promise.{Promised}
+use Rattle.shm_model.specs.Promise.{Promised}
 use Rattle.shm_debug.specs.Said.{said_to_event, standing_after}
 
 -- the headline, of the run of what stands

@@ -1,7 +1,7 @@
 -- Which sites have yet to purge which destroyed segment. The segments stand by rising identifier, each once.
 use Rattle.std.specs.Prelude.{◌≡◌, ℕ, ◌<◌, Bool, true, false, ◌&&◌, ◌==◌, nat_lt, List, Option, Some, None, length, slice_index_or}
 use Rattle.std.specs.List.{list_any, AllPairs}
-use Rattle.shm_model.specs.Book.{at}
+use Rattle.shm_model.specs.Basics.{at}
 use Rattle.shm_keys.specs.SiteSet.{has, has_none}
 use Rattle.shm_keys.specs.declared.purge.Purge.{Purge}
 

@@ -10,13 +10,12 @@ use Rattle.shm_model.specs.declared.call.Reply.{Reply}
 use Rattle.shm_model.specs.declared.call.Reply.TheVariants.{Id, Attached as AttachedReply, Ok as OkReply, Stat as StatReply, Refused as RefusedReply}
 use Rattle.shm_model.specs.declared.call.Request.{Request}
 use Rattle.shm_model.specs.declared.call.Request.TheVariants.{Op as OpRequest, DetachAt}
-use Rattle.shm_model.specs.Book.{at, greatest}
+use Rattle.shm_model.specs.Basics.{at, greatest}
 use Rattle.shm_model.specs.Kernel.{Called, call, destroyed_by}
 use Rattle.shm_model.specs.Refusal.{busy, no_attachment, numbers_used_up, too_many_attachments}
 use Rattle.shm_model.specs.Message.{Envelope}
 use Rattle.shm_model.specs.Calls.{Attachment, Again, Fresh, Freshness, Old, Outstanding, fits, freshness}
-use Rattle.shm_model.specs.Site.{Site, least_free}
-use Rattle.shm_model.specs.Access.{Step, still}
+use Rattle.shm_model.specs.Site.{Site, least_free, Step, still}
 use Rattle.shm_model.specs.SegmentCalls.{attached_at, begin, begin_detach, begin_op, begin_request, call_begun, executed, numbered, on_call, on_call_as, on_purged, on_reply, on_reply_to, purge_envelope, replied, reply_counts}
 use Rattle.shm_laws.proofs.PageOrders.{Each}
 use Rattle.shm_laws.proofs.PageMoves.{IsOffPage, off_call, off_purge, off_reply}

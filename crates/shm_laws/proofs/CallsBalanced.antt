@@ -12,7 +12,7 @@ use Rattle.shm_model.specs.declared.call.Op.TheVariants.{Attach, Detach}
 use Rattle.shm_model.specs.declared.call.Reply.{Reply}
 use Rattle.shm_model.specs.declared.call.Reply.TheVariants.{Attached as AttachedReply}
 use Rattle.shm_model.specs.declared.call.Request.TheVariants.{Op as OpRequest, DetachAt}
-use Rattle.shm_model.specs.Book.{at}
+use Rattle.shm_model.specs.Basics.{at}
 use Rattle.shm_model.specs.Message.{Call, Replies, Envelope, Input, Begin, Deliver}
 use Rattle.shm_model.specs.Calls.{Again, Attachment, Fresh, Kept, Outstanding, freshness, op_home}
 use Rattle.shm_model.specs.Memory.{names}

@@ -7,7 +7,7 @@ use Rattle.std.proofs.lemmas.Option.{same_Some}
 use Rattle.shm_model.specs.declared.answer.Answer.TheVariants.{Replied}
 use Rattle.shm_model.specs.declared.call.Op.{Op}
 use Rattle.shm_model.specs.declared.call.Reply.{Reply}
-use Rattle.shm_model.specs.Book.{at}
+use Rattle.shm_model.specs.Basics.{at}
 use Rattle.shm_model.specs.Permission.{Segment}
 use Rattle.shm_model.specs.Message.{Call, Replies, Envelope}
 use Rattle.shm_model.specs.Calls.{Kept, Outstanding, op_home}

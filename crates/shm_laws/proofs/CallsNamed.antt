@@ -9,7 +9,7 @@ use Rattle.shm_model.specs.declared.call.Op.{Op}
 use Rattle.shm_model.specs.declared.call.Op.TheVariants.{Attach, Detach}
 use Rattle.shm_model.specs.declared.call.Reply.{Reply}
 use Rattle.shm_model.specs.declared.call.Request.TheVariants.{DetachAt}
-use Rattle.shm_model.specs.Book.{at}
+use Rattle.shm_model.specs.Basics.{at}
 use Rattle.shm_model.specs.Message.{Call, Envelope, Begin, Deliver}
 use Rattle.shm_model.specs.Calls.{Attachment, Outstanding}
 use Rattle.shm_model.specs.Memory.{attach_id, called, is_named, names}

@@ -9,7 +9,7 @@ use Rattle.shm_model.specs.declared.call.Cred.{Cred}
 use Rattle.shm_model.specs.declared.call.Op.{Op}
 use Rattle.shm_model.specs.declared.call.Op.TheVariants.{Attach}
 use Rattle.shm_model.specs.declared.call.Request.TheVariants.{Op as OpRequest}
-use Rattle.shm_model.specs.Book.{at}
+use Rattle.shm_model.specs.Basics.{at}
 use Rattle.shm_model.specs.Message.{Call, Envelope, Input, Begin}
 use Rattle.shm_model.specs.Calls.{Attachment, Outstanding}
 use Rattle.shm_model.specs.Memory.{attach_id, called, names}

@@ -9,7 +9,7 @@ use Rattle.shm_model.specs.declared.call.Op.{Op}
 use Rattle.shm_model.specs.declared.call.Op.TheVariants.{Attach, Detach}
 use Rattle.shm_model.specs.declared.call.Reply.{Reply}
 use Rattle.shm_model.specs.declared.event.Event.{Event}
-use Rattle.shm_model.specs.Book.{at}
+use Rattle.shm_model.specs.Basics.{at}
 use Rattle.shm_model.specs.Kernel.{call as kernel_call, destroyed_by}
 use Rattle.shm_model.specs.Message.{Message, Call, Replies, Envelope, Input, Deliver}
 use Rattle.shm_model.specs.Calls.{Fresh, Again, freshness}

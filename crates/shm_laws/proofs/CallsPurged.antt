@@ -10,7 +10,7 @@ use Rattle.shm_model.specs.declared.call.Op.{Op}
 use Rattle.shm_model.specs.declared.call.Op.TheVariants.{Get, Attach, Detach, Remove, Set, Stat}
 use Rattle.shm_model.specs.declared.call.Reply.TheVariants.{Attached as AttachedReply}
 use Rattle.shm_model.specs.declared.event.Event.{Event}
-use Rattle.shm_model.specs.Book.{at}
+use Rattle.shm_model.specs.Basics.{at}
 use Rattle.shm_model.specs.Permission.{Segment, destroyed}
 use Rattle.shm_model.specs.Kernel.{call as kernel_call, destroyed_by, destroyed_in, is_destroyed, named_by, with_id}
 use Rattle.shm_model.specs.Message.{Call, Purge, Envelope, Input, Deliver}

@@ -7,10 +7,11 @@ use Rattle.shm_model.specs.declared.answer.Answer.TheVariants.{Waiting, Dropped,
 use Rattle.shm_model.specs.declared.kind.Kind.{Kind}
 use Rattle.shm_model.specs.declared.kind.Kind.TheVariants.{Read, Write}
 use Rattle.shm_model.specs.Entry.{Entry, Note, Ask, Clear, Cleared, Hand, Page, Confirm, Out, Nothing, ToManager, ToSite, on_clear, on_hand, on_page, readable, writable}
-use Rattle.shm_model.specs.Book.{Book, Order, ClearTo, HandTo, Outcome, Ignored, UsedUp, Taken, greatest, on_ask, on_cleared, on_confirm}
+use Rattle.shm_model.specs.Book.{Book, Order, ClearTo, HandTo, Outcome, Ignored, UsedUp, Taken, on_ask, on_cleared, on_confirm}
+use Rattle.shm_model.specs.Basics.{greatest}
 use Rattle.shm_model.specs.Message.{Envelope, Of}
-use Rattle.shm_model.specs.Site.{Site, Frames}
-use Rattle.shm_model.specs.Access.{Place, Step, ask_for, is_pending, load, load_if, right, still, store, store_if}
+use Rattle.shm_model.specs.Site.{Site, Frames, Step, still}
+use Rattle.shm_model.specs.Access.{Place, ask_for, is_pending, load, load_if, right, store, store_if}
 use Rattle.shm_model.specs.Transfer.{arranged, drop_first, is_nothing, limited, on_note, on_note_of, order_envelope, order_envelopes, sent_by, to_book, to_entry}
 use Rattle.shm_model.specs.Step.{restart}
 use Rattle.shm_laws.proofs.CallsTurn.{desk_of, is_plain}

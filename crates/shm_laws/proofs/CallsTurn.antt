@@ -12,13 +12,12 @@ use Rattle.shm_model.specs.declared.call.Op.TheVariants.{Attach, Detach}
 use Rattle.shm_model.specs.declared.call.Reply.{Reply}
 use Rattle.shm_model.specs.declared.call.Reply.TheVariants.{Attached as AttachedReply}
 use Rattle.shm_model.specs.declared.call.Request.TheVariants.{Op as OpRequest, DetachAt}
-use Rattle.shm_model.specs.Book.{at}
+use Rattle.shm_model.specs.Basics.{at}
 use Rattle.shm_model.specs.Permission.{Segment}
 use Rattle.shm_model.specs.Kernel.{Called, call, destroyed_by}
 use Rattle.shm_model.specs.Message.{Call, Replies, Purge, Purged, Envelope, Input, Begin, Deliver}
 use Rattle.shm_model.specs.Calls.{Attachment, Kept, Outstanding, Fresh, Again, Old, freshness}
-use Rattle.shm_model.specs.Site.{Site, least_free}
-use Rattle.shm_model.specs.Access.{Step}
+use Rattle.shm_model.specs.Site.{Site, least_free, Step}
 use Rattle.shm_model.specs.SegmentCalls.{call_envelope, purges, reply_envelope}
 use Rattle.shm_model.specs.History.{Numbered, is_attach, is_attached, with_done}
 use Rattle.shm_laws.proofs.KernelEffect.{is_detach}

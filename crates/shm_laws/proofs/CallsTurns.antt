@@ -14,13 +14,12 @@ use Rattle.shm_model.specs.declared.call.Reply.TheVariants.{Attached as Attached
 use Rattle.shm_model.specs.declared.call.Request.{Request}
 use Rattle.shm_model.specs.declared.call.Request.TheVariants.{Op as OpRequest, DetachAt}
 use Rattle.shm_model.specs.Refusal.{busy}
-use Rattle.shm_model.specs.Book.{greatest}
+use Rattle.shm_model.specs.Basics.{greatest}
 use Rattle.shm_model.specs.Permission.{Segment}
 use Rattle.shm_model.specs.Kernel.{call, destroyed_by}
 use Rattle.shm_model.specs.Message.{Message, Of, Call, Replies, Purge, Purged, Envelope, Input, Load, Store, Begin, Deliver, Tick, Restart}
 use Rattle.shm_model.specs.Calls.{Attachment, Freshness, Fresh, Again, Old, Outstanding, fits, freshness}
-use Rattle.shm_model.specs.Site.{Site, Pending, is_attached as names_segment, least_free}
-use Rattle.shm_model.specs.Access.{Step, dropped, still}
+use Rattle.shm_model.specs.Site.{Site, Pending, is_attached as names_segment, least_free, Step, dropped, still}
 use Rattle.shm_model.specs.SegmentCalls.{attached_at, begin_detach, begin_op, begin_request, call_envelope, execute, numbered, on_call_as, on_reply_to, purge_envelope, reply_counts, with_missing}
 use Rattle.shm_model.specs.Step.{ask_again, call_again, foreign, on_message, orders_again, purges_again, step, tick}
 use Rattle.shm_model.specs.History.{Numbered, handed_over, is_refused, with_done}

@@ -3,7 +3,7 @@ use Rattle.std.proofs.Common.{◌≡◌, ℕ, ◌<◌, ◌≤◌, Bool, true, fa
 use Rattle.std.proofs.Math.Path.{fun_ext}
 use Rattle.std.proofs.lemmas.Bool.Decides.{nat_tests}
 use Rattle.shm_model.specs.declared.call.Reply.{Reply}
-use Rattle.shm_model.specs.Book.{at}
+use Rattle.shm_model.specs.Basics.{at}
 use Rattle.shm_model.specs.Calls.{Fresh, Again, Old, Kept, freshness}
 use Rattle.shm_laws.proofs.CallsTurn.{Desk}
 use Rattle.shm_laws.proofs.CallsInvariant.{View, kept_number, view_of}

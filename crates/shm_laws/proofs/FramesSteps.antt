@@ -5,10 +5,11 @@ use Rattle.shm_place.specs.declared.page.PageId.{PageId}
 use Rattle.shm_model.specs.declared.kind.Kind.{Kind}
 use Rattle.shm_model.specs.declared.kind.Kind.TheVariants.{Read, Write}
 use Rattle.shm_model.specs.Entry.{Entry, Nil, Copy, OwnRead, OwnWrite, Handed, Note, Ask, Clear, Cleared, Hand, Page, Confirm, Out, forget, is_copy, on_clear, on_hand, on_page, readable, writable}
-use Rattle.shm_model.specs.Book.{Outcome, Ignored, UsedUp, Taken, greatest, on_ask, on_cleared, on_confirm}
+use Rattle.shm_model.specs.Book.{Outcome, Ignored, UsedUp, Taken, on_ask, on_cleared, on_confirm}
+use Rattle.shm_model.specs.Basics.{greatest}
 use Rattle.shm_model.specs.Message.{Input, Load, Store, Begin, Deliver, Tick, Restart, Message, Of, Call, Replies, Purge, Purged}
-use Rattle.shm_model.specs.Site.{Frames, Site, at_page, is_attached}
-use Rattle.shm_model.specs.Access.{Place, Step, ask_for, is_pending, load_if, right, store_if, stored_entry}
+use Rattle.shm_model.specs.Site.{Frames, Site, at_page, is_attached, Step}
+use Rattle.shm_model.specs.Access.{Place, ask_for, is_pending, load_if, right, store_if, stored_entry}
 use Rattle.shm_model.specs.Transfer.{arranged, drop_first, is_nothing, limited, on_note, settle, to_book, to_entry, with_entry}
 use Rattle.shm_model.specs.SegmentCalls.{of_segment, on_purge, without_segment, frames_without}
 use Rattle.shm_model.specs.Step.{foreign, on_message, step}

@@ -12,8 +12,7 @@ use Rattle.shm_model.specs.Entry.{Entry, Nil, bytes, readable, writable}
 use Rattle.shm_model.specs.Book.{max_sites}
 use Rattle.shm_model.specs.Message.{Input, Load, Store, Begin, Deliver, Tick, Restart}
 use Rattle.shm_model.specs.Calls.{Attachment}
-use Rattle.shm_model.specs.Site.{Site}
-use Rattle.shm_model.specs.Access.{Step}
+use Rattle.shm_model.specs.Site.{Site, Step, blank, untouched}
 use Rattle.shm_model.specs.Step.{step}
 use Rattle.shm_model.specs.Memory.{Legal, names}
 use Rattle.shm_model.specs.World.{Done, Opening, Run, extended, sites_of, stepped, unstepped}
@@ -31,8 +30,8 @@ use Rattle.std.proofs.lemmas.List.{get_or-replicate, length-replicate}
 use Rattle.shm_model.specs.declared.call.Op.TheVariants.{Attach}
 use Rattle.shm_model.specs.declared.event.Event.{Event}
 use Rattle.shm_model.specs.Entry.{OwnWrite, Handed, is_copy, owned, seen}
-use Rattle.shm_model.specs.Book.{Book, at, untouched_book}
-use Rattle.shm_model.specs.Site.{blank, untouched}
+use Rattle.shm_model.specs.Book.{Book, untouched_book}
+use Rattle.shm_model.specs.Basics.{at}
 use Rattle.shm_model.specs.Memory.{Agree, Coherent, called}
 use Rattle.shm_model.specs.World.{Framed, IsOpening, New, Preset, begun, opened, opened_site, preset_attachment, run}
 use Rattle.shm_laws.proofs.RunInduction.{Kept, run-good}

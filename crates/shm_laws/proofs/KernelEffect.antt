@@ -5,7 +5,7 @@ use Rattle.std.proofs.lemmas.Bool.Decides.{nat_tests}
 use Rattle.std.proofs.lemmas.Nat.{mod-mul-add}
 use Rattle.shm_place.specs.Home.{home_of_id, home_of_key}
 use Rattle.shm_place.specs.Limits.{max_segment_bytes, segments_of_a_home}
-use Rattle.shm_model.specs.Book.{greatest}
+use Rattle.shm_model.specs.Basics.{greatest}
 use Rattle.shm_model.specs.Permission.{Segment, destroyed, is_owner, may_attach, may_get, may_stat, has_creat, has_excl}
 use Rattle.shm_model.specs.Kernel.{Called, call, detach, get_found, live_at, made_at, make, max_live, new_segment, next_id, on_live, replaced, with_id, with_key}
 use Rattle.shm_model.specs.Calls.{op_home}

@@ -8,8 +8,7 @@ use Rattle.std.proofs.lemmas.List.{append-nil, append_assoc, length-append, map-
 use Rattle.shm_model.specs.declared.answer.Answer.TheVariants.{Refused}
 use Rattle.shm_model.specs.Refusal.{numbers_used_up}
 use Rattle.shm_model.specs.Message.{Envelope, Input, Load, Store, Begin, Deliver, Tick, Restart}
-use Rattle.shm_model.specs.Site.{Site}
-use Rattle.shm_model.specs.Access.{Step}
+use Rattle.shm_model.specs.Site.{Site, Step}
 use Rattle.shm_model.specs.Step.{is_proper, step}
 use Rattle.shm_model.specs.World.{Opening, Run, World, begun, extended, is_full, hand_over, live, next, opened_site, run, run_on, sites_of, step_at, step_site, stepped, unstepped}
 use Rattle.shm_model.specs.Log.{IsSentBefore, Logged, LogsFit, LogsMatch, Matches, Stamp, Told, inputs_of, is_logged, log_of, moved_by, tells, told}

@@ -12,12 +12,12 @@ use Rattle.shm_model.specs.declared.answer.Answer.TheVariants.{Byte, Stored, Wai
 use Rattle.shm_model.specs.declared.kind.Kind.{Kind}
 use Rattle.shm_model.specs.declared.kind.Kind.TheVariants.{Read, Write}
 use Rattle.shm_model.specs.Entry.{Entry, Nil, Copy, OwnRead, OwnWrite, Handed, Note, Ask, bytes, readable, seen, writable}
-use Rattle.shm_model.specs.Book.{at, greatest}
+use Rattle.shm_model.specs.Basics.{at, greatest}
 use Rattle.shm_model.specs.Refusal.{no_attachment, numbers_used_up, out_of_segment, read_only}
 use Rattle.shm_model.specs.Message.{Of, Store}
 use Rattle.shm_model.specs.Calls.{Attachment}
-use Rattle.shm_model.specs.Site.{Site, at_page}
-use Rattle.shm_model.specs.Access.{Place, Step, ask_for, asked, is_pending, load, load_if, place_in, right, right_through, still, store, store_at, store_if, stored_entry}
+use Rattle.shm_model.specs.Site.{Site, at_page, Step, still}
+use Rattle.shm_model.specs.Access.{Place, ask_for, asked, is_pending, load, load_if, place_in, right, right_through, store, store_at, store_if, stored_entry}
 use Rattle.shm_model.specs.Memory.{last_store, names}
 use Rattle.shm_model.specs.World.{Done, Opening}
 use Rattle.shm_laws.proofs.PageView.{View, Holds, Fits, with_entry_at}

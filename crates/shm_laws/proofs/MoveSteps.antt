@@ -7,12 +7,12 @@ use Rattle.shm_place.specs.declared.page.PageId.{PageId}
 use Rattle.shm_place.specs.Page.{in_limits, manager_of, same_page}
 use Rattle.shm_model.specs.declared.answer.Answer.TheVariants.{Dropped, Refused}
 use Rattle.shm_model.specs.Entry.{Entry, Nil, Note}
-use Rattle.shm_model.specs.Book.{Book, at, max_sites, orders, untouched_book, without_volatile}
+use Rattle.shm_model.specs.Book.{Book, max_sites, orders, untouched_book, without_volatile}
+use Rattle.shm_model.specs.Basics.{at}
 use Rattle.shm_model.specs.Refusal.{foreign_message}
 use Rattle.shm_model.specs.Message.{Envelope, Message, Of, Call, Replies, Purge, Purged}
 use Rattle.shm_model.specs.Calls.{Outstanding}
-use Rattle.shm_model.specs.Site.{Site, is_attached}
-use Rattle.shm_model.specs.Access.{Step}
+use Rattle.shm_model.specs.Site.{Site, is_attached, Step}
 use Rattle.shm_model.specs.Transfer.{order_envelopes}
 use Rattle.shm_model.specs.SegmentCalls.{on_purge, purge_envelope, purged_site}
 use Rattle.shm_model.specs.Step.{ask_again, call_again, deliver, foreign, is_proper, is_to_manager, on_message, orders_again, purges_again, restart, tick, tick_envelopes}

@@ -6,7 +6,7 @@ use Rattle.shm_place.specs.declared.page.PageId.{PageId}
 use Rattle.shm_place.specs.Page.{manager_of, same_page}
 use Rattle.shm_model.specs.declared.answer.Answer.TheVariants.{Dropped}
 use Rattle.shm_model.specs.Entry.{Entry, Nil, Copy, OwnRead, OwnWrite, Handed, Note, Out, Nothing, ToManager, ToSite, forget, is_copy, owned, readable, seen, writable}
-use Rattle.shm_model.specs.Book.{at}
+use Rattle.shm_model.specs.Basics.{at}
 use Rattle.shm_model.specs.Message.{Envelope, Of}
 use Rattle.shm_model.specs.Site.{Frames, Site, at_page}
 use Rattle.shm_model.specs.Transfer.{arranged, drop_first, is_nothing, limited, sent_by, settle, to_entry, with_entry}

@@ -10,8 +10,7 @@ use Rattle.shm_model.specs.declared.call.Op.TheVariants.{Attach}
 use Rattle.shm_model.specs.declared.call.Reply.{Reply}
 use Rattle.shm_model.specs.Message.{Envelope, Input, Deliver}
 use Rattle.shm_model.specs.Calls.{Attachment, Outstanding}
-use Rattle.shm_model.specs.Site.{Site}
-use Rattle.shm_model.specs.Access.{Step}
+use Rattle.shm_model.specs.Site.{Site, Step}
 use Rattle.shm_model.specs.Memory.{begun_op, called, names, renamed}
 use Rattle.shm_model.specs.World.{Done, Opening}
 

@@ -14,12 +14,13 @@ use Rattle.shm_model.specs.declared.call.Request.TheVariants.{Op as OpRequest, D
 use Rattle.shm_model.specs.declared.kind.Kind.{Kind}
 use Rattle.shm_model.specs.declared.kind.Kind.TheVariants.{Read, Write}
 use Rattle.shm_model.specs.Entry.{Entry, Note, Ask, Clear, Cleared, Hand, Page, Confirm, Out, on_clear, on_hand, on_page, readable, writable}
-use Rattle.shm_model.specs.Book.{Outcome, Ignored, UsedUp, Taken, at, greatest, on_ask, on_cleared, on_confirm}
+use Rattle.shm_model.specs.Book.{Outcome, Ignored, UsedUp, Taken, on_ask, on_cleared, on_confirm}
+use Rattle.shm_model.specs.Basics.{at, greatest}
 use Rattle.shm_model.specs.Refusal.{busy, foreign_message, no_attachment, numbers_used_up, too_many_attachments}
 use Rattle.shm_model.specs.Message.{Envelope, Input, Load, Store, Begin, Deliver, Tick, Restart, Message, Of, Call, Replies, Purge, Purged}
 use Rattle.shm_model.specs.Calls.{Attachment, Again, Fresh, Freshness, Old, Outstanding, fits, freshness}
-use Rattle.shm_model.specs.Site.{Frames, Site, at_page, is_attached, least_free}
-use Rattle.shm_model.specs.Access.{Place, Step, dropped, still, ask_for, is_pending, load_if, right, store_if}
+use Rattle.shm_model.specs.Site.{Frames, Site, at_page, is_attached, least_free, Step, dropped, still}
+use Rattle.shm_model.specs.Access.{Place, ask_for, is_pending, load_if, right, store_if}
 use Rattle.shm_model.specs.Kernel.{Called, call, destroyed_by}
 use Rattle.shm_model.specs.Transfer.{arranged, drop_first, settle, is_nothing, limited, on_note, to_book, to_entry}
 use Rattle.shm_model.specs.SegmentCalls.{on_purge, on_purged, attached_at, begin_detach, begin_op, begin_request, call_begun, executed, numbered, on_call_as, on_reply_to, replied, reply_counts}

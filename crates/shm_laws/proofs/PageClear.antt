@@ -4,7 +4,7 @@ use Rattle.std.proofs.lemmas.Bool.Decides.{nat_tests}
 use Rattle.shm_model.specs.declared.kind.Kind.{Kind}
 use Rattle.shm_model.specs.declared.kind.Kind.TheVariants.{Write}
 use Rattle.shm_model.specs.Entry.{Nil, Handed, Note, owned, seen}
-use Rattle.shm_model.specs.Book.{at}
+use Rattle.shm_model.specs.Basics.{at}
 use Rattle.shm_laws.proofs.PageView.{View, InFlight, Holds, ClearRuns, Fits, with_entry_at}
 use Rattle.shm_laws.proofs.PageEntry.{all_met-after, fits-after, kept-there, seen-after, seen-before, false-true}
 

@@ -5,7 +5,7 @@ use Rattle.std.proofs.lemmas.Bool.Decides.{nat_tests}
 use Rattle.shm_model.specs.declared.kind.Kind.{Kind}
 use Rattle.shm_model.specs.declared.kind.Kind.TheVariants.{Read, Write}
 use Rattle.shm_model.specs.Entry.{Entry, Note, Ask, Clear, Cleared, Hand, Page, Confirm, owned, seen, writable}
-use Rattle.shm_model.specs.Book.{at}
+use Rattle.shm_model.specs.Basics.{at}
 use Rattle.shm_laws.proofs.PageView.{View, GaveAway, IsKept, either, AllMet, InFlight, ClearRuns, HandFits, Fits, with_entry_at}
 
 -- a Hand that is handed over again at d, whose entry is owned and has met it, changes nothing there

@@ -5,7 +5,8 @@ use Rattle.std.proofs.lemmas.Bool.Decides.{nat_tests}
 use Rattle.shm_model.specs.declared.kind.Kind.{Kind}
 use Rattle.shm_model.specs.declared.kind.Kind.TheVariants.{Read, Write}
 use Rattle.shm_model.specs.Entry.{Entry, Nil, Copy, OwnRead, OwnWrite, Handed, Note, bytes, owned, readable, seen, writable}
-use Rattle.shm_model.specs.Book.{Running, at}
+use Rattle.shm_model.specs.Book.{Running}
+use Rattle.shm_model.specs.Basics.{at}
 use Rattle.shm_laws.proofs.PageView.{View, Runs, AllMet, InFlight, Holds, HandFits, Fits, with_entry_at}
 use Rattle.shm_laws.proofs.PageEntry.{IsAgain, fits-after, kept-here, seen-after, seen-before, false-true}
 

@@ -4,7 +4,7 @@ use Rattle.std.proofs.lemmas.Bool.{cases_eq, false_from_ne_true}
 use Rattle.std.proofs.lemmas.Bool.Decides.{nat_tests}
 use Rattle.shm_model.specs.declared.kind.Kind.TheVariants.{Write}
 use Rattle.shm_model.specs.Entry.{Entry, Nil, Copy, OwnRead, OwnWrite, Handed, Note, bytes, is_copy, owned, readable, seen, writable}
-use Rattle.shm_model.specs.Book.{at}
+use Rattle.shm_model.specs.Basics.{at}
 use Rattle.shm_laws.proofs.PageView.{View, InFlight, Holds, Fits, with_entry_at}
 use Rattle.shm_laws.proofs.PageEntry.{all_met-after, at-here, false-true}
 use Rattle.shm_laws.proofs.PageHand.{HandNow, now-here, met-here, met-after, in-limit, not-handed, keeps}

@@ -4,7 +4,8 @@ use Rattle.std.proofs.lemmas.Bool.Decides.{nat_tests}
 use Rattle.shm_model.specs.declared.kind.Kind.{Kind}
 use Rattle.shm_model.specs.declared.kind.Kind.TheVariants.{Read, Write}
 use Rattle.shm_model.specs.Entry.{Entry, Copy, OwnWrite, Handed, Note, seen}
-use Rattle.shm_model.specs.Book.{at, max_sites}
+use Rattle.shm_model.specs.Book.{max_sites}
+use Rattle.shm_model.specs.Basics.{at}
 use Rattle.shm_laws.proofs.PageView.{View, InFlight, Holds, Fits, with_entry_at}
 use Rattle.shm_laws.proofs.PageEntry.{all_met-after, fits-after, kept-there, seen-after, seen-before, false-true}
 

@@ -5,7 +5,7 @@ use Rattle.std.proofs.lemmas.Bool.Decides.{nat_tests}
 use Rattle.shm_model.specs.declared.kind.Kind.{Kind}
 use Rattle.shm_model.specs.declared.kind.Kind.TheVariants.{Read, Write}
 use Rattle.shm_model.specs.Entry.{Entry, Nil, Copy, OwnRead, OwnWrite, Handed, Note, bytes, is_copy, meet, owned, readable, seen, writable}
-use Rattle.shm_model.specs.Book.{at}
+use Rattle.shm_model.specs.Basics.{at}
 use Rattle.shm_laws.proofs.PageView.{View, Runs, Holds, HandFits, Fits, with_entry_at}
 use Rattle.shm_laws.proofs.PageEntry.{IsAgain, all_met-after, false-true, kept-here}
 use Rattle.shm_laws.proofs.PageHand.{HandNow, own-readable, now-here, grows, met-here, met-after, in-limit, not-handed, keeps}

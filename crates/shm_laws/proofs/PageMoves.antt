@@ -12,8 +12,7 @@ use Rattle.shm_model.specs.declared.call.Reply.{Reply}
 use Rattle.shm_model.specs.Entry.{Nil, Note, Ask, Clear, Cleared, Hand, Page, Confirm, seen}
 use Rattle.shm_model.specs.Book.{untouched_book}
 use Rattle.shm_model.specs.Message.{Envelope, Message, Of, Call, Replies, Purge, Purged}
-use Rattle.shm_model.specs.Site.{Site}
-use Rattle.shm_model.specs.Access.{Step}
+use Rattle.shm_model.specs.Site.{Site, Step}
 use Rattle.shm_model.specs.Memory.{last_store}
 use Rattle.shm_model.specs.World.{Done, Opening}
 use Rattle.shm_laws.proofs.PageView.{View, Holds, Fits, InFlight, either}

@@ -5,7 +5,7 @@ use Rattle.std.proofs.lemmas.Bool.Decides.{nat_tests}
 use Rattle.shm_model.specs.declared.kind.Kind.{Kind}
 use Rattle.shm_model.specs.declared.kind.Kind.TheVariants.{Write}
 use Rattle.shm_model.specs.Entry.{Entry, Nil, Copy, OwnRead, OwnWrite, Handed, Note, is_copy, owned, readable, seen, writable}
-use Rattle.shm_model.specs.Book.{at}
+use Rattle.shm_model.specs.Basics.{at}
 use Rattle.shm_laws.proofs.PageView.{View, InFlight, IsKept, Holds, HandFits, Fits, with_entry_at}
 use Rattle.shm_laws.proofs.PageEntry.{IsAgain, all_met-after, fits-after, false-true, kept-here, kept-there}
 

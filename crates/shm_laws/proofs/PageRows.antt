@@ -5,7 +5,8 @@ use Rattle.std.proofs.lemmas.Bool.Decides.{nat_tests}
 use Rattle.shm_model.specs.declared.kind.Kind.{Kind}
 use Rattle.shm_model.specs.declared.kind.Kind.TheVariants.{Read, Write}
 use Rattle.shm_model.specs.Entry.{Entry, Out, Nothing, ToManager, ToSite, handed_to, installed, on_clear, on_hand, on_page, Nil, Copy, OwnRead, OwnWrite, Handed, Note, Clear, Cleared, Page, Confirm, bytes, meet, owned, seen, writable}
-use Rattle.shm_model.specs.Book.{Running, at, max_sites}
+use Rattle.shm_model.specs.Book.{Running, max_sites}
+use Rattle.shm_model.specs.Basics.{at}
 use Rattle.shm_laws.proofs.PageView.{View, InFlight, Holds, ClearRuns, HandFits, Fits, with_entry_at}
 use Rattle.shm_laws.proofs.PageEntry.{at-here, false-true}
 use Rattle.std.proofs.Math.Path.{fun_ext}

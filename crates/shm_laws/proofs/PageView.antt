@@ -4,7 +4,8 @@ use Rattle.std.proofs.Common.{◌≡◌, ◌≢◌, ℕ, ◌<◌, ◌≤◌, ◌
 use Rattle.shm_model.specs.declared.kind.Kind.{Kind}
 use Rattle.shm_model.specs.declared.kind.Kind.TheVariants.{Read, Write}
 use Rattle.shm_model.specs.Entry.{Entry, Handed, Note, Ask, Clear, Cleared, Hand, Page, Confirm, bytes, is_copy, owned, readable, seen, writable}
-use Rattle.shm_model.specs.Book.{Book, at, max_sites}
+use Rattle.shm_model.specs.Book.{Book, max_sites}
+use Rattle.shm_model.specs.Basics.{at}
 
 pub either : {A B C D : Type 0} → (A → C) → (B → D) → A ⊎ B → C ⊎ D
 either f g (inl a) = inl (f a)

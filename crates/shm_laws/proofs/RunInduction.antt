@@ -10,8 +10,7 @@ use Rattle.shm_model.specs.declared.event.Event.{Event}
 use Rattle.shm_model.specs.declared.event.Event.TheVariants.{Load as LoadEvent, Store as StoreEvent, Begin as BeginEvent, Tick as TickEvent, Restart as RestartEvent, Deliver as DeliverEvent, Repeat, Lose}
 use Rattle.shm_model.specs.Refusal.{no_such_site, no_such_message, numbers_used_up}
 use Rattle.shm_model.specs.Message.{Envelope, Input, Load, Store, Begin, Deliver, Tick, Restart}
-use Rattle.shm_model.specs.Site.{Site}
-use Rattle.shm_model.specs.Access.{Step}
+use Rattle.shm_model.specs.Site.{Site, Step}
 use Rattle.shm_model.specs.Step.{step}
 use Rattle.shm_model.specs.World.{Opening, World, Run, begun, deliver, extended, hand_over, is_full, live, lose, next, run, run_on, sites_of, step_at, step_site, stepped, unstepped, without}
 

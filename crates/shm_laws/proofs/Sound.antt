@@ -8,11 +8,12 @@ use Rattle.shm_place.specs.Limits.{page_bytes}
 use Rattle.shm_place.specs.Offset.{rounded, within_of}
 use Rattle.shm_model.specs.declared.kind.Kind.TheVariants.{Read}
 use Rattle.shm_model.specs.Entry.{bytes, readable}
-use Rattle.shm_model.specs.Book.{greatest, max_sites}
+use Rattle.shm_model.specs.Book.{max_sites}
+use Rattle.shm_model.specs.Basics.{greatest}
 use Rattle.shm_model.specs.Message.{Envelope, Input, Load, Store, Begin, Deliver, Tick, Restart}
 use Rattle.shm_model.specs.Calls.{Attachment}
-use Rattle.shm_model.specs.Site.{Site}
-use Rattle.shm_model.specs.Access.{Step, ask_for, is_pending, load, load_at, load_if, place_in, right_through}
+use Rattle.shm_model.specs.Site.{Site, Step}
+use Rattle.shm_model.specs.Access.{ask_for, is_pending, load, load_at, load_if, place_in, right_through}
 use Rattle.shm_model.specs.Step.{step}
 use Rattle.shm_model.specs.Memory.{Legal, LoadsLast, last_store, names}
 use Rattle.shm_model.specs.World.{Done, Opening, Run, World, sites_of}

@@ -4,6 +4,7 @@
 mod calls;
 mod logs;
 mod memory;
+mod promise;
 pub mod random;
 pub mod rows;
 mod runs;
@@ -15,6 +16,7 @@ pub use calls::{
 };
 pub use logs::{logs_have_one_order, merged_logs_are_a_run};
 pub use memory::every_run_is_legal_and_coherent;
+pub use promise::every_run_keeps_the_promise;
 pub use runs::{runs_go_on, sites_run_on_their_own_inputs};
 pub use transactions::{
     bytes_are_the_last_stored, copies_are_invalidated_first, numbers_tell_what_is_late,

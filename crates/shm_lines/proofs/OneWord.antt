@@ -14,7 +14,8 @@ use Rattle.shm_model.specs.declared.mode.GetFlags.{GetFlags}
 use Rattle.shm_lines.proofs.NumberWords.{number_of-is, number_of-decimal, NoBlank-decimal}
 use Rattle.shm_lines.proofs.StepLemmas.{step, step-is, some-is, cond-some, and-parts, lt-true, lt-test, NoBlank, NoBlank-test}
 use Rattle.shm_lines.specs.Words.{number_of, byte_of, mode_of, flags_of, access_of}
-use Rattle.shm_lines.specs.Spelling.{IsNumber, IsMode, IsFlags, mode_word, flags_word, access_word}
+use Rattle.shm_model.specs.Mode.{mode_word}
+use Rattle.shm_lines.specs.Spelling.{IsNumber, IsMode, IsFlags, flags_word, access_word}
 
 -- what is read is printed so, and what is printed so is read
 pub record IsPrinter {A : Type 0} (read : List ℕ → Option A) (Is : A → Type 0) (print : A → List ℕ) : Type 0 where

@@ -17,7 +17,8 @@ use Rattle.shm_lines.proofs.OneWord.{IsPrinter, number, byte, mode, flags, acces
 use Rattle.shm_lines.proofs.StepLemmas.{step-is, NoBlanks, NoBlank-test, has_none, words_of-join}
 use Rattle.shm_lines.specs.Words.{next_of, next_number, next_cred, is_from_1_to}
 use Rattle.shm_lines.specs.Line.{line_of, line_of_words, call}
-use Rattle.shm_lines.specs.Spelling.{IsNumber, IsCred, IsCall, IsEvent, IsOpened, IsLine, mode_word, flags_word, access_word, call_words, event_words, first_words, spelling}
+use Rattle.shm_model.specs.Mode.{mode_word}
+use Rattle.shm_lines.specs.Spelling.{IsNumber, IsCred, IsCall, IsEvent, IsOpened, IsLine, flags_word, access_word, call_words, event_words, first_words, spelling}
 use Rattle.shm_lines.specs.declared.line.Line.{Line}
 use Rattle.shm_lines.specs.declared.line.Line.TheVariants.{Sites, Event as EventLine, Show, Back}
 

@@ -1,5 +1,5 @@
 -- How each line is spelled: one way for each.
-use Rattle.std.specs.Prelude.{◌≡◌, ℕ, ◌^◌, ◌/◌, ◌%◌, ◌<◌, ◌==◌, ⊤, Bool, if◌then◌else◌, List, [], ◌∷◌, ◌++◌, codes, Option, None, Some}
+use Rattle.std.specs.Prelude.{◌≡◌, ℕ, ◌^◌, ◌<◌, ◌==◌, ⊤, Bool, if◌then◌else◌, List, [], ◌∷◌, ◌++◌, codes, Option, None, Some}
 use Rattle.std.specs.List.{join_with_byte}
 use Rattle.std.specs.Fmt.{decimal}
 use Rattle.std.specs.Int.{IsInRange}
@@ -13,6 +13,7 @@ use Rattle.shm_model.specs.declared.event.Event.{Event}
 use Rattle.shm_model.specs.declared.event.Event.TheVariants.{Load, Store, Begin, Tick, Restart, Deliver, Repeat, Lose}
 use Rattle.shm_model.specs.declared.mode.GetFlags.{GetFlags}
 use Rattle.shm_model.specs.Book.{max_sites}
+use Rattle.shm_model.specs.Mode.{mode_word}
 use Rattle.shm_lines.specs.declared.line.Line.{Line}
 use Rattle.shm_lines.specs.declared.line.Line.TheVariants.{Sites, Event as EventLine, Show, Back}
 
@@ -69,10 +70,6 @@ IsLine (Show page) = IsNumber page.seg × IsNumber page.index
 IsLine (Back n) = IsNumber n
 
 -- ---- their words
-
--- three octal digits
-abbrev pub mode_word : ℕ → List ℕ
-mode_word mode = decimal (mode / 64) ++ (decimal (mode / 8 % 8) ++ decimal (mode % 8))
 
 abbrev pub flags_word : GetFlags → List ℕ
 flags_word flags =

@@ -5,6 +5,7 @@ pub mod laws;
 mod line;
 mod mode;
 mod number;
+mod options;
 mod parse;
 mod parse_calls;
 mod spelling;
@@ -13,5 +14,6 @@ mod spelling_first;
 mod words;
 
 pub use line::Line;
+pub use options::{AccessWord, FlagsWord};
 pub use parse::{BadLine, parse_line};
 pub use words::{Words, split_at};

@@ -1,5 +1,6 @@
 //! How the lines of segment calls are spelled.
-use shm_model::{Cred, GetFlags, Mode, Op};
+use crate::options::{AccessWord, FlagsWord};
+use shm_model::{Cred, Op};
 use shm_place::SegId;
 use std::fmt;
 
@@ -28,7 +29,6 @@ impl fmt::Display for Call {
                 flags,
             } => {
                 let from = From { site, cred };
-                let mode = ModeWord(mode);
                 write!(f, "get {from} {} {size} {mode} {}", key.0, FlagsWord(flags))
             }
             Op::Attach { cred, id, ro } => {
@@ -48,7 +48,7 @@ impl fmt::Display for Call {
                 mode,
             } => {
                 let on = On { site, cred, id };
-                write!(f, "set {on} {uid} {gid} {}", ModeWord(mode))
+                write!(f, "set {on} {uid} {gid} {mode}")
             }
             Op::Stat { cred, id } => {
                 let on = On { site, cred, id };
@@ -102,67 +102,5 @@ impl fmt::Display for On {
             cred: self.cred,
         };
         write!(f, "{from} {}", self.id.0)
-    }
-}
-
-/// A mode as three octal digits.
-#[derive(Clone, Copy)]
-struct ModeWord(Mode);
-
-impl fmt::Display for ModeWord {
-    ghost use Rattle.std.specs.Prelude.{Some};
-    ghost use Rattle.shm_lines.specs.Spelling as spelled;
-
-    ghost output = { λ word. Some (spelled.mode_word word.0) };
-
-    fn fmt<W: fmt::Write>(&self, f: &mut fmt::Formatter<W>) -> fmt::Result {
-        let mode = self.0;
-        let owner = mode.bits() / 64;
-        let group = mode.bits() / 8 % 8;
-        let others = mode.bits() % 8;
-        write!(f, "{owner}{group}{others}")
-    }
-}
-
-/// Flags as a word.
-#[derive(Clone, Copy)]
-struct FlagsWord(GetFlags);
-
-impl fmt::Display for FlagsWord {
-    ghost use Rattle.std.specs.Prelude.{Some};
-    ghost use Rattle.shm_lines.specs.Spelling as spelled;
-
-    ghost output = { λ word. Some (spelled.flags_word word.0) };
-
-    fn fmt<W: fmt::Write>(&self, f: &mut fmt::Formatter<W>) -> fmt::Result {
-        let flags = self.0;
-        if flags.0 == 0 {
-            return write!(f, "-");
-        }
-        if flags.0 == 0o1000 {
-            return write!(f, "c");
-        }
-        if flags.0 == 0o2000 {
-            return write!(f, "x");
-        }
-        write!(f, "cx")
-    }
-}
-
-/// How an attachment may be used, as a word.
-#[derive(Clone, Copy)]
-struct AccessWord(bool);
-
-impl fmt::Display for AccessWord {
-    ghost use Rattle.std.specs.Prelude.{Some};
-    ghost use Rattle.shm_lines.specs.Spelling as spelled;
-
-    ghost output = { λ word. Some (spelled.access_word word.0) };
-
-    fn fmt<W: fmt::Write>(&self, f: &mut fmt::Formatter<W>) -> fmt::Result {
-        if self.0 {
-            return write!(f, "ro");
-        }
-        write!(f, "rw")
     }
 }

@@ -3,7 +3,8 @@ use Rattle.std.proofs.Common.{◌≡◌, ℕ, ◌+◌, ◌<◌, Bool, false, Som
 use Rattle.std.proofs.lemmas.Bool.Decides.{nat_tests}
 use Rattle.shm_number.specs.Served.{taken}
 use Rattle.shm_model.specs.declared.kind.Kind.{Kind}
-use Rattle.shm_model.specs.Book.{Book, started, at}
+use Rattle.shm_model.specs.Book.{Book, started}
+use Rattle.shm_model.specs.Basics.{at}
 
 pub taken-fresh : (served : ℕ → ℕ) (site request : ℕ) → served site < request → taken served site request ≡ at served site request
 taken-fresh served site request fresh =

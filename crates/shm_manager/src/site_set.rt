@@ -1,5 +1,5 @@
 ghost use Rattle.std.specs.Prelude.{◌≡◌, ◌<◌, true, false};
-ghost use Rattle.shm_model.specs.Book.{at};
+ghost use Rattle.shm_model.specs.Basics.{at};
 ghost use Rattle.shm_manager.specs.SiteSet.{is_member};
 
 use shm_place::SiteId;

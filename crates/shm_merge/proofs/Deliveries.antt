@@ -6,7 +6,7 @@ use Rattle.std.proofs.lemmas.Option.{get_or_from_slice_get, slice_get_within}
 use Rattle.shm_model.specs.Log.{Logged, Matches, log_of, sent_by}
 use Rattle.shm_model.specs.Merge.{SiteStep}
 use Rattle.shm_model.specs.Message.{Input, Load, Store, Begin, Deliver, Tick, Restart}
-use Rattle.shm_model.specs.World.{max_sent}
+use Rattle.shm_model.specs.Basics.{max_sent}
 use Rattle.shm_laws.proofs.LogsRun.{has-log}
 use Rattle.shm_merge.specs.Numbering.{sent_in, NumberFits, Numbers}
 use Rattle.shm_merge.specs.declared.numbering.Numbering.{Numbering}

@@ -2,7 +2,7 @@
 use Rattle.std.specs.Prelude.{◌≡◌, ℕ, ◌<◌, ◌≤◌, List, length, map, slice_index_or}
 use Rattle.std.specs.List.{AllPairs, sum_by}
 use Rattle.shm_model.specs.Log.{Logged, log_of, sent_by}
-use Rattle.shm_model.specs.World.{max_sent}
+use Rattle.shm_model.specs.Basics.{max_sent}
 use Rattle.shm_boxes.specs.SiteLog.{steps_of}
 use Rattle.shm_boxes.specs.declared.site_log.SiteLog.{SiteLog}
 

@@ -4,7 +4,7 @@ ghost use Rattle.std.specs.List.{sum_by};
 ghost use Rattle.shm_boxes.specs.Logged.{logged_of};
 ghost use Rattle.shm_boxes.specs.SiteLog.{steps_of};
 ghost use Rattle.shm_model.specs.Log.{sent_by};
-ghost use Rattle.shm_model.specs.World.{max_sent};
+ghost use Rattle.shm_model.specs.Basics.{max_sent};
 ghost use Rattle.shm_merge.specs.Logs.{logs_of, AreLogsOf, IsLogOf};
 
 use shm_boxes::{SiteLog, Step};

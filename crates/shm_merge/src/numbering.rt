@@ -1,5 +1,5 @@
 ghost use Rattle.std.specs.Prelude.{◌≡◌, ◌≤◌, [], IfOk, length, replicate};
-ghost use Rattle.shm_model.specs.World.{max_sent};
+ghost use Rattle.shm_model.specs.Basics.{max_sent};
 ghost use Rattle.shm_merge.specs.Logs.{logs_of};
 ghost use Rattle.shm_merge.specs.Order.{order_of, AllName};
 ghost use Rattle.shm_merge.specs.Rows.{rows_of};

@@ -7,7 +7,7 @@ ghost use Rattle.shm_merge.specs.Numbering.{NumberFits, Numbers};
 ghost use Rattle.shm_merge.specs.Order.{order_of, AllName};
 ghost use Rattle.shm_model.specs.Log.{sent_by, LogsMatch};
 ghost use Rattle.shm_model.specs.Merge.{event_of, events_in, IsMerged, SiteStep};
-ghost use Rattle.shm_model.specs.World.{max_sent};
+ghost use Rattle.shm_model.specs.Basics.{max_sent};
 ghost use Rattle.shm_site.specs.Step.{input_of};
 
 use crate::numbering::Numbering;

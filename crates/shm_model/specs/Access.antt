@@ -10,24 +10,12 @@ use Rattle.shm_model.specs.declared.answer.Answer.TheVariants.{Byte, Stored, Fau
 use Rattle.shm_model.specs.declared.kind.Kind.{Kind}
 use Rattle.shm_model.specs.declared.kind.Kind.TheVariants.{Read, Write}
 use Rattle.shm_model.specs.Entry.{Entry, OwnWrite, Ask, bytes, readable, writable}
-use Rattle.shm_model.specs.Book.{greatest, is_write}
+use Rattle.shm_model.specs.Book.{is_write}
+use Rattle.shm_model.specs.Basics.{greatest}
 use Rattle.shm_model.specs.Refusal.{no_attachment, read_only, out_of_segment, numbers_used_up}
 use Rattle.shm_model.specs.Message.{Of, Envelope}
 use Rattle.shm_model.specs.Calls.{Attachment}
-use Rattle.shm_model.specs.Site.{Site, Pending, at_page}
-
--- the site after a step, what it answers, and the envelopes that it sends, in their order
-pub record Step : Type 0 where
-  pub site : Site
-  pub answer : Answer
-  pub sent : List Envelope
-
--- a step that changes nothing and sends nothing
-abbrev pub still : Answer → Site → Step
-still answer site = record { site = site; answer = answer; sent = [] }
-
-abbrev pub dropped : Site → Step
-dropped = still Dropped
+use Rattle.shm_model.specs.Site.{Site, Step, Pending, at_page, still}
 
 -- where an access goes: its page and the offset within it
 pub record Place : Type 0 where

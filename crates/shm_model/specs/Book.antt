@@ -3,6 +3,7 @@
 use Rattle.std.specs.Prelude.{ℕ, Bool, true, false, List, [], ◌∷◌, ◌++◌, Option, Some, None, ◌+◌, ◌&&◌, not, nat_le, ◌==◌, if◌then◌else◌, length, map, filter}
 use Rattle.std.specs.List.{list_any, range_with_len}
 pub use Rattle.shm_place.specs.Limits.{max_sites}
+use Rattle.shm_model.specs.Basics.{at, greatest}
 use Rattle.shm_model.specs.declared.kind.Kind.{Kind}
 use Rattle.shm_model.specs.declared.kind.Kind.TheVariants.{Read, Write}
 
@@ -42,15 +43,8 @@ pub data Outcome : Type 0 where
   UsedUp : Outcome
   Taken : Book → List Order → Outcome
 
-abbrev pub greatest : ℕ
-greatest = 18446744073709551615
-
 abbrev pub max_waiting : ℕ
 max_waiting = 16
-
--- a function with one value changed
-abbrev pub at : {X : Type 0} → (ℕ → X) → ℕ → X → ℕ → X
-at f k x j = if k == j then x else f j
 
 abbrev pub is_write : Kind → Bool
 is_write Read = false

@@ -4,7 +4,7 @@ use Rattle.std.specs.Prelude.{ℕ, Bool, true, false, List, [], ◌∷◌, ◌++
 use Rattle.std.specs.List.{find}
 use Rattle.shm_place.specs.Home.{home_of_id}
 use Rattle.shm_place.specs.Limits.{max_segment_bytes, segments_of_a_home}
-use Rattle.shm_model.specs.Book.{greatest}
+use Rattle.shm_model.specs.Basics.{greatest}
 use Rattle.shm_model.specs.Permission.{Segment, destroyed, is_owner, may_attach, may_get, may_stat, has_creat, has_excl}
 use Rattle.shm_model.specs.declared.call.Cred.{Cred}
 use Rattle.shm_model.specs.declared.call.Errno.{Errno}

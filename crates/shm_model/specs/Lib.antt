@@ -1,7 +1,9 @@
+pub mod Basics
 pub mod Entry
 pub mod Book
 pub mod Permission
 pub mod Kernel
+pub mod Mode
 pub mod Refusal
 pub mod Message
 pub mod Calls
@@ -13,6 +15,7 @@ pub mod Step
 pub mod World
 pub mod Memory
 pub mod History
+pub mod Promise
 pub mod Transactions
 pub mod Inputs
 pub mod Log

@@ -6,7 +6,8 @@ use Rattle.shm_model.specs.declared.answer.Answer.{Answer}
 use Rattle.shm_model.specs.Message.{Envelope, Input, Deliver}
 use Rattle.shm_model.specs.Site.{Site}
 use Rattle.shm_model.specs.Step.{foreign, step}
-use Rattle.shm_model.specs.World.{max_sent, Opening, opened_site, sites_of}
+use Rattle.shm_model.specs.World.{Opening, opened_site, sites_of}
+use Rattle.shm_model.specs.Basics.{max_sent}
 
 -- where an envelope was sent: the stamp of the sender's step, the step's index in the sender's log, and the envelope's place among
 -- those that the step sent; for other inputs all three are 0

@@ -11,13 +11,13 @@ use Rattle.shm_model.specs.declared.call.Reply.TheVariants.{Attached as Attached
 use Rattle.shm_model.specs.declared.call.Request.{Request}
 use Rattle.shm_model.specs.declared.call.Request.TheVariants.{Op as OpRequest, DetachAt}
 use Rattle.shm_model.specs.Entry.{Nil}
-use Rattle.shm_model.specs.Book.{at, greatest, untouched_book}
+use Rattle.shm_model.specs.Book.{untouched_book}
+use Rattle.shm_model.specs.Basics.{at, greatest}
 use Rattle.shm_model.specs.Kernel.{Called, call, destroyed_by}
 use Rattle.shm_model.specs.Refusal.{busy, no_attachment, too_many_attachments, numbers_used_up}
 use Rattle.shm_model.specs.Message.{Envelope, Call, Replies, Purge, Purged}
 use Rattle.shm_model.specs.Calls.{Attachment, Freshness, Fresh, Again, Old, Outstanding, fits, freshness, op_home}
-use Rattle.shm_model.specs.Site.{Site, Frames, is_attached, least_free}
-use Rattle.shm_model.specs.Access.{Step, dropped, still}
+use Rattle.shm_model.specs.Site.{Site, Frames, is_attached, least_free, Step, dropped, still}
 
 abbrev pub call_envelope : ℕ → ℕ → ℕ → Op → Envelope
 call_envelope sites me number op = record { from = me; to = op_home sites me op; message = Call number op }

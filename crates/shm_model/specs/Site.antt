@@ -1,14 +1,17 @@
--- A site: what it keeps over a restart, and what a restart takes from it.
+-- A site: what it keeps over a restart, and what a restart takes from it; and what a step of it is.
 use Rattle.std.specs.Prelude.{ℕ, Bool, false, List, [], Option, Some, None, ◌==◌, if◌then◌else◌, is_none, replicate}
 use Rattle.std.specs.List.{find, list_any, range_with_len}
 use Rattle.shm_place.specs.declared.page.PageId.{PageId}
 use Rattle.shm_place.specs.Limits.{page_bytes}
 use Rattle.shm_place.specs.Page.{manager_of, same_page}
+use Rattle.shm_model.specs.declared.answer.Answer.{Answer}
+use Rattle.shm_model.specs.declared.answer.Answer.TheVariants.{Dropped}
 use Rattle.shm_model.specs.declared.kind.Kind.{Kind}
 use Rattle.shm_model.specs.Entry.{Entry, Nil, OwnWrite}
 use Rattle.shm_model.specs.Book.{Book, untouched_book}
 use Rattle.shm_model.specs.Permission.{Segment}
 use Rattle.shm_model.specs.Calls.{Attachment, Kept, Outstanding}
+use Rattle.shm_model.specs.Message.{Envelope}
 
 -- the last Ask that a page's access is waiting for
 pub record Pending : Type 0 where
@@ -81,3 +84,16 @@ new_site sites me = record {
   frames = None;
   pending = [];
 }
+
+-- the site after a step, what it answers, and the envelopes that it sends, in their order
+pub record Step : Type 0 where
+  pub site : Site
+  pub answer : Answer
+  pub sent : List Envelope
+
+-- a step that changes nothing and sends nothing
+abbrev pub still : Answer → Site → Step
+still answer site = record { site = site; answer = answer; sent = [] }
+
+abbrev pub dropped : Site → Step
+dropped = still Dropped

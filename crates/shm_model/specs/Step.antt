@@ -12,8 +12,8 @@ use Rattle.shm_model.specs.Permission.{Segment}
 use Rattle.shm_model.specs.Refusal.{foreign_message}
 use Rattle.shm_model.specs.Message.{Message, Of, Call, Replies, Purge, Purged, Envelope, Input, Load, Store, Begin, Deliver, Tick, Restart}
 use Rattle.shm_model.specs.Calls.{Outstanding, op_home}
-use Rattle.shm_model.specs.Site.{Site, Pending}
-use Rattle.shm_model.specs.Access.{Step, still, load, store}
+use Rattle.shm_model.specs.Site.{Site, Pending, Step, still}
+use Rattle.shm_model.specs.Access.{load, store}
 use Rattle.shm_model.specs.Transfer.{on_note_of, order_envelopes}
 use Rattle.shm_model.specs.SegmentCalls.{begin, call_envelope, on_call, on_purge, on_purged, on_reply, purge_envelope}
 

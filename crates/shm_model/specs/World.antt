@@ -7,13 +7,13 @@ use Rattle.shm_model.specs.declared.answer.Answer.{Answer}
 use Rattle.shm_model.specs.declared.answer.Answer.TheVariants.{Took, Refused}
 use Rattle.shm_model.specs.declared.event.Event.{Event}
 use Rattle.shm_model.specs.declared.event.Event.TheVariants.{Load as LoadEvent, Store as StoreEvent, Begin as BeginEvent, Tick as TickEvent, Restart as RestartEvent, Deliver as DeliverEvent, Repeat, Lose}
-use Rattle.shm_model.specs.Book.{at, max_sites}
+use Rattle.shm_model.specs.Basics.{at, max_sent}
+use Rattle.shm_model.specs.Book.{max_sites}
 use Rattle.shm_model.specs.Permission.{Segment}
 use Rattle.shm_model.specs.Refusal.{no_such_site, no_such_message, numbers_used_up}
 use Rattle.shm_model.specs.Message.{Envelope, Input, Load, Store, Begin, Deliver, Tick, Restart}
 use Rattle.shm_model.specs.Calls.{Attachment}
-use Rattle.shm_model.specs.Site.{Site, new_site}
-use Rattle.shm_model.specs.Access.{Step}
+use Rattle.shm_model.specs.Site.{Site, new_site, Step}
 use Rattle.shm_model.specs.Step.{step}
 
 -- How a world begins: with no segment; with segment 0 of so many pages, attached everywhere; or that, with so many frames at each site.
@@ -76,10 +76,6 @@ pub record Next : Type 0 where
 
 abbrev pub unstepped : World → ℕ → Answer → Next
 unstepped w s answer = record { world = w; done = record { site = s; input = None; answer = answer } }
-
--- envelopes are counted up to 2^63
-abbrev pub max_sent : ℕ
-max_sent = 9223372036854775808
 
 -- past that nothing is stepped any more
 abbrev pub is_full : World → Bool

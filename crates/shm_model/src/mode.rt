@@ -1,6 +1,7 @@
 ghost use Rattle.std.specs.Prelude.{⊤, [], ◌∷◌, codes, ℕ, ◌≡◌, ◌<◌, Some, None, nat_lt, if◌then◌else◌};
 
 use bitflags::{Flag, Flags, bitflag_items};
+use std::fmt;
 use std::marker::Model;
 
 /// The nine mode bits of a segment: read, write and execute for the owner, the group and the others, in octal 400 to 001
@@ -43,6 +44,21 @@ impl Mode {
         ensures nine { result < 512 }
     {
         self.bits
+    }
+}
+
+/// The mode as three octal digits: the owner's, the group's and the others', as `chmod(1)` spells it.
+impl fmt::Display for Mode {
+    ghost use Rattle.shm_model.specs.Mode.{mode_word};
+
+    ghost output = { λ mode. Some (mode_word mode) };
+
+    fn fmt<W: fmt::Write>(&self, f: &mut fmt::Formatter<W>) -> fmt::Result {
+        let bits = self.bits();
+        let owner = bits / 64;
+        let group = bits / 8 % 8;
+        let others = bits % 8;
+        write!(f, "{owner}{group}{others}")
     }
 }
 

@@ -6,7 +6,7 @@ use Rattle.std.proofs.lemmas.Bool.Decides.{nat_tests}
 use Rattle.std.proofs.lemmas.Grind.{length_at_push}
 use Rattle.std.proofs.lemmas.List.{drop_all}
 use Rattle.std.proofs.lemmas.Option.{same_Some, none-some, slice_get_past}
-use Rattle.shm_model.specs.Book.{at}
+use Rattle.shm_model.specs.Basics.{at}
 use Rattle.shm_model.specs.Message as model
 use Rattle.shm_parts.specs.Message.{envelope_of}
 use Rattle.shm_network.specs.Network.{envelope_at}

@@ -1,7 +1,7 @@
 //! What the network does with envelopes: each call but `copy` takes constant time for an envelope, however many were sent.
 ghost use Rattle.std.specs.Prelude.{◌≡◌, ℕ, ◌+◌, ◌^◌, ◌<◌, ◌≤◌, Bool, false, true, [], List, ◌++◌, length, slice_get, Some, None, IfNone, IfOk, OnOk};
 ghost use Rattle.std.specs.Option.{option_copied};
-ghost use Rattle.shm_model.specs.Book.{at};
+ghost use Rattle.shm_model.specs.Basics.{at};
 ghost use Rattle.shm_model.specs.Message as model;
 ghost use Rattle.shm_parts.specs.Message.{envelope_of};
 

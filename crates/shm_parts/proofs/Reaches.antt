@@ -7,7 +7,7 @@ use Rattle.shm_place.specs.declared.page.PageId.{PageId}
 use Rattle.shm_place.specs.Limits.{page_bytes}
 use Rattle.shm_place.specs.Offset.{rounded}
 use Rattle.shm_place.specs.Page.{same_page}
-use Rattle.shm_model.specs.Book.{at}
+use Rattle.shm_model.specs.Basics.{at}
 use Rattle.shm_model.specs.Calls.{Attachment}
 use Rattle.shm_model.specs.SegmentCalls.{frames_without}
 use Rattle.shm_model.specs.Site.{Frames as ModelFrames, is_attachment_of, least_free}

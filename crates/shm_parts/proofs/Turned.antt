@@ -6,10 +6,9 @@ use Rattle.shm_place.specs.declared.page.PageId.{PageId}
 use Rattle.shm_model.specs.declared.answer.Answer.TheVariants.{Took}
 use Rattle.shm_model.specs.declared.kind.Kind.{Kind}
 use Rattle.shm_model.specs.declared.kind.Kind.TheVariants.{Read, Write}
-use Rattle.shm_model.specs.Access.{dropped}
+use Rattle.shm_model.specs.Site.{dropped, Frames as ModelFrames, Site, at_page}
 use Rattle.shm_model.specs.Calls.{Attachment}
 use Rattle.shm_model.specs.Entry as model
-use Rattle.shm_model.specs.Site.{Frames as ModelFrames, Site, at_page}
 use Rattle.shm_model.specs.Transfer.{arranged, drop_first, is_nothing, limited, sent_by, settle, to_entry, with_entry}
 use Rattle.shm_parts.specs.Entries.{change_of, row}
 use Rattle.shm_parts.specs.Frames.{arranged_by, first_out}

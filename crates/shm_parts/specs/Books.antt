@@ -5,10 +5,9 @@ use Rattle.std.specs.Map.{lookup}
 use Rattle.shm_place.specs.declared.page.PageId.{PageId}
 use Rattle.shm_place.specs.Page.{same_page}
 use Rattle.shm_model.specs.declared.answer.Answer.TheVariants.{Took, Refused}
-use Rattle.shm_model.specs.Access.{Step, dropped, still}
+use Rattle.shm_model.specs.Site.{Step, dropped, still, Site}
 use Rattle.shm_model.specs.Book as model
 use Rattle.shm_model.specs.Refusal.{numbers_used_up}
-use Rattle.shm_model.specs.Site.{Site}
 use Rattle.shm_model.specs.Transfer.{order_envelope}
 use Rattle.shm_manager.specs.Book.{book_of}
 use Rattle.shm_manager.specs.declared.book.Book.{Book}

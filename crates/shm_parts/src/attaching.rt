@@ -1,7 +1,7 @@
 //! Attachments, and the pages that they reach.
 ghost use Rattle.std.specs.Prelude.{◌≡◌, ℕ, ◌<◌, None, false, true, is_none, IfOk, OnOk, OnErr};
 ghost use Rattle.shm_place.specs.declared.page.PageId.{PageId as Page};
-ghost use Rattle.shm_model.specs.Book.{at};
+ghost use Rattle.shm_model.specs.Basics.{at};
 ghost use Rattle.shm_model.specs.Site.{Site, least_free, untouched};
 ghost use Rattle.shm_attach.specs.Attachments.{attachments_of, put_at, segment_of, with_attachments};
 ghost use Rattle.shm_parts.specs.Entries.{entries_of, is_stored};

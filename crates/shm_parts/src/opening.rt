@@ -1,6 +1,6 @@
 //! What a site holds at first.
 ghost use Rattle.std.specs.Prelude.{◌≡◌, ℕ, ◌≤◌, [], Option, Some, None, option_map, false, IfOk};
-ghost use Rattle.shm_model.specs.Book.{at};
+ghost use Rattle.shm_model.specs.Basics.{at};
 ghost use Rattle.shm_model.specs.Site.{Site, untouched};
 ghost use Rattle.shm_model.specs.World.{preset_attachment};
 ghost use Rattle.shm_attach.specs.Attachments.{attachments_of};

@@ -1,6 +1,6 @@
 //! What is done with the segments that a site has purged.
 ghost use Rattle.std.specs.Prelude.{◌≡◌, false, true, IfOk, OnOk, OnErr};
-ghost use Rattle.shm_model.specs.Book.{at};
+ghost use Rattle.shm_model.specs.Basics.{at};
 
 use indexmap::IndexMap;
 use shm_place::SegId;

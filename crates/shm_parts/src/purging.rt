@@ -1,6 +1,6 @@
 //! Destroyed segments, of which nothing is held any more.
 ghost use Rattle.std.specs.Prelude.{◌≡◌, ℕ, not, true, if◌then◌else◌, IfOk, OnErr};
-ghost use Rattle.shm_model.specs.Book.{at};
+ghost use Rattle.shm_model.specs.Basics.{at};
 ghost use Rattle.shm_model.specs.Entry.{Nil};
 ghost use Rattle.shm_model.specs.SegmentCalls.{frames_without, of_segment};
 ghost use Rattle.shm_model.specs.Site.{Site, is_attached};

@@ -3,7 +3,8 @@ use Rattle.std.proofs.Common.{◌≡◌, ℕ, ◌==◌, ◌&&◌, Option, Some, 
 use Rattle.std.proofs.lemmas.Bool.{cond_both}
 use Rattle.shm_model.specs.declared.event.Event.{Event}
 use Rattle.shm_model.specs.declared.kind.Kind.{Kind}
-use Rattle.shm_model.specs.Book.{Book, Running, Waiting, ask_while, awaits, cleared_while, confirm_while, ended, greatest, is_waiting, max_waiting, on_ask, serve_next, start, start_first, unserved}
+use Rattle.shm_model.specs.Book.{Book, Running, Waiting, ask_while, awaits, cleared_while, confirm_while, ended, is_waiting, max_waiting, on_ask, serve_next, start, start_first, unserved}
+use Rattle.shm_model.specs.Basics.{greatest}
 use Rattle.shm_model.specs.World.{Opening, run, sites_of}
 use Rattle.shm_progress.specs.Queues.{NoneWaitsForNothing}
 use Rattle.shm_progress.proofs.BooksKept.{OutcomeHolds, WorldRule, run-books}

@@ -6,11 +6,11 @@ use Rattle.std.proofs.lemmas.List.{length-append}
 use Rattle.std.proofs.lemmas.Option.{get_or_from_slice_get, slice_get-get_or, slice_get_within}
 use Rattle.shm_model.specs.declared.event.Event.{Event}
 use Rattle.shm_model.specs.declared.event.Event.TheVariants.{Load as LoadEvent, Store as StoreEvent, Begin as BeginEvent, Tick as TickEvent, Restart as RestartEvent, Deliver as DeliverEvent, Repeat, Lose}
-use Rattle.shm_model.specs.Book.{at}
+use Rattle.shm_model.specs.Basics.{at, max_sent}
 use Rattle.shm_model.specs.Message.{Envelope, Input, Load, Store, Begin, Deliver, Tick, Restart}
 use Rattle.shm_model.specs.Site.{Site}
 use Rattle.shm_model.specs.Step.{step}
-use Rattle.shm_model.specs.World.{Next, Opening, Run, World, begun, deliver, extended, hand_over, is_full, live, lose, max_sent, next, run, run_on, step_site, stepped, without}
+use Rattle.shm_model.specs.World.{Next, Opening, Run, World, begun, deliver, extended, hand_over, is_full, live, lose, next, run, run_on, step_site, stepped, without}
 use Rattle.shm_laws.proofs.RunInduction.{IsHonest}
 use Rattle.shm_laws.proofs.LogsLists.{slice_get-append_left, slice_get-append_right}
 use Rattle.shm_progress.specs.OnTheWay.{IsOnItsWay, is_loss}

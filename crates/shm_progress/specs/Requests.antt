@@ -5,7 +5,8 @@ use Rattle.shm_place.specs.declared.page.PageId.{PageId}
 use Rattle.shm_place.specs.Page.{manager_of}
 use Rattle.shm_model.specs.declared.event.Event.{Event}
 use Rattle.shm_model.specs.Entry.{Ask}
-use Rattle.shm_model.specs.Book.{Book, greatest, is_waiting, max_waiting}
+use Rattle.shm_model.specs.Book.{Book, is_waiting, max_waiting}
+use Rattle.shm_model.specs.Basics.{greatest}
 use Rattle.shm_model.specs.Site.{Pending, Site}
 use Rattle.shm_model.specs.World.{Opening, World, run, sites_of}
 use Rattle.shm_progress.specs.Transactions.{IsPurgedSomewhere, NoteGoes}

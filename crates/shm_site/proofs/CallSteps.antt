@@ -7,14 +7,14 @@ use Rattle.shm_model.specs.declared.answer.Answer.{Answer}
 use Rattle.shm_model.specs.declared.answer.Answer.TheVariants.{Began, Dropped, Took, Refused}
 use Rattle.shm_model.specs.declared.call.Op.TheVariants.{Detach}
 use Rattle.shm_model.specs.declared.call.Reply.{Reply}
-use Rattle.shm_model.specs.Access.{Step, dropped, still}
-use Rattle.shm_model.specs.Book.{Book, at, greatest, untouched_book}
+use Rattle.shm_model.specs.Site.{Step, dropped, still, Site, Pending, is_attached, least_free}
+use Rattle.shm_model.specs.Book.{Book, untouched_book}
+use Rattle.shm_model.specs.Basics.{at, greatest}
 use Rattle.shm_model.specs.Entry.{Nil}
 use Rattle.shm_model.specs.Calls.{Attachment}
 use Rattle.shm_model.specs.Message.{Envelope, Purged}
 use Rattle.shm_model.specs.Refusal.{numbers_used_up}
 use Rattle.shm_model.specs.SegmentCalls.{attached, begin_detach, call_begun, frames_without, numbered, of_segment, on_purge, purged_site, replied, without_segment}
-use Rattle.shm_model.specs.Site.{Site, Pending, is_attached, least_free}
 use Rattle.shm_attach.specs.Attachments.{segment_of}
 use Rattle.shm_site.specs.Site.{sent_after}
 use Rattle.shm_site.specs.Step.{is_refused}

@@ -3,9 +3,8 @@ use Rattle.std.proofs.Common.{◌≡◌, ◌∙◌, ap, sym, List, Option, Some,
 use Rattle.std.specs.Result.{OnErr}
 use Rattle.std.proofs.lemmas.List.{append-nil}
 use Rattle.shm_model.specs.declared.answer.Answer.{Answer}
-use Rattle.shm_model.specs.Access.{Step, still}
+use Rattle.shm_model.specs.Site.{Step, still, Site}
 use Rattle.shm_model.specs.Message.{Envelope}
-use Rattle.shm_model.specs.Site.{Site}
 use Rattle.shm_site.specs.Site.{sent_after}
 
 -- how a step leaves a site

@@ -2,11 +2,11 @@
 use Rattle.std.proofs.Common.{◌≡◌, ◌∙◌, ℕ, ◌==◌, Bool, true, false, Result, Ok, Err, ap, if◌then◌else◌, refl, subst, sym}
 use Rattle.std.proofs.lemmas.Bool.{false≢true}
 use Rattle.shm_place.specs.declared.page.PageId.{PageId}
-use Rattle.shm_model.specs.Access.{Place, Step, ask_for, asked, is_pending, right, still, store, store_if, stored_entry}
-use Rattle.shm_model.specs.Book.{greatest}
+use Rattle.shm_model.specs.Access.{Place, ask_for, asked, is_pending, right, store, store_if, stored_entry}
+use Rattle.shm_model.specs.Site.{Step, still, Site, at_page}
+use Rattle.shm_model.specs.Basics.{greatest}
 use Rattle.shm_model.specs.Entry.{writable}
 use Rattle.shm_model.specs.Refusal.{numbers_used_up}
-use Rattle.shm_model.specs.Site.{Site, at_page}
 use Rattle.shm_model.specs.declared.answer.Answer.{Answer}
 use Rattle.shm_model.specs.declared.answer.Answer.TheVariants.{Refused, Stored, Waiting}
 use Rattle.shm_model.specs.declared.kind.Kind.TheVariants.{Write}

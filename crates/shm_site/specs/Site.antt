@@ -1,7 +1,7 @@
 -- A site, as the definitions speak of it; and how its calls are said to make a step.
 use Rattle.std.specs.Prelude.{◌≡◌, List, ◌++◌}
 use Rattle.shm_model.specs.declared.answer.Answer.{Answer}
-use Rattle.shm_model.specs.Access.{Step}
+use Rattle.shm_model.specs.Site.{Step}
 use Rattle.shm_model.specs.Message.{Envelope}
 use Rattle.shm_model.specs.Site as model
 use Rattle.shm_attach.specs.Attachments.{attachments_of}

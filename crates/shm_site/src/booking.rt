@@ -1,6 +1,6 @@
 //! Messages of a page to its manager's book.
 ghost use Rattle.std.specs.Prelude.{◌≡◌, ℕ, ◌+◌, ◌≤◌, ◌<◌, IfOk, OnErr, length};
-ghost use Rattle.shm_model.specs.Access.{Step};
+ghost use Rattle.shm_model.specs.Site.{Step};
 ghost use Rattle.shm_model.specs.Book as book;
 ghost use Rattle.shm_model.specs.Site as model;
 ghost use Rattle.shm_model.specs.Transfer.{to_book};

@@ -3,7 +3,7 @@ ghost use Rattle.std.specs.Prelude.{◌≡◌, Bool, [], None, false, IfOk, OnEr
 ghost use Rattle.shm_model.specs.declared.call.Cred.{Cred};
 ghost use Rattle.shm_model.specs.declared.call.Op.TheVariants.{Attach};
 ghost use Rattle.shm_model.specs.declared.call.Reply.TheVariants.{Attached as AttachedReply};
-ghost use Rattle.shm_model.specs.Access.{Step};
+ghost use Rattle.shm_model.specs.Site.{Step};
 ghost use Rattle.shm_model.specs.SegmentCalls as model;
 ghost use Rattle.shm_site.specs.Site.{SameSeat, sent_after, site_of, stepped};
 ghost use Rattle.shm_site.specs.Step.{is_refused};

@@ -1,6 +1,6 @@
 //! Which segment calls and which envelopes a site refuses, told without memory.
 ghost use Rattle.std.specs.Prelude.{◌≡◌, ◌<◌, ◌&&◌, [], false, not, IfNone, IfSome};
-ghost use Rattle.shm_model.specs.Access.{Step, still};
+ghost use Rattle.shm_model.specs.Site.{Step, still};
 ghost use Rattle.shm_model.specs.Book.{on_ask};
 ghost use Rattle.shm_model.specs.SegmentCalls as model;
 ghost use Rattle.shm_model.specs.Step.{deliver, on_message};

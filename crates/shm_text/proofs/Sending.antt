@@ -5,7 +5,7 @@ use Rattle.std.specs.List.{flat_map, range_with_len}
 use Rattle.shm_model.specs.declared.answer.Answer.TheVariants.{Refused}
 use Rattle.shm_model.specs.declared.event.Event.{Event}
 use Rattle.shm_model.specs.declared.event.Event.TheVariants.{Load as LoadEvent, Store as StoreEvent, Begin as BeginEvent, Tick as TickEvent, Restart as RestartEvent, Deliver as DeliverEvent, Repeat, Lose}
-use Rattle.shm_model.specs.Book.{at}
+use Rattle.shm_model.specs.Basics.{at}
 use Rattle.shm_model.specs.Message.{Envelope, Input, Load, Store, Begin, Deliver, Tick, Restart}
 use Rattle.shm_model.specs.Refusal.{numbers_used_up}
 use Rattle.shm_model.specs.Site.{Site}

@@ -1,5 +1,5 @@
 -- What a debugger says of an event: what was answered, and each envelope that was sent. Stat tells what `shmctl(2)`, `IPC_STAT`, does.
-use Rattle.std.specs.Prelude.{ℕ, Bool, true, false, ◌-◌, ◌/◌, ◌%◌, List, [], ◌++◌, codes, Option, Some, None, length}
+use Rattle.std.specs.Prelude.{ℕ, Bool, true, false, ◌-◌, List, [], ◌++◌, codes, Option, Some, None, length}
 use Rattle.std.specs.Fmt.{decimal}
 use Rattle.std.specs.List.{flat_map, range_with_len}
 use Rattle.shm_model.specs.declared.answer.Answer.{Answer}
@@ -8,6 +8,7 @@ use Rattle.shm_model.specs.declared.call.Reply.{Reply}
 use Rattle.shm_model.specs.declared.call.Reply.TheVariants.{Id, Attached, Ok as OkReply, Stat as StatReply, Refused as RefusedReply}
 use Rattle.shm_model.specs.declared.call.Stat.{Stat}
 use Rattle.shm_model.specs.Entry.{Note, Ask, Clear, Cleared, Hand, Page, Confirm}
+use Rattle.shm_model.specs.Mode.{mode_word}
 use Rattle.shm_model.specs.Message.{Message, Of, Call, Replies, Purge, Purged, Envelope}
 use Rattle.shm_model.specs.Refusal.{errno_number}
 use Rattle.shm_model.specs.World.{World, live}
@@ -16,10 +17,6 @@ use Rattle.shm_model.specs.World.{World, live}
 abbrev pub attachment_text : Option ℕ → List ℕ
 attachment_text None = codes "-"
 attachment_text (Some a) = decimal a
-
--- nine mode bits as three octal digits: the owner's, the group's and the others'
-abbrev pub mode_text : ℕ → List ℕ
-mode_text mode = decimal (mode / 64 % 8) ++ (decimal (mode / 8 % 8) ++ decimal (mode % 8))
 
 abbrev pub people_text : Stat → List ℕ
 people_text s =
@@ -34,7 +31,7 @@ use_text s = codes "size " ++ (decimal s.size ++ (codes " nattch " ++ (decimal s
 
 abbrev pub stat_text : Stat → List ℕ
 stat_text s =
-    codes "stat key " ++ (decimal s.key ++ (codes " " ++ (people_text s ++ (codes " mode " ++ (mode_text s.mode ++ (codes " " ++ use_text s))))))
+    codes "stat key " ++ (decimal s.key ++ (codes " " ++ (people_text s ++ (codes " mode " ++ (mode_word s.mode ++ (codes " " ++ use_text s))))))
 
 -- a reply, and the attachment that it made
 abbrev pub reply_text : Reply → Option ℕ → List ℕ

@@ -1,7 +1,7 @@
 ghost use Rattle.std.specs.Prelude.{Some};
-ghost use Rattle.shm_text.specs.Text.{mode_text, people_text, stat_text, use_text};
+ghost use Rattle.shm_text.specs.Text.{people_text, stat_text, use_text};
 
-use shm_model::{Mode, Stat};
+use shm_model::Stat;
 use std::fmt;
 
 /// What `stat` tells of a segment.
@@ -14,7 +14,7 @@ impl fmt::Display for StatText {
     fn fmt<W: fmt::Write>(&self, f: &mut fmt::Formatter<W>) -> fmt::Result {
         let key = self.0.key.0;
         let people = PeopleText(self.0);
-        let mode = ModeText(self.0.mode);
+        let mode = self.0.mode;
         let used = UseText(self.0);
         write!(f, "stat key {key} {people} mode {mode} {used}")
     }
@@ -33,22 +33,6 @@ impl fmt::Display for PeopleText {
         let cuid = self.0.cuid;
         let cgid = self.0.cgid;
         write!(f, "uid {uid} gid {gid} cuid {cuid} cgid {cgid}")
-    }
-}
-
-/// The nine mode bits, as three octal digits.
-#[derive(Clone, Copy)]
-struct ModeText(Mode);
-
-impl fmt::Display for ModeText {
-    ghost output = { λ text. Some (mode_text text.0) };
-
-    fn fmt<W: fmt::Write>(&self, f: &mut fmt::Formatter<W>) -> fmt::Result {
-        let bits = self.0.bits();
-        let owner = bits / 64 % 8;
-        let group = bits / 8 % 8;
-        let others = bits % 8;
-        write!(f, "{owner}{group}{others}")
     }
 }
 

@@ -11,7 +11,8 @@ use Rattle.shm_lines.proofs.ReadLemmas.{onto, onto2}
 use Rattle.shm_lines.proofs.StepLemmas.{NoBlank-test}
 use Rattle.shm_lines.specs.Words.{◌>>=◌, next_word}
 use Rattle.shm_lines.specs.Spelling as script
-use Rattle.shm_lines.specs.Spelling.{mode_word, flags_word, access_word}
+use Rattle.shm_model.specs.Mode.{mode_word}
+use Rattle.shm_lines.specs.Spelling.{flags_word, access_word}
 use Rattle.shm_wire.proofs.Reading.{took, took_cred, ended-is, cond-of, prints, prints_cred, unparted_cred, Reads, Sound, Spelled, SoundWords, SoundReader, by_verb-is, nothing-is, verb-is}
 use Rattle.shm_wire.specs.Calls.{IsCall, call_words, calls, common_of, call_of, get_of, attach_of, detach_of, remove_of, set_of, stat_of}
 use Rattle.shm_wire.specs.Words.{by_verb, nothing, ended}

@@ -8,7 +8,8 @@ use Rattle.shm_model.specs.declared.call.Reply.TheVariants.{Id, Attached, Ok, St
 use Rattle.shm_lines.proofs.OneWord.{number, mode, access}
 use Rattle.shm_lines.proofs.ReadLemmas.{onto}
 use Rattle.shm_lines.proofs.StepLemmas.{NoBlank-test}
-use Rattle.shm_lines.specs.Spelling.{mode_word, access_word}
+use Rattle.shm_model.specs.Mode.{mode_word}
+use Rattle.shm_lines.specs.Spelling.{access_word}
 use Rattle.shm_wire.proofs.NameWords.{errno, standing}
 use Rattle.shm_wire.proofs.Reading.{took, ended-is, prints, Reads, Sound, Spelled, by_verb-is, nothing-is, verb-is}
 use Rattle.shm_wire.proofs.WideWords.{wide}

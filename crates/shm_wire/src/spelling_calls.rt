@@ -1,5 +1,6 @@
 //! How segment calls and their replies are spelled.
-use shm_model::{Cred, Errno, GetFlags, Mode, Op, Reply, Stat};
+use shm_lines::{AccessWord, FlagsWord};
+use shm_model::{Cred, Errno, Op, Reply, Stat};
 use shm_place::SegId;
 use std::fmt;
 
@@ -25,7 +26,6 @@ impl fmt::Display for CallWords {
             } => {
                 let uid = cred.uid;
                 let gid = cred.gid;
-                let mode = ModeWord(mode);
                 write!(
                     f,
                     "get {uid} {gid} {} {size} {mode} {}",
@@ -50,7 +50,7 @@ impl fmt::Display for CallWords {
                 mode,
             } => {
                 let on = On { cred, id };
-                write!(f, "set {on} {uid} {gid} {}", ModeWord(mode))
+                write!(f, "set {on} {uid} {gid} {mode}")
             }
             Op::Stat { cred, id } => {
                 let on = On { cred, id };
@@ -133,74 +133,11 @@ impl fmt::Display for StatWords {
             marked,
         } = self.0;
         let key = key.0;
-        let mode = ModeWord(mode);
         let standing = StandingWord(marked);
         write!(
             f,
             "{key} {uid} {gid} {cuid} {cgid} {mode} {size} {nattch} {standing}"
         )
-    }
-}
-
-/// A mode as three octal digits.
-#[derive(Clone, Copy)]
-struct ModeWord(Mode);
-
-impl fmt::Display for ModeWord {
-    ghost use Rattle.std.specs.Prelude.{Some};
-    ghost use Rattle.shm_lines.specs.Spelling as script;
-
-    ghost output = { λ word. Some (script.mode_word word.0) };
-
-    fn fmt<W: fmt::Write>(&self, f: &mut fmt::Formatter<W>) -> fmt::Result {
-        let mode = self.0;
-        let owner = mode.bits() / 64;
-        let group = mode.bits() / 8 % 8;
-        let others = mode.bits() % 8;
-        write!(f, "{owner}{group}{others}")
-    }
-}
-
-/// Flags as a word.
-#[derive(Clone, Copy)]
-struct FlagsWord(GetFlags);
-
-impl fmt::Display for FlagsWord {
-    ghost use Rattle.std.specs.Prelude.{Some};
-    ghost use Rattle.shm_lines.specs.Spelling as script;
-
-    ghost output = { λ word. Some (script.flags_word word.0) };
-
-    fn fmt<W: fmt::Write>(&self, f: &mut fmt::Formatter<W>) -> fmt::Result {
-        let flags = self.0;
-        if flags.0 == 0 {
-            return write!(f, "-");
-        }
-        if flags.0 == 0o1000 {
-            return write!(f, "c");
-        }
-        if flags.0 == 0o2000 {
-            return write!(f, "x");
-        }
-        write!(f, "cx")
-    }
-}
-
-/// How an attachment may be used, as a word.
-#[derive(Clone, Copy)]
-struct AccessWord(bool);
-
-impl fmt::Display for AccessWord {
-    ghost use Rattle.std.specs.Prelude.{Some};
-    ghost use Rattle.shm_lines.specs.Spelling as script;
-
-    ghost output = { λ word. Some (script.access_word word.0) };
-
-    fn fmt<W: fmt::Write>(&self, f: &mut fmt::Formatter<W>) -> fmt::Result {
-        if self.0 {
-            return write!(f, "ro");
-        }
-        write!(f, "rw")
     }
 }
 

@@ -13,12 +13,13 @@ use Rattle.shm_model.specs.declared.call.Request.TheVariants.{Op as OpRequest, D
 use Rattle.shm_model.specs.declared.kind.Kind.{Kind}
 use Rattle.shm_model.specs.declared.kind.Kind.TheVariants.{Read, Write}
 use Rattle.shm_model.specs.Entry.{Entry, Note, Ask, Clear, Cleared, Hand, Page, Confirm, Out, Nothing, ToManager, ToSite, on_clear, on_hand, on_page, readable, writable}
-use Rattle.shm_model.specs.Book.{Book, ClearTo, Outcome, Ignored, UsedUp, Taken, Running, Waiting, ask_while, at, awaited, awaits, cleared_while, confirm_while, ended, greatest, hand_if_cleared, is_waiting, max_sites, max_waiting, on_ask, on_cleared, on_confirm, orders_of, orders_to, serve_next, start, start_first, started, unserved}
+use Rattle.shm_model.specs.Book.{Book, ClearTo, Outcome, Ignored, UsedUp, Taken, Running, Waiting, ask_while, awaited, awaits, cleared_while, confirm_while, ended, hand_if_cleared, is_waiting, max_sites, max_waiting, on_ask, on_cleared, on_confirm, orders_of, orders_to, serve_next, start, start_first, started, unserved}
+use Rattle.shm_model.specs.Basics.{at, greatest}
 use Rattle.shm_model.specs.Kernel.{Called, call, destroyed_by}
 use Rattle.shm_model.specs.Message.{Message, Of, Call, Replies, Purge, Purged, Input, Load, Store, Begin, Deliver, Tick, Restart}
 use Rattle.shm_model.specs.Calls.{Attachment, Freshness, Fresh, Again, Old, Outstanding, fits, freshness}
-use Rattle.shm_model.specs.Site.{Site, is_attached, least_free}
-use Rattle.shm_model.specs.Access.{Place, Step, ask_for, is_pending, load_if, right, store_if}
+use Rattle.shm_model.specs.Site.{Site, is_attached, least_free, Step}
+use Rattle.shm_model.specs.Access.{Place, ask_for, is_pending, load_if, right, store_if}
 use Rattle.shm_model.specs.Transfer.{on_note, to_book, to_entry}
 use Rattle.shm_model.specs.SegmentCalls.{attached_at, begin_detach, begin_op, executed, numbered, on_call_as, on_reply_to, purge_envelope, reply_counts}
 use Rattle.shm_model.specs.Step.{foreign, on_message, step}

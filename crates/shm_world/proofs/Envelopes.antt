@@ -5,8 +5,8 @@ use Rattle.std.proofs.lemmas.Bool.Decides.{nat_tests}
 use Rattle.std.proofs.lemmas.Option.{none-some, slice_get_past}
 use Rattle.shm_model.specs.declared.answer.Answer.{Answer}
 use Rattle.shm_model.specs.declared.answer.Answer.TheVariants.{Refused}
-use Rattle.shm_model.specs.Access.{Step, still}
-use Rattle.shm_model.specs.Book.{at}
+use Rattle.shm_model.specs.Site.{Step, still}
+use Rattle.shm_model.specs.Basics.{at}
 use Rattle.shm_model.specs.Message.{Deliver, Envelope, Input}
 use Rattle.shm_model.specs.Refusal.{foreign_message, no_such_message, numbers_used_up}
 use Rattle.shm_model.specs.Site as model
@@ -95,7 +95,7 @@ fault_foreign false e = absurd (cc)
 if_foreign : (sites me : ℕ) (e : Envelope) (site : model.Site) → foreign sites me e ≡ true → deliver sites me e site ≡ still (Refused foreign_message) site
 if_foreign sites me e site h = cond-true (foreign sites me e) (still (Refused foreign_message) site) (on_message sites me e.from e.message site) h
 
-pub turned_away : {A : Type 0} (new : World A) (w : world.World) (x : model.Site) (e : Envelope) (f : StepFault) (r : Result Answer (parts.Envelope A)) → StandsFor new w → slice_get w.sites e.to ≡ Some x → length w.sent ≤ world.max_sent
+pub turned_away : {A : Type 0} (new : World A) (w : world.World) (x : model.Site) (e : Envelope) (f : StepFault) (r : Result Answer (parts.Envelope A)) → StandsFor new w → slice_get w.sites e.to ≡ Some x → length w.sent ≤ max_sent
     → f ≡ fault_of (foreign w.count e.to e) → (f ≡ fault.Foreign → r ≡ Ok (Refused foreign_message)) → (f ≡ fault.OutOfMemory → IsErr r)
     → IfOk r (λ answer. Went new (world.step_at w e.to (Deliver e)) answer)
 turned_away new w x e fault.Foreign r stands there few is refused memory =

@@ -12,7 +12,8 @@ use Rattle.shm_model.specs.Refusal.{numbers_used_up}
 use Rattle.shm_model.specs.Site.{Site}
 use Rattle.shm_model.specs.Step.{step}
 use Rattle.shm_model.specs.World as model
-use Rattle.shm_world.specs.Promise.{EachGivesLast, GivesLast, Promised, StoppedAfter}
+use Rattle.shm_model.specs.Promise.{EachGivesLast, GivesLast, Promised}
+use Rattle.shm_world.specs.Stopped.{StoppedAfter}
 use Rattle.shm_world.specs.World.{after, answers, StandsFor}
 use Rattle.shm_world.specs.declared.world.World.{World}
 use Rattle.shm_world.proofs.Runs.{Ran, run-then}

@@ -7,7 +7,7 @@ use Rattle.std.specs.Slice.{IsItemAt}
 use Rattle.std.specs.Option.{option_copied}
 use denote.Ref.{Bor}
 use Rattle.shm_model.specs.declared.answer.Answer.{Answer}
-use Rattle.shm_model.specs.Access.{Step}
+use Rattle.shm_model.specs.Site.{Step}
 use Rattle.shm_model.specs.Message.{Envelope}
 use Rattle.shm_model.specs.Site as model
 use Rattle.shm_site.specs.Site.{SameSeat, sent_after, site_of, stepped}

@@ -3,9 +3,10 @@ use Rattle.std.proofs.Common.{◌≡◌, ◌∙◌, ℕ, ◌<◌, ◌≤◌, fal
 use Rattle.std.proofs.lemmas.Bool.{cond-true, cond-false}
 use Rattle.std.proofs.lemmas.Bool.Decides.{nat_tests}
 use Rattle.std.proofs.lemmas.Option.{same_Some}
+use Rattle.shm_model.specs.Basics.{max_sent}
 use Rattle.shm_model.specs.declared.answer.Answer.{Answer}
 use Rattle.shm_model.specs.declared.answer.Answer.TheVariants.{Refused}
-use Rattle.shm_model.specs.Access.{Step}
+use Rattle.shm_model.specs.Site.{Step}
 use Rattle.shm_model.specs.Message.{Envelope, Input}
 use Rattle.shm_model.specs.Refusal.{no_such_site, numbers_used_up}
 use Rattle.shm_model.specs.Site as model
@@ -43,20 +44,20 @@ set_same (y ∷ ys) (suc s) x h = ap (λ l. y ∷ l) (set_same ys s x h)
 pub no_site : (w : world.World) (s : ℕ) (i : Input) → slice_get w.sites s ≡ None → world.step_at w s i ≡ world.unstepped w s (Refused no_such_site)
 no_site w s i none = ap (λ m. world.step_site m w s i) none
 
-pub no_number : (w : world.World) (s : ℕ) (x : model.Site) (i : Input) → slice_get w.sites s ≡ Some x → world.max_sent < length w.sent → world.step_at w s i ≡ world.unstepped w s (Refused numbers_used_up)
+pub no_number : (w : world.World) (s : ℕ) (x : model.Site) (i : Input) → slice_get w.sites s ≡ Some x → max_sent < length w.sent → world.step_at w s i ≡ world.unstepped w s (Refused numbers_used_up)
 no_number w s x i there full =
     ap (λ m. world.step_site m w s i) there
-    ∙ cond-true (nat_lt world.max_sent (length w.sent)) (world.unstepped w s (Refused numbers_used_up)) (world.stepped w s i (step w.count s x i)) (grind (arith, nat_tests))
+    ∙ cond-true (nat_lt max_sent (length w.sent)) (world.unstepped w s (Refused numbers_used_up)) (world.stepped w s i (step w.count s x i)) (grind (arith, nat_tests))
 
 -- else the site makes its step
-pub steps : (w : world.World) (s : ℕ) (x : model.Site) (i : Input) → slice_get w.sites s ≡ Some x → length w.sent ≤ world.max_sent → world.step_at w s i ≡ world.stepped w s i (step w.count s x i)
+pub steps : (w : world.World) (s : ℕ) (x : model.Site) (i : Input) → slice_get w.sites s ≡ Some x → length w.sent ≤ max_sent → world.step_at w s i ≡ world.stepped w s i (step w.count s x i)
 steps w s x i there few =
     ap (λ m. world.step_site m w s i) there
-    ∙ cond-false (nat_lt world.max_sent (length w.sent)) (world.unstepped w s (Refused numbers_used_up)) (world.stepped w s i (step w.count s x i)) (grind (arith, nat_tests))
+    ∙ cond-false (nat_lt max_sent (length w.sent)) (world.unstepped w s (Refused numbers_used_up)) (world.stepped w s i (step w.count s x i)) (grind (arith, nat_tests))
 
 -- where the world stands when a site has made its step and what it sent is on its way
 pub went : {A : Type 0} (old new : World A) (w : world.World) (s : ℕ) (x : model.Site) (i : Input) (answer : Answer) (out : List Envelope)
-    → StandsFor old w → slice_get w.sites s ≡ Some x → length w.sent ≤ world.max_sent
+    → StandsFor old w → slice_get w.sites s ≡ Some x → length w.sent ≤ max_sent
     → Made old.members new.members s [] out answer (step old.members.count s x i) → new.members.count ≡ old.members.count → Carries new.network (w.sent ++ out) w.gone
     → Went new (world.step_at w s i) answer
 went old new w s x i answer out stands there few made count carries =
@@ -81,7 +82,7 @@ little old new s x i answer out few other made =
 
 -- a step that leaves its site as it was and sends nothing
 pub stays : {A : Type 0} (world' : World A) (w : world.World) (s : ℕ) (x : model.Site) (i : Input) (answer : Answer)
-    → StandsFor world' w → slice_get w.sites s ≡ Some x → length w.sent ≤ world.max_sent → step w.count s x i ≡ record { site = x; answer = answer; sent = [] } → Went world' (world.step_at w s i) answer
+    → StandsFor world' w → slice_get w.sites s ≡ Some x → length w.sent ≤ max_sent → step w.count s x i ≡ record { site = x; answer = answer; sent = [] } → Went world' (world.step_at w s i) answer
 stays world' w s x i answer stands there few still =
     subst (λ (n : world.Next). Went world' n answer) (sym (steps w s x i there few ∙ ap (λ t. world.stepped w s i t) still)) (record {
       stands = record {
@@ -94,7 +95,7 @@ stays world' w s x i answer stands there few still =
     })
 
 -- the answer of a step that is made
-pub answered : (w : world.World) (s : ℕ) (x : model.Site) (i : Input) → slice_get w.sites s ≡ Some x → length w.sent ≤ world.max_sent → (world.step_at w s i).done.answer ≡ (step w.count s x i).answer
+pub answered : (w : world.World) (s : ℕ) (x : model.Site) (i : Input) → slice_get w.sites s ≡ Some x → length w.sent ≤ max_sent → (world.step_at w s i).done.answer ≡ (step w.count s x i).answer
 answered w s x i there few = ap (λ (n : world.Next). n.done.answer) (steps w s x i there few)
 
 -- results that stand for one another

@@ -1,5 +1,5 @@
 pub mod Members
-pub mod Promise
+pub mod Stopped
 pub mod Seats
 pub mod Showing
 pub mod Start

@@ -1,7 +1,7 @@
 -- The sites of a world, as the definitions speak of them; and what a step of one of them makes of all.
 use Rattle.std.specs.Prelude.{◌≡◌, ℕ, List, ◌++◌, Option, Some, None, map, slice_set}
 use Rattle.shm_model.specs.declared.answer.Answer.{Answer}
-use Rattle.shm_model.specs.Access.{Step}
+use Rattle.shm_model.specs.Site.{Step}
 use Rattle.shm_model.specs.Message.{Envelope}
 use Rattle.shm_model.specs.Site as model
 use Rattle.shm_site.specs.Site.{site_of}

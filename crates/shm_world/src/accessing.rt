@@ -1,5 +1,6 @@
 //! Loads and stores of the world's sites.
 ghost use Rattle.std.specs.Prelude.{◌≡◌, ◌<◌, ◌≤◌, IfNone, IfOk, IfSome, OnErr};
+ghost use Rattle.shm_model.specs.Basics.{max_sent};
 ghost use Rattle.shm_model.specs.Message as input;
 ghost use Rattle.shm_model.specs.World as model;
 ghost use Rattle.shm_model.specs.declared.answer.Answer.TheVariants as answer;
@@ -31,7 +32,7 @@ impl<A: Allocator + Copy> World<A> {
     /// The load, where nothing has to be sent for it.
     fn load_here(&self, site: SiteId, at: u32, offset: u32) -> Option<Answer>
         requires site { site < self.now.members.count }
-        requires numbers { self.now.network.sent ≤ model.max_sent }
+        requires numbers { self.now.network.sent ≤ max_sent }
         ensures here { (w : model.World) → StandsFor self.now w → IfSome result (λ answer. Went self.now (model.step_at w site (input.Load at offset)) answer) }
         ensures elsewhere { (w : model.World) → StandsFor self.now w → IfNone result ((model.step_at w site (input.Load at offset)).done.answer ≡ answer.Fault) }
     {

@@ -6,7 +6,7 @@ ghost use Rattle.shm_model.specs.Inputs.{OwnInputs};
 ghost use Rattle.shm_model.specs.Memory.{Coherent, Legal};
 ghost use Rattle.shm_model.specs.Transactions.{BytesAreLast, InvalidatedFirst, NumbersTell, ReadersAreKnown};
 ghost use Rattle.shm_model.specs.World.{IsOpening, Opening, run, run_on};
-ghost use Rattle.shm_world.specs.Promise.{Promised};
+ghost use Rattle.shm_model.specs.Promise.{Promised};
 
 /// Each load gives the last store to its place, or 0; and no page is writable at one site while readable at another (Li and Hudak 1989, §2).
 pub fn every_run_is_legal_and_coherent()
@@ -91,8 +91,5 @@ pub fn runs_go_on()
 pub fn every_run_keeps_the_promise()
     ensures { (o : Opening) (events : List Event) → IsOpening o → Promised o events }
 {
-    every_run_is_legal_and_coherent();
-    each_call_is_executed_once();
-    attachments_are_counted();
-    nothing_alive_is_purged();
+    shm_laws::every_run_keeps_the_promise();
 }

@@ -2,7 +2,8 @@
 ghost use Rattle.std.specs.Prelude.{◌≡◌, [], ◌∷◌, ◌++◌, List, length, true, IfOk, OnErr, OnOk};
 ghost use Rattle.shm_model.specs.World as model;
 ghost use Rattle.shm_model.specs.declared.event.Event.{Event};
-ghost use Rattle.shm_world.specs.Promise.{EachGivesLast, GivesLast, Promised, StoppedAfter};
+ghost use Rattle.shm_model.specs.Promise.{EachGivesLast, GivesLast, Promised};
+ghost use Rattle.shm_world.specs.Stopped.{StoppedAfter};
 ghost use Rattle.shm_world.specs.Steps.{Went};
 ghost use Rattle.shm_world.specs.World.{after, answers, may_grow, AnsweredSome, StandsFor};
 

@@ -1,5 +1,6 @@
 //! Steps of one site of the world.
 ghost use Rattle.std.specs.Prelude.{◌≡◌, ◌+◌, ◌<◌, ◌≤◌, ◌++◌, ℕ, Bool, List, true, false, [], length, Ok, IfErr, IfNone, IfOk, IfSome, IsErr, IsOk, OnErr, OnOk};
+ghost use Rattle.shm_model.specs.Basics.{max_sent};
 ghost use Rattle.shm_model.specs.Message.{Envelope};
 ghost use Rattle.shm_model.specs.Message as input;
 ghost use Rattle.shm_model.specs.World as model;
@@ -25,7 +26,7 @@ impl<A: Allocator + Copy> World<A> {
     pub(crate) fn refusal(&self, site: SiteId) -> Option<Answer>
         ensures refused { IfSome result (λ answer. (w : model.World) (i : input.Input) → StandsFor self.now w → model.step_at w site i ≡ model.unstepped w site answer) }
         ensures site { IfNone result (site < self.now.members.count) }
-        ensures numbers { IfNone result (self.now.network.sent ≤ model.max_sent) }
+        ensures numbers { IfNone result (self.now.network.sent ≤ max_sent) }
     {
         if site.0 >= self.members.count.count() {
             return Some(Answer::Refused(NO_SUCH_SITE));
@@ -40,7 +41,7 @@ impl<A: Allocator + Copy> World<A> {
     /// that was handed in comes back.
     pub(crate) fn made(&mut self, site: SiteId, input: Input<A>) -> Result<Answer, StepError<A>>
         requires site { site < self.old.members.count }
-        requires numbers { self.old.network.sent ≤ model.max_sent }
+        requires numbers { self.old.network.sent ≤ max_sent }
         requires room { MOST_SENT ≤ room_of self.old.network }
         requires other { is_tick (input_of input) ≡ false }
         ensures step { (w : model.World) → StandsFor self.old w → IfOk result (λ answer. Went self.new (model.step_at w site (input_of input)) answer) }
@@ -65,7 +66,7 @@ impl<A: Allocator + Copy> World<A> {
     /// Steps a site at an input that hands no envelope over, other than a tick.
     pub(crate) fn stepped(&mut self, site: SiteId, input: Input<A>) -> Result<Answer, AllocError>
         requires site { site < self.old.members.count }
-        requires numbers { self.old.network.sent ≤ model.max_sent }
+        requires numbers { self.old.network.sent ≤ max_sent }
         requires tick { is_tick (input_of input) ≡ false }
         requires delivery { is_delivery (input_of input) ≡ false }
         ensures step { (w : model.World) → StandsFor self.old w → IfOk result (λ answer. Went self.new (model.step_at w site (input_of input)) answer) }
@@ -93,7 +94,7 @@ impl<A: Allocator + Copy> World<A> {
     /// The refusal of a segment call that can't begin at its site.
     fn begin_refused(&self, site: SiteId, request: &Request) -> Option<Answer>
         requires site { site < self.now.members.count }
-        requires numbers { self.now.network.sent ≤ model.max_sent }
+        requires numbers { self.now.network.sent ≤ max_sent }
         ensures refused { (w : model.World) → StandsFor self.now w → IfSome result (λ answer. Went self.now (model.step_at w site (input.Begin request.now)) answer) }
         ensures begins { (w : model.World) → StandsFor self.now w → IfNone result (is_refused (model.step_at w site (input.Begin request.now)).done.answer ≡ false) }
     {

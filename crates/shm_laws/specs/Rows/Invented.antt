@@ -6,10 +6,9 @@ use Rattle.shm_model.specs.declared.call.Op.TheVariants.{Detach, Stat}
 use Rattle.shm_model.specs.declared.call.Reply.TheVariants.{Ok}
 use Rattle.shm_model.specs.declared.kind.Kind.TheVariants.{Read, Write}
 use Rattle.shm_model.specs.Entry.{Note, Ask, Clear, Cleared, Hand, Page, Confirm}
-use Rattle.shm_model.specs.Book.{greatest}
+use Rattle.shm_model.specs.Basics.{greatest}
 use Rattle.shm_model.specs.Message.{Message, Of, Call, Replies, Purge, Purged, Envelope, Deliver}
-use Rattle.shm_model.specs.Site.{Site, blank}
-use Rattle.shm_model.specs.Access.{Step}
+use Rattle.shm_model.specs.Site.{Site, blank, Step}
 use Rattle.shm_model.specs.Step.{step}
 use Rattle.shm_model.specs.World.{Preset, opened_site}
 use Rattle.shm_laws.specs.Rows.Script.{Sent, cleared, confirm, hand, page, purged, reply, sent_as}

@@ -5,8 +5,7 @@ use Rattle.std.proofs.lemmas.Option.{get_or_from_slice_get, slice_get-get_or, sl
 use Rattle.shm_model.specs.declared.event.Event.{Event}
 use Rattle.shm_model.specs.declared.event.Event.TheVariants.{Deliver as DeliverEvent}
 use Rattle.shm_model.specs.Message.{Envelope, Message, Of, Call, Replies, Purge, Purged, Deliver}
-use Rattle.shm_model.specs.Site.{Site}
-use Rattle.shm_model.specs.Access.{Step}
+use Rattle.shm_model.specs.Site.{Site, Step}
 use Rattle.shm_model.specs.Step.{deliver as site_deliver}
 use Rattle.shm_model.specs.World.{Next, Opening, Run, World, begun, deliver, extended, is_full, live, next, run, step_site, stepped, without}
 use Rattle.shm_laws.proofs.PageOrders.{each-imp}

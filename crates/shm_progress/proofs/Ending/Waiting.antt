@@ -6,7 +6,8 @@ use Rattle.shm_place.specs.declared.page.PageId.{PageId}
 use Rattle.shm_model.specs.declared.event.Event.{Event}
 use Rattle.shm_model.specs.declared.kind.Kind.{Kind}
 use Rattle.shm_model.specs.Entry.{Ask}
-use Rattle.shm_model.specs.Book.{Book, Outcome, Running, Waiting, ask_while, awaits, cleared_while, confirm_while, ended, greatest, is_waiting, is_write, max_waiting, on_ask, serve_next, start, start_first, unserved}
+use Rattle.shm_model.specs.Book.{Book, Outcome, Running, Waiting, ask_while, awaits, cleared_while, confirm_while, ended, is_waiting, is_write, max_waiting, on_ask, serve_next, start, start_first, unserved}
+use Rattle.shm_model.specs.Basics.{greatest}
 use Rattle.shm_model.specs.Message.{Envelope, Of}
 use Rattle.shm_model.specs.Site.{Site}
 use Rattle.shm_model.specs.World.{Opening, run, sites_of}

@@ -8,13 +8,12 @@ use Rattle.std.proofs.lemmas.Option.{get_or_from_slice_get, slice_get-get_or, sl
 use Rattle.shm_place.specs.Home.{home_of_id}
 use Rattle.shm_place.specs.Limits.{segments_of_a_home}
 use Rattle.shm_model.specs.declared.answer.Answer.{Answer}
-use Rattle.shm_model.specs.Book.{at}
+use Rattle.shm_model.specs.Basics.{at}
 use Rattle.shm_model.specs.Permission.{Segment}
 use Rattle.shm_model.specs.Kernel.{call as kernel_call, destroyed_by, with_id}
 use Rattle.shm_model.specs.Message.{Envelope, Input, Purge, Purged}
 use Rattle.shm_model.specs.SegmentCalls.{purge_envelope, purges, reply_envelope}
-use Rattle.shm_model.specs.Site.{Site, is_attached}
-use Rattle.shm_model.specs.Access.{Step}
+use Rattle.shm_model.specs.Site.{Site, is_attached, Step}
 use Rattle.shm_model.specs.Step.{ask_again, call_again, deliver, foreign, is_proper, orders_again, purges_again, tick_envelopes}
 use Rattle.shm_laws.proofs.RunsOn.{slice_get-range}
 use Rattle.shm_laws.proofs.CallsTurn.{Desk, Turn, again, attached, detach_begun, ended, executed, hears_purged, missing_with, old, op_begun, purges_one, quiet}

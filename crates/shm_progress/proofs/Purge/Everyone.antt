@@ -8,7 +8,7 @@ use Rattle.shm_place.specs.Home.{home_of_id}
 use Rattle.shm_model.specs.declared.answer.Answer.{Answer}
 use Rattle.shm_model.specs.declared.call.Op.{Op}
 use Rattle.shm_model.specs.declared.event.Event.{Event}
-use Rattle.shm_model.specs.Book.{at}
+use Rattle.shm_model.specs.Basics.{at}
 use Rattle.shm_model.specs.Kernel.{call as kernel_call, destroyed_by, named_by}
 use Rattle.shm_model.specs.Calls.{op_home}
 use Rattle.shm_model.specs.Message.{Deliver, Envelope, Input, Purge, Purged}

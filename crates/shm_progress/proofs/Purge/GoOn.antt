@@ -5,8 +5,7 @@ use Rattle.shm_model.specs.declared.event.Event.{Event}
 use Rattle.shm_model.specs.declared.event.Event.TheVariants.{Tick as TickEvent}
 use Rattle.shm_model.specs.Message.{Envelope, Input, Deliver, Tick}
 use Rattle.shm_model.specs.SegmentCalls.{purge_envelope}
-use Rattle.shm_model.specs.Site.{Site}
-use Rattle.shm_model.specs.Access.{Step}
+use Rattle.shm_model.specs.Site.{Site, Step}
 use Rattle.shm_model.specs.Step.{deliver, step}
 use Rattle.shm_model.specs.World.{IsOpening, Next, Opening, World, is_full, live, next, run, step_site, stepped, without}
 use Rattle.shm_laws.proofs.RunInduction.{run-shape}

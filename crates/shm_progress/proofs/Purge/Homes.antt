@@ -6,7 +6,7 @@ use Rattle.shm_place.specs.Home.{home_of_id}
 use Rattle.shm_model.specs.declared.answer.Answer.{Answer}
 use Rattle.shm_model.specs.declared.call.Op.{Op}
 use Rattle.shm_model.specs.declared.event.Event.{Event}
-use Rattle.shm_model.specs.Book.{at}
+use Rattle.shm_model.specs.Basics.{at}
 use Rattle.shm_model.specs.Permission.{Segment}
 use Rattle.shm_model.specs.Kernel.{call as kernel_call, destroyed_by, is_destroyed, named_by, with_id}
 use Rattle.shm_model.specs.Message.{Envelope, Input}

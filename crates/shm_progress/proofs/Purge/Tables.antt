@@ -7,7 +7,7 @@ use Rattle.shm_place.specs.Limits.{max_segment_bytes, segments_of_a_home}
 use Rattle.shm_model.specs.declared.call.Cred.{Cred}
 use Rattle.shm_model.specs.declared.call.Op.{Op}
 use Rattle.shm_model.specs.declared.call.Op.TheVariants.{Get, Attach, Detach, Remove, Set, Stat}
-use Rattle.shm_model.specs.Book.{greatest}
+use Rattle.shm_model.specs.Basics.{greatest}
 use Rattle.shm_model.specs.Permission.{Segment, destroyed, has_creat, has_excl, is_owner, may_attach, may_get, may_stat}
 use Rattle.shm_model.specs.Kernel.{Called, attach, call, destroyed_in, detach, get_found, is_destroyed, live_at, made_at, make, max_live, named_by, next_id, on_live, remove, replaced, set, stat, with_id, with_key}
 use Rattle.shm_model.specs.Calls.{is_size, op_home}

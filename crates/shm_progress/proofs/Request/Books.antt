@@ -3,7 +3,8 @@ use Rattle.std.proofs.Common.{◌≡◌, ℕ, ◌<◌, ◌≤◌, ◌⊎◌, inl
 use Rattle.std.proofs.lemmas.Bool.{and_parts, cond_both, cond-true, cond-false, eq-eqb, eqb-true, leb-true, leb-false}
 use Rattle.std.proofs.lemmas.Bool.Decides.{nat_tests}
 use Rattle.shm_model.specs.declared.kind.Kind.{Kind}
-use Rattle.shm_model.specs.Book.{Book, Outcome, Ignored, UsedUp, Taken, Running, Waiting, ask_while, at, awaits, cleared_while, confirm_while, greatest, is_waiting, is_write, max_waiting, on_ask, serve_next, start, start_first, started, unserved}
+use Rattle.shm_model.specs.Book.{Book, Outcome, Ignored, UsedUp, Taken, Running, Waiting, ask_while, awaits, cleared_while, confirm_while, is_waiting, is_write, max_waiting, on_ask, serve_next, start, start_first, started, unserved}
+use Rattle.shm_model.specs.Basics.{at, greatest}
 use Rattle.shm_progress.specs.Requests.{IsTakenUp, TakesNone}
 use Rattle.shm_progress.proofs.BooksKept.{OutcomeHolds}
 

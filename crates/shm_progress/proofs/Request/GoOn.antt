@@ -7,10 +7,9 @@ use Rattle.shm_place.specs.Page.{in_limits, manager_of}
 use Rattle.shm_model.specs.declared.event.Event.{Event}
 use Rattle.shm_model.specs.declared.event.Event.TheVariants.{Tick as TickEvent, Restart as RestartEvent}
 use Rattle.shm_model.specs.Entry.{Ask}
-use Rattle.shm_model.specs.Book.{greatest}
+use Rattle.shm_model.specs.Basics.{greatest}
 use Rattle.shm_model.specs.Message.{Envelope, Input, Deliver, Restart, Tick}
-use Rattle.shm_model.specs.Site.{Pending, Site}
-use Rattle.shm_model.specs.Access.{Step}
+use Rattle.shm_model.specs.Site.{Pending, Site, Step}
 use Rattle.shm_model.specs.Step.{ask_again, deliver, step}
 use Rattle.shm_model.specs.World.{IsOpening, Next, Opening, Run, World, is_full, live, next, run, sites_of, step_site, stepped, without}
 use Rattle.shm_laws.proofs.RunInduction.{Shape, run-shape}

@@ -15,14 +15,15 @@ use Rattle.shm_model.specs.declared.call.Reply.TheVariants.{Id, Attached as Atta
 use Rattle.shm_model.specs.declared.call.Request.{Request}
 use Rattle.shm_model.specs.declared.call.Request.TheVariants.{Op as OpRequest, DetachAt}
 use Rattle.shm_model.specs.Entry.{Entry, Note, Ask, Clear, Cleared, Hand, Page, Confirm, Out, on_clear, on_hand, on_page, readable, writable}
-use Rattle.shm_model.specs.Book.{Outcome, Ignored, UsedUp, Taken, at, greatest, on_ask, on_cleared, on_confirm}
+use Rattle.shm_model.specs.Book.{Outcome, Ignored, UsedUp, Taken, on_ask, on_cleared, on_confirm}
+use Rattle.shm_model.specs.Basics.{at, greatest}
 use Rattle.shm_model.specs.Kernel.{call, destroyed_by, with_id}
 use Rattle.shm_model.specs.Calls.{Again, Attachment, Fresh, Freshness, Old, Outstanding, fits, freshness}
 use Rattle.shm_model.specs.Memory.{names}
 use Rattle.shm_model.specs.Message.{Input, Load, Store, Begin, Deliver, Tick, Restart, Message, Of, Call, Replies, Purge, Purged}
 use Rattle.shm_model.specs.History.{segments_after}
-use Rattle.shm_model.specs.Site.{Frames, Site, at_page, is_attached, least_free}
-use Rattle.shm_model.specs.Access.{Place, Step, ask_for, is_pending, load_if, right, store_if}
+use Rattle.shm_model.specs.Site.{Frames, Site, at_page, is_attached, least_free, Step}
+use Rattle.shm_model.specs.Access.{Place, ask_for, is_pending, load_if, right, store_if}
 use Rattle.shm_model.specs.Transfer.{arranged, drop_first, is_nothing, limited, on_note, settle, to_book, to_entry}
 use Rattle.shm_model.specs.SegmentCalls.{attached_at, begin_detach, begin_op, begin_request, call_begun, executed, numbered, on_call_as, on_reply_to, reply_counts}
 use Rattle.shm_model.specs.Step.{foreign, on_message, step}

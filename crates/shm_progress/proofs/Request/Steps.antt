@@ -5,10 +5,11 @@ use Rattle.shm_place.specs.declared.page.PageId.{PageId}
 use Rattle.shm_place.specs.Page.{in_limits, manager_of, same_page}
 use Rattle.shm_model.specs.declared.kind.Kind.{Kind}
 use Rattle.shm_model.specs.Entry.{Note, Ask, Clear, Cleared, Hand, Page, Confirm, on_clear, on_hand, on_page}
-use Rattle.shm_model.specs.Book.{Book, Outcome, Ignored, UsedUp, Taken, greatest, on_ask, on_cleared, on_confirm, untouched_book}
+use Rattle.shm_model.specs.Book.{Book, Outcome, Ignored, UsedUp, Taken, on_ask, on_cleared, on_confirm, untouched_book}
+use Rattle.shm_model.specs.Basics.{greatest}
 use Rattle.shm_model.specs.Message.{Input, Load, Store, Begin, Deliver, Tick, Restart, Message, Of, Call, Replies, Purge, Purged}
-use Rattle.shm_model.specs.Site.{Site, is_attached}
-use Rattle.shm_model.specs.Access.{Step, right}
+use Rattle.shm_model.specs.Site.{Site, is_attached, Step}
+use Rattle.shm_model.specs.Access.{right}
 use Rattle.shm_model.specs.Transfer.{on_note, to_book}
 use Rattle.shm_model.specs.Step.{deliver, foreign, on_message, step}
 use Rattle.shm_laws.proofs.PageMoves.{page-same, same-page}

@@ -10,11 +10,10 @@ use Rattle.shm_model.specs.declared.call.Op.TheVariants.{Get, Attach, Detach, Re
 use Rattle.shm_model.specs.declared.call.Request.{Request}
 use Rattle.shm_model.specs.declared.call.Request.TheVariants.{Op as OpRequest, DetachAt}
 use Rattle.shm_model.specs.declared.event.Event.{Event}
-use Rattle.shm_model.specs.Book.{greatest}
+use Rattle.shm_model.specs.Basics.{greatest}
 use Rattle.shm_model.specs.Calls.{Attachment, Outstanding}
 use Rattle.shm_model.specs.Message.{Envelope, Input, Load, Store, Begin, Deliver, Tick, Restart}
-use Rattle.shm_model.specs.Site.{Site, least_free}
-use Rattle.shm_model.specs.Access.{Step}
+use Rattle.shm_model.specs.Site.{Site, least_free, Step}
 use Rattle.shm_model.specs.SegmentCalls.{begin_detach, begin_op, begin_request, call_begun, numbered}
 use Rattle.shm_model.specs.Step.{step}
 use Rattle.shm_model.specs.World.{New, Preset, Framed, Opening, World, begun, opened_site, run, sites_of}

@@ -10,8 +10,7 @@ use Rattle.shm_model.specs.declared.event.Event.TheVariants.{Tick as TickEvent}
 use Rattle.shm_model.specs.Calls.{Outstanding, op_home}
 use Rattle.shm_model.specs.Message.{Envelope, Input, Deliver, Tick, Replies}
 use Rattle.shm_model.specs.SegmentCalls.{call_envelope, reply_envelope}
-use Rattle.shm_model.specs.Site.{Site, least_free}
-use Rattle.shm_model.specs.Access.{Step}
+use Rattle.shm_model.specs.Site.{Site, least_free, Step}
 use Rattle.shm_model.specs.Step.{deliver, step}
 use Rattle.shm_model.specs.World.{IsOpening, Next, Opening, World, is_full, live, next, run, step_site, stepped, without}
 use Rattle.shm_laws.proofs.RunInduction.{run-shape}

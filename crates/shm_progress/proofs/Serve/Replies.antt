@@ -12,7 +12,7 @@ use Rattle.shm_model.specs.declared.call.Op.TheVariants.{Get, Attach, Detach, Re
 use Rattle.shm_model.specs.declared.call.Reply.{Reply}
 use Rattle.shm_model.specs.declared.call.Reply.TheVariants.{Attached as AttachedReply, Refused}
 use Rattle.shm_model.specs.declared.event.Event.{Event}
-use Rattle.shm_model.specs.Book.{greatest}
+use Rattle.shm_model.specs.Basics.{greatest}
 use Rattle.shm_model.specs.Permission.{Segment, destroyed, has_creat, has_excl, is_owner, may_attach, may_get, may_stat}
 use Rattle.shm_model.specs.Kernel.{Called, call, get_found, live_at, made_at, make, max_live, on_live, with_id, with_key}
 use Rattle.shm_place.specs.Limits.{segments_of_a_home}

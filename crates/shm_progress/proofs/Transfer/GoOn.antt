@@ -7,10 +7,10 @@ use Rattle.shm_place.specs.Page.{manager_of}
 use Rattle.shm_model.specs.declared.event.Event.{Event}
 use Rattle.shm_model.specs.declared.event.Event.TheVariants.{Tick as TickEvent, Restart as RestartEvent}
 use Rattle.shm_model.specs.Entry.{Note, Cleared}
-use Rattle.shm_model.specs.Book.{Book, Running, Waiting, at, awaited, orders}
+use Rattle.shm_model.specs.Book.{Book, Running, Waiting, awaited, orders}
+use Rattle.shm_model.specs.Basics.{at}
 use Rattle.shm_model.specs.Message.{Envelope, Input, Deliver, Restart, Tick}
-use Rattle.shm_model.specs.Site.{Site}
-use Rattle.shm_model.specs.Access.{Step}
+use Rattle.shm_model.specs.Site.{Site, Step}
 use Rattle.shm_model.specs.Step.{step}
 use Rattle.shm_model.specs.Transfer.{order_envelopes}
 use Rattle.shm_model.specs.World.{IsOpening, Next, Opening, Run, World, is_full, live, run, sites_of, step_site, stepped, without}

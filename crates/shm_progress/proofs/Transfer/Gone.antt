@@ -2,8 +2,7 @@
 use Rattle.std.proofs.Common.{◌≡◌, ◌≢◌, ℕ, ◌⊎◌, inl, inr, Bool, true, Option, Some, slice_get, sym, ◌∙◌, ap}
 use Rattle.std.proofs.lemmas.Bool.{cases_eq}
 use Rattle.shm_model.specs.Message.{Input}
-use Rattle.shm_model.specs.Site.{Site}
-use Rattle.shm_model.specs.Access.{Step}
+use Rattle.shm_model.specs.Site.{Site, Step}
 use Rattle.shm_model.specs.Step.{step}
 use Rattle.shm_model.specs.World.{World, stepped}
 use Rattle.shm_laws.proofs.Sound.{set-here, set-there}

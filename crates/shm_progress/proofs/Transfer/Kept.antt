@@ -6,10 +6,10 @@ use Rattle.shm_place.specs.declared.page.PageId.{PageId}
 use Rattle.shm_place.specs.Page.{manager_of}
 use Rattle.shm_model.specs.declared.kind.Kind.TheVariants.{Write}
 use Rattle.shm_model.specs.Entry.{Note, Clear, Cleared, Hand, Page, Confirm}
-use Rattle.shm_model.specs.Book.{Book, Running, Waiting, at, awaited, awaits, is_write}
+use Rattle.shm_model.specs.Book.{Book, Running, Waiting, awaited, awaits, is_write}
+use Rattle.shm_model.specs.Basics.{at}
 use Rattle.shm_model.specs.Message.{Envelope, Input, Deliver, Of}
-use Rattle.shm_model.specs.Site.{Site}
-use Rattle.shm_model.specs.Access.{Step}
+use Rattle.shm_model.specs.Site.{Site, Step}
 use Rattle.shm_model.specs.Step.{is_to_manager, step}
 use Rattle.shm_model.specs.Transfer.{on_note}
 use Rattle.shm_model.specs.World.{World, stepped}

@@ -4,7 +4,8 @@ use Rattle.std.proofs.lemmas.Bool.{and_parts, cond_both, cond-true, cond-false, 
 use Rattle.shm_place.specs.declared.page.PageId.{PageId}
 use Rattle.shm_model.specs.declared.kind.Kind.{Kind}
 use Rattle.shm_model.specs.Entry.{Note, Ask, Cleared, Confirm}
-use Rattle.shm_model.specs.Book.{Book, Outcome, Ignored, UsedUp, Taken, Running, Waiting, ask_while, at, awaited, awaits, cleared_while, confirm_while, ended, greatest, hand_if_cleared, is_waiting, is_write, max_waiting, on_ask, orders, serve_next, start, start_first, started, unserved}
+use Rattle.shm_model.specs.Book.{Book, Outcome, Ignored, UsedUp, Taken, Running, Waiting, ask_while, awaited, awaits, cleared_while, confirm_while, ended, hand_if_cleared, is_waiting, is_write, max_waiting, on_ask, orders, serve_next, start, start_first, started, unserved}
+use Rattle.shm_model.specs.Basics.{at, greatest}
 use Rattle.shm_model.specs.Message.{Envelope, Input, Deliver, Of}
 use Rattle.shm_model.specs.Transfer.{order_envelopes}
 

@@ -7,10 +7,11 @@ use Rattle.shm_place.specs.Page.{manager_of, same_page}
 use Rattle.shm_model.specs.declared.kind.Kind.{Kind}
 use Rattle.shm_model.specs.declared.kind.Kind.TheVariants.{Read, Write}
 use Rattle.shm_model.specs.Entry.{Entry, Note, Ask, Clear, Cleared, Hand, Page, Confirm, Out, on_clear, on_hand, on_page, readable, writable}
-use Rattle.shm_model.specs.Book.{Book, Outcome, Ignored, UsedUp, Taken, greatest, is_write, on_ask, on_cleared, on_confirm, untouched_book}
+use Rattle.shm_model.specs.Book.{Book, Outcome, Ignored, UsedUp, Taken, is_write, on_ask, on_cleared, on_confirm, untouched_book}
+use Rattle.shm_model.specs.Basics.{greatest}
 use Rattle.shm_model.specs.Message.{Envelope, Input, Load, Store, Begin, Deliver, Tick, Restart, Message, Of, Call, Replies, Purge, Purged}
-use Rattle.shm_model.specs.Site.{Site, at_page, is_attached}
-use Rattle.shm_model.specs.Access.{Place, Step, ask_for, is_pending, load_if, right, store_if}
+use Rattle.shm_model.specs.Site.{Site, at_page, is_attached, Step}
+use Rattle.shm_model.specs.Access.{Place, ask_for, is_pending, load_if, right, store_if}
 use Rattle.shm_model.specs.Transfer.{arranged, is_nothing, on_note, order_envelopes, settle, to_book, to_entry}
 use Rattle.shm_model.specs.Step.{foreign, is_to_manager, on_message, step}
 use Rattle.shm_laws.proofs.PageMoves.{page-same, same-page}

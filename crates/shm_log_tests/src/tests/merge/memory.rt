@@ -5,7 +5,7 @@ ghost use Rattle.shm_merge.specs.Logs.{logs_of, LogsRise};
 ghost use Rattle.shm_merge.specs.Order.{order_of, AllName};
 ghost use Rattle.shm_model.specs.Log.{sent_by, LogsMatch};
 ghost use Rattle.shm_model.specs.Merge.{IsMerged};
-ghost use Rattle.shm_model.specs.World.{max_sent};
+ghost use Rattle.shm_model.specs.Basics.{max_sent};
 
 use super::{EVENTS, ORDER, are_named, both_logs, expect, two_sites};
 use crate::tests::full_heap::{Blocks, fill};

@@ -1,7 +1,7 @@
 use Rattle.std.proofs.Common.{◌≡◌, ◌+◌, take}
 use Rattle.std.specs.List.{sum_by}
 use Rattle.shm_model.specs.Log.{sent_by}
-use Rattle.shm_model.specs.World.{max_sent}
+use Rattle.shm_model.specs.Basics.{max_sent}
 use Rattle.shm_merge.specs.Logs.{logs_of}
 use Rattle.shm_merge.proofs.logs.are_numbered.Given as goal
 

@@ -4,7 +4,7 @@ use Rattle.std.proofs.lemmas.List.{length-map}
 use Rattle.shm_boxes.specs.Logged.{logged_of}
 use Rattle.shm_model.specs.Log.{Logged, Matches, log_of}
 use Rattle.shm_model.specs.Merge.{SiteStep, event_of, events_in}
-use Rattle.shm_model.specs.World.{max_sent}
+use Rattle.shm_model.specs.Basics.{max_sent}
 use Rattle.shm_merge.specs.Logs.{logs_of}
 use Rattle.shm_merge.specs.Numbering.{sent_in}
 use Rattle.shm_merge.specs.Order.{order_of, no_step, step_named}

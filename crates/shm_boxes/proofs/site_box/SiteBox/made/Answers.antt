@@ -1,6 +1,6 @@
 -- The site has made the step that the log was given.
 use Rattle.std.proofs.Common.{ap, map, sym, ◌≡◌, ◌∙◌}
-use Rattle.shm_model.specs.Access.{Step}
+use Rattle.shm_model.specs.Site.{Step}
 use Rattle.shm_model.specs.Log.{Logged}
 use Rattle.shm_model.specs.Step.{step}
 use Rattle.shm_parts.specs.Message.{envelope_of}

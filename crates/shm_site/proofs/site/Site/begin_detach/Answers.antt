@@ -1,5 +1,5 @@
 use Rattle.std.proofs.Common.{None, ap, sym, ◌∙◌}
-use Rattle.shm_model.specs.Book.{at}
+use Rattle.shm_model.specs.Basics.{at}
 use Rattle.shm_model.specs.Site as model
 use Rattle.shm_attach.specs.Attachments.{attachments_of}
 use Rattle.shm_parts.specs.Holdings.{with_holdings}

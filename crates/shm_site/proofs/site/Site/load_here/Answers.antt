@@ -1,5 +1,6 @@
 use Rattle.std.proofs.Common.{◌≡◌, ◌∙◌, [], Ok, IfNone, IfSome, ap, subst, sym}
-use Rattle.shm_model.specs.Access.{Step, ask_for, load, still}
+use Rattle.shm_model.specs.Access.{ask_for, load}
+use Rattle.shm_model.specs.Site.{Step, still}
 use Rattle.shm_model.specs.declared.answer.Answer.TheVariants.{Fault, Refused}
 use Rattle.shm_model.specs.declared.kind.Kind.TheVariants.{Read}
 use Rattle.shm_parts.specs.Holdings.{loaded_step}

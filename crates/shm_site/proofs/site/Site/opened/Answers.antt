@@ -1,6 +1,6 @@
 use Rattle.std.proofs.Common.{◌∙◌, ap, option_map, Some, None}
 use Rattle.shm_keys.specs.Table.{Table, missing_of}
-use Rattle.shm_model.specs.Book.{at}
+use Rattle.shm_model.specs.Basics.{at}
 use Rattle.shm_model.specs.Site.{new_site}
 use Rattle.shm_model.specs.World.{preset_attachment}
 use Rattle.shm_parts.specs.Holdings.{framed}

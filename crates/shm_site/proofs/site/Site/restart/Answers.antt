@@ -1,7 +1,7 @@
 use Rattle.std.proofs.Common.{[], ap, refl, sym}
 use Rattle.shm_attach.specs.Home.{kept_of}
 use Rattle.shm_model.specs.declared.answer.Answer.TheVariants.{Took}
-use Rattle.shm_model.specs.Access.{still}
+use Rattle.shm_model.specs.Site.{still}
 use Rattle.shm_model.specs.Book.{without_volatile}
 use Rattle.shm_parts.specs.Books.{booked_of, books_of}
 use Rattle.shm_parts.specs.Pendings.{pendings_of}

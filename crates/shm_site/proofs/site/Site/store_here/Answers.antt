@@ -1,5 +1,6 @@
 use Rattle.std.proofs.Common.{◌≡◌, ◌∙◌, [], Ok, IfNone, IfSome, ap, subst, sym}
-use Rattle.shm_model.specs.Access.{Step, ask_for, still, store}
+use Rattle.shm_model.specs.Access.{ask_for, store}
+use Rattle.shm_model.specs.Site.{Step, still}
 use Rattle.shm_model.specs.Site as model
 use Rattle.shm_model.specs.declared.answer.Answer.TheVariants.{Fault, Refused}
 use Rattle.shm_model.specs.declared.kind.Kind.TheVariants.{Write}

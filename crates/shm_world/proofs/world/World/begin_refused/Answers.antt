@@ -1,6 +1,6 @@
 use Rattle.std.proofs.Common.{◌≡◌, ◌∙◌, false, ap, arith, slice_get, sym}
 use Rattle.std.proofs.lemmas.Option.{none-some}
-use Rattle.shm_model.specs.Access.{Step}
+use Rattle.shm_model.specs.Site.{Step}
 use Rattle.shm_model.specs.Message.{Begin}
 use Rattle.shm_model.specs.SegmentCalls.{begin}
 use Rattle.shm_model.specs.World.{World, step_at}

@@ -1,6 +1,7 @@
 use Rattle.std.proofs.Common.{◌≡◌, ◌∙◌, ap, arith, slice_get, sym}
 use Rattle.std.proofs.lemmas.Option.{none-some}
-use Rattle.shm_model.specs.Access.{Step, load}
+use Rattle.shm_model.specs.Access.{load}
+use Rattle.shm_model.specs.Site.{Step}
 use Rattle.shm_model.specs.declared.answer.Answer.TheVariants.{Fault}
 use Rattle.shm_model.specs.Message.{Load}
 use Rattle.shm_model.specs.World.{World, step_at}

@@ -1,5 +1,11 @@
--- The promise: what holds of every run, whatever its events.
-use Rattle.std.specs.Prelude.{◌≡◌, ℕ, ◌+◌, ◌≤◌, List, ◌++◌, Some, length, slice_get, take}
+-- The promise. For every opening and every list of events, whatever the network loses, repeats and reorders, and whichever sites restart:
+--
+--   no page is writable at one site while readable at another, and readable copies are equal (`coherent`);
+--   each load gives the last store to its place, or 0 where there is none (`legal`);
+--   each segment call is executed once, attachments are counted, and nothing alive was purged.
+--
+-- Li and Hudak 1989, §2, have the second as what memory is, and §3 the first as how copies keep it.
+use Rattle.std.specs.Prelude.{◌≡◌, ℕ, ◌+◌, List, ◌++◌, Some, slice_get, take}
 use Rattle.shm_model.specs.declared.answer.Answer.{Answer}
 use Rattle.shm_model.specs.declared.answer.Answer.TheVariants.{Byte}
 use Rattle.shm_model.specs.declared.event.Event.{Event}
@@ -7,11 +13,8 @@ use Rattle.shm_model.specs.declared.event.Event.TheVariants.{Load}
 use Rattle.shm_model.specs.History.{Counted, ExecutedOnce, PurgedDead}
 use Rattle.shm_model.specs.Memory.{Coherent, Legal, last_store, names}
 use Rattle.shm_model.specs.World.{Opening, run}
-use Rattle.shm_world.specs.World.{answers, StandsFor}
-use Rattle.shm_world.specs.declared.world.World.{World}
 
--- each load gives the last store to its place; no page is writable at one site while readable at another, and readable copies are equal;
--- each segment call was executed once; attachments are counted; and nothing alive was purged
+-- what holds of the run of these events from this opening
 pub record Promised (o : Opening) (events : List Event) : Type 0 where
   pub legal : Legal o (run o events).account
   pub coherent : Coherent (run o events).world
@@ -29,12 +32,3 @@ GivesLast o before _ _ = Unit {0}
 abbrev pub EachGivesLast : Opening → List Event → List Event → ℕ → List Answer → Type 0
 EachGivesLast o before events first told = (k : ℕ) (event : Event) (answer : Answer) → slice_get events k ≡ Some event
     → slice_get told (first + k) ≡ Some answer → GivesLast o (before ++ take k events) event answer
-
--- A run that was stopped: of these events the first so many were made, the world stands after them, the answers that joined are theirs, and
--- what is promised holds up to there.
-pub record StoppedAfter {A : Type 0} (new : World A) (told out : List Answer) (o : Opening) (before events : List Event) : Type 0 where
-  pub count : ℕ
-  pub within : count ≤ length events
-  pub stands : StandsFor new (run o (before ++ take count events)).world
-  pub answered : out ≡ told ++ answers (run o before).world (take count events)
-  pub kept : Promised o (before ++ take count events)
