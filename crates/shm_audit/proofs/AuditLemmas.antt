@@ -3,7 +3,7 @@ use Rattle.std.proofs.Common.{◌≡◌, ℕ, ◌≤◌, List, [], ◌∷◌, Re
 use Rattle.std.specs.declared.alloc.AllocError.{AllocError}
 use Rattle.shm_place.specs.Limits as limit
 use Rattle.shm_boxes.specs.declared.site_log.SiteLog.{SiteLog}
-use Rattle.shm_merge.specs.Logs.{AreLogsOf}
+use Rattle.shm_audit.specs.Logs.{AreLogsOf}
 use Rattle.shm_model.specs.declared.event.Event.{Event}
 use Rattle.shm_model.specs.Log.{Logged}
 use Rattle.shm_model.specs.Memory.{Coherent, Legal}

@@ -8,3 +8,10 @@ pub mod StoreLemmas
 pub mod AuditLemmas
 pub mod CauseLemmas
 pub mod CompleteLemmas
+pub mod Fits
+pub mod Names
+pub mod Prefixes
+pub mod Least
+pub mod Merged
+pub mod Numbers
+pub mod Deliveries

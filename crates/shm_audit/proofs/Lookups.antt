@@ -6,7 +6,7 @@ use Rattle.std.proofs.lemmas.Option.{get_or_from_slice_get, none-some, slice_get
 use Rattle.shm_boxes.specs.SiteLog.{steps_of}
 use Rattle.shm_boxes.specs.declared.site_log.SiteLog.{SiteLog}
 use Rattle.shm_model.specs.Log.{log_of}
-use Rattle.shm_merge.specs.Logs.{logs_of}
+use Rattle.shm_audit.specs.Logs.{logs_of}
 
 -- what a lookup gave
 pub seen-at : {X Y : Type 0} (f : X → Y) (xs : List X) (i : ℕ) (r : Option (Bor X)) → IsItemAt xs i r → option_map (λ x. f x.now) r ≡ slice_get (map f xs) i

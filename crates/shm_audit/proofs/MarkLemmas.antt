@@ -7,7 +7,7 @@ use Rattle.shm_boxes.specs.SiteLog.{steps_of}
 use Rattle.shm_boxes.specs.declared.site_log.SiteLog.{SiteLog}
 use Rattle.shm_model.specs.Log.{Logged, log_of}
 use Rattle.shm_audit.proofs.Lookups.{log-here}
-use Rattle.shm_merge.specs.Logs.{logs_of}
+use Rattle.shm_audit.specs.Logs.{logs_of}
 use Rattle.shm_audit.specs.Marks.{mark_at, marked, unmarked, MarksName}
 
 abbrev bits : {A : Type 0} → List (Vec Bool A) → List (List Bool)

@@ -3,3 +3,8 @@ pub mod Cause
 pub mod Marks
 pub mod Complete
 pub mod Audit
+pub mod Logs
+pub mod Order
+pub mod Heads
+pub mod Rows
+pub mod Numbering

@@ -1,7 +1,7 @@
 //! The audit of logs and receipts.
 ghost use Rattle.std.specs.Prelude.{◌≡◌, ◌≤◌, ◌⊎◌, ℕ, List, length, map, IfErr, IfOk, IsOk};
 ghost use Rattle.std.specs.List.{sum_by};
-ghost use Rattle.shm_merge.specs.Logs.{logs_of, AreLogsOf};
+ghost use Rattle.shm_audit.specs.Logs.{logs_of, AreLogsOf};
 ghost use Rattle.shm_model.specs.Log.{sent_by};
 ghost use Rattle.shm_model.specs.Merge.{events_in, IsMerged, SiteStep};
 ghost use Rattle.shm_model.specs.Receipt.{of_all, ReceiptsHold};
@@ -22,8 +22,8 @@ use crate::steps::first_fault;
 use crate::untold::first_untold;
 use shm_boxes::{Receipt, SiteLog};
 use shm_laws::{every_run_is_legal_and_coherent, merged_logs_are_a_run};
-use shm_merge::laws::matching_logs_fit;
-use shm_merge::{Event, events, merge};
+use crate::laws::matching_logs_fit;
+use crate::{Event, events, merge};
 use shm_place::Sites;
 use std::alloc::{AllocError, Allocator};
 

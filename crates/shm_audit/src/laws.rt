@@ -1,13 +1,24 @@
-//! What is proved of causes: each law is the contract of a function without parameters, which does nothing.
+//! What is proved of logs and of causes: each law is the contract of a function that does nothing.
 ghost use Rattle.std.specs.Prelude.{◌≡◌, List};
 ghost use Rattle.shm_model.specs.declared.event.Event.{Event};
-ghost use Rattle.shm_model.specs.Log.{Logged};
+ghost use Rattle.shm_model.specs.Log.{Logged, LogsFit};
 ghost use Rattle.shm_model.specs.Receipt.{Receipt};
-ghost use Rattle.shm_model.specs.World.{Opening};
+ghost use Rattle.shm_model.specs.World.{Opening, Preset};
 ghost use Rattle.shm_audit.specs.Audit.{IsAudited};
 ghost use Rattle.shm_audit.specs.Cause.{IsFirstCause};
 ghost use Rattle.shm_audit.specs.Complete.{AllTold, IsFirstCauseOfAll};
+ghost use Rattle.shm_audit.specs.Logs.{logs_of, AreLogsOf};
 ghost use Rattle.shm_audit.specs.declared.audit_fault.AuditFault.{AuditFault};
+
+use shm_boxes::SiteLog;
+use shm_place::Sites;
+use std::alloc::Allocator;
+
+/// Logs of one set of sites fit: each is that of a site which began with segment 0 attached.
+pub fn matching_logs_fit<A: Allocator + Copy>(sites: Sites, pages: u32, logs: &[SiteLog<A>])
+    requires { AreLogsOf sites pages logs.now }
+    ensures { LogsFit (Preset sites pages) (logs_of logs.now) }
+{}
 
 /// Logs and receipts have at most one first cause.
 pub fn first_causes_are_one()

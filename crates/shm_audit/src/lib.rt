@@ -1,15 +1,26 @@
-//! The audit of running sites: from their logs and from what callers were told, the list of events that the sites made together, or the
-//! first cause why there is none.
+//! The logs of running sites in one order, and their audit: from logs and from what callers were told, the list of events that the sites
+//! made together, or the first cause why there is none.
 #![tactic(auto)]
 
 mod audit_fault;
 mod auditing;
 pub mod laws;
+mod logs;
 mod marks;
+mod merging;
+mod numbering;
 mod receipts;
+mod replaying;
 mod same;
+mod step_name;
 mod steps;
 mod untold;
 
 pub use audit_fault::AuditFault;
 pub use auditing::{audit, audit_complete};
+pub use logs::logs_match;
+pub use merging::merge;
+pub use replaying::events;
+pub use shm_boxes::SiteLog;
+pub use shm_model::Event;
+pub use step_name::StepName;

@@ -1,5 +1,5 @@
 ghost use Rattle.std.specs.Prelude.{◌≡◌, false, map, slice_index_or, slice_set, IfOk, true};
-ghost use Rattle.shm_merge.specs.Logs.{logs_of};
+ghost use Rattle.shm_audit.specs.Logs.{logs_of};
 ghost use Rattle.shm_audit.specs.Marks.{mark_at, marked, marks_of, unmarked};
 
 use shm_boxes::SiteLog;

@@ -5,7 +5,7 @@ ghost use Rattle.shm_boxes.specs.Receipt.{asked_of, receipt_of};
 ghost use Rattle.shm_model.specs.Receipt.{of_all, IsTrueOf, ReceiptsHold};
 ghost use Rattle.shm_audit.specs.Cause.{receipts_to, IsForged};
 ghost use Rattle.shm_audit.specs.Callers.{callers_of, receipts_of};
-ghost use Rattle.shm_merge.specs.Logs.{logs_of};
+ghost use Rattle.shm_audit.specs.Logs.{logs_of};
 ghost use Rattle.shm_audit.specs.Marks.{marked, marks_of, next_of, unmarked, IsNext, MarksName};
 
 use crate::audit_fault::AuditFault;

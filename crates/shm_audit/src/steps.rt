@@ -6,7 +6,7 @@ ghost use Rattle.shm_model.specs.Log.{log_of};
 ghost use Rattle.shm_parts.specs.Message.{envelope_of};
 ghost use Rattle.shm_site.specs.Step.{input_of};
 ghost use Rattle.shm_audit.specs.Cause.{step_before as before_in, AllSound, HasSent, IsAbove, IsFirstStep, IsSound, IsWrong, IsWrongAt, SoundAt};
-ghost use Rattle.shm_merge.specs.Logs.{logs_of};
+ghost use Rattle.shm_audit.specs.Logs.{logs_of};
 
 use crate::audit_fault::AuditFault;
 use crate::same::same_envelope;

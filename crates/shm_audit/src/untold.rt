@@ -1,6 +1,6 @@
 //! Whether the marked steps are all that need a receipt.
 ghost use Rattle.std.specs.Prelude.{◌≡◌, ℕ, ◌≤◌, ◌<◌, false, length, IfNone, IfSome, IsTrue};
-ghost use Rattle.shm_merge.specs.Logs.{logs_of};
+ghost use Rattle.shm_audit.specs.Logs.{logs_of};
 ghost use Rattle.shm_audit.specs.Complete.{completes, IsToldAt, IsUntold, IsUntoldAt};
 ghost use Rattle.shm_audit.specs.Marks.{mark_at, marks_of};
 

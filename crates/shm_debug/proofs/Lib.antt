@@ -5,3 +5,5 @@ pub mod PromiseLemmas
 pub mod ReadingLemmas
 pub mod ReplayLemmas
 pub mod ToldLemmas
+pub mod Holding
+pub mod Going

@@ -7,7 +7,7 @@ use Rattle.std.proofs.lemmas.List.{append_cancel_left, append_cancel_right, leng
 use Rattle.shm_model.specs.declared.event.Event.TheVariants.{Load}
 use Rattle.shm_lines.specs.declared.line.Line.{Line}
 use Rattle.shm_lines.specs.declared.line.Line.TheVariants.{Event as EventLine}
-use Rattle.shm_session.specs.Standing.{Standing}
+use Rattle.shm_debug.specs.Standing.{Standing}
 use Rattle.shm_text.specs.Text.{line_text}
 use Rattle.shm_debug.specs.Promise.{AlwaysTellsLast, TellsLast}
 use Rattle.shm_debug.specs.Replay.{Ends}

@@ -5,7 +5,7 @@ use Rattle.std.specs.Option.{ok_or}
 use Rattle.shm_lines.specs.Line.{is_first, line_of, may_stand}
 use Rattle.shm_lines.specs.declared.line.Line.{Line}
 use Rattle.shm_lines.specs.declared.line.Line.TheVariants.{Sites, Event as EventLine, Show, Back}
-use Rattle.shm_session.specs.Standing.{Standing}
+use Rattle.shm_debug.specs.Standing.{Standing}
 use Rattle.shm_text.specs.Text.{line_text}
 use Rattle.shm_debug.specs.Said.{next, said}
 use Rattle.shm_debug.specs.Script.{Script, placed, read_line, broken, whole}

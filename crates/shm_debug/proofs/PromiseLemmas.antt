@@ -7,7 +7,7 @@ use Rattle.shm_lines.specs.Line.{line_of, may_stand}
 use Rattle.shm_lines.specs.Spelling.{IsLine, spelling}
 use Rattle.shm_lines.specs.declared.line.Line.{Line}
 use Rattle.shm_lines.specs.declared.line.Line.TheVariants.{Sites, Event as EventLine, Show, Back}
-use Rattle.shm_session.specs.Standing.{Standing, opening_of, without_last}
+use Rattle.shm_debug.specs.Standing.{Standing, opening_of, without_last}
 use Rattle.shm_model.specs.Promise.{Promised}
 use Rattle.shm_debug.specs.Said.{next, standing_after}
 use Rattle.shm_debug.specs.Promise.{Kept}

@@ -4,7 +4,7 @@ use Rattle.std.proofs.lemmas.Bool.{cases_Bool}
 use Rattle.std.proofs.lemmas.Bool.Decides.{nat_tests}
 use Rattle.std.proofs.lemmas.List.Elements.{All-append, All-cons, All-nil}
 use Rattle.shm_lines.specs.Line.{may_stand, line_of}
-use Rattle.shm_session.specs.Standing.{Standing}
+use Rattle.shm_debug.specs.Standing.{Standing}
 use Rattle.shm_text.specs.Text.{line_text}
 use Rattle.shm_debug.specs.Script.{Script, after, broken, whole, read_on, read_line, placed, unended, parts_of}
 use Rattle.shm_debug.specs.Said.{next, said, standing_after}

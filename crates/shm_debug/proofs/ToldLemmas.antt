@@ -11,7 +11,7 @@ use Rattle.shm_lines.specs.Line.{line_of}
 use Rattle.shm_lines.specs.Spelling.{IsLine}
 use Rattle.shm_lines.specs.declared.line.Line.{Line}
 use Rattle.shm_lines.specs.declared.line.Line.TheVariants.{Event as EventLine}
-use Rattle.shm_session.specs.Standing.{Standing, stood, with_event}
+use Rattle.shm_debug.specs.Standing.{Standing, stood, with_event}
 use Rattle.shm_text.specs.Text.{answer_text, sent_text}
 use Rattle.shm_model.specs.Promise.{Promised}
 use Rattle.shm_world.proofs.Loads.{gives-last}

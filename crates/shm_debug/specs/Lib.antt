@@ -8,3 +8,7 @@ pub mod Told
 pub mod Replay
 pub mod Reading
 pub mod Faults
+pub mod Checkpoints
+pub mod Opening
+pub mod Standing
+pub mod BackFaults

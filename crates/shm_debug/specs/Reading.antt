@@ -6,7 +6,7 @@ use Rattle.shm_debug.specs.Said.{next, standing_after}
 use Rattle.shm_debug.specs.Replay.{summary_at}
 use Rattle.shm_debug.specs.Text.{text_from}
 use Rattle.shm_lines.specs.declared.line.Line.{Line}
-use Rattle.shm_session.specs.Standing.{Standing}
+use Rattle.shm_debug.specs.Standing.{Standing}
 use Rattle.shm_debug.specs.declared.outcome.Summary.{Summary}
 use Rattle.shm_debug.specs.declared.outcome.DebugFault.{DebugFault}
 use Rattle.shm_debug.specs.declared.outcome.DebugFault.TheVariants.{OutOfMemory, BadLine, LineTooLong, TooManyLines, ReadFault, WriteFault}

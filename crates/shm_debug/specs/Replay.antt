@@ -1,7 +1,7 @@
 -- How a replay ends, and what it has written by then.
 use Rattle.std.specs.Prelude.{◌≡◌, ℕ, Bool, true, false, List, [], ◌++◌, length, take, Option, None, Some, Result, Ok, Err}
 use Rattle.std.specs.Io.KnownBytes.{Appends, Consumes}
-use Rattle.shm_session.specs.Standing.{Standing, stood}
+use Rattle.shm_debug.specs.Standing.{Standing, stood}
 use Rattle.shm_debug.specs.Said.{standing_after}
 use Rattle.shm_debug.specs.Script.{Script, script_of}
 use Rattle.shm_debug.specs.Text.{text_of}

@@ -9,7 +9,7 @@ use Rattle.shm_text.specs.Text.{event_text}
 use Rattle.shm_text.specs.Page.{page_text}
 use Rattle.shm_debug.specs.Notice.{notice_text}
 use Rattle.shm_debug.specs.declared.notice.Notice.TheVariants as notice
-use Rattle.shm_session.specs.Standing.{Standing, opening_of, stood, with_event, without_last}
+use Rattle.shm_debug.specs.Standing.{Standing, opening_of, stood, with_event, without_last}
 
 -- an event: its answer, and the envelopes that it sent
 abbrev pub said_to_event : Standing → Event → List ℕ

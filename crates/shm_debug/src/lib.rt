@@ -1,16 +1,26 @@
-//! Replays a script of events over sites that share memory, and tells what becomes of each line.
+//! A debugger's session, with the events that stand, the world that they lead to, and going back; and whole scripts of lines over it, with
+//! what becomes of each line.
 #![tactic(auto)]
 
+mod applying;
+mod back_fault;
+mod checkpoint;
+mod checkpoints;
+mod going_back;
 pub mod laws;
 mod notice;
+mod opening;
 mod outcome;
 mod output;
 mod player;
 mod script;
+mod session;
+mod showing;
 mod turns;
 
+pub use back_fault::BackFault;
 pub use outcome::{DebugFault, Summary};
 pub use script::replay;
+pub use session::Session;
 pub use shm_lines::{BadLine, Line, parse_line};
-pub use shm_session::{BackFault, Session};
 pub use shm_text::print_answer;

@@ -10,7 +10,7 @@ ghost use Rattle.shm_debug.specs.Said.{said};
 use crate::outcome::{DebugFault, Summary};
 use crate::turns::{pass_line, summary};
 use shm_lines::{Line, laws, parse_line};
-use shm_session::Session;
+use crate::Session;
 use shm_text::Text;
 use std::alloc::{AllocError, Allocator};
 use std::marker::Model;

@@ -5,13 +5,13 @@ ghost use Rattle.shm_lines.specs.Spelling.{IsLine};
 ghost use Rattle.shm_text.specs.Text.{line_text};
 ghost use Rattle.shm_debug.specs.Replay.{summary_at};
 ghost use Rattle.shm_debug.specs.Said.{said, said_to_back, said_to_event, next, next_back};
-ghost use Rattle.shm_session.specs.Standing.{with_event};
+ghost use Rattle.shm_debug.specs.Standing.{with_event};
 
 use crate::notice::Notice;
 use crate::outcome::Summary;
 use shm_lines::Line;
 use shm_model::Event;
-use shm_session::{BackFault, Session};
+use crate::{BackFault, Session};
 use shm_text::Text;
 use std::alloc::{AllocError, Allocator};
 

@@ -6,3 +6,4 @@ pub mod ReadLemmas
 pub mod SpelledLemmas
 pub mod StepLemmas
 pub mod WordLemmas
+mod Lines

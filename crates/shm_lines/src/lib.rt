@@ -1,6 +1,7 @@
-//! The lines of a debugger's script: how each is read, and how it is spelled.
+//! The lines of a debugger's script: how each is read, and how it is spelled; and the lines of a workload, which say what each caller does.
 #![tactic(auto)]
 
+mod access;
 pub mod laws;
 mod line;
 mod mode;
@@ -12,8 +13,14 @@ mod spelling;
 mod spelling_calls;
 mod spelling_first;
 mod words;
+mod workload;
+mod workload_fault;
+mod workload_line;
 
+pub use access::Access;
 pub use line::Line;
 pub use options::{AccessWord, FlagsWord};
 pub use parse::{BadLine, parse_line};
 pub use words::{Words, split_at};
+pub use workload::{Workload, parse_workload};
+pub use workload_fault::WorkloadFault;

@@ -11,7 +11,7 @@ use Rattle.shm_boxes.specs.declared.box_fault.BoxFault.{BoxFault}
 use Rattle.shm_boxes.specs.declared.receipt.Receipt.{Receipt}
 use Rattle.shm_model.specs.Log.{Logged, LogsMatch, Matches, Stamp, log_of}
 use Rattle.shm_model.specs.Message.{Input}
-use Rattle.shm_merge.specs.Logs.{logs_of, LogsRise, StampsRise}
+use Rattle.shm_audit.specs.Logs.{logs_of, LogsRise, StampsRise}
 
 -- a box whose log rises up to its clock, and matches whatever the logs are
 pub record IsRising (box : Box) : Type 0 where

@@ -1,9 +1,9 @@
 -- A report's fault tells what is wrong with the reader's bytes.
 use Rattle.std.proofs.Common.{◌≡◌, ◌≢◌, ◌⊎◌, inl, inr, ℕ, List, Option, None, Some, Err, IfSome, take, refl, subst, sym}
-use Rattle.shm_workload.specs.Limits.{max_bytes}
-use Rattle.shm_workload.specs.Workload.{workload_of}
-use Rattle.shm_workload.specs.declared.fault.WorkloadFault.{WorkloadFault}
-use Rattle.shm_workload.specs.declared.fault.WorkloadFault.TheVariants as workload
+use Rattle.shm_lines.specs.Limits.{max_bytes}
+use Rattle.shm_lines.specs.Workload.{workload_of}
+use Rattle.shm_lines.specs.declared.workload_fault.WorkloadFault.{WorkloadFault}
+use Rattle.shm_lines.specs.declared.workload_fault.WorkloadFault.TheVariants as workload
 use Rattle.shm_report.specs.Causes.{input_cause, IsWrongBy}
 use Rattle.shm_report.specs.declared.report_fault.ReportFault.{ReportFault}
 use Rattle.shm_report.proofs.CutInput.{whole_fault}

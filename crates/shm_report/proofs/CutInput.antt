@@ -5,11 +5,11 @@ use Rattle.std.specs.List.{join_with_byte, onto_first}
 use Rattle.std.proofs.lemmas.Bool.Decides.{nat_tests}
 use Rattle.std.proofs.lemmas.List.{append-nil, length-drop, length-take, take-append-drop}
 use Rattle.std.proofs.lemmas.List.Splits.{join_with_byte-slice_split, length-slice_split}
-use Rattle.shm_workload.specs.Limits.{max_bytes}
-use Rattle.shm_workload.specs.Workload.{Whole, access_of, accesses_on, after_first, broken_limit, open_line, or_bad, parts_of, preset_of, read_all, read_line, then_rest, unless_broken, with_size, workload_of}
-use Rattle.shm_workload.specs.declared.access.Access.{Access}
-use Rattle.shm_workload.specs.declared.fault.WorkloadFault.{WorkloadFault}
-use Rattle.shm_workload.specs.declared.fault.WorkloadFault.TheVariants.{BadLine, LineTooLong, TooManyLines}
+use Rattle.shm_lines.specs.Limits.{max_bytes}
+use Rattle.shm_lines.specs.Workload.{Whole, access_of, accesses_on, after_first, broken_limit, open_line, or_bad, parts_of, preset_of, read_all, read_line, then_rest, unless_broken, with_size, workload_of}
+use Rattle.shm_lines.specs.declared.access.Access.{Access}
+use Rattle.shm_lines.specs.declared.workload_fault.WorkloadFault.{WorkloadFault}
+use Rattle.shm_lines.specs.declared.workload_fault.WorkloadFault.TheVariants.{BadLine, LineTooLong, TooManyLines}
 use Rattle.shm_report.proofs.WholeInput.{in_limits}
 
 -- the parts of two texts, one behind the other: the last part of one and the first part of the other are one part

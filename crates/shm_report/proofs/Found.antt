@@ -7,10 +7,10 @@ use Rattle.std.proofs.lemmas.List.{get_or-set_same, get_or-set_other, length-set
 use Rattle.std.proofs.lemmas.List.Filters.{length-filter_more}
 use Rattle.std.proofs.lemmas.Option.{get_or_from_slice_get, none-some, slice_get_read, slice_get_within}
 use Rattle.shm_boxes.specs.declared.receipt.Receipt.{Receipt}
-use Rattle.shm_running.specs.Callers.{AllServed, Serves, ServesAll}
+use Rattle.shm_report.specs.Callers.{AllServed, Serves, ServesAll}
 use Rattle.shm_text.specs.Text.{line_text}
-use Rattle.shm_workload.specs.Access.{site_of}
-use Rattle.shm_workload.specs.declared.access.Access.{Access}
+use Rattle.shm_lines.specs.Access.{site_of}
+use Rattle.shm_lines.specs.declared.access.Access.{Access}
 use Rattle.shm_report.proofs.Lines.{answers_text-push, one_line}
 use Rattle.shm_report.specs.Report.{answers_text, earlier, lines_text, TellsLines, TellsReceipt, HasReceipt, IsReceiptOf}
 

@@ -4,3 +4,6 @@ pub mod Found
 pub mod Lines
 pub mod Reports
 pub mod WholeInput
+pub mod Calls
+pub mod FirstFault
+pub mod Served

@@ -8,11 +8,11 @@ use Rattle.std.proofs.lemmas.List.{length-take, take_all}
 use Rattle.std.proofs.lemmas.List.Splits.{join_with_byte-slice_split}
 use Rattle.std.proofs.lemmas.Bool.Decides.{nat_tests}
 use Rattle.std.specs.List.{join_with_byte}
-use Rattle.shm_workload.specs.Limits.{max_bytes}
-use Rattle.shm_workload.specs.Workload.{Whole, access_of, accesses_on, after_first, open_line, or_bad, parts_of, preset_of, read_all, read_line, then_rest, unless_broken, with_size, workload_of}
-use Rattle.shm_workload.specs.declared.access.Access.{Access}
-use Rattle.shm_workload.specs.declared.fault.WorkloadFault.{WorkloadFault}
-use Rattle.shm_workload.specs.declared.fault.WorkloadFault.TheVariants.{LineTooLong, TooManyLines}
+use Rattle.shm_lines.specs.Limits.{max_bytes}
+use Rattle.shm_lines.specs.Workload.{Whole, access_of, accesses_on, after_first, open_line, or_bad, parts_of, preset_of, read_all, read_line, then_rest, unless_broken, with_size, workload_of}
+use Rattle.shm_lines.specs.declared.access.Access.{Access}
+use Rattle.shm_lines.specs.declared.workload_fault.WorkloadFault.{WorkloadFault}
+use Rattle.shm_lines.specs.declared.workload_fault.WorkloadFault.TheVariants.{LineTooLong, TooManyLines}
 
 no_limit : {A : Type 0} (many long : Bool) (number : ℕ) (said : Result A WorkloadFault) (x : A)
     → unless_broken (if many then Some TooManyLines else if long then Some (LineTooLong number) else None) said ≡ Ok x → (many ≡ false) × (long ≡ false)

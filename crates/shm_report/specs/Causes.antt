@@ -9,12 +9,12 @@ use Rattle.shm_cluster.specs.declared.client_fault.ClientFault.{ClientFault}
 use Rattle.shm_cluster.specs.declared.client_fault.ClientFault.TheVariants as client
 use Rattle.shm_cluster.specs.declared.start_fault.StartFault.TheVariants as start
 use Rattle.shm_model.specs.Log.{Logged}
-use Rattle.shm_running.specs.Callers.{AllServed}
-use Rattle.shm_running.specs.declared.run_fault.RunFault.{RunFault}
-use Rattle.shm_running.specs.declared.run_fault.RunFault.TheVariants as run
-use Rattle.shm_workload.specs.Workload.{Whole, workload_of}
-use Rattle.shm_workload.specs.declared.fault.WorkloadFault.{WorkloadFault}
-use Rattle.shm_workload.specs.declared.fault.WorkloadFault.TheVariants as workload
+use Rattle.shm_report.specs.Callers.{AllServed}
+use Rattle.shm_report.specs.declared.run_fault.RunFault.{RunFault}
+use Rattle.shm_report.specs.declared.run_fault.RunFault.TheVariants as run
+use Rattle.shm_lines.specs.Workload.{Whole, workload_of}
+use Rattle.shm_lines.specs.declared.workload_fault.WorkloadFault.{WorkloadFault}
+use Rattle.shm_lines.specs.declared.workload_fault.WorkloadFault.TheVariants as workload
 use Rattle.shm_report.specs.declared.report_fault.ReportFault.{ReportFault}
 use Rattle.shm_report.specs.declared.report_fault.ReportFault.TheVariants as report
 

@@ -1,3 +1,5 @@
 pub mod Causes
 pub mod Report
 pub mod Numbers
+pub mod Callers
+pub mod RunFaults

@@ -10,12 +10,12 @@ use Rattle.shm_boxes.specs.declared.receipt.Receipt.{Receipt}
 use Rattle.shm_model.specs.declared.event.Event.{Event}
 use Rattle.shm_model.specs.Log.{Logged}
 use Rattle.shm_model.specs.World.{Preset}
-use Rattle.shm_running.specs.Callers.{AllServed, Serves, lines_of}
+use Rattle.shm_report.specs.Callers.{AllServed, Serves, lines_of}
 use Rattle.shm_text.specs.Text.{answer_text, line_text}
-use Rattle.shm_workload.specs.Access.{site_of}
-use Rattle.shm_workload.specs.Workload.{Whole, workload_of}
-use Rattle.shm_workload.specs.declared.access.Access.{Access}
-use Rattle.shm_workload.specs.declared.workload.Workload.{Workload}
+use Rattle.shm_lines.specs.Access.{site_of}
+use Rattle.shm_lines.specs.Workload.{Whole, workload_of}
+use Rattle.shm_lines.specs.declared.access.Access.{Access}
+use Rattle.shm_lines.specs.declared.workload.Workload.{Workload}
 
 -- how many of the accesses before this place are the site's
 abbrev pub earlier : ℕ → List Access → ℕ → ℕ

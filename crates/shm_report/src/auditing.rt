@@ -3,7 +3,7 @@ ghost use Rattle.std.specs.Prelude.{◌≡◌, ◌≢◌, List, None, IfErr, IfS
 ghost use Rattle.shm_audit.specs.Audit.{IsAudited};
 ghost use Rattle.shm_audit.specs.Callers.{callers_of};
 ghost use Rattle.shm_audit.specs.Complete.{AllTold, IsFirstCauseOfAll};
-ghost use Rattle.shm_merge.specs.Logs.{logs_of, AreLogsOf};
+ghost use Rattle.shm_audit.specs.Logs.{logs_of, AreLogsOf};
 ghost use Rattle.shm_model.specs.World.{Preset};
 ghost use Rattle.shm_model.specs.declared.event.Event.{Event};
 ghost use Rattle.shm_report.specs.Causes.{audit_cause, input_cause};
@@ -12,7 +12,7 @@ ghost use Rattle.shm_report.specs.declared.report_fault.ReportFault.TheVariants 
 use crate::report_fault::ReportFault;
 use shm_audit::audit_complete;
 use shm_place::Sites;
-use shm_running::Ran;
+use crate::Ran;
 use std::alloc::Global;
 
 /// Whether the logs and receipts are those of so many sites that shared one plain memory, and the receipts are all; if not, the first

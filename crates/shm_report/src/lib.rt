@@ -1,13 +1,20 @@
-//! Runs a workload from a reader over sites in threads, audits what they logged, and only then tells a writer what each line was
-//! answered.
+//! Runs a workload from a reader over sites in threads, a caller in a thread of its own for each site, audits what they logged, and only
+//! then tells a writer what each line was answered.
 #![tactic(auto)]
 
 mod auditing;
+mod caller;
 mod fault_number;
+mod ran;
 mod reading;
 mod report_fault;
 mod reporting;
+mod run_fault;
+mod running;
 mod telling;
 
+pub use ran::Ran;
 pub use report_fault::ReportFault;
 pub use reporting::report;
+pub use run_fault::{CallFault, RunFault};
+pub use running::run_workload;

@@ -1,6 +1,6 @@
 //! The whole input, before anything runs.
 ghost use Rattle.std.specs.Prelude.{◌≡◌, ◌≢◌, false, take, IfErr, IfOk, IfSome};
-ghost use Rattle.shm_workload.specs.Limits.{max_bytes};
+ghost use Rattle.shm_lines.specs.Limits.{max_bytes};
 ghost use Rattle.shm_report.specs.Causes.{is_after_reading, IsOther};
 ghost use Rattle.shm_report.specs.declared.report_fault.ReportFault.TheVariants as cause;
 

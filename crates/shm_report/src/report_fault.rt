@@ -1,12 +1,12 @@
 ghost use Rattle.std.specs.Prelude.{◌≡◌, ◌≢◌, None, Some, false};
 ghost use Rattle.shm_audit.specs.declared.audit_fault.AuditFault.TheVariants as audit;
 ghost use Rattle.shm_report.specs.declared.report_fault.ReportFault.TheVariants as cause;
-ghost use Rattle.shm_workload.specs.declared.fault.WorkloadFault.TheVariants as workload;
+ghost use Rattle.shm_lines.specs.declared.workload_fault.WorkloadFault.TheVariants as workload;
 
 use shm_audit::AuditFault;
 use shm_cluster::{ClientFault, StartFault};
-use shm_running::RunFault;
-use shm_workload::WorkloadFault;
+use crate::RunFault;
+use shm_lines::WorkloadFault;
 use thiserror::Error;
 
 /// Why nothing was reported. Lines count from 1.

@@ -1,9 +1,9 @@
 //! A whole workload, from a reader to a writer.
 ghost use Rattle.std.specs.Prelude.{◌≡◌, ◌≢◌, ◌≤◌, ◌⊎◌, ℕ, List, None, Ok, false, true, IfErr, IfOk, IfSome, OnOk};
 ghost use Rattle.std.specs.Io.KnownBytes.{Appends};
-ghost use Rattle.shm_merge.specs.Logs.{logs_of, AreLogsOf};
-ghost use Rattle.shm_running.specs.Callers.{AllServed};
-ghost use Rattle.shm_workload.specs.Workload.{workload_of};
+ghost use Rattle.shm_audit.specs.Logs.{logs_of, AreLogsOf};
+ghost use Rattle.shm_report.specs.Callers.{AllServed};
+ghost use Rattle.shm_lines.specs.Workload.{workload_of};
 ghost use Rattle.shm_report.specs.Causes.{audit_cause, input_cause, is_after_reading, IsFound, IsFoundIn, IsRight, IsWrongBy};
 ghost use Rattle.shm_report.specs.Report.{whole_of, IsCutShort, IsReport, IsReportOf};
 ghost use Rattle.shm_report.specs.declared.report_fault.ReportFault.TheVariants as cause;
@@ -13,8 +13,8 @@ use crate::reading::read_all;
 use crate::report_fault::ReportFault;
 use crate::telling::{told, write_report};
 use shm_place::{PAGES, Sites};
-use shm_running::{Ran, run_workload};
-use shm_workload::{Workload, parse_workload};
+use crate::{Ran, run_workload};
+use shm_lines::{Workload, parse_workload};
 use std::alloc::Global;
 use std::io::{Read, Write};
 use std::sync::Wait;

@@ -1,8 +1,8 @@
 //! The text of a report.
 ghost use Rattle.std.specs.Prelude.{◌≡◌, ◌≢◌, ◌+◌, ◌++◌, ◌<◌, length, slice_index, slice_set, IfErr, IfOk, IfSome, IsSome, OnErr, OnOk};
 ghost use Rattle.std.specs.Io.KnownBytes.{Appends};
-ghost use Rattle.shm_running.specs.Callers.{AllServed};
-ghost use Rattle.shm_workload.specs.Access.{site_of};
+ghost use Rattle.shm_report.specs.Callers.{AllServed};
+ghost use Rattle.shm_lines.specs.Access.{site_of};
 ghost use Rattle.shm_report.specs.Causes.{IsOther};
 ghost use Rattle.shm_report.specs.Report.{audit_yes, IsCutShort, HasReceipt, TellsLines, TellsReceipt};
 ghost use Rattle.shm_report.specs.declared.report_fault.ReportFault.TheVariants as cause;
@@ -11,7 +11,7 @@ use crate::report_fault::ReportFault;
 use shm_boxes::Receipt;
 use shm_place::MAX_SITES;
 use shm_text::{AnswerText, Text, write_whole};
-use shm_workload::Access;
+use shm_lines::Access;
 use std::alloc::Global;
 use std::io::Write;
 

@@ -1,4 +1,4 @@
-//! Tests of workloads, of running them in threads, and of the reports.
+//! Tests of workloads, of running them in threads, of the reports, and of the one table of refusals.
 #![tactic(auto)]
 
 #[cfg(test)]

@@ -1,4 +1,5 @@
 mod held;
+mod refusals;
 mod report;
 mod running;
 mod workload;

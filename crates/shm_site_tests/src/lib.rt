@@ -1,4 +1,5 @@
-//! Tests of sites and boxes that are given their inputs one by one, and of the network between them.
+//! Tests of one site and of what it is made of: pages, managers' books, segment calls, attachments; of boxes; and of the network between
+//! sites.
 #![tactic(auto)]
 
 #[cfg(test)]

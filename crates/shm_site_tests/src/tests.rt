@@ -1,7 +1,13 @@
+mod attach;
 mod boxes;
 mod full_heap;
+mod keys;
+mod manager;
 mod network;
+mod page;
+mod read;
 mod site;
+mod write;
 
 use std::process::Abort;
 

@@ -4,7 +4,7 @@
 use super::expect;
 use shm_audit::{AuditFault, audit};
 use shm_boxes::{Envelope, Input, Receipt, SiteBox, SiteLog, Stamp};
-use shm_merge::{Event, logs_match};
+use shm_audit::{Event, logs_match};
 use shm_model::Kind;
 use shm_parts::Message;
 use shm_place::{PageId, SegId, SiteId, Sites};

@@ -5,12 +5,12 @@ ghost use Rattle.std.specs.Prelude.{◌≡◌, ◌≤◌, [], List, IfOk, length
 ghost use Rattle.std.specs.List.{All};
 ghost use Rattle.shm_boxes.specs.SiteLog.{steps_of};
 ghost use Rattle.shm_model.specs.Log.{Logged, LogsMatch, Matches};
-ghost use Rattle.shm_merge.specs.Logs.{logs_of, LogsRise, StampsRise};
+ghost use Rattle.shm_audit.specs.Logs.{logs_of, LogsRise, StampsRise};
 ghost use Rattle.shm_site.specs.Step.{input_of};
 
 use super::expect;
 use shm_boxes::{Input, SiteBox, Stamp};
-use shm_merge::{Event, SiteLog, StepName, events, logs_match, merge};
+use shm_audit::{Event, SiteLog, StepName, events, logs_match, merge};
 use shm_place::{SiteId, Sites};
 use std::alloc::{AllocError, Allocator};
 use std::test::Fail;

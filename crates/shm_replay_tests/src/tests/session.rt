@@ -2,7 +2,7 @@ mod back;
 mod refused;
 
 use shm_place::{SiteId, Sites};
-use shm_session::Session;
+use shm_debug::Session;
 use shm_world::Event;
 use std::alloc::Allocator;
 use std::test::Fail;

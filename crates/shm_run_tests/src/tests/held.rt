@@ -2,7 +2,7 @@
 use shm_audit::audit_complete;
 use shm_boxes::{Receipt, SiteLog};
 use shm_cluster::{Client, ClientFault, Cluster, Gate};
-use shm_merge::logs_match;
+use shm_audit::logs_match;
 use shm_model::Answer;
 use shm_place::{SiteId, Sites};
 use std::alloc::{AllocError, Global};

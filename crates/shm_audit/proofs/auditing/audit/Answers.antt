@@ -1,5 +1,5 @@
 use Rattle.std.proofs.Common.{refl}
-use Rattle.shm_merge.specs.Logs.{logs_of}
+use Rattle.shm_audit.specs.Logs.{logs_of}
 use Rattle.shm_model.specs.World.{Preset}
 use Rattle.shm_audit.specs.Callers.{callers_of}
 use Rattle.shm_audit.proofs.AuditLemmas.{audited-with}

@@ -1,5 +1,5 @@
 use Rattle.std.proofs.Common.{refl}
-use Rattle.shm_merge.specs.Logs.{logs_of}
+use Rattle.shm_audit.specs.Logs.{logs_of}
 use Rattle.shm_audit.specs.Callers.{callers_of}
 use Rattle.shm_audit.specs.Marks.{marks_of}
 use Rattle.shm_audit.proofs.CompleteLemmas.{either-of-all, told-named, untold-if}

@@ -1,4 +1,4 @@
-use Rattle.shm_merge.specs.Logs.{logs_of}
+use Rattle.shm_audit.specs.Logs.{logs_of}
 use Rattle.shm_audit.proofs.SoundLemmas.{sound-match, sound-rise}
 use Rattle.shm_audit.proofs.auditing.merged.Goals as goal
 

@@ -1,5 +1,5 @@
 use Rattle.std.proofs.Common.{◌∙◌, sym, subst, []}
-use Rattle.shm_merge.specs.Logs.{logs_of}
+use Rattle.shm_audit.specs.Logs.{logs_of}
 use Rattle.shm_audit.specs.Marks.{MarksName}
 use Rattle.shm_audit.proofs.Lookups.{if-none}
 use Rattle.shm_audit.proofs.MarkLemmas.{none-marked}

@@ -1,7 +1,7 @@
 use Rattle.std.proofs.Common.{take}
 use Rattle.shm_model.specs.Receipt.{of_all, ReceiptsHold}
 use Rattle.shm_audit.specs.Callers.{callers_of}
-use Rattle.shm_merge.specs.Logs.{logs_of}
+use Rattle.shm_audit.specs.Logs.{logs_of}
 use Rattle.shm_audit.specs.Marks.{marks_of, MarksName}
 use Rattle.shm_audit.proofs.receipts.first_forged.Given as goal
 

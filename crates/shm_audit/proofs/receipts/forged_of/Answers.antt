@@ -5,7 +5,7 @@ use Rattle.shm_boxes.specs.SiteLog.{steps_of}
 use Rattle.shm_model.specs.Receipt.{of_all}
 use Rattle.shm_audit.specs.Cause.{receipts_to}
 use Rattle.shm_audit.specs.Callers.{callers_of, receipts_of}
-use Rattle.shm_merge.specs.Logs.{logs_of}
+use Rattle.shm_audit.specs.Logs.{logs_of}
 use Rattle.shm_audit.specs.Marks.{marks_of, next_of, AreLast, MarksName}
 use Rattle.shm_audit.proofs.NextLemmas.{forged-so, held-so, last-so, map-read, named-so, same-at}
 use Rattle.shm_audit.proofs.ReceiptLemmas.{holds-begun, of-all-own}

@@ -2,7 +2,7 @@ use Rattle.std.proofs.Common.{◌≡◌, take, length}
 use Rattle.shm_model.specs.Receipt.{of_all, ReceiptsHold}
 use Rattle.shm_audit.specs.Cause.{receipts_to}
 use Rattle.shm_audit.specs.Callers.{callers_of, receipts_of}
-use Rattle.shm_merge.specs.Logs.{logs_of}
+use Rattle.shm_audit.specs.Logs.{logs_of}
 use Rattle.shm_audit.specs.Marks.{marks_of, AreLast, MarksName}
 use Rattle.shm_audit.proofs.receipts.forged_of.Given as goal
 

@@ -3,7 +3,7 @@ use Rattle.shm_boxes.specs.Logged.{logged_of}
 use Rattle.shm_boxes.specs.Receipt.{receipt_of}
 use Rattle.shm_model.specs.Log.{log_of}
 use Rattle.shm_model.specs.Receipt.{access}
-use Rattle.shm_merge.specs.Logs.{logs_of}
+use Rattle.shm_audit.specs.Logs.{logs_of}
 use Rattle.shm_audit.proofs.ReceiptLemmas.{answered-so}
 use Rattle.shm_audit.proofs.receipts.tells.Goals as goal
 

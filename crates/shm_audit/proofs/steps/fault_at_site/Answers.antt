@@ -3,7 +3,7 @@ use Rattle.std.proofs.lemmas.Option.{slice_get_within}
 use borrow.Author.Count.{below_more}
 use Rattle.shm_model.specs.Log.{log_of}
 use Rattle.shm_audit.specs.Cause.{SoundAt}
-use Rattle.shm_merge.specs.Logs.{logs_of}
+use Rattle.shm_audit.specs.Logs.{logs_of}
 use Rattle.shm_audit.proofs.Lookups.{none-of}
 use Rattle.shm_audit.proofs.steps.fault_at_site.Goals as goal
 

@@ -1,6 +1,6 @@
 use Rattle.std.proofs.Common.{ℕ, ◌<◌}
 use Rattle.shm_audit.specs.Cause.{SoundAt}
-use Rattle.shm_merge.specs.Logs.{logs_of}
+use Rattle.shm_audit.specs.Logs.{logs_of}
 use Rattle.shm_audit.proofs.steps.fault_at_site.Given as goal
 
 abbrev pub invariant-steps : goal.invariant-steps

@@ -3,7 +3,7 @@ use Rattle.std.proofs.lemmas.List.{length-map}
 use Rattle.shm_boxes.specs.SiteLog.{steps_of}
 use borrow.Author.Count.{below_more}
 use Rattle.shm_audit.specs.Cause.{SoundAt}
-use Rattle.shm_merge.specs.Logs.{logs_of}
+use Rattle.shm_audit.specs.Logs.{logs_of}
 use Rattle.shm_audit.proofs.Lookups.{if-none, site-below}
 use Rattle.shm_audit.proofs.steps.first_fault.Goals as goal
 

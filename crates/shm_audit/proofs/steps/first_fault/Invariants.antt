@@ -1,6 +1,6 @@
 use Rattle.std.proofs.Common.{ℕ, ◌<◌}
 use Rattle.shm_audit.specs.Cause.{SoundAt}
-use Rattle.shm_merge.specs.Logs.{logs_of}
+use Rattle.shm_audit.specs.Logs.{logs_of}
 use Rattle.shm_audit.proofs.steps.first_fault.Given as goal
 
 abbrev pub invariant-sites : goal.invariant-sites

@@ -1,7 +1,7 @@
 use Rattle.std.proofs.Common.{◌≡◌, ap, sym, ◌∙◌, slice_get, arith}
 use Rattle.shm_boxes.specs.Logged.{logged_of}
 use Rattle.shm_model.specs.Log.{log_of}
-use Rattle.shm_merge.specs.Logs.{logs_of}
+use Rattle.shm_audit.specs.Logs.{logs_of}
 use Rattle.shm_audit.proofs.Lookups.{log-here, seen-at}
 use Rattle.shm_audit.proofs.steps.step_at.Goals as goal
 

@@ -4,7 +4,7 @@ use borrow.Author.Count.{below_more}
 use Rattle.shm_boxes.specs.SiteLog.{steps_of}
 use Rattle.shm_audit.specs.Complete.{IsToldAt}
 use Rattle.shm_audit.specs.Marks.{mark_at, marks_of}
-use Rattle.shm_merge.specs.Logs.{logs_of}
+use Rattle.shm_audit.specs.Logs.{logs_of}
 use Rattle.shm_audit.proofs.CompleteLemmas.{needs-below}
 use Rattle.shm_audit.proofs.untold.first_untold.Goals as goal
 

@@ -1,7 +1,7 @@
 use Rattle.std.proofs.Common.{ℕ, ◌<◌}
 use Rattle.shm_audit.specs.Complete.{IsToldAt}
 use Rattle.shm_audit.specs.Marks.{mark_at, marks_of}
-use Rattle.shm_merge.specs.Logs.{logs_of}
+use Rattle.shm_audit.specs.Logs.{logs_of}
 use Rattle.shm_audit.proofs.untold.first_untold.Given as goal
 
 abbrev pub invariant-sites : goal.invariant-sites

@@ -2,7 +2,7 @@ use Rattle.std.proofs.Common.{arith}
 use borrow.Author.Count.{below_more}
 use Rattle.shm_audit.specs.Complete.{IsToldAt}
 use Rattle.shm_audit.specs.Marks.{mark_at, marks_of}
-use Rattle.shm_merge.specs.Logs.{logs_of}
+use Rattle.shm_audit.specs.Logs.{logs_of}
 use Rattle.shm_audit.proofs.CompleteLemmas.{needs-within}
 use Rattle.shm_audit.proofs.untold.untold_at_site.Goals as goal
 

@@ -5,7 +5,7 @@ use super::{
 };
 use shm_audit::{AuditFault, audit_complete};
 use shm_boxes::{SiteLog, Stamp};
-use shm_merge::logs_match;
+use shm_audit::logs_match;
 use shm_place::{SiteId, Sites};
 use std::alloc::{AllocError, Allocator};
 use std::test::Fail;

@@ -2,7 +2,7 @@
 use super::{Given, are_events, audited_alone, expect, fault, two_logs};
 use shm_audit::AuditFault;
 use shm_boxes::Stamp;
-use shm_merge::Event;
+use shm_audit::Event;
 use shm_place::SiteId;
 use std::alloc::{AllocError, Allocator};
 use std::test::Fail;

@@ -1,5 +1,5 @@
 use super::{load, preset, store};
-use shm_session::{BackFault, Session};
+use shm_debug::{BackFault, Session};
 use shm_world::Answer;
 use std::process::Abort;
 use std::test::Fail;

@@ -1,7 +1,7 @@
 -- What was read is the reader's front, up to the limit.
 use Rattle.std.proofs.Common.{◌≡◌, [], length, subst, take, arith}
 use Rattle.std.specs.Io.KnownBytes.{Consumes, IsAtEnd}
-use Rattle.shm_workload.specs.Limits.{max_bytes}
+use Rattle.shm_lines.specs.Limits.{max_bytes}
 use Rattle.shm_report.proofs.WholeInput.{nothing_more, read_to_end, read_to_limit}
 use Rattle.shm_report.proofs.reading.read_all.Goals as goal
 

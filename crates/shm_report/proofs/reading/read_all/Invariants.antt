@@ -1,6 +1,6 @@
 use Rattle.std.proofs.Common.{◌≡◌, ◌-◌, ◌≤◌, length}
 use Rattle.std.specs.Io.KnownBytes.{Consumes}
-use Rattle.shm_workload.specs.Limits.{max_bytes}
+use Rattle.shm_lines.specs.Limits.{max_bytes}
 use Rattle.shm_report.proofs.reading.read_all.Given as goal
 
 -- what was read stands, and is no more than may be read

@@ -3,7 +3,7 @@ use Rattle.std.specs.List.{All}
 use Rattle.shm_boxes.specs.SiteLog.{steps_of}
 use Rattle.shm_boxes.specs.declared.site_log.SiteLog.{SiteLog}
 use Rattle.shm_model.specs.Log.{Logged, Matches}
-use Rattle.shm_merge.specs.Logs.{StampsRise}
+use Rattle.shm_audit.specs.Logs.{StampsRise}
 use Rattle.shm_log_tests.proofs.tests.merge.logged.Goals as goal
 
 pub returns-clause-rises : goal.returns-clause-rises

@@ -1,3 +1,0 @@
-mod attach;
-mod full_heap;
-mod keys;

@@ -1,0 +1,42 @@
+//! One more event.
+ghost use Rattle.std.specs.Prelude.{◌≡◌, ◌<◌, List, [], ◌∷◌, ◌++◌, true, IfOk, OnErr, OnOk};
+ghost use Rattle.std.specs.Vec.{vec_capacity, vec_len};
+ghost use Rattle.shm_model.specs.World as model;
+ghost use Rattle.shm_model.specs.declared.event.Event.{Event};
+ghost use Rattle.shm_debug.specs.Standing.{stood, with_event};
+ghost use Rattle.shm_world.specs.World.{StandsFor, may_grow};
+
+use crate::session::Session;
+use shm_world::{Answer, Event, World};
+use std::alloc::{AllocError, Allocator};
+
+impl<A: Allocator + Copy> Session<A> {
+    /// One more event, which stands from then on. Where memory is refused nothing changes. A load or store that has the right takes
+    /// memory for the list of the events alone, and so does a restart or a loss.
+    pub fn apply(&mut self, event: Event) -> Result<Answer, AllocError>
+        ensures answered { IfOk result (λ answer. answer ≡ (model.next (stood self.old) event).done.answer) }
+        ensures ok { OnOk result (self.new ≡ with_event self.old event) }
+        ensures err { OnErr result (self.new ≡ self.old) }
+    {
+        answered(&mut self.world, &mut self.events, &event)
+    }
+}
+
+/// What the world answers to the event, which joins the others.
+fn answered<A: Allocator + Copy>(
+    world: &mut World<A>,
+    events: &mut Vec<Event, A>,
+    event: &Event,
+) -> Result<Answer, AllocError>
+    ensures answered { (w : model.World) → StandsFor world.old w → IfOk result (λ answer. answer ≡ (model.next w event.now).done.answer) }
+    ensures led { (o : model.Opening) (before : List Event) → StandsFor world.old (model.run o before).world → OnOk result (StandsFor world.new (model.run o (before ++ event.now ∷ [])).world) }
+    ensures joined { OnOk result (events.new.items ≡ events.old.items ++ event.now ∷ []) }
+    ensures refused { (w : model.World) → StandsFor world.old w → OnErr result (StandsFor world.new w) }
+    ensures same { OnErr result (events.new.items ≡ events.old.items) }
+    ensures memory { (w : model.World) → StandsFor world.old w → vec_len events.old < vec_capacity events.old → OnErr result (may_grow event.now (model.next w event.now).done.answer ≡ true) }
+{
+    events.reserve(1)?;
+    let answer = world.step(*event)?;
+    events.push_reserved(*event);
+    Ok(answer)
+}

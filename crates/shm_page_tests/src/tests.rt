@@ -1,5 +1,0 @@
-mod full_heap;
-mod manager;
-mod page;
-mod read;
-mod write;

@@ -1,0 +1,65 @@
+//! The caller of one site.
+ghost use Rattle.std.specs.Prelude.{◌≡◌, ◌<◌, length, IfErr, IfOk, OnOk};
+ghost use Rattle.shm_cluster.specs.Client.{IsServed, TellsOf};
+ghost use Rattle.shm_report.specs.Callers.{Adds, ServesAll, input_of};
+
+use crate::run_fault::CallFault;
+use shm_boxes::Receipt;
+use shm_cluster::{Client, ClientFault};
+use shm_lines::Access;
+use std::alloc::Global;
+use std::sync::Wait;
+
+/// Makes all accesses of the client's site, in their order, each until the site has the right to it.
+pub(crate) fn call_all<R: Wait>(
+    rt: &R,
+    alloc: Global,
+    client: &Client<'_>,
+    accesses: &[Access],
+) -> Result<Vec<Receipt>, CallFault>
+    ensures served { IfOk result (λ receipts. ServesAll client.now.site accesses.now receipts.items) }
+    ensures place { IfErr result (λ fault. fault.place < length accesses.now) }
+{
+    let mut receipts = Vec::new(alloc);
+    'accesses: for (place, access) in accesses.iter().enumerate() {
+        match add(rt, client, access, &mut receipts) {
+            Ok(()) => {}
+            Err(fault) => return Err(CallFault { place, fault }),
+        }
+    }
+    Ok(receipts)
+}
+
+/// Makes the access where it is the site's, and keeps its receipt.
+fn add<R: Wait>(
+    rt: &R,
+    client: &Client<'_>,
+    access: &Access,
+    receipts: &mut Vec<Receipt>,
+) -> Result<(), ClientFault>
+    ensures { OnOk result (Adds client.now.site access.now receipts.old.items receipts.new.items) }
+{
+    if access.site() != client.site() {
+        return Ok(());
+    }
+    if receipts.reserve(1).is_err() {
+        return Err(ClientFault::OutOfMemory);
+    }
+    match serve(rt, client, access) {
+        Ok(receipt) => {
+            receipts.push_reserved(receipt);
+            Ok(())
+        }
+        Err(fault) => Err(fault),
+    }
+}
+
+fn serve<R: Wait>(rt: &R, client: &Client<'_>, access: &Access) -> Result<Receipt, ClientFault>
+    ensures tells { IfOk result (TellsOf client.now.site (input_of access.now)) }
+    ensures served { IfOk result IsServed }
+{
+    match access {
+        Access::Load { offset, .. } => client.load(rt, 0, *offset),
+        Access::Store { offset, byte, .. } => client.store(rt, 0, *offset, *byte),
+    }
+}

@@ -1,0 +1,198 @@
+ghost use Rattle.std.specs.Prelude.{◌≡◌, ◌≢◌, ◌<◌, ◌≤◌, ℕ, List, Ok, length, map, vec_len, IfErr, IfOk};
+ghost use Rattle.shm_audit.specs.Logs.{AreLogsOf};
+ghost use Rattle.shm_report.specs.Callers.{AllServed, ServedUnlessEnded, ServesAll};
+ghost use Rattle.shm_report.specs.RunFaults as said;
+ghost use Rattle.shm_report.specs.RunFaults.{FirstIfAny, NamesAccess, NoneFailed, TellsFirst};
+ghost use Rattle.shm_report.specs.declared.run_fault.RunFault.TheVariants as cause;
+ghost use Rattle.shm_lines.specs.declared.access.Access.{Access};
+
+use crate::caller::call_all;
+use crate::ran::Ran;
+use crate::run_fault::{CallFault, RunFault};
+use shm_boxes::{Receipt, SiteLog};
+use shm_cluster::{Clients, Cluster, OpenGate, StartFault};
+use shm_audit::logs_match;
+use shm_place::{PAGES, SiteId, Sites};
+use shm_lines::{Access, Workload};
+use std::alloc::{AllocError, Global};
+use std::sync::Wait;
+use std::thread;
+use std::thread::Threads;
+
+/// What one caller was told, or why it ended.
+type CallerTold = Result<Vec<Receipt>, CallFault>;
+
+/// The same of each caller.
+type Told = Vec<CallerTold>;
+
+/// Runs the workload over so many sites, whose network draws its losses and repeats from this seed. One caller for each site runs the
+/// site's lines in their order; at the end the threads have ended. Where callers ended by faults, the first of these in the order of the
+/// lines is told.
+pub fn run_workload<R: Threads + Wait + Copy + Send + Sync + 'static>(
+    rt: &R,
+    alloc: Global,
+    sites: Sites,
+    seed: u64,
+    workload: &Workload,
+) -> Result<Ran, RunFault>
+    requires from { 1 ≤ workload.now.pages }
+    requires to { workload.now.pages ≤ PAGES }
+    ensures served { IfOk result (λ ran. AllServed sites workload.now.accesses.items ran.callers.items) }
+    ensures logs { IfOk result (λ ran. AreLogsOf sites workload.now.pages ran.logs.items) }
+    ensures place { IfErr result (NamesAccess (length workload.now.accesses.items)) }
+{
+    let cluster = match Cluster::start(rt, alloc, sites, workload.pages, seed, OpenGate) {
+        Ok(cluster) => cluster,
+        Err(fault) => return Err(RunFault::Start(fault)),
+    };
+    let told = call(
+        rt,
+        alloc,
+        sites,
+        cluster.clients(),
+        workload.accesses.as_slice(),
+    );
+    let logs = cluster.stop(rt);
+    ran(alloc, sites, workload.pages, told, logs)
+}
+
+/// Runs a caller for each site, in a thread of its own.
+fn call<R: Threads + Wait + Sync>(
+    rt: &R,
+    alloc: Global,
+    sites: Sites,
+    clients: Clients<'_>,
+    accesses: &[Access],
+) -> Result<Told, AllocError>
+    requires { vec_len clients.shared.now.posts ≡ sites }
+    ensures { IfOk result (λ told. ServedUnlessEnded sites accesses.now told.items) }
+{
+    thread::map_indices(
+        rt,
+        alloc,
+        sites.count() as usize,
+        &|number| call_site(rt, alloc, clients, SiteId(number as u32), accesses),
+    )
+}
+
+/// Runs the caller of this site, which is there.
+fn call_site<R: Wait>(
+    rt: &R,
+    alloc: Global,
+    clients: Clients<'_>,
+    site: SiteId,
+    accesses: &[Access],
+) -> Result<Vec<Receipt>, CallFault>
+    requires { site < vec_len clients.shared.now.posts }
+    ensures served { IfOk result (λ receipts. ServesAll site accesses.now receipts.items) }
+    ensures place { IfErr result (λ fault. fault.place < length accesses.now) }
+{
+    match clients.client(site) {
+        Ok(client) => call_all(rt, alloc, &client, accesses),
+        Err(_) => unreachable!(),
+    }
+}
+
+/// What came of the workload, where each caller came to its end, and the logs that were given back are those of so many sites.
+fn ran(
+    alloc: Global,
+    sites: Sites,
+    pages: u32,
+    told: Result<Told, AllocError>,
+    logs: Result<Vec<SiteLog>, AllocError>,
+) -> Result<Ran, RunFault>
+    ensures callers { (count : ℕ) (accesses : List Access) → IfOk told (λ told. ServedUnlessEnded count accesses told.items) →
+        IfOk result (λ ran. AllServed count accesses ran.callers.items) }
+    ensures logs { IfOk result (λ ran. (logs ≡ Ok ran.logs) × AreLogsOf sites pages ran.logs.items) }
+    ensures first { IfOk told (λ told. IfErr result (TellsFirst told.items)) }
+    ensures unmatched { IfErr result (λ fault. fault ≡ cause.Logs → IfOk logs (λ logs. ¬ AreLogsOf sites pages logs.items)) }
+    ensures place { (count : ℕ) (accesses : List Access) → IfOk told (λ told. ServedUnlessEnded count accesses told.items) →
+        IfErr result (NamesAccess (length accesses)) }
+{
+    let Ok(told) = told else {
+        return Err(RunFault::Start(StartFault::OutOfMemory));
+    };
+    let callers = match receipts(alloc, told) {
+        Ok(callers) => callers,
+        Err(fault) => return Err(fault),
+    };
+    match logs {
+        Ok(logs) => matching(sites, pages, Ran { callers, logs }),
+        Err(_) => Err(RunFault::OutOfMemory),
+    }
+}
+
+/// The same, where its logs are those of so many sites.
+fn matching(sites: Sites, pages: u32, ran: Ran) -> Result<Ran, RunFault>
+    ensures same { IfOk result (λ matched. matched ≡ ran) }
+    ensures logs { IfOk result (λ ran. AreLogsOf sites pages ran.logs.items) }
+    ensures fault { IfErr result (λ fault. (fault ≡ cause.Logs) × (¬ AreLogsOf sites pages ran.logs.items)) }
+{
+    if !logs_match(sites, pages, ran.logs.as_slice()) {
+        return Err(RunFault::Logs);
+    }
+    Ok(ran)
+}
+
+/// The receipts of all callers, or the first fault in the order of the lines.
+fn receipts(alloc: Global, told: Told) -> Result<Vec<Vec<Receipt>>, RunFault>
+    ensures all { IfOk result (λ callers. told.items ≡ map Ok callers.items) }
+    ensures first { IfErr result (TellsFirst told.items) }
+    ensures unmatched { IfErr result (λ fault. fault ≢ cause.Logs) }
+{
+    match first_fault(told.as_slice()) {
+        Some(fault) => Err(RunFault::Call(fault)),
+        None => gathered(alloc, told),
+    }
+}
+
+/// Of the callers' faults the first in the order of the lines.
+fn first_fault(told: &[CallerTold]) -> Option<CallFault>
+    ensures { FirstIfAny told.now result }
+{
+    let mut first = None;
+    'callers: for caller in told {
+        first = earlier(first, fault_of(caller));
+    }
+    first
+}
+
+/// Why the caller ended, if it did before its last line.
+fn fault_of(caller: &CallerTold) -> Option<CallFault>
+    ensures { result ≡ said.fault_of caller.now }
+{
+    match caller {
+        Ok(_) => None,
+        Err(fault) => Some(*fault),
+    }
+}
+
+/// The one whose line comes first, and `one` where they have the same.
+fn earlier(one: Option<CallFault>, other: Option<CallFault>) -> Option<CallFault>
+    ensures { result ≡ said.earlier one other }
+{
+    match (one, other) {
+        (Some(one), Some(other)) if other.place < one.place => Some(other),
+        (None, other) => other,
+        (one, _) => one,
+    }
+}
+
+/// The receipts of all callers, where none ended by a fault.
+fn gathered(alloc: Global, told: Told) -> Result<Vec<Vec<Receipt>>, RunFault>
+    requires { NoneFailed told.items }
+    ensures all { IfOk result (λ callers. told.items ≡ map Ok callers.items) }
+    ensures fault { IfErr result (λ fault. fault ≡ cause.OutOfMemory) }
+{
+    let mut callers = Vec::new(alloc);
+    'callers: for caller in told {
+        match caller {
+            Ok(receipts) => match callers.push(receipts) {
+                Ok(()) => {}
+                Err(_) => return Err(RunFault::OutOfMemory),
+            },
+            Err(fault) => return Err(RunFault::Call(fault)),
+        }
+    }
+    Ok(callers)
+}

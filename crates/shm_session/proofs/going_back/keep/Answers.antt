@@ -1,6 +1,0 @@
-use Rattle.shm_session.specs.Standing.{first_events, stood}
-use Rattle.shm_session.proofs.going_back.keep.Goals as goal
-
-pub returns-in-Ok : goal.returns-in-Ok
-returns-in-Ok g c = λ s within stands all.
-    c.keep.ensures s all (record { within = within; stands = c.in-Ok.ensures (stood (first_events c.args.count s)) stands })

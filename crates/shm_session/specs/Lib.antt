@@ -1,4 +1,0 @@
-pub mod Checkpoints
-pub mod Opening
-pub mod Standing
-pub mod Faults

@@ -1,0 +1,63 @@
+use crate::tests::expect;
+use super::{expect_answer, expect_made, make_lone};
+use shm_keys::{Cred, Errno, GetFlags, Mode, SegTable};
+use shm_place::{Key, SegId, SiteId, Sites};
+use std::test::Fail;
+
+const ROOT: Cred = Cred { uid: 0, gid: 0 };
+
+#[test]
+fn a_home_has_so_many_at_a_time(rt: HostRuntime) -> Result<(), Fail> {
+    let sites = Sites::new(1).ok().ok_or("one site")?;
+    let mut table = make_lone(rt.alloc(), sites);
+    for id in 0..64 {
+        expect_made(&rt, table.get(ROOT, 0, 1, 0o600, 0), Ok(id));
+    }
+    expect_made(&rt, table.get(ROOT, 0, 1, 0o600, 0), Err(Errno::Enospc));
+    expect_made(&rt, table.get(ROOT, 0, 0, 0o600, 0), Err(Errno::Einval));
+    expect_made(&rt, table.get(ROOT, 9, 1, 0o600, 0), Err(Errno::Enoent));
+    expect_answer(&rt, table.remove(ROOT, 0), Ok(()));
+    expect_made(&rt, table.get(ROOT, 0, 1, 0o600, 0), Ok(64));
+    expect_answer(&rt, table.stat(ROOT, 0).map(|_| ()), Err(Errno::Eidrm));
+    expect_answer(&rt, table.stat(ROOT, 70).map(|_| ()), Err(Errno::Einval));
+    expect_answer(&rt, table.detach(1), Err(Errno::Einval));
+    expect(&rt, table.attach(ROOT, 1, false).is_ok());
+    expect_answer(&rt, table.remove(ROOT, 1), Ok(()));
+    expect_answer(&rt, table.remove(ROOT, 1), Ok(()));
+    expect_made(&rt, table.get(ROOT, 0, 1, 0o600, 0), Err(Errno::Enospc));
+    expect_answer(&rt, table.detach(1), Ok(()));
+    expect_made(&rt, table.get(ROOT, 0, 1, 0o600, 0), Ok(65));
+    Ok(())
+}
+
+#[test]
+fn identifiers_go_by_the_number_of_sites(rt: HostRuntime) -> Result<(), Fail> {
+    let sites = Sites::new(2).ok().ok_or("two sites")?;
+    let home = SiteId(1);
+    assert!(rt; home.0 < sites.count());
+    let mut table = SegTable::new(rt.alloc(), home, sites);
+    for id in [1, 3, 5] {
+        let answer = table.get(ROOT, Key(0), 1, Mode::OWNER_READ_WRITE, GetFlags(0));
+        assert_eq!(rt; answer, Ok(SegId(id)));
+    }
+    Ok(())
+}
+
+#[test]
+fn a_home_makes_so_many_ever(rt: HostRuntime) -> Result<(), Fail> {
+    let sites = Sites::new(1).ok().ok_or("one site")?;
+    let mut table = make_lone(rt.alloc(), sites);
+    for id in 0..65_536 {
+        expect_made(&rt, table.get(ROOT, 7, 1, 0o600, 0o1000), Ok(id));
+        expect_answer(&rt, table.remove(ROOT, id), Ok(()));
+    }
+    expect_made(
+        &rt,
+        table.get(ROOT, 7, 1, 0o600, 0o1000),
+        Err(Errno::Enospc),
+    );
+    expect(&rt, table.purged(65_535));
+    expect(&rt, !table.purged(65_535));
+    expect(&rt, table.next_purge(Some(65_534)).is_none());
+    Ok(())
+}

@@ -1,0 +1,50 @@
+use crate::tests::expect;
+use super::{expect_answer, expect_made, make_lone};
+use crate::tests::full_heap::filled;
+use linked_list_allocator::LocalHeap;
+use shm_keys::{Cred, GetFault};
+use shm_place::Sites;
+use std::test::Fail;
+
+const ROOT: Cred = Cred { uid: 0, gid: 0 };
+
+/// How often a hole is widened at most.
+const TRIES: usize = 1000;
+
+#[test]
+fn a_get_is_refused_until_there_is_room(rt: HostRuntime) -> Result<(), Fail> {
+    let heap = LocalHeap::new(rt.alloc(), 1 << 14)?;
+    let sites = Sites::new(1).ok().ok_or("one site")?;
+    let mut table = make_lone(&heap, sites);
+    let mut blocks = filled(rt.alloc(), &heap)?;
+    for tries in 0..TRIES {
+        let answer = table.get(ROOT, 5, 1, 0o600, 0o1000);
+        if answer != Err(GetFault::OutOfMemory) {
+            assert!(rt; tries > 2);
+            expect_made(&rt, answer, Ok(0));
+            expect_answer(&rt, table.remove(ROOT, 0), Ok(()));
+            return Ok(());
+        }
+        expect(&rt, table.stat(ROOT, 0).is_err());
+        drop(blocks.pop());
+    }
+    Err(Fail::new("no segment was made"))
+}
+
+#[test]
+fn what_was_made_goes_on_without_memory(rt: HostRuntime) -> Result<(), Fail> {
+    let heap = LocalHeap::new(rt.alloc(), 1 << 14)?;
+    let sites = Sites::new(1).ok().ok_or("one site")?;
+    let mut table = make_lone(&heap, sites);
+    expect_made(&rt, table.get(ROOT, 5, 1, 0o600, 0o1000), Ok(0));
+    let _blocks = filled(rt.alloc(), &heap)?;
+    expect(&rt, table.table.copy().is_err());
+    expect_made(&rt, table.get(ROOT, 5, 1, 0o600, 0o1000), Ok(0));
+    expect(&rt, table.attach(ROOT, 0, false).is_ok());
+    expect_answer(&rt, table.set(ROOT, 0, 1, 1, 0o600), Ok(()));
+    expect_answer(&rt, table.remove(ROOT, 0), Ok(()));
+    expect_answer(&rt, table.detach(0), Ok(()));
+    expect(&rt, table.next_purge(None).is_some());
+    expect(&rt, table.purged(0));
+    Ok(())
+}

@@ -1,4 +1,0 @@
-pub mod Access
-pub mod Limits
-pub mod Workload
-pub mod Faults
