@@ -2,7 +2,7 @@
 
 PROGRAM := crates/shmdbg
 
-.PHONY: replay build examples refused test wrong-bodies
+.PHONY: replay build examples manners refused test wrong-bodies
 
 # Replays an example without proving anything: within a minute on a fresh machine.
 replay:
@@ -23,6 +23,10 @@ examples:
 		sed -nE 's/^ *(pub\(super\) const [A-Z]+: &\[u8\] =)? *(b")?([^"]*)\\n(\\|";)$$/\3/p' "$$copy" > /tmp/copy.$$$$; \
 		cat "$$script" "examples/$$name.out" | cmp - /tmp/copy.$$$$ || exit 1; rm /tmp/copy.$$$$; echo "$$name: equal"; \
 	done
+
+# Compares the shells' completions and the manual page with what the program's help names. Needs the program that `make build` leaves.
+manners:
+	@completions/check
 
 # Programs that the types alone must refuse, each with the words of its refusal. Within a minute; nothing is proved.
 refused:

@@ -1,3 +1,4 @@
 mod Plain
+mod Wrong
 mod Numbers
 mod Other

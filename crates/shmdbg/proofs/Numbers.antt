@@ -1,8 +1,8 @@
 -- The numbers that clap reads of a run's options are those that the words give.
-use Rattle.std.proofs.Common.{◌≡◌, ℕ, List, IfSome, option_map, refl}
+use Rattle.std.proofs.Common.{◌≡◌, ℕ, List, IfSome, option_map, refl, true}
 use Rattle.std.specs.Prelude.{None, Ok, Option, Result, Some}
 use Rattle.clap.specs.Words.{ReadsOne, Row, Text, one_of}
-use Rattle.shmdbg.specs.Words.{number_in, number_of}
+use Rattle.shmdbg.specs.Words.{is_plain_at, number_at, number_in, number_of}
 
 pub number_read : (E : Type 0) (G : List ℕ → Result ℕ E → Type 0) → ((t : List ℕ) (n : ℕ) → G t (Ok n) → n ≡ number_of t)
     → (text : Option (List ℕ)) (r : Option ℕ) → (text ≡ None → r ≡ None) → ((t : List ℕ) → text ≡ Some t → ReadsOne G t r)
@@ -15,9 +15,14 @@ number_read E G says (Some t) (Some n) none value =
     let is : n ≡ number_of t = says t n (value t refl) in
     cc
 
-pub number_at : (named : Option (Text × List Row)) (rows : List Row) (option : Text) (n : ℕ) → option_map (λ p. p.1) named ≡ Some rows
-    → option_map number_of (one_of option rows) ≡ Some n → number_in named option ≡ Some n
-number_at None rows option n there read = cc
-number_at (Some run) rows option n there read =
+pub number_there : (named : Option (Text × List Row)) (rows : List Row) (option : Text) (n : ℕ) → option_map (λ p. p.1) named ≡ Some rows
+    → number_at option rows ≡ Some n → number_in named option ≡ Some n
+number_there None rows option n there read = cc
+number_there (Some run) rows option n there read =
     let is : run.1 ≡ rows = cc in
     rw is read
+
+pub plain_read : (option : Text) (rows : List Row) (r : Option ℕ) → is_plain_at option rows ≡ true
+    → IfSome r (λ n. option_map number_of (one_of option rows) ≡ Some n) → IfSome r (λ n. number_at option rows ≡ Some n)
+plain_read option rows None plain read = tt
+plain_read option rows (Some n) plain read = rw plain read

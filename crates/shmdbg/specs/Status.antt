@@ -1,7 +1,7 @@
 -- Exit statuses, and what each tells of the script on standard input and of the text on standard output.
 use Rattle.std.specs.Prelude.{◌≡◌, ℕ, true, false, List, [], IfSome, IsSomeAnd, Option, Result, Ok, Err}
 use Rattle.std.specs.Io.KnownBytes.{Appends}
-use Rattle.clap.specs.Words.{Text, fault_of}
+use Rattle.clap.specs.Words.{Text}
 use Rattle.shm_debug.specs.Script.{Script}
 use Rattle.shm_debug.specs.Replay.{Ends}
 use Rattle.shm_debug.specs.declared.outcome.Summary.{Summary}
@@ -11,7 +11,7 @@ use Rattle.shm_report.specs.Causes.{audit_cause, input_cause, is_after_reading, 
 use Rattle.shm_report.specs.Report.{IsReport}
 use Rattle.shm_report.specs.declared.report_fault.ReportFault.{ReportFault}
 use Rattle.shm_report.specs.declared.report_fault.ReportFault.TheVariants as report
-use Rattle.shmdbg.specs.Words.{app, asks_replay}
+use Rattle.shmdbg.specs.Words.{asks_replay, fault_in}
 
 -- the script is wrong, or something else failed
 abbrev pub fault_status : DebugFault → ℕ
@@ -40,9 +40,9 @@ abbrev pub status_of : Result Summary DebugFault → ℕ
 status_of (Ok summary) = 0
 status_of (Err fault) = fault_status fault
 
--- the program takes the words
+-- the program takes the words: clap does, none is too long, and each number is spelled plainly
 abbrev pub Takes : List Text → Type 0
-Takes words = fault_of app words ≡ []
+Takes words = fault_in words ≡ []
 
 -- and they ask for a replay
 abbrev pub AsksReplay : List Text → Type 0

@@ -1,9 +1,13 @@
 -- The words that the program takes, as clap reads them: `replay`, or `run --sites N --seed S`.
-use Rattle.std.specs.Prelude.{◌≡◌, ℕ, Bool, true, false, List, [], Option, Some, codes, option_and_then, option_map, pos}
+use Rattle.std.specs.Prelude.{◌≡◌, ◌==◌, ◌&&◌, ℕ, Bool, true, false, not, if◌then◌else◌, List, [], ◌∷◌, length, drop, slice_index, nat_lt, Option, Some, None, codes, option_and_then, option_map, pos}
+use Rattle.std.specs.List.{list_all, list_any}
+use Rattle.std.specs.Char.{is_ascii_digit}
 use Rattle.std.specs.Option.{option_map_or}
 use Rattle.std.specs.Str.{bytes_eq}
 use Rattle.std.specs.Str.Parse.{digits_value, without_leading_plus}
-use Rattle.clap.specs.Words.{App, Row, Rule, Shape, Text, new_app, new_rule, one_of, subcommand_of, with_rule, with_subcommand}
+use Rattle.clap.specs.Words.{App, Kinds, Row, Rule, Shape, Text, fault_of, first_of, new_app, new_rule, one_of, subcommand_of, with_rule, with_subcommand}
+use Rattle.clap.specs.Kinds.{or_else}
+use Rattle.clap.specs.declared.error.kind.ErrorKind.TheVariants.{UnknownArgument, ValueValidation}
 use Rattle.clap.specs.declared.builder.action.ArgAction.TheVariants.{Set}
 use Rattle.clap.specs.declared.builder.value_parser.ValueParser.{ValueParser}
 use Rattle.clap.specs.declared.builder.value_parser.ValueParser.TheVariants.{Signed}
@@ -26,9 +30,9 @@ replay_shape = (new_app (codes "replay")).top
 abbrev pub run_shape : Shape
 run_shape = (with_rule (with_rule (new_app (codes "run")) sites_rule) seed_rule).top
 
--- a subcommand is required
+-- a subcommand is required, and `--version` tells the version
 abbrev pub bare_app : App
-bare_app = record { top = record (new_app (codes "shmdbg")).top { subcommand_required = true }; subs = [] }
+bare_app = record { top = record (new_app (codes "shmdbg")).top { subcommand_required = true; has_version = true }; subs = [] }
 
 abbrev pub app : App
 app = with_subcommand (with_subcommand bare_app replay_shape) run_shape
@@ -45,9 +49,21 @@ is_replay (Run sites seed) = false
 abbrev pub number_of : Text → ℕ
 number_of text = digits_value 10 (without_leading_plus text)
 
+-- digits, of which the first isn't a 0 before others: so no sign stands before them
+abbrev pub is_plain : Text → Bool
+is_plain text = nat_lt 0 (length text) && not (nat_lt 1 (length text) && (slice_index text 0 == 48)) && list_all is_ascii_digit text
+
+-- what was written for an option is spelled so
+abbrev pub is_plain_at : Text → List Row → Bool
+is_plain_at option rows = option_map_or is_plain (first_of option rows) true
+
+-- the number that was written for an option, if it is spelled so
+abbrev pub number_at : Text → List Row → Option ℕ
+number_at option rows = if is_plain_at option rows then option_map number_of (one_of option rows) else None
+
 -- the number that a subcommand's matches have for an option
 abbrev pub number_in : Option (Text × List Row) → Text → Option ℕ
-number_in named option = option_and_then (λ named. option_map number_of (one_of option named.1)) named
+number_in named option = option_and_then (λ named. number_at option named.1) named
 
 -- the number that the words give for an option
 abbrev pub number_given : List Text → Text → Option ℕ
@@ -63,3 +79,32 @@ seed_given words = number_given words (codes "seed")
 abbrev pub HasNumbers : (Text → Option ℕ) → Task → Type 0
 HasNumbers given Replay = Unit {0}
 HasNumbers given (Run sites seed) = (given (codes "sites") ≡ Some sites) × (given (codes "seed") ≡ Some seed)
+
+-- ---- what is wrong with the words
+
+abbrev pub are_plain : List Row → Bool
+are_plain rows = is_plain_at (codes "sites") rows && is_plain_at (codes "seed") rows
+
+abbrev pub has_plain_rows : Option (List Row) → Bool
+has_plain_rows rows = option_map_or are_plain rows true
+
+abbrev pub has_plain_numbers : List Text → Bool
+has_plain_numbers words = has_plain_rows (option_map (λ named. named.1) (subcommand_of app words))
+
+-- A word is longer than any that is taken.
+abbrev pub is_long : Text → Bool
+is_long word = nat_lt 80 (length word)
+
+-- the program's own name may be as long as it likes
+abbrev pub has_long_word : List Text → Bool
+has_long_word words = list_any is_long (drop 1 words)
+
+abbrev pub length_fault : List Text → Kinds
+length_fault words = if has_long_word words then UnknownArgument ∷ [] else []
+
+abbrev pub spelling_fault : List Text → Kinds
+spelling_fault words = if has_plain_numbers words then [] else ValueValidation ∷ []
+
+-- the kinds of error that the words may give; none where the program takes them
+abbrev pub fault_in : List Text → Kinds
+fault_in words = or_else (length_fault words) (or_else (fault_of app words) (spelling_fault words))

@@ -1,5 +1,8 @@
 //! What `--help` tells beside the words.
 
+/// What `--version` tells behind the program's name.
+pub const VERSION: &str = "1.0.0";
+
 /// Of the program: what goes in, what comes out, and the exit statuses.
 pub const PROGRAM: &str = "\
 A script says what each site does and which message arrives; `shmdbg replay`
@@ -16,7 +19,8 @@ workload may.
 Exit status:
   0  done
   1  the script or workload has a fault; standard error tells its line
-  2  these words were refused, or asked for help; nothing was read
+  2  these words were refused, or asked for help or the version; nothing was
+     read
   3  memory, reading, writing or a thread failed
   4  a run gave up, or its audit found a cause";
 

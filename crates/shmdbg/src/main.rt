@@ -3,6 +3,7 @@
 
 mod help;
 mod program;
+mod spelling;
 mod tell;
 #[cfg(test)]
 mod tests;

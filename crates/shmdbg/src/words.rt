@@ -1,10 +1,13 @@
-ghost use Rattle.std.specs.Prelude.{◌≡◌, Some, false, map, option_map, IfErr, IfOk, IfSome};
-ghost use Rattle.clap.specs.Words.{FailsBy, app_of, fault_of, found_of, kind_of, one_of, rows_of, rule_of, subcommand_rows_of};
+ghost use Rattle.std.specs.Prelude.{◌≡◌, Some, false, map, IfErr, IfOk, IfSome};
+ghost use Rattle.clap.specs.Words.{FailsBy, app_of, found_of, kind_of, rows_of, rule_of, subcommand_rows_of};
 ghost use Rattle.clap.specs.declared.error.kind.ErrorKind.TheVariants as kind;
-ghost use Rattle.shmdbg.specs.Words.{app, asks_replay, is_replay, number_given, number_in, number_of, seed_rule, sites_rule, HasNumbers};
+ghost use Rattle.shmdbg.specs.Words.{app, asks_replay, bare_app, is_replay, fault_in, number_at, number_given, number_in, seed_rule, sites_rule, HasNumbers};
 ghost use Rattle.shmdbg.specs.declared.words.Task.TheVariants.{Run};
 
 use crate::help;
+use crate::spelling::{
+    has_long_word, has_plain_numbers, is_plain_at, long_word_error, spelling_error,
+};
 use clap::{Arg, ArgAction, ArgMatches, Command, Error, value_parser};
 use shm_place::Sites;
 use std::alloc::{AllocError, Global};
@@ -21,11 +24,17 @@ pub enum Task {
 
 /// Reads the words, the first of which is the program's name. A request for help is an `Err` too, whose text is the help.
 pub fn parse_words<S: AsStr>(alloc: Global, words: &[S]) -> Result<Task, Error>
-    ensures fault { FailsBy (fault_of app (map S.text words.now)) result }
+    ensures fault { FailsBy (fault_in (map S.text words.now)) result }
     ensures task { IfOk result (λ task. is_replay task ≡ asks_replay (map S.text words.now)) }
     ensures numbers { IfOk result (HasNumbers (number_given (map S.text words.now))) }
 {
+    if has_long_word(words) {
+        return Err(long_word_error(alloc, words)?);
+    }
     let matches = command(alloc)?.try_get_matches_from(words)?;
+    if !has_plain_numbers(&matches) {
+        return Err(spelling_error(alloc, &matches)?);
+    }
     match matches.subcommand_matches("replay") {
         Some(_) => Ok(Task::Replay),
         None => run_task(&matches),
@@ -56,12 +65,17 @@ fn numbers(matches: &ArgMatches<'_>) -> Option<(Sites, u32)>
 
 /// The number that the words of a run have for an option.
 fn number(run: &ArgMatches<'_>, option: &str) -> Option<u32>
-    ensures { IfSome result (λ number. option_map number_of (one_of option.now (rows_of (found_of run.now))) ≡ Some number) }
+    ensures { IfSome result (λ number. number_at option.now (rows_of (found_of run.now)) ≡ Some number) }
 {
-    run.get_one(option)
+    if is_plain_at(run, option) {
+        run.get_one(option)
+    } else {
+        None
+    }
 }
 
-fn command<'a>(alloc: Global) -> Result<Command<'a>, AllocError>
+/// The commands that there are, with their options.
+pub(crate) fn command<'a>(alloc: Global) -> Result<Command<'a>, AllocError>
     ensures app { IfOk result (λ c. app_of c ≡ app) }
 {
     let replay = Command::new(alloc, "replay")
@@ -72,12 +86,18 @@ fn command<'a>(alloc: Global) -> Result<Command<'a>, AllocError>
         .after_help(help::RUN)
         .arg(sites_arg(alloc))?
         .arg(seed_arg(alloc))?;
+    bare_command(alloc).subcommand(replay)?.subcommand(run)
+}
+
+/// The program without its subcommands.
+fn bare_command<'a>(alloc: Global) -> Command<'a>
+    ensures app { app_of result ≡ bare_app }
+{
     Command::new(alloc, "shmdbg")
         .about("Shared memory segments over sites that have no memory in common")
+        .version(help::VERSION)
         .after_help(help::PROGRAM)
         .subcommand_required(true)
-        .subcommand(replay)?
-        .subcommand(run)
 }
 
 fn sites_arg<'a>(alloc: Global) -> Arg<'a>

@@ -1,6 +1,7 @@
-use super::run_over;
+use super::{expect, run_over};
 use crate::words::{Task, parse_words};
 use shm_place::Sites;
+use std::alloc::AllocError;
 use std::test::Fail;
 
 /// Words that are refused; what the parser's text begins with; nothing is read and nothing is written.
@@ -46,13 +47,13 @@ fn refused_words(rt: HostRuntime) {
     }
 }
 
-/// What a run's options say, in the ways in which its numbers may be spelled.
+/// What a run's options say, in either order and behind a blank or an equals sign.
 #[test]
 fn numbers_of_a_run(rt: HostRuntime) -> Result<(), Fail> {
     let cases: [(&[&str], u32, u32); 4] = [
         (&["--sites", "3", "--seed", "2"], 3, 2),
         (&["--seed", "1", "--sites", "16"], 16, 1),
-        (&["--sites=+4", "--seed", "0007"], 4, 7),
+        (&["--sites=4", "--seed", "0"], 4, 0),
         (&["--seed=4294967295", "--sites=1"], 1, 4294967295),
     ];
     for (options, of_sites, seed) in cases {
@@ -62,5 +63,102 @@ fn numbers_of_a_run(rt: HostRuntime) -> Result<(), Fail> {
         let task = parse_words(rt.alloc(), words.as_slice())?;
         assert_eq!(rt; task, Task::Run { sites, seed });
     }
+    Ok(())
+}
+
+/// Numbers that clap would take, and that aren't spelled plainly: refused as other words are.
+#[test]
+fn numbers_spelled_otherwise(rt: HostRuntime) {
+    let cases: [(&str, &str, &[u8]); 6] = [
+        (
+            "--sites=01",
+            "--seed=1",
+            b"error: invalid value '01' for '--sites': ",
+        ),
+        (
+            "--sites=+1",
+            "--seed=1",
+            b"error: invalid value '+1' for '--sites': ",
+        ),
+        (
+            "--sites=1",
+            "--seed=007",
+            b"error: invalid value '007' for '--seed': ",
+        ),
+        (
+            "--sites=1",
+            "--seed=00",
+            b"error: invalid value '00' for '--seed': ",
+        ),
+        (
+            "--sites=1",
+            "--seed=-0",
+            b"error: invalid value '-0' for '--seed': ",
+        ),
+        (
+            "--sites=+1",
+            "--seed=+1",
+            b"error: invalid value '+1' for '--sites': ",
+        ),
+    ];
+    for (sites, seed, text) in cases {
+        let mut reader = b"preset 1\n".as_slice();
+        let ran = run_over(&rt, &["shmdbg", "run", sites, seed], &mut reader);
+        assert_eq!(rt; ran.status, 2);
+        assert!(rt; ran.errors.as_slice().starts_with(text), "{text:?}");
+        assert_eq!(rt; reader, b"preset 1\n".as_slice());
+    }
+}
+
+/// The version is told as help is.
+#[test]
+fn the_version(rt: HostRuntime) {
+    for word in ["--version", "-V"] {
+        let mut reader = b"".as_slice();
+        let ran = run_over(&rt, &["shmdbg", word], &mut reader);
+        expect(&rt, &ran, 2, b"", b"shmdbg 1.0.0\n");
+    }
+}
+
+fn repeated(rt: &impl AllocGlobal, letter: &str, count: usize) -> Result<String, AllocError> {
+    let mut word = String::new(rt.alloc());
+    for _ in 0..count {
+        word.push_str(letter)?;
+    }
+    Ok(word)
+}
+
+/// A long word is told by its first 80 bytes, and by fewer where a character would be cut.
+#[test]
+fn long_words(rt: HostRuntime) -> Result<(), Fail> {
+    let fronts: [(&str, usize, usize); 3] = [("a", 81, 80), ("a", 100_000, 80), ("€", 27, 26)];
+    for (letter, count, told) in fronts {
+        let word = repeated(&rt, letter, count)?;
+        let front = repeated(&rt, letter, told)?;
+        let words = ["shmdbg", "--help", word.as_str()];
+        let mut reader = b"".as_slice();
+        let ran = run_over(&rt, &words, &mut reader);
+        let text = format!(in rt.alloc();
+            "error: unexpected argument '{front}..' found: a word has at most 80 bytes\n"
+        )?;
+        assert_eq!(rt; ran.status, 2);
+        assert!(rt; ran.errors.as_slice().starts_with(text.as_bytes()));
+        assert!(rt; ran.errors.len() < 300);
+    }
+    Ok(())
+}
+
+/// A word of 80 bytes is told whole, and the program's own name may be longer.
+#[test]
+fn words_that_are_not_too_long(rt: HostRuntime) -> Result<(), Fail> {
+    let word = repeated(&rt, "a", 80)?;
+    let mut reader = b"sites 1\n".as_slice();
+    let ran = run_over(&rt, &["shmdbg", word.as_str()], &mut reader);
+    let text = format!(in rt.alloc(); "error: unrecognized subcommand '{word}'\n")?;
+    assert_eq!(rt; ran.status, 2);
+    assert!(rt; ran.errors.as_slice().starts_with(text.as_bytes()));
+    let name = repeated(&rt, "a", 81)?;
+    let ran = run_over(&rt, &[name.as_str(), "replay"], &mut reader);
+    expect(&rt, &ran, 0, b"1 ready\n", b"");
     Ok(())
 }

@@ -15,7 +15,7 @@ returns c =
     let run_top : shape_of c.in_ok-run.run' ≡ run_shape = ap (λ (a : App). a.top) run_is in
     let replay_is : app_of c.after_help-replay.result ≡ new_app (codes "replay") = search rules in
     let replay_top : shape_of c.after_help-replay.result ≡ replay_shape = ap (λ (a : App). a.top) replay_is in
-    let bare : app_of c.subcommand_required.result ≡ bare_app = search rules in
+    let bare : app_of c.bare_command.result ≡ bare_app = c.bare_command.ensures.app in
     let with_replay : app_of c.in_ok-subcommand.field-0 ≡ with_subcommand bare_app replay_shape =
     c.in_ok-subcommand.ensures.shape (search rules) ∙ ap₂ with_subcommand bare replay_top in
     record {

@@ -1,0 +1,20 @@
+# What bash offers behind the word shmdbg. To use it: source completions/shmdbg.bash
+
+_shmdbg() {
+  local word=${COMP_WORDS[COMP_CWORD]} before=${COMP_WORDS[COMP_CWORD - 1]} offered=
+  case $COMP_CWORD:${COMP_WORDS[1]} in
+    1:*) offered='replay run help -h --help -V --version' ;;
+    2:help) offered='replay run help' ;;
+    *:replay) offered='-h --help' ;;
+    *:run)
+      case $before in
+        --sites) offered='1 2 3 4 5 6 7 8 9 10 11 12 13 14 15 16' ;;
+        --seed) ;;
+        *) offered='--sites --seed -h --help' ;;
+      esac
+      ;;
+  esac
+  mapfile -t COMPREPLY < <(compgen -W "$offered" -- "$word")
+}
+
+complete -F _shmdbg shmdbg

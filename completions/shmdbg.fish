@@ -1,0 +1,13 @@
+# What fish offers behind the word shmdbg. To use it: put this file into ~/.config/fish/completions
+
+complete -c shmdbg -f
+complete -c shmdbg -n __fish_use_subcommand -a replay -d 'Replay the script on standard input'
+complete -c shmdbg -n __fish_use_subcommand -a run -d 'Run the workload on standard input on sites in threads, and audit it'
+complete -c shmdbg -n __fish_use_subcommand -a help -d 'Print help'
+complete -c shmdbg -n __fish_use_subcommand -s h -l help -d 'Print help'
+complete -c shmdbg -n __fish_use_subcommand -s V -l version -d 'Print the version'
+complete -c shmdbg -n '__fish_seen_subcommand_from replay' -s h -l help -d 'Print help'
+complete -c shmdbg -n '__fish_seen_subcommand_from run' -l sites -x -a '(seq 16)' -d 'How many sites, 1 to 16'
+complete -c shmdbg -n '__fish_seen_subcommand_from run' -l seed -x -d 'Where the losses and repeats are drawn from'
+complete -c shmdbg -n '__fish_seen_subcommand_from run' -s h -l help -d 'Print help'
+complete -c shmdbg -n '__fish_seen_subcommand_from help' -a 'replay run help'
