@@ -6,7 +6,7 @@ use Rattle.std.proofs.lemmas.Option.{none-some, slice_get_past}
 use Rattle.shm_model.specs.declared.answer.Answer.{Answer}
 use Rattle.shm_model.specs.declared.answer.Answer.TheVariants.{Refused}
 use Rattle.shm_model.specs.Site.{Step, still}
-use Rattle.shm_model.specs.Basics.{at}
+use Rattle.shm_model.specs.Basics.{at, max_sent}
 use Rattle.shm_model.specs.Message.{Deliver, Envelope, Input}
 use Rattle.shm_model.specs.Refusal.{foreign_message, no_such_message, numbers_used_up}
 use Rattle.shm_model.specs.Site as model
