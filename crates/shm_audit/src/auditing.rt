@@ -16,14 +16,14 @@ ghost use Rattle.shm_audit.specs.Marks.{mark_at, marks_of, unmarked, MarksName};
 ghost use Rattle.shm_audit.specs.declared.audit_fault.AuditFault.TheVariants as fault;
 
 use crate::audit_fault::AuditFault;
+use crate::laws::matching_logs_fit;
 use crate::marks::Marks;
 use crate::receipts::first_forged;
 use crate::steps::first_fault;
 use crate::untold::first_untold;
+use crate::{Event, events, merge};
 use shm_boxes::{Receipt, SiteLog};
 use shm_laws::{every_run_is_legal_and_coherent, merged_logs_are_a_run};
-use crate::laws::matching_logs_fit;
-use crate::{Event, events, merge};
 use shm_place::Sites;
 use std::alloc::{AllocError, Allocator};
 

@@ -7,9 +7,9 @@ ghost use Rattle.shm_debug.specs.Opening.{begins};
 ghost use Rattle.shm_debug.specs.Standing.{Standing, first_events, standing, stood, without_last};
 ghost use Rattle.shm_world.specs.World.{StandsFor};
 
+use crate::back_fault::BackFault;
 use crate::checkpoint::Checkpoint;
 use crate::checkpoints::Checkpoints;
-use crate::back_fault::BackFault;
 use crate::opening::Opening;
 use crate::session::Session;
 use shm_world::{Event, World};

@@ -7,10 +7,10 @@ ghost use Rattle.shm_debug.specs.Limits.{max_bytes, max_lines};
 ghost use Rattle.shm_debug.specs.Reading.{start, reach, rest_of, passed, Plays, Fails, Ended};
 ghost use Rattle.shm_debug.specs.Said.{said};
 
+use crate::Session;
 use crate::outcome::{DebugFault, Summary};
 use crate::turns::{pass_line, summary};
 use shm_lines::{Line, laws, parse_line};
-use crate::Session;
 use shm_text::Text;
 use std::alloc::{AllocError, Allocator};
 use std::marker::Model;

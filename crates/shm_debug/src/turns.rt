@@ -9,9 +9,9 @@ ghost use Rattle.shm_debug.specs.Standing.{with_event};
 
 use crate::notice::Notice;
 use crate::outcome::Summary;
+use crate::{BackFault, Session};
 use shm_lines::Line;
 use shm_model::Event;
-use crate::{BackFault, Session};
 use shm_text::Text;
 use std::alloc::{AllocError, Allocator};
 

@@ -4,9 +4,9 @@ ghost use Rattle.shm_lines.specs.Workload.{open_line, parts_of, with_size, workl
 ghost use Rattle.shm_lines.specs.declared.workload_fault.WorkloadFault.TheVariants as cause;
 
 use crate::access::Access;
+use crate::split_at;
 use crate::workload_fault::WorkloadFault;
 use crate::workload_line::{access_line, first_line, open_line};
-use crate::split_at;
 use shm_place::{PAGES, Sites};
 use std::alloc::{Allocator, Global};
 

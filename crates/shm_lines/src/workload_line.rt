@@ -2,9 +2,9 @@
 ghost use Rattle.std.specs.Prelude.{◌≡◌, ◌≤◌};
 ghost use Rattle.shm_lines.specs.Workload as said;
 
+use crate::Words;
 use crate::access::Access;
 use crate::workload_fault::WorkloadFault;
-use crate::Words;
 use shm_place::{PAGE_BYTES, PAGES, SiteId, Sites};
 
 /// How many bytes a line has at most, without its line feed.

@@ -9,10 +9,10 @@ ghost use Rattle.shm_model.specs.declared.event.Event.{Event};
 ghost use Rattle.shm_report.specs.Causes.{audit_cause, input_cause};
 ghost use Rattle.shm_report.specs.declared.report_fault.ReportFault.TheVariants as cause;
 
+use crate::Ran;
 use crate::report_fault::ReportFault;
 use shm_audit::audit_complete;
 use shm_place::Sites;
-use crate::Ran;
 use std::alloc::Global;
 
 /// Whether the logs and receipts are those of so many sites that shared one plain memory, and the receipts are all; if not, the first

@@ -3,9 +3,9 @@ ghost use Rattle.shm_audit.specs.declared.audit_fault.AuditFault.TheVariants as 
 ghost use Rattle.shm_report.specs.declared.report_fault.ReportFault.TheVariants as cause;
 ghost use Rattle.shm_lines.specs.declared.workload_fault.WorkloadFault.TheVariants as workload;
 
+use crate::RunFault;
 use shm_audit::AuditFault;
 use shm_cluster::{ClientFault, StartFault};
-use crate::RunFault;
 use shm_lines::WorkloadFault;
 use thiserror::Error;
 

@@ -9,9 +9,9 @@ ghost use Rattle.shm_report.specs.declared.report_fault.ReportFault.TheVariants 
 
 use crate::report_fault::ReportFault;
 use shm_boxes::Receipt;
+use shm_lines::Access;
 use shm_place::MAX_SITES;
 use shm_text::{AnswerText, Text, write_whole};
-use shm_lines::Access;
 use std::alloc::Global;
 use std::io::Write;
 

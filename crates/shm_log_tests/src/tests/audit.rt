@@ -2,9 +2,8 @@
 //!
 //! Whoever holds logs drops them by name: a drop at the end of its scope is written out there, and takes far longer to prove.
 use super::expect;
-use shm_audit::{AuditFault, audit};
+use shm_audit::{AuditFault, Event, audit, logs_match};
 use shm_boxes::{Envelope, Input, Receipt, SiteBox, SiteLog, Stamp};
-use shm_audit::{Event, logs_match};
 use shm_model::Kind;
 use shm_parts::Message;
 use shm_place::{PageId, SegId, SiteId, Sites};

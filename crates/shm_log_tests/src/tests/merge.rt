@@ -9,8 +9,8 @@ ghost use Rattle.shm_audit.specs.Logs.{logs_of, LogsRise, StampsRise};
 ghost use Rattle.shm_site.specs.Step.{input_of};
 
 use super::expect;
-use shm_boxes::{Input, SiteBox, Stamp};
 use shm_audit::{Event, SiteLog, StepName, events, logs_match, merge};
+use shm_boxes::{Input, SiteBox, Stamp};
 use shm_place::{SiteId, Sites};
 use std::alloc::{AllocError, Allocator};
 use std::test::Fail;

@@ -1,8 +1,8 @@
 mod back;
 mod refused;
 
-use shm_place::{SiteId, Sites};
 use shm_debug::Session;
+use shm_place::{SiteId, Sites};
 use shm_world::Event;
 use std::alloc::Allocator;
 use std::test::Fail;

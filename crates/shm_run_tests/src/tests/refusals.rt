@@ -5,13 +5,12 @@ use shm_boxes::BoxFault;
 use shm_cluster::{ClientFault, StartFault};
 use shm_debug::{BackFault, DebugFault};
 use shm_keys::GetFault;
+use shm_lines::WorkloadFault;
 use shm_model::{Errno, Numbered};
 use shm_number::UsedUp;
 use shm_place::{NoSuchSite, SiteId};
-use shm_report::ReportFault;
-use shm_report::{CallFault, RunFault};
+use shm_report::{CallFault, ReportFault, RunFault};
 use shm_site::StepFault;
-use shm_lines::WorkloadFault;
 use std::alloc::AllocError;
 
 const SITE: SiteId = SiteId(3);

@@ -1,8 +1,8 @@
 //! Workloads that run; what they are told holds for every schedule.
+use shm_lines::parse_workload;
 use shm_model::Answer;
 use shm_place::Sites;
 use shm_report::{Ran, run_workload};
-use shm_lines::parse_workload;
 use std::alloc::Global;
 use std::sync::Wait;
 use std::test::Fail;

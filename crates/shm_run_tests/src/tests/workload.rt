@@ -1,6 +1,6 @@
 use linked_list_allocator::LocalHeap;
-use shm_place::{SiteId, Sites};
 use shm_lines::{Access, WorkloadFault, parse_workload};
+use shm_place::{SiteId, Sites};
 use std::test::Fail;
 
 /// Three sites.

@@ -1,8 +1,8 @@
 use super::{load, preset, store};
 use crate::tests::full_heap::{Blocks, filled};
 use linked_list_allocator::LocalHeap;
-use shm_place::SiteId;
 use shm_debug::{BackFault, Session};
+use shm_place::SiteId;
 use shm_world::{Answer, Event};
 use std::process::Abort;
 use std::test::Fail;

@@ -1,5 +1,5 @@
-use crate::tests::expect;
 use super::{expect_answer, expect_made, make_lone};
+use crate::tests::expect;
 use shm_keys::{Attached, Cred, Errno, Mode, Stat};
 use shm_place::{Key, Sites};
 use std::test::Fail;

@@ -1,5 +1,5 @@
-use crate::tests::expect;
 use super::{expect_answer, expect_made, make_lone};
+use crate::tests::expect;
 use shm_keys::{Cred, Errno, GetFlags, Mode, SegTable};
 use shm_place::{Key, SegId, SiteId, Sites};
 use std::test::Fail;

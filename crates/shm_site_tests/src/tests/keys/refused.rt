@@ -1,5 +1,5 @@
-use crate::tests::expect;
 use super::{expect_answer, expect_made, make_lone};
+use crate::tests::expect;
 use crate::tests::full_heap::filled;
 use linked_list_allocator::LocalHeap;
 use shm_keys::{Cred, GetFault};
