@@ -1,5 +1,14 @@
 pub mod Books
 pub mod Pending
+pub mod Once
+pub mod Asking
+pub mod Known
+pub mod Turn
+pub mod Met
+pub mod Meets
+pub mod Turns
+pub mod Served
+pub mod Serving
 pub mod Steps
 pub mod Sizes
 pub mod Limits

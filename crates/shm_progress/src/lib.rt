@@ -15,7 +15,7 @@ pub use deliveries::{
 };
 pub use purging::{purges_end, purges_go_on};
 pub use queues::none_waits_for_nothing;
-pub use requests::{requests_end, requests_go_on};
+pub use requests::{requests_end, requests_go_on, started_requests_are_served};
 pub use rounds::{
     rounds_exist, rounds_settle_calls_and_purges, rounds_settle_requests,
     rounds_settle_transactions,

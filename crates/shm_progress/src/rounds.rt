@@ -28,8 +28,9 @@ pub fn rounds_settle_transactions()
         → is_full (run o (earlier ++ later)).world ≡ false → IsAtRest (run o (earlier ++ later)).world → ManagersSettled (run o (earlier ++ later)).world }
 {}
 
-/// Rounds settle requests: where none of those events restarts a site, each request that is still pending has had its transaction
-/// started, or its manager took up none of the page at some time among them, or its site has purged the segment.
+/// Rounds settle requests: where none of those events restarts a site, each request that is still pending was turned away: its manager
+/// took up none of the page at some time among them, as sixteen waited or no transaction's number was left; or its site has purged the
+/// segment.
 pub fn rounds_settle_requests()
     ensures { (o : Opening) (earlier later : List Event) → IsOpening o → NothingLost later → NoneRestarted later → AllTick (sites_of o) later
         → is_full (run o (earlier ++ later)).world ≡ false → IsAtRest (run o (earlier ++ later)).world → RequestsSettled o earlier later }

@@ -1,20 +1,21 @@
--- After a round without restarts each request was started, or its manager took up none at some time in it.
-use Rattle.std.proofs.Common.{◌≡◌, ℕ, ◌≤◌, ◌⊎◌, inl, inr, true, false, List, [], ◌∷◌, ◌++◌, Some, append_assoc, slice_get, refl, sym, ◌∙◌, ap, subst, Contains}
+-- After a round without restarts each request that is still pending was turned away: its manager took up none at some time in it.
+use Rattle.std.proofs.Common.{◌≡◌, ℕ, ◌≤◌, ◌⊎◌, inl, inr, true, false, List, [], ◌∷◌, ◌++◌, Option, Some, None, append_assoc, slice_get, refl, sym, ◌∙◌, ap, subst, Contains}
 use Rattle.shm_place.specs.declared.page.PageId.{PageId}
 use Rattle.shm_place.specs.Page.{manager_of}
 use Rattle.shm_model.specs.declared.event.Event.{Event}
 use Rattle.shm_model.specs.declared.event.Event.TheVariants.{Tick}
-use Rattle.shm_model.specs.Book.{Waiting, is_waiting}
+use Rattle.shm_model.specs.Book.{Running, Waiting, is_waiting}
 use Rattle.shm_model.specs.Site.{Pending, Site}
 use Rattle.shm_model.specs.World.{IsOpening, Opening, World, is_full, run, sites_of}
 use Rattle.shm_laws.proofs.RunInduction.{run-shape}
 use Rattle.shm_progress.specs.Deliveries.{IsAtRest}
 use Rattle.shm_progress.specs.OnTheWay.{NothingLost}
-use Rattle.shm_progress.specs.Requests.{IsStarted, IsTakenUp, IsTakenUpAt, RequestsSettled, TookNone}
+use Rattle.shm_progress.specs.Requests.{IsServedNow, IsStarted, IsTakenUp, IsTakenUpAt, RequestsSettled, TookNone}
 use Rattle.shm_progress.specs.Rounds.{AllTick, NoneRestarted}
 use Rattle.shm_progress.specs.Transactions.{IsPurgedSomewhere, NotRestarted}
 use Rattle.shm_progress.proofs.Round.{Split, since, split}
 use Rattle.shm_progress.proofs.Request.GoOn.{requests-go-on, taken-at-rest}
+use Rattle.shm_progress.proofs.Request.Serving.{started-served}
 use Rattle.shm_progress.proofs.Transfer.Ends.{back-unrestarted, managers-settle, purged-too}
 
 -- the events about a tick among the later ones
@@ -57,7 +58,19 @@ module _ (o : Opening) (opening : IsOpening o) (earlier later : List Event) (kep
             absurd (none-waits (y.books p.page).waiting s p.request ((managers-settle o opening earlier later kept unrestarted ticks free rest).served (manager_of (sites_of o) p.page) y p.page at) waits)
         by-taken (inr low) = low
 
-    settle-one : IsStarted w s p ⊎ (TookNone o earlier later (manager_of (sites_of o) p.page) p.page ⊎ (x.purged p.page.seg ≡ true))
+    -- what was started runs, and none does
+    unstarted : IsStarted w s p → x.purged p.page.seg ≡ true
+    unstarted is = by-served (started-served o opening (earlier ++ later) s x p found here is)
+      where
+        some-none : (found : Option Running) (run : Running) → found ≡ Some run → found ≡ None → ⊥
+        some-none found run e f = cc
+
+        by-served : IsServedNow w s p ⊎ (x.purged p.page.seg ≡ true) → x.purged p.page.seg ≡ true
+        by-served (inl now) =
+            absurd (some-none _ _ now.runs ((managers-settle o opening earlier later kept unrestarted ticks free rest).ended (manager_of w.count p.page) now.manager p.page now.found))
+        by-served (inr purged) = purged
+
+    settle-one : TookNone o earlier later (manager_of (sites_of o) p.page) p.page ⊎ (x.purged p.page.seg ≡ true)
     settle-one = by-end (ends-at found rest)
       where
         tick : Split later (Tick s)
@@ -75,10 +88,10 @@ module _ (o : Opening) (opening : IsOpening o) (earlier later : List Event) (kep
 
         by-end : IsTakenUpAt w (manager_of (sites_of o) p.page) s p
             ⊎ (TookNone o ((earlier ++ tick.front) ++ (Tick s ∷ [])) tick.back (manager_of (sites_of o) p.page) p.page ⊎ IsPurgedSomewhere w p.page.seg)
-            → IsStarted w s p ⊎ (TookNone o earlier later (manager_of (sites_of o) p.page) p.page ⊎ (x.purged p.page.seg ≡ true))
-        by-end (inl taken) = inl (started taken)
-        by-end (inr (inl turned)) = inr (inl (turned-in o earlier later s tick (manager_of (sites_of o) p.page) p.page turned))
-        by-end (inr (inr purged)) = inr (inr (purged-too o opening earlier later kept unrestarted ticks free rest s x found p.page purged))
+            → TookNone o earlier later (manager_of (sites_of o) p.page) p.page ⊎ (x.purged p.page.seg ≡ true)
+        by-end (inl taken) = inr (unstarted (started taken))
+        by-end (inr (inl turned)) = inl (turned-in o earlier later s tick (manager_of (sites_of o) p.page) p.page turned)
+        by-end (inr (inr purged)) = inr (purged-too o opening earlier later kept unrestarted ticks free rest s x found p.page purged)
 
   pub requests-settle : RequestsSettled o earlier later
   requests-settle s x p found here = settle-one s x p found here
