@@ -8,6 +8,7 @@ pub mod Met
 pub mod Meets
 pub mod Turns
 pub mod Served
+pub mod Open
 pub mod Serving
 pub mod Steps
 pub mod Sizes

@@ -55,11 +55,11 @@ pub record IsServedNow (w : World) (from : ℕ) (p : Pending) : Type 0 where
   pub asked : slice_get w.sites from ≡ Some requester
   pub unmet : seen (requester.entries p.page) < (manager.books p.page).number
 
--- each request that is pending and was started is being served, unless its site has purged the segment
+-- each request that is pending and was started is being served
 abbrev pub StartedAreServed : World → Type 0
-StartedAreServed w = (from : ℕ) (x : Site) (p : Pending) → slice_get w.sites from ≡ Some x → Contains x.pending p → IsStarted w from p → IsServedNow w from p ⊎ (x.purged p.page.seg ≡ true)
+StartedAreServed w = (from : ℕ) (x : Site) (p : Pending) → slice_get w.sites from ≡ Some x → Contains x.pending p → IsStarted w from p → IsServedNow w from p
 
--- each request that is still pending was turned away: its manager took up none at some time in the later events; or its site has purged the segment
+-- each request that is still pending was turned away: its manager took up none at some time in the later events
 abbrev pub RequestsSettled : Opening → List Event → List Event → Type 0
 RequestsSettled o before since = (from : ℕ) (x : Site) (p : Pending) → slice_get (run o (before ++ since)).world.sites from ≡ Some x → Contains x.pending p
-    → TookNone o before since (manager_of (sites_of o) p.page) p.page ⊎ (x.purged p.page.seg ≡ true)
+    → TookNone o before since (manager_of (sites_of o) p.page) p.page

@@ -30,8 +30,8 @@ pub fn requests_end()
 {}
 
 /// Started requests are served: in every world that some events lead to, whatever was lost, repeated or restarted before, a request that
-/// is pending and whose transaction was started is the one that runs, and its site has met none of the page as new; unless the site has
-/// purged the segment. So a transaction that ends leaves none pending that it was started for.
+/// is pending and whose transaction was started is the one that runs, and its site has met none of the page as new. So a transaction that
+/// ends leaves none pending that it was started for.
 pub fn started_requests_are_served()
     ensures { (o : Opening) (events : List Event) → IsOpening o → StartedAreServed (run o events).world }
 {}

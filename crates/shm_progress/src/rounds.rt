@@ -29,8 +29,7 @@ pub fn rounds_settle_transactions()
 {}
 
 /// Rounds settle requests: where none of those events restarts a site, each request that is still pending was turned away: its manager
-/// took up none of the page at some time among them, as sixteen waited or no transaction's number was left; or its site has purged the
-/// segment.
+/// took up none of the page at some time among them, as sixteen waited or no transaction's number was left.
 pub fn rounds_settle_requests()
     ensures { (o : Opening) (earlier later : List Event) → IsOpening o → NothingLost later → NoneRestarted later → AllTick (sites_of o) later
         → is_full (run o (earlier ++ later)).world ≡ false → IsAtRest (run o (earlier ++ later)).world → RequestsSettled o earlier later }

@@ -10,11 +10,12 @@ use Rattle.shm_model.specs.World.{IsOpening, Opening, World, is_full, run, sites
 use Rattle.shm_laws.proofs.RunInduction.{run-shape}
 use Rattle.shm_progress.specs.Deliveries.{IsAtRest}
 use Rattle.shm_progress.specs.OnTheWay.{NothingLost}
-use Rattle.shm_progress.specs.Requests.{IsServedNow, IsStarted, IsTakenUp, IsTakenUpAt, RequestsSettled, TookNone}
+use Rattle.shm_progress.specs.Requests.{IsStarted, IsTakenUp, IsTakenUpAt, RequestsSettled, TookNone}
 use Rattle.shm_progress.specs.Rounds.{AllTick, NoneRestarted}
 use Rattle.shm_progress.specs.Transactions.{IsPurgedSomewhere, NotRestarted}
 use Rattle.shm_progress.proofs.Round.{Split, since, split}
 use Rattle.shm_progress.proofs.Request.GoOn.{requests-go-on, taken-at-rest}
+use Rattle.shm_progress.proofs.Request.Open.{pending-open}
 use Rattle.shm_progress.proofs.Request.Serving.{started-served}
 use Rattle.shm_progress.proofs.Transfer.Ends.{back-unrestarted, managers-settle, purged-too}
 
@@ -59,18 +60,15 @@ module _ (o : Opening) (opening : IsOpening o) (earlier later : List Event) (kep
         by-taken (inr low) = low
 
     -- what was started runs, and none does
-    unstarted : IsStarted w s p → x.purged p.page.seg ≡ true
-    unstarted is = by-served (started-served o opening (earlier ++ later) s x p found here is)
+    unstarted : IsStarted w s p → ⊥
+    unstarted is =
+        let now = started-served o opening (earlier ++ later) s x p found here is in
+        some-none _ _ now.runs ((managers-settle o opening earlier later kept unrestarted ticks free rest).ended (manager_of w.count p.page) now.manager p.page now.found)
       where
         some-none : (found : Option Running) (run : Running) → found ≡ Some run → found ≡ None → ⊥
         some-none found run e f = cc
 
-        by-served : IsServedNow w s p ⊎ (x.purged p.page.seg ≡ true) → x.purged p.page.seg ≡ true
-        by-served (inl now) =
-            absurd (some-none _ _ now.runs ((managers-settle o opening earlier later kept unrestarted ticks free rest).ended (manager_of w.count p.page) now.manager p.page now.found))
-        by-served (inr purged) = purged
-
-    settle-one : TookNone o earlier later (manager_of (sites_of o) p.page) p.page ⊎ (x.purged p.page.seg ≡ true)
+    settle-one : TookNone o earlier later (manager_of (sites_of o) p.page) p.page
     settle-one = by-end (ends-at found rest)
       where
         tick : Split later (Tick s)
@@ -88,10 +86,13 @@ module _ (o : Opening) (opening : IsOpening o) (earlier later : List Event) (kep
 
         by-end : IsTakenUpAt w (manager_of (sites_of o) p.page) s p
             ⊎ (TookNone o ((earlier ++ tick.front) ++ (Tick s ∷ [])) tick.back (manager_of (sites_of o) p.page) p.page ⊎ IsPurgedSomewhere w p.page.seg)
-            → TookNone o earlier later (manager_of (sites_of o) p.page) p.page ⊎ (x.purged p.page.seg ≡ true)
-        by-end (inl taken) = inr (unstarted (started taken))
-        by-end (inr (inl turned)) = inl (turned-in o earlier later s tick (manager_of (sites_of o) p.page) p.page turned)
-        by-end (inr (inr purged)) = inr (purged-too o opening earlier later kept unrestarted ticks free rest s x found p.page purged)
+            → TookNone o earlier later (manager_of (sites_of o) p.page) p.page
+        by-end (inl taken) = absurd (unstarted (started taken))
+        by-end (inr (inl turned)) = turned-in o earlier later s tick (manager_of (sites_of o) p.page) p.page turned
+        by-end (inr (inr purged)) = absurd (open-still (purged-too o opening earlier later kept unrestarted ticks free rest s x found p.page purged))
+          where
+            open-still : x.purged p.page.seg ≡ true → ⊥
+            open-still gone = let open_here = pending-open o opening (earlier ++ later) s x p found here in let both : true ≡ false = sym gone ∙ open_here in cc
 
   pub requests-settle : RequestsSettled o earlier later
   requests-settle s x p found here = settle-one s x p found here

@@ -22,7 +22,7 @@ use Rattle.shm_laws.proofs.Headline.{run-sound}
 use Rattle.shm_laws.proofs.RunInduction.{IsHonest, run-shape}
 use Rattle.shm_laws.proofs.RunsOn.{slice_get-range}
 use Rattle.shm_laws.proofs.Sound.{PageSound, each-in, set-here, set-there}
-use Rattle.shm_progress.specs.Requests.{IsServedNow, StartedAreServed}
+use Rattle.shm_progress.specs.Requests.{StartedAreServed}
 use Rattle.shm_progress.proofs.Along.{run-more}
 use Rattle.shm_progress.proofs.Ending.Books.{AllAsked}
 use Rattle.shm_progress.proofs.OnTheWay.{Moved, same, drops, steps, moved}
@@ -30,6 +30,7 @@ use Rattle.shm_progress.proofs.Request.Asking.{step-asking}
 use Rattle.shm_progress.proofs.Request.Known.{AllKnown, IsAsk, run-known}
 use Rattle.shm_progress.proofs.Request.Meets.{step-meets}
 use Rattle.shm_progress.proofs.Request.Once.{none-in}
+use Rattle.shm_progress.proofs.Request.Open.{pending-open}
 use Rattle.shm_progress.proofs.Request.Served.{run-asked}
 use Rattle.shm_progress.proofs.Request.Turn.{InTurn, IsBehind, IsRunning}
 use Rattle.shm_progress.proofs.Request.Turns.{Says, step-turns}
@@ -237,10 +238,6 @@ module _ (o : Opening) (opening : IsOpening o) where
 
   -- as the law says it
   pub started-served : (events : List Event) → StartedAreServed (run o events).world
-  started-served events s x p found here (y, at, started) = by-open (cases_Bool (x.purged p.page.seg))
-    where
-      by-open : (x.purged p.page.seg ≡ true) ⊎ (x.purged p.page.seg ≡ false) → IsServedNow (run o events).world s p ⊎ (x.purged p.page.seg ≡ true)
-      by-open (inl purged) = inr purged
-      by-open (inr open_here) =
-          let now = run-turns events s x p (manager_of (run o events).world.count p.page) y found here open_here (ap (λ n. manager_of n p.page) (sym (run-shape o events).count)) at started in
-          inl (record { manager = y; found = at; runs = now.runs; requester = x; asked = found; unmet = now.unmet })
+  started-served events s x p found here (y, at, started) =
+      let now = run-turns events s x p (manager_of (run o events).world.count p.page) y found here (pending-open o opening events s x p found here) (ap (λ n. manager_of n p.page) (sym (run-shape o events).count)) at started in
+      record { manager = y; found = at; runs = now.runs; requester = x; asked = found; unmet = now.unmet }
