@@ -9,6 +9,7 @@ pub mod Meets
 pub mod Turns
 pub mod Served
 pub mod Open
+pub mod Numbers
 pub mod Serving
 pub mod Steps
 pub mod Sizes

@@ -59,7 +59,16 @@ pub record IsServedNow (w : World) (from : ℕ) (p : Pending) : Type 0 where
 abbrev pub StartedAreServed : World → Type 0
 StartedAreServed w = (from : ℕ) (x : Site) (p : Pending) → slice_get w.sites from ≡ Some x → Contains x.pending p → IsStarted w from p → IsServedNow w from p
 
--- each request that is still pending was turned away: its manager took up none at some time in the later events
+-- at some time in the later events as many waited in the manager's book of the page as may, so that a further Ask was turned away
+pub record WasFull (o : Opening) (before since : List Event) (manager : ℕ) (page : PageId) : Type 0 where
+  pub front : List Event
+  pub back : List Event
+  pub is : since ≡ front ++ back
+  pub site : Site
+  pub found : slice_get (run o (before ++ front)).world.sites manager ≡ Some site
+  pub full : max_waiting ≤ length (site.books page).waiting
+
+-- each request that is still pending was turned away: its manager's book was full at some time in the later events
 abbrev pub RequestsSettled : Opening → List Event → List Event → Type 0
 RequestsSettled o before since = (from : ℕ) (x : Site) (p : Pending) → slice_get (run o (before ++ since)).world.sites from ≡ Some x → Contains x.pending p
-    → TookNone o before since (manager_of (sites_of o) p.page) p.page
+    → WasFull o before since (manager_of (sites_of o) p.page) p.page

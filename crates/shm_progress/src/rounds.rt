@@ -28,8 +28,8 @@ pub fn rounds_settle_transactions()
         → is_full (run o (earlier ++ later)).world ≡ false → IsAtRest (run o (earlier ++ later)).world → ManagersSettled (run o (earlier ++ later)).world }
 {}
 
-/// Rounds settle requests: where none of those events restarts a site, each request that is still pending was turned away: its manager
-/// took up none of the page at some time among them, as sixteen waited or no transaction's number was left.
+/// Rounds settle requests: where none of those events restarts a site, each request that is still pending was turned away: at some time
+/// among them sixteen waited for the page at its manager.
 pub fn rounds_settle_requests()
     ensures { (o : Opening) (earlier later : List Event) → IsOpening o → NothingLost later → NoneRestarted later → AllTick (sites_of o) later
         → is_full (run o (earlier ++ later)).world ≡ false → IsAtRest (run o (earlier ++ later)).world → RequestsSettled o earlier later }
