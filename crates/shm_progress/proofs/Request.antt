@@ -11,8 +11,12 @@ pub mod Served
 pub mod Open
 pub mod Numbers
 pub mod Serving
+pub mod Calm
+pub mod Line
+pub mod Few
 pub mod Steps
 pub mod Sizes
 pub mod Limits
 pub mod GoOn
 pub mod Ends
+pub mod Again

@@ -36,7 +36,7 @@ pub record Asking (s : ℕ) (x : Site) (st : Step) : Type 0 where
   pub before : (p : Pending) → Contains st.site.pending p → Contains x.pending p ⊎ ((x.requests < p.request) × (p.request ≤ st.site.requests))
   pub sent : Each (AsksFor s st.site.pending) st.sent
 
-limited-requests : (frames : Option Frames) (x : Site) → (limited frames x).requests ≡ x.requests
+pub limited-requests : (frames : Option Frames) (x : Site) → (limited frames x).requests ≡ x.requests
 limited-requests None x = refl
 limited-requests (Some f) x = cond_both (nat_lt f.limit (length f.copies)) (drop_first f.copies f x) x (λ y. y.requests ≡ x.requests) (λ e. dropped-requests f.copies) (λ e. refl)
   where
