@@ -41,10 +41,12 @@ pub record ManagersSettled (w : World) : Type 0 where
   pub ended : (site : ℕ) (x : Site) (page : PageId) → slice_get w.sites site ≡ Some x → (x.books page).running ≡ None
   pub served : (site : ℕ) (x : Site) (page : PageId) → slice_get w.sites site ≡ Some x → (x.books page).waiting ≡ []
 
--- further events that lose nothing and restart no site, among which each site ticks and after which nothing is on its way
+-- further events that lose nothing, restart no site and have no load and no store, among which each site ticks and after which nothing is on
+-- its way
 pub record Round (o : Opening) (events : List Event) : Type 0 where
   pub later : List Event
   pub kept : NothingLost later
   pub unrestarted : NoneRestarted later
+  pub calm : NoneAccesses later
   pub ticks : AllTick (sites_of o) later
   pub at_rest : IsAtRest (run o (events ++ later)).world

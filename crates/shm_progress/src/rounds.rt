@@ -7,8 +7,8 @@ ghost use Rattle.shm_progress.specs.OnTheWay.{NothingLost};
 ghost use Rattle.shm_progress.specs.Requests.{RequestsSettled};
 ghost use Rattle.shm_progress.specs.Rounds.{AllTick, ManagersSettled, NoneAccesses, NonePending, NoneRestarted, Round, Settled};
 
-/// Rounds exist: from every world that some events lead to, each site's tick and then some deliveries, with no loss and no restart, leave
-/// nothing on its way. So the laws on rounds are about each world, as long as no more envelopes are sent than a world counts.
+/// Rounds exist: from every world that some events lead to, each site's tick and then some deliveries, with no loss, no restart, no load and
+/// no store, leave nothing on its way. So the laws on rounds are about each world, as long as no more envelopes are sent than a world counts.
 pub fn rounds_exist()
     ensures { (o : Opening) (events : List Event) → Round o events }
 {}
