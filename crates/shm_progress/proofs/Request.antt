@@ -14,9 +14,12 @@ pub mod Serving
 pub mod Calm
 pub mod Line
 pub mod Few
+pub mod Limit
+pub mod Granted
 pub mod Steps
 pub mod Sizes
 pub mod Limits
 pub mod GoOn
 pub mod Ends
 pub mod Again
+pub mod Faults

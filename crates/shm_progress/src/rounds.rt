@@ -5,7 +5,7 @@ ghost use Rattle.shm_model.specs.declared.event.Event.{Event};
 ghost use Rattle.shm_progress.specs.Deliveries.{IsAtRest};
 ghost use Rattle.shm_progress.specs.OnTheWay.{NothingLost};
 ghost use Rattle.shm_progress.specs.Requests.{RequestsSettled};
-ghost use Rattle.shm_progress.specs.Rounds.{AllTick, ManagersSettled, NoneAccesses, NonePending, NoneRestarted, Round, Settled};
+ghost use Rattle.shm_progress.specs.Rounds.{AllTick, FaultsServed, ManagersSettled, NoneAccesses, NonePending, NoneRestarted, Round, Settled};
 
 /// Rounds exist: from every world that some events lead to, each site's tick and then some deliveries, with no loss, no restart, no load and
 /// no store, leave nothing on its way. So the laws on rounds are about each world, as long as no more envelopes are sent than a world counts.
@@ -42,4 +42,13 @@ pub fn second_rounds_settle_requests()
         → IsAtRest (run o (earlier ++ first)).world → NothingLost second → NoneRestarted second → NoneAccesses second → AllTick (sites_of o) second
         → is_full (run o ((earlier ++ first) ++ second)).world ≡ false → IsAtRest (run o ((earlier ++ first) ++ second)).world
         → NonePending (run o ((earlier ++ first) ++ second)).world }
+{}
+
+/// Faults are served: along two such rounds each request that was pending before them gains its right at some time, to read for a load and
+/// to write for a store; or its site has purged the segment after them.
+pub fn faults_are_served()
+    ensures { (o : Opening) (earlier first second : List Event) → IsOpening o → NothingLost first → NoneRestarted first → AllTick (sites_of o) first
+        → IsAtRest (run o (earlier ++ first)).world → NothingLost second → NoneRestarted second → NoneAccesses second → AllTick (sites_of o) second
+        → is_full (run o ((earlier ++ first) ++ second)).world ≡ false → IsAtRest (run o ((earlier ++ first) ++ second)).world
+        → FaultsServed o earlier (first ++ second) }
 {}
