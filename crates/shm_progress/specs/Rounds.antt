@@ -25,6 +25,7 @@ pub record Settled (w : World) : Type 0 where
 abbrev pub NoneRestarted : List Event → Type 0
 NoneRestarted events = (site : ℕ) → NotRestarted site events
 
+-- a load or a store
 abbrev pub is_access : Event → Bool
 is_access (Load _ _ _) = true
 is_access (Store _ _ _ _) = true
