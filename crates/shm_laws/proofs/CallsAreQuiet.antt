@@ -28,13 +28,14 @@ pub record IsQuiet (site : Site) (st : Step) : Type 0 where
   pub pending : st.site.pending ≡ site.pending
   pub purged : st.site.purged ≡ site.purged
   pub frames : st.site.frames ≡ site.frames
+  pub requests : st.site.requests ≡ site.requests
   pub sent : Each (λ (e : Envelope). IsOffPage e.message) st.sent
 
 still-quiet : (site : Site) (answer : Answer) → IsQuiet site (still answer site)
-still-quiet site answer = record { entries = refl; books = refl; booked = refl; pending = refl; purged = refl; frames = refl; sent = tt }
+still-quiet site answer = record { entries = refl; books = refl; booked = refl; pending = refl; purged = refl; frames = refl; requests = refl; sent = tt }
 
 begun-quiet : (sites s : ℕ) (op : Op) (site : Site) → IsQuiet site (call_begun sites s op site)
-begun-quiet sites s op site = record { entries = refl; books = refl; booked = refl; pending = refl; purged = refl; frames = refl; sent = (off_call _ op, tt) }
+begun-quiet sites s op site = record { entries = refl; books = refl; booked = refl; pending = refl; purged = refl; frames = refl; requests = refl; sent = (off_call _ op, tt) }
 
 numbered-quiet : (site : Site) (st : Step) → IsQuiet site st → IsQuiet site (numbered site st)
 numbered-quiet site st q = cond_both (site.calls == greatest) _ _ (IsQuiet site) (λ e. still-quiet site (Refused numbers_used_up)) (λ e. q)
@@ -43,7 +44,7 @@ detach-quiet : (sites s a : ℕ) (found : Option Attachment) (site : Site) → I
 detach-quiet sites s a None site = still-quiet site (Refused no_attachment)
 detach-quiet sites s a (Some t) site =
     numbered-quiet site (call_begun sites s (Detach t.id) (record site { attachments = at site.attachments a None }))
-    (record { entries = refl; books = refl; booked = refl; pending = refl; purged = refl; frames = refl; sent = (off_call _ (Detach t.id), tt) })
+    (record { entries = refl; books = refl; booked = refl; pending = refl; purged = refl; frames = refl; requests = refl; sent = (off_call _ (Detach t.id), tt) })
 
 op-quiet : (sites s : ℕ) (op : Op) (site : Site) → IsQuiet site (begin_op sites s op site)
 op-quiet sites s (Detach id) site = still-quiet site (Refused no_attachment)
@@ -67,25 +68,25 @@ all-purges s id [] = tt
 all-purges s id (x ∷ xs) = (off_purge id, all-purges s id xs)
 
 executed-quiet : (sites s from number : ℕ) (done : Called) (gone : Option ℕ) (site : Site) → IsQuiet site (executed sites s from number done gone site)
-executed-quiet sites s from number done None site = record { entries = refl; books = refl; booked = refl; pending = refl; purged = refl; frames = refl; sent = (off_reply number done.reply, tt) }
+executed-quiet sites s from number done None site = record { entries = refl; books = refl; booked = refl; pending = refl; purged = refl; frames = refl; requests = refl; sent = (off_reply number done.reply, tt) }
 executed-quiet sites s from number done (Some id) site =
-    record { entries = refl; books = refl; booked = refl; pending = refl; purged = refl; frames = refl; sent = (off_reply number done.reply, all-purges s id (range_with_len 0 sites)) }
+    record { entries = refl; books = refl; booked = refl; pending = refl; purged = refl; frames = refl; requests = refl; sent = (off_reply number done.reply, all-purges s id (range_with_len 0 sites)) }
 
 call-quiet-as : (f : Freshness) (sites s from number : ℕ) (op : Op) (site : Site) → IsQuiet site (on_call_as f sites s from number op site)
 call-quiet-as Fresh sites s from number op site =
     executed-quiet sites s from number (call sites s op site.table) (destroyed_by op site.table (call sites s op site.table).segments) site
-call-quiet-as (Again reply) sites s from number op site = record { entries = refl; books = refl; booked = refl; pending = refl; purged = refl; frames = refl; sent = (off_reply number reply, tt) }
+call-quiet-as (Again reply) sites s from number op site = record { entries = refl; books = refl; booked = refl; pending = refl; purged = refl; frames = refl; requests = refl; sent = (off_reply number reply, tt) }
 call-quiet-as Old sites s from number op site = still-quiet site Dropped
 
 pub call-quiet : (sites s from number : ℕ) (op : Op) (site : Site) → IsQuiet site (on_call sites s from number op site)
 call-quiet sites s from number op site = call-quiet-as (freshness (site.kept from) number) sites s from number op site
 
 replied-quiet : (number : ℕ) (reply : Reply) (a : Option ℕ) (site : Site) → IsQuiet site (replied number reply a site)
-replied-quiet number reply a site = record { entries = refl; books = refl; booked = refl; pending = refl; purged = refl; frames = refl; sent = tt }
+replied-quiet number reply a site = record { entries = refl; books = refl; booked = refl; pending = refl; purged = refl; frames = refl; requests = refl; sent = tt }
 
 attached-quiet-at : (found : Option ℕ) (number : ℕ) (reply : Reply) (t : Attachment) (site : Site) → IsQuiet site (attached_at found number reply t site)
 attached-quiet-at None number reply t site = still-quiet site Dropped
-attached-quiet-at (Some a) number reply t site = record { entries = refl; books = refl; booked = refl; pending = refl; purged = refl; frames = refl; sent = tt }
+attached-quiet-at (Some a) number reply t site = record { entries = refl; books = refl; booked = refl; pending = refl; purged = refl; frames = refl; requests = refl; sent = tt }
 
 counts-quiet : (number : ℕ) (op : Op) (reply : Reply) (site : Site) → IsQuiet site (reply_counts number op reply site)
 counts-quiet number (Attach cred id ro) (AttachedReply a) site =
@@ -111,4 +112,4 @@ reply-quiet number reply site = reply-quiet-to site.outstanding number reply sit
 
 pub purged-quiet : (from id : ℕ) (site : Site) → IsQuiet site (on_purged from id site)
 purged-quiet from id site =
-    cond_both (site.missing id from) _ _ (IsQuiet site) (λ e. record { entries = refl; books = refl; booked = refl; pending = refl; purged = refl; frames = refl; sent = tt }) (λ e. still-quiet site Dropped)
+    cond_both (site.missing id from) _ _ (IsQuiet site) (λ e. record { entries = refl; books = refl; booked = refl; pending = refl; purged = refl; frames = refl; requests = refl; sent = tt }) (λ e. still-quiet site Dropped)

@@ -58,7 +58,7 @@ pub data IsOffPage : Message → Type 0 where
   off_purge : (id : ℕ) → IsOffPage (Purge id)
   off_purged : (id : ℕ) → IsOffPage (Purged id)
 
-off-of : (m : Message) (p : PageId) (note : Note) → IsOffPage m → m ≡ Of p note → ⊥
+pub off-of : (m : Message) (p : PageId) (note : Note) → IsOffPage m → m ≡ Of p note → ⊥
 off-of (Call n op) p note (off_call _ _) e = cc
 off-of (Replies n reply) p note (off_reply _ _) e = cc
 off-of (Purge id) p note (off_purge _) e = cc

@@ -8,7 +8,7 @@ use Rattle.shm_progress.specs.OnTheWay.{NothingLost, is_loss}
 use Rattle.shm_progress.proofs.OnTheWay.{free-before}
 
 -- the run of some events more, and of one
-runs-on : (o : Opening) (before done later : List Event) → run o (before ++ (done ++ later)) ≡ run_on (run o (before ++ done)) later
+pub runs-on : (o : Opening) (before done later : List Event) → run o (before ++ (done ++ later)) ≡ run_on (run o (before ++ done)) later
 runs-on o before done later = ap (run o) (sym (append_assoc before done later)) ∙ run_on-append (begun o) (before ++ done) later
 
 pub run-more : (o : Opening) (before done : List Event) (e : Event) → run o (before ++ (done ++ (e ∷ []))) ≡ extended (run o (before ++ done)) (next (run o (before ++ done)).world e)

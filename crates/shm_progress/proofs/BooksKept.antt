@@ -89,7 +89,7 @@ module _ (B : PageId → Book → Type 0) (sites s : ℕ) (sent : List Envelope)
       cond_both (is_attached x id) _ _ Holds (λ e. holds) (λ e. λ q. cond_both (id == q.seg) (untouched_book s) (x.books q) (B q) (λ f. rule.fresh q) (λ f. holds q))
   message-holds from (Purged id) was proper = same-holds (on_purged from id x).site (purged-quiet from id x).books
 
-  step-holds : (w : World) → w.sent ≡ sent → (input : Input) → IsHonest w s input → Holds (step sites s x input)
+  pub step-holds : (w : World) → w.sent ≡ sent → (input : Input) → IsHonest w s input → Holds (step sites s x input)
   step-holds w is (Load a offset) honest = load-holds (right x.attachments a offset false)
   step-holds w is (Store a offset byte) honest = store-holds (right x.attachments a offset true) byte
   step-holds w is (Begin request) honest = same-holds (begin sites s request x).site (begin-quiet sites s request x).books

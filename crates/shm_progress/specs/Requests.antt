@@ -1,10 +1,10 @@
 -- A request goes on until its page's manager takes it up: what can't be served yet waits there (Li and Hudak 1989, §3.2). A network that
 -- drops every message, or a manager that forgets who waits, breaks it: a pending request would be nowhere.
-use Rattle.std.specs.Prelude.{◌≡◌, ℕ, ◌≤◌, true, ◌⊎◌, List, ◌++◌, Some, Contains, length, slice_get}
+use Rattle.std.specs.Prelude.{◌≡◌, ℕ, ◌<◌, ◌≤◌, true, ◌⊎◌, List, ◌++◌, Some, Contains, length, slice_get}
 use Rattle.shm_place.specs.declared.page.PageId.{PageId}
 use Rattle.shm_place.specs.Page.{manager_of}
 use Rattle.shm_model.specs.declared.event.Event.{Event}
-use Rattle.shm_model.specs.Entry.{Ask}
+use Rattle.shm_model.specs.Entry.{Ask, seen}
 use Rattle.shm_model.specs.Book.{Book, is_waiting, max_waiting}
 use Rattle.shm_model.specs.Basics.{greatest}
 use Rattle.shm_model.specs.Site.{Pending, Site}
@@ -46,7 +46,29 @@ RequestsGoOn o before since manager from = (x : Site) (p : Pending) → slice_ge
 abbrev pub IsStarted : World → ℕ → Pending → Type 0
 IsStarted w from p = (x : Site) × (slice_get w.sites (manager_of w.count p.page) ≡ Some x) × (p.request ≤ (x.books p.page).served from)
 
--- each request that is pending was started, or its manager took up none at some time in the later events, or its site has purged the segment
+-- the request's transaction runs, and its site has met none of the page as new
+pub record IsServedNow (w : World) (from : ℕ) (p : Pending) : Type 0 where
+  pub manager : Site
+  pub found : slice_get w.sites (manager_of w.count p.page) ≡ Some manager
+  pub runs : (manager.books p.page).running ≡ Some (record { kind = p.kind; requester = from })
+  pub requester : Site
+  pub asked : slice_get w.sites from ≡ Some requester
+  pub unmet : seen (requester.entries p.page) < (manager.books p.page).number
+
+-- each request that is pending and was started is being served
+abbrev pub StartedAreServed : World → Type 0
+StartedAreServed w = (from : ℕ) (x : Site) (p : Pending) → slice_get w.sites from ≡ Some x → Contains x.pending p → IsStarted w from p → IsServedNow w from p
+
+-- at some time in the later events as many waited in the manager's book of the page as may, so that a further Ask was turned away
+pub record WasFull (o : Opening) (before since : List Event) (manager : ℕ) (page : PageId) : Type 0 where
+  pub front : List Event
+  pub back : List Event
+  pub is : since ≡ front ++ back
+  pub site : Site
+  pub found : slice_get (run o (before ++ front)).world.sites manager ≡ Some site
+  pub full : max_waiting ≤ length (site.books page).waiting
+
+-- each request that is still pending was turned away: its manager's book was full at some time in the later events
 abbrev pub RequestsSettled : Opening → List Event → List Event → Type 0
 RequestsSettled o before since = (from : ℕ) (x : Site) (p : Pending) → slice_get (run o (before ++ since)).world.sites from ≡ Some x → Contains x.pending p
-    → IsStarted (run o (before ++ since)).world from p ⊎ (TookNone o before since (manager_of (sites_of o) p.page) p.page ⊎ (x.purged p.page.seg ≡ true))
+    → WasFull o before since (manager_of (sites_of o) p.page) p.page

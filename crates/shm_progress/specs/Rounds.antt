@@ -1,9 +1,12 @@
 -- Rounds: every site ticks, and what is on its way is handed over until nothing is. The profile's own.
-use Rattle.std.specs.Prelude.{◌≡◌, ℕ, ◌<◌, false, List, [], ◌++◌, Some, None, Contains, slice_get}
+use Rattle.std.specs.Prelude.{◌≡◌, ℕ, ◌<◌, ◌⊎◌, Bool, true, false, List, [], ◌∷◌, ◌++◌, Some, None, Contains, slice_get}
 use Rattle.shm_place.specs.declared.page.PageId.{PageId}
 use Rattle.shm_model.specs.declared.event.Event.{Event}
-use Rattle.shm_model.specs.declared.event.Event.TheVariants.{Tick}
-use Rattle.shm_model.specs.Site.{Site}
+use Rattle.shm_model.specs.declared.event.Event.TheVariants.{Load, Store, Tick}
+use Rattle.shm_model.specs.declared.kind.Kind.{Kind}
+use Rattle.shm_model.specs.declared.kind.Kind.TheVariants.{Read, Write}
+use Rattle.shm_model.specs.Entry.{Entry, readable, writable}
+use Rattle.shm_model.specs.Site.{Pending, Site}
 use Rattle.shm_model.specs.World.{Opening, World, run, sites_of}
 use Rattle.shm_progress.specs.Deliveries.{IsAtRest}
 use Rattle.shm_progress.specs.OnTheWay.{NothingLost}
@@ -22,15 +25,55 @@ pub record Settled (w : World) : Type 0 where
 abbrev pub NoneRestarted : List Event → Type 0
 NoneRestarted events = (site : ℕ) → NotRestarted site events
 
+-- a load or a store
+abbrev pub is_access : Event → Bool
+is_access (Load _ _ _) = true
+is_access (Store _ _ _ _) = true
+is_access _ = false
+
+-- none of these events is a load or a store
+abbrev pub NoneAccesses : List Event → Type 0
+NoneAccesses [] = Unit {0}
+NoneAccesses (e ∷ es) = (is_access e ≡ false) × NoneAccesses es
+
+-- no request is pending at any site
+abbrev pub NonePending : World → Type 0
+NonePending w = (site : ℕ) (x : Site) → slice_get w.sites site ≡ Some x → x.pending ≡ []
+
+-- to read, or to write
+abbrev pub has_right : Kind → Entry → Bool
+has_right Read e = readable e
+has_right Write e = writable e
+
+-- after some front of the later events the site has the right that the request asks for
+pub record GainsRight (o : Opening) (before since : List Event) (from : ℕ) (p : Pending) : Type 0 where
+  pub front : List Event
+  pub back : List Event
+  pub is : since ≡ front ++ back
+  pub site : Site
+  pub found : slice_get (run o (before ++ front)).world.sites from ≡ Some site
+  pub right : has_right p.kind (site.entries p.page) ≡ true
+
+-- the site has purged the segment
+abbrev pub HasPurged : World → ℕ → ℕ → Type 0
+HasPurged w site id = (x : Site) × (slice_get w.sites site ≡ Some x) × (x.purged id ≡ true)
+
+-- each request that was pending before gains its right in the later events, or its site has purged the segment after them
+abbrev pub FaultsServed : Opening → List Event → List Event → Type 0
+FaultsServed o before since = (from : ℕ) (x : Site) (p : Pending) → slice_get (run o before).world.sites from ≡ Some x → Contains x.pending p
+    → GainsRight o before since from p ⊎ HasPurged (run o (before ++ since)).world from p.page.seg
+
 -- no transaction runs at any manager, and no Ask waits there
 pub record ManagersSettled (w : World) : Type 0 where
   pub ended : (site : ℕ) (x : Site) (page : PageId) → slice_get w.sites site ≡ Some x → (x.books page).running ≡ None
   pub served : (site : ℕ) (x : Site) (page : PageId) → slice_get w.sites site ≡ Some x → (x.books page).waiting ≡ []
 
--- further events that lose nothing and restart no site, among which each site ticks and after which nothing is on its way
+-- further events that lose nothing, restart no site and have no load and no store, among which each site ticks and after which nothing is on
+-- its way
 pub record Round (o : Opening) (events : List Event) : Type 0 where
   pub later : List Event
   pub kept : NothingLost later
   pub unrestarted : NoneRestarted later
+  pub calm : NoneAccesses later
   pub ticks : AllTick (sites_of o) later
   pub at_rest : IsAtRest (run o (events ++ later)).world

@@ -1,4 +1,4 @@
-//! Progress: deliveries end, calls and purges are served, transactions end, and requests are taken up. Theorems about Leddwyfan's
+//! Progress: deliveries end, calls and purges are served, transactions end, and faults are served. Theorems about Leddwyfan's
 //! definitions, each the contract of a function without parameters and with an empty body.
 #![tactic(auto)]
 
@@ -15,10 +15,10 @@ pub use deliveries::{
 };
 pub use purging::{purges_end, purges_go_on};
 pub use queues::none_waits_for_nothing;
-pub use requests::{requests_end, requests_go_on};
+pub use requests::{requests_end, requests_go_on, started_requests_are_served};
 pub use rounds::{
-    rounds_exist, rounds_settle_calls_and_purges, rounds_settle_requests,
-    rounds_settle_transactions,
+    faults_are_served, rounds_exist, rounds_settle_calls_and_purges, rounds_settle_requests,
+    rounds_settle_transactions, second_rounds_settle_requests,
 };
 pub use serving::{calls_end, calls_go_on};
 pub use transactions::{transactions_end, transactions_go_on};

@@ -7,7 +7,7 @@ ghost use Rattle.shm_model.specs.declared.event.Event.{Event};
 ghost use Rattle.shm_model.specs.declared.event.Event.TheVariants.{Tick};
 ghost use Rattle.shm_progress.specs.Deliveries.{IsAtRest};
 ghost use Rattle.shm_progress.specs.OnTheWay.{NothingLost};
-ghost use Rattle.shm_progress.specs.Requests.{IsTakenUpAt, RequestsGoOn, TookNone};
+ghost use Rattle.shm_progress.specs.Requests.{IsTakenUpAt, RequestsGoOn, StartedAreServed, TookNone};
 ghost use Rattle.shm_progress.specs.Transactions.{IsPurgedSomewhere, NotRestarted};
 
 /// Requests go on: once a site ticked, as long as nothing is lost and a manager doesn't restart, each request that the site has pending
@@ -27,4 +27,11 @@ pub fn requests_end()
         → slice_get (run o ((earlier ++ (Tick site ∷ [])) ++ later)).world.sites site ≡ Some x → Contains x.pending p → manager_of (sites_of o) p.page ≡ manager
         → IsTakenUpAt (run o ((earlier ++ (Tick site ∷ [])) ++ later)).world manager site p
         ⊎ (TookNone o (earlier ++ (Tick site ∷ [])) later manager p.page ⊎ IsPurgedSomewhere (run o ((earlier ++ (Tick site ∷ [])) ++ later)).world p.page.seg) }
+{}
+
+/// Started requests are served: in every world that some events lead to, whatever was lost, repeated or restarted before, a request that
+/// is pending and whose transaction was started is the one that runs, and its site has met none of the page as new. So a transaction that
+/// ends leaves none pending that it was started for.
+pub fn started_requests_are_served()
+    ensures { (o : Opening) (events : List Event) → IsOpening o → StartedAreServed (run o events).world }
 {}

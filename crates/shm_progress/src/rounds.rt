@@ -5,10 +5,10 @@ ghost use Rattle.shm_model.specs.declared.event.Event.{Event};
 ghost use Rattle.shm_progress.specs.Deliveries.{IsAtRest};
 ghost use Rattle.shm_progress.specs.OnTheWay.{NothingLost};
 ghost use Rattle.shm_progress.specs.Requests.{RequestsSettled};
-ghost use Rattle.shm_progress.specs.Rounds.{AllTick, ManagersSettled, NoneRestarted, Round, Settled};
+ghost use Rattle.shm_progress.specs.Rounds.{AllTick, FaultsServed, ManagersSettled, NoneAccesses, NonePending, NoneRestarted, Round, Settled};
 
-/// Rounds exist: from every world that some events lead to, each site's tick and then some deliveries, with no loss and no restart, leave
-/// nothing on its way. So the laws on rounds are about each world, as long as no more envelopes are sent than a world counts.
+/// Rounds exist: from every world that some events lead to, each site's tick and then some deliveries, with no loss, no restart, no load and
+/// no store, leave nothing on its way. So the laws on rounds are about each world, as long as no more envelopes are sent than a world counts.
 pub fn rounds_exist()
     ensures { (o : Opening) (events : List Event) → Round o events }
 {}
@@ -28,9 +28,27 @@ pub fn rounds_settle_transactions()
         → is_full (run o (earlier ++ later)).world ≡ false → IsAtRest (run o (earlier ++ later)).world → ManagersSettled (run o (earlier ++ later)).world }
 {}
 
-/// Rounds settle requests: where none of those events restarts a site, each request that is still pending has had its transaction
-/// started, or its manager took up none of the page at some time among them, or its site has purged the segment.
+/// Rounds settle requests: where none of those events restarts a site, each request that is still pending was turned away: at some time
+/// among them sixteen waited for the page at its manager.
 pub fn rounds_settle_requests()
     ensures { (o : Opening) (earlier later : List Event) → IsOpening o → NothingLost later → NoneRestarted later → AllTick (sites_of o) later
         → is_full (run o (earlier ++ later)).world ≡ false → IsAtRest (run o (earlier ++ later)).world → RequestsSettled o earlier later }
+{}
+
+/// Second rounds settle requests: two such rounds in a row, of which the second has no loads and no stores, leave no request pending at any
+/// site. For then each site asks for a page with one request alone, so that fewer than sixteen wait behind the one that is served.
+pub fn second_rounds_settle_requests()
+    ensures { (o : Opening) (earlier first second : List Event) → IsOpening o → NothingLost first → NoneRestarted first → AllTick (sites_of o) first
+        → IsAtRest (run o (earlier ++ first)).world → NothingLost second → NoneRestarted second → NoneAccesses second → AllTick (sites_of o) second
+        → is_full (run o ((earlier ++ first) ++ second)).world ≡ false → IsAtRest (run o ((earlier ++ first) ++ second)).world
+        → NonePending (run o ((earlier ++ first) ++ second)).world }
+{}
+
+/// Faults are served: along two such rounds each request that was pending before them gains its right at some time, to read for a load and
+/// to write for a store; or its site has purged the segment after them.
+pub fn faults_are_served()
+    ensures { (o : Opening) (earlier first second : List Event) → IsOpening o → NothingLost first → NoneRestarted first → AllTick (sites_of o) first
+        → IsAtRest (run o (earlier ++ first)).world → NothingLost second → NoneRestarted second → NoneAccesses second → AllTick (sites_of o) second
+        → is_full (run o ((earlier ++ first) ++ second)).world ≡ false → IsAtRest (run o ((earlier ++ first) ++ second)).world
+        → FaultsServed o earlier (first ++ second) }
 {}

@@ -20,7 +20,7 @@ use Rattle.shm_progress.proofs.BooksKept.{OutcomeHolds, WorldRule, run-books}
 abbrev OutcomeWaits : (ℕ → ℕ → Kind → Type 0) → Outcome → Type 0
 OutcomeWaits A outcome = OutcomeHolds (λ b. AllAsked A b.waiting) outcome
 
-each-push : {X : Type 0} (P : X → Type 0) (xs : List X) (y : X) → Each P xs → P y → Each P (xs ++ (y ∷ []))
+pub each-push : {X : Type 0} (P : X → Type 0) (xs : List X) (y : X) → Each P xs → P y → Each P (xs ++ (y ∷ []))
 each-push P [] y a p = (p, tt)
 each-push P (x ∷ xs) y a p = (a.0, each-push P xs y a.1 p)
 

@@ -1,20 +1,25 @@
--- After a round without restarts each request was started, or its manager took up none at some time in it.
-use Rattle.std.proofs.Common.{◌≡◌, ℕ, ◌≤◌, ◌⊎◌, inl, inr, true, false, List, [], ◌∷◌, ◌++◌, Some, append_assoc, slice_get, refl, sym, ◌∙◌, ap, subst, Contains}
+-- After a round without restarts each request that is still pending was turned away: its manager's book was full at some time in it.
+use Rattle.std.proofs.Common.{◌≡◌, ℕ, ◌≤◌, ◌⊎◌, inl, inr, true, false, List, [], ◌∷◌, ◌++◌, Option, Some, None, append_assoc, length, slice_get, refl, sym, ◌∙◌, ap, subst, Contains}
 use Rattle.shm_place.specs.declared.page.PageId.{PageId}
 use Rattle.shm_place.specs.Page.{manager_of}
 use Rattle.shm_model.specs.declared.event.Event.{Event}
 use Rattle.shm_model.specs.declared.event.Event.TheVariants.{Tick}
-use Rattle.shm_model.specs.Book.{Waiting, is_waiting}
+use Rattle.shm_model.specs.Book.{Running, Waiting, is_waiting, max_waiting}
 use Rattle.shm_model.specs.Site.{Pending, Site}
-use Rattle.shm_model.specs.World.{IsOpening, Opening, World, is_full, run, sites_of}
+use Rattle.shm_model.specs.World.{IsOpening, Opening, Run, World, is_full, run, sites_of}
 use Rattle.shm_laws.proofs.RunInduction.{run-shape}
 use Rattle.shm_progress.specs.Deliveries.{IsAtRest}
 use Rattle.shm_progress.specs.OnTheWay.{NothingLost}
-use Rattle.shm_progress.specs.Requests.{IsStarted, IsTakenUp, IsTakenUpAt, RequestsSettled, TookNone}
+use Rattle.shm_progress.specs.Requests.{IsStarted, IsTakenUp, IsTakenUpAt, RequestsSettled, TakesNone, TookNone, WasFull}
 use Rattle.shm_progress.specs.Rounds.{AllTick, NoneRestarted}
 use Rattle.shm_progress.specs.Transactions.{IsPurgedSomewhere, NotRestarted}
 use Rattle.shm_progress.proofs.Round.{Split, since, split}
 use Rattle.shm_progress.proofs.Request.GoOn.{requests-go-on, taken-at-rest}
+use Rattle.shm_progress.proofs.Along.{runs-on}
+use Rattle.shm_progress.proofs.OnTheWay.{free-before}
+use Rattle.shm_progress.proofs.Request.Numbers.{number-left}
+use Rattle.shm_progress.proofs.Request.Open.{pending-open}
+use Rattle.shm_progress.proofs.Request.Serving.{started-served}
 use Rattle.shm_progress.proofs.Transfer.Ends.{back-unrestarted, managers-settle, purged-too}
 
 -- the events about a tick among the later ones
@@ -38,6 +43,19 @@ module _ (o : Opening) (earlier later : List Event) (s : ℕ) (tick : Split late
     full = t.full;
   }
 
+-- a number was left, so that sixteen waited
+was-full : (o : Opening) (earlier later : List Event) (m : ℕ) (q : PageId) → is_full (run o (earlier ++ later)).world ≡ false → TookNone o earlier later m q → WasFull o earlier later m q
+was-full o earlier later m q free t = record { front = t.front; back = t.back; is = t.is; site = t.site; found = t.found; full = by-full t.full }
+  where
+    free_then : is_full (run o (earlier ++ t.front)).world ≡ false
+    free_then =
+        free-before (run o (earlier ++ t.front)) t.back
+        (subst (λ (r : Run). is_full r.world ≡ false) (runs-on o earlier t.front t.back) (subst (λ es. is_full (run o (earlier ++ es)).world ≡ false) t.is free))
+
+    by-full : TakesNone (t.site.books q) → max_waiting ≤ length (t.site.books q).waiting
+    by-full (inl full) = full
+    by-full (inr last) = absurd (number-left o (earlier ++ t.front) m t.site q t.found free_then last)
+
 none-waits : (ws : List Waiting) (s r : ℕ) → ws ≡ [] → is_waiting s r ws ≡ true → ⊥
 none-waits [] s r e h = cc
 none-waits (w ∷ ws) s r e h = cc
@@ -57,7 +75,16 @@ module _ (o : Opening) (opening : IsOpening o) (earlier later : List Event) (kep
             absurd (none-waits (y.books p.page).waiting s p.request ((managers-settle o opening earlier later kept unrestarted ticks free rest).served (manager_of (sites_of o) p.page) y p.page at) waits)
         by-taken (inr low) = low
 
-    settle-one : IsStarted w s p ⊎ (TookNone o earlier later (manager_of (sites_of o) p.page) p.page ⊎ (x.purged p.page.seg ≡ true))
+    -- what was started runs, and none does
+    unstarted : IsStarted w s p → ⊥
+    unstarted is =
+        let now = started-served o opening (earlier ++ later) s x p found here is in
+        some-none _ _ now.runs ((managers-settle o opening earlier later kept unrestarted ticks free rest).ended (manager_of w.count p.page) now.manager p.page now.found)
+      where
+        some-none : (found : Option Running) (run : Running) → found ≡ Some run → found ≡ None → ⊥
+        some-none found run e f = cc
+
+    settle-one : WasFull o earlier later (manager_of (sites_of o) p.page) p.page
     settle-one = by-end (ends-at found rest)
       where
         tick : Split later (Tick s)
@@ -75,10 +102,13 @@ module _ (o : Opening) (opening : IsOpening o) (earlier later : List Event) (kep
 
         by-end : IsTakenUpAt w (manager_of (sites_of o) p.page) s p
             ⊎ (TookNone o ((earlier ++ tick.front) ++ (Tick s ∷ [])) tick.back (manager_of (sites_of o) p.page) p.page ⊎ IsPurgedSomewhere w p.page.seg)
-            → IsStarted w s p ⊎ (TookNone o earlier later (manager_of (sites_of o) p.page) p.page ⊎ (x.purged p.page.seg ≡ true))
-        by-end (inl taken) = inl (started taken)
-        by-end (inr (inl turned)) = inr (inl (turned-in o earlier later s tick (manager_of (sites_of o) p.page) p.page turned))
-        by-end (inr (inr purged)) = inr (inr (purged-too o opening earlier later kept unrestarted ticks free rest s x found p.page purged))
+            → WasFull o earlier later (manager_of (sites_of o) p.page) p.page
+        by-end (inl taken) = absurd (unstarted (started taken))
+        by-end (inr (inl turned)) = was-full o earlier later (manager_of (sites_of o) p.page) p.page free (turned-in o earlier later s tick (manager_of (sites_of o) p.page) p.page turned)
+        by-end (inr (inr purged)) = absurd (open-still (purged-too o opening earlier later kept unrestarted ticks free rest s x found p.page purged))
+          where
+            open-still : x.purged p.page.seg ≡ true → ⊥
+            open-still gone = let open_here = pending-open o opening (earlier ++ later) s x p found here in let both : true ≡ false = sym gone ∙ open_here in cc
 
   pub requests-settle : RequestsSettled o earlier later
   requests-settle s x p found here = settle-one s x p found here

@@ -20,11 +20,11 @@ use Rattle.shm_laws.proofs.CallsAreQuiet.{begin-quiet, call-quiet, purged-quiet,
 use Rattle.shm_progress.proofs.Purge.Answers.{contains-first, contains-later}
 use Rattle.shm_progress.proofs.Transfer.Told.{map-contains}
 
-contains-cons : {X : Type 0} (y : X) (ys : List X) (x : X) → Contains (y ∷ ys) x → (y ≡ x) ⊎ Contains ys x
+pub contains-cons : {X : Type 0} (y : X) (ys : List X) (x : X) → Contains (y ∷ ys) x → (y ≡ x) ⊎ Contains ys x
 contains-cons y ys x (zero, l, e) = inl e
 contains-cons y ys x (suc k, l, e) = inr (k, omega arith, e)
 
-settle-before : (reads writes : Bool) (page : PageId) (ps : List Pending) (p : Pending) → Contains (settle reads writes page ps) p → Contains ps p
+pub settle-before : (reads writes : Bool) (page : PageId) (ps : List Pending) (p : Pending) → Contains (settle reads writes page ps) p → Contains ps p
 settle-before reads writes page [] p here = here
 settle-before reads writes page (q ∷ qs) p here =
     cond_both (same_page page q.page) _ _ (λ l. Contains l p → Contains (q ∷ qs) p)
@@ -35,7 +35,7 @@ settle-before reads writes page (q ∷ qs) p here =
     by-first (inl same) rest = subst (λ t. Contains (t ∷ qs) p) (sym same) (contains-first p qs)
     by-first (inr there) rest = contains-later q p qs (rest there)
 
-filter-before : (f : Pending → Bool) (ps : List Pending) (p : Pending) → Contains (filter f ps) p → Contains ps p
+pub filter-before : (f : Pending → Bool) (ps : List Pending) (p : Pending) → Contains (filter f ps) p → Contains ps p
 filter-before f [] p here = here
 filter-before f (q ∷ qs) p here =
     cond_both (f q) _ _ (λ l. Contains l p → Contains (q ∷ qs) p) (λ e h. by-first (contains-cons q (filter f qs) p h) (filter-before f qs p)) (λ e h. contains-later q p qs (filter-before f qs p h)) here
@@ -44,7 +44,7 @@ filter-before f (q ∷ qs) p here =
     by-first (inl same) rest = subst (λ t. Contains (t ∷ qs) p) (sym same) (contains-first p qs)
     by-first (inr there) rest = contains-later q p qs (rest there)
 
-put-before : (new : Pending) (ps : List Pending) (p : Pending) → Contains (put_pending new ps) p → Contains ps p ⊎ (new ≡ p)
+pub put-before : (new : Pending) (ps : List Pending) (p : Pending) → Contains (put_pending new ps) p → Contains ps p ⊎ (new ≡ p)
 put-before new [] p here = by-first (contains-cons new [] p here)
   where
     by-first : (new ≡ p) ⊎ Contains [] p → Contains [] p ⊎ (new ≡ p)
@@ -65,7 +65,7 @@ put-before new (q ∷ qs) p here =
         later (inl there) = inl (contains-later q p qs there)
         later (inr same) = inr same
 
-limited-pending : (frames : Option Frames) (x : Site) → (limited frames x).pending ≡ x.pending
+pub limited-pending : (frames : Option Frames) (x : Site) → (limited frames x).pending ≡ x.pending
 limited-pending None x = refl
 limited-pending (Some f) x = cond_both (nat_lt f.limit (length f.copies)) (drop_first f.copies f x) x (λ y. y.pending ≡ x.pending) (λ e. dropped-pending f.copies) (λ e. refl)
   where
