@@ -1,5 +1,5 @@
 -- Asks: each line that is read is spelled so, and each that is spelled so is read.
-use Rattle.std.proofs.Common.{◌≡◌, ℕ, ◌<◌, ◌==◌, ◌&&◌, Bool, true, false, List, ◌∷◌, length, None, Some, cond, nat_lt, refl, sym, ap, subst, ◌∙◌, arith}
+use Rattle.std.proofs.Common.{◌≡◌, ℕ, ◌<◌, ◌==◌, ◌&&◌, Bool, true, false, List, [], ◌∷◌, length, None, Some, cond, nat_lt, refl, sym, ap, subst, ◌∙◌, arith}
 use Rattle.std.specs.Prelude.{codes}
 use Rattle.std.specs.Char.{is_ascii_graphic}
 use Rattle.std.specs.List.{join_with_byte, list_all}
@@ -17,10 +17,10 @@ use Rattle.shm_lines.proofs.StepLemmas.{step, some-is, cond-some}
 use Rattle.shm_lines.specs.Words.{words_of}
 use Rattle.shm_wire.proofs.CallWords.{common-is}
 use Rattle.shm_wire.proofs.MessageWords.{took_page}
-use Rattle.shm_wire.proofs.Reading.{took, ended-is, Reads, Sound, SoundReader, by_verb-is, verb-is}
-use Rattle.shm_wire.specs.Asks.{Ask, IsAsk, IsAsked, IsTag, ask_line, ask_of_words, ask_words, asked_of, asked_words, begun_of, detach_of, is_tag, load_of, own, read_ask, show_of, store_of, tag_of}
+use Rattle.shm_wire.proofs.Reading.{took, ended-is, Reads, Sound, SoundReader, SoundWords, by_verb-is, nothing-is, verb-is}
+use Rattle.shm_wire.specs.Asks.{Ask, IsAsk, IsAsked, IsTag, ask_after, ask_line, ask_of_words, ask_words, asked_of, asked_words, begun_of, detach_of, is_tag, load_of, own, read_ask, show_of, store_of, tag_of}
 use Rattle.shm_wire.specs.Calls.{common_of}
-use Rattle.shm_wire.specs.Words.{by_verb, ended}
+use Rattle.shm_wire.specs.Words.{by_verb, ended, nothing}
 use Rattle.shm_wire.specs.declared.ask.Asked.{Asked}
 use Rattle.shm_wire.specs.declared.ask.Asked.TheVariants.{Load, Store, Begin, Tick, Show}
 
@@ -97,14 +97,19 @@ sound = (load-is, (store-is, (detach-is, (tick-is, (show-is, tt)))))
 asked-is : (words : List (List ℕ)) (asked : Asked) → asked_of words ≡ Some asked → ReadsAsked words asked
 asked-is words asked h = verb-is IsAsked asked_words (by_verb own begun_of) (by_verb-is IsAsked asked_words own begun_of sound begun-is) words asked h
 
-words-are : (words : List (List ℕ)) (ask : Ask) → ask_of_words words ≡ Some ask → Reads IsAsk ask_words words ask
-words-are words ask h =
+after-is : SoundWords IsAsk ask_words (codes "ask") ask_after
+after-is words ask h =
     let s = took number words _ ask h in
     let t = took tag s.others _ ask s.gives in
     let a = step (asked_of t.others) _ ask t.gives in
     let r = asked-is t.others a.value a.gave in
     let made : Ask = record { site = s.value; tag = t.value; asked = a.value } in
-    subst (Reads IsAsk ask_words words) (some-is made ask a.gives) ((s.is, t.is, r.0), onto s.are (onto t.are r.1))
+    subst (Reads IsAsk ask_words (codes "ask" ∷ words)) (some-is made ask a.gives) ((s.is, t.is, r.0), ap (λ l. codes "ask" ∷ l) (onto s.are (onto t.are r.1)))
+
+words-are : (words : List (List ℕ)) (ask : Ask) → ask_of_words words ≡ Some ask → Reads IsAsk ask_words words ask
+words-are words ask h =
+    verb-is IsAsk ask_words (by_verb ((codes "ask", ask_after) ∷ []) nothing)
+    (by_verb-is IsAsk ask_words ((codes "ask", ask_after) ∷ []) nothing (after-is, tt) (nothing-is IsAsk ask_words)) words ask h
 
 pub ask-is_spelled : (bytes : List ℕ) (ask : Ask) → read_ask bytes ≡ Some ask → IsAsk ask × (bytes ≡ ask_line ask)
 ask-is_spelled bytes ask h =

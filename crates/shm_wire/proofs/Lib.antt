@@ -10,3 +10,4 @@ pub mod SentWords
 pub mod AskWords
 pub mod SpelledAsks
 pub mod AnswerWords
+pub mod Apart

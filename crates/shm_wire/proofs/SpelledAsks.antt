@@ -54,5 +54,6 @@ pub ask-is_read : (ask : Ask) → IsAsk ask → read_ask (ask_line ask) ≡ Some
 ask-is_read ask h =
     let a = asked-spelled ask.asked h.2 in
     let others : NoBlanks (ask.tag ∷ asked_words ask.asked) = (tag.unparted ask.tag h.1, a.unparted) in
-    ap ask_of_words (words_of-join (decimal ask.site) (ask.tag ∷ asked_words ask.asked) (number.unparted ask.site h.0) others)
+    let all : NoBlanks (decimal ask.site ∷ ask.tag ∷ asked_words ask.asked) = (number.unparted ask.site h.0, others) in
+    ap ask_of_words (words_of-join (codes "ask") (decimal ask.site ∷ ask.tag ∷ asked_words ask.asked) (NoBlank-test (codes "ask") refl) all)
     ∙ rw (prints number ask.site (ask.tag ∷ asked_words ask.asked) h.0, prints tag ask.tag (asked_words ask.asked) h.1, a.back) refl

@@ -1,11 +1,12 @@
--- The line that answers an ask: `SITE TAG`, and a text, which may have blanks.
-use Rattle.std.specs.Prelude.{◌≡◌, ℕ, Bool, true, if◌then◌else◌, List, [], ◌∷◌, drop, Option, None, Some}
+-- The line that answers an ask: `tell SITE TAG`, and a text, which may have blanks.
+use Rattle.std.specs.Prelude.{◌≡◌, ℕ, Bool, true, if◌then◌else◌, List, [], ◌∷◌, codes, drop, Option, None, Some}
 use Rattle.std.specs.Fmt.{decimal}
 use Rattle.std.specs.Int.{is_in_range}
 use Rattle.std.specs.List.{join_with_byte, list_all}
-use Rattle.shm_lines.specs.Words.{◌>>=◌, words_of, next_of, next_number, is_end}
+use Rattle.shm_lines.specs.Words.{◌>>=◌, words_of, next_word, next_of, next_number, is_end}
 use Rattle.shm_lines.specs.Spelling.{IsNumber}
 use Rattle.shm_wire.specs.Asks.{IsTag, tag_of}
+use Rattle.shm_wire.specs.Words.{by_verb, nothing}
 use Rattle.shm_wire.specs.declared.answer.Answer.{Answer as CodeAnswer}
 
 -- printable ASCII, and blanks
@@ -32,14 +33,20 @@ abbrev pub IsAnswer : Answer → Type 0
 IsAnswer answer = IsNumber answer.site × IsTag answer.tag × (is_text answer.text ≡ true)
 
 abbrev pub answer_line : Answer → List ℕ
-answer_line answer = join_with_byte 32 (decimal answer.site ∷ answer.tag ∷ answer.text ∷ [])
+answer_line answer = join_with_byte 32 (codes "tell" ∷ decimal answer.site ∷ answer.tag ∷ answer.text ∷ [])
 
-abbrev pub answer_of_words : List (List ℕ) → Option Answer
-answer_of_words words = do
+-- `site tag text`
+abbrev pub answer_after : List (List ℕ) → Option Answer
+answer_after words = do
   (site, others) ← next_number words
   (tag, others) ← next_of tag_of others
   text ← text_of_words (drop 2 words)
   Some (record { site = site; tag = tag; text = text })
+
+abbrev pub answer_of_words : List (List ℕ) → Option Answer
+answer_of_words words = do
+  (verb, words) ← next_word words
+  by_verb ((codes "tell", answer_after) ∷ []) nothing verb words
 
 abbrev pub read_answer : List ℕ → Option Answer
 read_answer line = answer_of_words (words_of line)

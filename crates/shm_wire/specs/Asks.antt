@@ -1,4 +1,4 @@
--- What a caller asks of a site, under a tag of its own: `SITE TAG`, and what a script's line says, less the site.
+-- What a caller asks of a site, under a tag of its own: `ask SITE TAG`, and what a script's line says, less the site.
 use Rattle.std.specs.Prelude.{⊤, ◌≡◌, ℕ, ◌<◌, ◌&&◌, Bool, true, if◌then◌else◌, List, [], ◌∷◌, codes, length, nat_lt, Option, None, Some}
 use Rattle.std.specs.Char.{is_ascii_graphic}
 use Rattle.std.specs.Fmt.{decimal}
@@ -10,7 +10,7 @@ use Rattle.shm_lines.specs.Spelling as script
 use Rattle.shm_lines.specs.Spelling.{IsNumber}
 use Rattle.shm_wire.specs.Calls.{common_of, less_site}
 use Rattle.shm_wire.specs.Messages.{IsPageId, next_page}
-use Rattle.shm_wire.specs.Words.{Verbs, by_verb, ended}
+use Rattle.shm_wire.specs.Words.{Verbs, by_verb, ended, nothing}
 use Rattle.shm_wire.specs.declared.ask.Ask.{Ask as CodeAsk}
 use Rattle.shm_wire.specs.declared.ask.Asked.{Asked}
 use Rattle.shm_wire.specs.declared.ask.Asked.TheVariants.{Load, Store, Begin, Tick, Show}
@@ -99,17 +99,23 @@ abbrev pub IsAsk : Ask → Type 0
 IsAsk ask = IsNumber ask.site × IsTag ask.tag × IsAsked ask.asked
 
 abbrev pub ask_words : Ask → List (List ℕ)
-ask_words ask = decimal ask.site ∷ ask.tag ∷ asked_words ask.asked
+ask_words ask = codes "ask" ∷ decimal ask.site ∷ ask.tag ∷ asked_words ask.asked
 
 abbrev pub ask_line : Ask → List ℕ
 ask_line ask = join_with_byte 32 (ask_words ask)
 
-abbrev pub ask_of_words : List (List ℕ) → Option Ask
-ask_of_words words = do
+-- `site tag ..`
+abbrev pub ask_after : List (List ℕ) → Option Ask
+ask_after words = do
   (site, words) ← next_number words
   (tag, words) ← next_of tag_of words
   asked ← asked_of words
   Some (record { site = site; tag = tag; asked = asked })
+
+abbrev pub ask_of_words : List (List ℕ) → Option Ask
+ask_of_words words = do
+  (verb, words) ← next_word words
+  by_verb ((codes "ask", ask_after) ∷ []) nothing verb words
 
 abbrev pub read_ask : List ℕ → Option Ask
 read_ask line = ask_of_words (words_of line)

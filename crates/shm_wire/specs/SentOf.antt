@@ -3,6 +3,7 @@ use Rattle.shm_model.specs.Log as model
 use Rattle.shm_parts.specs.Message.{envelope_of}
 use Rattle.shm_wire.specs.Sent as wire
 use Rattle.shm_wire.specs.declared.sent.Sent.{Sent}
+use Rattle.shm_wire.specs.declared.sent.SentLine.{SentLine}
 use Rattle.shm_wire.specs.declared.sent.Stamp.{Stamp}
 
 abbrev pub stamp_of : Stamp → model.Stamp
@@ -10,3 +11,6 @@ stamp_of stamp = record { at = stamp.clock; index = stamp.index; place = stamp.p
 
 abbrev pub sent_of : {A : Type 0} → Sent A → wire.Sent
 sent_of sent = record { source = stamp_of sent.source; envelope = envelope_of sent.envelope }
+
+abbrev pub sent_in : {A : Type 0} → SentLine A → wire.Sent
+sent_in line = record { source = stamp_of line.source; envelope = envelope_of line.envelope.now }

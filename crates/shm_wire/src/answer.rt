@@ -21,6 +21,6 @@ impl<'a> fmt::Display for Answer<'a> {
         let site = self.site.0;
         let tag = self.tag;
         let text = self.text;
-        write!(f, "{site} {tag} {text}")
+        write!(f, "tell {site} {tag} {text}")
     }
 }

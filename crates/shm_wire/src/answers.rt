@@ -2,7 +2,7 @@
 ghost use Rattle.std.specs.Prelude.{◌≡◌, [], drop, option_map};
 ghost use Rattle.std.specs.Option.{option_map_or};
 ghost use Rattle.shm_lines.specs.Words.{words_of};
-ghost use Rattle.shm_wire.specs.Answers.{answer_of, is_text, read_answer, text_of, text_of_words};
+ghost use Rattle.shm_wire.specs.Answers.{answer_after, answer_of, is_text, read_answer, text_of, text_of_words};
 ghost use Rattle.std.specs.Int.{is_in_range};
 
 use crate::answer::Answer;
@@ -14,6 +14,17 @@ use std::str;
 /// What this line answers, which stands without its line feed; `None` where it is no answer. It takes no memory.
 pub fn parse_answer(line: &[u8]) -> Option<Answer<'_>>
     ensures { option_map answer_of result ≡ read_answer line.now }
+{
+    let (verb, rest) = split_at(line, b' ');
+    if verb != b"tell".as_slice() {
+        return None;
+    }
+    answer(rest?)
+}
+
+/// What is answered, by which site and under which tag.
+fn answer(line: &[u8]) -> Option<Answer<'_>>
+    ensures { option_map answer_of result ≡ answer_after (words_of line.now) }
 {
     let (site, words) = Words::of(line).number()?;
     let (word, _) = words.word()?;

@@ -33,7 +33,7 @@ impl<'a> fmt::Display for Ask<'a> {
         let site = self.site.0;
         let tag = self.tag;
         let asked = self.asked;
-        write!(f, "{site} {tag} {asked}")
+        write!(f, "ask {site} {tag} {asked}")
     }
 }
 

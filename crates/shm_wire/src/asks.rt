@@ -3,6 +3,7 @@ ghost use Rattle.std.specs.Prelude.{◌≡◌, option_map};
 ghost use Rattle.std.specs.Char.{is_ascii_graphic};
 ghost use Rattle.std.specs.List.{list_all};
 ghost use Rattle.shm_wire.specs.Words.{ended};
+ghost use Rattle.shm_wire.specs.Asks as said;
 ghost use Rattle.shm_wire.specs.Asks.{ask_of, asked_of, begun_of, detach_of, load_of, read_ask, show_of, store_of, tag_of};
 
 use crate::ask::{Ask, Asked};
@@ -17,7 +18,18 @@ use std::str;
 pub fn parse_ask(line: &[u8]) -> Option<Ask<'_>>
     ensures { option_map ask_of result ≡ read_ask line.now }
 {
-    let (site, words) = Words::of(line).number()?;
+    let (verb, words) = Words::of(line).word()?;
+    if verb != b"ask".as_slice() {
+        return None;
+    }
+    ask(words)
+}
+
+/// What is asked, of which site and under which tag.
+fn ask(words: Words<'_>) -> Option<Ask<'_>>
+    ensures { option_map ask_of result ≡ said.ask_after words.entry }
+{
+    let (site, words) = words.number()?;
     let (word, words) = words.word()?;
     let tag = tag(word)?;
     let asked = asked(words)?;

@@ -1,10 +1,10 @@
 //! What sites and callers say to each other on one stream, as lines of text.
 //!
 //! - An envelope, with where it was sent: `env FROM TO CLOCK INDEX PLACE KIND ..`. A page's bytes are base64.
-//! - What a caller asks of a site: `SITE TAG`, and what a script's line says, less the site.
-//! - What a caller is answered: `SITE TAG TEXT`.
+//! - What a caller asks of a site: `ask SITE TAG`, and what a script's line says, less the site.
+//! - What a caller is answered: `tell SITE TAG TEXT`.
 //!
-//! Each has one spelling: what is printed is read back equal, and nothing else is read. A line stands without its line feed.
+//! Each has one spelling: what is printed is read back equal, and nothing else is read. No line is two of the three. A line stands without its line feed.
 #![tactic(auto)]
 
 mod answer;
@@ -21,6 +21,8 @@ mod replies;
 mod sent;
 mod spelling;
 mod spelling_calls;
+#[cfg(test)]
+mod tests;
 mod words;
 
 pub use answer::Answer;
@@ -28,4 +30,4 @@ pub use answers::parse_answer;
 pub use ask::{Ask, Asked};
 pub use asks::parse_ask;
 pub use parse::parse_envelope;
-pub use sent::{Sent, Stamp};
+pub use sent::{Sent, SentLine, Stamp};

@@ -11,9 +11,10 @@ use crate::words::{kind, wide};
 use shm_lines::Words;
 use shm_parts::Message;
 use shm_place::{PageId, SegId, SiteId};
+use std::alloc::Allocator;
 
 /// The message of this kind, if it brings no page.
-pub fn plain(verb: &[u8], words: Words<'_>) -> Option<Message>
+pub fn plain<A: Allocator + Copy>(verb: &[u8], words: Words<'_>) -> Option<Message<A>>
     ensures { option_map message_of result ≡ plain_of verb.now words.entry }
 {
     if verb == b"ask".as_slice() {
@@ -59,7 +60,7 @@ pub fn page_id(words: Words<'_>) -> Option<(PageId, Words<'_>)>
     Some((page, words))
 }
 
-fn ask(words: Words<'_>) -> Option<Message>
+fn ask<A: Allocator + Copy>(words: Words<'_>) -> Option<Message<A>>
     ensures { option_map message_of result ≡ ask_of words.entry }
 {
     let (page, words) = page_id(words)?;
@@ -75,7 +76,7 @@ fn ask(words: Words<'_>) -> Option<Message>
     })
 }
 
-fn clear(words: Words<'_>) -> Option<Message>
+fn clear<A: Allocator + Copy>(words: Words<'_>) -> Option<Message<A>>
     ensures { option_map message_of result ≡ numbered_of Clear words.entry }
 {
     let (page, words) = page_id(words)?;
@@ -86,7 +87,7 @@ fn clear(words: Words<'_>) -> Option<Message>
     Some(Message::Clear { page, number })
 }
 
-fn cleared(words: Words<'_>) -> Option<Message>
+fn cleared<A: Allocator + Copy>(words: Words<'_>) -> Option<Message<A>>
     ensures { option_map message_of result ≡ numbered_of Cleared words.entry }
 {
     let (page, words) = page_id(words)?;
@@ -97,7 +98,7 @@ fn cleared(words: Words<'_>) -> Option<Message>
     Some(Message::Cleared { page, number })
 }
 
-fn hand(words: Words<'_>) -> Option<Message>
+fn hand<A: Allocator + Copy>(words: Words<'_>) -> Option<Message<A>>
     ensures { option_map message_of result ≡ hand_of words.entry }
 {
     let (page, words) = page_id(words)?;
@@ -115,7 +116,7 @@ fn hand(words: Words<'_>) -> Option<Message>
     })
 }
 
-fn confirm(words: Words<'_>) -> Option<Message>
+fn confirm<A: Allocator + Copy>(words: Words<'_>) -> Option<Message<A>>
     ensures { option_map message_of result ≡ numbered_of Confirm words.entry }
 {
     let (page, words) = page_id(words)?;
@@ -126,7 +127,7 @@ fn confirm(words: Words<'_>) -> Option<Message>
     Some(Message::Confirm { page, number })
 }
 
-fn called(words: Words<'_>) -> Option<Message>
+fn called<A: Allocator + Copy>(words: Words<'_>) -> Option<Message<A>>
     ensures { option_map message_of result ≡ called_of words.entry }
 {
     let (number, words) = wide(words)?;
@@ -134,7 +135,7 @@ fn called(words: Words<'_>) -> Option<Message>
     Some(Message::Call { number, op })
 }
 
-fn replied(words: Words<'_>) -> Option<Message>
+fn replied<A: Allocator + Copy>(words: Words<'_>) -> Option<Message<A>>
     ensures { option_map message_of result ≡ replied_of words.entry }
 {
     let (number, words) = wide(words)?;
@@ -142,7 +143,7 @@ fn replied(words: Words<'_>) -> Option<Message>
     Some(Message::Reply { number, reply })
 }
 
-fn purge(words: Words<'_>) -> Option<Message>
+fn purge<A: Allocator + Copy>(words: Words<'_>) -> Option<Message<A>>
     ensures { option_map message_of result ≡ of_segment Purge words.entry }
 {
     let (id, words) = words.number()?;
@@ -152,7 +153,7 @@ fn purge(words: Words<'_>) -> Option<Message>
     Some(Message::Purge { id: SegId(id) })
 }
 
-fn purged(words: Words<'_>) -> Option<Message>
+fn purged<A: Allocator + Copy>(words: Words<'_>) -> Option<Message<A>>
     ensures { option_map message_of result ≡ of_segment Purged words.entry }
 {
     let (id, words) = words.number()?;

@@ -16,10 +16,13 @@ use shm_model::Kind;
 use shm_page::{Entry, OwnWritePage};
 use shm_parts::{Grant, Message};
 use shm_place::{PAGE_BYTES, SiteId};
-use std::alloc::{AllocError, Global};
+use std::alloc::{AllocError, Allocator};
 
 /// The message that brings a page.
-pub fn page(alloc: Global, words: Words<'_>) -> Result<Option<Message>, AllocError>
+pub fn page<A: Allocator + Copy>(
+    alloc: A,
+    words: Words<'_>,
+) -> Result<Option<Message<A>>, AllocError>
     ensures { IfOk result (λ message. option_map message_of message ≡ page_of words.entry) }
 {
     let Some((page, words)) = page_id(words) else {
@@ -45,7 +48,7 @@ pub fn page(alloc: Global, words: Words<'_>) -> Result<Option<Message>, AllocErr
 }
 
 /// The bytes of a page that the word is the base64 of.
-fn decoded(alloc: Global, word: &[u8]) -> Result<Option<Vec<u8>>, AllocError>
+fn decoded<A: Allocator + Copy>(alloc: A, word: &[u8]) -> Result<Option<Vec<u8, A>>, AllocError>
     ensures bytes { IfOk result (λ bytes. option_map (λ v. v.items) bytes ≡ bytes_of word.now) }
     ensures whole { IfOk result (λ bytes. IfSome bytes (λ v. length v.items ≡ page_bytes)) }
 {
@@ -62,7 +65,12 @@ fn decoded(alloc: Global, word: &[u8]) -> Result<Option<Vec<u8>>, AllocError>
 }
 
 /// The grant of a page with these bytes. As each grant it is made by an owner's page, which is lent or handed.
-fn granted(alloc: Global, number: u64, kind: Kind, bytes: &[u8]) -> Result<Grant, AllocError>
+fn granted<A: Allocator + Copy>(
+    alloc: A,
+    number: u64,
+    kind: Kind,
+    bytes: &[u8],
+) -> Result<Grant<A>, AllocError>
     requires number { 0 < number }
     requires whole { length bytes.now ≡ page_bytes }
     ensures { IfOk result (λ grant. grant_of grant ≡ note.Page number kind bytes.now) }
@@ -81,7 +89,7 @@ fn granted(alloc: Global, number: u64, kind: Kind, bytes: &[u8]) -> Result<Grant
 }
 
 /// A page with these bytes, at an owner that has met no transaction.
-fn owned(alloc: Global, bytes: &[u8]) -> Result<OwnWritePage, AllocError>
+fn owned<A: Allocator + Copy>(alloc: A, bytes: &[u8]) -> Result<OwnWritePage<A>, AllocError>
     requires { length bytes.now ≡ page_bytes }
     ensures { IfOk result (λ page. page ≡ state.page_of 0 bytes.now) }
 {
@@ -93,7 +101,7 @@ fn owned(alloc: Global, bytes: &[u8]) -> Result<OwnWritePage, AllocError>
 }
 
 /// Stores each of a page's bytes.
-fn fill(page: &mut OwnWritePage, bytes: &[u8])
+fn fill<A: Allocator + Copy>(page: &mut OwnWritePage<A>, bytes: &[u8])
     requires page { length page.old.bytes ≡ page_bytes }
     requires whole { length bytes.now ≡ page_bytes }
     ensures { page.new ≡ state.page_of page.old.seen bytes.now }

@@ -13,11 +13,14 @@ use crate::words::wide;
 use shm_lines::Words;
 use shm_parts::{Envelope, Message};
 use shm_place::SiteId;
-use std::alloc::{AllocError, Global};
+use std::alloc::{AllocError, Allocator};
 
 /// The envelope that this line spells, which stands without its line feed; `None` where it spells none. Only a page's bytes take
 /// memory.
-pub fn parse_envelope(alloc: Global, line: &[u8]) -> Result<Option<Sent>, AllocError>
+pub fn parse_envelope<A: Allocator + Copy>(
+    alloc: A,
+    line: &[u8],
+) -> Result<Option<Sent<A>>, AllocError>
     ensures { IfOk result (λ sent. option_map sent_of sent ≡ read_envelope line.now) }
 {
     let Some((verb, words)) = Words::of(line).word() else {
@@ -29,7 +32,7 @@ pub fn parse_envelope(alloc: Global, line: &[u8]) -> Result<Option<Sent>, AllocE
     sent(alloc, words)
 }
 
-fn sent(alloc: Global, words: Words<'_>) -> Result<Option<Sent>, AllocError>
+fn sent<A: Allocator + Copy>(alloc: A, words: Words<'_>) -> Result<Option<Sent<A>>, AllocError>
     ensures { IfOk result (λ sent. option_map sent_of sent ≡ said.sent_of words.entry) }
 {
     let Some((from, words)) = words.number() else {
@@ -67,7 +70,10 @@ fn stamp(words: Words<'_>) -> Option<(Stamp, Words<'_>)>
     Some((stamp, words))
 }
 
-fn message(alloc: Global, words: Words<'_>) -> Result<Option<Message>, AllocError>
+fn message<A: Allocator + Copy>(
+    alloc: A,
+    words: Words<'_>,
+) -> Result<Option<Message<A>>, AllocError>
     ensures { IfOk result (λ message. option_map parts.message_of message ≡ message_of words.entry) }
 {
     let Some((verb, words)) = words.word() else {

@@ -19,3 +19,10 @@ pub struct Sent<A: Allocator + Copy = Global> {
     pub source: Stamp,
     pub envelope: Envelope<A>,
 }
+
+/// The same of an envelope that stays where it is: whoever sends it prints this.
+#[derive(Clone, Copy)]
+pub struct SentLine<'a, A: Allocator + Copy = Global> {
+    pub source: Stamp,
+    pub envelope: &'a Envelope<A>,
+}

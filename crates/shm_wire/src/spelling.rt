@@ -1,5 +1,5 @@
 //! How an envelope is spelled: the one line that is read back as it.
-use crate::sent::Sent;
+use crate::sent::{Sent, SentLine};
 use crate::spelling_calls::{CallWords, ReplyWords};
 use base64::display::Base64Display;
 use base64::engine::general_purpose::STANDARD;
@@ -18,13 +18,31 @@ impl<A: Allocator + Copy> fmt::Display for Sent<A> {
 
     /// The envelope's line, without a line feed.
     fn fmt<W: fmt::Write>(&self, f: &mut fmt::Formatter<W>) -> fmt::Result {
-        let from = self.envelope.from.0;
-        let to = self.envelope.to.0;
+        let line = SentLine {
+            source: self.source,
+            envelope: &self.envelope,
+        };
+        write!(f, "{line}")
+    }
+}
+
+impl<'a, A: Allocator + Copy> fmt::Display for SentLine<'a, A> {
+    ghost use Rattle.std.specs.Prelude.{Some};
+    ghost use Rattle.shm_wire.specs.Sent.{envelope_line};
+    ghost use Rattle.shm_wire.specs.SentOf.{sent_in};
+
+    ghost output = { λ line. Some (envelope_line (sent_in line)) };
+
+    /// The envelope's line, without a line feed.
+    fn fmt<W: fmt::Write>(&self, f: &mut fmt::Formatter<W>) -> fmt::Result {
+        let envelope = self.envelope;
+        let from = envelope.from.0;
+        let to = envelope.to.0;
         let clock = self.source.clock;
         let index = self.source.index;
         let place = self.source.place;
         let message = Told {
-            message: &self.envelope.message,
+            message: &envelope.message,
         };
         write!(f, "env {from} {to} {clock} {index} {place} {message}")
     }

@@ -3,4 +3,4 @@ use Rattle.shm_place.specs.Limits.{page_bytes}
 use Rattle.shm_wire.proofs.pages.fill.Given as goal
 
 abbrev pub invariant-bytes : goal.invariant-bytes
-invariant-bytes l = (l.page.seen ≡ l.fn.page.seen) × (length l.page.bytes ≡ page_bytes) × (take l.at l.page.bytes ≡ take l.at l.bytes)
+invariant-bytes g l = (l.page.seen ≡ l.fn.page.seen) × (length l.page.bytes ≡ page_bytes) × (take l.at l.page.bytes ≡ take l.at l.bytes)

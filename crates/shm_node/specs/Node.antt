@@ -1,0 +1,150 @@
+-- A site as a process. Lines come on one stream, which all sites and callers share; each that is for this site makes one step of it, and
+-- the others are passed over. A step's clock is above those of the steps before it, and above that of the step which sent what it is
+-- handed (Lamport 1978: logical clocks).
+use Rattle.std.specs.Prelude.{ℕ, ◌+◌, Bool, ◌||◌, List, Option, Some, None, ◌==◌, if◌then◌else◌, max, option_map, option_and_then}
+use Rattle.shm_model.specs.declared.answer.Answer.{Answer}
+use Rattle.shm_model.specs.declared.answer.Answer.TheVariants.{Began, Replied}
+use Rattle.shm_model.specs.Basics.{greatest}
+use Rattle.shm_model.specs.Message.{Envelope, Input, Load, Store, Begin, Deliver, Tick}
+use Rattle.shm_model.specs.Site.{Site}
+use Rattle.shm_model.specs.Step.{foreign, step}
+use Rattle.shm_model.specs.World.{Preset, opened_site}
+use Rattle.shm_wire.specs.Asks.{Ask, read_ask}
+use Rattle.shm_wire.specs.Sent.{Sent, read_envelope}
+use Rattle.shm_wire.specs.declared.ask.Asked.{Asked}
+use Rattle.shm_wire.specs.declared.ask.Asked.TheVariants as asked
+
+-- how many sites there are, and which one this is; the site as it stands, its clock, and how many steps it made; and how many lines made
+-- a step, and how many were passed over; and the tag of the caller whose segment call is outstanding
+pub record Node : Type 0 where
+  pub sites : ℕ
+  pub me : ℕ
+  pub site : Site
+  pub clock : ℕ
+  pub steps : ℕ
+  pub taken : ℕ
+  pub passed : ℕ
+  pub caller : Option (List ℕ)
+
+-- a node at which nothing has happened
+abbrev pub new_node : ℕ → ℕ → ℕ → Node
+new_node sites me pages = record {
+  sites = sites;
+  me = me;
+  site = opened_site (Preset sites pages) me;
+  clock = 0;
+  steps = 0;
+  taken = 0;
+  passed = 0;
+  caller = None;
+}
+
+-- ---- what a line is to a node
+
+-- what a line hands to the site: an input, the clock of the step which sent it, or 0, and the tag of the caller who asks
+pub record Heard : Type 0 where
+  pub input : Input
+  pub source : ℕ
+  pub tag : Option (List ℕ)
+
+-- no stamp is above this clock, or above the sender's
+abbrev pub is_late : Node → ℕ → Bool
+is_late node source = max node.clock source == greatest
+
+-- an envelope, unless it can't be for this site
+abbrev pub handed : Node → Sent → Option Heard
+handed node sent =
+    if foreign node.sites node.me sent.envelope || is_late node sent.source.at then None
+    else Some (record { input = Deliver sent.envelope; source = sent.source.at; tag = None })
+
+-- what a site is made to do; a page is only shown
+abbrev pub input_asked : Asked → Option Input
+input_asked (asked.Load at offset) = Some (Load at offset)
+input_asked (asked.Store at offset byte) = Some (Store at offset byte)
+input_asked (asked.Begin request) = Some (Begin request)
+input_asked asked.Tick = Some Tick
+input_asked (asked.Show page) = None
+
+abbrev pub under_tag : List ℕ → Input → Heard
+under_tag tag input = record { input = input; source = 0; tag = Some tag }
+
+-- what a caller asks of this site
+abbrev pub asked_here : Node → Ask → Option Heard
+asked_here node ask =
+    if (ask.site == node.me) then (if is_late node 0 then None else option_map (under_tag ask.tag) (input_asked ask.asked))
+    else None
+
+abbrev pub heard_in : Node → Option Sent → Option Ask → Option Heard
+heard_in node (Some sent) ask = handed node sent
+heard_in node None ask = option_and_then (asked_here node) ask
+
+abbrev pub heard : Node → List ℕ → Option Heard
+heard node line = heard_in node (read_envelope line) (read_ask line)
+
+-- ---- what a node makes of it
+
+abbrev pub next_clock : Node → ℕ → ℕ
+next_clock node source = max node.clock source + 1
+
+-- lines are counted up to the greatest number
+abbrev pub counted : ℕ → ℕ
+counted lines = if lines == greatest then lines else lines + 1
+
+-- a segment call has its caller until it is replied to
+abbrev pub caller_after : Option (List ℕ) → Option (List ℕ) → Answer → Option (List ℕ)
+caller_after tag caller (Began number) = tag
+caller_after tag caller (Replied number reply attachment) = None
+caller_after tag caller answer = caller
+
+abbrev pub stepped : Node → Heard → Node
+stepped node heard =
+    let done = step node.sites node.me node.site heard.input in
+    record node {
+      site = done.site;
+      clock = next_clock node heard.source;
+      steps = node.steps + 1;
+      taken = counted node.taken;
+      caller = caller_after heard.tag node.caller done.answer;
+    }
+
+abbrev pub after_heard : Node → Option Heard → Node
+after_heard node None = record node { passed = counted node.passed }
+after_heard node (Some heard) = stepped node heard
+
+-- the node after a line
+abbrev pub after : Node → List ℕ → Node
+after node line = after_heard node (heard node line)
+
+-- ---- what it says
+
+-- of one step: which site made it, its clock and its index, the envelopes that the site sent, what it answers, and the tag of the caller
+-- who is told that
+pub record Said : Type 0 where
+  pub site : ℕ
+  pub clock : ℕ
+  pub index : ℕ
+  pub sent : List Envelope
+  pub tag : Option (List ℕ)
+  pub answer : Answer
+
+-- each ask is answered once: a segment call when it is replied to, unless it is refused
+abbrev pub told : Option (List ℕ) → Option (List ℕ) → Answer → Option (List ℕ)
+told tag caller (Began number) = None
+told tag caller (Replied number reply attachment) = caller
+told tag caller answer = tag
+
+abbrev pub says : Node → Heard → Said
+says node heard =
+    let done = step node.sites node.me node.site heard.input in
+    record {
+      site = node.me;
+      clock = next_clock node heard.source;
+      index = node.steps;
+      sent = done.sent;
+      tag = told heard.tag node.caller done.answer;
+      answer = done.answer;
+    }
+
+-- what a node says for a line
+abbrev pub said : Node → List ℕ → Option Said
+said node line = option_map (says node) (heard node line)
