@@ -8,7 +8,6 @@ use std::sync::Wait;
 use std::test::Fail;
 
 mod memory;
-mod seeds;
 
 /// An offset in page 1, which site 1 manages.
 const THERE: u32 = 4096;

@@ -1,3 +1,4 @@
+mod drawn;
 mod held;
 mod refusals;
 mod report;

@@ -1,13 +1,16 @@
-//! That a cluster draws from the seed that it was started with: what becomes of the first envelope that a site's thread sends.
-use super::THERE;
-use crate::{Cluster, OpenGate};
+//! That a run draws from its seed: what becomes of the first envelope that a site's thread sends.
 use shm_boxes::{Input, SiteLog};
+use shm_lines::parse_workload;
 use shm_parts::Message;
-use shm_place::{SiteId, Sites};
+use shm_place::Sites;
+use shm_report::run_workload;
 use std::alloc::Global;
 use std::sync::Wait;
 use std::test::Fail;
 use std::thread::Threads;
+
+/// Site 0 reads a page of site 1's, and then writes it: its second request comes behind all that the first one made site 1 send itself.
+const LINES: &[u8] = b"preset 2\nload 0 4096\nstore 0 4096 7\n";
 
 /// A seed under which the first number of site 1's stream leaves 0 modulo 16, as PCG's own formula gives it.
 const LOSES: u64 = 26;
@@ -28,7 +31,7 @@ enum Seen {
 }
 
 #[test]
-fn the_seed_of_a_cluster_is_drawn_from(rt: HostRuntime) -> Result<(), Fail> {
+fn a_run_draws_from_its_seed(rt: HostRuntime) -> Result<(), Fail> {
     let lost = seen_under(&rt, rt.alloc(), LOSES)?;
     let repeated = seen_under(&rt, rt.alloc(), REPEATS)?;
     let sent = seen_under(&rt, rt.alloc(), SENDS)?;
@@ -38,20 +41,19 @@ fn the_seed_of_a_cluster_is_drawn_from(rt: HostRuntime) -> Result<(), Fail> {
     Ok(())
 }
 
-/// Site 0 reads a page of site 1's, and then writes it: its second request comes behind all that the first one made site 1 send itself.
+/// What site 1's log has of it after a run from this seed.
 fn seen_under<R: Threads + Wait + Copy + Send + Sync + 'static>(
     rt: &R,
     alloc: Global,
     seed: u64,
 ) -> Result<Option<Seen>, Fail> {
-    let cluster = Cluster::start(rt, alloc, Sites::new(2)?, 2, seed, OpenGate)?;
-    let Ok(reader) = cluster.client(SiteId(0)) else {
-        return Err(Fail::new("no site 0"));
-    };
-    reader.load(rt, 0, THERE)?;
-    reader.store(rt, 0, THERE, 7)?;
-    let logs = cluster.stop(rt)?;
-    Ok(logs.get(1).and_then(|log| first_order(log)))
+    let sites = Sites::new(2)?;
+    let workload = parse_workload(alloc, sites, LINES)?;
+    let ran = run_workload(rt, alloc, sites, seed, &workload)?;
+    drop(workload);
+    let seen = ran.logs.get(1).and_then(|log| first_order(log));
+    drop(ran);
+    Ok(seen)
 }
 
 fn first_order(log: &SiteLog) -> Option<Seen> {
