@@ -8,7 +8,7 @@ ghost use Rattle.shm_model.specs.SegmentCalls.{on_call};
 use crate::done::Done;
 use crate::recall::{Recall, told_by};
 use crate::run::execute;
-use shm_keys::{SegTable, SiteSet};
+use shm_keys::{SegTable, Segment, SiteSet};
 use shm_model::{Op, Reply};
 use shm_number::KeptReply;
 use shm_place::{SegId, SiteId};
@@ -45,6 +45,13 @@ impl<A: Allocator + Copy> Home<A> {
             table,
             kept: KeptReply::new(),
         }
+    }
+
+    /// All segments that the home ever made, the destroyed ones too, in the order of making.
+    pub fn segments(&self) -> &[Segment]
+        ensures { result.now ≡ self.now.table.segments }
+    {
+        self.table.segments()
     }
 
     /// Serves the call of this number. None: the number is old, or 0. Only a `get` that makes a segment takes memory.

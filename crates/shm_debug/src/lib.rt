@@ -19,7 +19,9 @@ mod showing;
 mod turns;
 
 pub use back_fault::BackFault;
+pub use opening::Opening;
 pub use outcome::{DebugFault, Summary};
+pub use player::Player;
 pub use script::replay;
 pub use session::Session;
 pub use shm_lines::{BadLine, Line, parse_line};

@@ -8,12 +8,15 @@ use shm_place::Sites;
 use shm_world::World;
 use std::alloc::{AllocError, Allocator};
 
-/// So many sites; so many pages of segment 0, if any; and so many frames at each site, if any.
+/// How a session's world begins: what the first line of a script says.
 #[derive(Clone, Copy)]
-pub(crate) struct Opening {
-    pub(crate) sites: Sites,
-    pub(crate) preset: Option<u32>,
-    pub(crate) frames: Option<u32>,
+pub struct Opening {
+    /// So many sites.
+    pub sites: Sites,
+    /// So many pages of segment 0, which every site has attached; `None`: no segment.
+    pub preset: Option<u32>,
+    /// At most so many pages are held as copies at each site; `None`: any number.
+    pub frames: Option<u32>,
 }
 
 impl Opening {

@@ -1,5 +1,6 @@
 //! A script that is read byte by byte, and what its lines make of a session.
 ghost use Rattle.std.specs.Prelude.{◌≡◌, ◌+◌, ◌<◌, ◌≤◌, ◌∷◌, ◌++◌, [], true, IfErr, IfOk, OnErr, OnOk};
+ghost use Rattle.std.specs.Option.{option_copied};
 ghost use Rattle.shm_lines.specs.Line.{may_stand};
 ghost use Rattle.shm_lines.specs.Spelling.{IsLine};
 ghost use Rattle.shm_text.specs.Text.{line_text};
@@ -53,6 +54,13 @@ impl<A: Allocator + Copy> Player<A> {
             lines: 0,
             line,
         })
+    }
+
+    /// What stands after the whole lines that were read; `None`: there was none yet.
+    pub fn session(&self) -> Option<&Session<A>>
+        ensures { option_copied result ≡ self.now.standing }
+    {
+        self.session.as_ref()
     }
 
     /// How many bytes may still be read. The line that is being read is none yet.

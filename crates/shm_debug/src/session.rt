@@ -1,5 +1,6 @@
 ghost use Rattle.std.specs.Prelude.{◌≡◌, ◌==◌, [], IfOk, IsSome, length};
 ghost use Rattle.shm_model.specs.World.{IsOpening};
+ghost use Rattle.shm_debug.specs.Opening.{begins};
 ghost use Rattle.shm_debug.specs.Standing.{opening_of, standing, stood};
 ghost use Rattle.shm_world.specs.World.{StandsFor};
 
@@ -69,6 +70,20 @@ impl<A: Allocator + Copy> Session<A> {
         ensures { StandsFor result.now (stood self.now) }
     {
         &self.world
+    }
+
+    /// How the world began.
+    pub fn opening(&self) -> Opening
+        ensures { begins result ≡ self.now.opening }
+    {
+        self.opening
+    }
+
+    /// The events that stand, the oldest first.
+    pub fn events(&self) -> &[Event]
+        ensures { result.now ≡ self.now.events }
+    {
+        self.events.as_slice()
     }
 
     /// How many events stand.

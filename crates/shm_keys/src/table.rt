@@ -65,6 +65,13 @@ impl<A: Allocator + Copy> SegTable<A> {
         }
     }
 
+    /// All segments that the home ever made, the destroyed ones too, in the order of making.
+    pub fn segments(&self) -> &[Segment]
+        ensures { result.now ≡ self.now.segments }
+    {
+        self.segments.as_slice()
+    }
+
     /// The segment that has the identifier and isn't destroyed.
     pub(crate) fn live(&self, id: SegId) -> Result<Segment, Errno>
         requires { home_of_id self.now.sites id ≡ self.now.home }

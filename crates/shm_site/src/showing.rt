@@ -1,4 +1,4 @@
-//! What a site shows of a page. A page outside the limits has nothing to show.
+//! What a site shows: its segments, and what it has of a page. A page outside the limits has nothing to show.
 ghost use Rattle.std.specs.Prelude.{◌≡◌, ◌==◌, ◌&&◌, Some, None, if◌then◌else◌, is_some, not, IfSome};
 ghost use Rattle.shm_place.specs.Page.{in_limits, manager_of};
 ghost use Rattle.shm_model.specs.Book.{untouched_book};
@@ -9,12 +9,20 @@ ghost use Rattle.shm_site.specs.Site.{site_of};
 
 use crate::book_view::BookView;
 use crate::site::Site;
+use shm_keys::Segment;
 use shm_manager::{Book, SiteSet};
 use shm_model::{Access, Shown};
 use shm_place::{PageId, SiteId, in_limits, manager_of};
 use std::alloc::Allocator;
 
 impl<A: Allocator + Copy> Site<A> {
+    /// All segments whose home is this site, the destroyed ones too, in the order of making.
+    pub fn segments(&self) -> &[Segment]
+        ensures { result.now ≡ (site_of self.now).table }
+    {
+        self.home.segments()
+    }
+
     /// The access that the site has to the page (Li and Hudak 1989, §3). None: no segment can have the page.
     pub fn access(&self, page: PageId) -> Option<Access>
         ensures { result ≡ (if in_limits self.now.sites page then Some (access_of ((site_of self.now).entries page)) else None) }

@@ -6,6 +6,7 @@ ghost use Rattle.shm_model.specs.Site as site;
 ghost use Rattle.shm_model.specs.World as model;
 ghost use Rattle.shm_network.specs.Network.{envelope_at};
 ghost use Rattle.shm_site.specs.Showing.{Tells};
+ghost use Rattle.shm_world.specs.Members.{seen_by};
 ghost use Rattle.shm_world.specs.Showing.{access, keeps_book, shown};
 ghost use Rattle.shm_world.specs.World.{StandsFor};
 
@@ -13,7 +14,7 @@ use crate::world::World;
 use shm_model::{Access, Shown};
 use shm_parts::Envelope;
 use shm_place::{PageId, SiteId, Sites, manager_of};
-use shm_site::BookView;
+use shm_site::{BookView, Site};
 use std::alloc::Allocator;
 
 impl<A: Allocator + Copy> World<A> {
@@ -36,6 +37,13 @@ impl<A: Allocator + Copy> World<A> {
         ensures { (w : model.World) → StandsFor self.now w → envelope_at (option_copied result) ≡ model.live w number }
     {
         self.network.envelope(number)
+    }
+
+    /// The site of this number, if there is one.
+    pub fn site(&self, site: SiteId) -> Option<&Site<A>>
+        ensures { (w : model.World) → StandsFor self.now w → seen_by (option_copied result) ≡ slice_get w.sites site }
+    {
+        self.members.get(site)
     }
 
     /// The access that the site has to the page (Li and Hudak 1989, §3). None: there is no such site, or no such page.
