@@ -21,7 +21,8 @@ pub fn deliveries_end()
 
 /// Deliveries are few: with at most 16 sites, at most 114 for each envelope that was ever sent.
 pub fn deliveries_are_few()
-    ensures { (o : Opening) (events : List Event) (envelopes : List ℕ) → IsOpening o → AreOnTheirWay (run o events).world envelopes
+    ensures measure { (o : Opening) (events : List Event) → IsOpening o → deliveries_left (run o events).world ≤ 114 * length (run o events).world.sent }
+    ensures most { (o : Opening) (events : List Event) (envelopes : List ℕ) → IsOpening o → AreOnTheirWay (run o events).world envelopes
         → length envelopes ≤ 114 * length (run o events).world.sent }
 {}
 

@@ -43,10 +43,14 @@ few-sites (New n) is = is.1
 few-sites (Preset n pages) is = is.1
 few-sites (Framed n pages frames) is = is.1
 
-pub few : (o : Opening) → IsOpening o → (events : List Event) (envelopes : List ℕ) → AreOnTheirWay (run o events).world envelopes → length envelopes ≤ 114 * length (run o events).world.sent
-few o is events envelopes on_way =
+pub left-is-few : (o : Opening) → IsOpening o → (events : List Event) → deliveries_left (run o events).world ≤ 114 * length (run o events).world.sent
+left-is-few o is events =
     let small = few-sites o is in
     let count = (run-shape o events).count in
-    let most = left-few (run o events).world (omega (arith, small, count)) in
+    left-few (run o events).world (omega (arith, small, count))
+
+pub few : (o : Opening) → IsOpening o → (events : List Event) (envelopes : List ℕ) → AreOnTheirWay (run o events).world envelopes → length envelopes ≤ 114 * length (run o events).world.sent
+few o is events envelopes on_way =
+    let most = left-is-few o is events in
     let end = ends o events envelopes on_way in
     omega (arith, most, end)
