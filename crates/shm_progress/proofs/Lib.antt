@@ -10,3 +10,4 @@ pub mod Behind
 pub mod Transfer
 pub mod Request
 pub mod RoundExists
+pub mod ServedLater

@@ -1,5 +1,5 @@
 -- Every world has a round: all sites tick, and what is on its way is handed over until nothing is.
-use Rattle.std.proofs.Common.{◌≡◌, ◌≢◌, ℕ, false, List, [], ◌∷◌, ◌++◌, append_assoc, map, refl, ap, subst}
+use Rattle.std.proofs.Common.{◌≡◌, ◌≢◌, ℕ, false, List, [], ◌∷◌, ◌++◌, append_assoc, map, refl, subst}
 use Rattle.std.specs.List.{range_with_len}
 use Rattle.std.proofs.lemmas.List.Elements.{Contains-append_left}
 use Rattle.shm_model.specs.declared.event.Event.{Event}
@@ -27,15 +27,15 @@ module _ (f : ℕ → Event) (keeps : (n : ℕ) → is_loss (f n) ≡ false) (st
   calm-each (n ∷ ns) = (calms n, calm-each ns)
 
 -- one list after the other
-kept-both : (es fs : List Event) → NothingLost es → NothingLost fs → NothingLost (es ++ fs)
+pub kept-both : (es fs : List Event) → NothingLost es → NothingLost fs → NothingLost (es ++ fs)
 kept-both [] fs kept kept_on = kept_on
 kept-both (e ∷ es) fs kept kept_on = (kept.0, kept-both es fs kept.1 kept_on)
 
-stands-both : (s : ℕ) (es fs : List Event) → NotRestarted s es → NotRestarted s fs → NotRestarted s (es ++ fs)
+pub stands-both : (s : ℕ) (es fs : List Event) → NotRestarted s es → NotRestarted s fs → NotRestarted s (es ++ fs)
 stands-both s [] fs stood stood_on = stood_on
 stands-both s (e ∷ es) fs stood stood_on = (stood.0, stands-both s es fs stood.1 stood_on)
 
-calm-both : (es fs : List Event) → NoneAccesses es → NoneAccesses fs → NoneAccesses (es ++ fs)
+pub calm-both : (es fs : List Event) → NoneAccesses es → NoneAccesses fs → NoneAccesses (es ++ fs)
 calm-both [] fs calm calm_on = calm_on
 calm-both (e ∷ es) fs calm calm_on = (calm.0, calm-both es fs calm.1 calm_on)
 

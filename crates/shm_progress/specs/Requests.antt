@@ -1,14 +1,15 @@
 -- A request goes on until its page's manager takes it up: what can't be served yet waits there (Li and Hudak 1989, §3.2). A network that
 -- drops every message, or a manager that forgets who waits, breaks it: a pending request would be nowhere.
-use Rattle.std.specs.Prelude.{◌≡◌, ℕ, ◌<◌, ◌≤◌, true, ◌⊎◌, List, ◌++◌, Some, Contains, length, slice_get}
+use Rattle.std.specs.Prelude.{◌≡◌, ℕ, ◌<◌, ◌≤◌, true, ◌⊎◌, List, [], ◌∷◌, ◌++◌, Some, None, Contains, length, slice_get}
 use Rattle.shm_place.specs.declared.page.PageId.{PageId}
 use Rattle.shm_place.specs.Page.{manager_of}
 use Rattle.shm_model.specs.declared.event.Event.{Event}
 use Rattle.shm_model.specs.Entry.{Ask, seen}
 use Rattle.shm_model.specs.Book.{Book, is_waiting, max_waiting}
 use Rattle.shm_model.specs.Basics.{greatest}
+use Rattle.shm_model.specs.Message.{Of}
 use Rattle.shm_model.specs.Site.{Pending, Site}
-use Rattle.shm_model.specs.World.{Opening, World, run, sites_of}
+use Rattle.shm_model.specs.World.{Opening, World, live, run, sites_of}
 use Rattle.shm_progress.specs.Transactions.{IsPurgedSomewhere, NoteGoes}
 
 -- the site's request waits in the book, or its transaction was started
@@ -19,23 +20,41 @@ IsTakenUp b site request = (is_waiting site request b.waiting ≡ true) ⊎ (req
 abbrev pub TakesNone : Book → Type 0
 TakesNone b = (max_waiting ≤ length b.waiting) ⊎ (b.number ≡ greatest)
 
--- at some time in the later events the manager's book of the page took up no request
-pub record TookNone (o : Opening) (before since : List Event) (manager : ℕ) (page : PageId) : Type 0 where
+-- The request was turned away in the later events: its Ask was on its way to the manager when as many waited in the manager's book of the page
+-- as may, and the next event took it from there.
+pub record TurnedAway (o : Opening) (before since : List Event) (manager from : ℕ) (p : Pending) : Type 0 where
+  pub front : List Event
+  pub event : Event
+  pub back : List Event
+  pub is : since ≡ front ++ (event ∷ back)
+  pub site : Site
+  pub found : slice_get (run o (before ++ front)).world.sites manager ≡ Some site
+  pub full : max_waiting ≤ length (site.books p.page).waiting
+  pub number : ℕ
+  pub asked : live (run o (before ++ front)).world number ≡ Some (record { from = from; to = manager; message = Of p.page (Ask p.request p.kind) })
+  pub gone : live (run o (before ++ (front ++ (event ∷ [])))).world number ≡ None
+
+-- at some time in the later events no number was left for a transaction of the page
+pub record NumbersUsedUp (o : Opening) (before since : List Event) (manager : ℕ) (page : PageId) : Type 0 where
   pub front : List Event
   pub back : List Event
   pub is : since ≡ front ++ back
   pub site : Site
   pub found : slice_get (run o (before ++ front)).world.sites manager ≡ Some site
-  pub full : TakesNone (site.books page)
+  pub last : (site.books page).number ≡ greatest
+
+-- the manager didn't take the request up at some time in the later events
+abbrev pub TookNone : Opening → List Event → List Event → ℕ → ℕ → Pending → Type 0
+TookNone o before since manager from p = TurnedAway o before since manager from p ⊎ NumbersUsedUp o before since manager p.page
 
 abbrev pub IsTakenUpAt : World → ℕ → ℕ → Pending → Type 0
 IsTakenUpAt w manager from p = (x : Site) × (slice_get w.sites manager ≡ Some x) × IsTakenUp (x.books p.page) from p.request
 
--- its Ask is on its way, or it was taken up, or the manager took up none at some time, or the page's segment is being purged
+-- its Ask is on its way, or it was taken up, or the manager didn't take it up, or the page's segment is being purged
 abbrev pub RequestGoesOn : Opening → List Event → List Event → ℕ → ℕ → Pending → Type 0
 RequestGoesOn o before since manager from p =
     NoteGoes (run o (before ++ since)).world p.page from manager (Ask p.request p.kind)
-    ⊎ (IsTakenUpAt (run o (before ++ since)).world manager from p ⊎ (TookNone o before since manager p.page ⊎ IsPurgedSomewhere (run o (before ++ since)).world p.page.seg))
+    ⊎ (IsTakenUpAt (run o (before ++ since)).world manager from p ⊎ (TookNone o before since manager from p ⊎ IsPurgedSomewhere (run o (before ++ since)).world p.page.seg))
 
 -- each request that the site has pending at this manager goes on
 abbrev pub RequestsGoOn : Opening → List Event → List Event → ℕ → ℕ → Type 0
@@ -59,16 +78,7 @@ pub record IsServedNow (w : World) (from : ℕ) (p : Pending) : Type 0 where
 abbrev pub StartedAreServed : World → Type 0
 StartedAreServed w = (from : ℕ) (x : Site) (p : Pending) → slice_get w.sites from ≡ Some x → Contains x.pending p → IsStarted w from p → IsServedNow w from p
 
--- at some time in the later events as many waited in the manager's book of the page as may, so that a further Ask was turned away
-pub record WasFull (o : Opening) (before since : List Event) (manager : ℕ) (page : PageId) : Type 0 where
-  pub front : List Event
-  pub back : List Event
-  pub is : since ≡ front ++ back
-  pub site : Site
-  pub found : slice_get (run o (before ++ front)).world.sites manager ≡ Some site
-  pub full : max_waiting ≤ length (site.books page).waiting
-
--- each request that is still pending was turned away: its manager's book was full at some time in the later events
+-- each request that is still pending was turned away: its Ask came while sixteen waited for the page at its manager
 abbrev pub RequestsSettled : Opening → List Event → List Event → Type 0
 RequestsSettled o before since = (from : ℕ) (x : Site) (p : Pending) → slice_get (run o (before ++ since)).world.sites from ≡ Some x → Contains x.pending p
-    → WasFull o before since (manager_of (sites_of o) p.page) p.page
+    → TurnedAway o before since (manager_of (sites_of o) p.page) from p

@@ -7,7 +7,7 @@ use Rattle.shm_model.specs.declared.kind.Kind.{Kind}
 use Rattle.shm_model.specs.declared.kind.Kind.TheVariants.{Read, Write}
 use Rattle.shm_model.specs.Entry.{Entry, readable, writable}
 use Rattle.shm_model.specs.Site.{Pending, Site}
-use Rattle.shm_model.specs.World.{Opening, World, run, sites_of}
+use Rattle.shm_model.specs.World.{Opening, World, is_full, run, sites_of}
 use Rattle.shm_progress.specs.Deliveries.{IsAtRest}
 use Rattle.shm_progress.specs.OnTheWay.{NothingLost}
 use Rattle.shm_progress.specs.Transactions.{NotRestarted}
@@ -77,3 +77,13 @@ pub record Round (o : Opening) (events : List Event) : Type 0 where
   pub calm : NoneAccesses later
   pub ticks : AllTick (sites_of o) later
   pub at_rest : IsAtRest (run o (events ++ later)).world
+
+-- Further events that lose nothing, restart no site and have no load and no store. If no more envelopes are sent than a world counts, no request
+-- is pending after them, and each that was pending before gains its right in them, or its site has purged the segment.
+pub record ServedLater (o : Opening) (events : List Event) : Type 0 where
+  pub later : List Event
+  pub kept : NothingLost later
+  pub unrestarted : NoneRestarted later
+  pub calm : NoneAccesses later
+  pub none_pending : is_full (run o (events ++ later)).world ≡ false → NonePending (run o (events ++ later)).world
+  pub faults : is_full (run o (events ++ later)).world ≡ false → FaultsServed o events later

@@ -1,9 +1,9 @@
 //! Deliveries end.
-ghost use Rattle.std.specs.Prelude.{ℕ, List, ◌<◌, ◌≤◌, ◌*◌, IsTrue, is_some, length};
+ghost use Rattle.std.specs.Prelude.{ℕ, List, ◌++◌, ◌<◌, ◌≤◌, ◌*◌, IsTrue, is_some, length, map};
 ghost use Rattle.shm_model.specs.World.{IsOpening, Opening, live, next, run};
 ghost use Rattle.shm_model.specs.declared.event.Event.{Event};
 ghost use Rattle.shm_model.specs.declared.event.Event.TheVariants as event;
-ghost use Rattle.shm_progress.specs.Deliveries.{AreOnTheirWay, ComesToRest, deliveries_left};
+ghost use Rattle.shm_progress.specs.Deliveries.{AreOnTheirWay, ComesToRest, IsAtRest, deliveries_left};
 
 /// Each delivery counts: in every world that some events lead to, whatever was lost, repeated or restarted before, the delivery of an
 /// envelope that is on its way leaves fewer deliveries that there can be.
@@ -13,9 +13,11 @@ pub fn each_delivery_counts()
 {}
 
 /// Deliveries end: from every world that some events lead to, envelopes that are each on their way when their turn comes are at most so
-/// many, in whatever order they are handed over.
+/// many, in whatever order they are handed over; and after so many nothing is on its way.
 pub fn deliveries_end()
-    ensures { (o : Opening) (events : List Event) (envelopes : List ℕ) → AreOnTheirWay (run o events).world envelopes
+    ensures rest { (o : Opening) (events : List Event) (envelopes : List ℕ) → AreOnTheirWay (run o events).world envelopes → deliveries_left (run o events).world ≤ length envelopes
+        → IsAtRest (run o (events ++ map event.Deliver envelopes)).world }
+    ensures most { (o : Opening) (events : List Event) (envelopes : List ℕ) → AreOnTheirWay (run o events).world envelopes
         → length envelopes ≤ deliveries_left (run o events).world }
 {}
 

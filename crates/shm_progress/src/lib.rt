@@ -17,8 +17,8 @@ pub use purging::{purges_end, purges_go_on};
 pub use queues::none_waits_for_nothing;
 pub use requests::{requests_end, requests_go_on, started_requests_are_served};
 pub use rounds::{
-    faults_are_served, rounds_exist, rounds_settle_calls_and_purges, rounds_settle_requests,
-    rounds_settle_transactions, second_rounds_settle_requests,
+    faults_are_served, nothing_stops_a_site_for_good, rounds_exist, rounds_settle_calls_and_purges,
+    rounds_settle_requests, rounds_settle_transactions, second_rounds_settle_requests,
 };
 pub use serving::{calls_end, calls_go_on};
 pub use transactions::{transactions_end, transactions_go_on};

@@ -11,22 +11,22 @@ ghost use Rattle.shm_progress.specs.Requests.{IsTakenUpAt, RequestsGoOn, Started
 ghost use Rattle.shm_progress.specs.Transactions.{IsPurgedSomewhere, NotRestarted};
 
 /// Requests go on: once a site ticked, as long as nothing is lost and a manager doesn't restart, each request that the site has pending
-/// at that manager has its Ask on its way, or waits there, or its transaction was started; unless the manager took up no request of the
-/// page at some time since, as sixteen waited or no transaction's number was left, or the page's segment is being purged. Whatever else
-/// happens, new accesses and restarts of other sites too. No more envelopes were sent than a world counts.
+/// at that manager has its Ask on its way, or waits there, or its transaction was started; unless its Ask came while sixteen waited for the
+/// page, or no transaction's number was left at some time since, or the page's segment is being purged. Whatever else happens, new accesses
+/// and restarts of other sites too. No more envelopes were sent than a world counts.
 pub fn requests_go_on()
     ensures { (o : Opening) (earlier later : List Event) (site manager : ℕ) → IsOpening o → NothingLost later → NotRestarted manager later
         → is_full (run o ((earlier ++ (Tick site ∷ [])) ++ later)).world ≡ false → RequestsGoOn o (earlier ++ (Tick site ∷ [])) later manager site }
 {}
 
-/// Requests end: if nothing is on its way any more then, each of them was taken up, or the manager took up none of the page at
-/// some time since, or the segment is being purged.
+/// Requests end: if nothing is on its way any more then, each of them was taken up, or it was turned away or no number was left, or the
+/// segment is being purged.
 pub fn requests_end()
     ensures { (o : Opening) (earlier later : List Event) (site manager : ℕ) (x : Site) (p : Pending) → IsOpening o → NothingLost later → NotRestarted manager later
         → is_full (run o ((earlier ++ (Tick site ∷ [])) ++ later)).world ≡ false → IsAtRest (run o ((earlier ++ (Tick site ∷ [])) ++ later)).world
         → slice_get (run o ((earlier ++ (Tick site ∷ [])) ++ later)).world.sites site ≡ Some x → Contains x.pending p → manager_of (sites_of o) p.page ≡ manager
         → IsTakenUpAt (run o ((earlier ++ (Tick site ∷ [])) ++ later)).world manager site p
-        ⊎ (TookNone o (earlier ++ (Tick site ∷ [])) later manager p.page ⊎ IsPurgedSomewhere (run o ((earlier ++ (Tick site ∷ [])) ++ later)).world p.page.seg) }
+        ⊎ (TookNone o (earlier ++ (Tick site ∷ [])) later manager site p ⊎ IsPurgedSomewhere (run o ((earlier ++ (Tick site ∷ [])) ++ later)).world p.page.seg) }
 {}
 
 /// Started requests are served: in every world that some events lead to, whatever was lost, repeated or restarted before, a request that

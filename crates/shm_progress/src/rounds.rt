@@ -5,7 +5,7 @@ ghost use Rattle.shm_model.specs.declared.event.Event.{Event};
 ghost use Rattle.shm_progress.specs.Deliveries.{IsAtRest};
 ghost use Rattle.shm_progress.specs.OnTheWay.{NothingLost};
 ghost use Rattle.shm_progress.specs.Requests.{RequestsSettled};
-ghost use Rattle.shm_progress.specs.Rounds.{AllTick, FaultsServed, ManagersSettled, NoneAccesses, NonePending, NoneRestarted, Round, Settled};
+ghost use Rattle.shm_progress.specs.Rounds.{AllTick, FaultsServed, ManagersSettled, NoneAccesses, NonePending, NoneRestarted, Round, ServedLater, Settled};
 
 /// Rounds exist: from every world that some events lead to, each site's tick and then some deliveries, with no loss, no restart, no load and
 /// no store, leave nothing on its way. So the laws on rounds are about each world, as long as no more envelopes are sent than a world counts.
@@ -28,8 +28,8 @@ pub fn rounds_settle_transactions()
         → is_full (run o (earlier ++ later)).world ≡ false → IsAtRest (run o (earlier ++ later)).world → ManagersSettled (run o (earlier ++ later)).world }
 {}
 
-/// Rounds settle requests: where none of those events restarts a site, each request that is still pending was turned away: at some time
-/// among them sixteen waited for the page at its manager.
+/// Rounds settle requests: where none of those events restarts a site, each request that is still pending was turned away: its Ask came
+/// among them while sixteen waited for the page at its manager.
 pub fn rounds_settle_requests()
     ensures { (o : Opening) (earlier later : List Event) → IsOpening o → NothingLost later → NoneRestarted later → AllTick (sites_of o) later
         → is_full (run o (earlier ++ later)).world ≡ false → IsAtRest (run o (earlier ++ later)).world → RequestsSettled o earlier later }
@@ -51,4 +51,11 @@ pub fn faults_are_served()
         → IsAtRest (run o (earlier ++ first)).world → NothingLost second → NoneRestarted second → NoneAccesses second → AllTick (sites_of o) second
         → is_full (run o ((earlier ++ first) ++ second)).world ≡ false → IsAtRest (run o ((earlier ++ first) ++ second)).world
         → FaultsServed o earlier (first ++ second) }
+{}
+
+/// Nothing stops a site for good: whatever all sites did, and whatever was lost, from each world there are further events, ticks and
+/// deliveries alone, after which no request is pending; and each that was pending gained its right in them, or its site has purged the
+/// segment. No more envelopes are sent than a world counts.
+pub fn nothing_stops_a_site_for_good()
+    ensures { (o : Opening) (events : List Event) → IsOpening o → ServedLater o events }
 {}

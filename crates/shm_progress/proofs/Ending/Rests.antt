@@ -1,7 +1,7 @@
 -- Every world comes to rest: as long as something is on its way it can be handed over, and that ends.
 use Rattle.std.proofs.Common.{◌≡◌, ℕ, zero, suc, ◌<◌, ◌≤◌, ◌⊎◌, inl, inr, Option, Some, None, List, [], ◌∷◌, ◌++◌, IsTrue, is_some, map, length, slice_get, append_assoc, arith, refl, sym, ◌∙◌, ap, subst}
 use Rattle.std.proofs.lemmas.Bool.{cases_lt, cond_both}
-use Rattle.std.proofs.lemmas.List.{append-nil}
+use Rattle.std.proofs.lemmas.List.{append-nil, length-append}
 use Rattle.std.proofs.lemmas.Option.{slice_get_past}
 use Rattle.shm_model.specs.declared.event.Event.{Event}
 use Rattle.shm_model.specs.declared.event.Event.TheVariants.{Deliver as DeliverEvent}
@@ -9,7 +9,7 @@ use Rattle.shm_model.specs.Message.{Envelope}
 use Rattle.shm_model.specs.World.{Opening, Run, World, begun, extended, live, next, run}
 use Rattle.shm_laws.proofs.RunsOn.{run_on-append}
 use Rattle.shm_progress.specs.Deliveries.{AreOnTheirWay, ComesToRest, IsAtRest, deliveries_left}
-use Rattle.shm_progress.proofs.Ending.Falls.{counts}
+use Rattle.shm_progress.proofs.Ending.Falls.{counts, ends}
 
 module _ (w : World) where
   abbrev Found : ℕ → Type 0
@@ -70,3 +70,27 @@ rests-within o (suc n) events l = elim (find (run o events).world) [
 
 pub rests : (o : Opening) (events : List Event) → ComesToRest o events
 rests o events = rests-within o (suc (deliveries_left (run o events).world)) events (omega arith)
+
+-- one envelope more
+pub on-way-last : (o : Opening) (events : List Event) (ks : List ℕ) (k : ℕ) → AreOnTheirWay (run o events).world ks → IsTrue (is_some (live (run o (events ++ map DeliverEvent ks)).world k))
+    → AreOnTheirWay (run o events).world (ks ++ (k ∷ []))
+on-way-last o events [] k on_way going = (subst (λ es. IsTrue (is_some (live (run o es).world k))) (append-nil events) going, tt)
+on-way-last o events (x ∷ ks) k on_way going =
+    let goes_on : run o (events ++ (DeliverEvent x ∷ [])) ≡ extended (run o events) (next (run o events).world (DeliverEvent x)) = run_on-append (begun o) events (DeliverEvent x ∷ []) in
+    let rest : AreOnTheirWay (run o (events ++ (DeliverEvent x ∷ []))).world (ks ++ (k ∷ [])) = on-way-last o (events ++ (DeliverEvent x ∷ [])) ks k
+    (subst (λ (r : Run). AreOnTheirWay r.world ks) (sym goes_on) on_way.1)
+    (subst (λ es. IsTrue (is_some (live (run o es).world k))) (sym (append_assoc events (DeliverEvent x ∷ []) (map DeliverEvent ks))) going) in
+    (on_way.0, subst (λ (r : Run). AreOnTheirWay r.world (ks ++ (k ∷ []))) goes_on rest)
+
+-- after as many deliveries as there can be nothing is on its way
+pub rests-at : (o : Opening) (events : List Event) (ks : List ℕ) → AreOnTheirWay (run o events).world ks → deliveries_left (run o events).world ≤ length ks → IsAtRest (run o (events ++ map DeliverEvent ks)).world
+rests-at o events ks on_way many = elim (find (run o (events ++ map DeliverEvent ks)).world) [
+  | inl found ↦ absurd (too-many found.0 found.1)
+  | inr rest ↦ rest
+]
+  where
+    too-many : (k : ℕ) → IsTrue (is_some (live (run o (events ++ map DeliverEvent ks)).world k)) → ⊥
+    too-many k going =
+        let few = ends o events (ks ++ (k ∷ [])) (on-way-last o events ks k on_way going) in
+        let longer = length-append ks (k ∷ []) in
+        omega (arith, few, longer, many)

@@ -18,7 +18,7 @@ use Rattle.shm_laws.proofs.RunsOn.{run_on-append}
 use Rattle.shm_laws.proofs.Sound.{each-in, set-here, set-there}
 use Rattle.shm_progress.specs.Deliveries.{IsAtRest}
 use Rattle.shm_progress.specs.OnTheWay.{NothingLost}
-use Rattle.shm_progress.specs.Requests.{WasFull}
+use Rattle.shm_progress.specs.Requests.{TurnedAway}
 use Rattle.shm_progress.specs.Rounds.{AllTick, ManagersSettled, NoneAccesses, NonePending, NoneRestarted, is_access}
 use Rattle.shm_progress.proofs.Along.{along, run-more, runs-on}
 use Rattle.shm_progress.proofs.BooksKept.{BookRule, step-holds}
@@ -173,15 +173,15 @@ module _ (o : Opening) (opening : IsOpening o) (before : List Event) (settled : 
       (λ done e k not_full all. subst (λ (r : Run). Again r.world) (sym (run-more o before done e)) (calm-again (run o (before ++ done)).world all (next (run o (before ++ done)).world e).world (calm (run o (before ++ done)).world e k)))
       [] front none free (subst (λ es. Again (run o es).world) (sym (append-nil before)) first-again)
 
-  pub never-full : (since : List Event) → NoneAccesses since → is_full (run o (before ++ since)).world ≡ false → (m : ℕ) (q : PageId) → WasFull o before since m q → ⊥
-  never-full since none free m q full =
+  pub never-full : (since : List Event) → NoneAccesses since → is_full (run o (before ++ since)).world ≡ false → (m s : ℕ) (p : Pending) → TurnedAway o before since m s p → ⊥
+  never-full since none free m s p full =
       let few = (size-of o opening).few_sites in
-      not-full (Was q) (one q) (sites_of o) (small q) (full.site.books q) ((again-along full.front (each-calm full.front full.back (subst NoneAccesses full.is none)) free_then).books m full.site full.found q) few full.full
+      not-full (Was p.page) (one p.page) (sites_of o) (small p.page) (full.site.books p.page) ((again-along full.front (each-calm full.front (full.event ∷ full.back) (subst NoneAccesses full.is none)) free_then).books m full.site full.found p.page) few full.full
     where
       free_then : is_full (run o (before ++ full.front)).world ≡ false
       free_then =
-          free-before (run o (before ++ full.front)) full.back
-          (subst (λ (r : Run). is_full r.world ≡ false) (runs-on o before full.front full.back) (subst (λ es. is_full (run o (before ++ es)).world ≡ false) full.is free))
+          free-before (run o (before ++ full.front)) (full.event ∷ full.back)
+          (subst (λ (r : Run). is_full r.world ≡ false) (runs-on o before full.front (full.event ∷ full.back)) (subst (λ es. is_full (run o (before ++ es)).world ≡ false) full.is free))
 
 none-pending : (ps : List Pending) → ((p : Pending) → Contains ps p → ⊥) → ps ≡ []
 none-pending [] none = refl
@@ -191,7 +191,7 @@ pub second-settles : (o : Opening) → IsOpening o → (earlier first second : L
     → NothingLost second → NoneRestarted second → NoneAccesses second → AllTick (sites_of o) second → is_full (run o ((earlier ++ first) ++ second)).world ≡ false → IsAtRest (run o ((earlier ++ first) ++ second)).world
     → NonePending (run o ((earlier ++ first) ++ second)).world
 second-settles o opening earlier first second kept unrestarted ticks rest kept_on unrestarted_on none ticks_on free rest_on = λ s x at.
-    none-pending x.pending (λ p here. never-full o opening (earlier ++ first) settled rest second none free _ p.page (requests-settle o opening (earlier ++ first) second kept_on unrestarted_on ticks_on free rest_on s x p at here))
+    none-pending x.pending (λ p here. never-full o opening (earlier ++ first) settled rest second none free _ s p (requests-settle o opening (earlier ++ first) second kept_on unrestarted_on ticks_on free rest_on s x p at here))
   where
     free_first : is_full (run o (earlier ++ first)).world ≡ false
     free_first = free-before (run o (earlier ++ first)) second (subst (λ (r : Run). is_full r.world ≡ false) (run_on-append (begun o) (earlier ++ first) second) free)
