@@ -1,0 +1,4 @@
+pub mod Command
+pub mod Faults
+pub mod Running
+pub mod Spelled
