@@ -6,7 +6,7 @@ use shm_world::World;
 use std::alloc::{AllocError, Allocator};
 
 /// Lists the envelopes on their way, the oldest first: number, from, to, kind, page and the transaction's number.
-pub fn list_flight<A: Allocator + Copy>(
+pub(crate) fn list_flight<A: Allocator + Copy>(
     text: &mut String<A>,
     world: &World<A>,
 ) -> Result<(), AllocError> {
@@ -123,7 +123,7 @@ fn verb_of(kind: Kind) -> &'static str {
 }
 
 /// Whether an envelope that is on its way speaks of this page of a segment.
-pub fn is_in_flight<A: Allocator + Copy>(world: &World<A>, seg: u32, index: u32) -> bool {
+pub(crate) fn is_in_flight<A: Allocator + Copy>(world: &World<A>, seg: u32, index: u32) -> bool {
     'numbers: for number in 0..world.sent() {
         if speaks_of(world, number, seg, index) {
             return true;

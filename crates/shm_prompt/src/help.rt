@@ -1,7 +1,7 @@
 //! `help`: an example for each command, and for each line of a script.
 
 /// What `help` tells.
-pub const HELP: &str = "\
+pub(crate) const HELP: &str = "\
 flight                         the envelopes on their way
 sites                          what each site has of each page, and the managers' books
 segments                       the segments, as ipcs -m lists them

@@ -16,25 +16,66 @@ enum Slot {
 use Slot::{Access, Byte, FileName, Flags, Mode, Number};
 
 static NONE: [Slot; 0] = [];
+
 static LOAD: [Slot; 3] = [Number("site"), Number("attachment"), Number("offset")];
+
 static STORE: [Slot; 4] = [Number("site"), Number("attachment"), Number("offset"), Byte];
+
 static ENVELOPE: [Slot; 1] = [Number("envelope")];
+
 static SITE: [Slot; 1] = [Number("site")];
+
 static SHOW: [Slot; 2] = [Number("segment"), Number("page")];
+
 static COUNT: [Slot; 1] = [Number("number of events")];
-static GET: [Slot; 7] = [Number("site"), Number("uid"), Number("gid"), Number("key"), Number("bytes"), Mode, Flags];
-static ATTACH: [Slot; 5] = [Number("site"), Number("uid"), Number("gid"), Number("segment"), Access];
+
+static GET: [Slot; 7] = [
+    Number("site"),
+    Number("uid"),
+    Number("gid"),
+    Number("key"),
+    Number("bytes"),
+    Mode,
+    Flags,
+];
+
+static ATTACH: [Slot; 5] = [
+    Number("site"),
+    Number("uid"),
+    Number("gid"),
+    Number("segment"),
+    Access,
+];
+
 static DETACH: [Slot; 2] = [Number("site"), Number("attachment")];
-static ON_SEGMENT: [Slot; 4] = [Number("site"), Number("uid"), Number("gid"), Number("segment")];
-static SET: [Slot; 7] = [Number("site"), Number("uid"), Number("gid"), Number("segment"), Number("new uid"), Number("new gid"), Mode];
+
+static ON_SEGMENT: [Slot; 4] = [
+    Number("site"),
+    Number("uid"),
+    Number("gid"),
+    Number("segment"),
+];
+
+static SET: [Slot; 7] = [
+    Number("site"),
+    Number("uid"),
+    Number("gid"),
+    Number("segment"),
+    Number("new uid"),
+    Number("new gid"),
+    Mode,
+];
+
 static RUN: [Slot; 1] = [Number("number of deliveries")];
+
 static SAVE: [Slot; 1] = [FileName];
 
 /// How the sites begin.
-const SITES: &str = "expected: sites N, or sites N preset P, or sites N preset P frames F, with N from 1 to 16, P from 1 to 256, F from 1 to 65536\n";
+const SITES: &str =
+    "expected: sites N, or sites N preset P, or sites N preset P frames F, with N from 1 to 16, P from 1 to 256, F from 1 to 65536\n";
 
 /// Tells what was expected at which word of a line that is none.
-pub fn tell_hint<A: Allocator + Copy>(
+pub(crate) fn tell_hint<A: Allocator + Copy>(
     out: &mut Vec<u8, A>,
     typed: &[u8],
 ) -> Result<(), AllocError> {
@@ -75,7 +116,10 @@ fn tell_word<A: Allocator + Copy>(
             }
         }
     }
-    let text = format!(in *out.allocator(); "nothing more was expected behind word {}\n", slots.len() as u64 + 1)?;
+    let text = format!(in *out.allocator();
+        "nothing more was expected behind word {}\n",
+        slots.len() as u64 + 1
+    )?;
     tell(out, text.as_str())
 }
 
@@ -109,10 +153,7 @@ fn word_number(index: usize) -> usize {
     index.saturating_add(2)
 }
 
-fn tell_expected<A: Allocator + Copy>(
-    out: &mut Vec<u8, A>,
-    slot: Slot,
-) -> Result<(), AllocError> {
+fn tell_expected<A: Allocator + Copy>(out: &mut Vec<u8, A>, slot: Slot) -> Result<(), AllocError> {
     match slot {
         Number(what) => {
             tell(out, "the ")?;

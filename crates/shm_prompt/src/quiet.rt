@@ -8,14 +8,14 @@ use shm_world::World;
 use std::alloc::Allocator;
 
 /// Whether no envelope is on its way.
-pub fn is_quiet<A: Allocator + Copy>(world: &World<A>) -> bool
+pub(crate) fn is_quiet<A: Allocator + Copy>(world: &World<A>) -> bool
     ensures { (w : model.World) → StandsFor world.now w → result ≡ true → IsQuiet w }
 {
     oldest(world, 0).is_none()
 }
 
 /// The oldest envelope on its way, from this number on.
-pub fn oldest<A: Allocator + Copy>(world: &World<A>, from: u64) -> Option<u64>
+pub(crate) fn oldest<A: Allocator + Copy>(world: &World<A>, from: u64) -> Option<u64>
     ensures { (w : model.World) → StandsFor world.now w → IfNone result ((k : ℕ) → from ≤ k → k < length w.sent → model.live w k ≡ None) }
 {
     'numbers: for number in from..world.sent() {

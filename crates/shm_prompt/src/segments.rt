@@ -8,7 +8,7 @@ use std::alloc::{AllocError, Allocator};
 const HEADING: &str = "key        shmid      owner      perms      bytes      nattch     status\n";
 
 /// Lists the segments of all homes, but for the destroyed ones.
-pub fn list_segments<A: Allocator + Copy>(
+pub(crate) fn list_segments<A: Allocator + Copy>(
     text: &mut String<A>,
     world: &World<A>,
 ) -> Result<(), AllocError> {
@@ -48,7 +48,10 @@ fn list_segment<A: Allocator + Copy>(
     let size = segment.size;
     let nattch = segment.nattch;
     let status = if segment.marked { "dest" } else { "" };
-    write!(text, "0x{key:08x} {id:<10} {owner:<10} {mode}        {size:<10} {nattch:<10} ")?;
+    write!(
+        text,
+        "0x{key:08x} {id:<10} {owner:<10} {mode}        {size:<10} {nattch:<10} "
+    )?;
     text.push_str(status)?;
     text.push_str("\n")
 }

@@ -7,7 +7,7 @@ use shm_world::{BookView, World};
 use std::alloc::{AllocError, Allocator};
 
 /// Shows each page that some site has asked for.
-pub fn show_pages<A: Allocator + Copy>(
+pub(crate) fn show_pages<A: Allocator + Copy>(
     text: &mut String<A>,
     world: &World<A>,
 ) -> Result<(), AllocError> {
