@@ -1,0 +1,3 @@
+mod CommandLemmas
+mod DialogLemmas
+mod SavedLemmas

@@ -1,0 +1,67 @@
+-- What may be typed: each line of a script, and the commands of the prompt beside them.
+use Rattle.std.specs.Prelude.{ℕ, if◌then◌else◌, List, codes, Option, None, Some}
+use Rattle.std.specs.Str.{bytes_eq}
+use Rattle.shm_lines.specs.Line.{line_of}
+use Rattle.shm_lines.specs.Spelling.{IsLine}
+use Rattle.shm_lines.specs.Words.{◌>>=◌, words_of, next_word, next_number, is_end}
+use Rattle.shm_prompt.specs.declared.command.Command.{Command}
+use Rattle.shm_prompt.specs.declared.command.Command.TheVariants.{Line, Flight, Sites, Segments, Run, Undo, Help, Save, Quit}
+
+-- how many envelopes `run` delivers at most, where it isn't told
+abbrev pub most_by_default : ℕ
+most_by_default = 10000
+
+-- the command, if no word is left
+abbrev pub alone : Command → List (List ℕ) → Option Command
+alone command words = if is_end words then Some command else None
+
+-- a line of a script
+abbrev pub scripted : List ℕ → Option Command
+scripted bytes = do
+  line ← line_of bytes
+  Some (Line line)
+
+-- `run`, or `run N`
+abbrev pub run_of : List (List ℕ) → Option Command
+run_of words =
+    if is_end words then Some (Run most_by_default)
+    else do
+      (most, words) ← next_number words
+      alone (Run most) words
+
+-- `save FILE`, where the name is one word
+abbrev pub save_of : List (List ℕ) → Option Command
+save_of words = do
+  (name, words) ← next_word words
+  alone Save words
+
+-- `sites` alone shows them; with numbers it is a line
+abbrev pub sites_of : List ℕ → List (List ℕ) → Option Command
+sites_of bytes words = if is_end words then Some Sites else scripted bytes
+
+abbrev pub other_by : List ℕ → List ℕ → List (List ℕ) → Option Command
+other_by bytes verb words =
+    if bytes_eq verb (codes "undo") then alone Undo words
+    else if bytes_eq verb (codes "help") then alone Help words
+    else if bytes_eq verb (codes "save") then save_of words
+    else if bytes_eq verb (codes "quit") then alone Quit words
+    else scripted bytes
+
+abbrev pub command_by : List ℕ → List ℕ → List (List ℕ) → Option Command
+command_by bytes verb words =
+    if bytes_eq verb (codes "flight") then alone Flight words
+    else if bytes_eq verb (codes "sites") then sites_of bytes words
+    else if bytes_eq verb (codes "segments") then alone Segments words
+    else if bytes_eq verb (codes "run") then run_of words
+    else other_by bytes verb words
+
+-- what a line that was typed says; none: nothing
+abbrev pub command_of : List ℕ → Option Command
+command_of bytes = do
+  (verb, words) ← next_word (words_of bytes)
+  command_by bytes verb words
+
+-- a line of a script is one that there is
+abbrev pub IsCommand : Command → Type 0
+IsCommand (Line line) = IsLine line
+IsCommand _ = Unit {0}

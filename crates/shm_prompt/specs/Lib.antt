@@ -1,0 +1,6 @@
+pub mod Command
+pub mod Dialog
+pub mod Faults
+pub mod Running
+pub mod Saved
+pub mod Spelled

@@ -1,0 +1,123 @@
+//! What may be typed: each line of a script, and the commands of the prompt beside them.
+ghost use Rattle.std.specs.Prelude.{◌≡◌, IfSome};
+ghost use Rattle.shm_prompt.specs.Command as said;
+
+use shm_lines::{Line, Words, laws, parse_line};
+
+/// How many envelopes `run` delivers at most, where it isn't told.
+const MOST_BY_DEFAULT: u32 = 10_000;
+
+/// What a line that was typed asks for.
+#[derive(Clone, Copy, Debug, PartialEq, Eq)]
+pub enum Command {
+    /// A line of a script: it is acted on as a replay does. A `sites` line begins anew.
+    Line(Line),
+    /// Lists the envelopes on their way.
+    Flight,
+    /// Shows what each site has of each page, and the managers' books.
+    Sites,
+    /// Lists the segments.
+    Segments,
+    /// Delivers the oldest envelope, again and again, at most so often.
+    Run(u32),
+    /// Takes the last event back.
+    Undo,
+    /// Tells of the commands.
+    Help,
+    /// Writes the script of what stands to a file; the line's second word is its name.
+    Save,
+    /// Ends.
+    Quit,
+}
+
+/// What a line says, without its line feed. It takes no memory.
+pub fn parse_command(bytes: &[u8]) -> Option<Command>
+    ensures command { result ≡ said.command_of bytes.now }
+    ensures is_line { IfSome result said.IsCommand }
+{
+    let (verb, words) = Words::of(bytes).word()?;
+    if verb == b"flight".as_slice() {
+        return alone(Command::Flight, words);
+    }
+    if verb == b"sites".as_slice() {
+        return sites(bytes, words);
+    }
+    if verb == b"segments".as_slice() {
+        return alone(Command::Segments, words);
+    }
+    if verb == b"run".as_slice() {
+        return run(words);
+    }
+    other(bytes, verb, words)
+}
+
+fn other(bytes: &[u8], verb: &[u8], words: Words<'_>) -> Option<Command>
+    ensures command { result ≡ said.other_by bytes.now verb.now words.entry }
+    ensures is_line { IfSome result said.IsCommand }
+{
+    if verb == b"undo".as_slice() {
+        return alone(Command::Undo, words);
+    }
+    if verb == b"help".as_slice() {
+        return alone(Command::Help, words);
+    }
+    if verb == b"save".as_slice() {
+        return save(words);
+    }
+    if verb == b"quit".as_slice() {
+        return alone(Command::Quit, words);
+    }
+    scripted(bytes)
+}
+
+/// The command, if no word is left.
+fn alone(command: Command, words: Words<'_>) -> Option<Command>
+    ensures alone { result ≡ said.alone command words.entry }
+    ensures same { IfSome result (λ c. c ≡ command) }
+{
+    if !words.is_empty() {
+        return None;
+    }
+    Some(command)
+}
+
+/// A line of a script.
+fn scripted(bytes: &[u8]) -> Option<Command>
+    ensures command { result ≡ said.scripted bytes.now }
+    ensures is_line { IfSome result said.IsCommand }
+{
+    laws::lines_have_one_spelling();
+    let Ok(line) = parse_line(bytes) else {
+        return None;
+    };
+    Some(Command::Line(line))
+}
+
+fn sites(bytes: &[u8], words: Words<'_>) -> Option<Command>
+    ensures command { result ≡ said.sites_of bytes.now words.entry }
+    ensures is_line { IfSome result said.IsCommand }
+{
+    if words.is_empty() {
+        return Some(Command::Sites);
+    }
+    scripted(bytes)
+}
+
+fn run(words: Words<'_>) -> Option<Command>
+    ensures command { result ≡ said.run_of words.entry }
+    ensures is_line { IfSome result said.IsCommand }
+{
+    if words.is_empty() {
+        return Some(Command::Run(MOST_BY_DEFAULT));
+    }
+    let (most, words) = words.number()?;
+    alone(Command::Run(most), words)
+}
+
+fn save(words: Words<'_>) -> Option<Command>
+    ensures command { result ≡ said.save_of words.entry }
+    ensures is_line { IfSome result said.IsCommand }
+{
+    let (_name, words) = words.word()?;
+    alone(Command::Save, words)
+}

@@ -1,0 +1,156 @@
+//! `flight`: the envelopes on their way.
+use shm_model::Kind;
+use shm_parts::{Envelope, Grant, Message};
+use shm_place::PageId;
+use shm_world::World;
+use std::alloc::{AllocError, Allocator};
+
+/// Lists the envelopes on their way, the oldest first: number, from, to, kind, page and the transaction's number.
+pub(crate) fn list_flight<A: Allocator + Copy>(
+    text: &mut String<A>,
+    world: &World<A>,
+) -> Result<(), AllocError> {
+    let before = text.len();
+    'numbers: for number in 0..world.sent() {
+        list_live(text, world, number)?;
+    }
+    if text.len() == before {
+        return text.push_str("nothing is on its way\n");
+    }
+    Ok(())
+}
+
+/// Lists the envelope of this number, if it is on its way.
+fn list_live<A: Allocator + Copy>(
+    text: &mut String<A>,
+    world: &World<A>,
+    number: u64,
+) -> Result<(), AllocError> {
+    match world.envelope(number) {
+        None => Ok(()),
+        Some(envelope) => list_envelope(text, number, envelope),
+    }
+}
+
+fn list_envelope<A: Allocator + Copy>(
+    text: &mut String<A>,
+    number: u64,
+    envelope: &Envelope<A>,
+) -> Result<(), AllocError> {
+    let from = envelope.from.0;
+    let to = envelope.to.0;
+    write!(text, "m{number} {from}>{to} ")?;
+    describe(text, &envelope.message)?;
+    text.push_str("\n")
+}
+
+/// What a message says, in words.
+fn describe<A: Allocator + Copy>(
+    text: &mut String<A>,
+    message: &Message<A>,
+) -> Result<(), AllocError> {
+    match message {
+        Message::Ask {
+            page,
+            request,
+            kind,
+        } => {
+            text.push_str("Ask")?;
+            name_page(text, *page)?;
+            write!(text, " request {request} to {}", verb_of(*kind))
+        }
+        Message::Clear { page, number } => tell_transaction(text, "Clear", *page, *number),
+        Message::Cleared { page, number } => tell_transaction(text, "Cleared", *page, *number),
+        Message::Hand {
+            page,
+            number,
+            kind,
+            to,
+        } => {
+            tell_transaction(text, "Hand", *page, *number)?;
+            write!(text, " to site {} to {}", to.0, verb_of(*kind))
+        }
+        Message::Page { page, grant } => tell_grant(text, *page, grant),
+        Message::Confirm { page, number } => tell_transaction(text, "Confirm", *page, *number),
+        Message::Call { number, .. } => write!(text, "Call number {number}"),
+        Message::Reply { number, .. } => write!(text, "Reply number {number}"),
+        Message::Purge { id } => write!(text, "Purge segment {}", id.0),
+        Message::Purged { id } => write!(text, "Purged segment {}", id.0),
+    }
+}
+
+/// The page's bytes, as a copy or for good.
+fn tell_grant<A: Allocator + Copy>(
+    text: &mut String<A>,
+    page: PageId,
+    grant: &Grant<A>,
+) -> Result<(), AllocError> {
+    match grant {
+        Grant::Read(copy) => {
+            tell_transaction(text, "Page", page, copy.number())?;
+            text.push_str(" to read")
+        }
+        Grant::Write(whole) => {
+            tell_transaction(text, "Page", page, whole.number())?;
+            text.push_str(" to write")
+        }
+    }
+}
+
+/// A message of a page's transaction.
+fn tell_transaction<A: Allocator + Copy>(
+    text: &mut String<A>,
+    name: &str,
+    page: PageId,
+    number: u64,
+) -> Result<(), AllocError> {
+    text.push_str(name)?;
+    name_page(text, page)?;
+    write!(text, " t {number}")
+}
+
+fn name_page<A: Allocator + Copy>(text: &mut String<A>, page: PageId) -> Result<(), AllocError> {
+    let seg = page.seg.0;
+    let index = page.index;
+    write!(text, " page {seg} {index}")
+}
+
+fn verb_of(kind: Kind) -> &'static str {
+    match kind {
+        Kind::Read => "read",
+        Kind::Write => "write",
+    }
+}
+
+/// Whether an envelope that is on its way speaks of this page of a segment.
+pub(crate) fn is_in_flight<A: Allocator + Copy>(world: &World<A>, seg: u32, index: u32) -> bool {
+    'numbers: for number in 0..world.sent() {
+        if speaks_of(world, number, seg, index) {
+            return true;
+        }
+    }
+    false
+}
+
+fn speaks_of<A: Allocator + Copy>(world: &World<A>, number: u64, seg: u32, index: u32) -> bool {
+    match world.envelope(number) {
+        None => false,
+        Some(envelope) => match page_of(&envelope.message) {
+            None => false,
+            Some(page) => page.seg.0 == seg && page.index == index,
+        },
+    }
+}
+
+/// The page that a message speaks of.
+fn page_of<A: Allocator + Copy>(message: &Message<A>) -> Option<PageId> {
+    match message {
+        Message::Ask { page, .. } => Some(*page),
+        Message::Clear { page, .. } => Some(*page),
+        Message::Cleared { page, .. } => Some(*page),
+        Message::Hand { page, .. } => Some(*page),
+        Message::Page { page, .. } => Some(*page),
+        Message::Confirm { page, .. } => Some(*page),
+        _ => None,
+    }
+}

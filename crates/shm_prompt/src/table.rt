@@ -1,0 +1,177 @@
+//! `sites`: a row for each page that was asked for, a column for each site, and the manager's book.
+use crate::flight::is_in_flight;
+use shm_manager::SiteSet;
+use shm_model::{Kind, Shown, State};
+use shm_place::{MAX_SITES, PAGE_BYTES, PAGES, PageId, SegId, SiteId, manager_of};
+use shm_world::{BookView, World};
+use std::alloc::{AllocError, Allocator};
+
+/// Shows each page that some site has asked for.
+pub(crate) fn show_pages<A: Allocator + Copy>(
+    text: &mut String<A>,
+    world: &World<A>,
+) -> Result<(), AllocError> {
+    head(text, world.sites().count())?;
+    'homes: for home in 0..world.sites().count() {
+        show_home(text, world, SiteId(home))?;
+    }
+    Ok(())
+}
+
+/// The names of the columns.
+fn head<A: Allocator + Copy>(text: &mut String<A>, sites: u32) -> Result<(), AllocError> {
+    write!(text, "{:<12}", "page")?;
+    'sites: for site in 0..sites {
+        write!(text, "site {site:<9}")?;
+    }
+    text.push_str("manager\n")
+}
+
+/// Shows the pages of the segments whose home is this site.
+fn show_home<A: Allocator + Copy>(
+    text: &mut String<A>,
+    world: &World<A>,
+    home: SiteId,
+) -> Result<(), AllocError> {
+    let Some(site) = world.site(home) else {
+        return Ok(());
+    };
+    'segments: for segment in site.segments() {
+        show_segment(text, world, segment.id.0, segment.size)?;
+    }
+    Ok(())
+}
+
+/// Shows the pages of a segment of so many bytes.
+fn show_segment<A: Allocator + Copy>(
+    text: &mut String<A>,
+    world: &World<A>,
+    seg: u32,
+    bytes: u32,
+) -> Result<(), AllocError> {
+    let pages = bytes.div_ceil(PAGE_BYTES as u32).min(PAGES);
+    'pages: for index in 0..pages {
+        if is_touched(world, seg, index) {
+            show_row(text, world, seg, index)?;
+        }
+    }
+    Ok(())
+}
+
+/// Whether a right to the page was asked for: its manager has given it, a site has met its number, or an envelope speaks of it.
+fn is_touched<A: Allocator + Copy>(world: &World<A>, seg: u32, index: u32) -> bool {
+    'sites: for site in 0..world.sites().count() {
+        if is_met(world.shown(SiteId(site), page_at(seg, index))) {
+            return true;
+        }
+    }
+    is_begun(world.book(page_at(seg, index))) || is_in_flight(world, seg, index)
+}
+
+fn page_at(seg: u32, index: u32) -> PageId {
+    PageId {
+        seg: SegId(seg),
+        index,
+    }
+}
+
+fn is_met(shown: Option<Shown>) -> bool {
+    match shown {
+        None => false,
+        Some(shown) => shown.seen > 0,
+    }
+}
+
+fn is_begun(book: Option<BookView>) -> bool {
+    match book {
+        None => false,
+        Some(book) => book.number > 0,
+    }
+}
+
+fn show_row<A: Allocator + Copy>(
+    text: &mut String<A>,
+    world: &World<A>,
+    seg: u32,
+    index: u32,
+) -> Result<(), AllocError> {
+    let name = format!(in *text.allocator(); "{seg} {index}")?;
+    write!(text, "{name:<12}")?;
+    'sites: for site in 0..world.sites().count() {
+        show_cell(text, world.shown(SiteId(site), page_at(seg, index)))?;
+    }
+    let manager = manager_of(world.sites(), page_at(seg, index));
+    show_manager(text, manager, world.book(page_at(seg, index)))
+}
+
+/// The state in which a site has the page, and the number that it met last.
+fn show_cell<A: Allocator + Copy>(
+    text: &mut String<A>,
+    shown: Option<Shown>,
+) -> Result<(), AllocError> {
+    let Some(shown) = shown else {
+        return write!(text, "{:<14}", "-");
+    };
+    let state = name_of(shown.state);
+    let cell = format!(in *text.allocator(); "{state}/{}", shown.seen)?;
+    write!(text, "{cell:<14}")
+}
+
+fn name_of(state: State) -> &'static str {
+    match state {
+        State::Nil => "Nil",
+        State::Copy => "Copy",
+        State::OwnRead => "OwnRead",
+        State::OwnWrite => "OwnWrite",
+        State::Handed => "Handed",
+        State::Purged => "Purged",
+    }
+}
+
+/// Which site manages the page, and what its book says.
+fn show_manager<A: Allocator + Copy>(
+    text: &mut String<A>,
+    manager: SiteId,
+    book: Option<BookView>,
+) -> Result<(), AllocError> {
+    write!(text, "{}: ", manager.0)?;
+    let Some(book) = book else {
+        return text.push_str("purged\n");
+    };
+    write!(text, "owner {} copies ", book.owner.0)?;
+    show_copies(text, book.copies)?;
+    write!(text, " t {}", book.number)?;
+    show_running(text, book.running)
+}
+
+/// The sites that may have copies, with commas between them; or a dash.
+fn show_copies<A: Allocator + Copy>(
+    text: &mut String<A>,
+    copies: SiteSet,
+) -> Result<(), AllocError> {
+    let mut mark = "";
+    'sites: for site in 0..MAX_SITES {
+        if copies.contains(SiteId(site)) {
+            write!(text, "{mark}{site}")?;
+            mark = ",";
+        }
+    }
+    if mark.is_empty() {
+        return text.push_str("-");
+    }
+    Ok(())
+}
+
+/// What the running transaction gives, and to whom.
+fn show_running<A: Allocator + Copy>(
+    text: &mut String<A>,
+    running: Option<(Kind, SiteId)>,
+) -> Result<(), AllocError> {
+    let Some((kind, site)) = running else {
+        return text.push_str(" idle\n");
+    };
+    match kind {
+        Kind::Read => writeln!(text, " read {}", site.0),
+        Kind::Write => writeln!(text, " write {}", site.0),
+    }
+}

@@ -1,0 +1,27 @@
+//! How something is told: a line of output is its number, a blank, what is said, and a line feed.
+ghost use Rattle.std.specs.Prelude.{◌≡◌, ◌+◌, ◌++◌, OnOk, length};
+ghost use Rattle.shm_text.specs.Text.{line_text};
+
+use shm_debug::Session;
+use std::alloc::{AllocError, Allocator};
+
+/// Tells a line under its number.
+pub(crate) fn tell_line<A: Allocator + Copy>(
+    out: &mut Vec<u8, A>,
+    number: u64,
+    said: &[u8],
+) -> Result<(), AllocError>
+    ensures { OnOk result (out.new.items ≡ out.old.items ++ line_text number said.now) }
+{
+    let head = format!(in *out.allocator(); "{number} ")?;
+    out.extend_from_slice(head.as_bytes())?;
+    out.extend_from_slice(said)?;
+    out.extend_from_slice(b"\n")
+}
+
+/// The number of the last line of the script of what stands: its `sites` line, and a line for each event.
+pub(crate) fn last_line<A: Allocator + Copy>(session: &Session<A>) -> u64
+    ensures { result ≡ length session.now.events + 1 }
+{
+    session.events().len() as u64 + 1
+}

@@ -1,0 +1,93 @@
+//! Bytes that are typed, line by line.
+use crate::command::{Command, parse_command};
+use crate::dialog::Dialog;
+use crate::save_file::SaveFile;
+use std::alloc::{AllocError, Allocator};
+
+/// How many bytes a line has at most, without its line feed.
+const MAX_LINE_BYTES: usize = 200;
+
+/// What was typed: what stands after the lines that ended, the one that hasn't, and whether `quit` was among them.
+#[derive(Drop)]
+pub(crate) struct Typed<A: Allocator + Copy> {
+    dialog: Dialog<A>,
+    line: Vec<u8, A>,
+    is_long: bool,
+    has_quit: bool,
+}
+
+impl<A: Allocator + Copy> Typed<A> {
+    /// Nothing was typed yet. Room for a line is made.
+    pub(crate) fn new(alloc: A) -> Result<Typed<A>, AllocError> {
+        let line = Vec::with_capacity(alloc, MAX_LINE_BYTES)?;
+        Ok(Typed {
+            dialog: Dialog::new(alloc),
+            line,
+            is_long: false,
+            has_quit: false,
+        })
+    }
+
+    /// Whether a line was `quit`.
+    pub(crate) fn has_quit(&self) -> bool {
+        self.has_quit
+    }
+
+    /// Takes the bytes on, and does what the lines say that they end.
+    pub(crate) fn take<S: SaveFile>(
+        &mut self,
+        bytes: &[u8],
+        files: &mut S,
+        out: &mut Vec<u8, A>,
+    ) -> Result<(), AllocError> {
+        'bytes: for byte in bytes {
+            if self.has_quit {
+                return Ok(());
+            }
+            self.step(*byte, files, out)?;
+        }
+        Ok(())
+    }
+
+    fn step<S: SaveFile>(
+        &mut self,
+        byte: u8,
+        files: &mut S,
+        out: &mut Vec<u8, A>,
+    ) -> Result<(), AllocError> {
+        if byte == b'\n' {
+            return self.end_line(files, out);
+        }
+        if self.line.len() == MAX_LINE_BYTES {
+            self.is_long = true;
+            return Ok(());
+        }
+        self.line.push(byte)?;
+        Ok(())
+    }
+
+    /// Does what the line says that ends here.
+    fn end_line<S: SaveFile>(
+        &mut self,
+        files: &mut S,
+        out: &mut Vec<u8, A>,
+    ) -> Result<(), AllocError> {
+        if self.is_long {
+            out.extend_from_slice(b"a line has at most 200 bytes\n")?;
+        } else {
+            self.has_quit = is_quit(self.line.as_slice());
+            self.dialog.obey(self.line.as_slice(), files, out)?;
+        }
+        self.is_long = false;
+        self.line.clear();
+        Ok(())
+    }
+}
+
+/// Whether a line is `quit`.
+fn is_quit(line: &[u8]) -> bool {
+    match parse_command(line) {
+        Some(Command::Quit) => true,
+        _ => false,
+    }
+}
