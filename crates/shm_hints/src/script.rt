@@ -10,8 +10,8 @@ use shm_lines::parse_line;
 
 /// Where a line of a script can't be read on. A right line has no hint.
 ///
-/// What is proved is which lines have a hint, and that it lies within the line or at its end. That no right line begins with all bytes
-/// up to that place, and that some right line begins with those before it, is tested.
+/// Proved: which lines have a hint, and that it lies within the line or at its end. Not proved, only shown by examples in tests: that some
+/// right line begins with the bytes before it, and none with these and the byte there; and that what is expected could stand there.
 pub fn hint_of_script_line(line: &[u8]) -> Option<Hint>
     ensures right { IfNone result (IsSome (line_of line.now)) }
     ensures wrong { IfSome result (λ hint. line_of line.now ≡ None) }
