@@ -1,15 +1,20 @@
 //! The scripts of `examples/` at the top of the repository, which users read, and the outputs beside them.
 
+mod crossing_writers;
 mod frames;
 mod going_back;
 mod lost_page;
 mod manager_restarts;
+mod owner_restarts;
 mod read_fault;
 mod reader_becomes_writer;
 mod segments;
+mod three_copies;
 mod two_sites;
 
 use super::replayed;
+use std::alloc::Global;
+use std::process::Abort;
 
 /// A script, and what is told of its lines.
 struct Example {
@@ -18,54 +23,24 @@ struct Example {
     text: &'static [u8],
 }
 
-const EXAMPLES: [Example; 8] = [
-    Example {
-        name: "frames",
-        script: frames::SCRIPT,
-        text: frames::TEXT,
-    },
-    Example {
-        name: "going-back",
-        script: going_back::SCRIPT,
-        text: going_back::TEXT,
-    },
-    Example {
-        name: "lost-page",
-        script: lost_page::SCRIPT,
-        text: lost_page::TEXT,
-    },
-    Example {
-        name: "manager-restarts",
-        script: manager_restarts::SCRIPT,
-        text: manager_restarts::TEXT,
-    },
-    Example {
-        name: "read-fault",
-        script: read_fault::SCRIPT,
-        text: read_fault::TEXT,
-    },
-    Example {
-        name: "reader-becomes-writer",
-        script: reader_becomes_writer::SCRIPT,
-        text: reader_becomes_writer::TEXT,
-    },
-    Example {
-        name: "segments",
-        script: segments::SCRIPT,
-        text: segments::TEXT,
-    },
-    Example {
-        name: "two-sites",
-        script: two_sites::SCRIPT,
-        text: two_sites::TEXT,
-    },
-];
+fn plays(rt: &impl Abort, alloc: Global, example: &Example) {
+    let (result, text) = replayed(alloc, example.script);
+    assert_eq!(rt; text.as_slice(), example.text, "{}", example.name);
+    assert!(rt; result.is_ok(), "{}", example.name);
+}
 
 #[test]
 fn examples_print_what_stands_beside_them(rt: HostRuntime) {
-    for example in &EXAMPLES {
-        let (result, text) = replayed(rt.alloc(), example.script);
-        assert_eq!(rt; text.as_slice(), example.text, "{}", example.name);
-        assert!(rt; result.is_ok(), "{}", example.name);
-    }
+    let alloc = rt.alloc();
+    plays(&rt, alloc, &crossing_writers::EXAMPLE);
+    plays(&rt, alloc, &frames::EXAMPLE);
+    plays(&rt, alloc, &going_back::EXAMPLE);
+    plays(&rt, alloc, &lost_page::EXAMPLE);
+    plays(&rt, alloc, &manager_restarts::EXAMPLE);
+    plays(&rt, alloc, &owner_restarts::EXAMPLE);
+    plays(&rt, alloc, &read_fault::EXAMPLE);
+    plays(&rt, alloc, &reader_becomes_writer::EXAMPLE);
+    plays(&rt, alloc, &segments::EXAMPLE);
+    plays(&rt, alloc, &three_copies::EXAMPLE);
+    plays(&rt, alloc, &two_sites::EXAMPLE);
 }

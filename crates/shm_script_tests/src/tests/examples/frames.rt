@@ -1,4 +1,11 @@
 //! `examples/frames.shm` is the same script, and `examples/frames.out` the same text.
+use super::Example;
+
+pub(super) const EXAMPLE: Example = Example {
+    name: "frames",
+    script: SCRIPT,
+    text: TEXT,
+};
 
 pub(super) const SCRIPT: &[u8] = b"sites 2 preset 4 frames 1\n\
     store 0 0 0 5\n\

@@ -1,4 +1,11 @@
 //! `examples/going-back.shm` is the same script, and `examples/going-back.out` the same text.
+use super::Example;
+
+pub(super) const EXAMPLE: Example = Example {
+    name: "going-back",
+    script: SCRIPT,
+    text: TEXT,
+};
 
 pub(super) const SCRIPT: &[u8] = b"sites 2 preset 1\n\
     store 0 0 0 7\n\

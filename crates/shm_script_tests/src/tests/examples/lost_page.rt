@@ -1,4 +1,11 @@
 //! `examples/lost-page.shm` is the same script, and `examples/lost-page.out` the same text.
+use super::Example;
+
+pub(super) const EXAMPLE: Example = Example {
+    name: "lost-page",
+    script: SCRIPT,
+    text: TEXT,
+};
 
 pub(super) const SCRIPT: &[u8] = b"sites 2 preset 1\n\
     store 0 0 4095 200\n\

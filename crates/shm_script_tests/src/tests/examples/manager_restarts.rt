@@ -1,4 +1,11 @@
 //! `examples/manager-restarts.shm` is the same script, and `examples/manager-restarts.out` the same text.
+use super::Example;
+
+pub(super) const EXAMPLE: Example = Example {
+    name: "manager-restarts",
+    script: SCRIPT,
+    text: TEXT,
+};
 
 pub(super) const SCRIPT: &[u8] = b"sites 3 preset 1\n\
     load 1 0 0\n\

@@ -1,4 +1,11 @@
 //! `examples/read-fault.shm` is the same script, and `examples/read-fault.out` the same text.
+use super::Example;
+
+pub(super) const EXAMPLE: Example = Example {
+    name: "read-fault",
+    script: SCRIPT,
+    text: TEXT,
+};
 
 pub(super) const SCRIPT: &[u8] = b"sites 3 preset 2\n\
     store 1 0 4096 42\n\

@@ -1,4 +1,11 @@
 //! `examples/reader-becomes-writer.shm` is the same script, and `examples/reader-becomes-writer.out` the same text.
+use super::Example;
+
+pub(super) const EXAMPLE: Example = Example {
+    name: "reader-becomes-writer",
+    script: SCRIPT,
+    text: TEXT,
+};
 
 pub(super) const SCRIPT: &[u8] = b"sites 3 preset 2\n\
     store 1 0 4096 5\n\

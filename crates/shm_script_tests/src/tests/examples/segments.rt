@@ -1,4 +1,11 @@
 //! `examples/segments.shm` is the same script, and `examples/segments.out` the same text.
+use super::Example;
+
+pub(super) const EXAMPLE: Example = Example {
+    name: "segments",
+    script: SCRIPT,
+    text: TEXT,
+};
 
 pub(super) const SCRIPT: &[u8] = b"sites 2\n\
     get 0 10 20 5 5000 640 c\n\

@@ -1,4 +1,11 @@
 //! `examples/two-sites.shm` is the same script, and `examples/two-sites.out` the same text.
+use super::Example;
+
+pub(super) const EXAMPLE: Example = Example {
+    name: "two-sites",
+    script: SCRIPT,
+    text: TEXT,
+};
 
 pub(super) const SCRIPT: &[u8] = b"sites 2 preset 2\n\
     show 0 0\n\

@@ -1,0 +1,53 @@
+use anyhow::Result;
+use shm_boxes::{Envelope, Stamp};
+use shm_parts::Message;
+use std::alloc::Global;
+use std::collections::VecDeque;
+
+/// A queue of envelopes, each with the stamp of where it was sent. Of the pages the first is lost, and the second is repeated.
+#[derive(Drop)]
+pub struct Network {
+    on_the_way: VecDeque<(Envelope, Stamp)>,
+    pages: u32,
+}
+
+impl Network {
+    /// Nothing is on its way.
+    pub fn new(alloc: Global) -> Network {
+        Network {
+            on_the_way: VecDeque::new(alloc),
+            pages: 0,
+        }
+    }
+
+    /// Takes an envelope, and tells how often it will arrive.
+    pub fn post(&mut self, envelope: &Envelope, source: Stamp) -> Result<u32> {
+        let is_page = matches!(envelope.message, Message::Page { .. });
+        self.pages = self.pages.saturating_add(u32::from(is_page));
+        let copies = match self.pages {
+            1 if is_page => 0,
+            2 if is_page => 2,
+            _ => 1,
+        };
+        for _ in 0..copies {
+            self.on_the_way.push_back((envelope.copy()?, source))?;
+        }
+        Ok(copies)
+    }
+
+    /// The oldest of what is on its way.
+    pub fn next(&mut self) -> Option<(Envelope, Stamp)> {
+        self.on_the_way.pop_front()
+    }
+}
+
+/// What an envelope's message is called.
+pub fn kind_of(envelope: &Envelope) -> &'static str {
+    match envelope.message {
+        Message::Ask { .. } => "Ask",
+        Message::Hand { .. } => "Hand",
+        Message::Page { .. } => "Page",
+        Message::Confirm { .. } => "Confirm",
+        _ => "another message",
+    }
+}

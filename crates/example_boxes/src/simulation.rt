@@ -1,0 +1,111 @@
+ghost use Rattle.std.specs.Prelude.{◌∷◌, [], IfOk, map};
+ghost use Rattle.shm_audit.specs.Audit.{IsAudited};
+ghost use Rattle.shm_audit.specs.Callers.{receipts_of};
+ghost use Rattle.shm_audit.specs.Logs.{logs_of};
+ghost use Rattle.shm_model.specs.World.{Preset};
+
+use crate::network::{Network, kind_of};
+use anyhow::{Result, bail};
+use shm_audit::{Event, audit_complete, logs_match};
+use shm_boxes::{Input, Receipt, SiteBox, SiteLog, Stamp};
+use shm_place::{SiteId, Sites};
+use std::alloc::Global;
+use std::io::Write;
+
+/// Sites in their boxes, the network between them, and what was told of loads and stores.
+#[derive(Drop)]
+pub struct Simulation {
+    alloc: Global,
+    sites: Sites,
+    boxes: Vec<SiteBox>,
+    network: Network,
+    receipts: Vec<Receipt>,
+}
+
+impl Simulation {
+    /// So many sites that share one page, to which nothing has happened yet.
+    pub fn new(alloc: Global, sites: Sites) -> Result<Simulation> {
+        let mut boxes = Vec::new(alloc);
+        for site in 0..sites.count() {
+            boxes.push(SiteBox::new(alloc, sites, SiteId(site), 1)?)?;
+        }
+        Ok(Simulation {
+            alloc,
+            sites,
+            boxes,
+            network: Network::new(alloc),
+            receipts: Vec::new(alloc),
+        })
+    }
+
+    /// One step of this site. Prints what it is given, what it answers, and how often what it sends will arrive.
+    pub fn step<W: Write>(
+        &mut self,
+        out: &mut W,
+        given: &str,
+        site: SiteId,
+        input: Input,
+        source: Stamp,
+    ) -> Result<()> {
+        let Some(held) = self.boxes.get_mut(site.0 as usize) else {
+            bail!("there is no site {}", site.0);
+        };
+        let receipt = match held.take(input, source) {
+            Ok(receipt) => receipt,
+            Err(fault) => bail!("site {}: {fault:?}", site.0),
+        };
+        write!(out, "site {} {given}: {:?}", site.0, receipt.answer())?;
+        if receipt.asked().is_some() {
+            self.receipts.push(receipt)?;
+        }
+        let (at, index) = (held.clock(), receipt.index());
+        for (place, envelope) in held.log().steps()[index].sent.iter().enumerate() {
+            let copies = self.network.post(envelope, Stamp { at, index, place })?;
+            write!(out, ", {} x {copies}", kind_of(envelope))?;
+        }
+        writeln!(out)?;
+        Ok(())
+    }
+
+    /// Hands over what is on its way, the oldest first, until nothing is.
+    pub fn settle<W: Write>(&mut self, out: &mut W) -> Result<()> {
+        for _ in 0..u64::MAX {
+            let Some((envelope, source)) = self.network.next() else {
+                break;
+            };
+            let (site, kind) = (envelope.to, kind_of(&envelope));
+            self.step(out, kind, site, Input::Deliver(envelope), source)?;
+        }
+        Ok(())
+    }
+
+    /// Puts the steps of all boxes into one order. In it memory is one plain memory, and what was told of loads and stores holds.
+    pub fn audit(self) -> Result<Vec<Event>>
+        ensures { IfOk result (λ events. IsAudited (Preset self.sites 1) (logs_of (map (λ held. held.log) self.boxes.items)) (receipts_of self.receipts.items ∷ []) events.items) }
+    {
+        let (alloc, sites) = (self.alloc, self.sites);
+        let logs: Vec<SiteLog> = self
+            .boxes
+            .into_iter()
+            .map(SiteBox::into_log)
+            .collect(alloc)?;
+        audited(alloc, sites, logs, self.receipts)
+    }
+}
+
+/// The same of logs, and of what a single caller was told.
+fn audited(
+    alloc: Global,
+    sites: Sites,
+    logs: Vec<SiteLog>,
+    receipts: Vec<Receipt>,
+) -> Result<Vec<Event>>
+    ensures { IfOk result (λ events. IsAudited (Preset sites 1) (logs_of logs.items) (receipts_of receipts.items ∷ []) events.items) }
+{
+    if !logs_match(sites, 1, &logs) {
+        bail!("these aren't the logs of all sites");
+    }
+    let callers = vec![in alloc; receipts]?;
+    let events = audit_complete(alloc, sites, 1, &logs, &callers)?;
+    Ok(events)
+}
