@@ -3,9 +3,9 @@
 _shmdbg() {
   local word=${COMP_WORDS[COMP_CWORD]} before=${COMP_WORDS[COMP_CWORD - 1]} offered=
   case $COMP_CWORD:${COMP_WORDS[1]} in
-    1:*) offered='replay run help -h --help -V --version' ;;
-    2:help) offered='replay run help' ;;
-    *:replay) offered='-h --help' ;;
+    1:*) offered='replay run prompt help -h --help -V --version' ;;
+    2:help) offered='replay run prompt help' ;;
+    *:replay | *:prompt) offered='-h --help' ;;
     *:run)
       case $before in
         --sites) offered='1 2 3 4 5 6 7 8 9 10 11 12 13 14 15 16' ;;

@@ -3,6 +3,7 @@
 complete -c shmdbg -f
 complete -c shmdbg -n __fish_use_subcommand -a replay -d 'Replay the script on standard input'
 complete -c shmdbg -n __fish_use_subcommand -a run -d 'Run the workload on standard input on sites in threads, and audit it'
+complete -c shmdbg -n __fish_use_subcommand -a prompt -d 'Answer each line as it is typed'
 complete -c shmdbg -n __fish_use_subcommand -a help -d 'Print help'
 complete -c shmdbg -n __fish_use_subcommand -s h -l help -d 'Print help'
 complete -c shmdbg -n __fish_use_subcommand -s V -l version -d 'Print the version'
@@ -10,4 +11,5 @@ complete -c shmdbg -n '__fish_seen_subcommand_from replay' -s h -l help -d 'Prin
 complete -c shmdbg -n '__fish_seen_subcommand_from run' -l sites -x -a '(seq 16)' -d 'How many sites, 1 to 16'
 complete -c shmdbg -n '__fish_seen_subcommand_from run' -l seed -x -d 'Where the losses and repeats are drawn from'
 complete -c shmdbg -n '__fish_seen_subcommand_from run' -s h -l help -d 'Print help'
-complete -c shmdbg -n '__fish_seen_subcommand_from help' -a 'replay run help'
+complete -c shmdbg -n '__fish_seen_subcommand_from prompt' -s h -l help -d 'Print help'
+complete -c shmdbg -n '__fish_seen_subcommand_from help' -a 'replay run prompt help'

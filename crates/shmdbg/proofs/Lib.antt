@@ -1,4 +1,2 @@
+mod Asked
 mod Plain
-mod Wrong
-mod Numbers
-mod Other

@@ -2,8 +2,8 @@
 use Rattle.std.proofs.Common.{[], ◌∷◌, codes, refl}
 use Rattle.clap.specs.Words.{Text}
 use Rattle.clap.proofs.OnLiterals.{clap_on_literals}
-use Rattle.shmdbg.specs.Status.{AsksReplay}
+use Rattle.shmdbg.specs.Status.{Asks}
 
-pub plain_words : (name : Text) → AsksReplay (name ∷ codes "replay" ∷ [])
+pub plain_words : (name : Text) → Asks (codes "replay") (name ∷ codes "replay" ∷ [])
 unfolding clap_on_literals
 plain_words name = (refl, refl)

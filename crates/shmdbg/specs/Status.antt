@@ -1,5 +1,5 @@
 -- Exit statuses, and what each tells of the script on standard input and of the text on standard output.
-use Rattle.std.specs.Prelude.{◌≡◌, ℕ, true, false, List, [], IfSome, IsSomeAnd, Option, Result, Ok, Err}
+use Rattle.std.specs.Prelude.{◌≡◌, ℕ, true, List, [], IfSome, IsSomeAnd, Option, Some, Result, Ok, Err}
 use Rattle.std.specs.Io.KnownBytes.{Appends}
 use Rattle.clap.specs.Words.{Text}
 use Rattle.shm_debug.specs.Script.{Script}
@@ -11,7 +11,7 @@ use Rattle.shm_report.specs.Causes.{audit_cause, input_cause, is_after_reading, 
 use Rattle.shm_report.specs.Report.{IsReport}
 use Rattle.shm_report.specs.declared.report_fault.ReportFault.{ReportFault}
 use Rattle.shm_report.specs.declared.report_fault.ReportFault.TheVariants as report
-use Rattle.shmdbg.specs.Words.{asks_replay, fault_in}
+use Rattle.shm_words.specs.Words.{asked_for, fault_in}
 
 -- the script is wrong, or something else failed
 abbrev pub fault_status : DebugFault → ℕ
@@ -44,13 +44,9 @@ status_of (Err fault) = fault_status fault
 abbrev pub Takes : List Text → Type 0
 Takes words = fault_in words ≡ []
 
--- and they ask for a replay
-abbrev pub AsksReplay : List Text → Type 0
-AsksReplay words = Takes words × (asks_replay words ≡ true)
-
--- and they ask for a run
-abbrev pub AsksRun : List Text → Type 0
-AsksRun words = Takes words × (asks_replay words ≡ false)
+-- and they ask for the subcommand of this name
+abbrev pub Asks : Text → List Text → Type 0
+Asks name words = Takes words × (asked_for words ≡ Some name)
 
 -- the script was replayed to an end of this status, and what was then written is what such an end writes
 abbrev pub Replays : Script → ℕ → Option (List ℕ) → Option (List ℕ) → Type 0

@@ -1,17 +1,18 @@
-//! `shmdbg`: the command line of the debugger. `shmdbg replay` replays a script from standard input, and `shmdbg run` runs a workload.
+//! `shmdbg`: the command line of the debugger: a script is replayed, what is typed is answered, a workload is run on sites in threads.
 #![tactic(auto)]
 
-mod help;
+mod disk;
 mod program;
-mod spelling;
+mod showing;
+mod source;
 mod tell;
 #[cfg(test)]
 mod tests;
-mod words;
 
 use program::run_words;
+use source::Source;
 use std::env::{self, Env};
-use std::io;
+use std::io::{self, IsTerminal};
 use std::process::ExitCode;
 
 fn main(rt: HostRuntime) -> ExitCode {
@@ -21,7 +22,8 @@ fn main(rt: HostRuntime) -> ExitCode {
         Err(error) => return ExitCode::from(tell::unread_words(&error, &mut errors)),
     };
     let words = words.as_slice();
-    ExitCode::from(run_words(&rt, words, &mut rt.stdin(), &mut rt.stdout(), &mut errors))
+    let mut reader = Source::new(rt.stdin(), errors.is_terminal());
+    ExitCode::from(run_words(&rt, words, &mut reader, &mut rt.stdout(), &mut errors))
 }
 
 fn words_of_process(rt: &(impl Env + AllocGlobal)) -> io::Result<Vec<String>> {

@@ -1,25 +1,30 @@
-ghost use Rattle.std.specs.Prelude.{◌≡◌, ◌≢◌, ◌<◌, ◌⊎◌, ℕ, List, [], ◌∷◌, codes, false, map, IfSome, Some};
+ghost use Rattle.std.specs.Prelude.{◌≡◌, ◌≢◌, ◌<◌, ◌⊎◌, ℕ, List, [], ◌∷◌, codes, map, IfSome, Some};
 ghost use Rattle.shm_debug.specs.Script.{script_of};
-ghost use Rattle.shmdbg.specs.Status.{AsksReplay, AsksRun, Fails, Replays, Reports, Takes};
-ghost use Rattle.shmdbg.specs.Words.{asks_replay, sites_given};
+ghost use Rattle.shm_words.specs.Words.{sites_given};
+ghost use Rattle.shmdbg.specs.Status.{Asks, Fails, Replays, Reports, Takes};
 
+use crate::disk::Disk;
+use crate::showing::{script_fault, workload_fault};
+use crate::source::Recalls;
 use crate::tell;
-use crate::words::{Task, parse_words};
 use shm_debug::replay;
 use shm_place::Sites;
+use shm_prompt::prompt;
 use shm_report::report;
+use shm_words::{Task, parse_words};
 use std::convert::AsStr;
 use std::io::{Read, Write};
+use std::rt::Files;
 use std::sync::Wait;
 use std::thread::Threads;
 
 /// Does what the words ask for, and answers the exit status: 0 done, 1 the script has a fault, 2 the words were refused,
 /// 3 memory, reading or writing failed, or a site's clock ended, or there was no thread, 4 a run was not what an audit accepts, or gave
-/// up. At 2 the parser's text goes to `errors`, at 1, 3 and 4 one line.
+/// up. At 2 the parser's text goes to `errors`, at 1, 3 and 4 one line; below it stands a wrong line that the reader recalls.
 pub fn run_words<
-    R: AllocGlobal + Threads + Wait + Copy + Send + Sync + 'static,
+    R: AllocGlobal + Files + Threads + Wait + Copy + Send + Sync + 'static,
     S: AsStr,
-    I: Read,
+    I: Read + Recalls,
     O: Write,
     E: Write,
 >(rt: &R, words: &[S], reader: &mut I, out: &mut O, errors: &mut E) -> u8
@@ -27,14 +32,15 @@ pub fn run_words<
     ensures asked { result < 2 → Takes (map S.text words.now) }
     ensures taken { Takes (map S.text words.now) → result ≢ 2 }
     ensures plain { (name : List ℕ) → map S.text words.now ≡ name ∷ codes "replay" ∷ [] → result ≢ 2 }
-    ensures replayed { AsksReplay (map S.text words.now) → IfSome (I.remaining reader.old) (λ bytes.
+    ensures replayed { Asks (codes "replay") (map S.text words.now) → IfSome (I.remaining reader.old) (λ bytes.
         Replays (script_of bytes) result (O.contents out.old) (O.contents out.new)) }
-    ensures reported { asks_replay (map S.text words.now) ≡ false → result ≡ 0 →
+    ensures reported { Asks (codes "run") (map S.text words.now) → result ≡ 0 →
         Reports (sites_given (map S.text words.now)) (I.remaining reader.old) (O.contents out.old) (O.contents out.new) }
-    ensures failed { AsksRun (map S.text words.now) → result ≢ 0 →
+    ensures failed { Asks (codes "run") (map S.text words.now) → result ≢ 0 →
         Fails (sites_given (map S.text words.now)) (I.remaining reader.old) result }
-    ensures audit { result ≡ 4 → AsksRun (map S.text words.now) }
-    ensures quiet { asks_replay (map S.text words.now) ≡ false → (result ≡ 1) ⊎ (result ≡ 4) → out.new ≡ out.old }
+    ensures prompted { Asks (codes "prompt") (map S.text words.now) → (result ≡ 0) ⊎ (result ≡ 3) }
+    ensures audit { result ≡ 4 → Asks (codes "run") (map S.text words.now) }
+    ensures quiet { Asks (codes "run") (map S.text words.now) → (result ≡ 1) ⊎ (result ≡ 4) → out.new ≡ out.old }
     ensures refused { ¬ Takes (map S.text words.now) → (reader.new ≡ reader.old) × (out.new ≡ out.old) }
     ensures nothing_read { result ≡ 2 → reader.new ≡ reader.old }
     ensures nothing_written { result ≡ 2 → out.new ≡ out.old }
@@ -43,24 +49,38 @@ pub fn run_words<
         Ok(task) => match task {
             Task::Replay => {}
             Task::Run { sites, seed } => return run(rt, sites, seed, reader, out, errors),
+            Task::Prompt => return talk(rt, reader, out, errors),
         },
         Err(error) => return tell::refused_words(&error, errors),
     }
     match replay(rt.alloc(), reader, out) {
         Ok(_) => 0,
-        Err(fault) => tell::fault(fault, errors),
+        Err(fault) => script_fault(fault, reader, errors),
     }
 }
 
-/// Runs a workload, and answers the exit status.
-fn run<R: AllocGlobal + Threads + Wait + Copy + Send + Sync + 'static, I: Read, O: Write, E: Write>(
+/// Answers what is typed, and answers the exit status.
+fn talk<R: AllocGlobal + Files, I: Read, O: Write, E: Write>(
     rt: &R,
-    sites: Sites,
-    seed: u32,
     reader: &mut I,
     out: &mut O,
     errors: &mut E,
 ) -> u8
+    ensures status { (result ≡ 0) ⊎ (result ≡ 3) }
+{
+    match prompt(rt.alloc(), false, reader, out, &mut Disk { rt }) {
+        Ok(()) => 0,
+        Err(fault) => tell::prompt_fault(fault, errors),
+    }
+}
+
+/// Runs a workload, and answers the exit status.
+fn run<
+    R: AllocGlobal + Threads + Wait + Copy + Send + Sync + 'static,
+    I: Read + Recalls,
+    O: Write,
+    E: Write,
+>(rt: &R, sites: Sites, seed: u32, reader: &mut I, out: &mut O, errors: &mut E) -> u8
     ensures range { result < 5 }
     ensures taken { result ≢ 2 }
     ensures reported { result ≡ 0 →
@@ -70,6 +90,6 @@ fn run<R: AllocGlobal + Threads + Wait + Copy + Send + Sync + 'static, I: Read, 
 {
     match report(rt, rt.alloc(), sites, seed, reader, out) {
         Ok(()) => 0,
-        Err(fault) => tell::run_fault(fault, errors),
+        Err(fault) => workload_fault(fault, sites, reader, errors),
     }
 }

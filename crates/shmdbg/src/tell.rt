@@ -7,6 +7,7 @@ ghost use Rattle.shmdbg.specs.Status.{fault_status, run_status};
 
 use clap::error::ErrorKind;
 use shm_debug::DebugFault;
+use shm_prompt::PromptFault;
 use shm_report::ReportFault;
 use std::io::{self, Write};
 
@@ -19,6 +20,14 @@ pub fn fault<E: Write>(fault: DebugFault, errors: &mut E) -> u8
         DebugFault::BadLine(_) | DebugFault::LineTooLong(_) | DebugFault::TooManyLines => 1,
         DebugFault::OutOfMemory | DebugFault::ReadFault | DebugFault::WriteFault => 3,
     }
+}
+
+/// The exit status where a dialog ended by this fault. Its one line goes to `errors`.
+pub fn prompt_fault<E: Write>(fault: PromptFault, errors: &mut E) -> u8
+    ensures { result ≡ 3 }
+{
+    let _ = writeln!(errors, "shmdbg: {fault}");
+    3
 }
 
 /// The exit status where the words were not taken, which may be for want of memory.

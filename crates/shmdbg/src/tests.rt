@@ -1,14 +1,23 @@
 mod failed_runs;
+mod prompts;
 mod rows;
 mod runs;
 mod streams;
 mod words;
 
 use crate::program::run_words;
+use crate::source::Recalls;
 use std::io::Read;
 use std::process::Abort;
+use std::rt::Files;
 use std::sync::Wait;
 use std::thread::Threads;
+
+impl Recalls for &[u8] {
+    fn recall(&self, _number: u64) -> Option<&[u8]> {
+        None
+    }
+}
 
 /// What a call of the program came to.
 #[derive(Drop)]
@@ -19,11 +28,10 @@ struct Ran {
 }
 
 /// Runs the program with these words, with its output in memory.
-fn run_over<R: AllocGlobal + Threads + Wait + Copy + Send + Sync + 'static, I: Read>(
-    rt: &R,
-    words: &[&str],
-    reader: &mut I,
-) -> Ran {
+fn run_over<
+    R: AllocGlobal + Files + Threads + Wait + Copy + Send + Sync + 'static,
+    I: Read + Recalls,
+>(rt: &R, words: &[&str], reader: &mut I) -> Ran {
     let mut out = Vec::new(rt.alloc());
     let mut errors = Vec::new(rt.alloc());
     let status = run_words(rt, words, reader, &mut out, &mut errors);
@@ -35,7 +43,7 @@ fn run_over<R: AllocGlobal + Threads + Wait + Copy + Send + Sync + 'static, I: R
 }
 
 /// Replays a script that lies in memory.
-fn replay_bytes<R: AllocGlobal + Threads + Wait + Copy + Send + Sync + 'static>(
+fn replay_bytes<R: AllocGlobal + Files + Threads + Wait + Copy + Send + Sync + 'static>(
     rt: &R,
     script: &[u8],
 ) -> Ran {

@@ -1,6 +1,7 @@
 //! Runs over several sites that fail: their status and what is told of them.
 use super::{expect, run_over};
 use crate::program::run_words;
+use crate::source::Source;
 use std::io::{self, Write};
 
 /// The words of a run over three sites.
@@ -50,4 +51,27 @@ fn three_sites_and_no_room(rt: HostRuntime) {
     assert_eq!(rt; status, 3);
     assert_eq!(rt; errors.as_slice(), b"shmdbg: write fault\n".as_slice());
     assert_eq!(rt; reader, b"".as_slice());
+}
+
+/// Wrong lines are shown where they are to be.
+#[test]
+fn wrong_lines_are_shown(rt: HostRuntime) {
+    let cases: [(&[&str], &[u8], &[u8]); 2] = [
+        (
+            &["shmdbg", "replay"],
+            b"sites 1 preset 1\nload 0 0x 4\n",
+            b"shmdbg: line 2: bad line\nload 0 0x 4\n        ^ an attachment's number: ",
+        ),
+        (
+            &WORDS,
+            b"preset 1\nload 0 4 4\n",
+            b"shmdbg: line 2: bad line\nload 0 4 4\n        ^ the end of the line\n",
+        ),
+    ];
+    for (words, input, errors) in cases {
+        let mut reader = Source::new(input, true);
+        let ran = run_over(&rt, words, &mut reader);
+        assert_eq!(rt; ran.status, 1);
+        assert!(rt; ran.errors.as_slice().starts_with(errors));
+    }
 }

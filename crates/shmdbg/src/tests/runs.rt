@@ -4,7 +4,7 @@ use std::test::Fail;
 use std::thread::Threads;
 
 /// Runs a workload that lies in memory, on one site.
-fn run_bytes<R: AllocGlobal + Threads + Wait + Copy + Send + Sync + 'static>(
+fn run_bytes<R: AllocGlobal + Files + Threads + Wait + Copy + Send + Sync + 'static>(
     rt: &R,
     workload: &[u8],
 ) -> Ran {

@@ -1,5 +1,6 @@
 use super::{expect, run_over};
 use crate::program::run_words;
+use crate::source::Recalls;
 use crate::tell;
 use shm_debug::DebugFault;
 use std::io::{self, ErrorKind, Read, Write};
@@ -35,6 +36,12 @@ impl Read for Trickle<'_> {
         *place = *first;
         self.rest = rest;
         Ok(1)
+    }
+}
+
+impl Recalls for Trickle<'_> {
+    fn recall(&self, _number: u64) -> Option<&[u8]> {
+        None
     }
 }
 

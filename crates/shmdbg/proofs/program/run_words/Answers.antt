@@ -1,10 +1,14 @@
-use Rattle.std.proofs.Common.{rules, ◌≢◌, ℕ, List, [], IfSome, map, inl, inr, refl, subst, sym}
-use Rattle.std.specs.Prelude.{Err, None, Option, Some}
+use Rattle.std.proofs.Common.{rules, codes, ◌≡◌, ◌≢◌, ℕ, List, [], IfSome, map, inl, inr, refl, subst, sym}
+use Rattle.std.specs.Prelude.{Err, None, Option, Result, Some}
+use Rattle.std.specs.Io.KnownBytes.{Appends}
+use Rattle.shm_debug.specs.Replay.{Ends}
+use Rattle.shm_debug.specs.declared.outcome.Summary.{Summary}
+use Rattle.shm_debug.specs.declared.outcome.DebugFault.{DebugFault}
 use Rattle.std.proofs.KnownBytes.{Appends-nil}
 use Rattle.shm_debug.specs.Script.{script_of}
 use Rattle.shm_debug.specs.declared.outcome.DebugFault.TheVariants.{OutOfMemory}
-use Rattle.shmdbg.specs.Status.{AsksReplay, Fails, Replays}
-use Rattle.shmdbg.specs.Words.{sites_given}
+use Rattle.shmdbg.specs.Status.{Asks, Fails, Replays, status_of}
+use Rattle.shm_words.specs.Words.{sites_given}
 use Rattle.shm_report.specs.declared.report_fault.ReportFault.TheVariants as report
 use Rattle.shmdbg.proofs.Plain.{plain_words}
 use Rattle.shmdbg.proofs.program.run_words.Goals as goal
@@ -20,7 +24,18 @@ unread (Some bytes) written = (Err OutOfMemory, [], refl, Appends-nil written, (
 without_memory : (sites : Option ℕ) (workload : Option (List ℕ)) → Fails sites workload 3
 without_memory sites workload = record { fault = report.OutOfMemory; told = refl; input = tt; right = λ e. absurd (cc); audit = tt }
 
--- src/program.rt:31:23
+-- what a replay ends as, by its status
+replays_so : (script : Option (List ℕ)) (end : Result Summary DebugFault) (status : ℕ) (old new : Option (List ℕ)) → status ≡ status_of end
+    → IfSome script (λ bytes. (text : List ℕ) × Appends old new text × Ends (script_of bytes) end text)
+    → IfSome script (λ bytes. Replays (script_of bytes) status old new)
+replays_so None end status old new is ends = tt
+replays_so (Some bytes) end status old new is ends = (end, ends.0, is, ends.1, ends.2)
+
+pub returns-in-Err-replay-clause-replayed : goal.returns-in-Err-replay-clause-replayed
+returns-in-Err-replay-clause-replayed g c asks =
+    replays_so (g.I.Read.remaining c.args.reader.now) (Err c.in-Err-replay.fault) c.script_fault.result (g.O.Write.contents c.args.out.now)
+    (g.O.Write.contents c.replay.new.writer) c.script_fault.ensures.status c.in-Err-replay.ensures.ends
+
 pub returns-in-Err-clause-replayed : goal.returns-in-Err-clause-replayed
 returns-in-Err-clause-replayed g c asks =
     let taken : c.refused_words.result ≢ 2 = search rules in
@@ -31,16 +46,14 @@ returns-in-Err-clause-replayed g c asks =
       | inr h ↦ absurd {A = Leaves script written c.refused_words.result} (taken h.1)
     ]
 
--- src/program.rt:31:26
 pub returns-in-Run-clause-plain : goal.returns-in-Run-clause-plain
 returns-in-Run-clause-plain g c name e =
-    let asks : AsksReplay (map g.S.AsStr.text c.args.words.now) = subst AsksReplay (sym e) (plain_words name) in
+    let asks : Asks (codes "replay") (map g.S.AsStr.text c.args.words.now) = subst (Asks (codes "replay")) (sym e) (plain_words name) in
     search rules
 
--- src/program.rt:32:23
 pub returns-in-Err-clause-plain : goal.returns-in-Err-clause-plain
 returns-in-Err-clause-plain g c name e =
-    let asks : AsksReplay (map g.S.AsStr.text c.args.words.now) = subst AsksReplay (sym e) (plain_words name) in
+    let asks : Asks (codes "replay") (map g.S.AsStr.text c.args.words.now) = subst (Asks (codes "replay")) (sym e) (plain_words name) in
     search rules
 
 pub returns-in-Err-clause-failed : goal.returns-in-Err-clause-failed

@@ -1,0 +1,33 @@
+-- The commands that there are, with their options, as clap reads them.
+use Rattle.std.specs.Prelude.{true, [], Some, codes, pos}
+use Rattle.clap.specs.Words.{App, Rule, Text, new_app, new_rule, with_rule, with_subcommand}
+use Rattle.clap.specs.declared.builder.action.ArgAction.TheVariants.{Set}
+use Rattle.clap.specs.declared.builder.value_parser.ValueParser.{ValueParser}
+use Rattle.clap.specs.declared.builder.value_parser.ValueParser.TheVariants.{Signed}
+
+-- a required option with one number
+abbrev pub number_rule : Text → ValueParser → Rule
+number_rule name parser = record (new_rule name) { long = Some name; required = true; action = Some Set; value_names = 1; parser = Some parser }
+
+abbrev pub sites_rule : Rule
+sites_rule = number_rule (codes "sites") (Signed (pos 1) (pos 16))
+
+abbrev pub seed_rule : Rule
+seed_rule = number_rule (codes "seed") (Signed (pos 0) (pos 4294967295))
+
+abbrev pub replay_app : App
+replay_app = new_app (codes "replay")
+
+abbrev pub run_app : App
+run_app = with_rule (with_rule (new_app (codes "run")) sites_rule) seed_rule
+
+abbrev pub prompt_app : App
+prompt_app = new_app (codes "prompt")
+
+-- a subcommand is required, and `--version` tells the version
+abbrev pub bare_app : App
+bare_app = record { top = record (new_app (codes "shmdbg")).top { subcommand_required = true; has_version = true }; subs = [] }
+
+-- the program with all its subcommands
+abbrev pub app : App
+app = with_subcommand (with_subcommand (with_subcommand bare_app replay_app.top) run_app.top) prompt_app.top

@@ -1,0 +1,89 @@
+//! What `--help` tells beside the words.
+
+/// What `--version` tells behind the program's name.
+pub const VERSION: &str = "1.0.0";
+
+/// Of the program: what goes in, what comes out, and the exit statuses.
+pub const PROGRAM: &str = "\
+A script says what each site does and which message arrives; `shmdbg replay`
+answers each line of it. Input comes from standard input alone:
+
+    $ printf 'sites 2 preset 1\\nload 1 0 0\\ndeliver 0\\n' | shmdbg replay
+    1 ready
+    2 fault m0>0:Ask
+    3 took m1>0:Hand
+
+`shmdbg replay --help` tells what a script may say, `shmdbg run --help` what a
+workload may, and so on for each command.
+
+Exit status:
+  0  done
+  1  the script or workload has a fault; standard error tells its line
+  2  these words were refused, or asked for help or the version; nothing was
+     read
+  3  memory, reading, writing or a thread failed
+  4  a run gave up, or its audit found a cause";
+
+/// Of a replay: the lines of a script.
+pub const REPLAY: &str = "\
+First line (N sites; segment 0 of P pages of 4096 bytes; F copies for a site):
+  sites N | sites N preset P | sites N preset P frames F
+Then lines of these, for a site S, an attachment A, an envelope K, a segment ID:
+  load S A OFFSET                    read a byte
+  store S A OFFSET BYTE              write a byte
+  deliver K | repeat K | lose K      what the network does with envelope K
+  tick S | restart S                 send again what S waits for; restart it
+  get S UID GID KEY SIZE MODE FLAGS  FLAGS is -, c (create), x (exclusive) or cx
+  attach S UID GID ID ro|rw          the reply tells the attachment, from 0
+  detach S A
+  remove S UID GID ID
+  set S UID GID ID NEWUID NEWGID MODE
+  stat S UID GID ID
+  show ID INDEX                      a page at each site, and its manager's book
+  back N                             take off the last N events
+One blank between words, a line feed after each line, 200 bytes a line at most.
+Output: the line's number, the answer, each envelope sent as mK>SITE:KIND.
+  $ printf 'sites 1 preset 1\\nstore 0 0 0 7\\nload 0 0 0\\n' | shmdbg replay
+  1 ready
+  2 stored
+  3 byte 7
+Exit status: 0 done, 1 the script has a fault, 2 these words were refused,
+3 memory, reading or writing failed.";
+
+/// Of a run: the lines of a workload.
+pub const RUN: &str = "\
+Runs each of N sites in a thread of its own, with a network that loses and
+repeats messages. First line (segment 0 of P pages of 4096 bytes):
+  preset P
+Then at most 9,999 lines of these, for a site S; one caller for each site runs
+the site's lines in their order:
+  load S OFFSET         read a byte
+  store S OFFSET BYTE   write a byte
+Nothing is printed until all lines are done, the sites have stopped, and an
+audit of their logs has found one order of all steps in which each load gives
+the byte that was stored last:
+  $ printf 'preset 1\\nstore 0 0 7\\nload 1 0\\n' | shmdbg run --sites 2 --seed 1
+  1 ready
+  2 stored
+  3 byte 7
+  audit yes
+Lines of two sites have no order between them: line 3 may also tell byte 0.
+Exit status: 0 done, 1 the workload has a fault, 2 these words were refused,
+3 memory, reading, writing or a thread failed, 4 the run gave up or its audit
+found a cause.";
+
+/// Of the prompt.
+pub const PROMPT: &str = "\
+Lines are those of a script, and
+  flight    the envelopes on their way
+  sites     the pages that were touched, at each site
+  segments  the segments, as ipcs -m lists them
+  run [N]   hand over what is on its way, the oldest first, N at most
+  undo      take the last event back
+  save FILE the script of what stands
+  help      an example of each
+  quit
+A wrong line is told, and changes nothing.
+  $ printf 'sites 2 preset 1\\nload 1 0 0\\nrun\\n' | shmdbg prompt
+Exit status: 0 done, 2 these words were refused, 3 memory, reading or writing
+failed.";

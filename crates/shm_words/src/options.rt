@@ -1,0 +1,29 @@
+//! What is written for a subcommand's options. Words that were taken have those that are required, in range.
+ghost use Rattle.std.specs.Prelude.{◌≡◌, Some, codes, IfSome};
+ghost use Rattle.clap.specs.Words.{found_of, rows_of};
+ghost use Rattle.shm_words.specs.Words.{number_at, IsAsked};
+
+use crate::spelling::is_plain_at;
+use crate::task::Task;
+use clap::ArgMatches;
+use shm_place::Sites;
+
+/// A run's options.
+pub(crate) fn run_task(found: &ArgMatches<'_>) -> Option<Task>
+    ensures { IfSome result (λ task. IsAsked (codes "run") (rows_of (found_of found.now)) task) }
+{
+    let sites = Sites::new(number(found, "sites")?).ok()?;
+    let seed = number(found, "seed")?;
+    Some(Task::Run { sites, seed })
+}
+
+/// The number that is written for an option.
+fn number(found: &ArgMatches<'_>, option: &str) -> Option<u32>
+    ensures { IfSome result (λ number. number_at option.now (rows_of (found_of found.now)) ≡ Some number) }
+{
+    if is_plain_at(found, option) {
+        found.get_one(option)
+    } else {
+        None
+    }
+}

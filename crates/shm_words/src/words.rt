@@ -1,0 +1,58 @@
+ghost use Rattle.std.specs.Prelude.{◌≡◌, [], Some, map, IfOk, IsSomeAnd};
+ghost use Rattle.clap.specs.Words.{FailsBy, found_of, rows_of, subcommand_of};
+ghost use Rattle.shm_words.specs.Commands.{app};
+ghost use Rattle.shm_words.specs.Words.{fault_in, IsAsked};
+
+use crate::commands::command;
+use crate::options::run_task;
+use crate::spelling::{has_plain_numbers, short_error, spelling_error};
+use crate::task::Task;
+use clap::{ArgMatches, Error};
+use std::alloc::{AllocError, Global};
+use std::convert::AsStr;
+
+/// Reads the words, the first of which is the program's name. A request for help is an `Err` too, whose text is the help.
+pub fn parse_words<S: AsStr>(alloc: Global, words: &[S]) -> Result<Task, Error>
+    ensures fault { FailsBy (fault_in (map S.text words.now)) result }
+    ensures task { IfOk result (λ task. IsSomeAnd (subcommand_of app (map S.text words.now)) (λ named. IsAsked named.0 named.1 task)) }
+{
+    let matches = match command(alloc)?.try_get_matches_from(words) {
+        Ok(matches) => matches,
+        Err(error) => return Err(short_error(alloc, words, error)),
+    };
+    if !has_plain_numbers(&matches) {
+        return Err(spelling_error(alloc, &matches)?);
+    }
+    match matches.subcommand() {
+        Some((name, found)) => task_of(name, found),
+        None => Err(Error::from(AllocError)),
+    }
+}
+
+/// What the words behind a subcommand's name ask for.
+fn task_of(name: &str, found: &ArgMatches<'_>) -> Result<Task, Error>
+    ensures fault { FailsBy [] result }
+    ensures task { IfOk result (IsAsked name.now (rows_of (found_of found.now))) }
+{
+    if name == "replay" {
+        return Ok(Task::Replay);
+    }
+    if name == "prompt" {
+        return Ok(Task::Prompt);
+    }
+    if name == "run" {
+        return there(run_task(found));
+    }
+    Err(Error::from(AllocError))
+}
+
+/// Words that were taken have all options that are required, in range.
+fn there(task: Option<Task>) -> Result<Task, Error>
+    ensures fault { FailsBy [] result }
+    ensures task { IfOk result (λ is. task ≡ Some is) }
+{
+    match task {
+        Some(task) => Ok(task),
+        None => Err(Error::from(AllocError)),
+    }
+}

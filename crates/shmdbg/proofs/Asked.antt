@@ -1,0 +1,64 @@
+-- What the words ask for is what their task is.
+use Rattle.std.proofs.Common.{◌≡◌, ◌∙◌, ℕ, List, ap, arith, codes, refl, slice_index, sym}
+use Rattle.std.specs.Prelude.{IsSomeAnd, None, Option, Some}
+use Rattle.clap.specs.Words.{Row, Text, subcommand_of}
+use Rattle.shm_words.specs.Commands.{app}
+use Rattle.shm_words.specs.Words.{asked_for, name_of, sites_given, IsAsked}
+use Rattle.shm_words.specs.declared.task.Task.{Task}
+use Rattle.shm_words.specs.declared.task.Task.TheVariants.{Prompt, Replay, Run}
+use Rattle.shmdbg.specs.Status.{Asks}
+
+-- the words ask for this task
+abbrev pub AskFor : List Text → Task → Type 0
+AskFor words task = IsSomeAnd (subcommand_of app words) (λ named. IsAsked named.0 named.1 task)
+
+of_named : (met : Option (Text × List Row)) (task : Task) → IsSomeAnd met (λ named. IsAsked named.0 named.1 task)
+    → (named : Text × List Row) × (met ≡ Some named) × IsAsked named.0 named.1 task
+of_named None task asked = absurd asked
+of_named (Some named) task asked = (named, refl, asked)
+
+pub name_asked : (words : List Text) (task : Task) → AskFor words task → asked_for words ≡ Some (name_of task)
+name_asked words task asked =
+    let of = of_named (subcommand_of app words) task asked in
+    rw of.1 (ap Some of.2.called)
+
+pub same_name : (words : List Text) (task : Task) (name : Text) → AskFor words task → Asks name words → name ≡ name_of task
+same_name words task name asked asks =
+    let is : Some name ≡ Some (name_of task) = sym asks.1 ∙ name_asked words task asked in
+    cc
+
+pub sites_asked : (words : List Text) (sites seed : ℕ) → AskFor words (Run sites seed) → sites_given words ≡ Some sites
+sites_asked words sites seed asked =
+    let of = of_named (subcommand_of app words) (Run sites seed) asked in
+    rw of.1 of.2.options.0
+
+-- ---- two names
+
+pub replay_is_not_run : codes "replay" ≡ codes "run" → ⊥
+replay_is_not_run e = let bad : 101 ≡ 117 = ap (λ (t : Text). slice_index t 1) e in absurd (omega (arith, bad))
+
+pub replay_is_not_prompt : codes "replay" ≡ codes "prompt" → ⊥
+replay_is_not_prompt e = let bad : 114 ≡ 112 = ap (λ (t : Text). slice_index t 0) e in absurd (omega (arith, bad))
+
+pub run_is_not_prompt : codes "run" ≡ codes "prompt" → ⊥
+run_is_not_prompt e = let bad : 114 ≡ 112 = ap (λ (t : Text). slice_index t 0) e in absurd (omega (arith, bad))
+
+-- ---- words that ask for one thing don't ask for another
+
+pub a_run_is_no_replay : (words : List Text) (sites seed : ℕ) → AskFor words (Run sites seed) → Asks (codes "replay") words → ⊥
+a_run_is_no_replay words sites seed asked asks = replay_is_not_run (same_name words (Run sites seed) (codes "replay") asked asks)
+
+pub a_run_is_no_prompt : (words : List Text) (sites seed : ℕ) → AskFor words (Run sites seed) → Asks (codes "prompt") words → ⊥
+a_run_is_no_prompt words sites seed asked asks = run_is_not_prompt (sym (same_name words (Run sites seed) (codes "prompt") asked asks))
+
+pub a_prompt_is_no_replay : (words : List Text) → AskFor words Prompt → Asks (codes "replay") words → ⊥
+a_prompt_is_no_replay words asked asks = replay_is_not_prompt (same_name words Prompt (codes "replay") asked asks)
+
+pub a_prompt_is_no_run : (words : List Text) → AskFor words Prompt → Asks (codes "run") words → ⊥
+a_prompt_is_no_run words asked asks = run_is_not_prompt (same_name words Prompt (codes "run") asked asks)
+
+pub a_replay_is_no_run : (words : List Text) → AskFor words Replay → Asks (codes "run") words → ⊥
+a_replay_is_no_run words asked asks = replay_is_not_run (sym (same_name words Replay (codes "run") asked asks))
+
+pub a_replay_is_no_prompt : (words : List Text) → AskFor words Replay → Asks (codes "prompt") words → ⊥
+a_replay_is_no_prompt words asked asks = replay_is_not_prompt (sym (same_name words Replay (codes "prompt") asked asks))

@@ -1,0 +1,66 @@
+//! A wrong line is shown below what is told of it: the line, and where it can't be read on.
+ghost use Rattle.std.specs.Prelude.{◌≡◌};
+ghost use Rattle.shmdbg.specs.Status.{fault_status, run_status};
+
+use crate::source::Recalls;
+use crate::tell;
+use shm_debug::DebugFault;
+use shm_hints::{hint_of_access_line, hint_of_first_line, hint_of_script_line, write_hint};
+use shm_place::{PAGES, Sites};
+use shm_report::ReportFault;
+use std::io::Write;
+
+/// The exit status where a replay ended by this fault, which is told, and a wrong line is shown.
+pub fn script_fault<I: Recalls, E: Write>(fault: DebugFault, reader: &I, errors: &mut E) -> u8
+    ensures status { result ≡ fault_status fault }
+{
+    let status = tell::fault(fault, errors);
+    if let DebugFault::BadLine(number) = fault {
+        show_script_line(reader.recall(number), errors);
+    }
+    status
+}
+
+/// The same of a run over so many sites.
+pub fn workload_fault<I: Recalls, E: Write>(
+    fault: ReportFault,
+    sites: Sites,
+    reader: &I,
+    errors: &mut E,
+) -> u8
+    ensures status { result ≡ run_status fault }
+{
+    let wrong = match fault {
+        ReportFault::BadLine(number) => Some(number),
+        _ => None,
+    };
+    let status = tell::run_fault(fault, errors);
+    if let Some(number) = wrong {
+        show_workload_line(sites, number, reader.recall(number), errors);
+    }
+    status
+}
+
+fn show_script_line<E: Write>(line: Option<&[u8]>, errors: &mut E) {
+    let Some(line) = line else {
+        return;
+    };
+    if let Some(hint) = hint_of_script_line(line) {
+        let _ = write_hint(errors, line, &hint);
+    }
+}
+
+/// Whether an offset is within segment 0 is not looked at.
+fn show_workload_line<E: Write>(sites: Sites, number: u64, line: Option<&[u8]>, errors: &mut E) {
+    let Some(line) = line else {
+        return;
+    };
+    let hint = if number == 1 {
+        hint_of_first_line(line)
+    } else {
+        hint_of_access_line(sites, PAGES, line)
+    };
+    if let Some(hint) = hint {
+        let _ = write_hint(errors, line, &hint);
+    }
+}

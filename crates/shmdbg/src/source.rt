@@ -1,0 +1,41 @@
+use shm_hints::Recalling;
+use std::io::{self, Read};
+
+/// A reader from which the lines can be had that it gave last, where wrong ones are to be shown.
+pub trait Recalls {
+    /// The beginning of the line of this number, from 1; `None`: it isn't to be shown, is no longer kept, or wasn't read.
+    fn recall(&self, number: u64) -> Option<&[u8]>;
+}
+
+/// The program's input.
+#[derive(Drop)]
+pub(crate) struct Source<R> {
+    reader: Recalling<R>,
+    shows: bool,
+}
+
+impl<R: Read> Source<R> {
+    /// The input of a reader, whose wrong lines are to be shown or not.
+    pub(crate) fn new(reader: R, shows: bool) -> Source<R> {
+        Source {
+            reader: Recalling::new(reader),
+            shows,
+        }
+    }
+}
+
+impl<R: Read> Read for Source<R> {
+    fn read(&mut self, buf: &mut [u8]) -> io::Result<usize> {
+        self.reader.read(buf)
+    }
+}
+
+impl<R> Recalls for Source<R> {
+    fn recall(&self, number: u64) -> Option<&[u8]> {
+        if self.shows {
+            self.reader.line(number)
+        } else {
+            None
+        }
+    }
+}

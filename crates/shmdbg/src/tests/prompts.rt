@@ -1,0 +1,12 @@
+use super::run_over;
+
+/// What is typed is answered, and a wrong line doesn't end it.
+#[test]
+fn a_dialog(rt: HostRuntime) {
+    let mut reader = b"sites 1 preset 1\nstore 0 0 0 7\nnonsense\nload 0 0 0\nquit\n".as_slice();
+    let ran = run_over(&rt, &["shmdbg", "prompt"], &mut reader);
+    assert_eq!(rt; ran.status, 0);
+    assert!(rt; ran.out.as_slice().starts_with(b"1 ready\n2 stored\n"));
+    assert!(rt; ran.out.as_slice().ends_with(b"3 byte 7\n"));
+    assert_eq!(rt; ran.errors.as_slice(), b"".as_slice());
+}
