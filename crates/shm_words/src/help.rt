@@ -76,7 +76,7 @@ found a cause.";
 pub const PROMPT: &str = "\
 Lines are those of a script, and
   flight    the envelopes on their way
-  sites     the pages that were touched, at each site
+  sites     the pages that were asked for, at each site
   segments  the segments, as ipcs -m lists them
   run [N]   hand over what is on its way, the oldest first, N at most
   undo      take the last event back
