@@ -36,8 +36,7 @@ fn count<R: Wait>(rt: &R, alloc: Global, clients: Clients<'_>, site: SiteId) -> 
     let mut receipts = Vec::new(alloc);
     for _ in 0..TIMES {
         let byte = load(rt, &client, site.0, &mut receipts)?;
-        let stored = client.store(rt, 0, site.0, byte.wrapping_add(1))?;
-        keep(&mut receipts, stored)?;
+        store(rt, &client, site.0, byte.wrapping_add(1), &mut receipts)?;
     }
     Ok(receipts)
 }
@@ -61,18 +60,42 @@ fn load<R: Wait>(
     offset: u32,
     receipts: &mut Vec<Receipt>,
 ) -> Result<u8, ClientFault> {
-    let loaded = client.load(rt, 0, offset)?;
-    keep(receipts, loaded)?;
-    match loaded.answer() {
-        Answer::Byte(byte) => Ok(byte),
-        _ => Err(ClientFault::GaveUp),
-    }
-}
-
-fn keep(receipts: &mut Vec<Receipt>, receipt: Receipt) -> Result<(), ClientFault> {
     if receipts.reserve(1).is_err() {
         return Err(ClientFault::OutOfMemory);
     }
-    receipts.push_reserved(receipt);
-    Ok(())
+    match client.load(rt, 0, offset) {
+        Ok(receipt) => {
+            let answer = receipt.answer();
+            receipts.push_reserved(receipt);
+            byte_of(answer)
+        }
+        Err(fault) => Err(fault),
+    }
+}
+
+/// Stores a byte, and keeps the receipt.
+fn store<R: Wait>(
+    rt: &R,
+    client: &Client<'_>,
+    offset: u32,
+    byte: u8,
+    receipts: &mut Vec<Receipt>,
+) -> Result<(), ClientFault> {
+    if receipts.reserve(1).is_err() {
+        return Err(ClientFault::OutOfMemory);
+    }
+    match client.store(rt, 0, offset, byte) {
+        Ok(receipt) => {
+            receipts.push_reserved(receipt);
+            Ok(())
+        }
+        Err(fault) => Err(fault),
+    }
+}
+
+fn byte_of(answer: Answer) -> Result<u8, ClientFault> {
+    match answer {
+        Answer::Byte(byte) => Ok(byte),
+        _ => Err(ClientFault::GaveUp),
+    }
 }
