@@ -1,0 +1,101 @@
+use shm_boxes::Receipt;
+use shm_cluster::{Client, ClientFault, Clients};
+use shm_model::Answer;
+use shm_place::{SiteId, Sites};
+use std::alloc::{AllocError, Global};
+use std::sync::Wait;
+use std::thread;
+use std::thread::Threads;
+
+/// How often each caller adds 1.
+const TIMES: u32 = 50;
+
+/// What a caller was told, or why it ended.
+pub type Told = Result<Vec<Receipt>, ClientFault>;
+
+/// Runs a caller for each site, in a thread of its own.
+pub fn count_all<R: Threads + Wait + Sync>(
+    rt: &R,
+    alloc: Global,
+    sites: Sites,
+    clients: Clients<'_>,
+) -> Result<Vec<Told>, AllocError> {
+    thread::map_indices(
+        rt,
+        alloc,
+        sites.count() as usize,
+        &|number| { count(rt, alloc, clients, SiteId(number as u32)) },
+    )
+}
+
+/// Adds 1 to the byte whose offset is the site's number, so many times.
+fn count<R: Wait>(rt: &R, alloc: Global, clients: Clients<'_>, site: SiteId) -> Told {
+    let Ok(client) = clients.client(site) else {
+        return Err(ClientFault::GaveUp);
+    };
+    let mut receipts = Vec::new(alloc);
+    for _ in 0..TIMES {
+        let byte = load(rt, &client, site.0, &mut receipts)?;
+        store(rt, &client, site.0, byte.wrapping_add(1), &mut receipts)?;
+    }
+    Ok(receipts)
+}
+
+/// Loads each caller's byte, at site 0.
+pub fn load_all<R: Wait>(rt: &R, alloc: Global, sites: Sites, clients: Clients<'_>) -> Told {
+    let Ok(client) = clients.client(SiteId(0)) else {
+        return Err(ClientFault::GaveUp);
+    };
+    let mut receipts = Vec::new(alloc);
+    for offset in 0..sites.count() {
+        load(rt, &client, offset, &mut receipts)?;
+    }
+    Ok(receipts)
+}
+
+/// Loads a byte, and keeps the receipt.
+fn load<R: Wait>(
+    rt: &R,
+    client: &Client<'_>,
+    offset: u32,
+    receipts: &mut Vec<Receipt>,
+) -> Result<u8, ClientFault> {
+    if receipts.reserve(1).is_err() {
+        return Err(ClientFault::OutOfMemory);
+    }
+    match client.load(rt, 0, offset) {
+        Ok(receipt) => {
+            let answer = receipt.answer();
+            receipts.push_reserved(receipt);
+            byte_of(answer)
+        }
+        Err(fault) => Err(fault),
+    }
+}
+
+/// Stores a byte, and keeps the receipt.
+fn store<R: Wait>(
+    rt: &R,
+    client: &Client<'_>,
+    offset: u32,
+    byte: u8,
+    receipts: &mut Vec<Receipt>,
+) -> Result<(), ClientFault> {
+    if receipts.reserve(1).is_err() {
+        return Err(ClientFault::OutOfMemory);
+    }
+    match client.store(rt, 0, offset, byte) {
+        Ok(receipt) => {
+            receipts.push_reserved(receipt);
+            Ok(())
+        }
+        Err(fault) => Err(fault),
+    }
+}
+
+fn byte_of(answer: Answer) -> Result<u8, ClientFault> {
+    match answer {
+        Answer::Byte(byte) => Ok(byte),
+        _ => Err(ClientFault::GaveUp),
+    }
+}

@@ -1,0 +1,66 @@
+//! Three callers that share a counter page. Each runs in a thread of its own and at a site of its own, and adds 1 to a byte of its own
+//! again and again; so the page goes from site to site. When all have ended the bytes are loaded, and what all callers were told is
+//! audited.
+#![tactic(auto)]
+
+mod auditing;
+mod counting;
+
+use anyhow::{Result, bail};
+use auditing::audit;
+use counting::{Told, count_all, load_all};
+use shm_boxes::Receipt;
+use shm_cluster::{Cluster, OpenGate};
+use shm_model::Answer;
+use shm_place::Sites;
+use std::io::Write;
+
+/// From this the network draws what it loses and repeats.
+const SEED: u64 = 11;
+
+fn main(rt: HostRuntime) -> Result<()> {
+    let alloc = rt.alloc();
+    let Ok(sites) = Sites::new(3) else {
+        bail!("there are 1 to 16 sites");
+    };
+    let cluster = match Cluster::start(&rt, alloc, sites, 1, SEED, OpenGate) {
+        Ok(cluster) => cluster,
+        Err(fault) => bail!("no cluster: {fault:?}"),
+    };
+    let counted = count_all(&rt, alloc, sites, cluster.clients());
+    let loaded = load_all(&rt, alloc, sites, cluster.clients());
+    let logs = cluster.stop(&rt)?;
+    let mut callers = Vec::new(alloc);
+    for told in counted? {
+        callers.push(receipts(told)?)?;
+    }
+    let loaded = receipts(loaded)?;
+    let mut out = rt.stdout();
+    print(&mut out, &loaded)?;
+    callers.push(loaded)?;
+    audit(alloc, sites, &logs, &callers)?;
+    writeln!(out, "audit yes")?;
+    Ok(())
+}
+
+/// What a caller was told, if it came to its end.
+fn receipts(told: Told) -> Result<Vec<Receipt>> {
+    match told {
+        Ok(receipts) => Ok(receipts),
+        Err(fault) => bail!("a caller ended: {fault:?}"),
+    }
+}
+
+/// Prints the bytes that these receipts tell of, and their sum.
+fn print<W: Write>(out: &mut W, loaded: &[Receipt]) -> Result<()> {
+    let mut sum = 0u64;
+    for receipt in loaded {
+        let Answer::Byte(byte) = receipt.answer() else {
+            bail!("no byte was loaded");
+        };
+        writeln!(out, "a caller added {byte}")?;
+        sum = sum.saturating_add(u64::from(byte));
+    }
+    writeln!(out, "the sum is {sum}")?;
+    Ok(())
+}
