@@ -1,4 +1,5 @@
 use super::{Ran, expect, run_over};
+use std::rt::Files;
 use std::sync::Wait;
 use std::test::Fail;
 use std::thread::Threads;
