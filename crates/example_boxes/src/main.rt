@@ -6,8 +6,8 @@ mod network;
 mod simulation;
 
 use anyhow::{Result, bail};
-use shm_boxes::{Input, Stamp};
 use shm_place::{SiteId, Sites};
+use shm_sites::{Input, Stamp};
 use simulation::Simulation;
 use std::io::Write;
 

@@ -1,6 +1,6 @@
 use anyhow::Result;
-use shm_boxes::{Envelope, Stamp};
 use shm_parts::Message;
+use shm_sites::{Envelope, Stamp};
 use std::alloc::Global;
 use std::collections::VecDeque;
 

@@ -1,14 +1,13 @@
 ghost use Rattle.std.specs.Prelude.{◌∷◌, [], IfOk, map};
-ghost use Rattle.shm_audit.specs.Audit.{IsAudited};
-ghost use Rattle.shm_audit.specs.Callers.{receipts_of};
-ghost use Rattle.shm_audit.specs.Logs.{logs_of};
+ghost use Rattle.shm_sites.specs.Auditing.Audit.{IsAudited};
+ghost use Rattle.shm_sites.specs.Auditing.Callers.{receipts_of};
+ghost use Rattle.shm_sites.specs.Auditing.Logs.{logs_of};
 ghost use Rattle.shm_model.specs.World.{Preset};
 
 use crate::network::{Network, kind_of};
 use anyhow::{Result, bail};
-use shm_audit::{Event, audit_complete, logs_match};
-use shm_boxes::{Input, Receipt, SiteBox, SiteLog, Stamp};
 use shm_place::{SiteId, Sites};
+use shm_sites::{Event, Input, Receipt, SiteBox, SiteLog, Stamp, audit_complete, logs_match};
 use std::alloc::Global;
 use std::io::Write;
 

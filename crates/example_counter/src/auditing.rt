@@ -1,15 +1,14 @@
 ghost use Rattle.std.specs.Prelude.{List, OnOk};
-ghost use Rattle.shm_audit.specs.Audit.{IsAudited};
-ghost use Rattle.shm_audit.specs.Callers.{callers_of};
-ghost use Rattle.shm_audit.specs.Complete.{AllTold};
-ghost use Rattle.shm_audit.specs.Logs.{logs_of};
+ghost use Rattle.shm_sites.specs.Auditing.Audit.{IsAudited};
+ghost use Rattle.shm_sites.specs.Auditing.Callers.{callers_of};
+ghost use Rattle.shm_sites.specs.Auditing.Complete.{AllTold};
+ghost use Rattle.shm_sites.specs.Auditing.Logs.{logs_of};
 ghost use Rattle.shm_model.specs.World.{Preset};
 ghost use Rattle.shm_model.specs.declared.event.Event.{Event};
 
 use anyhow::{Result, bail};
-use shm_audit::{audit_complete, logs_match};
-use shm_boxes::{Receipt, SiteLog};
 use shm_place::Sites;
+use shm_sites::{Receipt, SiteLog, audit_complete, logs_match};
 use std::alloc::Global;
 
 /// Where it answers Ok, there is one order of all steps in which memory is one plain memory and each receipt holds, and each

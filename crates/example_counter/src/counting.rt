@@ -1,7 +1,6 @@
-use shm_boxes::Receipt;
-use shm_cluster::{Client, ClientFault, Clients};
 use shm_model::Answer;
 use shm_place::{SiteId, Sites};
+use shm_sites::{Client, ClientFault, Clients, Receipt};
 use std::alloc::{AllocError, Global};
 use std::sync::Wait;
 use std::thread;

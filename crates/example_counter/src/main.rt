@@ -9,10 +9,9 @@ mod counting;
 use anyhow::{Result, bail};
 use auditing::audit;
 use counting::{Told, count_all, load_all};
-use shm_boxes::Receipt;
-use shm_cluster::{Cluster, OpenGate};
 use shm_model::Answer;
 use shm_place::Sites;
+use shm_sites::{Cluster, OpenGate, Receipt};
 use std::io::Write;
 
 /// From this the network draws what it loses and repeats.

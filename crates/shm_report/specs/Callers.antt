@@ -2,8 +2,8 @@
 use Rattle.std.specs.Prelude.{◌≡◌, ℕ, ◌<◌, ◌==◌, List, [], ◌∷◌, ◌++◌, Result, Vec, IfErr, IfOk, MatchBool, length, slice_index_or}
 use Rattle.std.specs.List.{AllZip, filter}
 use Rattle.shm_model.specs.Message.{Input, Load as LoadInput, Store as StoreInput}
-use Rattle.shm_boxes.specs.declared.receipt.Receipt.{Receipt}
-use Rattle.shm_cluster.specs.Client.{IsServed, TellsOf}
+use Rattle.shm_sites.specs.declared.boxes.receipt.Receipt.{Receipt}
+use Rattle.shm_sites.specs.Cluster.Client.{IsServed, TellsOf}
 use Rattle.shm_report.specs.declared.run_fault.CallFault.{CallFault}
 use Rattle.shm_lines.specs.Access.{site_of}
 use Rattle.shm_lines.specs.declared.access.Access.{Access}

@@ -1,13 +1,13 @@
 -- Why nothing was reported, where the workload is wrong or an audit found a cause.
 use Rattle.std.specs.Prelude.{◌≡◌, ℕ, ◌+◌, Bool, true, false, List, length, min, IfSome, Err, Ok, Option, None, Some, Vec}
 use Rattle.std.specs.declared.alloc.Global.{Global}
-use Rattle.shm_audit.specs.Callers.{callers_of}
-use Rattle.shm_audit.specs.Complete.{IsFirstCauseOfAll}
-use Rattle.shm_audit.specs.declared.audit_fault.AuditFault.{AuditFault}
-use Rattle.shm_boxes.specs.declared.receipt.Receipt.{Receipt}
-use Rattle.shm_cluster.specs.declared.client_fault.ClientFault.{ClientFault}
-use Rattle.shm_cluster.specs.declared.client_fault.ClientFault.TheVariants as client
-use Rattle.shm_cluster.specs.declared.start_fault.StartFault.TheVariants as start
+use Rattle.shm_sites.specs.Auditing.Callers.{callers_of}
+use Rattle.shm_sites.specs.Auditing.Complete.{IsFirstCauseOfAll}
+use Rattle.shm_sites.specs.declared.auditing.audit_fault.AuditFault.{AuditFault}
+use Rattle.shm_sites.specs.declared.boxes.receipt.Receipt.{Receipt}
+use Rattle.shm_sites.specs.declared.cluster.client_fault.ClientFault.{ClientFault}
+use Rattle.shm_sites.specs.declared.cluster.client_fault.ClientFault.TheVariants as client
+use Rattle.shm_sites.specs.declared.cluster.start_fault.StartFault.TheVariants as start
 use Rattle.shm_model.specs.Log.{Logged}
 use Rattle.shm_report.specs.Callers.{AllServed}
 use Rattle.shm_report.specs.declared.run_fault.RunFault.{RunFault}

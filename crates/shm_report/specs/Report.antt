@@ -2,11 +2,11 @@
 use Rattle.std.specs.Prelude.{◌≡◌, ℕ, ◌+◌, List, [], ◌∷◌, ◌++◌, codes, length, take, IfSome, Ok, Option, Some, Vec, slice_get}
 use Rattle.std.specs.Io.KnownBytes.{Appends}
 use Rattle.std.specs.declared.alloc.Global.{Global}
-use Rattle.shm_audit.specs.Audit.{IsAudited}
-use Rattle.shm_audit.specs.Callers.{callers_of}
-use Rattle.shm_audit.specs.Complete.{AllTold}
-use Rattle.shm_boxes.specs.Receipt.{receipt_of}
-use Rattle.shm_boxes.specs.declared.receipt.Receipt.{Receipt}
+use Rattle.shm_sites.specs.Auditing.Audit.{IsAudited}
+use Rattle.shm_sites.specs.Auditing.Callers.{callers_of}
+use Rattle.shm_sites.specs.Auditing.Complete.{AllTold}
+use Rattle.shm_sites.specs.Boxes.Receipt.{receipt_of}
+use Rattle.shm_sites.specs.declared.boxes.receipt.Receipt.{Receipt}
 use Rattle.shm_model.specs.declared.event.Event.{Event}
 use Rattle.shm_model.specs.Log.{Logged}
 use Rattle.shm_model.specs.World.{Preset}

@@ -1,9 +1,9 @@
 //! The audit of what was run.
 ghost use Rattle.std.specs.Prelude.{◌≡◌, ◌≢◌, List, None, IfErr, IfSome, OnOk};
-ghost use Rattle.shm_audit.specs.Audit.{IsAudited};
-ghost use Rattle.shm_audit.specs.Callers.{callers_of};
-ghost use Rattle.shm_audit.specs.Complete.{AllTold, IsFirstCauseOfAll};
-ghost use Rattle.shm_audit.specs.Logs.{logs_of, AreLogsOf};
+ghost use Rattle.shm_sites.specs.Auditing.Audit.{IsAudited};
+ghost use Rattle.shm_sites.specs.Auditing.Callers.{callers_of};
+ghost use Rattle.shm_sites.specs.Auditing.Complete.{AllTold, IsFirstCauseOfAll};
+ghost use Rattle.shm_sites.specs.Auditing.Logs.{logs_of, AreLogsOf};
 ghost use Rattle.shm_model.specs.World.{Preset};
 ghost use Rattle.shm_model.specs.declared.event.Event.{Event};
 ghost use Rattle.shm_report.specs.Causes.{audit_cause, input_cause};
@@ -11,8 +11,8 @@ ghost use Rattle.shm_report.specs.declared.report_fault.ReportFault.TheVariants 
 
 use crate::Ran;
 use crate::report_fault::ReportFault;
-use shm_audit::audit_complete;
 use shm_place::Sites;
+use shm_sites::audit_complete;
 use std::alloc::Global;
 
 /// Whether the logs and receipts are those of so many sites that shared one plain memory, and the receipts are all; if not, the first

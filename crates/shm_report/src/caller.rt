@@ -1,12 +1,11 @@
 //! The caller of one site.
 ghost use Rattle.std.specs.Prelude.{◌≡◌, ◌<◌, length, IfErr, IfOk, OnOk};
-ghost use Rattle.shm_cluster.specs.Client.{IsServed, TellsOf};
+ghost use Rattle.shm_sites.specs.Cluster.Client.{IsServed, TellsOf};
 ghost use Rattle.shm_report.specs.Callers.{Adds, ServesAll, input_of};
 
 use crate::run_fault::CallFault;
-use shm_boxes::Receipt;
-use shm_cluster::{Client, ClientFault};
 use shm_lines::Access;
+use shm_sites::{Client, ClientFault, Receipt};
 use std::alloc::Global;
 use std::sync::Wait;
 

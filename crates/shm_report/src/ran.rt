@@ -1,4 +1,4 @@
-use shm_boxes::{Receipt, SiteLog};
+use shm_sites::{Receipt, SiteLog};
 
 /// What came of a workload.
 #[derive(Drop)]

@@ -1,12 +1,11 @@
 ghost use Rattle.std.specs.Prelude.{◌≡◌, ◌≢◌, None, Some, false};
-ghost use Rattle.shm_audit.specs.declared.audit_fault.AuditFault.TheVariants as audit;
+ghost use Rattle.shm_sites.specs.declared.auditing.audit_fault.AuditFault.TheVariants as audit;
 ghost use Rattle.shm_report.specs.declared.report_fault.ReportFault.TheVariants as cause;
 ghost use Rattle.shm_lines.specs.declared.workload_fault.WorkloadFault.TheVariants as workload;
 
 use crate::RunFault;
-use shm_audit::AuditFault;
-use shm_cluster::{ClientFault, StartFault};
 use shm_lines::WorkloadFault;
+use shm_sites::{AuditFault, ClientFault, StartFault};
 use thiserror::Error;
 
 /// Why nothing was reported. Lines count from 1.

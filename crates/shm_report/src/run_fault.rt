@@ -1,5 +1,5 @@
-use shm_cluster::{ClientFault, StartFault};
 use shm_model::refusal::{self, Numbered};
+use shm_sites::{ClientFault, StartFault};
 
 /// Why an access of a workload was not made.
 #[derive(Clone, Copy, Debug, PartialEq, Eq)]
@@ -23,7 +23,7 @@ pub enum RunFault {
 }
 
 impl Numbered for CallFault {
-    ghost use Rattle.shm_cluster.specs.Faults.{client_fault_number};
+    ghost use Rattle.shm_sites.specs.Cluster.Faults.{client_fault_number};
 
     ghost number_of = { λ call. client_fault_number call.fault };
 

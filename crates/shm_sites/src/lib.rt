@@ -1,12 +1,16 @@
-//! Sites that run, in one place for their callers: a site in its box, which logs every step that it makes; sites in threads, with locks
-//! and channels; and the audit of what was logged and of what callers were told.
+//! Sites that run: a site in its box, which logs every step that it makes (`boxes`); the audit of what was logged and of what callers
+//! were told (`auditing`); and sites in threads, with locks and channels (`cluster`).
 //!
-//! Nothing is added here. Each item, with its contract, is that of the crate which has it: shm_boxes, shm_cluster, shm_audit.
+//! Neither an audit nor a cluster needs the other; both need the boxes.
 #![tactic(auto)]
 
-pub use shm_audit::{AuditFault, Event, audit, audit_complete, logs_match};
-pub use shm_boxes::{
-    Answer, Asked, BoxFault, Envelope, Input, Receipt, SiteBox, SiteLog, Stamp, Step,
+mod auditing;
+mod boxes;
+mod cluster;
+
+pub use auditing::{
+    AuditFault, Event, StepName, audit, audit_complete, events, laws, logs_match, merge,
 };
-pub use shm_cluster::{Client, ClientFault, Clients, Cluster, Gate, OpenGate, StartFault};
+pub use boxes::{Answer, Asked, BoxFault, Envelope, Input, Receipt, SiteBox, SiteLog, Stamp, Step};
+pub use cluster::{Client, ClientFault, Clients, Cluster, Gate, OpenGate, StartFault};
 pub use shm_place::{NoSuchSite, SiteId, Sites};

@@ -2,11 +2,12 @@
 //!
 //! Whoever holds logs drops them by name: a drop at the end of its scope is written out there, and takes far longer to prove.
 use super::expect;
-use shm_audit::{AuditFault, Event, audit, logs_match};
-use shm_boxes::{Envelope, Input, Receipt, SiteBox, SiteLog, Stamp};
 use shm_model::Kind;
 use shm_parts::Message;
 use shm_place::{PageId, SegId, SiteId, Sites};
+use shm_sites::{
+    AuditFault, Envelope, Event, Input, Receipt, SiteBox, SiteLog, Stamp, audit, logs_match,
+};
 use std::alloc::{AllocError, Allocator};
 use std::test::Fail;
 

@@ -1,9 +1,9 @@
 //! That a run draws from its seed: what becomes of the first envelope that a site's thread sends.
-use shm_boxes::{Input, SiteLog};
 use shm_lines::parse_workload;
 use shm_parts::Message;
 use shm_place::Sites;
 use shm_report::run_workload;
+use shm_sites::{Input, SiteLog};
 use std::alloc::Global;
 use std::sync::Wait;
 use std::test::Fail;

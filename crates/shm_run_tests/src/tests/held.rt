@@ -1,9 +1,7 @@
 //! A run in which one site's thread is held for a while, whose logs and receipts stand before the audit.
-use shm_audit::{audit_complete, logs_match};
-use shm_boxes::{Receipt, SiteLog};
-use shm_cluster::{Client, ClientFault, Cluster, Gate};
 use shm_model::Answer;
 use shm_place::{SiteId, Sites};
+use shm_sites::{Client, ClientFault, Cluster, Gate, Receipt, SiteLog, audit_complete, logs_match};
 use std::alloc::{AllocError, Global};
 use std::sync::atomic::{AtomicBool, Ordering};
 use std::sync::{Arc, Wait};

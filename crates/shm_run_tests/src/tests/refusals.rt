@@ -1,8 +1,5 @@
 //! The one table of refusals: what each fault is told by.
 use shm_attach::{BeginFault, Denied};
-use shm_audit::AuditFault;
-use shm_boxes::BoxFault;
-use shm_cluster::{ClientFault, StartFault};
 use shm_debug::{BackFault, DebugFault};
 use shm_keys::GetFault;
 use shm_lines::WorkloadFault;
@@ -11,6 +8,7 @@ use shm_number::UsedUp;
 use shm_place::{NoSuchSite, SiteId};
 use shm_report::{CallFault, ReportFault, RunFault};
 use shm_site::StepFault;
+use shm_sites::{AuditFault, BoxFault, ClientFault, StartFault};
 use std::alloc::AllocError;
 
 const SITE: SiteId = SiteId(3);

@@ -3,9 +3,8 @@ use super::{
     EVENTS, Given, PAGES, SEVEN, Told, Verdict, alone, are_events, audited, chosen, expect,
     one_log, told, two_logs,
 };
-use shm_audit::{AuditFault, audit_complete, logs_match};
-use shm_boxes::{SiteLog, Stamp};
 use shm_place::{SiteId, Sites};
+use shm_sites::{AuditFault, SiteLog, Stamp, audit_complete, logs_match};
 use std::alloc::{AllocError, Allocator};
 use std::test::Fail;
 

@@ -1,8 +1,7 @@
 //! What the audit says of deliveries between two sites.
 use super::{Given, are_events, audited_alone, expect, fault, two_logs};
-use shm_audit::{AuditFault, Event};
-use shm_boxes::Stamp;
 use shm_place::SiteId;
+use shm_sites::{AuditFault, Event, Stamp};
 use std::alloc::{AllocError, Allocator};
 use std::test::Fail;
 

@@ -1,7 +1,7 @@
 -- What was audited is what is told.
 use Rattle.std.proofs.Common.{◌∙◌, ◌++◌, ap, subst}
 use Rattle.std.proofs.lemmas.List.{length-map}
-use Rattle.shm_boxes.specs.SiteLog.{steps_of}
+use Rattle.shm_sites.specs.Boxes.SiteLog.{steps_of}
 use Rattle.shm_report.specs.Report.{audit_yes, TellsLines}
 use Rattle.shm_report.proofs.Reports.{on_ok}
 use Rattle.shm_report.proofs.reporting.tell.Goals as goal

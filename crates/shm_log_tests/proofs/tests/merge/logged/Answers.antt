@@ -1,9 +1,9 @@
 use Rattle.std.proofs.Common.{List, subst, sym}
 use Rattle.std.specs.List.{All}
-use Rattle.shm_boxes.specs.SiteLog.{steps_of}
-use Rattle.shm_boxes.specs.declared.site_log.SiteLog.{SiteLog}
+use Rattle.shm_sites.specs.Boxes.SiteLog.{steps_of}
+use Rattle.shm_sites.specs.declared.boxes.site_log.SiteLog.{SiteLog}
 use Rattle.shm_model.specs.Log.{Logged, Matches}
-use Rattle.shm_audit.specs.Logs.{StampsRise}
+use Rattle.shm_sites.specs.Auditing.Logs.{StampsRise}
 use Rattle.shm_log_tests.proofs.tests.merge.logged.Goals as goal
 
 pub returns-clause-rises : goal.returns-clause-rises

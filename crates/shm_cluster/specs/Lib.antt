@@ -1,6 +1,0 @@
-pub mod Faults
-pub mod Posted
-pub mod Fate
-pub mod Carried
-pub mod Client
-pub mod Cluster

@@ -1,0 +1,3 @@
+pub mod Audits
+pub mod Pushes
+pub mod Carried

@@ -1,0 +1,6 @@
+-- There is a post for each number so far.
+use Rattle.std.proofs.Common.{◌≡◌, vec_len}
+use Rattle.shm_sites.proofs.cluster.opening.open.Given as goal
+
+abbrev pub invariant-sites : goal.invariant-sites
+invariant-sites g l = vec_len l.posts ≡ l.number

@@ -1,0 +1,6 @@
+pub mod Faults
+pub mod Posted
+pub mod Fate
+pub mod Carried
+pub mod Client
+pub mod Sites

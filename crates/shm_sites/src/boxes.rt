@@ -1,0 +1,22 @@
+//! What running sites log, without threads: each site in a box that logs every step that it makes, and receipts that tell of steps.
+//!
+//! After Lamport 1978 (logical clocks): a step's stamp is above those of its site's steps before it, and above that of the step which
+//! sent what it is handed.
+mod asked;
+mod box_fault;
+mod copying;
+mod receipt;
+mod site_box;
+mod site_log;
+mod stamp;
+mod step;
+mod taking;
+
+pub use asked::Asked;
+pub use box_fault::BoxFault;
+pub use receipt::Receipt;
+pub use shm_site::{Answer, Envelope, Input};
+pub use site_box::SiteBox;
+pub use site_log::SiteLog;
+pub use stamp::Stamp;
+pub use step::Step;

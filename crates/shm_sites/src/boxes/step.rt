@@ -1,0 +1,17 @@
+use crate::boxes::stamp::Stamp;
+use shm_model::Answer;
+use shm_site::{Envelope, Input};
+use std::alloc::{Allocator, Global};
+
+/// One step of a site, as its log has it.
+#[derive(Drop)]
+pub struct Step<A: Allocator + Copy = Global> {
+    pub input: Input<A>,
+    /// Above those of the site's steps before it, and above that of the step which sent what was handed over.
+    pub stamp: u64,
+    /// Where the envelope that was handed over was sent.
+    pub source: Stamp,
+    pub answer: Answer,
+    /// What the step sent, the first envelope first.
+    pub sent: Vec<Envelope<A>, A>,
+}

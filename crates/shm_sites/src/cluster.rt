@@ -1,0 +1,70 @@
+//! Sites that run in threads: each site in its box under a lock of its own, with a channel that brings it what other sites send, and
+//! clients that load and store in the threads of their callers.
+//!
+//! A step is made under the site's own lock, and what it sends is sent after the lock was let go. So sites run at once. The network
+//! between their threads loses and repeats envelopes, by numbers that are drawn; no contract rests on what the channels bring.
+mod access;
+mod carrying;
+mod client;
+mod client_fault;
+mod clients;
+mod copies;
+mod fate;
+mod gate;
+mod mail;
+mod opening;
+mod posted;
+mod shared;
+mod start_fault;
+mod starting;
+mod stopping;
+mod work;
+
+pub use client::Client;
+pub use client_fault::ClientFault;
+pub use clients::Clients;
+pub use gate::{Gate, OpenGate};
+use shared::Shared;
+use shm_place::{NoSuchSite, SiteId};
+pub use start_fault::StartFault;
+use std::alloc::{AllocError, Allocator, Global};
+use std::sync::{Arc, Wait};
+use std::thread::JoinHandle;
+
+#[cfg(test)]
+mod tests;
+
+/// Sites that run, each in its thread. Whoever drops a cluster lets its threads run on: `stop` ends them.
+#[derive(Drop)]
+pub struct Cluster<A: Allocator + Copy = Global> {
+    pub(crate) shared: Arc<Shared<A>, A>,
+    pub(crate) threads: Vec<JoinHandle<()>, A>,
+}
+
+impl<A: Allocator + Copy> Cluster<A> {
+    ghost use Rattle.std.specs.Prelude.{◌≡◌, ◌<◌, ◌↔◌, IfOk, IsOk, vec_len};
+    ghost use Rattle.shm_sites.specs.Cluster.Sites.{sites_of};
+
+    /// A client of this site. It fails where no site has the number.
+    pub fn client(&self, site: SiteId) -> Result<Client<'_, A>, NoSuchSite>
+        ensures known { IsOk result ↔ site < sites_of self.now }
+        ensures site { IfOk result (λ client. client.site ≡ site) }
+    {
+        self.clients().client(site)
+    }
+
+    /// The clients of all sites.
+    pub fn clients(&self) -> Clients<'_, A>
+        ensures { vec_len result.shared.now.posts ≡ sites_of self.now }
+    {
+        Clients {
+            shared: &self.shared,
+        }
+    }
+
+    /// Puts a tick into each site's channel, and waits for none of them: each site's thread then sends again what may be lost. It fails
+    /// where a channel had no memory; the other sites have their ticks.
+    pub fn tick_all<R: Wait>(&self, rt: &R) -> Result<(), AllocError> {
+        self.shared.tick_all(rt)
+    }
+}

@@ -1,0 +1,130 @@
+//! Loads and stores at one site, and how often an access is tried.
+ghost use Rattle.std.specs.Prelude.{◌≡◌, IfOk};
+ghost use Rattle.shm_model.specs.Message.{Load, Store};
+ghost use Rattle.shm_sites.specs.Boxes.Receipt.{access_of};
+ghost use Rattle.shm_sites.specs.Cluster.Client.{waits as is_waiting, IsServed, TellsOf};
+
+use crate::boxes::{Asked, Receipt};
+use crate::cluster::access::access;
+use crate::cluster::client_fault::ClientFault;
+use crate::cluster::copies::posted_by;
+use crate::cluster::shared::{Post, Shared};
+use shm_model::Answer;
+use shm_place::SiteId;
+use std::alloc::{Allocator, Global};
+use std::sync::Wait;
+use std::thread;
+
+/// How often an access is tried.
+const TURNS: u32 = 1_000_000;
+
+/// After so many turns each site is told to send again what may be lost.
+const TURNS_OF_A_TICK: u32 = 64;
+
+/// Loads and stores at one site, in the caller's thread and through the attachment of the number `at`; number 0 is there from the start.
+/// Each call waits for the site's lock. Each receipt tells of the step that the call made, or the last of them.
+#[derive(Clone, Copy)]
+pub struct Client<'a, A: Allocator + Copy = Global> {
+    pub(crate) shared: &'a Shared<A>,
+    pub(crate) post: &'a Post<A>,
+    pub(crate) site: SiteId,
+}
+
+impl<'a, A: Allocator + Copy> Client<'a, A> {
+    /// The site.
+    pub fn site(&self) -> SiteId
+        ensures { result ≡ self.now.site }
+    {
+        self.site
+    }
+
+    /// One load. The site may answer that it has no right to the page; it has then asked for it.
+    pub fn try_load<R: Wait>(&self, rt: &R, at: u32, offset: u32) -> Result<Receipt, ClientFault>
+        ensures { IfOk result (TellsOf self.now.site (Load at offset)) }
+    {
+        self.step(rt, Asked::Load { at, offset })
+    }
+
+    /// One store. The site may answer that it has no right to the page; it has then asked for it.
+    pub fn try_store<R: Wait>(
+        &self,
+        rt: &R,
+        at: u32,
+        offset: u32,
+        byte: u8,
+    ) -> Result<Receipt, ClientFault>
+        ensures { IfOk result (TellsOf self.now.site (Store at offset byte)) }
+    {
+        self.step(rt, Asked::Store { at, offset, byte })
+    }
+
+    /// Loads until the site has the right to, or answers that the load is wrong. After every 64th turn all sites are told of a tick,
+    /// since a message may be lost. `GaveUp` comes after a million turns.
+    pub fn load<R: Wait>(&self, rt: &R, at: u32, offset: u32) -> Result<Receipt, ClientFault>
+        ensures tells { IfOk result (TellsOf self.now.site (Load at offset)) }
+        ensures served { IfOk result IsServed }
+    {
+        self.serve(rt, Asked::Load { at, offset })
+    }
+
+    /// The same for a store.
+    pub fn store<R: Wait>(
+        &self,
+        rt: &R,
+        at: u32,
+        offset: u32,
+        byte: u8,
+    ) -> Result<Receipt, ClientFault>
+        ensures tells { IfOk result (TellsOf self.now.site (Store at offset byte)) }
+        ensures served { IfOk result IsServed }
+    {
+        self.serve(rt, Asked::Store { at, offset, byte })
+    }
+
+    fn serve<R: Wait>(&self, rt: &R, asked: Asked) -> Result<Receipt, ClientFault>
+        ensures tells { IfOk result (TellsOf self.now.site (access_of asked)) }
+        ensures served { IfOk result IsServed }
+    {
+        'turns: for turn in 1..=TURNS {
+            match self.step(rt, asked) {
+                Ok(receipt) if !waits(receipt.answer()) => return Ok(receipt),
+                Ok(_) => self.pause(rt, turn),
+                Err(fault) => return Err(fault),
+            }
+        }
+        Err(ClientFault::GaveUp)
+    }
+
+    /// Lets other threads run. A tick that was refused is passed over: there will be more.
+    fn pause<R: Wait>(&self, rt: &R, turn: u32) {
+        if turn % TURNS_OF_A_TICK == 0 {
+            let _ = self.shared.tick_all(rt);
+        }
+        thread::yield_now();
+    }
+
+    /// One step under the site's lock, which is let go before anything is sent. Where memory is refused for what it sent, nothing is.
+    fn step<R: Wait>(&self, rt: &R, asked: Asked) -> Result<Receipt, ClientFault>
+        ensures { IfOk result (TellsOf self.now.site (access_of asked)) }
+    {
+        let mut held = self.post.site.lock(rt);
+        match access(&mut held, self.site, asked) {
+            Ok(receipt) => {
+                let posted = posted_by(self.shared.alloc, held.log(), receipt.index());
+                drop(held);
+                if let Ok(posted) = posted {
+                    self.shared.send_all(rt, posted);
+                }
+                Ok(receipt)
+            }
+            Err(fault) => Err(fault),
+        }
+    }
+}
+
+/// Whether the site waits for the page.
+fn waits(answer: Answer) -> bool
+    ensures { result ≡ is_waiting answer }
+{
+    matches!(answer, Answer::Fault | Answer::Waiting)
+}

@@ -1,0 +1,26 @@
+use shm_model::refusal::{self, Numbered};
+
+/// Why a client gave no receipt.
+#[derive(Clone, Copy, Debug, PartialEq, Eq)]
+pub enum ClientFault {
+    /// Memory was refused.
+    OutOfMemory,
+    /// The access was tried as often as it is, and the site still waits for the page.
+    GaveUp,
+    /// The site's clock has no further stamp.
+    ClockEnd,
+}
+
+impl Numbered for ClientFault {
+    ghost use Rattle.shm_sites.specs.Cluster.Faults.{client_fault_number};
+
+    ghost number_of = { client_fault_number };
+
+    fn number(&self) -> u8 {
+        match self {
+            ClientFault::OutOfMemory => refusal::OUT_OF_MEMORY,
+            ClientFault::GaveUp => refusal::GAVE_UP,
+            ClientFault::ClockEnd => refusal::CLOCK_END,
+        }
+    }
+}

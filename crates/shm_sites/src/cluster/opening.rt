@@ -1,0 +1,55 @@
+//! The sites of a cluster before their threads run.
+ghost use Rattle.std.specs.Prelude.{◌≡◌, ◌≤◌, ◌<◌, IfOk, vec_len};
+
+use crate::boxes::SiteBox;
+use crate::cluster::shared::Post;
+use crate::cluster::work::Desk;
+use shm_place::{PAGES, SiteId, Sites};
+use std::alloc::{AllocError, Allocator, Global};
+use std::sync::Mutex;
+
+/// What is shared of each site and what its own thread is given, each at the site's number.
+#[derive(Drop)]
+pub(crate) struct Opened<A: Allocator + Copy = Global> {
+    pub(crate) posts: Vec<Post<A>, A>,
+    pub(crate) desks: Vec<Desk<A>, A>,
+}
+
+/// So many sites, where segment 0 has so many pages.
+pub(crate) fn open<A: Allocator + Copy>(
+    alloc: A,
+    sites: Sites,
+    pages: u32,
+) -> Result<Opened<A>, AllocError>
+    requires from { 1 ≤ pages }
+    requires to { pages ≤ PAGES }
+    ensures { IfOk result (λ opened. vec_len opened.posts ≡ sites) }
+{
+    let mut posts = Vec::new(alloc);
+    let mut desks = Vec::new(alloc);
+    'sites: for number in 0..sites.count() {
+        let (post, desk) = open_site(alloc, sites, SiteId(number), pages)?;
+        posts.push(post)?;
+        desks.push(desk)?;
+    }
+    Ok(Opened { posts, desks })
+}
+
+fn open_site<A: Allocator + Copy>(
+    alloc: A,
+    sites: Sites,
+    site: SiteId,
+    pages: u32,
+) -> Result<(Post<A>, Desk<A>), AllocError>
+    requires below { site < sites }
+    requires from { 1 ≤ pages }
+    requires to { pages ≤ PAGES }
+{
+    let (sender, mail) = crossbeam_channel::unbounded(alloc)?;
+    let new = SiteBox::new(alloc, sites, site, pages)?;
+    let post = Post {
+        site: Mutex::new(new),
+        mail: sender,
+    };
+    Ok((post, Desk { site, mail }))
+}

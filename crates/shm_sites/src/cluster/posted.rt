@@ -1,0 +1,37 @@
+use crate::boxes::{Envelope, Stamp};
+use shm_place::SiteId;
+use std::alloc::{AllocError, Allocator, Global};
+
+/// An envelope on its way, and where it was sent.
+#[derive(Drop)]
+pub(crate) struct Posted<A: Allocator + Copy = Global> {
+    pub(crate) envelope: Envelope<A>,
+    pub(crate) source: Stamp,
+}
+
+impl<A: Allocator + Copy> Posted<A> {
+    ghost use Rattle.std.specs.Prelude.{◌≡◌, IfOk};
+    ghost use Rattle.shm_parts.specs.Message.{envelope_of};
+
+    /// An equal envelope that was sent there.
+    pub(crate) fn of(envelope: &Envelope<A>, source: Stamp) -> Result<Posted<A>, AllocError>
+        ensures { IfOk result (λ copy. (envelope_of copy.envelope ≡ envelope_of envelope.now) × (copy.source ≡ source)) }
+    {
+        let envelope = envelope.copy()?;
+        Ok(Posted { envelope, source })
+    }
+
+    /// The site that it is for.
+    pub(crate) fn to(&self) -> SiteId
+        ensures { result ≡ self.now.envelope.to }
+    {
+        self.envelope.to
+    }
+
+    /// An equal one, for an envelope that comes twice.
+    pub(crate) fn copy(&self) -> Result<Posted<A>, AllocError>
+        ensures { IfOk result (λ copy. (envelope_of copy.envelope ≡ envelope_of self.now.envelope) × (copy.source ≡ self.now.source)) }
+    {
+        Posted::of(&self.envelope, self.source)
+    }
+}

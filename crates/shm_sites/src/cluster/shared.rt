@@ -1,0 +1,60 @@
+//! What the threads and the clients of a cluster share.
+ghost use Rattle.std.specs.Slice.{IsItemAt};
+
+use crate::boxes::SiteBox;
+use crate::cluster::mail::Mail;
+use crate::cluster::posted::Posted;
+use crossbeam_channel::Sender;
+use shm_place::SiteId;
+use std::alloc::{AllocError, Allocator, Global};
+use std::sync::{Mutex, Wait};
+
+/// A site in its box, under its lock, and the channel of its thread.
+#[derive(Drop)]
+pub(crate) struct Post<A: Allocator + Copy = Global> {
+    pub(crate) site: Mutex<SiteBox<A>>,
+    pub(crate) mail: Sender<Mail<A>, A>,
+}
+
+/// All sites, each at its number.
+#[derive(Drop)]
+pub(crate) struct Shared<A: Allocator + Copy = Global> {
+    pub(crate) posts: Vec<Post<A>, A>,
+    pub(crate) alloc: A,
+}
+
+impl<A: Allocator + Copy> Shared<A> {
+    /// What is shared of the site of this number, where there is one.
+    pub(crate) fn post_of(&self, site: SiteId) -> Option<&Post<A>>
+        ensures { IsItemAt self.now.posts.items site result }
+    {
+        self.posts.get(site.0 as usize)
+    }
+
+    /// Puts each envelope into the channel of the site that it is for.
+    pub(crate) fn send_all<R: Wait>(&self, rt: &R, all: Vec<Posted<A>, A>) {
+        'envelopes: for posted in all {
+            self.send(rt, posted);
+        }
+    }
+
+    /// An envelope for no site, or for which there is no memory, is lost.
+    fn send<R: Wait>(&self, rt: &R, posted: Posted<A>) {
+        let Some(post) = self.post_of(posted.to()) else {
+            return;
+        };
+        let _ = post.mail.send(rt, Mail::Envelope(posted));
+    }
+
+    /// Puts a tick into each site's channel, and waits for none of them. It fails where a channel had no memory; the other sites have
+    /// their ticks.
+    pub(crate) fn tick_all<R: Wait>(&self, rt: &R) -> Result<(), AllocError> {
+        let mut refused = false;
+        'sites: for post in &self.posts {
+            if post.mail.send(rt, Mail::Tick).is_err() {
+                refused = true;
+            }
+        }
+        if refused { Err(AllocError) } else { Ok(()) }
+    }
+}

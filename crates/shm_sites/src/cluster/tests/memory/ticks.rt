@@ -1,0 +1,77 @@
+//! Ticks for which a channel has no memory.
+use super::{HEAP, Still, filled_but, opened_in};
+use crate::cluster::mail::Mail;
+use linked_list_allocator::LocalHeap;
+use std::alloc::{AllocError, Global};
+use std::sync::Wait;
+use std::test::Fail;
+
+/// How many ticks each of three sites has.
+type Ticks = [usize; 3];
+
+/// The site whose channel has no memory, the ticks that all have then, and those after another tick with memory.
+const TICKS: [(usize, Ticks, Ticks); 3] = [
+    (0, [0, 1, 1], [1, 2, 2]),
+    (1, [1, 0, 1], [2, 1, 2]),
+    (2, [1, 1, 0], [2, 2, 1]),
+];
+
+/// One site's channel has no memory: that is told, and the other sites have their ticks. With memory all have one.
+#[test]
+fn the_other_sites_have_their_ticks(rt: HostRuntime) -> Result<(), Fail> {
+    for (refused, without, with) in TICKS {
+        let (first, second) = ticked(&rt, rt.alloc(), refused)?;
+        assert_eq!(rt; first, (false, without));
+        assert_eq!(rt; second, (true, with));
+    }
+    Ok(())
+}
+
+/// Whether all sites could be told of a tick, and the ticks that they then have: where this site's channel has no memory, and then once
+/// more with memory.
+fn ticked<R: Wait>(
+    rt: &R,
+    alloc: Global,
+    refused: usize,
+) -> Result<((bool, Ticks), (bool, Ticks)), Fail> {
+    let heap = LocalHeap::new(alloc, HEAP)?;
+    let still = opened_in(&heap, 3)?;
+    make_room(rt, &still, refused);
+    let first = ticked_without_memory(rt, alloc, &heap, &still);
+    let second = (still.cluster.tick_all(rt).is_ok(), ticks(&still));
+    drop(still);
+    Ok((first?, second))
+}
+
+fn ticked_without_memory<R: Wait>(
+    rt: &R,
+    alloc: Global,
+    heap: &LocalHeap,
+    still: &Still<'_>,
+) -> Result<(bool, Ticks), AllocError> {
+    let blocks = filled_but(alloc, heap, 0)?;
+    let told = still.cluster.tick_all(rt).is_ok();
+    drop(blocks);
+    Ok((told, ticks(still)))
+}
+
+/// Each other channel has brought a message, and keeps the room that it had for it.
+fn make_room<R: Wait>(rt: &R, still: &Still<'_>, refused: usize) {
+    for (number, desk) in still.desks.iter().enumerate() {
+        if number == refused {
+            continue;
+        }
+        if let Some(post) = still.cluster.shared.posts.get(number) {
+            let _ = post.mail.send(rt, Mail::Tick);
+        }
+        let _ = desk.mail.try_recv(rt);
+    }
+}
+
+fn ticks(still: &Still<'_>) -> Ticks {
+    let mut ticks = [0; 3];
+    for (ticks, desk) in ticks.iter_mut().zip(still.desks.iter()) {
+        *ticks = desk.mail.len();
+    }
+    ticks
+}
