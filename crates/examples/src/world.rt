@@ -1,25 +1,24 @@
 //! A world of two sites that is stepped by hand. A byte that is stored at one site is loaded at another, which has no right to the page,
 //! and each envelope that this takes is delivered by its number. Then an envelope is lost.
-#![tactic(auto)]
-
 mod story;
 
 use anyhow::{Result, bail};
 use shm_place::{SiteId, Sites};
 use shm_world::{Event, World};
+use std::alloc::Global;
 use std::io::Write;
 use story::Story;
 
-fn main(rt: HostRuntime) -> Result<()> {
+/// Tells the story of this world, an event a line.
+pub fn run<W: Write>(alloc: Global, out: &mut W) -> Result<()> {
     let Ok(sites) = Sites::new(2) else {
         bail!("a world has 1 to 16 sites");
     };
     // Segment 0 has one page, and each site has attached it. Site 0 is the page's manager, and owns it at first.
-    let world = World::preset(rt.alloc(), sites, 1)?;
-    let mut story = Story::new(rt.alloc(), world);
-    let mut out = rt.stdout();
-    read_fault(&mut story, &mut out)?;
-    lost_ask(&mut story, &mut out)?;
+    let world = World::preset(alloc, sites, 1)?;
+    let mut story = Story::new(alloc, world);
+    read_fault(&mut story, out)?;
+    lost_ask(&mut story, out)?;
     drop(story);
     Ok(())
 }

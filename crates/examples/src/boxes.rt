@@ -1,7 +1,5 @@
 //! Two sites in boxes, over a network of one's own: a queue that loses the first page that is sent, and hands the next one over twice.
 //! Ticks heal it. At the end the boxes' logs are audited.
-#![tactic(auto)]
-
 mod network;
 mod simulation;
 
@@ -9,15 +7,16 @@ use anyhow::{Result, bail};
 use shm_place::{SiteId, Sites};
 use shm_sites::{Input, Stamp};
 use simulation::Simulation;
+use std::alloc::Global;
 use std::io::Write;
 
-fn main(rt: HostRuntime) -> Result<()> {
+/// Prints a line for each step of the two sites, and what the audit says.
+pub fn run<W: Write>(alloc: Global, out: &mut W) -> Result<()> {
     let Ok(sites) = Sites::new(2) else {
         bail!("there are 1 to 16 sites");
     };
-    let mut simulation = Simulation::new(rt.alloc(), sites)?;
-    let mut out = rt.stdout();
-    lost_page(&mut simulation, &mut out)?;
+    let mut simulation = Simulation::new(alloc, sites)?;
+    lost_page(&mut simulation, out)?;
     let events = simulation.audit()?;
     writeln!(out, "audit yes, of {} steps", events.len())?;
     drop(events);

@@ -4,7 +4,7 @@ ghost use Rattle.shm_sites.specs.Auditing.Callers.{receipts_of};
 ghost use Rattle.shm_sites.specs.Auditing.Logs.{logs_of};
 ghost use Rattle.shm_model.specs.World.{Preset};
 
-use crate::network::{Network, kind_of};
+use crate::boxes::network::{Network, kind_of};
 use anyhow::{Result, bail};
 use shm_place::{SiteId, Sites};
 use shm_sites::{Event, Input, Receipt, SiteBox, SiteLog, Stamp, audit_complete, logs_match};

@@ -1,8 +1,6 @@
 //! Three callers that share a counter page. Each runs in a thread of its own and at a site of its own, and adds 1 to a byte of its own
 //! again and again; so the page goes from site to site. When all have ended the bytes are loaded, and what all callers were told is
 //! audited.
-#![tactic(auto)]
-
 mod auditing;
 mod counting;
 
@@ -12,30 +10,36 @@ use counting::{Told, count_all, load_all};
 use shm_model::Answer;
 use shm_place::Sites;
 use shm_sites::{Cluster, OpenGate, Receipt};
+use std::alloc::Global;
 use std::io::Write;
+use std::sync::Wait;
+use std::thread::Threads;
 
 /// From this the network draws what it loses and repeats.
 const SEED: u64 = 11;
 
-fn main(rt: HostRuntime) -> Result<()> {
-    let alloc = rt.alloc();
+/// Lets the callers count, prints what they came to, and audits it.
+pub fn run<R, W>(rt: &R, alloc: Global, out: &mut W) -> Result<()>
+where
+    R: Threads + Wait + Copy + Send + Sync + 'static,
+    W: Write,
+{
     let Ok(sites) = Sites::new(3) else {
         bail!("there are 1 to 16 sites");
     };
-    let cluster = match Cluster::start(&rt, alloc, sites, 1, SEED, OpenGate) {
+    let cluster = match Cluster::start(rt, alloc, sites, 1, SEED, OpenGate) {
         Ok(cluster) => cluster,
         Err(fault) => bail!("no cluster: {fault:?}"),
     };
-    let counted = count_all(&rt, alloc, sites, cluster.clients());
-    let loaded = load_all(&rt, alloc, sites, cluster.clients());
-    let logs = cluster.stop(&rt)?;
+    let counted = count_all(rt, alloc, sites, cluster.clients());
+    let loaded = load_all(rt, alloc, sites, cluster.clients());
+    let logs = cluster.stop(rt)?;
     let mut callers = Vec::new(alloc);
     for told in counted? {
         callers.push(receipts(told)?)?;
     }
     let loaded = receipts(loaded)?;
-    let mut out = rt.stdout();
-    print(&mut out, &loaded)?;
+    print(out, &loaded)?;
     callers.push(loaded)?;
     audit(alloc, sites, &logs, &callers)?;
     writeln!(out, "audit yes")?;
