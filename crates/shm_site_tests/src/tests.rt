@@ -1,8 +1,10 @@
 mod attach;
+mod audit;
 mod boxes;
 mod full_heap;
 mod keys;
 mod manager;
+mod merge;
 mod network;
 mod page;
 mod read;

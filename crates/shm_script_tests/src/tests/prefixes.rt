@@ -1,6 +1,6 @@
 use super::{is_line_feed, replayed};
+use crate::tests::scripts::{Script, going_back, losses, pages, segments};
 use shm_debug::DebugFault;
-use shm_scripts::{Script, going_back, losses, pages, segments};
 use std::alloc::{AllocError, Global};
 use std::process::Abort;
 use std::test::Fail;

@@ -4,9 +4,12 @@ use std::alloc::Global;
 use std::process::Abort;
 
 /// Scripts whose first line is bad.
-const FIRST: [&[u8]; 13] = [
+const FIRST: [&[u8]; 16] = [
+    b"",
     b"\n",
     b"sites 0\n",
+    b"sites 17\n",
+    b"sites 17",
     b"sites 16 preset 257\n",
     b"sites 1 preset 0\n",
     b"sites 1 preset 1 frames 0\n",
@@ -21,13 +24,14 @@ const FIRST: [&[u8]; 13] = [
 ];
 
 /// Scripts whose second line is bad.
-const SECOND: [&[u8]; 12] = [
+const SECOND: [&[u8]; 13] = [
     b"sites 1 preset 1\n\n",
     b"sites 1 preset 1\nload 0 0 0 \n",
     b"sites 1 preset 1\n load 0 0 0\n",
     b"sites 1 preset 1\nload 0 0 0\r\n",
     b"sites 1 preset 1\n\xff\n",
     b"sites 1 preset 1\n\x00",
+    b"sites 1 preset 1\nload 0 0 0",
     b"sites 1 preset 1\nsites 1 preset 1\n",
     b"sites 1 preset 1\nback\n",
     b"sites 1 preset 1\nback 01\n",

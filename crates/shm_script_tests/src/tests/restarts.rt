@@ -1,8 +1,8 @@
-use super::is_line_feed;
+use super::{is_line_feed, opened};
+use crate::tests::scripts::{Script, losses, pages};
 use shm_debug::{Line, Session, parse_line};
 use shm_model::State;
-use shm_place::{PageId, SegId, SiteId, Sites};
-use shm_scripts::{Script, losses, pages};
+use shm_place::{PageId, SegId, SiteId};
 use shm_world::{Answer, Event, World};
 use std::alloc::Global;
 use std::process::Abort;
@@ -125,12 +125,6 @@ fn expect_one_owner_shown(rt: &impl Abort, session: &Session) -> Result<(), Fail
     Ok(())
 }
 
-/// A session of so many sites, with segment 0 of one page.
-fn opened(alloc: Global, sites: u32) -> Result<Session, Fail> {
-    let sites = Sites::new(sites).ok().ok_or("1 to 16 sites")?;
-    Ok(Session::new(alloc, sites, Some(1), None)?)
-}
-
 /// After so many lines of a script a site restarts: all is delivered, and all sites agree.
 fn heals(
     rt: &impl Abort,
@@ -140,7 +134,7 @@ fn heals(
     lines: usize,
     site: u32,
 ) -> Result<(), Fail> {
-    let mut session = opened(alloc, sites)?;
+    let mut session = opened(alloc, sites, true)?;
     let byte = run_first(rt, &mut session, script, lines)?;
     apply(rt, &mut session, &Event::Restart { site: SiteId(site) })?;
     settle(rt, &mut session, sites)?;

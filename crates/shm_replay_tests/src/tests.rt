@@ -1,5 +1,0 @@
-mod debug;
-mod full_heap;
-mod lines;
-mod session;
-mod text;
