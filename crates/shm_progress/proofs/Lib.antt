@@ -11,3 +11,5 @@ pub mod Transfer
 pub mod Request
 pub mod RoundExists
 pub mod ServedLater
+pub mod Gone
+pub mod Rest

@@ -6,3 +6,6 @@ pub mod Queues
 pub mod Transactions
 pub mod Rounds
 pub mod Requests
+pub mod Schedule
+pub mod Schedules
+pub mod Rest

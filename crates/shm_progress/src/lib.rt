@@ -1,5 +1,6 @@
 //! Progress: deliveries end, calls and purges are served, transactions end, and faults are served. Theorems about Leddwyfan's
-//! definitions, each the contract of a function without parameters and with an empty body.
+//! definitions, each the contract of a function without parameters and with an empty body; ten fair schedules that the definitions
+//! compute; and, of the code, a world that is brought to rest.
 #![tactic(auto)]
 
 mod deliveries;
@@ -7,7 +8,9 @@ mod purging;
 mod queues;
 mod requests;
 mod rounds;
+mod schedules;
 mod serving;
+mod settling;
 mod transactions;
 
 pub use deliveries::{
@@ -20,5 +23,10 @@ pub use rounds::{
     faults_are_served, nothing_stops_a_site_for_good, rounds_exist, rounds_settle_calls_and_purges,
     rounds_settle_requests, rounds_settle_transactions, second_rounds_settle_requests,
 };
+pub use schedules::{
+    eighth_schedule, fifth_schedule, first_schedule, fourth_schedule, ninth_schedule,
+    second_schedule, seventh_schedule, sixth_schedule, tenth_schedule, third_schedule,
+};
 pub use serving::{calls_end, calls_go_on};
+pub use settling::{Settled, deliver_all, oldest_from, settle};
 pub use transactions::{transactions_end, transactions_go_on};

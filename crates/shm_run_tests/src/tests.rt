@@ -3,4 +3,5 @@ mod held;
 mod refusals;
 mod report;
 mod running;
+mod settling;
 mod workload;
