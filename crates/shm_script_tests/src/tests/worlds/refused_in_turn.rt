@@ -132,10 +132,22 @@ fn the_ends_of_pages(rt: HostRuntime) -> Result<(), Fail> {
 }
 
 #[test]
-fn messages_that_are_lost_late_or_repeated(rt: HostRuntime) -> Result<(), Fail> {
-    refuse_all(&rt, rt.alloc(), 2, 1, &losses::LOST_PAGE)?;
-    refuse_all(&rt, rt.alloc(), 2, 1, &losses::REPEATED_HAND)?;
-    refuse_all(&rt, rt.alloc(), 2, 1, &losses::REPEATED_PAGE)?;
+fn a_page_that_is_lost(rt: HostRuntime) -> Result<(), Fail> {
+    refuse_all(&rt, rt.alloc(), 2, 1, &losses::LOST_PAGE)
+}
+
+#[test]
+fn a_hand_that_comes_twice(rt: HostRuntime) -> Result<(), Fail> {
+    refuse_all(&rt, rt.alloc(), 2, 1, &losses::REPEATED_HAND)
+}
+
+#[test]
+fn a_page_that_comes_twice(rt: HostRuntime) -> Result<(), Fail> {
+    refuse_all(&rt, rt.alloc(), 2, 1, &losses::REPEATED_PAGE)
+}
+
+#[test]
+fn a_copy_that_comes_late(rt: HostRuntime) -> Result<(), Fail> {
     refuse_all(&rt, rt.alloc(), 2, 1, &losses::STALE_PAGE_AFTER_CLEAR)
 }
 
