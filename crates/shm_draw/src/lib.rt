@@ -14,6 +14,8 @@ mod picture;
 mod row;
 mod script;
 mod style;
+#[cfg(test)]
+mod tests;
 mod ways;
 mod word;
 
