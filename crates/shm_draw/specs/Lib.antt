@@ -2,3 +2,4 @@ pub mod Picture
 pub mod Svg
 pub mod Drawing
 pub mod Drawn
+pub mod Arrows

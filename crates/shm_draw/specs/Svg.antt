@@ -1,14 +1,18 @@
 -- The text of a picture (W3C, Scalable Vector Graphics 1.1): shapes and texts at places that are counted in sites and in events.
 use Rattle.std.specs.Prelude.{ℕ, ◌+◌, ◌*◌, ◌==◌, Bool, true, false, if◌then◌else◌, nat_lt, List, [], ◌∷◌, ◌++◌, codes, length, Option, Some, None}
 use Rattle.std.specs.Fmt.{decimal}
-use Rattle.std.specs.List.{flat_map, range_with_len}
+use Rattle.std.specs.List.{flat_map, list_any, range_with_len}
 use Rattle.shm_place.specs.declared.page.PageId.{PageId}
 use Rattle.shm_model.specs.declared.answer.Answer.{Answer}
 use Rattle.shm_model.specs.declared.answer.Answer.TheVariants.{Took}
 use Rattle.shm_model.specs.declared.answer.Shown.{Shown}
 use Rattle.shm_model.specs.declared.answer.State.{State}
 use Rattle.shm_model.specs.declared.answer.State.TheVariants as state
+use Rattle.shm_model.specs.declared.call.Op.TheVariants.{Stat}
+use Rattle.shm_model.specs.declared.call.Request.{Request}
+use Rattle.shm_model.specs.declared.call.Request.TheVariants.{Op as OpRequest}
 use Rattle.shm_model.specs.declared.event.Event.{Event}
+use Rattle.shm_model.specs.declared.event.Event.TheVariants.{Begin}
 use Rattle.shm_model.specs.World.{World, next}
 use Rattle.shm_lines.specs.declared.line.Line.TheVariants as line
 use Rattle.shm_lines.specs.Spelling.{spelling}
@@ -31,7 +35,7 @@ use Rattle.shm_draw.specs.Picture.{Scene, first_scene, scene_after, last_scene, 
 
 -- the middle of a site's lifeline
 abbrev pub x_of : ℕ → ℕ
-x_of site = 220 + 110 * site
+x_of site = 270 + 110 * site
 
 -- the row of an event; row 0 is that of the world before the first
 abbrev pub y_of : ℕ → ℕ
@@ -39,7 +43,7 @@ y_of number = 78 + 22 * number
 
 -- an arrow ends at its receiver's lifeline; where the envelope is lost, halfway
 abbrev pub tip_of : ℕ → ℕ → End → ℕ
-tip_of from to Lost = 220 + 55 * (from + to)
+tip_of from to Lost = 270 + 55 * (from + to)
 tip_of from to HandedOver = x_of to
 tip_of from to Repeated = x_of to
 tip_of from to OnItsWay = x_of to
@@ -128,7 +132,7 @@ label_text way end y =
 abbrev pub aside_text : Way → End → ℕ → List ℕ
 aside_text way end y =
     if nat_lt way.to way.from
-    then codes "</text><text class='t' x='" ++ (decimal (tip_of way.from way.to end) ++ (codes "' y='" ++ (decimal y ++ codes "' dy='4' dx='10'>")))
+    then codes "</text><text class='t' x='" ++ (decimal (tip_of way.from way.to end) ++ (codes "' y='" ++ (decimal y ++ codes "' dy='4' dx='24'>")))
     else []
 
 abbrev pub is_took : Answer → Bool
@@ -159,7 +163,7 @@ abbrev pub symbol_text : ℕ → ℕ → Symbol → Answer → List ℕ
 symbol_text number site symbol answer = symbol_head number site symbol ++ (told_text answer ++ codes "</text>\n")
 
 abbrev pub nowhere_head : ℕ → List ℕ
-nowhere_head number = codes "<text class='t' x='208' y='" ++ (decimal (y_of number) ++ codes "' dy='4' text-anchor='end'>")
+nowhere_head number = codes "<text class='t' x='258' y='" ++ (decimal (y_of number) ++ codes "' dy='4' text-anchor='end'>")
 
 -- where there is no such envelope, what was answered, left of the lifelines
 abbrev pub nowhere_text : ℕ → Answer → List ℕ
@@ -193,15 +197,27 @@ abbrev pub flying_text : ℕ → ℕ → List Way → List ℕ
 flying_text last further [] = []
 flying_text last further (way ∷ ways) = arrow_text way OnItsWay (y_of (last + further)) Took ++ flying_text last (further + 1) ways
 
-abbrev pub width_of : ℕ → ℕ
-width_of sites = x_of sites + 340
+abbrev pub is_stat : Request → Bool
+is_stat (OpRequest (Stat _ _)) = true
+is_stat _ = false
+
+abbrev pub asks_stat : Event → Bool
+asks_stat (Begin _ request) = is_stat request
+asks_stat _ = false
+
+-- how far what is told right of the last lifeline goes; the reply to a stat is long
+abbrev pub room_of : List Event → ℕ
+room_of events = if list_any asks_stat events then 820 else 340
+
+abbrev pub width_of : ℕ → ℕ → ℕ
+width_of sites room = x_of sites + room
 
 abbrev pub height_of : ℕ → ℕ → ℕ
 height_of last further = y_of (last + further) + 44
 
-abbrev pub head_text : ℕ → ℕ → ℕ → List ℕ
-head_text sites last further =
-    codes "<svg xmlns='http://www.w3.org/2000/svg' width='" ++ (decimal (width_of sites) ++ (codes "' height='" ++ (decimal (height_of last further) ++ codes "'>\n")))
+abbrev pub head_text : ℕ → ℕ → ℕ → ℕ → List ℕ
+head_text sites room last further =
+    codes "<svg xmlns='http://www.w3.org/2000/svg' width='" ++ (decimal (width_of sites room) ++ (codes "' height='" ++ (decimal (height_of last further) ++ codes "'>\n")))
 
 abbrev pub body_text : Option PageId → World → List Event → List Way → List ℕ
 body_text page w events ways =
@@ -215,4 +231,4 @@ ways_after page w events = let s = last_scene (first_scene w) events in on_their
 abbrev pub svg_text : Option PageId → World → List Event → List ℕ
 svg_text page w events =
     let ways = ways_after page w events in
-    head_text w.count (length events) (length ways) ++ (STYLE.now ++ (body_text page w events ways ++ codes "</svg>\n"))
+    head_text w.count (room_of events) (length events) (length ways) ++ (STYLE.now ++ (body_text page w events ways ++ codes "</svg>\n"))

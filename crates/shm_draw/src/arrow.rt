@@ -82,7 +82,7 @@ fn tell_aside<A: Allocator + Copy>(
     if way.to < way.from {
         return write!(
             out,
-            "</text><text class='t' x='{tip}' y='{y}' dy='4' dx='10'>"
+            "</text><text class='t' x='{tip}' y='{y}' dy='4' dx='24'>"
         );
     }
     Ok(())

@@ -9,7 +9,7 @@ use shm_place::Sites;
 pub(crate) fn x_of(site: u32) -> u64
     ensures { result ≡ Svg.x_of site }
 {
-    220 + 110 * site as u64
+    270 + 110 * site as u64
 }
 
 /// The row of the event of this number. Row 0 is that of the world before the first event.
@@ -31,16 +31,16 @@ pub(crate) fn tip_of(from: u32, to: u32, end: End) -> u64
     ensures { result ≡ Svg.tip_of from to end }
 {
     match end {
-        End::Lost => 220 + 55 * (from as u64 + to as u64),
+        End::Lost => 270 + 55 * (from as u64 + to as u64),
         _ => x_of(to),
     }
 }
 
-/// How wide the picture is: the lifelines, and room for what stands right of the last.
-pub(crate) fn width_of(sites: Sites) -> u64
-    ensures { result ≡ Svg.width_of sites }
+/// How wide the picture is: the lifelines, and so much room for what stands right of the last.
+pub(crate) fn width_of(sites: Sites, room: u32) -> u64
+    ensures { result ≡ Svg.width_of sites room }
 {
-    x_of(sites.count()) + 340
+    x_of(sites.count()) + room as u64
 }
 
 /// How high the picture is: so many rows below that of the event of this number, and a margin.

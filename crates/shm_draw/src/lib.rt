@@ -11,6 +11,7 @@ mod on_their_way;
 mod origins;
 mod page;
 mod picture;
+mod room;
 mod row;
 mod script;
 mod style;

@@ -13,6 +13,7 @@ use crate::marking::mark_of;
 use crate::on_their_way::{on_their_way, tell_on_their_way};
 use crate::origins::note_origins;
 use crate::page::lane_page;
+use crate::room::room_of;
 use crate::row::{tell_line, tell_mark};
 use crate::style::STYLE;
 use shm_model::Event;
@@ -40,7 +41,7 @@ pub fn picture_of<A: Allocator + Copy>(
     let ways = on_their_way(alloc, &world, origins.as_slice(), &page)?;
     tell_on_their_way(&mut body, last, ways.as_slice())?;
     let mut text = String::new(alloc);
-    tell_head(&mut text, sites, last, ways.len() as u64)?;
+    tell_head(&mut text, sites, room_of(events), last, ways.len() as u64)?;
     text.push_str(STYLE)?;
     text.push_str(body.as_str())?;
     text.push_str("</svg>\n")?;
@@ -51,12 +52,13 @@ pub fn picture_of<A: Allocator + Copy>(
 fn tell_head<A: Allocator + Copy>(
     out: &mut String<A>,
     sites: Sites,
+    room: u32,
     last: u64,
     further: u64,
 ) -> Result<(), AllocError>
-    ensures { OnOk result (string_bytes out.new ≡ string_bytes out.old ++ Svg.head_text sites last further) }
+    ensures { OnOk result (string_bytes out.new ≡ string_bytes out.old ++ Svg.head_text sites room last further) }
 {
-    let width = width_of(sites);
+    let width = width_of(sites, room);
     let height = height_of(last, further);
     write!(
         out,

@@ -96,7 +96,7 @@ fn tell_nowhere_head<A: Allocator + Copy>(
     let y = y_of(number);
     write!(
         out,
-        "<text class='t' x='208' y='{y}' dy='4' text-anchor='end'>"
+        "<text class='t' x='258' y='{y}' dy='4' text-anchor='end'>"
     )
 }
 
