@@ -151,7 +151,7 @@ call_again-from sites me (Some o) = (refl, tt)
 own-tick : (sites me : ℕ) (site : Site) → Own me (step sites me site Tick)
 own-tick sites me site =
     let orders_from = from-flat_map me (orders_again me site)
-        (λ page. from-map me (order_envelope me page (site.books page).number) (order-from me page (site.books page).number) (orders (site.books page))) site.booked in
+    (λ page. from-map me (order_envelope me page (site.books page).number) (order-from me page (site.books page).number) (orders (site.books page))) site.booked in
     let purges_from = from-flat_map me (purges_again sites me site) (λ g. from-map me (purge_envelope me g.id) (λ to. refl) _) site.table in
     from-append me _ _ (from-map me (ask_again sites me) (λ p. refl) site.pending)
     (from-append me _ _ orders_from (from-append me _ _ (call_again-from sites me site.outstanding) purges_from))
