@@ -103,11 +103,11 @@ traced_next o events s e t =
                 (sent_then o events e (slice_index s.origins k) k sent.from (t.origins k sent p.1))
             | inr p ↦
                 let above : length s.origins ≤ k = omega (arith, p.0, t.counted) in
-                let high : k < length (next s.world e).world.sent = omega (arith, p.1.0, many) in
+                let high : k < length (next s.world e).world.sent = omega (arith, p.1, many) in
                 let less : k - length s.origins < d = omega (arith, high, above) in
                 let same : slice_index now k ≡ s.number =
                 get_or-append_right s.origins rep (length s.origins) k 0 refl above ∙ get_or-replicate d (k - length s.origins) s.number 0 less in
-                let from : sent.from ≡ n.done.site = from-at n.done.site m.more (k - length s.world.sent) sent m.own p.1.1 in
+                let from : sent.from ≡ n.done.site = from-at n.done.site m.more (k - length s.world.sent) sent m.own p.2 in
                 subst (λ i. SentBy o (events ++ e ∷ []) i k sent.from) (sym same)
                 (sent_now o events e s.world s.number k sent.from t.world t.number p.0 high from)
           ];
@@ -225,8 +225,8 @@ in_a_row P f all (k ∷ ks) x h = elim (Contains-append_cases (f k) (flat_map f 
 
 one_there : {X : Type 0} (o : Option X) (x : X) → Contains (option_to_list o) x → o ≡ Some x
 one_there None x h = absurd (none_there x h)
-one_there (Some y) x (zero, (within, same)) = ap Some same
-one_there (Some y) x (suc k, (within, same)) = let no : suc k < 1 = within in absurd (omega (arith, no))
+one_there (Some y) x (zero, within, same) = ap Some same
+one_there (Some y) x (suc k, within, same) = let no : suc k < 1 = within in absurd (omega (arith, no))
 
 pub flying_is : (page : Option PageId) (o : Opening) (events : List Event) (s : Scene) (w : Way) → Traced o events s → Contains (on_their_way page s.world s.origins) w → IsWayOf o events w
 flying_is page o events s w t h =

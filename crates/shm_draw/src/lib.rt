@@ -5,6 +5,7 @@
 mod arrow;
 mod geometry;
 mod lanes;
+pub mod laws;
 mod mark;
 mod marking;
 mod on_their_way;
