@@ -15,9 +15,14 @@ build:
 	@echo "The proved program is $(PROGRAM)/out/shmdbg. It replays a script from standard input:"
 	@echo "    $(PROGRAM)/out/shmdbg replay < examples/two-sites.shm"
 
+# Draws a script: with the page that it shows, where it shows one alone.
+DRAW = pages=$$(sed -n 's/^show //p' "$$script" | sort -u); \
+	case $$pages in '' | *' '*' '*) set -- ;; *) set -- --page $$pages ;; esac; \
+	$(PROGRAM)/out/shmdbg draw "$$@" < "$$script"
+
 # Draws each script of examples/ anew. Needs the program that `make build` leaves.
 pictures:
-	@for script in examples/*.shm; do $(PROGRAM)/out/shmdbg draw < "$$script" > "$${script%.shm}.svg" || exit 1; done
+	@for script in examples/*.shm; do $(DRAW) > "$${script%.shm}.svg" || exit 1; done
 
 # The scripts of examples/ and their outputs stand in a test as well, since a test reads no file outside its crate. Fails where the two
 # differ, or where a picture isn't what the program that `make build` leaves draws.
@@ -29,7 +34,7 @@ examples:
 		cat "$$script" "examples/$$name.out" | cmp - /tmp/copy.$$$$ || exit 1; rm /tmp/copy.$$$$; echo "$$name: equal"; \
 	done
 	@for script in examples/*.shm; do \
-		picture=$${script%.shm}.svg; $(PROGRAM)/out/shmdbg draw < "$$script" | cmp -s - "$$picture" || { echo "$$picture: stale, or no program"; exit 1; }; \
+		picture=$${script%.shm}.svg; $(DRAW) | cmp -s - "$$picture" || { echo "$$picture: stale, or there is no program"; exit 1; }; \
 	done; echo "pictures: as drawn"
 
 # Compares the shells' completions and the manual page with what the program's help names. Needs the program that `make build` leaves.

@@ -175,10 +175,10 @@ mark_text number (Arrow way end) answer = arrow_text way end (y_of number) answe
 mark_text number Hidden answer = []
 mark_text number Nowhere answer = nowhere_text number answer
 
--- the event's number, and the event as a script spells it
+-- the event's line in the script of what stands, whose first line is the opening, and the event as a script spells it
 abbrev pub line_text : ℕ → Event → List ℕ
 line_text number event =
-    codes "<text class='l' x='8' y='" ++ (decimal (y_of number) ++ (codes "' dy='4'>" ++ (decimal number ++ (codes " " ++ (spelling (line.Event event) ++ codes "</text>\n")))))
+    codes "<text class='l' x='8' y='" ++ (decimal (y_of number) ++ (codes "' dy='4'>" ++ (decimal (number + 1) ++ (codes " " ++ (spelling (line.Event event) ++ codes "</text>\n")))))
 
 -- the lifelines after the event, the event, what it draws
 abbrev pub row_text : Option PageId → Scene → Event → List ℕ

@@ -9,7 +9,7 @@ use shm_lines::Line;
 use shm_model::{Answer, Event};
 use std::alloc::{AllocError, Allocator};
 
-/// Tells the event's number, and the event as a script spells it.
+/// Tells the event's line in the script of what stands, whose first line is the opening, and the event as a script spells it.
 pub(crate) fn tell_line<A: Allocator + Copy>(
     out: &mut String<A>,
     number: u64,
@@ -18,10 +18,11 @@ pub(crate) fn tell_line<A: Allocator + Copy>(
     ensures { OnOk result (string_bytes out.new ≡ string_bytes out.old ++ Svg.line_text number event) }
 {
     let y = y_of(number);
+    let place = number as u128 + 1;
     let line = Line::Event(event);
     write!(
         out,
-        "<text class='l' x='8' y='{y}' dy='4'>{number} {line}</text>\n"
+        "<text class='l' x='8' y='{y}' dy='4'>{place} {line}</text>\n"
     )
 }
 

@@ -1,4 +1,4 @@
-//! A small run against its picture as it was written by hand and by a second program.
+//! A small run against its picture as a second implementation of the definitions wrote it.
 
 use crate::draw;
 use crate::style::STYLE;
@@ -21,38 +21,38 @@ const BODY: &str = "\
 <use href='#Untouched' x='380' y='78'/>\n\
 <use href='#OwnWrite' x='270' y='100'/>\n\
 <use href='#Untouched' x='380' y='100'/>\n\
-<text class='l' x='8' y='100' dy='4'>1 load 1 0 0</text>\n\
+<text class='l' x='8' y='100' dy='4'>2 load 1 0 0</text>\n\
 <use href='#Request' x='380' y='100'/><text class='t' x='380' y='100' dy='4' dx='10'> fault</text>\n\
 <use href='#OwnWrite' x='270' y='122'/>\n\
 <use href='#Untouched' x='380' y='122'/>\n\
-<text class='l' x='8' y='122' dy='4'>2 repeat 0</text>\n\
+<text class='l' x='8' y='122' dy='4'>3 repeat 0</text>\n\
 <path class='again' d='M380 100L270 122'/>\n\
 <text class='m' x='270' y='122' dy='4' dx='-12' text-anchor='end'>m0 Ask again</text><text class='t' x='270' y='122' dy='4' dx='24'></text>\n\
 <use href='#OwnRead' x='270' y='144'/>\n\
 <use href='#Untouched' x='380' y='144'/>\n\
-<text class='l' x='8' y='144' dy='4'>3 deliver 1</text>\n\
+<text class='l' x='8' y='144' dy='4'>4 deliver 1</text>\n\
 <path class='over' d='M270 122C320 122 320 144 270 144'/>\n\
 <text class='m' x='270' y='144' dy='4' dx='42'>m1 Hand</text>\n\
 <use href='#OwnRead' x='270' y='166'/>\n\
 <use href='#Untouched' x='380' y='166'/>\n\
-<text class='l' x='8' y='166' dy='4'>4 lose 2</text>\n\
+<text class='l' x='8' y='166' dy='4'>5 lose 2</text>\n\
 <path class='lost' d='M270 144L325 166'/>\n\
 <text class='m' x='325' y='166' dy='4' dx='12'>m2 Page lost</text>\n\
 <use href='#OwnRead' x='270' y='188'/>\n\
 <use href='#Untouched' x='380' y='188'/>\n\
-<text class='l' x='8' y='188' dy='4'>5 deliver 2</text>\n\
+<text class='l' x='8' y='188' dy='4'>6 deliver 2</text>\n\
 <text class='t' x='258' y='188' dy='4' text-anchor='end'> refused 15</text>\n\
 <use href='#OwnRead' x='270' y='210'/>\n\
 <use href='#Untouched' x='380' y='210'/>\n\
-<text class='l' x='8' y='210' dy='4'>6 tick 0</text>\n\
+<text class='l' x='8' y='210' dy='4'>7 tick 0</text>\n\
 <use href='#Tick' x='270' y='210'/><text class='t' x='270' y='210' dy='4' dx='10'></text>\n\
 <use href='#OwnRead' x='270' y='232'/>\n\
 <use href='#Untouched' x='380' y='232'/>\n\
-<text class='l' x='8' y='232' dy='4'>7 restart 1</text>\n\
+<text class='l' x='8' y='232' dy='4'>8 restart 1</text>\n\
 <use href='#Restart' x='380' y='232'/><text class='t' x='380' y='232' dy='4' dx='10'></text>\n\
 <use href='#OwnRead' x='270' y='254'/>\n\
 <use href='#Untouched' x='380' y='254'/>\n\
-<text class='l' x='8' y='254' dy='4'>8 load 1 0 0</text>\n\
+<text class='l' x='8' y='254' dy='4'>9 load 1 0 0</text>\n\
 <use href='#Request' x='380' y='254'/><text class='t' x='380' y='254' dy='4' dx='10'> fault</text>\n\
 <path class='fly' d='M380 100L270 276'/>\n\
 <text class='m' x='270' y='276' dy='4' dx='-12' text-anchor='end'>m0 Ask</text><text class='t' x='270' y='276' dy='4' dx='24'></text>\n\
@@ -113,7 +113,7 @@ fn another_page_has_no_arrows(rt: HostRuntime) {
         assert!(rt; !has(text, absent.as_bytes()), "{absent}");
     }
     for present in [
-        "8 load 1 0 0</text>",
+        "9 load 1 0 0</text>",
         "refused 15</text>",
         "<use href='#Restart' x='380' y='232'/>",
     ] {

@@ -1,6 +1,7 @@
 //! Growths that are refused: in a heap that is full but for one hole, which is widened until it is large enough.
 
 mod checkpoints;
+mod drawings;
 mod lines;
 mod whole;
 

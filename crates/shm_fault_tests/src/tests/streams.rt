@@ -1,4 +1,5 @@
 mod at_once;
+mod drawings;
 mod flushing;
 mod pieces;
 mod reading;
