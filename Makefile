@@ -2,7 +2,7 @@
 
 PROGRAM := crates/shmdbg
 
-.PHONY: replay build examples manners refused test wrong-bodies
+.PHONY: replay build pictures examples manners refused test wrong-bodies
 
 # Replays an example without proving anything: within a minute on a fresh machine.
 replay:
@@ -15,7 +15,17 @@ build:
 	@echo "The proved program is $(PROGRAM)/out/shmdbg. It replays a script from standard input:"
 	@echo "    $(PROGRAM)/out/shmdbg replay < examples/two-sites.shm"
 
-# The scripts of examples/ and their outputs stand in a test as well, since a test reads no file outside its crate. Fails where the two differ.
+# Draws a script: with the page that it shows, where it shows one alone.
+DRAW = pages=$$(sed -n 's/^show //p' "$$script" | sort -u); \
+	case $$pages in '' | *' '*' '*) set -- ;; *) set -- --page $$pages ;; esac; \
+	$(PROGRAM)/out/shmdbg draw "$$@" < "$$script"
+
+# Draws each script of examples/ anew. Needs the program that `make build` leaves.
+pictures:
+	@for script in examples/*.shm; do $(DRAW) > "$${script%.shm}.svg" || exit 1; done
+
+# The scripts of examples/ and their outputs stand in a test as well, since a test reads no file outside its crate. Fails where the two
+# differ, or where a picture isn't what the program that `make build` leaves draws.
 examples:
 	@for script in examples/*.shm; do \
 		name=$$(basename "$$script" .shm); \
@@ -23,6 +33,9 @@ examples:
 		sed -nE 's/^ *(pub\(super\) const [A-Z]+: &\[u8\] =)? *(b")?([^"]*)\\n(\\|";)$$/\3/p' "$$copy" > /tmp/copy.$$$$; \
 		cat "$$script" "examples/$$name.out" | cmp - /tmp/copy.$$$$ || exit 1; rm /tmp/copy.$$$$; echo "$$name: equal"; \
 	done
+	@for script in examples/*.shm; do \
+		picture=$${script%.shm}.svg; $(DRAW) | cmp -s - "$$picture" || { echo "$$picture: stale, or there is no program"; exit 1; }; \
+	done; echo "pictures: as drawn"
 
 # Compares the shells' completions and the manual page with what the program's help names. Needs the program that `make build` leaves.
 manners:

@@ -3,8 +3,8 @@
 _shmdbg() {
   local word=${COMP_WORDS[COMP_CWORD]} before=${COMP_WORDS[COMP_CWORD - 1]} offered=
   case $COMP_CWORD:${COMP_WORDS[1]} in
-    1:*) offered='replay run prompt help -h --help -V --version' ;;
-    2:help) offered='replay run prompt help' ;;
+    1:*) offered='replay run prompt draw help -h --help -V --version' ;;
+    2:help) offered='replay run prompt draw help' ;;
     *:replay | *:prompt) offered='-h --help' ;;
     *:run)
       case $before in
@@ -13,6 +13,7 @@ _shmdbg() {
         *) offered='--sites --seed -h --help' ;;
       esac
       ;;
+    *:draw) [ "$before" = --page ] || offered='--page -h --help' ;;
   esac
   mapfile -t COMPREPLY < <(compgen -W "$offered" -- "$word")
 }

@@ -1,5 +1,7 @@
+mod drawings;
 mod drawn;
 mod held;
+mod pieces;
 mod refusals;
 mod report;
 mod running;

@@ -24,10 +24,16 @@ run_app = with_rule (with_rule (new_app (codes "run")) sites_rule) seed_rule
 abbrev pub prompt_app : App
 prompt_app = new_app (codes "prompt")
 
+abbrev pub page_rule : Rule
+page_rule = record (new_rule (codes "page")) { long = Some (codes "page"); action = Some Set; value_names = 2; parser = Some (Signed (pos 0) (pos 4294967295)) }
+
+abbrev pub draw_app : App
+draw_app = with_rule (new_app (codes "draw")) page_rule
+
 -- a subcommand is required, and `--version` tells the version
 abbrev pub bare_app : App
 bare_app = record { top = record (new_app (codes "shmdbg")).top { subcommand_required = true; has_version = true }; subs = [] }
 
 -- the program with all its subcommands
 abbrev pub app : App
-app = with_subcommand (with_subcommand (with_subcommand bare_app replay_app.top) run_app.top) prompt_app.top
+app = with_subcommand (with_subcommand (with_subcommand (with_subcommand bare_app replay_app.top) run_app.top) prompt_app.top) draw_app.top

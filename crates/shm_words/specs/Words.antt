@@ -9,9 +9,10 @@ use Rattle.clap.specs.Words.{Kinds, Row, Text, fault_of, first_of, one_of, subco
 use Rattle.clap.specs.Walk.{all_of}
 use Rattle.clap.specs.Kinds.{or_else}
 use Rattle.clap.specs.declared.error.kind.ErrorKind.TheVariants.{UnknownArgument, ValueValidation}
+use Rattle.shm_place.specs.declared.page.PageId.{PageId}
 use Rattle.shm_words.specs.Commands.{app}
 use Rattle.shm_words.specs.declared.task.Task.{Task}
-use Rattle.shm_words.specs.declared.task.Task.TheVariants.{Replay, Run, Prompt}
+use Rattle.shm_words.specs.declared.task.Task.TheVariants.{Replay, Run, Prompt, Draw}
 
 -- the name of the subcommand that the words ask for, where the program takes them; the first word is the program's name
 abbrev pub asked_for : List Text → Option Text
@@ -22,6 +23,7 @@ abbrev pub name_of : Task → Text
 name_of Replay = codes "replay"
 name_of (Run sites seed) = codes "run"
 name_of Prompt = codes "prompt"
+name_of (Draw page) = codes "draw"
 
 -- ---- what is given for an option
 
@@ -41,6 +43,15 @@ is_plain_at option rows = option_map_or (list_all is_plain) (all_of option rows)
 abbrev pub number_at : Text → List Row → Option ℕ
 number_at option rows = if is_plain_at option rows then option_map number_of (one_of option rows) else None
 
+-- the page that two numbers name
+abbrev pub page_named : List Text → Option PageId
+page_named (seg ∷ index ∷ []) = Some (record { seg = number_of seg; index = number_of index })
+page_named _ = None
+
+-- the page that was written for `--page`, if one was
+abbrev pub page_at : List Row → Option PageId
+page_at rows = option_and_then page_named (all_of (codes "page") rows)
+
 abbrev pub rows_in : Option (Text × List Row) → List Row
 rows_in None = []
 rows_in (Some named) = named.1
@@ -55,11 +66,15 @@ number_given words option = number_at option (rows_given words)
 abbrev pub sites_given : List Text → Option ℕ
 sites_given words = number_given words (codes "sites")
 
+abbrev pub page_given : List Text → Option PageId
+page_given words = page_at (rows_given words)
+
 -- the task has what is written for its options
 abbrev pub HasOptions : List Row → Task → Type 0
 HasOptions rows Replay = Unit {0}
 HasOptions rows (Run sites seed) = (number_at (codes "sites") rows ≡ Some sites) × (number_at (codes "seed") rows ≡ Some seed)
 HasOptions rows Prompt = Unit {0}
+HasOptions rows (Draw page) = page ≡ page_at rows
 
 -- a subcommand's name, and what stands behind it, ask for the task
 pub record IsAsked (name : Text) (rows : List Row) (task : Task) : Type 0 where
@@ -70,7 +85,7 @@ pub record IsAsked (name : Text) (rows : List Row) (task : Task) : Type 0 where
 
 -- the numbers of a subcommand's options
 abbrev pub numbers : List Text
-numbers = codes "sites" ∷ codes "seed" ∷ []
+numbers = codes "sites" ∷ codes "seed" ∷ codes "page" ∷ []
 
 abbrev pub are_plain : List Row → Bool
 are_plain rows = list_all (λ option. is_plain_at option rows) numbers

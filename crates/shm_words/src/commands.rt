@@ -8,6 +8,9 @@ use crate::help;
 use clap::{Arg, ArgAction, Command, value_parser};
 use std::alloc::{AllocError, Global};
 
+/// What help calls the numbers that name a page.
+const PAGE: [&str; 2] = ["SEG", "INDEX"];
+
 /// The program with all its subcommands.
 pub(crate) fn command<'a>(alloc: Global) -> Result<Command<'a>, AllocError>
     ensures app { IfOk result (λ c. app_of c ≡ spec.app) }
@@ -15,7 +18,8 @@ pub(crate) fn command<'a>(alloc: Global) -> Result<Command<'a>, AllocError>
     bare_command(alloc)
         .subcommand(replay_command(alloc))?
         .subcommand(run_command(alloc)?)?
-        .subcommand(prompt_command(alloc))
+        .subcommand(prompt_command(alloc))?
+        .subcommand(draw_command(alloc)?)
 }
 
 /// The program without its subcommands.
@@ -58,6 +62,16 @@ fn prompt_command<'a>(alloc: Global) -> Command<'a>
         .after_help(help::PROMPT)
 }
 
+fn draw_command<'a>(alloc: Global) -> Result<Command<'a>, AllocError>
+    ensures app { IfOk result (λ c. app_of c ≡ spec.draw_app) }
+    ensures local { IfOk result (λ c. (out-Command c).has_globals ≡ false) }
+{
+    Command::new(alloc, "draw")
+        .about("Draw the run that the script on standard input leaves")
+        .after_help(help::DRAW)
+        .arg(page_arg(alloc))
+}
+
 fn sites_arg<'a>(alloc: Global) -> Arg<'a>
     ensures rule { rule_of result ≡ spec.sites_rule }
     ensures local { result.global ≡ false }
@@ -80,6 +94,18 @@ fn seed_arg<'a>(alloc: Global) -> Arg<'a>
         .value_name("S")
         .help("Where the losses and repeats are drawn from")
         .required(true)
+        .action(ArgAction::Set)
+        .value_parser(value_parser!(u32))
+}
+
+fn page_arg<'a>(alloc: Global) -> Arg<'a>
+    ensures rule { rule_of result ≡ spec.page_rule }
+    ensures local { result.global ≡ false }
+{
+    Arg::new(alloc, "page")
+        .long("page")
+        .value_names(&PAGE)
+        .help("The page that is shown, by its segment and its index in it")
         .action(ArgAction::Set)
         .value_parser(value_parser!(u32))
 }

@@ -87,3 +87,15 @@ A wrong line is told, and changes nothing.
   $ printf 'sites 2 preset 1\\nload 1 0 0\\nrun\\n' | shmdbg prompt
 Exit status: 0 done, 2 these words were refused, 3 memory, reading or writing
 failed.";
+
+/// Of a drawing.
+pub const DRAW: &str = "\
+Reads a script as `shmdbg replay` does, and writes the run that stands at its
+end as a picture (SVG), which a browser shows. Time goes downwards; each site
+has a line, whose look says what it has of the page; an arrow goes from where
+an envelope was sent to where it was handed over.
+Without --page the page is the first of segment 0, and all envelopes are drawn;
+with it, those about other pages aren't.
+  $ printf 'sites 2 preset 1\\nload 1 0 0\\ndeliver 0\\n' | shmdbg draw > run.svg
+Exit status: 0 done, 1 the script has a fault, and nothing is written, 2 these
+words were refused, 3 memory, reading or writing failed.";

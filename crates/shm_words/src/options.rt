@@ -1,12 +1,12 @@
 //! What is written for a subcommand's options. Words that were taken have those that are required, in range.
-ghost use Rattle.std.specs.Prelude.{◌≡◌, Some, codes, IfSome};
+ghost use Rattle.std.specs.Prelude.{◌≡◌, Some, codes, map, IfSome};
 ghost use Rattle.clap.specs.Words.{found_of, rows_of};
-ghost use Rattle.shm_words.specs.Words.{number_at, IsAsked};
+ghost use Rattle.shm_words.specs.Words.{number_at, number_of, page_named, IsAsked};
 
 use crate::spelling::is_plain_at;
 use crate::task::Task;
 use clap::ArgMatches;
-use shm_place::Sites;
+use shm_place::{PageId, SegId, Sites};
 
 /// A run's options.
 pub(crate) fn run_task(found: &ArgMatches<'_>) -> Option<Task>
@@ -26,4 +26,35 @@ fn number(found: &ArgMatches<'_>, option: &str) -> Option<u32>
     } else {
         None
     }
+}
+
+/// What is to be drawn.
+pub(crate) fn draw_task(found: &ArgMatches<'_>) -> Option<Task>
+    ensures { IfSome result (λ task. IsAsked (codes "draw") (rows_of (found_of found.now)) task) }
+{
+    let Some(values) = found.get_raw("page") else {
+        return Some(Task::Draw { page: None });
+    };
+    let page = page_of(values)?;
+    Some(Task::Draw { page: Some(page) })
+}
+
+/// The page that is written as two numbers.
+fn page_of(values: &[&str]) -> Option<PageId>
+    ensures { IfSome result (λ page. page_named (map (λ value. value.now) values.now) ≡ Some page) }
+{
+    match values {
+        [seg, index] => {
+            let seg = SegId(plain_number(seg)?);
+            let index = plain_number(index)?;
+            Some(PageId { seg, index })
+        }
+        _ => None,
+    }
+}
+
+fn plain_number(value: &str) -> Option<u32>
+    ensures { IfSome result (λ number. number ≡ number_of value.now) }
+{
+    value.parse::<u32>().ok()
 }

@@ -51,7 +51,7 @@ pub fn has_plain_numbers(matches: &ArgMatches<'_>) -> bool
 fn are_plain(found: &ArgMatches<'_>) -> bool
     ensures { result ≡ spec.are_plain (rows_of (found_of found.now)) }
 {
-    is_plain_at(found, "sites") && is_plain_at(found, "seed")
+    is_plain_at(found, "sites") && is_plain_at(found, "seed") && is_plain_at(found, "page")
 }
 
 /// Whether what is written for an option is spelled plainly.
@@ -146,10 +146,13 @@ pub fn spelling_error(alloc: Global, matches: &ArgMatches<'_>) -> Result<Error, 
 
 /// The first of the options whose numbers aren't spelled plainly.
 fn option_of_error(found: &ArgMatches<'_>) -> &'static str {
-    if is_plain_at(found, "sites") {
+    if !is_plain_at(found, "sites") {
+        return "sites";
+    }
+    if !is_plain_at(found, "seed") {
         return "seed";
     }
-    "sites"
+    "page"
 }
 
 /// The first of an option's values that isn't spelled plainly.

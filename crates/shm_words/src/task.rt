@@ -1,4 +1,4 @@
-use shm_place::Sites;
+use shm_place::{PageId, Sites};
 
 /// What the words after the program's name ask for.
 #[derive(Clone, Copy, Debug, PartialEq, Eq)]
@@ -9,4 +9,6 @@ pub enum Task {
     Run { sites: Sites, seed: u32 },
     /// Answer what is typed, line by line.
     Prompt,
+    /// Draw the run that the script on standard input leaves: what the sites have of this page, or of the first of segment 0.
+    Draw { page: Option<PageId> },
 }

@@ -4,7 +4,7 @@ ghost use Rattle.shm_words.specs.Commands.{app};
 ghost use Rattle.shm_words.specs.Words.{fault_in, IsAsked};
 
 use crate::commands::command;
-use crate::options::run_task;
+use crate::options::{draw_task, run_task};
 use crate::spelling::{has_plain_numbers, short_error, spelling_error};
 use crate::task::Task;
 use clap::{ArgMatches, Error};
@@ -42,6 +42,9 @@ fn task_of(name: &str, found: &ArgMatches<'_>) -> Result<Task, Error>
     }
     if name == "run" {
         return there(run_task(found));
+    }
+    if name == "draw" {
+        return there(draw_task(found));
     }
     Err(Error::from(AllocError))
 }

@@ -2,10 +2,11 @@
 use Rattle.std.proofs.Common.{◌≡◌, ◌∙◌, ℕ, List, ap, arith, codes, refl, slice_index, sym}
 use Rattle.std.specs.Prelude.{IsSomeAnd, None, Option, Some}
 use Rattle.clap.specs.Words.{Row, Text, subcommand_of}
+use Rattle.shm_place.specs.declared.page.PageId.{PageId}
 use Rattle.shm_words.specs.Commands.{app}
-use Rattle.shm_words.specs.Words.{asked_for, name_of, sites_given, IsAsked}
+use Rattle.shm_words.specs.Words.{asked_for, name_of, page_given, sites_given, IsAsked}
 use Rattle.shm_words.specs.declared.task.Task.{Task}
-use Rattle.shm_words.specs.declared.task.Task.TheVariants.{Prompt, Replay, Run}
+use Rattle.shm_words.specs.declared.task.Task.TheVariants.{Draw, Prompt, Replay, Run}
 use Rattle.shmdbg.specs.Status.{Asks}
 
 -- the words ask for this task
@@ -32,6 +33,11 @@ sites_asked words sites seed asked =
     let of = of_named (subcommand_of app words) (Run sites seed) asked in
     rw of.1 of.2.options.0
 
+pub page_asked : (words : List Text) (page : Option PageId) → AskFor words (Draw page) → page_given words ≡ page
+page_asked words page asked =
+    let of = of_named (subcommand_of app words) (Draw page) asked in
+    rw of.1 (sym of.2.options)
+
 -- ---- two names
 
 pub replay_is_not_run : codes "replay" ≡ codes "run" → ⊥
@@ -42,6 +48,15 @@ replay_is_not_prompt e = let bad : 114 ≡ 112 = ap (λ (t : Text). slice_index 
 
 pub run_is_not_prompt : codes "run" ≡ codes "prompt" → ⊥
 run_is_not_prompt e = let bad : 114 ≡ 112 = ap (λ (t : Text). slice_index t 0) e in absurd (omega (arith, bad))
+
+pub draw_is_not_replay : codes "draw" ≡ codes "replay" → ⊥
+draw_is_not_replay e = let bad : 100 ≡ 114 = ap (λ (t : Text). slice_index t 0) e in absurd (omega (arith, bad))
+
+pub draw_is_not_run : codes "draw" ≡ codes "run" → ⊥
+draw_is_not_run e = let bad : 100 ≡ 114 = ap (λ (t : Text). slice_index t 0) e in absurd (omega (arith, bad))
+
+pub draw_is_not_prompt : codes "draw" ≡ codes "prompt" → ⊥
+draw_is_not_prompt e = let bad : 100 ≡ 112 = ap (λ (t : Text). slice_index t 0) e in absurd (omega (arith, bad))
 
 -- ---- words that ask for one thing don't ask for another
 
@@ -62,3 +77,21 @@ a_replay_is_no_run words asked asks = replay_is_not_run (sym (same_name words Re
 
 pub a_replay_is_no_prompt : (words : List Text) → AskFor words Replay → Asks (codes "prompt") words → ⊥
 a_replay_is_no_prompt words asked asks = replay_is_not_prompt (sym (same_name words Replay (codes "prompt") asked asks))
+
+pub a_drawing_is_no_replay : (words : List Text) (page : Option PageId) → AskFor words (Draw page) → Asks (codes "replay") words → ⊥
+a_drawing_is_no_replay words page asked asks = draw_is_not_replay (sym (same_name words (Draw page) (codes "replay") asked asks))
+
+pub a_drawing_is_no_run : (words : List Text) (page : Option PageId) → AskFor words (Draw page) → Asks (codes "run") words → ⊥
+a_drawing_is_no_run words page asked asks = draw_is_not_run (sym (same_name words (Draw page) (codes "run") asked asks))
+
+pub a_drawing_is_no_prompt : (words : List Text) (page : Option PageId) → AskFor words (Draw page) → Asks (codes "prompt") words → ⊥
+a_drawing_is_no_prompt words page asked asks = draw_is_not_prompt (sym (same_name words (Draw page) (codes "prompt") asked asks))
+
+pub a_replay_is_no_drawing : (words : List Text) → AskFor words Replay → Asks (codes "draw") words → ⊥
+a_replay_is_no_drawing words asked asks = draw_is_not_replay (same_name words Replay (codes "draw") asked asks)
+
+pub a_run_is_no_drawing : (words : List Text) (sites seed : ℕ) → AskFor words (Run sites seed) → Asks (codes "draw") words → ⊥
+a_run_is_no_drawing words sites seed asked asks = draw_is_not_run (same_name words (Run sites seed) (codes "draw") asked asks)
+
+pub a_prompt_is_no_drawing : (words : List Text) → AskFor words Prompt → Asks (codes "draw") words → ⊥
+a_prompt_is_no_drawing words asked asks = draw_is_not_prompt (same_name words Prompt (codes "draw") asked asks)

@@ -5,6 +5,8 @@ use Rattle.clap.specs.Words.{Text}
 use Rattle.shm_debug.specs.Script.{Script}
 use Rattle.shm_debug.specs.Replay.{Ends}
 use Rattle.shm_debug.specs.declared.outcome.Summary.{Summary}
+use Rattle.shm_draw.specs.Drawn.{Draws}
+use Rattle.shm_place.specs.declared.page.PageId.{PageId}
 use Rattle.shm_debug.specs.declared.outcome.DebugFault.{DebugFault}
 use Rattle.shm_debug.specs.declared.outcome.DebugFault.TheVariants.{OutOfMemory, BadLine, LineTooLong, TooManyLines, ReadFault, WriteFault}
 use Rattle.shm_report.specs.Causes.{audit_cause, input_cause, is_after_reading, IsFound, IsRight, IsWrongBy}
@@ -52,6 +54,15 @@ Asks name words = Takes words × (asked_for words ≡ Some name)
 abbrev pub Replays : Script → ℕ → Option (List ℕ) → Option (List ℕ) → Type 0
 Replays script status old new =
     (end : Result Summary DebugFault) × (text : List ℕ) × (status ≡ status_of end) × Appends old new text × Ends script end text
+
+abbrev pub drawn_status : Result (Unit {0}) DebugFault → ℕ
+drawn_status (Ok _) = 0
+drawn_status (Err fault) = fault_status fault
+
+-- what the script leaves was drawn to an end of this status, and what was then written is what such an end writes
+abbrev pub Pictures : Option PageId → Script → ℕ → Option (List ℕ) → Option (List ℕ) → Type 0
+Pictures page script status old new =
+    (end : Result (Unit {0}) DebugFault) × (text : List ℕ) × (status ≡ drawn_status end) × Appends old new text × Draws page script end text
 
 -- a workload was run over as many sites as are given, and what was then written is the report of it
 abbrev pub Reports : Option ℕ → Option (List ℕ) → Option (List ℕ) → Option (List ℕ) → Type 0

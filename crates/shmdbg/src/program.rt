@@ -1,14 +1,15 @@
 ghost use Rattle.std.specs.Prelude.{◌≡◌, ◌≢◌, ◌<◌, ◌⊎◌, ℕ, List, [], ◌∷◌, codes, map, IfSome, Some};
 ghost use Rattle.shm_debug.specs.Script.{script_of};
-ghost use Rattle.shm_words.specs.Words.{sites_given};
-ghost use Rattle.shmdbg.specs.Status.{Asks, Fails, Replays, Reports, Takes};
+ghost use Rattle.shm_words.specs.Words.{page_given, sites_given};
+ghost use Rattle.shmdbg.specs.Status.{Asks, Fails, Pictures, Replays, Reports, Takes};
 
 use crate::disk::Disk;
 use crate::showing::{script_fault, workload_fault};
 use crate::source::Recalls;
 use crate::tell;
 use shm_debug::replay;
-use shm_place::Sites;
+use shm_draw::draw;
+use shm_place::{PageId, Sites};
 use shm_prompt::prompt;
 use shm_report::report;
 use shm_words::{Task, parse_words};
@@ -39,6 +40,8 @@ pub fn run_words<
     ensures failed { Asks (codes "run") (map S.text words.now) → result ≢ 0 →
         Fails (sites_given (map S.text words.now)) (I.remaining reader.old) result }
     ensures prompted { Asks (codes "prompt") (map S.text words.now) → (result ≡ 0) ⊎ (result ≡ 3) }
+    ensures drawn { Asks (codes "draw") (map S.text words.now) → IfSome (I.remaining reader.old) (λ bytes.
+        Pictures (page_given (map S.text words.now)) (script_of bytes) result (O.contents out.old) (O.contents out.new)) }
     ensures audit { result ≡ 4 → Asks (codes "run") (map S.text words.now) }
     ensures quiet { Asks (codes "run") (map S.text words.now) → (result ≡ 1) ⊎ (result ≡ 4) → out.new ≡ out.old }
     ensures refused { ¬ Takes (map S.text words.now) → (reader.new ≡ reader.old) × (out.new ≡ out.old) }
@@ -50,11 +53,31 @@ pub fn run_words<
             Task::Replay => {}
             Task::Run { sites, seed } => return run(rt, sites, seed, reader, out, errors),
             Task::Prompt => return talk(rt, reader, out, errors),
+            Task::Draw { page } => return picture(rt, page, reader, out, errors),
         },
         Err(error) => return tell::refused_words(&error, errors),
     }
     match replay(rt.alloc(), reader, out) {
         Ok(_) => 0,
+        Err(fault) => script_fault(fault, reader, errors),
+    }
+}
+
+/// Draws what a script leaves, and answers the exit status.
+fn picture<R: AllocGlobal, I: Read + Recalls, O: Write, E: Write>(
+    rt: &R,
+    page: Option<PageId>,
+    reader: &mut I,
+    out: &mut O,
+    errors: &mut E,
+) -> u8
+    ensures range { result < 4 }
+    ensures taken { result ≢ 2 }
+    ensures drawn { IfSome (I.remaining reader.old) (λ bytes.
+        Pictures page (script_of bytes) result (O.contents out.old) (O.contents out.new)) }
+{
+    match draw(rt.alloc(), reader, out, page) {
+        Ok(()) => 0,
         Err(fault) => script_fault(fault, reader, errors),
     }
 }

@@ -1,0 +1,6 @@
+pub mod Going
+pub mod Numbered
+pub mod Rows
+pub mod Scripts
+pub mod Senders
+pub mod Traced

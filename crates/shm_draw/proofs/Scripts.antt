@@ -1,0 +1,96 @@
+-- What has been read of a script, and what stands at its end.
+use Rattle.std.proofs.Common.{◌≡◌, ◌∙◌, ℕ, List, [], ◌∷◌, ◌++◌, length, take, drop, take-append-drop, inl, inr, Option, None, Some, IfSome, Result, Ok, Err, IfOk, IfErr, refl, sym, ap, subst, append-nil}
+use Rattle.std.proofs.Math.Seq.{take-append_seam}
+use Rattle.std.specs.Io.KnownBytes.{Appends, Consumes, IsAtEnd}
+use Rattle.std.proofs.KnownBytes.{Consumes-whole}
+use Rattle.shm_place.specs.declared.page.PageId.{PageId}
+use Rattle.shm_lines.specs.Line.{line_of}
+use Rattle.shm_lines.specs.Spelling.{IsLine}
+use Rattle.shm_lines.specs.declared.line.Line.{Line}
+use Rattle.shm_debug.specs.Script.{Script, after, whole, script_of}
+use Rattle.shm_debug.specs.Said.{standing_after}
+use Rattle.shm_debug.specs.Standing.{Standing}
+use Rattle.shm_debug.specs.Reading.{Moment, Ended, rest_of}
+use Rattle.shm_debug.specs.Replay.{Pauses}
+use Rattle.shm_debug.specs.declared.outcome.Summary.{Summary}
+use Rattle.shm_debug.specs.declared.outcome.DebugFault.{DebugFault}
+use Rattle.shm_debug.specs.declared.outcome.DebugFault.TheVariants.{OutOfMemory, BadLine, LineTooLong, TooManyLines, ReadFault, WriteFault}
+use Rattle.shm_debug.proofs.PromiseLemmas.{Begins, begins-always}
+use Rattle.shm_debug.proofs.ReplayLemmas.{IfSome-map, SoFar, all_read}
+use Rattle.shm_draw.specs.Drawn.{BeganRight, Draws, Stands, Stopped, drawing, drawing_of}
+
+-- ---- the lines that were read, and what stands after them
+
+lines_of : (r0 r w0 w : Option (List ℕ)) (pending : List ℕ) (player : Moment) (s : SoFar r0 r w0 w pending player)
+    → (script_of s.0).lines ≡ s.2.0 ++ (rest_of player []).lines
+lines_of r0 r w0 w pending player s = ap (λ (t : Script). t.lines) (ap script_of (sym (append-nil s.0)) ∙ s.2.1.rest [])
+
+began-right : (s : Option Standing) → Begins s → BeganRight s
+began-right None h = tt
+began-right (Some s) h = h
+
+pub began : ((bytes : List ℕ) (line : Line) → line_of bytes ≡ Some line → IsLine line) → (r0 r w0 w : Option (List ℕ)) (pending : List ℕ) (player : Moment)
+    → SoFar r0 r w0 w pending player → BeganRight player.standing
+began spelled r0 r w0 w pending player s =
+    let lines = s.2.0 in
+    let taken : take (length lines) (script_of s.0).lines ≡ lines =
+    ap (take (length lines)) (lines_of r0 r w0 w pending player s) ∙ take-append_seam lines (rest_of player []).lines in
+    let same : standing_after None (take (length lines) (script_of s.0).lines) ≡ player.standing = ap (standing_after None) taken ∙ sym s.2.1.stands in
+    began-right player.standing (subst Begins same (begins-always spelled s.0 (length lines)))
+
+-- ---- the end of the input
+
+pub stands_there : (r0 r w0 w : Option (List ℕ)) (pending : List ℕ) (player : Moment) (summary : Summary)
+    → SoFar r0 r w0 w pending player → IsAtEnd r → Ended player (Ok summary) → IfSome r0 (λ bytes. Stands (script_of bytes) player.standing)
+stands_there r0 r w0 w pending player summary s end e =
+    let lines = s.2.0 in
+    let script : script_of s.0 ≡ after lines whole = ap script_of (sym (append-nil s.0)) ∙ s.2.1.rest [] ∙ ap (after lines) e.0 in
+    let kept : (script_of s.0).lines ≡ lines = ap (λ (t : Script). t.lines) script ∙ append-nil lines in
+    Consumes-whole r0 r s.0 (λ bytes. Stands (script_of bytes) player.standing) s.3 end
+    (record { whole = ap (λ (t : Script). t.fault) script; stands = s.2.1.stands ∙ ap (standing_after None) (sym kept) })
+
+pub stopped-pauses : (w0 w : Option (List ℕ)) (pending : List ℕ) (script : Script) (fault : DebugFault) → Pauses w0 w pending script (Err fault) → Stopped script fault
+stopped-pauses w0 w pending script OutOfMemory p = tt
+stopped-pauses w0 w pending script ReadFault p = tt
+stopped-pauses w0 w pending script WriteFault p = tt
+stopped-pauses w0 w pending script (BadLine n) p = p.2.0
+stopped-pauses w0 w pending script (LineTooLong n) p = p.2.0
+stopped-pauses w0 w pending script TooManyLines p = p.2.0
+
+pub stopped-some : (r0 w0 w : Option (List ℕ)) (pending : List ℕ) (fault : DebugFault)
+    → IfSome r0 (λ bytes. Pauses w0 w pending (script_of bytes) (Err fault)) → IfSome r0 (λ bytes. Stopped (script_of bytes) fault)
+stopped-some r0 w0 w pending fault p =
+    IfSome-map r0 (λ bytes. Pauses w0 w pending (script_of bytes) (Err fault)) (λ bytes. Stopped (script_of bytes) fault) p
+    (λ bytes q. stopped-pauses w0 w pending (script_of bytes) fault q)
+
+-- a reader whose bytes aren't known
+some-always : (o : Option (List ℕ)) (P : List ℕ → Type 0) → ((bytes : List ℕ) → P bytes) → IfSome o P
+some-always None P h = tt
+some-always (Some x) P h = h x
+
+-- what the input's end says, by what was answered
+pub ended_there : (r0 r w0 w : Option (List ℕ)) (pending : List ℕ) (player : Moment) (fault : DebugFault)
+    → SoFar r0 r w0 w pending player → IsAtEnd r → Ended player (Err fault) → IfSome r0 (λ bytes. Stopped (script_of bytes) fault)
+ended_there r0 r w0 w pending player fault s end e = stopped-some r0 w0 w pending fault (all_read r0 r w0 w pending player (Err fault) s end e)
+
+-- ---- what was written by the end
+
+pub draws-stopped : (page : Option PageId) (script : Script) (fault : DebugFault) → Stopped script fault → Draws page script (Err fault) []
+draws-stopped page script OutOfMemory s = refl
+draws-stopped page script ReadFault s = refl
+draws-stopped page script WriteFault s = inl refl
+draws-stopped page script (BadLine n) s = (s, refl)
+draws-stopped page script (LineTooLong n) s = (s, refl)
+draws-stopped page script TooManyLines s = (s, refl)
+
+pub is-drawing : (page : Option PageId) (script : Script) (standing : Option Standing) (picture : List ℕ) → Stands script standing → picture ≡ drawing page standing → picture ≡ drawing_of page script
+is-drawing page script standing picture s e = e ∙ ap (drawing page) s.stands
+
+pub draws-front : (page : Option PageId) (script : Script) (standing : Option Standing) (picture : List ℕ) (n : ℕ) → Stands script standing → picture ≡ drawing page standing
+    → Draws page script (Err WriteFault) (take n picture)
+draws-front page script standing picture n s e =
+    inr (s.whole, (drop n picture, sym (is-drawing page script standing picture s e) ∙ sym (take-append-drop n picture)))
+
+pub draws-unflushed : (page : Option PageId) (script : Script) (standing : Option Standing) (picture : List ℕ) → Stands script standing → picture ≡ drawing page standing
+    → Draws page script (Err WriteFault) picture
+draws-unflushed page script standing picture s e = inr (s.whole, ([], sym (is-drawing page script standing picture s e) ∙ sym (append-nil picture)))

@@ -1,0 +1,5 @@
+pub mod Picture
+pub mod Svg
+pub mod Drawing
+pub mod Drawn
+pub mod Arrows

@@ -1,0 +1,146 @@
+//! Arrows, and what is written at their heads.
+ghost use Rattle.std.specs.Prelude.{◌≡◌, ◌++◌, OnOk, string_bytes};
+ghost use Rattle.shm_draw.specs.Svg;
+
+use crate::geometry::{tip_of, x_of, y_of};
+use crate::mark::{End, Way};
+use crate::word::name_of;
+use shm_model::Answer;
+use shm_text::AnswerText;
+use std::alloc::{AllocError, Allocator};
+
+/// Tells the arrow that ends at this height, and what was answered there.
+pub(crate) fn tell_arrow<A: Allocator + Copy>(
+    out: &mut String<A>,
+    way: &Way,
+    end: End,
+    y: u128,
+    answer: &Answer,
+) -> Result<(), AllocError>
+    ensures { OnOk result (string_bytes out.new ≡ string_bytes out.old ++ Svg.arrow_text way.now end y answer.now) }
+{
+    tell_path(out, way, end, y)?;
+    tell_label(out, way, end, y)?;
+    tell_aside(out, way, end, y)?;
+    tell_told(out, answer)?;
+    out.push_str("</text>\n")
+}
+
+/// Tells the line itself: a straight one, or to the same site a bow.
+fn tell_path<A: Allocator + Copy>(
+    out: &mut String<A>,
+    way: &Way,
+    end: End,
+    y: u128,
+) -> Result<(), AllocError>
+    ensures { OnOk result (string_bytes out.new ≡ string_bytes out.old ++ Svg.path_text way.now end y) }
+{
+    let class = class_of(end);
+    let x = x_of(way.from);
+    let tip = tip_of(way.from, way.to, end);
+    let start = y_of(way.origin);
+    if way.from == way.to {
+        let bow = x + 50;
+        return write!(
+            out,
+            "<path class='{class}' d='M{x} {start}C{bow} {start} {bow} {y} {tip} {y}'/>\n"
+        );
+    }
+    write!(out, "<path class='{class}' d='M{x} {start}L{tip} {y}'/>\n")
+}
+
+/// Tells the envelope's number and what its message is called, beside the head, where the line doesn't come from.
+fn tell_label<A: Allocator + Copy>(
+    out: &mut String<A>,
+    way: &Way,
+    end: End,
+    y: u128,
+) -> Result<(), AllocError>
+    ensures { OnOk result (string_bytes out.new ≡ string_bytes out.old ++ Svg.label_text way.now end y) }
+{
+    let tip = tip_of(way.from, way.to, end);
+    let side = side_of(way.from, way.to);
+    let number = way.number;
+    let word = name_of(way.word);
+    let ended = ended_by(end);
+    write!(
+        out,
+        "<text class='m' x='{tip}' y='{y}' dy='4' {side}>m{number} {word}{ended}"
+    )
+}
+
+/// Where the label stands left of the lifeline, what is told next stands right of it.
+fn tell_aside<A: Allocator + Copy>(
+    out: &mut String<A>,
+    way: &Way,
+    end: End,
+    y: u128,
+) -> Result<(), AllocError>
+    ensures { OnOk result (string_bytes out.new ≡ string_bytes out.old ++ Svg.aside_text way.now end y) }
+{
+    let tip = tip_of(way.from, way.to, end);
+    if way.to < way.from {
+        return write!(
+            out,
+            "</text><text class='t' x='{tip}' y='{y}' dy='4' dx='24'>"
+        );
+    }
+    Ok(())
+}
+
+/// Tells what was answered, unless it was only taken.
+pub(crate) fn tell_told<A: Allocator + Copy>(
+    out: &mut String<A>,
+    answer: &Answer,
+) -> Result<(), AllocError>
+    ensures { OnOk result (string_bytes out.new ≡ string_bytes out.old ++ Svg.told_text answer.now) }
+{
+    if is_took(answer) {
+        return Ok(());
+    }
+    let answer = AnswerText(*answer);
+    write!(out, " {answer}")
+}
+
+fn is_took(answer: &Answer) -> bool
+    ensures { result ≡ Svg.is_took answer.now }
+{
+    match answer {
+        Answer::Took => true,
+        _ => false,
+    }
+}
+
+fn class_of(end: End) -> &'static str
+    ensures { result.now ≡ Svg.class_text end }
+{
+    match end {
+        End::HandedOver => "over",
+        End::Repeated => "again",
+        End::Lost => "lost",
+        End::OnItsWay => "fly",
+    }
+}
+
+fn ended_by(end: End) -> &'static str
+    ensures { result.now ≡ Svg.end_text end }
+{
+    match end {
+        End::HandedOver => "",
+        End::Repeated => " again",
+        End::Lost => " lost",
+        End::OnItsWay => "",
+    }
+}
+
+fn side_of(from: u32, to: u32) -> &'static str
+    ensures { result.now ≡ Svg.side_text from to }
+{
+    if from < to {
+        return "dx='12'";
+    }
+    if to < from {
+        return "dx='-12' text-anchor='end'";
+    }
+    "dx='42'"
+}

@@ -1,0 +1,27 @@
+//! A run as a picture: one self-contained SVG with a row for each event, a lifeline for each site and an arrow for each envelope. The text
+//! is the definitions' picture of the run, and of a script that of the run which stands at its end.
+#![tactic(auto)]
+
+mod arrow;
+mod geometry;
+mod lanes;
+pub mod laws;
+mod mark;
+mod marking;
+mod on_their_way;
+mod origins;
+mod page;
+mod picture;
+mod room;
+mod row;
+mod script;
+mod style;
+#[cfg(test)]
+mod tests;
+mod ways;
+mod word;
+
+pub use mark::{End, Mark, Symbol, Way};
+pub use picture::picture_of;
+pub use script::draw;
+pub use word::Word;

@@ -1,0 +1,40 @@
+//! How much room stands right of the last lifeline.
+ghost use Rattle.std.specs.Prelude.{◌≡◌};
+ghost use Rattle.std.specs.List.{list_any};
+ghost use Rattle.shm_draw.specs.Svg;
+
+use shm_model::{Event, Op, Request};
+
+/// How far what is told there goes. The reply to a `stat` is long.
+pub(crate) fn room_of(events: &[Event]) -> u32
+    ensures { result ≡ Svg.room_of events.now }
+{
+    if has_stat(events) {
+        return 820;
+    }
+    340
+}
+
+fn has_stat(events: &[Event]) -> bool
+    ensures { result ≡ list_any Svg.asks_stat events.now }
+{
+    events.iter().any(|event| asks_stat(event))
+}
+
+fn asks_stat(event: &Event) -> bool
+    ensures { result ≡ Svg.asks_stat event.now }
+{
+    match event {
+        Event::Begin { request, .. } => is_stat(request),
+        _ => false,
+    }
+}
+
+fn is_stat(request: &Request) -> bool
+    ensures { result ≡ Svg.is_stat request.now }
+{
+    match request {
+        Request::Op(Op::Stat { .. }) => true,
+        _ => false,
+    }
+}

@@ -1,0 +1,144 @@
+//! A whole script, from a reader, as a picture, to a writer.
+ghost use Rattle.std.specs.Prelude.{◌≡◌, ◌≤◌, ℕ, List, Some, Ok, Err, IfErr, IfOk, IfSome, length, string_bytes};
+ghost use Rattle.std.specs.Io.KnownBytes.{Appends, Consumes};
+ghost use Rattle.shm_model.specs.World as model;
+ghost use Rattle.shm_debug.specs.Limits.{max_bytes};
+ghost use Rattle.shm_debug.specs.Opening.{begins};
+ghost use Rattle.shm_debug.specs.Reading.{Ended};
+ghost use Rattle.shm_debug.specs.Script.{script_of};
+ghost use Rattle.shm_debug.specs.declared.outcome.Summary.{Summary};
+ghost use Rattle.shm_world.specs.World.{StandsFor};
+ghost use Rattle.shm_draw.specs.Drawn.{BeganRight, Draws, Stands, Stopped, drawing};
+
+use crate::picture::picture_of;
+use shm_debug::{DebugFault, Opening, Player, Session};
+use shm_lines::laws::lines_have_one_spelling;
+use shm_place::PageId;
+use shm_text::{Text, read_up_to, write_whole};
+use shm_world::World;
+use std::alloc::{AllocError, Allocator};
+use std::io::{Read, Write};
+
+/// How many bytes are read at once.
+const CHUNK: usize = 8192;
+
+/// How much room the answers of a block are given from the beginning, which are not written.
+const ROOM: usize = 1 << 16;
+
+/// How much room a line is given from the beginning.
+const LINE: usize = 512;
+
+/// Draws the run that stands at the script's end, which is read from `reader`, and writes the picture to `writer`.
+///
+/// The script is read up to its end or to its first fault, and a little further; nothing is written before. Where the reader answers an
+/// error, of whatever kind, nothing is drawn; where the writer answers one, or takes nothing, a front of the picture may have been written.
+/// The writer is flushed at the end.
+pub fn draw<A: Allocator + Copy, R: Read, W: Write>(
+    alloc: A,
+    reader: &mut R,
+    writer: &mut W,
+    page: Option<PageId>,
+) -> Result<(), DebugFault>
+    ensures ends { IfSome (R.remaining reader.old) (λ bytes.
+        (text : List ℕ) × Appends (W.contents writer.old) (W.contents writer.new) text × Draws page (script_of bytes) result text) }
+    ensures limit { (taken : List ℕ) × Consumes (R.remaining reader.old) (R.remaining reader.new) taken × (length taken ≤ max_bytes) }
+{
+    let player = match read_script(alloc, reader) {
+        Ok(player) => player,
+        Err(fault) => return Err(fault),
+    };
+    let Ok(picture) = drawn(alloc, &player, page) else {
+        return Err(DebugFault::OutOfMemory);
+    };
+    match write_whole(writer, picture.as_bytes()) {
+        Ok(()) => {}
+        Err(_) => return Err(DebugFault::WriteFault),
+    }
+    match writer.flush() {
+        Ok(()) => Ok(()),
+        Err(_) => Err(DebugFault::WriteFault),
+    }
+}
+
+/// Reads the script, block by block. What is said to its lines is not kept.
+fn read_script<A: Allocator + Copy, R: Read>(
+    alloc: A,
+    reader: &mut R,
+) -> Result<Player<A>, DebugFault>
+    ensures ok { IfSome (R.remaining reader.old) (λ bytes. IfOk result (λ player. Stands (script_of bytes) player.standing)) }
+    ensures began { IfOk result (λ player. BeganRight player.standing) }
+    ensures fault { IfSome (R.remaining reader.old) (λ bytes. IfErr result (Stopped (script_of bytes))) }
+    ensures limit { (taken : List ℕ) × Consumes (R.remaining reader.old) (R.remaining reader.new) taken × (length taken ≤ max_bytes) }
+{
+    lines_have_one_spelling();
+    let Ok(mut told) = Text::new(alloc, ROOM, LINE) else {
+        return Err(DebugFault::OutOfMemory);
+    };
+    let Ok(mut player) = Player::new(alloc) else {
+        return Err(DebugFault::OutOfMemory);
+    };
+    let mut chunk = [0u8; CHUNK];
+    'chunks: loop {
+        let Ok(count) = read_up_to(reader, &mut chunk, player.room()) else {
+            return Err(DebugFault::ReadFault);
+        };
+        if count == 0 {
+            return whole(player);
+        }
+        match player.play(&chunk[..count], &mut told) {
+            Ok(()) => {}
+            Err(fault) => return Err(fault),
+        }
+        told.clear();
+    }
+}
+
+/// The player, if the input ends where a script may.
+fn whole<A: Allocator + Copy>(player: Player<A>) -> Result<Player<A>, DebugFault>
+    ensures ok { IfOk result (λ p. (p ≡ player) × ((summary : Summary) × Ended player (Ok summary))) }
+    ensures err { IfErr result (λ fault. Ended player (Err fault)) }
+{
+    match player.finish() {
+        Ok(_) => Ok(player),
+        Err(fault) => Err(fault),
+    }
+}
+
+/// The picture of what stands, or nothing where nothing does.
+fn drawn<A: Allocator + Copy>(
+    alloc: A,
+    player: &Player<A>,
+    page: Option<PageId>,
+) -> Result<String<A>, AllocError>
+    requires { BeganRight player.now.standing }
+    ensures { IfOk result (λ picture. string_bytes picture ≡ drawing page player.now.standing) }
+{
+    match player.session() {
+        Some(session) => drawn_session(alloc, session, page),
+        None => Ok(String::new(alloc)),
+    }
+}
+
+fn drawn_session<A: Allocator + Copy>(
+    alloc: A,
+    session: &Session<A>,
+    page: Option<PageId>,
+) -> Result<String<A>, AllocError>
+    requires { model.IsOpening session.now.opening }
+    ensures { IfOk result (λ picture. string_bytes picture ≡ drawing page (Some session.now)) }
+{
+    let world = opened(alloc, session.opening())?;
+    picture_of(alloc, world, session.events(), page)
+}
+
+/// The world before the first event.
+fn opened<A: Allocator + Copy>(alloc: A, opening: Opening) -> Result<World<A>, AllocError>
+    requires { model.IsOpening (begins opening) }
+    ensures { IfOk result (λ world. StandsFor world (model.opened (begins opening))) }
+{
+    match (opening.preset, opening.frames) {
+        (None, _) => World::new(alloc, opening.sites),
+        (Some(pages), None) => World::preset(alloc, opening.sites, pages),
+        (Some(pages), Some(frames)) => World::framed(alloc, opening.sites, pages, frames),
+    }
+}

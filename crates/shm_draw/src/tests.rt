@@ -1,0 +1,146 @@
+//! A small run against its picture as a second implementation of the definitions wrote it.
+
+use crate::draw;
+use crate::style::STYLE;
+use shm_debug::DebugFault;
+use shm_place::{PageId, SegId};
+use std::alloc::Global;
+use std::process::Abort;
+use std::test::Fail;
+
+/// An envelope that is repeated, one for the own site, one that is lost, one that isn't there, and three that stay on their way.
+const SCRIPT: &[u8] =
+    b"sites 2 preset 1\nload 1 0 0\nrepeat 0\ndeliver 1\nlose 2\ndeliver 2\ntick 0\nrestart 1\nload 1 0 0\n";
+
+const HEAD: &str = "<svg xmlns='http://www.w3.org/2000/svg' width='830' height='364'>\n";
+
+const BODY: &str = "\
+<text class='s' x='270' y='70'>site 0</text>\n\
+<text class='s' x='380' y='70'>site 1</text>\n\
+<use href='#OwnWrite' x='270' y='78'/>\n\
+<use href='#Untouched' x='380' y='78'/>\n\
+<use href='#OwnWrite' x='270' y='100'/>\n\
+<use href='#Untouched' x='380' y='100'/>\n\
+<text class='l' x='8' y='100' dy='4'>2 load 1 0 0</text>\n\
+<use href='#Request' x='380' y='100'/><text class='t' x='380' y='100' dy='4' dx='10'> fault</text>\n\
+<use href='#OwnWrite' x='270' y='122'/>\n\
+<use href='#Untouched' x='380' y='122'/>\n\
+<text class='l' x='8' y='122' dy='4'>3 repeat 0</text>\n\
+<path class='again' d='M380 100L270 122'/>\n\
+<text class='m' x='270' y='122' dy='4' dx='-12' text-anchor='end'>m0 Ask again</text><text class='t' x='270' y='122' dy='4' dx='24'></text>\n\
+<use href='#OwnRead' x='270' y='144'/>\n\
+<use href='#Untouched' x='380' y='144'/>\n\
+<text class='l' x='8' y='144' dy='4'>4 deliver 1</text>\n\
+<path class='over' d='M270 122C320 122 320 144 270 144'/>\n\
+<text class='m' x='270' y='144' dy='4' dx='42'>m1 Hand</text>\n\
+<use href='#OwnRead' x='270' y='166'/>\n\
+<use href='#Untouched' x='380' y='166'/>\n\
+<text class='l' x='8' y='166' dy='4'>5 lose 2</text>\n\
+<path class='lost' d='M270 144L325 166'/>\n\
+<text class='m' x='325' y='166' dy='4' dx='12'>m2 Page lost</text>\n\
+<use href='#OwnRead' x='270' y='188'/>\n\
+<use href='#Untouched' x='380' y='188'/>\n\
+<text class='l' x='8' y='188' dy='4'>6 deliver 2</text>\n\
+<text class='t' x='258' y='188' dy='4' text-anchor='end'> refused 15</text>\n\
+<use href='#OwnRead' x='270' y='210'/>\n\
+<use href='#Untouched' x='380' y='210'/>\n\
+<text class='l' x='8' y='210' dy='4'>7 tick 0</text>\n\
+<use href='#Tick' x='270' y='210'/><text class='t' x='270' y='210' dy='4' dx='10'></text>\n\
+<use href='#OwnRead' x='270' y='232'/>\n\
+<use href='#Untouched' x='380' y='232'/>\n\
+<text class='l' x='8' y='232' dy='4'>8 restart 1</text>\n\
+<use href='#Restart' x='380' y='232'/><text class='t' x='380' y='232' dy='4' dx='10'></text>\n\
+<use href='#OwnRead' x='270' y='254'/>\n\
+<use href='#Untouched' x='380' y='254'/>\n\
+<text class='l' x='8' y='254' dy='4'>9 load 1 0 0</text>\n\
+<use href='#Request' x='380' y='254'/><text class='t' x='380' y='254' dy='4' dx='10'> fault</text>\n\
+<path class='fly' d='M380 100L270 276'/>\n\
+<text class='m' x='270' y='276' dy='4' dx='-12' text-anchor='end'>m0 Ask</text><text class='t' x='270' y='276' dy='4' dx='24'></text>\n\
+<path class='fly' d='M270 210C320 210 320 298 270 298'/>\n\
+<text class='m' x='270' y='298' dy='4' dx='42'>m3 Hand</text>\n\
+<path class='fly' d='M380 254L270 320'/>\n\
+<text class='m' x='270' y='320' dy='4' dx='-12' text-anchor='end'>m4 Ask</text><text class='t' x='270' y='320' dy='4' dx='24'></text>\n\
+</svg>\n";
+
+/// How a script is drawn, and what is written.
+fn drawn(alloc: Global, script: &[u8], page: Option<PageId>) -> (Result<(), DebugFault>, Vec<u8>) {
+    let mut reader = script;
+    let mut text = Vec::new(alloc);
+    let result = draw(alloc, &mut reader, &mut text, page);
+    (result, text)
+}
+
+fn expect(rt: &impl Abort, text: &[u8], parts: [&str; 3]) {
+    let mut at = 0;
+    for part in parts {
+        let end = at + part.len();
+        assert_eq!(rt; text.get(at..end), Some(part.as_bytes()));
+        at = end;
+    }
+    assert_eq!(rt; text.len(), at);
+}
+
+#[test]
+fn each_kind_of_arrow(rt: HostRuntime) {
+    let (result, text) = drawn(rt.alloc(), SCRIPT, None);
+    assert_eq!(rt; result, Ok(()));
+    expect(&rt, text.as_slice(), [HEAD, STYLE, BODY]);
+}
+
+/// The picture is of what stands: what was taken back, and what is only shown, has no row.
+#[test]
+fn what_was_taken_back_is_not_drawn(rt: HostRuntime) -> Result<(), Fail> {
+    let mut script = Vec::new(rt.alloc());
+    script.extend_from_slice(SCRIPT)?;
+    script.extend_from_slice(b"tick 1\nshow 0 0\nback 1\n".as_slice())?;
+    let (result, text) = drawn(rt.alloc(), script.as_slice(), None);
+    assert_eq!(rt; result, Ok(()));
+    expect(&rt, text.as_slice(), [HEAD, STYLE, BODY]);
+    Ok(())
+}
+
+/// Of another page nothing is drawn but the lines and the marks at the sites.
+#[test]
+fn another_page_has_no_arrows(rt: HostRuntime) {
+    let page = PageId {
+        seg: SegId(0),
+        index: 1,
+    };
+    let (result, text) = drawn(rt.alloc(), SCRIPT, Some(page));
+    assert_eq!(rt; result, Ok(()));
+    let text = text.as_slice();
+    for absent in ["<text class='m'", "M380", "M270"] {
+        assert!(rt; !has(text, absent.as_bytes()), "{absent}");
+    }
+    for present in [
+        "9 load 1 0 0</text>",
+        "refused 15</text>",
+        "<use href='#Restart' x='380' y='232'/>",
+    ] {
+        assert!(rt; has(text, present.as_bytes()), "{present}");
+    }
+}
+
+fn has(text: &[u8], part: &[u8]) -> bool {
+    for at in 0..text.len() {
+        if text[at..].starts_with(part) {
+            return true;
+        }
+    }
+    false
+}
+
+/// Of a script that has a fault nothing is written.
+#[test]
+fn nothing_is_written_of_a_wrong_script(rt: HostRuntime) {
+    let cases: [(&[u8], u64); 3] = [
+        (b"", 1),
+        (b"sites 1\nload 0 0 0", 2),
+        (b"sites 1\ntick 0\nnonsense\n", 3),
+    ];
+    for (script, number) in cases {
+        let (result, text) = drawn(rt.alloc(), script, None);
+        assert_eq!(rt; result, Err(DebugFault::BadLine(number)));
+        assert!(rt; text.is_empty());
+    }
+}

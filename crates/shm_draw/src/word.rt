@@ -1,0 +1,76 @@
+//! What a message is called, and the page that it is about.
+ghost use Rattle.std.specs.Prelude.{◌≡◌};
+ghost use Rattle.shm_parts.specs.Message.{message_of};
+ghost use Rattle.shm_draw.specs.Picture;
+ghost use Rattle.shm_draw.specs.Svg;
+
+use shm_parts::Message;
+use shm_place::PageId;
+use std::alloc::Allocator;
+
+/// What a message is called.
+#[derive(Clone, Copy, Debug, PartialEq, Eq)]
+pub enum Word {
+    Ask,
+    Clear,
+    Cleared,
+    Hand,
+    Page,
+    Confirm,
+    Call,
+    Reply,
+    Purge,
+    Purged,
+}
+
+pub(crate) fn word_of<A: Allocator + Copy>(message: &Message<A>) -> Word
+    ensures { result ≡ Picture.word_of (message_of message.now) }
+{
+    match message {
+        Message::Ask { .. } => Word::Ask,
+        Message::Clear { .. } => Word::Clear,
+        Message::Cleared { .. } => Word::Cleared,
+        Message::Hand { .. } => Word::Hand,
+        Message::Page { .. } => Word::Page,
+        Message::Confirm { .. } => Word::Confirm,
+        Message::Call { .. } => Word::Call,
+        Message::Reply { .. } => Word::Reply,
+        Message::Purge { .. } => Word::Purge,
+        Message::Purged { .. } => Word::Purged,
+    }
+}
+
+/// The page that the message is about. A segment call, a purge and their answers are about none.
+pub(crate) fn page_of<A: Allocator + Copy>(message: &Message<A>) -> Option<PageId>
+    ensures { result ≡ Picture.page_of (message_of message.now) }
+{
+    match message {
+        Message::Ask { page, .. } => Some(*page),
+        Message::Clear { page, .. } => Some(*page),
+        Message::Cleared { page, .. } => Some(*page),
+        Message::Hand { page, .. } => Some(*page),
+        Message::Page { page, .. } => Some(*page),
+        Message::Confirm { page, .. } => Some(*page),
+        Message::Call { .. } => None,
+        Message::Reply { .. } => None,
+        Message::Purge { .. } => None,
+        Message::Purged { .. } => None,
+    }
+}
+
+pub(crate) fn name_of(word: Word) -> &'static str
+    ensures { result.now ≡ Svg.word_text word }
+{
+    match word {
+        Word::Ask => "Ask",
+        Word::Clear => "Clear",
+        Word::Cleared => "Cleared",
+        Word::Hand => "Hand",
+        Word::Page => "Page",
+        Word::Confirm => "Confirm",
+        Word::Call => "Call",
+        Word::Reply => "Reply",
+        Word::Purge => "Purge",
+        Word::Purged => "Purged",
+    }
+}
