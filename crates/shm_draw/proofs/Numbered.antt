@@ -38,3 +38,10 @@ flying_more last index old now new ways rest way whole had is more =
     ap (λ t. t ++ flying_text last (index + 1 + 1) rest) more
     ∙ append_assoc now (arrow_text way OnItsWay (y_of (last + (index + 1))) Took) (flying_text last (index + 1 + 1) rest)
     ∙ ap (λ ws. now ++ flying_text last (index + 1) ws) (sym is) ∙ had
+
+-- the same, where the row's place was computed
+pub flying_at : (last index y : ℕ) (old now new : List ℕ) (ways rest : List Way) (way : Way) (whole : List ℕ)
+    → y ≡ y_of (last + (index + 1)) → new ≡ now ++ arrow_text way OnItsWay y Took
+    → now ++ flying_text last (index + 1) ways ≡ old ++ whole → ways ≡ way ∷ rest → new ++ flying_text last (index + 1 + 1) rest ≡ old ++ whole
+flying_at last index y old now new ways rest way whole at more had is =
+    flying_more last index old now new ways rest way whole had is (more ∙ ap (λ place. now ++ arrow_text way OnItsWay place Took) at)

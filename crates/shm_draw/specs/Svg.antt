@@ -9,7 +9,7 @@ use Rattle.shm_model.specs.declared.answer.Shown.{Shown}
 use Rattle.shm_model.specs.declared.answer.State.{State}
 use Rattle.shm_model.specs.declared.answer.State.TheVariants as state
 use Rattle.shm_model.specs.declared.call.Op.TheVariants.{Stat}
-use Rattle.shm_model.specs.declared.call.Request.{Request}
+use Rattle.shm_model.specs.declared.call.Request.{Request as CallRequest}
 use Rattle.shm_model.specs.declared.call.Request.TheVariants.{Op as OpRequest}
 use Rattle.shm_model.specs.declared.event.Event.{Event}
 use Rattle.shm_model.specs.declared.event.Event.TheVariants.{Begin}
@@ -197,7 +197,7 @@ abbrev pub flying_text : ℕ → ℕ → List Way → List ℕ
 flying_text last further [] = []
 flying_text last further (way ∷ ways) = arrow_text way OnItsWay (y_of (last + further)) Took ++ flying_text last (further + 1) ways
 
-abbrev pub is_stat : Request → Bool
+abbrev pub is_stat : CallRequest → Bool
 is_stat (OpRequest (Stat _ _)) = true
 is_stat _ = false
 

@@ -39,9 +39,10 @@ pub fn picture_of<A: Allocator + Copy>(
     tell_cells(&mut body, &world, lane_page(&page), 0)?;
     tell_events(&mut body, &mut world, &mut origins, events, &page)?;
     let ways = on_their_way(alloc, &world, origins.as_slice(), &page)?;
-    tell_on_their_way(&mut body, last, ways.as_slice())?;
+    let flying = ways.as_slice();
+    tell_on_their_way(&mut body, last, flying)?;
     let mut text = String::new(alloc);
-    tell_head(&mut text, sites, room_of(events), last, ways.len() as u64)?;
+    tell_head(&mut text, sites, room_of(events), last, flying.len() as u64)?;
     text.push_str(STYLE)?;
     text.push_str(body.as_str())?;
     text.push_str("</svg>\n")?;
