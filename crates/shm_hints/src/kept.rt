@@ -1,5 +1,5 @@
 //! The bytes that a reader remembers.
-ghost use Rattle.std.specs.Prelude.{◌≡◌, ◌≤◌, ◌==◌, count_by, length, IfSome};
+ghost use Rattle.std.specs.Prelude.{◌≡◌, ◌≤◌, ◌==◌, [], count_by, length, IfSome};
 
 use shm_lines::split_at;
 
@@ -29,8 +29,13 @@ impl Kept {
         }
     }
 
-    /// Forgets the lines that are ended, and keeps these bytes.
-    pub fn keep(&mut self, block: &[u8]) {
+    /// Forgets the lines that are ended, and keeps these bytes. Where there are none, as at the end of what is read, nothing is forgotten.
+    pub fn keep(&mut self, block: &[u8])
+        ensures { block.now ≡ [] → self.new ≡ self.old }
+    {
+        if block.is_empty() {
+            return;
+        }
         self.forget();
         self.append(block);
     }

@@ -8,7 +8,7 @@ use std::io::{self, Read};
 const BLOCK: usize = 8192;
 
 /// A reader that gives what another gives, at most 8,192 bytes at once, and from which the lines can be had that it gave last: those of
-/// the last read, and the one that stood open before it. It takes some 8 KB, however much is read. Which line is told is not proved.
+/// the last read that gave any, and the one that stood open before it. It takes some 8 KB, however much is read. Which line is told is not proved.
 #[derive(Drop)]
 pub struct Recalling<R> {
     reader: R,

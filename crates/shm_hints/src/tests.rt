@@ -51,7 +51,7 @@ fn places_are_found(rt: HostRuntime) -> Result<(), Fail> {
 fn a_line_is_recalled(rt: HostRuntime) -> Result<(), Fail> {
     let mut reader = Recalling::new(b"one\ntwo\nthree".as_slice());
     let mut chunk = [0u8; 6];
-    for _ in 0..3 {
+    for _ in 0..4 {
         let _ = reader.read(&mut chunk)?;
     }
     assert!(rt; reader.line(1).is_none());

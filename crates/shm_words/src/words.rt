@@ -12,7 +12,7 @@ use std::alloc::{AllocError, Global};
 use std::convert::AsStr;
 
 /// Reads the words, the first of which is the program's name. A request for help is an `Err` too, whose text is the help.
-pub fn parse_words<S: AsStr>(alloc: Global, words: &[S]) -> Result<Task, Error>
+pub fn parse_words<'a, S: AsStr>(alloc: Global, words: &'a [S]) -> Result<Task<'a>, Error>
     ensures fault { FailsBy (fault_in (map S.text words.now)) result }
     ensures task { IfOk result (λ task. IsSomeAnd (subcommand_of app (map S.text words.now)) (λ named. IsAsked named.0 named.1 task)) }
 {
@@ -30,7 +30,7 @@ pub fn parse_words<S: AsStr>(alloc: Global, words: &[S]) -> Result<Task, Error>
 }
 
 /// What the words behind a subcommand's name ask for.
-fn task_of(name: &str, found: &ArgMatches<'_>) -> Result<Task, Error>
+fn task_of<'a>(name: &str, found: &ArgMatches<'a>) -> Result<Task<'a>, Error>
     ensures fault { FailsBy [] result }
     ensures task { IfOk result (IsAsked name.now (rows_of (found_of found.now))) }
 {
@@ -50,7 +50,7 @@ fn task_of(name: &str, found: &ArgMatches<'_>) -> Result<Task, Error>
 }
 
 /// Words that were taken have all options that are required, in range.
-fn there(task: Option<Task>) -> Result<Task, Error>
+fn there<'a>(task: Option<Task<'a>>) -> Result<Task<'a>, Error>
     ensures fault { FailsBy [] result }
     ensures task { IfOk result (λ is. task ≡ Some is) }
 {

@@ -53,12 +53,25 @@ fn three_sites_and_no_room(rt: HostRuntime) {
     assert_eq!(rt; reader, b"".as_slice());
 }
 
-/// A wrong line of a script is shown where it is to be.
+/// Wrong lines are shown where they are to be.
 #[test]
-fn a_wrong_line_is_shown(rt: HostRuntime) {
-    let mut reader = Source::new(b"sites 1 preset 1\nload 0 0x 4\n".as_slice(), true);
-    let ran = run_over(&rt, &["shmdbg", "replay"], &mut reader);
-    let shown = b"shmdbg: line 2: bad line\nload 0 0x 4\n        ^ an attachment's number: ";
-    assert_eq!(rt; ran.status, 1);
-    assert!(rt; ran.errors.as_slice().starts_with(shown));
+fn wrong_lines_are_shown(rt: HostRuntime) {
+    let cases: [(&[&str], &[u8], &[u8]); 2] = [
+        (
+            &["shmdbg", "replay"],
+            b"sites 1 preset 1\nload 0 0x 4\n",
+            b"shmdbg: line 2: bad line\nload 0 0x 4\n        ^ an attachment's number: ",
+        ),
+        (
+            &WORDS,
+            b"preset 1\nload 0 4 4\n",
+            b"shmdbg: line 2: bad line\nload 0 4 4\n        ^ the end of the line\n",
+        ),
+    ];
+    for (words, input, errors) in cases {
+        let mut reader = Source::new(input, true);
+        let ran = run_over(&rt, words, &mut reader);
+        assert_eq!(rt; ran.status, 1);
+        assert!(rt; ran.errors.as_slice().starts_with(errors));
+    }
 }
