@@ -1,5 +1,5 @@
 -- A run that is drawn event by event, and the whole picture from its parts.
-use Rattle.std.proofs.Common.{◌≡◌, ◌∙◌, ℕ, ◌+◌, ◌-◌, List, [], ◌∷◌, ◌++◌, length, drop, replicate, Option, Result, OnOk, refl, sym, ap, ap₂, subst, append_assoc, append-nil}
+use Rattle.std.proofs.Common.{◌≡◌, ◌∙◌, ℕ, ◌+◌, ◌-◌, List, [], ◌∷◌, ◌++◌, length, drop, replicate, Option, Result, OnOk, refl, sym, ap, ap₂, subst, append_assoc, append-nil, codes}
 use Rattle.shm_place.specs.declared.page.PageId.{PageId}
 use Rattle.shm_model.specs.declared.answer.Answer.{Answer}
 use Rattle.shm_model.specs.declared.event.Event.{Event}
@@ -9,8 +9,10 @@ use Rattle.shm_world.specs.Steps.{Went}
 use Rattle.shm_world.specs.World.{StandsFor}
 use Rattle.shm_world.specs.declared.world.World.{World}
 use Rattle.shm_draw.specs.Drawing.{DrewEvent, DrewEvents}
-use Rattle.shm_draw.specs.Picture.{Scene, scene, scene_after, last_scene, lane_page, mark}
-use Rattle.shm_draw.specs.Svg.{cells_text, line_text, mark_text, row_text, rows_text}
+use Rattle.shm_draw.specs.Picture.{Scene, first_scene, scene, scene_after, last_scene, lane_page, mark}
+use Rattle.shm_draw.specs.Svg.{body_text, cells_text, flying_text, head_text, line_text, mark_text, names_text, room_of, row_text, rows_text, svg_text, ways_after}
+use Rattle.shm_draw.specs.declared.style.TheConstants.{STYLE}
+use Rattle.shm_draw.specs.declared.mark.Way.{Way}
 use Rattle.shm_draw.specs.declared.mark.Mark.{Mark}
 
 -- so many of the events are drawn
@@ -78,6 +80,28 @@ pub text_told : (start first second third text head style body foot : List ℕ) 
 text_told start first second third text head style body foot z a b c d =
     d ∙ ap (λ t. t ++ foot) c ∙ ap (λ t. (t ++ body) ++ foot) b ∙ ap (λ t. ((t ++ style) ++ body) ++ foot) a
     ∙ ap (λ t. (((t ++ head) ++ style) ++ body) ++ foot) z ∙ in_all head style body foot
+
+-- the picture from the texts of its parts, as they are told one after the other
+pub picture_told : (page : Option PageId) (w : model.World) (events : List Event) (count room last further : ℕ) (ways : List Way) (b0 b1 b2 b3 b4 t0 t1 t2 t3 t4 : List ℕ)
+    → count ≡ w.count → room ≡ room_of events → last ≡ length events → further ≡ length ways → ways ≡ ways_after page w events
+    → b0 ≡ [] → b1 ≡ b0 ++ names_text count → b2 ≡ b1 ++ cells_text w (lane_page page) 0 → b3 ≡ b2 ++ rows_text page (first_scene w) events → b4 ≡ b3 ++ flying_text last 1 ways
+    → t0 ≡ [] → t1 ≡ t0 ++ head_text count room last further → t2 ≡ t1 ++ STYLE.now → t3 ≡ t2 ++ b4 → t4 ≡ t3 ++ codes "</svg>\n"
+    → t4 ≡ svg_text page w events
+picture_told page w events count room last further ways b0 b1 b2 b3 b4 t0 t1 t2 t3 t4 sites wide all more are p0 p1 p2 p3 p4 q0 q1 q2 q3 q4 =
+    let cells = cells_text w (lane_page page) 0 in
+    let rows = rows_text page (first_scene w) events in
+    let body : b4 ≡ names_text count ++ (cells ++ (rows ++ flying_text last 1 ways)) =
+    body_told b0 b1 b2 b3 b4 (names_text count) cells rows (flying_text last 1 ways) p0 p1 p2 p3 p4 in
+    let flying : flying_text last 1 ways ≡ flying_text (length events) 1 (ways_after page w events) =
+    ap (λ n. flying_text n 1 ways) all ∙ ap (flying_text (length events) 1) are in
+    let is_body : b4 ≡ body_text page w events (ways_after page w events) =
+    body ∙ ap (λ n. names_text n ++ (cells ++ (rows ++ flying_text last 1 ways))) sites ∙ ap (λ text. names_text w.count ++ (cells ++ (rows ++ text))) flying in
+    let head : head_text count room last further ≡ head_text w.count (room_of events) (length events) (length (ways_after page w events)) =
+    ap (λ n. head_text n room last further) sites ∙ ap (λ n. head_text w.count n last further) wide
+    ∙ ap (λ n. head_text w.count (room_of events) n further) all ∙ ap (head_text w.count (room_of events) (length events)) (more ∙ ap length are) in
+    text_told t0 t1 t2 t3 t4 (head_text count room last further) STYLE.now b4 (codes "</svg>\n") q0 q1 q2 q3 q4
+    ∙ ap (λ text. text ++ (STYLE.now ++ (b4 ++ codes "</svg>\n"))) head
+    ∙ ap (λ text. head_text w.count (room_of events) (length events) (length (ways_after page w events)) ++ (STYLE.now ++ (text ++ codes "</svg>\n"))) is_body
 
 -- ---- one event
 

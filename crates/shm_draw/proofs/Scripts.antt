@@ -1,8 +1,8 @@
 -- What has been read of a script, and what stands at its end.
 use Rattle.std.proofs.Common.{◌≡◌, ◌∙◌, ℕ, List, [], ◌∷◌, ◌++◌, length, take, drop, take-append-drop, inl, inr, Option, None, Some, IfSome, Result, Ok, Err, IfOk, IfErr, refl, sym, ap, subst, append-nil}
 use Rattle.std.proofs.Math.Seq.{take-append_seam}
-use Rattle.std.specs.Io.KnownBytes.{Appends, Consumes, IsAtEnd}
-use Rattle.std.proofs.KnownBytes.{Consumes-whole}
+use Rattle.std.specs.Io.KnownBytes.{Appends, Consumes, IsAtEnd, Keeps}
+use Rattle.std.proofs.KnownBytes.{Appends-kept, Consumes-whole}
 use Rattle.shm_place.specs.declared.page.PageId.{PageId}
 use Rattle.shm_lines.specs.Line.{line_of}
 use Rattle.shm_lines.specs.Spelling.{IsLine}
@@ -94,3 +94,26 @@ draws-front page script standing picture n s e =
 pub draws-unflushed : (page : Option PageId) (script : Script) (standing : Option Standing) (picture : List ℕ) → Stands script standing → picture ≡ drawing page standing
     → Draws page script (Err WriteFault) picture
 draws-unflushed page script standing picture s e = inr (s.whole, ([], sym (is-drawing page script standing picture s e) ∙ sym (append-nil picture)))
+
+-- ---- the picture is written
+
+pub drawn_whole : (r : Option (List ℕ)) (page : Option PageId) (standing : Option Standing) (picture : List ℕ) (w0 w1 w2 : Option (List ℕ)) (done : Unit {0})
+    → IfSome r (λ bytes. Stands (script_of bytes) standing) → picture ≡ drawing page standing → Appends w0 w1 picture → Keeps w1 w2
+    → IfSome r (λ bytes. (text : List ℕ) × Appends w0 w2 text × Draws page (script_of bytes) (Ok done) text)
+drawn_whole r page standing picture w0 w1 w2 done stands is wrote kept =
+    IfSome-map r (λ bytes. Stands (script_of bytes) standing) (λ bytes. (text : List ℕ) × Appends w0 w2 text × Draws page (script_of bytes) (Ok done) text) stands
+    (λ bytes s. (picture, Appends-kept w0 w1 w2 picture wrote kept, (s.whole, is-drawing page (script_of bytes) standing picture s is)))
+
+pub drawn_unflushed : (r : Option (List ℕ)) (page : Option PageId) (standing : Option Standing) (picture : List ℕ) (w0 w1 w2 : Option (List ℕ))
+    → IfSome r (λ bytes. Stands (script_of bytes) standing) → picture ≡ drawing page standing → Appends w0 w1 picture → Keeps w1 w2
+    → IfSome r (λ bytes. (text : List ℕ) × Appends w0 w2 text × Draws page (script_of bytes) (Err WriteFault) text)
+drawn_unflushed r page standing picture w0 w1 w2 stands is wrote kept =
+    IfSome-map r (λ bytes. Stands (script_of bytes) standing) (λ bytes. (text : List ℕ) × Appends w0 w2 text × Draws page (script_of bytes) (Err WriteFault) text) stands
+    (λ bytes s. (picture, Appends-kept w0 w1 w2 picture wrote kept, draws-unflushed page (script_of bytes) standing picture s is))
+
+pub drawn_in_front : (r : Option (List ℕ)) (page : Option PageId) (standing : Option Standing) (picture : List ℕ) (w0 w1 : Option (List ℕ)) (n : ℕ)
+    → IfSome r (λ bytes. Stands (script_of bytes) standing) → picture ≡ drawing page standing → Appends w0 w1 (take n picture)
+    → IfSome r (λ bytes. (text : List ℕ) × Appends w0 w1 text × Draws page (script_of bytes) (Err WriteFault) text)
+drawn_in_front r page standing picture w0 w1 n stands is wrote =
+    IfSome-map r (λ bytes. Stands (script_of bytes) standing) (λ bytes. (text : List ℕ) × Appends w0 w1 text × Draws page (script_of bytes) (Err WriteFault) text) stands
+    (λ bytes s. (take n picture, wrote, draws-front page (script_of bytes) standing picture n s is))

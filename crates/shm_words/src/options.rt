@@ -49,11 +49,13 @@ fn number(found: &ArgMatches<'_>, option: &str) -> Option<u32>
 pub(crate) fn draw_task(found: &ArgMatches<'_>) -> Option<Task>
     ensures { IfSome result (λ task. IsAsked (codes "draw") (rows_of (found_of found.now)) task) }
 {
-    let Some(values) = found.get_raw("page") else {
-        return Some(Task::Draw { page: None });
-    };
-    let page = page_of(values)?;
-    Some(Task::Draw { page: Some(page) })
+    match found.get_raw("page") {
+        Some(values) => {
+            let page = page_of(values)?;
+            Some(Task::Draw { page: Some(page) })
+        }
+        None => Some(Task::Draw { page: None }),
+    }
 }
 
 /// The page that is written as two numbers.

@@ -1,4 +1,13 @@
+use Rattle.std.proofs.Common.{◌∙◌, ap, subst}
+use Rattle.std.proofs.lemmas.Result.{IfOk-weaker}
+use Rattle.shm_model.specs.World.{opened}
+use Rattle.shm_world.specs.World.{StandsFor}
+use Rattle.shm_draw.specs.Svg.{svg_text}
 use Rattle.shm_draw.proofs.script.drawn_session.Goals as goal
 
 pub returns : goal.returns
-returns g c = ?
+returns g c =
+    let stands : StandsFor c.in_ok-world.world (opened c.args.session.now.opening) =
+    subst (λ o. StandsFor c.in_ok-world.world (opened o)) c.opening.ensures c.in_ok-world.ensures in
+    IfOk-weaker c.picture_of.result _ _ (λ picture is. is ∙ ap (svg_text c.args.page (opened c.args.session.now.opening)) c.events.ensures)
+    (c.picture_of.ensures (opened c.args.session.now.opening) stands)
