@@ -8,6 +8,6 @@ pub returns : goal.returns
 returns c =
     let same : c.in_ok-sites.sites ≡ c.in_ok-number.field-0 = search rules in
     let found = found_of c.args.found.now in
-    let logged : first_of (codes "log") (rows_of found) ≡ option_map (λ s. s.now) c.get_str.result =
-    sym (first_value-rows found (codes "log")) ∙ sym c.get_str.ensures in
+    let logged : first_of (codes "log") (rows_of found) ≡ option_map (λ s. s.now) c.get_str-log.result =
+    sym (first_value-rows found (codes "log")) ∙ sym c.get_str-log.ensures in
     record { called = refl; options = (c.in_ok-number.ensures ∙ ap Some (sym same), (c.in_ok-seed.ensures, (sym c.is_set.ensures, logged))) }
