@@ -62,7 +62,8 @@ HandOversHaveArrows page o = (events : List Event) (event : Event) (number : ℕ
 -- each event has one row, in their order, and it shows the run as far as there
 pub record RowsInOrder (page : Option PageId) (o : Opening) (earlier later : List Event) (event : Event) : Type 0 where
   pub text : rows_text page (first_scene (opened o)) (earlier ++ event ∷ later)
-      ≡ rows_text page (first_scene (opened o)) earlier ++ (row_text page (scene_of o earlier) event ++ rows_text page (scene_of o (earlier ++ event ∷ [])) later)
+      ≡ rows_text page (first_scene (opened o)) earlier
+      ++ (row_text page (scene_of o earlier) event ++ rows_text page (scene_of o (earlier ++ event ∷ [])) later)
   pub world : (scene_of o earlier).world ≡ (run o earlier).world
   pub number : (scene_of o earlier).number ≡ length earlier + 1
 

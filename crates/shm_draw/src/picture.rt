@@ -75,7 +75,8 @@ fn tell_events<A: Allocator + Copy>(
     page: &Option<PageId>,
 ) -> Result<(), AllocError>
     requires { origins.old.items ≡ [] }
-    ensures { (w : model.World) → StandsFor world.old w → OnOk result (DrewEvents page.now (Picture.first_scene w) events.now (string_bytes out.old) (string_bytes out.new) world.new origins.new.items) }
+    ensures { (w : model.World) → StandsFor world.old w → OnOk result
+        (DrewEvents page.now (Picture.first_scene w) events.now (string_bytes out.old) (string_bytes out.new) world.new origins.new.items) }
 {
     'events: for (index, event) in events.iter().enumerate() {
         tell_event(out, world, origins, page, index as u64 + 1, *event)?;
@@ -92,7 +93,8 @@ fn tell_event<A: Allocator + Copy>(
     number: u64,
     event: Event,
 ) -> Result<(), AllocError>
-    ensures { (w : model.World) → StandsFor world.old w → OnOk result (DrewEvent page.now (scene w number origins.old.items) event (string_bytes out.old) (string_bytes out.new) world.new origins.new.items) }
+    ensures { (w : model.World) → StandsFor world.old w → OnOk result
+        (DrewEvent page.now (scene w number origins.old.items) event (string_bytes out.old) (string_bytes out.new) world.new origins.new.items) }
 {
     let mark = mark_of(world, origins.as_slice(), page, &event);
     let answer = world.step(event)?;

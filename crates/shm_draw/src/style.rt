@@ -8,10 +8,14 @@ pub(crate) const STYLE: &str =
 .again{stroke:#80c;stroke-dasharray:9 2 2 2;marker-end:url(#double)}.lost{stroke:#c00;marker-end:url(#cross)}
 .fly{stroke:#06c;stroke-dasharray:5 4;marker-end:url(#open)}</style>
 <defs>
-<marker id='head' orient='auto' markerUnits='userSpaceOnUse' markerWidth='12' markerHeight='10' refX='18' refY='5'><path d='M0 0L12 5L0 10z' fill='#333'/></marker>
-<marker id='double' orient='auto' markerUnits='userSpaceOnUse' markerWidth='18' markerHeight='10' refX='24' refY='5'><path d='M0 0L9 5L0 10zM9 0L18 5L9 10z' fill='#80c'/></marker>
-<marker id='open' orient='auto' markerUnits='userSpaceOnUse' markerWidth='12' markerHeight='10' refX='18' refY='5'><path d='M1 1L11 5L1 9' fill='none' stroke='#06c' stroke-width='1.5'/></marker>
-<marker id='cross' markerUnits='userSpaceOnUse' markerWidth='14' markerHeight='14' refX='7' refY='7'><path d='M1 1L13 13M1 13L13 1' stroke='#c00' stroke-width='2.5'/></marker>
+<marker id='head' orient='auto' markerUnits='userSpaceOnUse' markerWidth='12' markerHeight='10' refX='18' refY='5'>\
+<path d='M0 0L12 5L0 10z' fill='#333'/></marker>
+<marker id='double' orient='auto' markerUnits='userSpaceOnUse' markerWidth='18' markerHeight='10' refX='24' refY='5'>\
+<path d='M0 0L9 5L0 10zM9 0L18 5L9 10z' fill='#80c'/></marker>
+<marker id='open' orient='auto' markerUnits='userSpaceOnUse' markerWidth='12' markerHeight='10' refX='18' refY='5'>\
+<path d='M1 1L11 5L1 9' fill='none' stroke='#06c' stroke-width='1.5'/></marker>
+<marker id='cross' markerUnits='userSpaceOnUse' markerWidth='14' markerHeight='14' refX='7' refY='7'>\
+<path d='M1 1L13 13M1 13L13 1' stroke='#c00' stroke-width='2.5'/></marker>
 <path id='Untouched' d='M0 0V22' stroke='#aaa' stroke-dasharray='4 3.3'/>
 <path id='Nil' d='M-5.5 0V22M5.5 0V22' stroke='#999'/>
 <g id='Copy'><rect x='-6' width='12' height='22' fill='#c6dbef'/><path d='M-6 11L6 0M-6 22L6 11' stroke='#3070a0'/></g>
