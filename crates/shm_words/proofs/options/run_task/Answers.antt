@@ -10,4 +10,4 @@ returns c =
     let found = found_of c.args.found.now in
     let logged : first_of (codes "log") (rows_of found) ≡ option_map (λ s. s.now) c.get_str-log.result =
     sym (first_value-rows found (codes "log")) ∙ sym c.get_str-log.ensures in
-    record { called = refl; options = (c.in_ok-number.ensures ∙ ap Some (sym same), (c.in_ok-seed.ensures, (sym c.is_set.ensures, logged))) }
+    record { called = refl; options = (c.in_ok-number.ensures ∙ ap Some (sym same), c.in_ok-seed.ensures, sym c.is_set-summary.ensures, logged) }
