@@ -1,4 +1,4 @@
-ghost use Rattle.std.specs.Prelude.{◌≡◌, [], Some, map, IfOk, IsSomeAnd};
+ghost use Rattle.std.specs.Prelude.{map, IfOk, IfSome, IsSomeAnd};
 ghost use Rattle.clap.specs.Words.{FailsBy, found_of, rows_of, subcommand_of};
 ghost use Rattle.shm_words.specs.Commands.{app};
 ghost use Rattle.shm_words.specs.Words.{fault_in, IsAsked};
@@ -24,38 +24,29 @@ pub fn parse_words<'a, S: AsStr>(alloc: Global, words: &'a [S]) -> Result<Task<'
         return Err(spelling_error(alloc, &matches)?);
     }
     match matches.subcommand() {
-        Some((name, found)) => task_of(name, found),
+        Some((name, found)) => match task_of(name, found) {
+            Some(task) => Ok(task),
+            None => Err(Error::from(AllocError)),
+        },
         None => Err(Error::from(AllocError)),
     }
 }
 
-/// What the words behind a subcommand's name ask for.
-fn task_of<'a>(name: &str, found: &ArgMatches<'a>) -> Result<Task<'a>, Error>
-    ensures fault { FailsBy [] result }
-    ensures task { IfOk result (IsAsked name.now (rows_of (found_of found.now))) }
+/// What the words behind a subcommand's name ask for. Words that were taken have all options that are required, in range.
+fn task_of<'a>(name: &str, found: &ArgMatches<'a>) -> Option<Task<'a>>
+    ensures { IfSome result (IsAsked name.now (rows_of (found_of found.now))) }
 {
     if name == "replay" {
-        return Ok(Task::Replay);
+        return Some(Task::Replay);
     }
     if name == "prompt" {
-        return Ok(Task::Prompt);
+        return Some(Task::Prompt);
     }
     if name == "run" {
-        return there(run_task(found));
+        return run_task(found);
     }
     if name == "draw" {
-        return there(draw_task(found));
+        return draw_task(found);
     }
-    Err(Error::from(AllocError))
-}
-
-/// Words that were taken have all options that are required, in range.
-fn there<'a>(task: Option<Task<'a>>) -> Result<Task<'a>, Error>
-    ensures fault { FailsBy [] result }
-    ensures task { IfOk result (λ is. task ≡ Some is) }
-{
-    match task {
-        Some(task) => Ok(task),
-        None => Err(Error::from(AllocError)),
-    }
+    None
 }

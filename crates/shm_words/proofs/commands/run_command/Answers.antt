@@ -2,7 +2,7 @@ use Rattle.std.proofs.Common.{rules, ap₂, codes, ◌≡◌, ◌∙◌, ◌||�
 use Rattle.std.proofs.lemmas.Result.{IfOk-weaker}
 use Rattle.clap.specs.Words.{app_of, new_app, with_rule}
 use Rattle.clap.specs.declared.builder.command.Command.TheViews.{out-Command}
-use Rattle.shm_words.specs.Commands.{log_rule, sites_rule, seed_rule, summary_rule}
+use Rattle.shm_words.specs.Commands.{sites_rule, seed_rule, summary_rule}
 use Rattle.shm_words.proofs.commands.run_command.Goals as goal
 
 pub returns : goal.returns
