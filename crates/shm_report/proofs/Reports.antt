@@ -1,16 +1,20 @@
 -- What was written is a report, or a front of one.
-use Rattle.std.proofs.Common.{◌≡◌, ◌∙◌, ℕ, Bool, true, false, List, [], ◌++◌, Option, None, Some, Result, Ok, Err, IfErr, IfSome, OnOk, OnErr, append_assoc, append-nil, ap, drop, refl, subst, sym, take}
+use Rattle.std.proofs.Common.{◌≡◌, ◌∙◌, ℕ, Bool, true, false, List, [], ◌++◌, Option, None, Some, Result, Ok, Err, IfErr, IfSome, OnOk, OnErr, append_assoc, append-nil, ap, drop, length, refl, subst, sym, take}
+use Rattle.std.specs.Prelude.{Vec}
 use Rattle.std.specs.Io.KnownBytes.{Appends, Keeps}
 use Rattle.std.proofs.KnownBytes.{Appends-kept, Appends-trans}
 use Rattle.std.proofs.lemmas.List.{length-map, take-append-drop}
-use Rattle.shm_report.specs.Audited.{counts_of_run, IsReportOfRun, TellsRun}
+use Rattle.shm_report.specs.Audited.{counts_of_run, IsAccepted, IsReportOfRun, TellsRun}
+use Rattle.shm_report.specs.Callers.{AllServed}
 use Rattle.shm_report.specs.Causes.{IsRight}
 use Rattle.shm_report.specs.Counts.{summary_text}
 use Rattle.shm_report.specs.Report.{audit_yes, whole_of, IsCutShort, IsReport, IsReportOf, IsSummedReport, IsToldReport, TellsLines}
 use Rattle.shm_report.specs.declared.audited.Audited.{Audited}
 use Rattle.shm_sites.specs.Auditing.Logs.{logs_of}
 use Rattle.shm_sites.specs.Boxes.SiteLog.{steps_of}
+use Rattle.shm_sites.specs.declared.boxes.receipt.Receipt.{Receipt}
 use Rattle.shm_lines.specs.Workload.{workload_of}
+use Rattle.shm_lines.specs.declared.access.Access.{Access}
 
 pub on_ok : {X E P Q : Type 0} (r : Result X E) → (P → Q) → OnOk r P → OnOk r Q
 on_ok (Ok x) f p = f p
@@ -64,27 +68,35 @@ cut_before old new text more cut = record {
   written = cut.written;
 }
 
--- lines that tell the run's receipts are its report
-pub is_report_of : (run : Audited) (text : List ℕ) → TellsLines run.workload.accesses.items run.ran.callers.items text → IsReportOfRun run (text ++ audit_yes)
-is_report_of run text (receipts, answered, told) = record {
-  a_log_each = length-map run.ran.logs.items steps_of ∙ run.logs.count;
-  audited = run.accepted;
-  complete = run.complete;
-  served = run.served;
-  receipts = receipts;
-  answered = answered;
-  told = ap (λ lines. lines ++ audit_yes) told;
-}
+-- the lines tell each access its receipt, where all were served
+abbrev pub Tells : {A : Type 0} → List Access → List (Vec Receipt A) → List ℕ → Type 0
+Tells accesses callers text = AllServed (length callers) accesses callers → TellsLines accesses callers text
+
+-- so they are the report of an accepted run
+pub is_report_of : (run : Audited) (text : List ℕ) → Tells run.workload.accesses.items run.ran.callers.items text
+    → IsReportOfRun run (text ++ audit_yes)
+is_report_of run text lines run_is =
+    let tells = lines (subst (λ n. AllServed n run.workload.accesses.items run.ran.callers.items) (sym run_is.served.count) run_is.served) in
+    record {
+      a_log_each = length-map run.ran.logs.items steps_of ∙ run_is.logs.count;
+      audited = run_is.accepted;
+      complete = run_is.complete;
+      served = run_is.served;
+      receipts = tells.0;
+      answered = tells.1;
+      told = ap (λ text. text ++ audit_yes) tells.2;
+    }
 
 -- a run over so many sites, of the workload that these bytes have
 pub record IsRunOf (sites : ℕ) (known : Option (List ℕ)) (run : Audited) : Type 0 where
+  pub accepted : IsAccepted run
   pub among : run.sites ≡ sites
   pub read : IfSome known (λ bytes. workload_of sites bytes ≡ Ok (whole_of run.workload))
 
 over : (sites : ℕ) (known : Option (List ℕ)) (run : Audited) (lines : List ℕ) → IsRunOf sites known run → IsReportOfRun run lines
     → IsReportOf sites (whole_of run.workload) (logs_of run.ran.logs.items) run.ran.callers.items run.events.items lines
 over sites known run lines of reported =
-    subst (λ n. IsReportOf n (whole_of run.workload) (logs_of run.ran.logs.items) run.ran.callers.items run.events.items lines) of.among reported
+    subst (λ n. IsReportOf n (whole_of run.workload) (logs_of run.ran.logs.items) run.ran.callers.items run.events.items lines) of.among (reported of.accepted)
 
 -- what is told of it is a report
 pub unsummed : (sites : ℕ) (known : Option (List ℕ)) (run : Audited) (lines : List ℕ) → IsRunOf sites known run → IsReportOfRun run lines → IsReport sites known lines

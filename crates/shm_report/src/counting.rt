@@ -1,5 +1,5 @@
 //! What is counted of a run that was audited.
-ghost use Rattle.std.specs.Prelude.{◌≡◌, ◌+◌, ◌<◌, ◌==◌, ◌||◌, ℕ, false, count_by, length, map, slice_index_or, IfOk, IfSome};
+ghost use Rattle.std.specs.Prelude.{◌≡◌, ◌+◌, ◌<◌, ◌==◌, ◌||◌, ℕ, false, count_by, if◌then◌else◌, length, map, slice_index_or, IfOk, IfSome};
 ghost use Rattle.std.specs.List.{sum_by};
 ghost use Rattle.std.specs.Option.{option_map_or};
 ghost use Rattle.shm_sites.specs.Auditing.Logs.{logs_of};
@@ -52,7 +52,7 @@ fn faults_in(logs: &[SiteLog]) -> Option<u64>
 {
     let mut total = 0u64;
     'logs: for log in logs {
-        match total.checked_add(faults_of(log.steps()) as u64) {
+        match faults_with(total, log.steps()) {
             Some(sum) => total = sum,
             None => return None,
         }
@@ -60,17 +60,28 @@ fn faults_in(logs: &[SiteLog]) -> Option<u64>
     Some(total)
 }
 
-/// How many of these steps are accesses that had to wait for their page.
-fn faults_of(steps: &[Step]) -> usize
-    ensures { result ≡ count_by (λ step. spec.is_fault step.answer) steps.now }
+/// So many, and the accesses among these steps that had to wait for their page.
+fn faults_with(before: u64, steps: &[Step]) -> Option<u64>
+    ensures { IfSome result (λ sum. sum ≡ before + spec.faults_of (map logged_of steps.now)) }
 {
-    steps.iter().filter(|step| is_fault(step.answer)).count()
+    let mut total = before;
+    'steps: for step in steps {
+        match total.checked_add(faults_at(step)) {
+            Some(sum) => total = sum,
+            None => return None,
+        }
+    }
+    Some(total)
 }
 
-fn is_fault(answer: Answer) -> bool
-    ensures { result ≡ spec.is_fault answer }
+/// 1 for an access that had to wait for its page.
+fn faults_at(step: &Step) -> u64
+    ensures { result ≡ if spec.is_fault step.now.answer then 1 else 0 }
 {
-    matches!(answer, Answer::Fault)
+    match step.answer {
+        Answer::Fault => 1,
+        _ => 0,
+    }
 }
 
 fn envelopes_in(logs: &[SiteLog]) -> Option<u64>

@@ -2,6 +2,7 @@
 ghost use Rattle.std.specs.Prelude.{◌≡◌, ◌≢◌, ◌≤◌, ◌⊎◌, ℕ, List, None, Ok, false, true, IfErr, IfOk, IfSome, OnOk};
 ghost use Rattle.std.specs.Io.KnownBytes.{Appends};
 ghost use Rattle.shm_sites.specs.Auditing.Logs.{logs_of, AreLogsOf};
+ghost use Rattle.shm_report.specs.Audited.{IsAccepted};
 ghost use Rattle.shm_report.specs.Callers.{AllServed};
 ghost use Rattle.shm_lines.specs.Workload.{workload_of};
 ghost use Rattle.shm_report.specs.Causes.{audit_cause, input_cause, is_after_reading, IsFound, IsFoundIn, IsRight, IsWrongBy};
@@ -55,6 +56,7 @@ pub fn run_audited<R: Threads + Wait + Copy + Send + Sync + 'static, I: Read>(
     seed: u32,
     reader: &mut I,
 ) -> Result<Audited, ReportFault>
+    ensures accepted { IfOk result IsAccepted }
     ensures sites { IfOk result (λ run. run.sites ≡ sites) }
     ensures read { IfOk result (λ run. IfSome (I.remaining reader.old) (λ bytes. workload_of sites bytes ≡ Ok (whole_of run.workload))) }
     ensures unwritten { IfErr result (λ fault. fault ≢ cause.WriteFault) }
@@ -106,6 +108,7 @@ fn audit_run(
 ) -> Result<Audited, ReportFault>
     requires served { AllServed sites workload.accesses.items ran.callers.items }
     requires logs { AreLogsOf sites workload.pages ran.logs.items }
+    ensures accepted { IfOk result IsAccepted }
     ensures same { IfOk result (λ run. (run.sites ≡ sites) × (run.workload ≡ workload)) }
     ensures unwritten { IfErr result (λ fault. fault ≢ cause.WriteFault) }
     ensures input { IfErr result (λ fault. input_cause fault ≡ None) }

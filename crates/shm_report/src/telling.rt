@@ -19,14 +19,13 @@ use std::io::Write;
 type ToldOf = [usize; MAX_SITES as usize];
 
 /// What each line was answered, under its number: line 1 made the sites ready, and each further line has the next receipt of its
-/// site's caller.
+/// site's caller, where the callers have one for each of their sites' lines.
 pub(crate) fn told(
     alloc: Global,
     accesses: &[Access],
     callers: &[Vec<Receipt>],
 ) -> Result<Text, ReportFault>
-    requires { AllServed (length callers.now) accesses.now callers.now }
-    ensures lines { IfOk result (TellsLines accesses.now callers.now) }
+    ensures lines { IfOk result (λ text. AllServed (length callers.now) accesses.now callers.now → TellsLines accesses.now callers.now text) }
     ensures fault { IfErr result IsOther }
     ensures unwritten { IfErr result (λ fault. fault ≢ cause.WriteFault) }
 {

@@ -1,7 +1,7 @@
 -- What the event receives is marked, and nothing else.
-use Rattle.std.proofs.Common.{◌≡◌, ◌∙◌, ◌==◌, ◌||◌, ap, false, get_or, sym}
+use Rattle.std.proofs.Common.{◌∙◌, ◌==◌, ◌||◌, ap, false, get_or, sym}
 use Rattle.std.specs.Option.{option_map_or}
-use Rattle.shm_report.proofs.Counted.{marked_by, unmarked}
+use Rattle.shm_report.proofs.Counted.{unmarked}
 use Rattle.shm_report.proofs.counting.mark.Goals as goal
 
 pub returns-in-Some-clause-marked : goal.returns-in-Some-clause-marked

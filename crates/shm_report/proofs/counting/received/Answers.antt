@@ -5,7 +5,7 @@ use Rattle.shm_report.proofs.Counted.{all_marked, none_marked, one_marked}
 use Rattle.shm_report.proofs.counting.received.Goals as goal
 
 pub events-init : goal.events-init
-events-init c = none_marked c.args.envelopes c.args.events.now _ (c.from_elem.ensures.items_if_clones_equal (λ y h. h))
+events-init c = none_marked c.args.envelopes c.args.events.now _ (c.in_ok-marks.ensures.items_if_clones_equal (λ y h. h))
 
 pub events-preserved : goal.events-preserved
 events-preserved c =
