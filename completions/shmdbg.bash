@@ -10,7 +10,11 @@ _shmdbg() {
       case $before in
         --sites) offered='1 2 3 4 5 6 7 8 9 10 11 12 13 14 15 16' ;;
         --seed) ;;
-        *) offered='--sites --seed -h --help' ;;
+        --log)
+          mapfile -t COMPREPLY < <(compgen -d -- "$word")
+          return
+          ;;
+        *) offered='--sites --seed --summary --log -h --help' ;;
       esac
       ;;
     *:draw) [ "$before" = --page ] || offered='--page -h --help' ;;

@@ -11,6 +11,8 @@ complete -c shmdbg -n __fish_use_subcommand -s V -l version -d 'Print the versio
 complete -c shmdbg -n '__fish_seen_subcommand_from replay' -s h -l help -d 'Print help'
 complete -c shmdbg -n '__fish_seen_subcommand_from run' -l sites -x -a '(seq 16)' -d 'How many sites, 1 to 16'
 complete -c shmdbg -n '__fish_seen_subcommand_from run' -l seed -x -d 'Where the losses and repeats are drawn from'
+complete -c shmdbg -n '__fish_seen_subcommand_from run' -l summary -d 'Tell at the end how much was done, and how long it took'
+complete -c shmdbg -n '__fish_seen_subcommand_from run' -l log -r -a '(__fish_complete_directories)' -d "Leave each site's log in this folder, which exists"
 complete -c shmdbg -n '__fish_seen_subcommand_from run' -s h -l help -d 'Print help'
 complete -c shmdbg -n '__fish_seen_subcommand_from prompt' -s h -l help -d 'Print help'
 complete -c shmdbg -n '__fish_seen_subcommand_from draw' -l page -x -d 'The page that is shown, by its segment and its index in it'

@@ -7,3 +7,4 @@ pub mod WholeInput
 pub mod Calls
 pub mod FirstFault
 pub mod Served
+pub mod Counted

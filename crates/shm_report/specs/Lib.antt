@@ -3,3 +3,5 @@ pub mod Report
 pub mod Numbers
 pub mod Callers
 pub mod RunFaults
+pub mod Counts
+pub mod Audited

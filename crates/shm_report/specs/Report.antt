@@ -1,5 +1,5 @@
 -- The report of a workload that was run and audited: what its lines were answered, and that the audit found nothing.
-use Rattle.std.specs.Prelude.{◌≡◌, ℕ, ◌+◌, List, [], ◌∷◌, ◌++◌, codes, length, take, IfSome, Ok, Option, Some, Vec, slice_get}
+use Rattle.std.specs.Prelude.{◌≡◌, ℕ, ◌+◌, Bool, true, false, List, [], ◌∷◌, ◌++◌, codes, length, take, IfSome, Ok, Option, Some, Vec, slice_get}
 use Rattle.std.specs.Io.KnownBytes.{Appends}
 use Rattle.std.specs.declared.alloc.Global.{Global}
 use Rattle.shm_sites.specs.Auditing.Audit.{IsAudited}
@@ -11,6 +11,7 @@ use Rattle.shm_model.specs.declared.event.Event.{Event}
 use Rattle.shm_model.specs.Log.{Logged}
 use Rattle.shm_model.specs.World.{Preset}
 use Rattle.shm_report.specs.Callers.{AllServed, Serves, lines_of}
+use Rattle.shm_report.specs.Counts.{counts_of, summary_text}
 use Rattle.shm_text.specs.Text.{answer_text, line_text}
 use Rattle.shm_lines.specs.Access.{site_of}
 use Rattle.shm_lines.specs.Workload.{Whole, workload_of}
@@ -71,8 +72,7 @@ whole_of workload = record { size = workload.pages; accesses = workload.accesses
 -- The text reports what came of a workload that was run over so many sites: an audit accepted what the sites logged and what their callers
 -- were told, each caller was told a receipt for each of its site's lines, and each line of the text tells its own receipt's answer. Every
 -- byte that any site loaded or stored is named by the receipt of a line, so the accesses that were made are exactly the lines'.
-pub record IsReportOf (sites : ℕ) (workload : Whole) (logs : List (List Logged)) (callers : List (Vec Receipt Global)) (text : List ℕ) : Type 0 where
-  pub events : List Event
+pub record IsReportOf (sites : ℕ) (workload : Whole) (logs : List (List Logged)) (callers : List (Vec Receipt Global)) (events : List Event) (text : List ℕ) : Type 0 where
   pub a_log_each : length logs ≡ sites
   pub audited : IsAudited (Preset sites workload.size) logs (callers_of callers) events
   pub complete : AllTold logs (callers_of callers)
@@ -87,7 +87,25 @@ pub record IsReport (sites : ℕ) (bytes : Option (List ℕ)) (text : List ℕ) 
   pub read : IfSome bytes (λ bytes. workload_of sites bytes ≡ Ok workload)
   pub logs : List (List Logged)
   pub callers : List (Vec Receipt Global)
-  pub reported : IsReportOf sites workload logs callers text
+  pub events : List Event
+  pub reported : IsReportOf sites workload logs callers events text
+
+-- So it is, and behind the report stands how much was done in the very run that is reported. What is said of the time isn't said here.
+pub record IsSummedReport (sites : ℕ) (bytes : Option (List ℕ)) (text : List ℕ) : Type 0 where
+  pub workload : Whole
+  pub read : IfSome bytes (λ bytes. workload_of sites bytes ≡ Ok workload)
+  pub logs : List (List Logged)
+  pub callers : List (Vec Receipt Global)
+  pub events : List Event
+  pub lines : List ℕ
+  pub reported : IsReportOf sites workload logs callers events lines
+  pub took : Option ℕ
+  pub told : text ≡ lines ++ summary_text (counts_of logs events) took
+
+-- with a summary, or without
+abbrev pub IsToldReport : Bool → ℕ → Option (List ℕ) → List ℕ → Type 0
+IsToldReport true sites bytes text = IsSummedReport sites bytes text
+IsToldReport false sites bytes text = IsReport sites bytes text
 
 -- a front of this text was written, where what was written is known
 pub record IsCutShort (old new : Option (List ℕ)) (text : List ℕ) : Type 0 where

@@ -1,7 +1,6 @@
 -- Which fault is told where callers ended before their last lines.
-use Rattle.std.specs.Prelude.{◌≡◌, ℕ, ◌<◌, ◌≤◌, List, Result, Ok, Err, Vec, Option, None, Some, if◌then◌else◌, nat_lt, slice_get}
+use Rattle.std.specs.Prelude.{◌≡◌, ℕ, ◌<◌, ◌≤◌, List, Result, Ok, Err, Option, None, Some, if◌then◌else◌, nat_lt, slice_get}
 use Rattle.shm_model.specs.Refusal.{other_logs, out_of_memory}
-use Rattle.shm_sites.specs.declared.boxes.receipt.Receipt.{Receipt}
 use Rattle.shm_sites.specs.Cluster.Faults.{client_fault_number, start_fault_number}
 use Rattle.shm_report.specs.declared.run_fault.CallFault.{CallFault}
 use Rattle.shm_report.specs.declared.run_fault.RunFault.{RunFault}

@@ -2,8 +2,12 @@
 //! then tells a writer what each line was answered.
 #![tactic(auto)]
 
+mod audited;
 mod auditing;
 mod caller;
+mod counting;
+mod counts;
+mod counts_text;
 mod fault_number;
 mod ran;
 mod reading;
@@ -11,10 +15,13 @@ mod report_fault;
 mod reporting;
 mod run_fault;
 mod running;
+mod summing;
 mod telling;
 
+pub use audited::Audited;
+pub use counts::Counts;
 pub use ran::Ran;
 pub use report_fault::ReportFault;
-pub use reporting::report;
+pub use reporting::{report, run_audited};
 pub use run_fault::{CallFault, RunFault};
 pub use running::run_workload;

@@ -2,16 +2,17 @@
 ghost use Rattle.std.specs.Prelude.{◌≡◌, ◌≢◌, ◌≤◌, ◌⊎◌, ℕ, List, None, Ok, false, true, IfErr, IfOk, IfSome, OnOk};
 ghost use Rattle.std.specs.Io.KnownBytes.{Appends};
 ghost use Rattle.shm_sites.specs.Auditing.Logs.{logs_of, AreLogsOf};
+ghost use Rattle.shm_report.specs.Audited.{IsAccepted};
 ghost use Rattle.shm_report.specs.Callers.{AllServed};
 ghost use Rattle.shm_lines.specs.Workload.{workload_of};
 ghost use Rattle.shm_report.specs.Causes.{audit_cause, input_cause, is_after_reading, IsFound, IsFoundIn, IsRight, IsWrongBy};
-ghost use Rattle.shm_report.specs.Report.{whole_of, IsCutShort, IsReport, IsReportOf};
+ghost use Rattle.shm_report.specs.Report.{whole_of, IsCutShort, IsReport};
 ghost use Rattle.shm_report.specs.declared.report_fault.ReportFault.TheVariants as cause;
 
+use crate::audited::Audited;
 use crate::auditing::audited;
 use crate::reading::read_all;
 use crate::report_fault::ReportFault;
-use crate::telling::{told, write_report};
 use crate::{Ran, run_workload};
 use shm_lines::{Workload, parse_workload};
 use shm_place::{PAGES, Sites};
@@ -41,6 +42,28 @@ pub fn report<R: Threads + Wait + Copy + Send + Sync + 'static, I: Read, O: Writ
     ensures right { IfErr result (λ fault. is_after_reading fault ≡ true → IsRight sites (I.remaining reader.old)) }
     ensures audit { IfErr result (λ fault. IfSome (audit_cause fault) (IsFound sites (I.remaining reader.old))) }
 {
+    match run_audited(rt, alloc, sites, seed, reader) {
+        Ok(run) => run.write(alloc, "", writer),
+        Err(fault) => Err(fault),
+    }
+}
+
+/// Runs the workload as `report` does, and audits it. Of what was run, nothing is written yet.
+pub fn run_audited<R: Threads + Wait + Copy + Send + Sync + 'static, I: Read>(
+    rt: &R,
+    alloc: Global,
+    sites: Sites,
+    seed: u32,
+    reader: &mut I,
+) -> Result<Audited, ReportFault>
+    ensures accepted { IfOk result IsAccepted }
+    ensures sites { IfOk result (λ run. run.sites ≡ sites) }
+    ensures read { IfOk result (λ run. IfSome (I.remaining reader.old) (λ bytes. workload_of sites bytes ≡ Ok (whole_of run.workload))) }
+    ensures unwritten { IfErr result (λ fault. fault ≢ cause.WriteFault) }
+    ensures input { IfErr result (λ fault. IfSome (input_cause fault) (IsWrongBy sites (I.remaining reader.old))) }
+    ensures right { IfErr result (λ fault. is_after_reading fault ≡ true → IsRight sites (I.remaining reader.old)) }
+    ensures audit { IfErr result (λ fault. IfSome (audit_cause fault) (IsFound sites (I.remaining reader.old))) }
+{
     let workload = match read_workload(alloc, sites, reader) {
         Ok(workload) => workload,
         Err(fault) => return Err(fault),
@@ -49,7 +72,7 @@ pub fn report<R: Threads + Wait + Copy + Send + Sync + 'static, I: Read, O: Writ
         Ok(ran) => ran,
         Err(fault) => return Err(ReportFault::of_run(fault)),
     };
-    tell(alloc, sites, &workload, &ran, writer)
+    audit_run(alloc, sites, workload, ran)
 }
 
 /// Reads the workload.
@@ -76,32 +99,28 @@ fn read_workload<I: Read>(
     }
 }
 
-/// Audits what was run, and tells it.
-fn tell<O: Write>(
+/// The same, where an audit accepts what was run.
+fn audit_run(
     alloc: Global,
     sites: Sites,
-    workload: &Workload,
-    ran: &Ran,
-    writer: &mut O,
-) -> Result<(), ReportFault>
-    requires served { AllServed sites workload.now.accesses.items ran.now.callers.items }
-    requires logs { AreLogsOf sites workload.now.pages ran.now.logs.items }
-    ensures quiet { IfErr result (λ fault. (fault ≡ cause.WriteFault) ⊎ (writer.new ≡ writer.old)) }
-    ensures told { OnOk result ((text : List ℕ) × Appends (O.contents writer.old) (O.contents writer.new) text
-        × IsReportOf sites (whole_of workload.now) (logs_of ran.now.logs.items) ran.now.callers.items text) }
-    ensures cut { IfErr result (λ fault. fault ≡ cause.WriteFault → (text : List ℕ)
-        × IsCutShort (O.contents writer.old) (O.contents writer.new) text
-        × IsReportOf sites (whole_of workload.now) (logs_of ran.now.logs.items) ran.now.callers.items text) }
+    workload: Workload,
+    ran: Ran,
+) -> Result<Audited, ReportFault>
+    requires served { AllServed sites workload.accesses.items ran.callers.items }
+    requires logs { AreLogsOf sites workload.pages ran.logs.items }
+    ensures accepted { IfOk result IsAccepted }
+    ensures same { IfOk result (λ run. (run.sites ≡ sites) × (run.workload ≡ workload)) }
+    ensures unwritten { IfErr result (λ fault. fault ≢ cause.WriteFault) }
     ensures input { IfErr result (λ fault. input_cause fault ≡ None) }
-    ensures audit { IfErr result (λ fault. IfSome (audit_cause fault)
-        (IsFoundIn sites (whole_of workload.now) (logs_of ran.now.logs.items) ran.now.callers.items)) }
+    ensures audit { IfErr result (λ fault. IfSome (audit_cause fault) (IsFoundIn sites (whole_of workload) (logs_of ran.logs.items) ran.callers.items)) }
 {
-    match audited(alloc, sites, workload.pages, ran) {
-        Ok(()) => {}
-        Err(fault) => return Err(fault),
-    }
-    match told(alloc, workload.accesses.as_slice(), ran.callers.as_slice()) {
-        Ok(text) => write_report(&text, writer),
+    match audited(alloc, sites, workload.pages, &ran) {
+        Ok(events) => Ok(Audited {
+            sites,
+            workload,
+            ran,
+            events,
+        }),
         Err(fault) => Err(fault),
     }
 }

@@ -19,14 +19,13 @@ use std::io::Write;
 type ToldOf = [usize; MAX_SITES as usize];
 
 /// What each line was answered, under its number: line 1 made the sites ready, and each further line has the next receipt of its
-/// site's caller.
+/// site's caller, where the callers have one for each of their sites' lines.
 pub(crate) fn told(
     alloc: Global,
     accesses: &[Access],
     callers: &[Vec<Receipt>],
 ) -> Result<Text, ReportFault>
-    requires { AllServed (length callers.now) accesses.now callers.now }
-    ensures lines { IfOk result (TellsLines accesses.now callers.now) }
+    ensures lines { IfOk result (λ text. AllServed (length callers.now) accesses.now callers.now → TellsLines accesses.now callers.now text) }
     ensures fault { IfErr result IsOther }
     ensures unwritten { IfErr result (λ fault. fault ≢ cause.WriteFault) }
 {
@@ -107,9 +106,33 @@ fn receipt_at(callers: &[Vec<Receipt>], site: usize, place: usize) -> Option<Rec
     }
 }
 
-/// Writes the lines, and that the audit found nothing. Where the writer answers an error, of whatever kind, or takes nothing, no more is
-/// written: a front of the text was.
-pub(crate) fn write_report<O: Write>(text: &Text, writer: &mut O) -> Result<(), ReportFault>
+/// Writes the lines, that the audit found nothing, and `more`. Where the writer answers an error, of whatever kind, or takes nothing, no
+/// more is written: a front of the text was.
+pub(crate) fn write_report<O: Write>(
+    text: &Text,
+    more: &str,
+    writer: &mut O,
+) -> Result<(), ReportFault>
+    ensures fault { IfErr result (λ fault. fault ≡ cause.WriteFault) }
+    ensures written { OnOk result (Appends (O.contents writer.old) (O.contents writer.new) ((text.now ++ audit_yes) ++ more.now)) }
+    ensures cut { OnErr result (IsCutShort (O.contents writer.old) (O.contents writer.new) ((text.now ++ audit_yes) ++ more.now)) }
+{
+    match write_lines(text, writer) {
+        Ok(()) => {}
+        Err(fault) => return Err(fault),
+    }
+    match write_whole(writer, more.as_bytes()) {
+        Ok(()) => {}
+        Err(_) => return Err(ReportFault::WriteFault),
+    }
+    match writer.flush() {
+        Ok(()) => Ok(()),
+        Err(_) => Err(ReportFault::WriteFault),
+    }
+}
+
+/// Writes the lines, and that the audit found nothing.
+fn write_lines<O: Write>(text: &Text, writer: &mut O) -> Result<(), ReportFault>
     ensures fault { IfErr result (λ fault. fault ≡ cause.WriteFault) }
     ensures written { OnOk result (Appends (O.contents writer.old) (O.contents writer.new) (text.now ++ audit_yes)) }
     ensures cut { OnErr result (IsCutShort (O.contents writer.old) (O.contents writer.new) (text.now ++ audit_yes)) }
@@ -122,8 +145,5 @@ pub(crate) fn write_report<O: Write>(text: &Text, writer: &mut O) -> Result<(), 
         Ok(()) => {}
         Err(_) => return Err(ReportFault::WriteFault),
     }
-    match writer.flush() {
-        Ok(()) => Ok(()),
-        Err(_) => Err(ReportFault::WriteFault),
-    }
+    Ok(())
 }

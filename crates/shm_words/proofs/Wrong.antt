@@ -2,8 +2,8 @@
 use Rattle.std.proofs.Common.{◌≡◌, ◌∙◌, ◌||◌, ◌&&◌, ap, false, inl, inr, map, option_map, refl, subst, sym, true, Bool, List, [], ◌∷◌}
 use Rattle.std.specs.List.{list_all, list_any}
 use Rattle.std.specs.Box.{box_value}
-use Rattle.std.specs.Prelude.{Box, None, Option, Result, Some}
-use Rattle.clap.specs.Words.{FailsBy, Kinds, Row, Text, fault_of, found_of, kind_of, rows_of, subcommand_rows}
+use Rattle.std.specs.Prelude.{Box, None, Option, Some}
+use Rattle.clap.specs.Words.{Kinds, Row, Text, fault_of, found_of, kind_of, rows_of, subcommand_rows}
 use Rattle.clap.specs.Kinds.{HasKind, or_else}
 use Rattle.clap.specs.declared.parser.matches.SubCommand.{SubCommand}
 use Rattle.clap.specs.declared.parser.matches.ArgMatches.TheViews.{out-SubCommand}
@@ -39,12 +39,9 @@ badly_spelled words error none wrong kind =
     let is : fault_in words ≡ ValueValidation ∷ [] = after_clap words none ∙ rw wrong refl in
     subst (λ (kinds : Kinds). HasKind kinds error) (sym is) (inr (inl kind))
 
--- words that are spelled plainly fail for want of memory alone
-pub fails_by_nothing : {T : Type 0} (words : List Text) (r : Result T Error) → fault_of app words ≡ [] → has_plain_numbers words ≡ true → FailsBy [] r
-    → FailsBy (fault_in words) r
-fails_by_nothing words r none plain fails =
-    let is : fault_in words ≡ [] = after_clap words none ∙ rw plain refl in
-    subst (λ (kinds : Kinds). FailsBy kinds r) (sym is) fails
+-- words that are spelled plainly are taken
+pub taken : (words : List Text) → fault_of app words ≡ [] → has_plain_numbers words ≡ true → fault_in words ≡ []
+taken words none plain = after_clap words none ∙ rw plain refl
 
 -- the subcommand that was met has this name and these rows
 pub named_so : {Z : Type 0} (met : Option (Box SubCommand Z)) (name : Text) (rows : List Row)

@@ -1,7 +1,7 @@
 -- The commands that there are, with their options, as clap reads them.
 use Rattle.std.specs.Prelude.{true, [], Some, codes, pos}
 use Rattle.clap.specs.Words.{App, Rule, Text, new_app, new_rule, with_rule, with_subcommand}
-use Rattle.clap.specs.declared.builder.action.ArgAction.TheVariants.{Set}
+use Rattle.clap.specs.declared.builder.action.ArgAction.TheVariants.{Set, SetTrue}
 use Rattle.clap.specs.declared.builder.value_parser.ValueParser.{ValueParser}
 use Rattle.clap.specs.declared.builder.value_parser.ValueParser.TheVariants.{Signed}
 
@@ -15,11 +15,19 @@ sites_rule = number_rule (codes "sites") (Signed (pos 1) (pos 16))
 abbrev pub seed_rule : Rule
 seed_rule = number_rule (codes "seed") (Signed (pos 0) (pos 4294967295))
 
+-- without a value: it is there or not
+abbrev pub summary_rule : Rule
+summary_rule = record (new_rule (codes "summary")) { long = Some (codes "summary"); action = Some SetTrue }
+
+-- with any text
+abbrev pub log_rule : Rule
+log_rule = record (new_rule (codes "log")) { long = Some (codes "log"); action = Some Set; value_names = 1 }
+
 abbrev pub replay_app : App
 replay_app = new_app (codes "replay")
 
 abbrev pub run_app : App
-run_app = with_rule (with_rule (new_app (codes "run")) sites_rule) seed_rule
+run_app = with_rule (with_rule (with_rule (with_rule (new_app (codes "run")) sites_rule) seed_rule) summary_rule) log_rule
 
 abbrev pub prompt_app : App
 prompt_app = new_app (codes "prompt")

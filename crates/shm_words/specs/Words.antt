@@ -1,5 +1,5 @@
 -- What the words ask for, as clap reads them, and what is wrong with them.
-use Rattle.std.specs.Prelude.{◌≡◌, ◌==◌, ◌&&◌, ℕ, Bool, true, false, not, if◌then◌else◌, List, [], ◌∷◌, length, drop, map, slice_index, nat_lt, Option, Some, None, codes, option_and_then, option_map}
+use Rattle.std.specs.Prelude.{◌≡◌, ◌==◌, ◌&&◌, ℕ, Bool, true, false, not, if◌then◌else◌, List, [], ◌∷◌, length, drop, slice_index, nat_lt, Option, Some, None, codes, option_and_then, option_map}
 use Rattle.std.specs.List.{list_all, list_any}
 use Rattle.std.specs.Char.{is_ascii_digit}
 use Rattle.std.specs.Option.{option_map_or}
@@ -21,7 +21,7 @@ asked_for words = option_map (λ named. named.0) (subcommand_of app words)
 -- the name of the subcommand that has this task
 abbrev pub name_of : Task → Text
 name_of Replay = codes "replay"
-name_of (Run sites seed) = codes "run"
+name_of (Run sites seed summary log) = codes "run"
 name_of Prompt = codes "prompt"
 name_of (Draw page) = codes "draw"
 
@@ -69,10 +69,19 @@ sites_given words = number_given words (codes "sites")
 abbrev pub page_given : List Text → Option PageId
 page_given words = page_at (rows_given words)
 
+-- an option that has no value is there
+abbrev pub is_set_at : Text → List Row → Bool
+is_set_at option rows = option_map_or (λ text. bytes_eq text (codes "true")) (first_of option rows) false
+
+abbrev pub summary_given : List Text → Bool
+summary_given words = is_set_at (codes "summary") (rows_given words)
+
 -- the task has what is written for its options
 abbrev pub HasOptions : List Row → Task → Type 0
 HasOptions rows Replay = Unit {0}
-HasOptions rows (Run sites seed) = (number_at (codes "sites") rows ≡ Some sites) × (number_at (codes "seed") rows ≡ Some seed)
+HasOptions rows (Run sites seed summary log) =
+    (number_at (codes "sites") rows ≡ Some sites) × (number_at (codes "seed") rows ≡ Some seed) × (is_set_at (codes "summary") rows ≡ summary)
+    × (first_of (codes "log") rows ≡ option_map (λ folder. folder.now) log)
 HasOptions rows Prompt = Unit {0}
 HasOptions rows (Draw page) = page ≡ page_at rows
 

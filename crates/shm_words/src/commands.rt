@@ -50,7 +50,9 @@ fn run_command<'a>(alloc: Global) -> Result<Command<'a>, AllocError>
         .about("Run the workload on standard input on sites in threads, and audit it")
         .after_help(help::RUN)
         .arg(sites_arg(alloc))?
-        .arg(seed_arg(alloc))
+        .arg(seed_arg(alloc))?
+        .arg(summary_arg(alloc))?
+        .arg(log_arg(alloc))
 }
 
 fn prompt_command<'a>(alloc: Global) -> Command<'a>
@@ -108,4 +110,25 @@ fn page_arg<'a>(alloc: Global) -> Arg<'a>
         .help("The page that is shown, by its segment and its index in it")
         .action(ArgAction::Set)
         .value_parser(value_parser!(u32))
+}
+
+fn summary_arg<'a>(alloc: Global) -> Arg<'a>
+    ensures rule { rule_of result ≡ spec.summary_rule }
+    ensures local { result.global ≡ false }
+{
+    Arg::new(alloc, "summary")
+        .long("summary")
+        .help("Tell at the end how much was done, and how long it took")
+        .action(ArgAction::SetTrue)
+}
+
+fn log_arg<'a>(alloc: Global) -> Arg<'a>
+    ensures rule { rule_of result ≡ spec.log_rule }
+    ensures local { result.global ≡ false }
+{
+    Arg::new(alloc, "log")
+        .long("log")
+        .value_name("DIR")
+        .help("Leave each site's log in this folder, which exists")
+        .action(ArgAction::Set)
 }

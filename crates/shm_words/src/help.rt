@@ -68,6 +68,23 @@ the byte that was stored last:
   3 byte 7
   audit yes
 Lines of two sites have no order between them: line 3 may also tell byte 0.
+With --summary, lines behind these tell how many steps, faults, envelopes,
+losses and repeats there were, and how long it took:
+  $ printf 'preset 1\\nstore 0 0 7\\n' | shmdbg run --sites 1 --seed 1 --summary
+  1 ready
+  2 stored
+  audit yes
+  steps 1
+  faults 0
+  envelopes 0
+  losses 0
+  repeats 0
+  took 1 ms
+With --log DIR, the folder DIR has each site's log then, as site-0.log and so
+on, a line for each step: its stamp, what came, the answer, what was sent.
+  $ printf 'preset 1\\nstore 0 0 7\\n' | shmdbg run --sites 1 --seed 1 --log .
+  $ cat site-0.log
+  1 store 0 0 0 7 > stored
 Exit status: 0 done, 1 the workload has a fault, 2 these words were refused,
 3 memory, reading, writing or a thread failed, 4 the run gave up or its audit
 found a cause.";

@@ -1,7 +1,7 @@
 //! What is written for a subcommand's options. Words that were taken have those that are required, in range.
 ghost use Rattle.std.specs.Prelude.{◌≡◌, Some, codes, map, IfSome};
 ghost use Rattle.clap.specs.Words.{found_of, rows_of};
-ghost use Rattle.shm_words.specs.Words.{number_at, number_of, page_named, IsAsked};
+ghost use Rattle.shm_words.specs.Words.{is_set_at, number_at, number_of, page_named, IsAsked};
 
 use crate::spelling::is_plain_at;
 use crate::task::Task;
@@ -9,12 +9,29 @@ use clap::ArgMatches;
 use shm_place::{PageId, SegId, Sites};
 
 /// A run's options.
-pub(crate) fn run_task(found: &ArgMatches<'_>) -> Option<Task>
+pub(crate) fn run_task<'a>(found: &ArgMatches<'a>) -> Option<Task<'a>>
     ensures { IfSome result (λ task. IsAsked (codes "run") (rows_of (found_of found.now)) task) }
 {
     let sites = Sites::new(number(found, "sites")?).ok()?;
     let seed = number(found, "seed")?;
-    Some(Task::Run { sites, seed })
+    let summary = is_set(found, "summary");
+    let log = found.get_str("log");
+    Some(Task::Run {
+        sites,
+        seed,
+        summary,
+        log,
+    })
+}
+
+/// Whether an option that has no value is there.
+fn is_set(found: &ArgMatches<'_>, option: &str) -> bool
+    ensures { result ≡ is_set_at option.now (rows_of (found_of found.now)) }
+{
+    match found.get_str(option) {
+        Some(text) => text == "true",
+        None => false,
+    }
 }
 
 /// The number that is written for an option.
@@ -29,7 +46,7 @@ fn number(found: &ArgMatches<'_>, option: &str) -> Option<u32>
 }
 
 /// What is to be drawn.
-pub(crate) fn draw_task(found: &ArgMatches<'_>) -> Option<Task>
+pub(crate) fn draw_task<'a>(found: &ArgMatches<'a>) -> Option<Task<'a>>
     ensures { IfSome result (λ task. IsAsked (codes "draw") (rows_of (found_of found.now)) task) }
 {
     match found.get_raw("page") {

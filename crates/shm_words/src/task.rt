@@ -2,13 +2,21 @@ use shm_place::{PageId, Sites};
 
 /// What the words after the program's name ask for.
 #[derive(Clone, Copy, Debug, PartialEq, Eq)]
-pub enum Task {
+pub enum Task<'a> {
     /// Replay the script on standard input.
     Replay,
-    /// Run the workload on standard input on so many sites in threads, with losses and repeats drawn from the seed.
-    Run { sites: Sites, seed: u32 },
+    /// Run the workload on standard input on so many sites in threads, with losses and repeats drawn from the seed; and tell a summary,
+    /// or not; and leave the logs in a folder, if one is named.
+    Run {
+        sites: Sites,
+        seed: u32,
+        summary: bool,
+        log: Option<&'a str>,
+    },
     /// Answer what is typed, line by line.
     Prompt,
     /// Draw the run that the script on standard input leaves: what the sites have of this page, or of the first of segment 0.
-    Draw { page: Option<PageId> },
+    Draw {
+        page: Option<PageId>,
+    },
 }

@@ -1,4 +1,4 @@
-ghost use Rattle.std.specs.Prelude.{◌≡◌, [], Some, map, IfOk, IsSomeAnd};
+ghost use Rattle.std.specs.Prelude.{map, IfOk, IfSome, IsSomeAnd};
 ghost use Rattle.clap.specs.Words.{FailsBy, found_of, rows_of, subcommand_of};
 ghost use Rattle.shm_words.specs.Commands.{app};
 ghost use Rattle.shm_words.specs.Words.{fault_in, IsAsked};
@@ -12,7 +12,7 @@ use std::alloc::{AllocError, Global};
 use std::convert::AsStr;
 
 /// Reads the words, the first of which is the program's name. A request for help is an `Err` too, whose text is the help.
-pub fn parse_words<S: AsStr>(alloc: Global, words: &[S]) -> Result<Task, Error>
+pub fn parse_words<'a, S: AsStr>(alloc: Global, words: &'a [S]) -> Result<Task<'a>, Error>
     ensures fault { FailsBy (fault_in (map S.text words.now)) result }
     ensures task { IfOk result (λ task. IsSomeAnd (subcommand_of app (map S.text words.now)) (λ named. IsAsked named.0 named.1 task)) }
 {
@@ -24,38 +24,29 @@ pub fn parse_words<S: AsStr>(alloc: Global, words: &[S]) -> Result<Task, Error>
         return Err(spelling_error(alloc, &matches)?);
     }
     match matches.subcommand() {
-        Some((name, found)) => task_of(name, found),
+        Some((name, found)) => match task_of(name, found) {
+            Some(task) => Ok(task),
+            None => Err(Error::from(AllocError)),
+        },
         None => Err(Error::from(AllocError)),
     }
 }
 
-/// What the words behind a subcommand's name ask for.
-fn task_of(name: &str, found: &ArgMatches<'_>) -> Result<Task, Error>
-    ensures fault { FailsBy [] result }
-    ensures task { IfOk result (IsAsked name.now (rows_of (found_of found.now))) }
+/// What the words behind a subcommand's name ask for. Words that were taken have all options that are required, in range.
+fn task_of<'a>(name: &str, found: &ArgMatches<'a>) -> Option<Task<'a>>
+    ensures { IfSome result (IsAsked name.now (rows_of (found_of found.now))) }
 {
     if name == "replay" {
-        return Ok(Task::Replay);
+        return Some(Task::Replay);
     }
     if name == "prompt" {
-        return Ok(Task::Prompt);
+        return Some(Task::Prompt);
     }
     if name == "run" {
-        return there(run_task(found));
+        return run_task(found);
     }
     if name == "draw" {
-        return there(draw_task(found));
+        return draw_task(found);
     }
-    Err(Error::from(AllocError))
-}
-
-/// Words that were taken have all options that are required, in range.
-fn there(task: Option<Task>) -> Result<Task, Error>
-    ensures fault { FailsBy [] result }
-    ensures task { IfOk result (λ is. task ≡ Some is) }
-{
-    match task {
-        Some(task) => Ok(task),
-        None => Err(Error::from(AllocError)),
-    }
+    None
 }

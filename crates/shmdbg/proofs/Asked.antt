@@ -1,10 +1,11 @@
 -- What the words ask for is what their task is.
-use Rattle.std.proofs.Common.{◌≡◌, ◌∙◌, ℕ, List, ap, arith, codes, refl, slice_index, sym}
+use Rattle.std.proofs.Common.{◌≡◌, ◌∙◌, ℕ, Bool, List, ap, arith, codes, refl, slice_index, sym}
 use Rattle.std.specs.Prelude.{IsSomeAnd, None, Option, Some}
+use Rattle.std.specs.Borrow.{Bor}
 use Rattle.clap.specs.Words.{Row, Text, subcommand_of}
 use Rattle.shm_place.specs.declared.page.PageId.{PageId}
 use Rattle.shm_words.specs.Commands.{app}
-use Rattle.shm_words.specs.Words.{asked_for, name_of, page_given, sites_given, IsAsked}
+use Rattle.shm_words.specs.Words.{asked_for, name_of, page_given, sites_given, summary_given, IsAsked}
 use Rattle.shm_words.specs.declared.task.Task.{Task}
 use Rattle.shm_words.specs.declared.task.Task.TheVariants.{Draw, Prompt, Replay, Run}
 use Rattle.shmdbg.specs.Status.{Asks}
@@ -28,15 +29,20 @@ same_name words task name asked asks =
     let is : Some name ≡ Some (name_of task) = sym asks.1 ∙ name_asked words task asked in
     cc
 
-pub sites_asked : (words : List Text) (sites seed : ℕ) → AskFor words (Run sites seed) → sites_given words ≡ Some sites
-sites_asked words sites seed asked =
-    let of = of_named (subcommand_of app words) (Run sites seed) asked in
+pub sites_asked : (words : List Text) (sites seed : ℕ) (summary : Bool) (log : Option (Bor Text)) → AskFor words (Run sites seed summary log) → sites_given words ≡ Some sites
+sites_asked words sites seed summary log asked =
+    let of = of_named (subcommand_of app words) (Run sites seed summary log) asked in
     rw of.1 of.2.options.0
 
 pub page_asked : (words : List Text) (page : Option PageId) → AskFor words (Draw page) → page_given words ≡ page
 page_asked words page asked =
     let of = of_named (subcommand_of app words) (Draw page) asked in
     rw of.1 (sym of.2.options)
+
+pub summary_asked : (words : List Text) (sites seed : ℕ) (summary : Bool) (log : Option (Bor Text)) → AskFor words (Run sites seed summary log) → summary_given words ≡ summary
+summary_asked words sites seed summary log asked =
+    let of = of_named (subcommand_of app words) (Run sites seed summary log) asked in
+    rw of.1 of.2.options.2
 
 -- ---- two names
 
@@ -60,11 +66,11 @@ draw_is_not_prompt e = let bad : 100 ≡ 112 = ap (λ (t : Text). slice_index t 
 
 -- ---- words that ask for one thing don't ask for another
 
-pub a_run_is_no_replay : (words : List Text) (sites seed : ℕ) → AskFor words (Run sites seed) → Asks (codes "replay") words → ⊥
-a_run_is_no_replay words sites seed asked asks = replay_is_not_run (same_name words (Run sites seed) (codes "replay") asked asks)
+pub a_run_is_no_replay : (words : List Text) (sites seed : ℕ) (summary : Bool) (log : Option (Bor Text)) → AskFor words (Run sites seed summary log) → Asks (codes "replay") words → ⊥
+a_run_is_no_replay words sites seed summary log asked asks = replay_is_not_run (same_name words (Run sites seed summary log) (codes "replay") asked asks)
 
-pub a_run_is_no_prompt : (words : List Text) (sites seed : ℕ) → AskFor words (Run sites seed) → Asks (codes "prompt") words → ⊥
-a_run_is_no_prompt words sites seed asked asks = run_is_not_prompt (sym (same_name words (Run sites seed) (codes "prompt") asked asks))
+pub a_run_is_no_prompt : (words : List Text) (sites seed : ℕ) (summary : Bool) (log : Option (Bor Text)) → AskFor words (Run sites seed summary log) → Asks (codes "prompt") words → ⊥
+a_run_is_no_prompt words sites seed summary log asked asks = run_is_not_prompt (sym (same_name words (Run sites seed summary log) (codes "prompt") asked asks))
 
 pub a_prompt_is_no_replay : (words : List Text) → AskFor words Prompt → Asks (codes "replay") words → ⊥
 a_prompt_is_no_replay words asked asks = replay_is_not_prompt (same_name words Prompt (codes "replay") asked asks)

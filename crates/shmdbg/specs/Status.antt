@@ -1,5 +1,5 @@
 -- Exit statuses, and what each tells of the script on standard input and of the text on standard output.
-use Rattle.std.specs.Prelude.{◌≡◌, ℕ, true, List, [], IfSome, IsSomeAnd, Option, Some, Result, Ok, Err}
+use Rattle.std.specs.Prelude.{◌≡◌, ℕ, Bool, true, List, [], IfSome, IsSomeAnd, Option, Some, Result, Ok, Err}
 use Rattle.std.specs.Io.KnownBytes.{Appends}
 use Rattle.clap.specs.Words.{Text}
 use Rattle.shm_debug.specs.Script.{Script}
@@ -10,7 +10,7 @@ use Rattle.shm_place.specs.declared.page.PageId.{PageId}
 use Rattle.shm_debug.specs.declared.outcome.DebugFault.{DebugFault}
 use Rattle.shm_debug.specs.declared.outcome.DebugFault.TheVariants.{OutOfMemory, BadLine, LineTooLong, TooManyLines, ReadFault, WriteFault}
 use Rattle.shm_report.specs.Causes.{audit_cause, input_cause, is_after_reading, IsFound, IsRight, IsWrongBy}
-use Rattle.shm_report.specs.Report.{IsReport}
+use Rattle.shm_report.specs.Report.{IsToldReport}
 use Rattle.shm_report.specs.declared.report_fault.ReportFault.{ReportFault}
 use Rattle.shm_report.specs.declared.report_fault.ReportFault.TheVariants as report
 use Rattle.shm_words.specs.Words.{asked_for, fault_in}
@@ -64,9 +64,10 @@ abbrev pub Pictures : Option PageId → Script → ℕ → Option (List ℕ) →
 Pictures page script status old new =
     (end : Result (Unit {0}) DebugFault) × (text : List ℕ) × (status ≡ drawn_status end) × Appends old new text × Draws page script end text
 
--- a workload was run over as many sites as are given, and what was then written is the report of it
-abbrev pub Reports : Option ℕ → Option (List ℕ) → Option (List ℕ) → Option (List ℕ) → Type 0
-Reports given workload old new = IsSomeAnd given (λ sites. (text : List ℕ) × Appends old new text × IsReport sites workload text)
+-- a workload was run over as many sites as are given, and what was then written is the report of it, with a summary or without
+abbrev pub Reports : Option ℕ → Bool → Option (List ℕ) → Option (List ℕ) → Option (List ℕ) → Type 0
+Reports given summed workload old new =
+    IsSomeAnd given (λ sites. (text : List ℕ) × Appends old new text × IsToldReport summed sites workload text)
 
 -- A run of a workload failed by a fault of this status. What the fault says of the workload, or of what the sites logged, is so over as
 -- many sites as are given.

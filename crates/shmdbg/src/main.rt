@@ -2,7 +2,9 @@
 #![tactic(auto)]
 
 mod disk;
+mod logging;
 mod program;
+mod reporting;
 mod showing;
 mod source;
 mod tell;

@@ -1,9 +1,10 @@
 ghost use Rattle.std.specs.Prelude.{◌≡◌, ◌≢◌, ◌<◌, ◌⊎◌, ℕ, List, [], ◌∷◌, codes, map, IfSome, Some};
 ghost use Rattle.shm_debug.specs.Script.{script_of};
-ghost use Rattle.shm_words.specs.Words.{page_given, sites_given};
+ghost use Rattle.shm_words.specs.Words.{page_given, sites_given, summary_given};
 ghost use Rattle.shmdbg.specs.Status.{Asks, Fails, Pictures, Replays, Reports, Takes};
 
 use crate::disk::Disk;
+use crate::reporting::{Wanted, tell_run};
 use crate::showing::{script_fault, workload_fault};
 use crate::source::Recalls;
 use crate::tell;
@@ -11,11 +12,10 @@ use shm_debug::replay;
 use shm_draw::draw;
 use shm_place::{PageId, Sites};
 use shm_prompt::prompt;
-use shm_report::report;
 use shm_words::{Task, parse_words};
 use std::convert::AsStr;
 use std::io::{Read, Write};
-use std::rt::Files;
+use std::rt::{Clock, Files};
 use std::sync::Wait;
 use std::thread::Threads;
 
@@ -23,7 +23,7 @@ use std::thread::Threads;
 /// 3 memory, reading or writing failed, or a site's clock ended, or there was no thread, 4 a run was not what an audit accepts, or gave
 /// up. At 2 the parser's text goes to `errors`, at 1, 3 and 4 one line; below it stands a wrong line that the reader recalls.
 pub fn run_words<
-    R: AllocGlobal + Files + Threads + Wait + Copy + Send + Sync + 'static,
+    R: AllocGlobal + Clock + Files + Threads + Wait + Copy + Send + Sync + 'static,
     S: AsStr,
     I: Read + Recalls,
     O: Write,
@@ -36,7 +36,7 @@ pub fn run_words<
     ensures replayed { Asks (codes "replay") (map S.text words.now) → IfSome (I.remaining reader.old) (λ bytes.
         Replays (script_of bytes) result (O.contents out.old) (O.contents out.new)) }
     ensures reported { Asks (codes "run") (map S.text words.now) → result ≡ 0 →
-        Reports (sites_given (map S.text words.now)) (I.remaining reader.old) (O.contents out.old) (O.contents out.new) }
+        Reports (sites_given (map S.text words.now)) (summary_given (map S.text words.now)) (I.remaining reader.old) (O.contents out.old) (O.contents out.new) }
     ensures failed { Asks (codes "run") (map S.text words.now) → result ≢ 0 →
         Fails (sites_given (map S.text words.now)) (I.remaining reader.old) result }
     ensures prompted { Asks (codes "prompt") (map S.text words.now) → (result ≡ 0) ⊎ (result ≡ 3) }
@@ -51,7 +51,15 @@ pub fn run_words<
     match parse_words(rt.alloc(), words) {
         Ok(task) => match task {
             Task::Replay => {}
-            Task::Run { sites, seed } => return run(rt, sites, seed, reader, out, errors),
+            Task::Run {
+                sites,
+                seed,
+                summary,
+                log,
+            } => {
+                let wanted = Wanted { summary, log };
+                return run(rt, sites, seed, wanted, reader, out, errors);
+            }
             Task::Prompt => return talk(rt, reader, out, errors),
             Task::Draw { page } => return picture(rt, page, reader, out, errors),
         },
@@ -99,19 +107,27 @@ fn talk<R: AllocGlobal + Files, I: Read, O: Write, E: Write>(
 
 /// Runs a workload, and answers the exit status.
 fn run<
-    R: AllocGlobal + Threads + Wait + Copy + Send + Sync + 'static,
+    R: AllocGlobal + Clock + Files + Threads + Wait + Copy + Send + Sync + 'static,
     I: Read + Recalls,
     O: Write,
     E: Write,
->(rt: &R, sites: Sites, seed: u32, reader: &mut I, out: &mut O, errors: &mut E) -> u8
+>(
+    rt: &R,
+    sites: Sites,
+    seed: u32,
+    wanted: Wanted<'_>,
+    reader: &mut I,
+    out: &mut O,
+    errors: &mut E,
+) -> u8
     ensures range { result < 5 }
     ensures taken { result ≢ 2 }
     ensures reported { result ≡ 0 →
-        Reports (Some sites) (I.remaining reader.old) (O.contents out.old) (O.contents out.new) }
+        Reports (Some sites) wanted.summary (I.remaining reader.old) (O.contents out.old) (O.contents out.new) }
     ensures failed { result ≢ 0 → Fails (Some sites) (I.remaining reader.old) result }
     ensures quiet { (result ≡ 1) ⊎ (result ≡ 4) → out.new ≡ out.old }
 {
-    match report(rt, rt.alloc(), sites, seed, reader, out) {
+    match tell_run(rt, sites, seed, wanted, reader, out) {
         Ok(()) => 0,
         Err(fault) => workload_fault(fault, sites, reader, errors),
     }

@@ -1,4 +1,5 @@
 mod failed_runs;
+mod logs;
 mod prompts;
 mod rows;
 mod runs;
@@ -9,7 +10,7 @@ use crate::program::run_words;
 use crate::source::Recalls;
 use std::io::Read;
 use std::process::Abort;
-use std::rt::Files;
+use std::rt::{Clock, Files};
 use std::sync::Wait;
 use std::thread::Threads;
 
@@ -29,7 +30,7 @@ struct Ran {
 
 /// Runs the program with these words, with its output in memory.
 fn run_over<
-    R: AllocGlobal + Files + Threads + Wait + Copy + Send + Sync + 'static,
+    R: AllocGlobal + Clock + Files + Threads + Wait + Copy + Send + Sync + 'static,
     I: Read + Recalls,
 >(rt: &R, words: &[&str], reader: &mut I) -> Ran {
     let mut out = Vec::new(rt.alloc());
@@ -43,7 +44,7 @@ fn run_over<
 }
 
 /// Replays a script that lies in memory.
-fn replay_bytes<R: AllocGlobal + Files + Threads + Wait + Copy + Send + Sync + 'static>(
+fn replay_bytes<R: AllocGlobal + Clock + Files + Threads + Wait + Copy + Send + Sync + 'static>(
     rt: &R,
     script: &[u8],
 ) -> Ran {

@@ -1,11 +1,11 @@
 use super::{Ran, expect, run_over};
-use std::rt::Files;
+use std::rt::{Clock, Files};
 use std::sync::Wait;
 use std::test::Fail;
 use std::thread::Threads;
 
 /// Runs a workload that lies in memory, on one site.
-fn run_bytes<R: AllocGlobal + Files + Threads + Wait + Copy + Send + Sync + 'static>(
+fn run_bytes<R: AllocGlobal + Clock + Files + Threads + Wait + Copy + Send + Sync + 'static>(
     rt: &R,
     workload: &[u8],
 ) -> Ran {
@@ -24,6 +24,20 @@ fn what_one_site_stores_it_loads(rt: HostRuntime) {
         b"1 ready\n2 stored\n3 byte 7\naudit yes\n",
         b"",
     );
+}
+
+/// A summary stands behind the report. What one site does alone is the same in each run: nothing waits, and nothing is sent.
+#[test]
+fn a_summary_of_one_site(rt: HostRuntime) {
+    let mut reader = b"preset 1\nstore 0 0 7\nload 0 0\n".as_slice();
+    let words = ["shmdbg", "run", "--sites=1", "--seed=1", "--summary"];
+    let ran = run_over(&rt, &words, &mut reader);
+    let text =
+        b"1 ready\n2 stored\n3 byte 7\naudit yes\nsteps 2\nfaults 0\nenvelopes 0\nlosses 0\nrepeats 0\ntook ";
+    assert_eq!(rt; ran.status, 0);
+    assert!(rt; ran.out.as_slice().starts_with(text));
+    assert!(rt; ran.out.as_slice().ends_with(b" ms\n".as_slice()));
+    assert_eq!(rt; ran.errors.as_slice(), b"".as_slice());
 }
 
 /// Nothing is written where the workload has a fault.

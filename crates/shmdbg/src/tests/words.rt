@@ -50,18 +50,38 @@ fn refused_words(rt: HostRuntime) {
 /// What a run's options say, in either order and behind a blank or an equals sign.
 #[test]
 fn numbers_of_a_run(rt: HostRuntime) -> Result<(), Fail> {
-    let cases: [(&[&str], u32, u32); 4] = [
-        (&["--sites", "3", "--seed", "2"], 3, 2),
-        (&["--seed", "1", "--sites", "16"], 16, 1),
-        (&["--sites=4", "--seed", "0"], 4, 0),
-        (&["--seed=4294967295", "--sites=1"], 1, 4294967295),
+    let cases: [(&[&str], u32, u32, bool, Option<&str>); 6] = [
+        (&["--sites", "3", "--seed", "2"], 3, 2, false, None),
+        (&["--seed", "1", "--sites", "16"], 16, 1, false, None),
+        (&["--sites=4", "--seed", "0"], 4, 0, false, None),
+        (
+            &["--seed=4294967295", "--sites=1"],
+            1,
+            4294967295,
+            false,
+            None,
+        ),
+        (&["--sites=4", "--summary", "--seed=1"], 4, 1, true, None),
+        (
+            &["--log", "a b", "--sites=4", "--seed=1"],
+            4,
+            1,
+            false,
+            Some("a b"),
+        ),
     ];
-    for (options, of_sites, seed) in cases {
+    for (options, of_sites, seed, summary, log) in cases {
         let mut words = vec![in rt.alloc(); "shmdbg", "run"]?;
         words.extend_from_slice(options)?;
         let sites = Sites::new(of_sites)?;
         let task = parse_words(rt.alloc(), words.as_slice())?;
-        assert_eq!(rt; task, Task::Run { sites, seed });
+        let asked = Task::Run {
+            sites,
+            seed,
+            summary,
+            log,
+        };
+        assert_eq!(rt; task, asked);
     }
     Ok(())
 }

@@ -1,5 +1,5 @@
 -- One more caller, which may have ended by an earlier fault.
-use Rattle.std.proofs.Common.{◌∙◌, ◌+◌, ap, arith, length, subst, sym, take}
+use Rattle.std.proofs.Common.{◌∙◌, ◌+◌, ap, arith, subst, sym, take}
 use Rattle.std.proofs.lemmas.List.{take_all}
 use Rattle.shm_report.specs.RunFaults.{earlier, fault_of, FirstIfAny}
 use Rattle.shm_report.proofs.FirstFault.{next_caller}

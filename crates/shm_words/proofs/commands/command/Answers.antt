@@ -1,4 +1,4 @@
-use Rattle.std.proofs.Common.{rules, ap, ap₂, ◌≡◌, ◌∙◌}
+use Rattle.std.proofs.Common.{ap, ap₂, ◌≡◌, ◌∙◌}
 use Rattle.std.proofs.lemmas.Result.{IfOk-weaker}
 use Rattle.clap.specs.Words.{App, app_of, with_subcommand}
 use Rattle.shm_words.specs.Commands.{bare_app, prompt_app, replay_app, run_app}

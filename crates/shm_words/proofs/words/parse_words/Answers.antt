@@ -1,13 +1,12 @@
 use Rattle.std.proofs.Common.{[], rules, ap, option_map, Bool, false, refl, subst, sym, true, List, map, ◌≡◌, ◌∙◌}
-use Rattle.std.proofs.lemmas.Result.{IfOk-weaker}
 use Rattle.std.specs.Prelude.{IsSomeAnd, Option, Some}
 use Rattle.clap.specs.Kinds.{HasKind}
 use Rattle.clap.specs.declared.parser.matches.ArgMatches.TheViews.{out-ArgMatches}
-use Rattle.clap.specs.Words.{App, FailsBy, Row, Text, fault_of, found_of, is_simple, is_simple_and_free, rows_of, subcommand_of, subcommand_rows_of}
+use Rattle.clap.specs.Words.{App, Row, Text, fault_of, found_of, is_simple, is_simple_and_free, rows_of, subcommand_of, subcommand_rows_of}
 use Rattle.clap.proofs.OnLiterals.{clap_on_literals}
-use Rattle.shm_words.proofs.Wrong.{badly_spelled, fails_by_nothing, named_so, refused_by_clap}
+use Rattle.shm_words.proofs.Wrong.{badly_spelled, named_so, refused_by_clap, taken}
 use Rattle.shm_words.specs.Commands.{app}
-use Rattle.shm_words.specs.Words.{fault_in, has_plain_numbers, has_plain_rows, IsAsked}
+use Rattle.shm_words.specs.Words.{has_plain_numbers, has_plain_rows, IsAsked}
 use Rattle.shm_words.proofs.words.parse_words.Goals as goal
 
 is_free : is_simple_and_free app ≡ true
@@ -44,8 +43,8 @@ returns-then-not-has_plain_numbers-clause-fault g c =
     let wrong : has_plain_numbers words ≡ false = rows_given has_plain_rows met unplain in
     badly_spelled words c.in_ok-spelling_error.field-0 none wrong (search rules)
 
-pub returns-in-Some-clause-fault : goal.returns-in-Some-clause-fault
-returns-in-Some-clause-fault g c =
+pub returns-in-Some-task_of-clause-fault : goal.returns-in-Some-task_of-clause-fault
+returns-in-Some-task_of-clause-fault g c =
     let words = map g.S.AsStr.text c.args.words.now in
     let parsed = c.in-Ok.matches in
     let app_is = c.in_ok-command.ensures.app in
@@ -54,10 +53,10 @@ returns-in-Some-clause-fault g c =
     let met : subcommand_rows_of parsed ≡ subcommand_of app words =
     (c.in-Ok.ensures.matches (ap is_simple app_is ∙ is_plain)).1 ∙ ap (λ (a : App). subcommand_of a words) app_is in
     let rows : has_plain_rows (option_map (λ (named : Text × List Row). named.1) (subcommand_rows_of parsed)) ≡ true = search rules in
-    fails_by_nothing words c.task_of.result none (rows_given has_plain_rows met rows) c.task_of.ensures.fault
+    taken words none (rows_given has_plain_rows met rows)
 
-pub returns-in-Some-clause-task : goal.returns-in-Some-clause-task
-returns-in-Some-clause-task g c =
+pub returns-in-Some-task_of-clause-task : goal.returns-in-Some-task_of-clause-task
+returns-in-Some-task_of-clause-task g c =
     let words = map g.S.AsStr.text c.args.words.now in
     let parsed = c.in-Ok.matches in
     let app_is = c.in_ok-command.ensures.app in
@@ -67,6 +66,4 @@ returns-in-Some-clause-task g c =
     named_so (out-ArgMatches parsed).subcommand c.in-Some.name.now (rows_of (found_of c.in-Some.found.now))
     (sym (ap (option_map (λ p. p.0.now)) c.in-Some.is) ∙ c.subcommand.ensures.name)
     (sym (ap (option_map (λ p. rows_of (found_of p.1.now))) c.in-Some.is) ∙ c.subcommand.ensures.rows) in
-    IfOk-weaker c.task_of.result _ _
-    (λ task asked. subst (λ (given : Option (Text × List Row)). IsSomeAnd given (λ named. IsAsked named.0 named.1 task)) (sym (sym met ∙ there)) asked)
-    c.task_of.ensures.task
+    subst (λ (given : Option (Text × List Row)). IsSomeAnd given (λ named. IsAsked named.0 named.1 c.in-Some-task_of.task)) (sym (sym met ∙ there)) c.in-Some-task_of.ensures

@@ -1,0 +1,55 @@
+//! The logs of a run, as files.
+ghost use Rattle.std.specs.Prelude.{IfErr};
+ghost use Rattle.shm_report.specs.Causes.{IsOther};
+
+use shm_logs::log_text;
+use shm_prompt::SaveFile;
+use shm_report::ReportFault;
+use shm_sites::SiteLog;
+use std::alloc::{AllocError, Global};
+
+/// Saves each site's log in this folder, which exists: `site-0.log`, and so on. At the first that can't be saved it ends.
+pub fn save_logs<F: SaveFile>(
+    alloc: Global,
+    folder: &str,
+    logs: &[SiteLog],
+    files: &mut F,
+) -> Result<(), ReportFault>
+    ensures { IfErr result IsOther }
+{
+    'logs: for log in logs {
+        match save_log(alloc, folder, log, files) {
+            Ok(()) => {}
+            Err(fault) => return Err(fault),
+        }
+    }
+    Ok(())
+}
+
+fn save_log<F: SaveFile>(
+    alloc: Global,
+    folder: &str,
+    log: &SiteLog,
+    files: &mut F,
+) -> Result<(), ReportFault>
+    ensures { IfErr result IsOther }
+{
+    let Ok(name) = name_of(alloc, folder, log.site().0) else {
+        return Err(ReportFault::OutOfMemory);
+    };
+    let Ok(text) = log_text(alloc, log) else {
+        return Err(ReportFault::OutOfMemory);
+    };
+    match files.save(name.as_str(), text.as_bytes()) {
+        Ok(()) => Ok(()),
+        Err(_) => Err(ReportFault::WriteFault),
+    }
+}
+
+/// The file of a site's log. A folder without a name is the one where the program runs.
+fn name_of(alloc: Global, folder: &str, site: u32) -> Result<String, AllocError> {
+    if folder.is_empty() {
+        return format!(in alloc; "site-{site}.log");
+    }
+    format!(in alloc; "{folder}/site-{site}.log")
+}
