@@ -1,5 +1,5 @@
 -- One more step of a log, and one more envelope of a step.
-use Rattle.std.proofs.Common.{◌≡◌, ◌∙◌, ℕ, ◌+◌, ◌<◌, List, [], ◌∷◌, ◌++◌, length, map, get_or, min, take, ap, sym, arith, append_assoc, append-nil}
+use Rattle.std.proofs.Common.{◌≡◌, ◌∙◌, ℕ, ◌+◌, ◌<◌, List, [], ◌∷◌, ◌++◌, length, map, get_or, take, ap, sym, arith, append_assoc, append-nil}
 use Rattle.std.proofs.lemmas.List.{get_or-map, length-map, length-take, take_more}
 use Rattle.shm_sites.specs.Boxes.Logged.{logged_of}
 use Rattle.shm_sites.specs.declared.boxes.step.Step.{Step}

@@ -1,5 +1,5 @@
 -- One more envelope is told.
-use Rattle.std.proofs.Common.{string_bytes}
+use Rattle.std.proofs.Common.{rules, string_bytes}
 use Rattle.shm_logs.proofs.Pushed.{envelope_told}
 use Rattle.shm_logs.proofs.telling.push_sent.Goals as goal
 
