@@ -86,7 +86,7 @@ fn picture<R: AllocGlobal, I: Read + Recalls, O: Write, E: Write>(
 {
     match draw(rt.alloc(), reader, out, page) {
         Ok(()) => 0,
-        Err(fault) => script_fault(fault, reader, errors),
+        Err(undrawn) => script_fault(undrawn, reader, errors),
     }
 }
 
