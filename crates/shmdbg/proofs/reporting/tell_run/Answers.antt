@@ -6,7 +6,8 @@ use Rattle.shmdbg.proofs.reporting.tell_run.Goals as goal
 pub returns-in-Ok-clause-told : goal.returns-in-Ok-clause-told
 returns-in-Ok-clause-told g c =
     let known = g.I.Read.remaining c.args.reader.now in
-    let of : IsRunOf c.args.sites known c.in-Ok.run' = record { accepted = c.in-Ok.ensures.accepted; among = c.in-Ok.ensures.sites; read = c.in-Ok.ensures.read } in
+    let of : IsRunOf c.args.sites known c.in-Ok.run' =
+    record { accepted = c.in-Ok.ensures.accepted; among = c.in-Ok.ensures.sites; read = c.in-Ok.ensures.read } in
     on_ok c.tell_wanted.result
     (λ told. (told.0, told.1, told_of_run c.args.wanted.summary c.args.sites known c.in-Ok.run' told.0 of told.2))
     c.tell_wanted.ensures.told
@@ -14,7 +15,8 @@ returns-in-Ok-clause-told g c =
 pub returns-in-Ok-clause-right : goal.returns-in-Ok-clause-right
 returns-in-Ok-clause-right g c =
     let known = g.I.Read.remaining c.args.reader.now in
-    let of : IsRunOf c.args.sites known c.in-Ok.run' = record { accepted = c.in-Ok.ensures.accepted; among = c.in-Ok.ensures.sites; read = c.in-Ok.ensures.read } in
+    let of : IsRunOf c.args.sites known c.in-Ok.run' =
+    record { accepted = c.in-Ok.ensures.accepted; among = c.in-Ok.ensures.sites; read = c.in-Ok.ensures.read } in
     if_err c.tell_wanted.result (λ fault other after. right_of_run c.args.sites known c.in-Ok.run' of) c.tell_wanted.ensures.other
 
 pub returns-in-Ok-clause-input : goal.returns-in-Ok-clause-input
