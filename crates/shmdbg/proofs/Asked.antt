@@ -96,8 +96,8 @@ a_drawing_is_no_prompt words page asked asks = draw_is_not_prompt (sym (same_nam
 pub a_replay_is_no_drawing : (words : List Text) → AskFor words Replay → Asks (codes "draw") words → ⊥
 a_replay_is_no_drawing words asked asks = draw_is_not_replay (same_name words Replay (codes "draw") asked asks)
 
-pub a_run_is_no_drawing : (words : List Text) (sites seed : ℕ) → AskFor words (Run sites seed) → Asks (codes "draw") words → ⊥
-a_run_is_no_drawing words sites seed asked asks = draw_is_not_run (same_name words (Run sites seed) (codes "draw") asked asks)
+pub a_run_is_no_drawing : (words : List Text) (sites seed : ℕ) (summary : Bool) (log : Option (Bor Text)) → AskFor words (Run sites seed summary log) → Asks (codes "draw") words → ⊥
+a_run_is_no_drawing words sites seed summary log asked asks = draw_is_not_run (same_name words (Run sites seed summary log) (codes "draw") asked asks)
 
 pub a_prompt_is_no_drawing : (words : List Text) → AskFor words Prompt → Asks (codes "draw") words → ⊥
 a_prompt_is_no_drawing words asked asks = draw_is_not_prompt (same_name words Prompt (codes "draw") asked asks)

@@ -58,7 +58,7 @@ pub fn run_words<
                 log,
             } => {
                 let wanted = Wanted { summary, log };
-                return run(rt, sites, seed, wanted, reader, out, errors);
+                return run(rt, sites, seed, &wanted, reader, out, errors);
             }
             Task::Prompt => return talk(rt, reader, out, errors),
             Task::Draw { page } => return picture(rt, page, reader, out, errors),
@@ -115,7 +115,7 @@ fn run<
     rt: &R,
     sites: Sites,
     seed: u32,
-    wanted: Wanted<'_>,
+    wanted: &Wanted<'_>,
     reader: &mut I,
     out: &mut O,
     errors: &mut E,
@@ -123,7 +123,7 @@ fn run<
     ensures range { result < 5 }
     ensures taken { result ≢ 2 }
     ensures reported { result ≡ 0 →
-        Reports (Some sites) wanted.summary (I.remaining reader.old) (O.contents out.old) (O.contents out.new) }
+        Reports (Some sites) wanted.now.summary (I.remaining reader.old) (O.contents out.old) (O.contents out.new) }
     ensures failed { result ≢ 0 → Fails (Some sites) (I.remaining reader.old) result }
     ensures quiet { (result ≡ 1) ⊎ (result ≡ 4) → out.new ≡ out.old }
 {

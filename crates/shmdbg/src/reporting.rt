@@ -36,13 +36,13 @@ pub fn tell_run<
     rt: &R,
     sites: Sites,
     seed: u32,
-    wanted: Wanted<'_>,
+    wanted: &Wanted<'_>,
     reader: &mut I,
     out: &mut O,
 ) -> Result<(), ReportFault>
     ensures quiet { IfErr result (λ fault. (fault ≡ cause.WriteFault) ⊎ (out.new ≡ out.old)) }
     ensures told { OnOk result ((text : List ℕ) × Appends (O.contents out.old) (O.contents out.new) text
-        × IsToldReport wanted.summary sites (I.remaining reader.old) text) }
+        × IsToldReport wanted.now.summary sites (I.remaining reader.old) text) }
     ensures input { IfErr result (λ fault. IfSome (input_cause fault) (IsWrongBy sites (I.remaining reader.old))) }
     ensures right { IfErr result (λ fault. is_after_reading fault ≡ true → IsRight sites (I.remaining reader.old)) }
     ensures audit { IfErr result (λ fault. IfSome (audit_cause fault) (IsFound sites (I.remaining reader.old))) }
@@ -58,13 +58,13 @@ pub fn tell_run<
 fn tell_wanted<R: AllocGlobal + Clock + Files, O: Write>(
     rt: &R,
     started: Option<Instant>,
-    wanted: Wanted<'_>,
+    wanted: &Wanted<'_>,
     run: &Audited,
     out: &mut O,
 ) -> Result<(), ReportFault>
     ensures quiet { IfErr result (λ fault. (fault ≡ cause.WriteFault) ⊎ (out.new ≡ out.old)) }
     ensures other { IfErr result IsOther }
-    ensures told { OnOk result ((text : List ℕ) × Appends (O.contents out.old) (O.contents out.new) text × TellsRun wanted.summary run.now text) }
+    ensures told { OnOk result ((text : List ℕ) × Appends (O.contents out.old) (O.contents out.new) text × TellsRun wanted.now.summary run.now text) }
 {
     let took = milliseconds_since(rt, started);
     match save_wanted(rt, wanted.log, run) {

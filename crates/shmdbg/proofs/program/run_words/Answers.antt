@@ -7,8 +7,11 @@ use Rattle.shm_debug.specs.declared.outcome.DebugFault.{DebugFault}
 use Rattle.std.proofs.KnownBytes.{Appends-nil}
 use Rattle.shm_debug.specs.Script.{script_of}
 use Rattle.shm_debug.specs.declared.outcome.DebugFault.TheVariants.{OutOfMemory}
-use Rattle.shmdbg.specs.Status.{Asks, Fails, Replays, status_of}
-use Rattle.shm_words.specs.Words.{sites_given}
+use Rattle.shm_place.specs.declared.page.PageId.{PageId}
+use Rattle.shmdbg.specs.Status.{Asks, Fails, Pictures, Replays, status_of}
+use Rattle.shm_words.specs.Words.{page_given, sites_given}
+use Rattle.shm_words.specs.declared.task.Task.TheVariants.{Draw, Run}
+use Rattle.shmdbg.proofs.Asked.{AskFor, page_asked, sites_asked}
 use Rattle.shm_report.specs.declared.report_fault.ReportFault.TheVariants as report
 use Rattle.shmdbg.proofs.Plain.{plain_words}
 use Rattle.shmdbg.proofs.program.run_words.Goals as goal
@@ -64,4 +67,38 @@ returns-in-Err-clause-failed g c asks failed =
     elim c.refused_words.ensures.status [
       | inl h ↦ subst (Fails sites workload) (sym h.1) (without_memory sites workload)
       | inr h ↦ absurd {A = Fails sites workload c.refused_words.result} (taken h.1)
+    ]
+
+pub returns-in-Run-clause-failed : goal.returns-in-Run-clause-failed
+returns-in-Run-clause-failed g c asks failed =
+    let words = map g.S.AsStr.text c.args.words.now in
+    let asked : AskFor words (Run c.in-Run.sites c.in-Run.seed c.in-Run.summary c.in-Run.log) = rw c.in-Run.is at c.in-Ok.ensures.task in
+    subst (λ given. Fails given (g.I.Read.remaining c.args.reader.now) c.run.result)
+    (sym (sites_asked words c.in-Run.sites c.in-Run.seed c.in-Run.summary c.in-Run.log asked)) (c.run.ensures.failed failed)
+
+-- what is drawn of a script, by the page that is given
+abbrev Shows : Option (List ℕ) → ℕ → Option (List ℕ) → Option (List ℕ) → Option PageId → Type 0
+Shows script status old new page = IfSome script (λ bytes. Pictures page (script_of bytes) status old new)
+
+-- memory was refused before anything was read
+undrawn : (script written : Option (List ℕ)) (page : Option PageId) → Shows script 3 written written page
+undrawn None written page = tt
+undrawn (Some bytes) written page = (Err OutOfMemory, [], refl, Appends-nil written, refl)
+
+pub returns-in-Draw-clause-drawn : goal.returns-in-Draw-clause-drawn
+returns-in-Draw-clause-drawn g c asks =
+    let words = map g.S.AsStr.text c.args.words.now in
+    let asked : AskFor words (Draw c.in-Draw.page) = rw c.in-Draw.is at c.in-Ok.ensures.task in
+    subst (Shows (g.I.Read.remaining c.args.reader.now) c.picture.result (g.O.Write.contents c.args.out.now) (g.O.Write.contents c.picture.new.out))
+    (sym (page_asked words c.in-Draw.page asked)) c.picture.ensures.drawn
+
+pub returns-in-Err-clause-drawn : goal.returns-in-Err-clause-drawn
+returns-in-Err-clause-drawn g c asks =
+    let taken : c.refused_words.result ≢ 2 = search rules in
+    let script = g.I.Read.remaining c.args.reader.now in
+    let written = g.O.Write.contents c.args.out.now in
+    let page = page_given (map g.S.AsStr.text c.args.words.now) in
+    elim c.refused_words.ensures.status [
+      | inl h ↦ subst (λ status. Shows script status written written page) (sym h.1) (undrawn script written page)
+      | inr h ↦ absurd {A = Shows script c.refused_words.result written written page} (taken h.1)
     ]

@@ -9,7 +9,7 @@ returns-in-Ok-clause-told g c =
     let of : IsRunOf c.args.sites known c.in-Ok.run' =
     record { accepted = c.in-Ok.ensures.accepted; among = c.in-Ok.ensures.sites; read = c.in-Ok.ensures.read } in
     on_ok c.tell_wanted.result
-    (λ told. (told.0, told.1, told_of_run c.args.wanted.summary c.args.sites known c.in-Ok.run' told.0 of told.2))
+    (λ told. (told.0, told.1, told_of_run c.args.wanted.now.summary c.args.sites known c.in-Ok.run' told.0 of told.2))
     c.tell_wanted.ensures.told
 
 pub returns-in-Ok-clause-right : goal.returns-in-Ok-clause-right
