@@ -71,7 +71,7 @@ fn drawn(alloc: Global, script: &[u8], page: Option<PageId>) -> (Result<(), Debu
 }
 
 fn expect(rt: &impl Abort, text: &[u8], parts: [&str; 3]) {
-    let mut at = 0;
+    let mut at = 0usize;
     for part in parts {
         let end = at.saturating_add(part.len());
         assert_eq!(rt; text.get(at..end), Some(part.as_bytes()));
