@@ -19,8 +19,6 @@ mod segments;
 mod spelled;
 mod table;
 mod telling;
-#[cfg(test)]
-mod tests;
 mod typed;
 
 pub use asking::prompt;
