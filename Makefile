@@ -4,7 +4,7 @@ PROGRAM := crates/shmdbg
 
 .PHONY: replay build pictures examples manners refused test wrong-bodies
 
-# Replays an example without proving anything: within a minute on a fresh machine.
+# Replays an example without proving anything: a minute or two on a fresh machine, most of it compiling.
 replay:
 	cd $(PROGRAM) && rt try -- replay < ../../examples/two-sites.shm
 
