@@ -37,7 +37,7 @@ use Rattle.shm_draw.specs.Picture.{Scene, first_scene, scene_after, last_scene, 
 abbrev pub x_of : ℕ → ℕ
 x_of site = 270 + 110 * site
 
--- the row of an event; row 0 is that of the world before the first
+-- the height of an event, by its number; the world before the first event has the topmost, at number 0
 abbrev pub y_of : ℕ → ℕ
 y_of number = 78 + 22 * number
 

@@ -12,7 +12,7 @@ pub(crate) fn x_of(site: u32) -> u64
     270 + 110 * site as u64
 }
 
-/// The row of the event of this number. Row 0 is that of the world before the first event.
+/// The height of the event of this number; number 0 is the world before the first event, at the top.
 pub(crate) fn y_of(number: u64) -> u128
     ensures { result ≡ Svg.y_of number }
 {
