@@ -20,6 +20,15 @@ abbrev pub outstanding_of : Option (ℕ × Op) → Option Outstanding
 outstanding_of None = None
 outstanding_of (Some call) = Some (record { number = call.0; op = call.1 })
 
+-- the number that follows so many calls, if one is left
+abbrev pub number_after : ℕ → Option ℕ
+number_after begun = if begun == greatest then None else Some (begun + 1)
+
+-- the calls once one was begun under this number, if any
+abbrev pub begun_as : Option ℕ → Op → Calls → Calls
+begun_as None op calls = calls
+begun_as (Some number) op calls = record { begun = number; outstanding = Some (record { number = number; op = op }) }
+
 -- the number that the next call gets
 abbrev pub next_number : Calls → Result ℕ BeginFault
 next_number calls =

@@ -1,8 +1,8 @@
-ghost use Rattle.std.specs.Prelude.{◌≡◌, ℕ};
+ghost use Rattle.std.specs.Prelude.{◌≡◌, None, ℕ};
 ghost use Rattle.shm_model.specs.Calls.{fits, is_size};
 ghost use Rattle.shm_model.specs.Site.{Site};
 ghost use Rattle.shm_model.specs.SegmentCalls.{on_reply_to};
-ghost use Rattle.shm_attach.specs.CallBook.{answer_of, begin_call, begun_with, counted, ended_by, ended_with, next_number, outstanding_of, with_calls};
+ghost use Rattle.shm_attach.specs.CallBook.{answer_of, begin_call, begun_as, begun_with, counted, ended_by, ended_with, next_number, number_after, outstanding_of, with_calls};
 
 use crate::fault::BeginFault;
 use shm_model::{Op, Reply};
@@ -52,12 +52,21 @@ impl CallBook {
         if self.outstanding.is_some() {
             return Err(BeginFault::Busy);
         }
+        self.begin_next(op).ok_or(BeginFault::UsedUp)
+    }
+
+    /// The same where no call is outstanding. None: the greatest number was given, and nothing changes.
+    pub fn begin_next(&mut self, op: Op) -> Option<u64>
+        requires { self.old.outstanding ≡ None }
+        ensures number { result ≡ number_after self.old.begun }
+        ensures book { self.new ≡ begun_as result op self.old }
+    {
         if self.begun == u64::MAX {
-            return Err(BeginFault::UsedUp);
+            return None;
         }
         self.begun += 1;
         self.outstanding = Some((self.begun, op));
-        Ok(self.begun)
+        Some(self.begun)
     }
 
     /// The call that this reply ends. None: it ends no call, and changes nothing.

@@ -1,10 +1,10 @@
 //! What a message is called, and the page that it is about.
 ghost use Rattle.std.specs.Prelude.{◌≡◌};
-ghost use Rattle.shm_parts.specs.Message.{message_of};
+ghost use Rattle.shm_parts.specs.Message.{message_of, note_of};
 ghost use Rattle.shm_draw.specs.Picture;
 ghost use Rattle.shm_draw.specs.Svg;
 
-use shm_parts::Message;
+use shm_parts::{Message, Note};
 use shm_place::PageId;
 use std::alloc::Allocator;
 
@@ -27,16 +27,24 @@ pub(crate) fn word_of<A: Allocator + Copy>(message: &Message<A>) -> Word
     ensures { result ≡ Picture.word_of (message_of message.now) }
 {
     match message {
-        Message::Ask { .. } => Word::Ask,
-        Message::Clear { .. } => Word::Clear,
-        Message::Cleared { .. } => Word::Cleared,
-        Message::Hand { .. } => Word::Hand,
-        Message::Page { .. } => Word::Page,
-        Message::Confirm { .. } => Word::Confirm,
+        Message::Of { note, .. } => word_of_note(note),
         Message::Call { .. } => Word::Call,
         Message::Reply { .. } => Word::Reply,
         Message::Purge { .. } => Word::Purge,
         Message::Purged { .. } => Word::Purged,
+    }
+}
+
+fn word_of_note<A: Allocator + Copy>(note: &Note<A>) -> Word
+    ensures { result ≡ Picture.word_of_note (note_of note.now) }
+{
+    match note {
+        Note::Ask { .. } => Word::Ask,
+        Note::Clear(_) => Word::Clear,
+        Note::Cleared(_) => Word::Cleared,
+        Note::Hand { .. } => Word::Hand,
+        Note::Read(_) | Note::Write(_) => Word::Page,
+        Note::Confirm(_) => Word::Confirm,
     }
 }
 
@@ -45,16 +53,8 @@ pub(crate) fn page_of<A: Allocator + Copy>(message: &Message<A>) -> Option<PageI
     ensures { result ≡ Picture.page_of (message_of message.now) }
 {
     match message {
-        Message::Ask { page, .. } => Some(*page),
-        Message::Clear { page, .. } => Some(*page),
-        Message::Cleared { page, .. } => Some(*page),
-        Message::Hand { page, .. } => Some(*page),
-        Message::Page { page, .. } => Some(*page),
-        Message::Confirm { page, .. } => Some(*page),
-        Message::Call { .. } => None,
-        Message::Reply { .. } => None,
-        Message::Purge { .. } => None,
-        Message::Purged { .. } => None,
+        Message::Of { page, .. } => Some(*page),
+        _ => None,
     }
 }
 

@@ -1,17 +1,17 @@
 //! What a node does with a line.
-ghost use Rattle.std.specs.Prelude.{◌≡◌, ◌<◌, false, max, option_map, string_bytes, IfOk, OnErr, OnOk};
+ghost use Rattle.std.specs.Prelude.{◌≡◌, ◌<◌, false, map, max, option_map, string_bytes, IfOk, OnErr, OnOk};
 ghost use Rattle.shm_model.specs.Basics.{greatest};
 ghost use Rattle.shm_model.specs.Step.{step};
 ghost use Rattle.shm_node.specs.Node.{after, caller_after, counted, said, says, stepped, told};
 ghost use Rattle.shm_node.specs.NodeOf.{heard_of, node_of, said_of};
-ghost use Rattle.shm_site.specs.Site.{SameSeat, sent_after, site_of, stepped as site_stepped};
+ghost use Rattle.shm_parts.specs.Message.{envelope_of};
+ghost use Rattle.shm_site.specs.Site.{SameSeat, site_of, stepped as site_stepped};
 ghost use Rattle.shm_site.specs.Step.{input_of, is_foreign};
 
 use crate::heard::Heard;
 use crate::node::Node;
 use crate::said::Said;
-use shm_parts::Outbox;
-use shm_site::{Answer, Input, Site, StepError};
+use shm_site::{Answer, Input, Made, Site, StepError};
 use std::alloc::{AllocError, Allocator};
 
 impl<A: Allocator + Copy> Node<A> {
@@ -45,9 +45,7 @@ impl<A: Allocator + Copy> Node<A> {
         let Heard { input, source, tag } = heard;
         let clock = self.clock.max(source) + 1;
         let index = self.steps;
-        let mut outbox = Outbox::new(self.alloc);
-        let answer = made(&mut self.site, input, &mut outbox)?;
-        let sent = outbox.into_envelopes();
+        let Made { answer, sent } = listed(&mut self.site, input)?;
         self.clock = clock;
         self.steps = index + 1;
         self.taken = counted(self.taken);
@@ -90,17 +88,13 @@ fn counted(lines: u64) -> u64
 }
 
 /// One step of the site at an input that isn't foreign. An envelope that comes back is given up.
-fn made<A: Allocator + Copy>(
-    site: &mut Site<A>,
-    input: Input<A>,
-    outbox: &mut Outbox<A>,
-) -> Result<Answer, AllocError>
-    ensures step { IfOk result (λ answer. sent_after outbox.old.sent (step site.old.sites site.old.me (site_of site.old) (input_of input)) ≡ site_stepped site.new answer outbox.new.sent) }
+fn listed<A: Allocator + Copy>(site: &mut Site<A>, input: Input<A>) -> Result<Made<A>, AllocError>
+    ensures step { IfOk result (λ made. step site.old.sites site.old.me (site_of site.old) (input_of input) ≡ site_stepped site.new made.answer (map envelope_of made.sent.items)) }
     ensures refused { OnErr result (site_of site.new ≡ site_of site.old) }
     ensures seat { SameSeat site.old site.new }
 {
-    match site.step(input, outbox) {
-        Ok(answer) => Ok(answer),
+    match site.step_listed(input) {
+        Ok(made) => Ok(made),
         Err(error) => Err(given_up(error)),
     }
 }

@@ -6,11 +6,8 @@ use Rattle.shm_place.specs.Page.{same_page}
 use Rattle.shm_model.specs.Entry as model
 use Rattle.shm_page.specs.Entry.{entry_of}
 use Rattle.shm_page.specs.declared.entry.Entry.{Entry}
-use Rattle.shm_parts.specs.Message.{grant_of}
 use Rattle.shm_parts.specs.declared.change.Change.{Change}
 use Rattle.shm_parts.specs.declared.entries.Entries.{Entries}
-use Rattle.shm_parts.specs.declared.turn.Turn.{Turn}
-use Rattle.shm_parts.specs.declared.turn.Turn.TheVariants as turn
 
 abbrev pub entry_or : {A : Type 0} → model.Entry → Option (Entry A) → model.Entry
 entry_or rest None = rest
@@ -25,12 +22,6 @@ is_stored entries page = is_some (stored_at entries page)
 -- the entries as a function of the page, where `rest` says what a page is of which nothing is stored
 abbrev pub entries_of : {A : Type 0} → (PageId → model.Entry) → Entries A → PageId → model.Entry
 entries_of rest entries page = entry_or (rest page) (stored_at entries page)
-
--- the note of a page that its entry gets
-abbrev pub note_of : {A : Type 0} → Turn A → model.Note
-note_of (turn.Clear number) = model.Clear number
-note_of (turn.Hand number kind to) = model.Hand number kind to
-note_of (turn.Page given) = grant_of given
 
 -- the row of the entry's table
 abbrev pub row : ℕ → model.Note → model.Entry → model.Entry × model.Out

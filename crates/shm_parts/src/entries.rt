@@ -10,8 +10,8 @@ ghost use Rattle.shm_model.specs.Site.{at_page, untouched};
 ghost use Rattle.shm_page.specs.Out.{out_of};
 
 use crate::change::Change;
+use crate::message::Note;
 use crate::slot::{forget_in, opened, store_in, turn_in};
-use crate::turn::Turn;
 use indexmap::IndexMap;
 use shm_page::{Entry, Out};
 use shm_place::{PAGES, PageId, SegId, SiteId, Sites};
@@ -25,7 +25,8 @@ pub struct Entries<A: Allocator + Copy = Global> {
 }
 
 impl<A: Allocator + Copy> Entries<A> {
-    ghost use Rattle.shm_parts.specs.Entries.{change_of, entries_of, is_stored, note_of, row, stored_at};
+    ghost use Rattle.shm_parts.specs.Entries.{change_of, entries_of, is_stored, row, stored_at};
+    ghost use Rattle.shm_parts.specs.Message.{note_of};
 
     /// Nothing is stored.
     pub fn new(alloc: A) -> Entries<A>
@@ -101,25 +102,25 @@ impl<A: Allocator + Copy> Entries<A> {
         store_in(entry, within, byte)
     }
 
-    /// Runs the message's row of the entry's table. Where memory is refused, the message comes back and nothing changes.
+    /// Runs the note's row of the entry's table. Where memory is refused, the note comes back and nothing changes.
     pub fn turn(
         &mut self,
         me: SiteId,
         page: PageId,
-        turn: Turn<A>,
-    ) -> Result<(Out<A>, Change), Turn<A>>
+        note: Note<A>,
+    ) -> Result<(Out<A>, Change), Note<A>>
         requires stored { is_stored self.old page ≡ true }
-        ensures after { OnOk result ((rest : Page → model.Entry) → entries_of rest self.new ≡ at_page (entries_of rest self.old) page (row me (note_of turn) (entries_of rest self.old page)).0) }
-        ensures out { IfOk result (λ r. (rest : Page → model.Entry) → out_of r.0 ≡ (row me (note_of turn) (entries_of rest self.old page)).1) }
-        ensures change { IfOk result (λ r. (rest : Page → model.Entry) → r.1 ≡ change_of (entries_of rest self.old page) (row me (note_of turn) (entries_of rest self.old page)).0) }
+        ensures after { OnOk result ((rest : Page → model.Entry) → entries_of rest self.new ≡ at_page (entries_of rest self.old) page (row me (note_of note) (entries_of rest self.old page)).0) }
+        ensures out { IfOk result (λ r. (rest : Page → model.Entry) → out_of r.0 ≡ (row me (note_of note) (entries_of rest self.old page)).1) }
+        ensures change { IfOk result (λ r. (rest : Page → model.Entry) → r.1 ≡ change_of (entries_of rest self.old page) (row me (note_of note) (entries_of rest self.old page)).0) }
         ensures same { is_stored self.new ≡ is_stored self.old }
-        ensures back { IfErr result (λ back. note_of back ≡ note_of turn) }
+        ensures back { IfErr result (λ back. note_of back ≡ note_of note) }
         ensures refused { OnErr result ((rest : Page → model.Entry) → entries_of rest self.new ≡ entries_of rest self.old) }
     {
         let Some(entry) = self.map.get_mut(&page) else {
-            return Err(turn);
+            return Err(note);
         };
-        turn_in(entry, me, turn)
+        turn_in(entry, me, note)
     }
 
     /// Gives the page's bytes up; what it met stays met.

@@ -1,73 +1,44 @@
-ghost use Rattle.std.specs.Prelude.{◌≡◌, IfOk};
-ghost use Rattle.shm_parts.specs.Message.{envelope_of, grant_of, message_of};
+//! What sites tell one another.
+ghost use Rattle.std.specs.Prelude.{◌≡◌, true, IsErr, IfOk};
+ghost use Rattle.shm_parts.specs.Message.{envelope_of, has_bytes, holds_page, message_of, note_of};
 
 use shm_model::{Kind, Op, Reply};
 use shm_page::{ReadGrant, WriteGrant};
 use shm_place::{PageId, SegId, SiteId};
 use std::alloc::{AllocError, Allocator, Global};
 
-/// What a site sends with a page's bytes: a copy to read, or the page to write.
+/// What is told of a page (Li and Hudak 1989, §3.2). Where a number stands alone, it is that of the page's transaction.
 #[derive(Drop)]
-pub enum Grant<A: Allocator + Copy = Global> {
+pub enum Note<A: Allocator + Copy = Global> {
+    /// To the manager: a right to the page is wanted.
+    Ask { request: u64, kind: Kind },
+    /// From the manager: give the copy up.
+    Clear(u64),
+    /// To the manager: the copy is given up.
+    Cleared(u64),
+    /// From the manager to the owner: hand the page, or a copy of it, to the site `to`.
+    Hand { number: u64, kind: Kind, to: SiteId },
+    /// From the owner to who asked: a copy to read.
     Read(ReadGrant<A>),
+    /// From the owner to who asked: the page to write.
     Write(WriteGrant<A>),
+    /// To the manager: what was asked for is here.
+    Confirm(u64),
 }
 
-/// What sites tell one another (Li and Hudak 1989, §3.2, and segment calls). `number` is that of a transaction,
-/// or of a segment call.
+/// What sites tell one another of pages and of segment calls. `number` is that of a segment call.
 #[derive(Drop)]
 pub enum Message<A: Allocator + Copy = Global> {
-    /// To the manager: a right to the page is wanted.
-    Ask {
-        page: PageId,
-        request: u64,
-        kind: Kind,
-    },
-    /// From the manager: give the copy up.
-    Clear {
-        page: PageId,
-        number: u64,
-    },
-    /// To the manager: the copy is given up.
-    Cleared {
-        page: PageId,
-        number: u64,
-    },
-    /// From the manager to the owner: hand the page, or a copy of it, to the site `to`.
-    Hand {
-        page: PageId,
-        number: u64,
-        kind: Kind,
-        to: SiteId,
-    },
-    /// The page's bytes, from its owner to who asked.
-    Page {
-        page: PageId,
-        grant: Grant<A>,
-    },
-    /// To the manager: what was asked for is here.
-    Confirm {
-        page: PageId,
-        number: u64,
-    },
+    /// A note of a page.
+    Of { page: PageId, note: Note<A> },
     /// A segment call, to its home.
-    Call {
-        number: u64,
-        op: Op,
-    },
+    Call { number: u64, op: Op },
     /// The home's reply to a segment call.
-    Reply {
-        number: u64,
-        reply: Reply,
-    },
+    Reply { number: u64, reply: Reply },
     /// From the home: the segment is destroyed; give up what is held of it.
-    Purge {
-        id: SegId,
-    },
+    Purge { id: SegId },
     /// To the home: nothing of the segment is held.
-    Purged {
-        id: SegId,
-    },
+    Purged { id: SegId },
 }
 
 /// A message on its way from one site to another, or to itself.
@@ -78,14 +49,20 @@ pub struct Envelope<A: Allocator + Copy = Global> {
     pub message: Message<A>,
 }
 
-impl<A: Allocator + Copy> Grant<A> {
-    /// An equal grant.
-    pub fn copy(&self) -> Result<Grant<A>, AllocError>
-        ensures { IfOk result (λ grant. grant_of grant ≡ grant_of self.now) }
+impl<A: Allocator + Copy> Note<A> {
+    /// An equal note. Only a page's bytes may take memory.
+    pub fn copy(&self) -> Result<Note<A>, AllocError>
+        ensures note { IfOk result (λ note. note_of note ≡ note_of self.now) }
+        ensures memory { IsErr result → has_bytes self.now ≡ true }
     {
         match self {
-            Grant::Read(grant) => Ok(Grant::Read(grant.copy()?)),
-            Grant::Write(grant) => Ok(Grant::Write(grant.copy()?)),
+            &Note::Ask { request, kind } => Ok(Note::Ask { request, kind }),
+            &Note::Clear(number) => Ok(Note::Clear(number)),
+            &Note::Cleared(number) => Ok(Note::Cleared(number)),
+            &Note::Hand { number, kind, to } => Ok(Note::Hand { number, kind, to }),
+            Note::Read(grant) => Ok(Note::Read(grant.copy()?)),
+            Note::Write(grant) => Ok(Note::Write(grant.copy()?)),
+            &Note::Confirm(number) => Ok(Note::Confirm(number)),
         }
     }
 }
@@ -93,36 +70,14 @@ impl<A: Allocator + Copy> Grant<A> {
 impl<A: Allocator + Copy> Message<A> {
     /// An equal message. Only a page's bytes may take memory.
     pub fn copy(&self) -> Result<Message<A>, AllocError>
-        ensures { IfOk result (λ message. message_of message ≡ message_of self.now) }
+        ensures message { IfOk result (λ message. message_of message ≡ message_of self.now) }
+        ensures memory { IsErr result → holds_page self.now ≡ true }
     {
         match self {
-            &Message::Ask {
-                page,
-                request,
-                kind,
-            } => Ok(Message::Ask {
-                page,
-                request,
-                kind,
-            }),
-            &Message::Clear { page, number } => Ok(Message::Clear { page, number }),
-            &Message::Cleared { page, number } => Ok(Message::Cleared { page, number }),
-            &Message::Hand {
-                page,
-                number,
-                kind,
-                to,
-            } => Ok(Message::Hand {
-                page,
-                number,
-                kind,
-                to,
-            }),
-            Message::Page { page, grant } => {
-                let grant = grant.copy()?;
-                Ok(Message::Page { page: *page, grant })
+            Message::Of { page, note } => {
+                let note = note.copy()?;
+                Ok(Message::Of { page: *page, note })
             }
-            &Message::Confirm { page, number } => Ok(Message::Confirm { page, number }),
             &Message::Call { number, op } => Ok(Message::Call { number, op }),
             &Message::Reply { number, reply } => Ok(Message::Reply { number, reply }),
             &Message::Purge { id } => Ok(Message::Purge { id }),
@@ -132,9 +87,10 @@ impl<A: Allocator + Copy> Message<A> {
 }
 
 impl<A: Allocator + Copy> Envelope<A> {
-    /// An equal envelope, as a network makes one when it hands a message over twice.
+    /// An equal envelope, as a network makes one when it hands a message over twice. Only a page's bytes may take memory.
     pub fn copy(&self) -> Result<Envelope<A>, AllocError>
-        ensures { IfOk result (λ envelope. envelope_of envelope ≡ envelope_of self.now) }
+        ensures envelope { IfOk result (λ envelope. envelope_of envelope ≡ envelope_of self.now) }
+        ensures memory { IsErr result → holds_page self.now.message ≡ true }
     {
         let message = self.message.copy()?;
         Ok(Envelope {

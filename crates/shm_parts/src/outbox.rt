@@ -1,113 +1,52 @@
-ghost use Rattle.std.specs.Prelude.{◌≡◌, ◌+◌, ◌≤◌, ◌<◌, ◌==◌, [], ◌∷◌, ◌++◌, length, map, take, OnOk, OnErr, IfSome, IfNone};
-ghost use Rattle.shm_parts.specs.Message.{envelope_of};
+//! Where what a site sends goes.
+use std::alloc::{AllocError, Allocator};
 
-use crate::message::Envelope;
-use std::alloc::{AllocError, Allocator, Global};
-use std::marker::Model;
+/// Where envelopes go, the first to send first: a list of a box's own, or a world's network. Whoever sends makes room, and then pushes
+/// what there is room for.
+pub trait Outbox<E> {
+    ghost use Rattle.std.specs.Prelude.{[], ◌∷◌, ◌++◌, ◌≤◌, ◌<◌, ◌+◌, ℕ, List, OnOk};
 
-/// What a site sends, the first envelope first. Whoever steps sites takes the envelopes out and carries them.
-#[derive(Drop)]
-pub struct Outbox<A: Allocator + Copy = Global> {
-    envelopes: Vec<Envelope<A>, A>,
+    /// The second is the first with these envelopes behind what was there.
+    ghost posted: { Self → Self → List E → Type 0 };
+
+    /// So many more fit without more memory.
+    ghost room: { Self → ℕ };
+
+    /// Who posts nothing changes nothing.
+    ghost nothing: { (outbox : Self) → posted outbox outbox [] };
+
+    /// Who posts twice has posted both lists.
+    ghost joined: { (first then last : Self) (xs ys : List E) → posted first then xs → posted then last ys → posted first last (xs ++ ys) };
+
+    /// Makes room for so many more. What was there stays.
+    fn reserve(&mut self, additional: usize) -> Result<(), AllocError>
+        ensures same { posted self.old self.new [] }
+        ensures room { OnOk result (additional ≤ room self.new) };
+
+    /// Posts an envelope, for which there is room.
+    fn push(&mut self, envelope: E)
+        requires { 0 < room self.old }
+        ensures posted { posted self.old self.new (envelope ∷ []) }
+        ensures room { room self.old ≤ room self.new + 1 };
 }
 
-impl<A: Allocator + Copy> Model for Outbox<A> {
-    ghost use Rattle.std.specs.Prelude.{map, vec_capacity};
-    ghost use Rattle.shm_parts.specs.Message.{envelope_of};
-    ghost use Rattle.shm_parts.specs.Outbox.{Outgoing};
+impl<E: Drop, A: Allocator> Outbox<E> for Vec<E, A> {
+    ghost use Rattle.std.specs.Prelude.{◌-◌, length, vec_capacity};
+    ghost use Rattle.shm_parts.specs.Outbox.{AddedTo, added_nothing, added_twice};
 
-    ghost Value = { Outgoing };
+    ghost posted = { AddedTo };
 
-    ghost view = { λ outbox. record { sent = map envelope_of outbox.envelopes.items; room = vec_capacity outbox.envelopes } };
-}
+    ghost room = { λ list. vec_capacity list - length list.items };
 
-impl<A: Allocator + Copy> Outbox<A> {
-    /// Nothing to send.
-    pub fn new(alloc: A) -> Outbox<A>
-        ensures { result.sent ≡ [] }
-    {
-        Outbox {
-            envelopes: Vec::new(alloc),
-        }
+    ghost nothing = { added_nothing };
+
+    ghost joined = { added_twice };
+
+    fn reserve(&mut self, additional: usize) -> Result<(), AllocError> {
+        Vec::reserve(self, additional)
     }
 
-    /// Makes room for so many more envelopes.
-    pub fn reserve(&mut self, additional: usize) -> Result<(), AllocError>
-        ensures sent { self.new.sent ≡ self.old.sent }
-        ensures room { OnOk result (length self.old.sent + additional ≤ self.new.room) }
-    {
-        self.envelopes.reserve(additional)
-    }
-
-    /// Adds an envelope, for which room was made.
-    pub fn push(&mut self, envelope: Envelope<A>)
-        requires { length self.old.sent < self.old.room }
-        ensures sent { self.new.sent ≡ self.old.sent ++ envelope_of envelope ∷ [] }
-        ensures room { self.new.room ≡ self.old.room }
-    {
-        self.envelopes.push_reserved(envelope);
-    }
-
-    /// Adds an envelope, or changes nothing where memory is refused.
-    pub fn try_push(&mut self, envelope: Envelope<A>) -> Result<(), AllocError>
-        ensures sent { OnOk result (self.new.sent ≡ self.old.sent ++ envelope_of envelope ∷ []) }
-        ensures refused { OnErr result (self.new.sent ≡ self.old.sent) }
-    {
-        self.reserve(1)?;
-        self.push(envelope);
-        Ok(())
-    }
-
-    /// Takes away what was added after the first `count` envelopes.
-    pub fn truncate(&mut self, count: usize)
-        ensures { self.new.sent ≡ take count self.old.sent }
-    {
-        self.envelopes.truncate(count);
-    }
-
-    /// Takes the last envelope out. The room stays.
-    pub fn pop(&mut self) -> Option<Envelope<A>>
-        ensures last { IfSome result (λ envelope. self.old.sent ≡ self.new.sent ++ envelope_of envelope ∷ []) }
-        ensures empty { IfNone result ((self.old.sent ≡ []) × (self.new.sent ≡ [])) }
-        ensures room { self.new.room ≡ self.old.room }
-    {
-        self.envelopes.pop()
-    }
-
-    /// How many envelopes there are.
-    pub fn len(&self) -> usize
-        ensures { result ≡ length self.now.sent }
-    {
-        self.envelopes.len()
-    }
-
-    /// Whether there are none.
-    pub fn is_empty(&self) -> bool
-        ensures { result ≡ (length self.now.sent == 0) }
-    {
-        self.envelopes.is_empty()
-    }
-
-    /// The envelopes, the first to send first.
-    pub fn as_slice(&self) -> &[Envelope<A>]
-        ensures { map envelope_of result.now ≡ self.now.sent }
-    {
-        self.envelopes.as_slice()
-    }
-
-    /// The envelopes themselves, the first to send first.
-    pub fn into_envelopes(self) -> Vec<Envelope<A>, A>
-        ensures { map envelope_of result.items ≡ self.sent }
-    {
-        let Outbox { envelopes } = self;
-        envelopes
-    }
-
-    /// Forgets all envelopes. The room stays.
-    pub fn clear(&mut self)
-        ensures sent { self.new.sent ≡ [] }
-        ensures room { self.new.room ≡ self.old.room }
-    {
-        self.envelopes.clear();
+    fn push(&mut self, envelope: E) {
+        self.push_reserved(envelope);
     }
 }

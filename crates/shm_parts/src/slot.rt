@@ -1,17 +1,16 @@
 //! What is done with one entry where it stands.
-ghost use Rattle.std.specs.Prelude.{◌≡◌, ℕ, ◌<◌, nat_lt, if◌then◌else◌, IfOk, IfErr, OnOk, OnErr};
+ghost use Rattle.std.specs.Prelude.{◌≡◌, ◌<◌, nat_lt, if◌then◌else◌, IfOk, IfErr, OnOk, OnErr};
 ghost use Rattle.shm_place.specs.Limits.{page_bytes};
 ghost use Rattle.shm_model.specs.Access.{stored_entry};
 ghost use Rattle.shm_model.specs.Entry as model;
 ghost use Rattle.shm_model.specs.Site.{untouched};
 ghost use Rattle.shm_page.specs.Entry.{entry_of};
 ghost use Rattle.shm_page.specs.Out.{out_of};
-ghost use Rattle.shm_parts.specs.Entries.{change_of, note_of, row};
-ghost use Rattle.shm_parts.specs.Message.{grant_of};
+ghost use Rattle.shm_parts.specs.Entries.{change_of, row};
+ghost use Rattle.shm_parts.specs.Message.{note_of};
 
 use crate::change::Change;
-use crate::message::Grant;
-use crate::turn::Turn;
+use crate::message::Note;
 use shm_model::Kind;
 use shm_page::{Entry, NilPage, Out};
 use shm_place::{PageId, SiteId, Sites, manager_of};
@@ -45,29 +44,29 @@ pub(crate) fn store_in<A: Allocator + Copy>(entry: &mut Entry<A>, within: usize,
     true
 }
 
-/// Runs the message's row of the entry's table. Where memory is refused, the message comes back and nothing changes.
+/// Runs the note's row of the entry's table. Where memory is refused, the note comes back and nothing changes.
 pub(crate) fn turn_in<A: Allocator + Copy>(
     entry: &mut Entry<A>,
     me: SiteId,
-    turn: Turn<A>,
-) -> Result<(Out<A>, Change), Turn<A>>
-    ensures after { OnOk result (entry_of entry.new ≡ (row me (note_of turn) (entry_of entry.old)).0) }
-    ensures out { IfOk result (λ r. out_of r.0 ≡ (row me (note_of turn) (entry_of entry.old)).1) }
-    ensures change { IfOk result (λ r. r.1 ≡ change_of (entry_of entry.old) (row me (note_of turn) (entry_of entry.old)).0) }
-    ensures back { IfErr result (λ back. note_of back ≡ note_of turn) }
+    note: Note<A>,
+) -> Result<(Out<A>, Change), Note<A>>
+    ensures after { OnOk result (entry_of entry.new ≡ (row me (note_of note) (entry_of entry.old)).0) }
+    ensures out { IfOk result (λ r. out_of r.0 ≡ (row me (note_of note) (entry_of entry.old)).1) }
+    ensures change { IfOk result (λ r. r.1 ≡ change_of (entry_of entry.old) (row me (note_of note) (entry_of entry.old)).0) }
+    ensures back { IfErr result (λ back. note_of back ≡ note_of note) }
     ensures refused { OnErr result (entry_of entry.new ≡ entry_of entry.old) }
 {
     let seen = entry.seen();
     let before = mem::replace(entry, Entry::Nil(NilPage::after(0)));
-    match turned(before, me, turn) {
+    match turned(before, me, note) {
         Ok((after, out)) => {
             let change = change_since(seen, &after);
             *entry = after;
             Ok((out, change))
         }
-        Err((before, turn)) => {
+        Err((before, note)) => {
             *entry = before;
-            Err(turn)
+            Err(note)
         }
     }
 }
@@ -80,61 +79,47 @@ pub(crate) fn forget_in<A: Allocator + Copy>(entry: &mut Entry<A>)
     *entry = Entry::Nil(NilPage::after(seen));
 }
 
-/// The entry that the message makes of this one, and what the site sends. Where memory is refused, both come back.
+/// The entry that the note makes of this one, and what the site sends. Where memory is refused, both come back.
 fn turned<A: Allocator + Copy>(
     entry: Entry<A>,
     me: SiteId,
-    turn: Turn<A>,
-) -> Result<(Entry<A>, Out<A>), (Entry<A>, Turn<A>)>
-    ensures row { IfOk result (λ r. (entry_of r.0, out_of r.1) ≡ row me (note_of turn) (entry_of entry)) }
+    note: Note<A>,
+) -> Result<(Entry<A>, Out<A>), (Entry<A>, Note<A>)>
+    ensures row { IfOk result (λ r. (entry_of r.0, out_of r.1) ≡ row me (note_of note) (entry_of entry)) }
     ensures kept { IfErr result (λ e. entry_of e.0 ≡ entry_of entry) }
-    ensures back { IfErr result (λ e. note_of e.1 ≡ note_of turn) }
+    ensures back { IfErr result (λ e. note_of e.1 ≡ note_of note) }
 {
-    match turn {
-        Turn::Clear(number) => Ok(clear(entry, number)),
-        Turn::Page(grant) => granted(entry, grant),
-        hand => handed(entry, me, hand),
-    }
-}
-
-/// The entry that a grant makes of this one, and what the site sends. Where memory is refused, both come back.
-fn granted<A: Allocator + Copy>(
-    entry: Entry<A>,
-    grant: Grant<A>,
-) -> Result<(Entry<A>, Out<A>), (Entry<A>, Turn<A>)>
-    ensures row { (me : ℕ) → IfOk result (λ r. (entry_of r.0, out_of r.1) ≡ row me (grant_of grant) (entry_of entry)) }
-    ensures kept { IfErr result (λ e. entry_of e.0 ≡ entry_of entry) }
-    ensures back { IfErr result (λ e. note_of e.1 ≡ grant_of grant) }
-{
-    match grant {
-        Grant::Read(grant) => Ok(take_copy(entry, grant)),
-        Grant::Write(grant) => match take_ownership(entry, grant) {
+    match note {
+        Note::Clear(number) => Ok(clear(entry, number)),
+        Note::Hand { number, kind, to } => handed(entry, me, number, kind, to),
+        Note::Read(grant) => Ok(take_copy(entry, grant)),
+        Note::Write(grant) => match take_ownership(entry, grant) {
             Ok(taken) => Ok(taken),
-            Err((entry, grant, _)) => Err((entry, Turn::Page(Grant::Write(grant)))),
+            Err((entry, grant, _)) => Err((entry, Note::Write(grant))),
         },
+        Note::Ask { .. } | Note::Cleared(_) | Note::Confirm(_) => Ok((entry, Out::Nothing)),
     }
 }
 
-/// The entry that a Hand makes of this one, and what the site sends. Where memory is refused, both come back, as does what is no Hand.
+/// The entry that a Hand makes of this one, and what the site sends. Where memory is refused, both come back.
 fn handed<A: Allocator + Copy>(
     entry: Entry<A>,
     me: SiteId,
-    hand: Turn<A>,
-) -> Result<(Entry<A>, Out<A>), (Entry<A>, Turn<A>)>
-    ensures row { IfOk result (λ r. (entry_of r.0, out_of r.1) ≡ row me (note_of hand) (entry_of entry)) }
+    number: u64,
+    kind: Kind,
+    to: SiteId,
+) -> Result<(Entry<A>, Out<A>), (Entry<A>, Note<A>)>
+    ensures row { IfOk result (λ r. (entry_of r.0, out_of r.1) ≡ row me (model.Hand number kind to) (entry_of entry)) }
     ensures kept { IfErr result (λ e. entry_of e.0 ≡ entry_of entry) }
-    ensures back { IfErr result (λ e. note_of e.1 ≡ note_of hand) }
+    ensures back { IfErr result (λ e. note_of e.1 ≡ model.Hand number kind to) }
 {
-    let Turn::Hand { number, kind, to } = &hand else {
-        return Err((entry, hand));
-    };
-    let handed = match *kind {
-        Kind::Read => lend_to(entry, *number, me, *to),
-        Kind::Write => hand_to(entry, *number, me, *to),
+    let handed = match kind {
+        Kind::Read => lend_to(entry, number, me, to),
+        Kind::Write => hand_to(entry, number, me, to),
     };
     match handed {
         Ok(handed) => Ok(handed),
-        Err((entry, _)) => Err((entry, hand)),
+        Err((entry, _)) => Err((entry, Note::Hand { number, kind, to })),
     }
 }
 

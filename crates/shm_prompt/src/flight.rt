@@ -1,6 +1,6 @@
 //! `flight`: the envelopes on their way.
 use shm_model::Kind;
-use shm_parts::{Envelope, Grant, Message};
+use shm_parts::{Envelope, Message, Note};
 use shm_place::PageId;
 use shm_world::World;
 use std::alloc::{AllocError, Allocator};
@@ -44,34 +44,13 @@ fn list_envelope<A: Allocator + Copy>(
     text.push_str("\n")
 }
 
-/// What a message says, in words.
+/// What the message is, of which page or segment, under which number.
 fn describe<A: Allocator + Copy>(
     text: &mut String<A>,
     message: &Message<A>,
 ) -> Result<(), AllocError> {
     match message {
-        Message::Ask {
-            page,
-            request,
-            kind,
-        } => {
-            text.push_str("Ask")?;
-            name_page(text, *page)?;
-            write!(text, " request {request} to {}", verb_of(*kind))
-        }
-        Message::Clear { page, number } => tell_transaction(text, "Clear", *page, *number),
-        Message::Cleared { page, number } => tell_transaction(text, "Cleared", *page, *number),
-        Message::Hand {
-            page,
-            number,
-            kind,
-            to,
-        } => {
-            tell_transaction(text, "Hand", *page, *number)?;
-            write!(text, " to site {} to {}", to.0, verb_of(*kind))
-        }
-        Message::Page { page, grant } => tell_grant(text, *page, grant),
-        Message::Confirm { page, number } => tell_transaction(text, "Confirm", *page, *number),
+        Message::Of { page, note } => describe_note(text, *page, note),
         Message::Call { number, .. } => write!(text, "Call number {number}"),
         Message::Reply { number, .. } => write!(text, "Reply number {number}"),
         Message::Purge { id } => write!(text, "Purge segment {}", id.0),
@@ -79,21 +58,33 @@ fn describe<A: Allocator + Copy>(
     }
 }
 
-/// The page's bytes, as a copy or for good.
-fn tell_grant<A: Allocator + Copy>(
+/// What the note of the page is.
+fn describe_note<A: Allocator + Copy>(
     text: &mut String<A>,
     page: PageId,
-    grant: &Grant<A>,
+    note: &Note<A>,
 ) -> Result<(), AllocError> {
-    match grant {
-        Grant::Read(copy) => {
+    match note {
+        Note::Ask { request, kind } => {
+            text.push_str("Ask")?;
+            name_page(text, page)?;
+            write!(text, " request {request} to {}", verb_of(*kind))
+        }
+        Note::Clear(number) => tell_transaction(text, "Clear", page, *number),
+        Note::Cleared(number) => tell_transaction(text, "Cleared", page, *number),
+        Note::Hand { number, kind, to } => {
+            tell_transaction(text, "Hand", page, *number)?;
+            write!(text, " to site {} to {}", to.0, verb_of(*kind))
+        }
+        Note::Read(copy) => {
             tell_transaction(text, "Page", page, copy.number())?;
             text.push_str(" to read")
         }
-        Grant::Write(whole) => {
+        Note::Write(whole) => {
             tell_transaction(text, "Page", page, whole.number())?;
             text.push_str(" to write")
         }
+        Note::Confirm(number) => tell_transaction(text, "Confirm", page, *number),
     }
 }
 
@@ -145,12 +136,7 @@ fn speaks_of<A: Allocator + Copy>(world: &World<A>, number: u64, seg: u32, index
 /// The page that a message speaks of.
 fn page_of<A: Allocator + Copy>(message: &Message<A>) -> Option<PageId> {
     match message {
-        Message::Ask { page, .. } => Some(*page),
-        Message::Clear { page, .. } => Some(*page),
-        Message::Cleared { page, .. } => Some(*page),
-        Message::Hand { page, .. } => Some(*page),
-        Message::Page { page, .. } => Some(*page),
-        Message::Confirm { page, .. } => Some(*page),
+        Message::Of { page, .. } => Some(*page),
         _ => None,
     }
 }

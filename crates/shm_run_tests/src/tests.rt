@@ -2,6 +2,7 @@ mod drawings;
 mod drawn;
 mod held;
 mod pieces;
+mod prompting;
 mod refusals;
 mod report;
 mod running;

@@ -1,30 +1,43 @@
--- Steps of a site, behind what was to be sent before.
-use Rattle.std.proofs.Common.{◌≡◌, ◌∙◌, ap, sym, List, Option, Some, None, Result, Ok, Err, IfNone}
+-- Steps of a site, and what they post.
+use Rattle.std.proofs.Common.{◌≡◌, ◌∙◌, List, [], ◌∷◌, ◌++◌, Result, Ok, Err, IfOk}
 use Rattle.std.specs.Result.{OnErr}
-use Rattle.std.proofs.lemmas.List.{append-nil}
 use Rattle.shm_model.specs.declared.answer.Answer.{Answer}
-use Rattle.shm_model.specs.Site.{Step, still, Site}
-use Rattle.shm_model.specs.Message.{Envelope}
-use Rattle.shm_site.specs.Site.{sent_after}
+use Rattle.shm_model.specs.Site.{Step}
+use Rattle.shm_model.specs.Site as model
+use Rattle.shm_parts.specs.Message.{envelope_of}
+use Rattle.shm_parts.specs.declared.message.Envelope.{Envelope}
+use Rattle.shm_site.specs.Site.{Makes, SameSeat, StepsTo, stepped}
+use Rattle.shm_site.specs.declared.site.Site.{Site}
 
--- how a step leaves a site
-abbrev pub told : Site → Answer → List Envelope → Step
-told site answer sent = record { site = site; answer = answer; sent = sent }
+module _ {A O : Type 0} {posted : O → O → List (Envelope A) → Type 0} where
+  -- a step that sends nothing
+  pub quietly : {old new : Site A} {outbox : O} {answer : Answer} {step : Step} → posted outbox outbox [] → SameSeat old new → step ≡ stepped new answer [] → StepsTo posted old new outbox outbox answer step
+  quietly none seat made = record { makes = record { sent = []; behind = none; made = made }; seat = seat }
 
-still_after : (before : List Envelope) (answer : Answer) (site : Site) → sent_after before (still answer site) ≡ told site answer before
-still_after before answer site = ap (told site answer) (append-nil before)
+  -- a step with room made before it
+  pub with_room : {before room after : O} {site : model.Site} {answer : Answer} {first then : Step}
+      → ((first then last : O) (xs ys : List (Envelope A)) → posted first then xs → posted then last ys → posted first last (xs ++ ys))
+      → posted before room [] → first ≡ then → Makes posted room after site answer then → Makes posted before after site answer first
+  with_room {before = before} {room = room} {after = after} joined made same makes =
+      record { sent = makes.sent; behind = joined before room after [] makes.sent made makes.behind; made = same ∙ makes.made }
 
-pub told_still : (before : List Envelope) (first then : Step) (answer : Answer) (site : Site) → first ≡ then → then ≡ still answer site → sent_after before first ≡ told site answer before
-told_still before first then answer site e f = ap (sent_after before) (e ∙ f) ∙ still_after before answer site
+  -- one envelope that was posted
+  pub one_sent : {before after : O} {site : model.Site} {answer : Answer} {step : Step} (e : Envelope A) (room : O)
+      → ((first then last : O) (xs ys : List (Envelope A)) → posted first then xs → posted then last ys → posted first last (xs ++ ys))
+      → posted before room [] → posted room after (e ∷ []) → step ≡ record { site = site; answer = answer; sent = envelope_of e ∷ [] } → Makes posted before after site answer step
+  one_sent {before = before} {after = after} e room joined made sent is =
+      record { sent = e ∷ []; behind = joined before room after [] (e ∷ []) made sent; made = is }
 
--- a step in two parts, with room made first
-pub in_turn : (first then after : Step) (sent room : List Envelope) → first ≡ then → room ≡ sent → sent_after room then ≡ after → sent_after sent first ≡ after
-in_turn first then after sent room e same rest = ap (sent_after sent) e ∙ ap (λ (l : List Envelope). sent_after l then) (sym same) ∙ rest
+-- the same step by another name, at a site of the same seat
+pub if_steps : {A O X : Type 0} (posted : O → O → List (Envelope A) → Type 0) (old mid new : Site A) (before after : O) (first then : Step) (r : Result Answer X)
+    → first ≡ then → IfOk r (λ answer. StepsTo posted mid new before after answer then) → SameSeat old mid → IfOk r (λ answer. StepsTo posted old new before after answer first)
+if_steps posted old mid new before after first then (Ok answer) same steps seat = record {
+  makes = record { sent = steps.makes.sent; behind = steps.makes.behind; made = same ∙ steps.makes.made };
+  seat = (steps.seat.0 ∙ seat.0, steps.seat.1 ∙ seat.1);
+}
+if_steps posted old mid new before after first then (Err e) same steps seat = tt
 
-pub on_err : {X E : Type 0} (r : Result X E) (P : Type 0) → P → OnErr r P
-on_err (Ok x) P p = tt
-on_err (Err e) P p = p
-
-pub if_none : {X P : Type 0} (r : Option X) → P → IfNone r P
-if_none None p = p
-if_none (Some x) p = tt
+-- of a result that is an error, what holds anyway
+pub on_err : {T E P : Type 0} (r : Result T E) → P → OnErr r P
+on_err (Ok _) p = tt
+on_err (Err _) p = p

@@ -1,10 +1,10 @@
 -- What a tick has sent so far, part by part.
-use Rattle.std.proofs.Common.{◌≡◌, ℕ, ◌+◌, ◌-◌, ◌*◌, ◌/◌, ◌<◌, ◌≤◌, ◌==◌, zero, suc, Bool, true, false, cond, List, [], ◌∷◌, ◌++◌, Option, Some, None, Result, Ok, Err, OnErr, length, map, filter, take, get_or, sym, ◌∙◌, ap, refl, subst, arith, ⊎_elim, append_assoc}
+use Rattle.std.proofs.Common.{◌≡◌, ℕ, ◌+◌, ◌-◌, ◌*◌, ◌/◌, ◌<◌, ◌≤◌, ◌==◌, zero, suc, Bool, true, false, cond, List, [], ◌∷◌, ◌++◌, Option, Some, None, length, map, filter, take, get_or, sym, ◌∙◌, ap, refl, subst, arith, ⊎_elim, append_assoc}
 use Rattle.std.specs.List.{AllByRecursion, flat_map, position_or_len, range_with_len}
 use Rattle.std.proofs.Math.Nat.{mul-le-mul_right}
 use Rattle.std.proofs.lemmas.Bool.{cases_lt, eqb-true, false≢true, lt-ltb, ltb-true}
 use Rattle.std.proofs.lemmas.Grind.{flat_map-append}
-use Rattle.std.proofs.lemmas.List.{append-nil, flat_map_more, length-append, map_push, take_all, take_at, take_more, take-take}
+use Rattle.std.proofs.lemmas.List.{append-nil, flat_map_more, length-append, map_push, take_all, take_more}
 use Rattle.std.proofs.lemmas.List.Elements.{filter_agree}
 use Rattle.std.proofs.lemmas.List.FromFn.{filter_of_map_range_with_len_more}
 use Rattle.std.proofs.lemmas.List.Folds.{find_at}
@@ -25,25 +25,19 @@ use Rattle.shm_keys.specs.Purge.{is_above}
 use Rattle.shm_keys.specs.SiteSet.{has}
 use Rattle.shm_keys.specs.Table.{IsNumbered, is_purged_from}
 
--- what was there before stays in front
-pub kept_before : {Y : Type 0} (before now more : List Y) → now ≡ before ++ more → take (length before) now ≡ before
-kept_before before now more e = ap (take (length before)) e ∙ take_at before more (length before) refl
-
-pub kept_through : {Y : Type 0} (before mid now more : List Y) → mid ≡ before ++ more → take (length mid) now ≡ mid → take (length before) now ≡ before
-kept_through before mid now more e kept =
-    let longer : length mid ≡ length before + length more = ap length e ∙ length-append before more in
-    sym (take-take (length before) (length mid) now (omega (arith, longer))) ∙ ap (take (length before)) kept ∙ kept_before before mid more e
-
--- of a result that is an error, what holds anyway
-pub on_err : {T E P : Type 0} (r : Result T E) → P → OnErr r P
-on_err (Ok _) p = record {}
-on_err (Err _) p = p
-
 -- all is sent behind what was there before, but for what is left
 pub record IsSent {Y : Type 0} (before now left all : List Y) : Type 0 where
   pub done : List Y
   pub sent : now ≡ before ++ done
   pub rest : done ++ left ≡ all
+
+-- one more was sent
+pub is_sent_push : {E Y : Type 0} (f : E → Y) (before : List Y) (now next : List E) (e : E) (m : Y) (was left all : List Y) → IsSent before (map f now) was all → was ≡ m ∷ left → next ≡ now ++ e ∷ [] → f e ≡ m → IsSent before (map f next) left all
+is_sent_push {Y = Y} f before now next e m was left all had first pushed is = record {
+  done = had.done ++ m ∷ [];
+  sent = ap (map f) pushed ∙ map_push f now e ∙ ap (λ (x : Y). map f now ++ x ∷ []) is ∙ ap (λ (l : List Y). l ++ m ∷ []) had.sent ∙ append_assoc before had.done (m ∷ []);
+  rest = append_assoc had.done (m ∷ []) left ∙ ap (λ (l : List Y). had.done ++ l) (sym first) ∙ had.rest;
+}
 
 -- pages whose books don't run send nothing
 pub idle_sends : (me : ℕ) (site : Site) (pages : List PageId) → AllByRecursion (λ p. (site.books p).running ≡ None) pages → flat_map (orders_again me site) pages ≡ []

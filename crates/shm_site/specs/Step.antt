@@ -3,7 +3,6 @@ use Rattle.std.specs.Prelude.{ℕ, Bool, true, false, not, Option, Some, None, i
 use Rattle.shm_model.specs.declared.answer.Answer.{Answer}
 use Rattle.shm_model.specs.declared.answer.Answer.TheVariants as answer
 use Rattle.shm_model.specs.Access.{load, store}
-use Rattle.shm_model.specs.Entry as note
 use Rattle.shm_model.specs.Message as model
 use Rattle.shm_model.specs.Refusal.{foreign_message, out_of_memory}
 use Rattle.shm_model.specs.Site.{Site}
@@ -12,8 +11,6 @@ use Rattle.shm_model.specs.Step.{deliver, foreign}
 use Rattle.shm_parts.specs.Message.{envelope_of}
 use Rattle.shm_parts.specs.declared.message.Envelope.{Envelope}
 use Rattle.shm_site.specs.declared.input.Input.{Input}
-use Rattle.shm_parts.specs.declared.message.Message.{Message}
-use Rattle.shm_parts.specs.declared.message.Message.TheVariants as message
 use Rattle.shm_site.specs.declared.input.Input.TheVariants as input
 use Rattle.shm_site.specs.declared.step_error.StepFault.{StepFault}
 use Rattle.shm_site.specs.declared.step_error.StepFault.TheVariants as fault
@@ -62,16 +59,3 @@ fault_of foreign = if foreign then fault.Foreign else fault.OutOfMemory
 abbrev pub step_fault_number : StepFault → ℕ
 step_fault_number fault.Foreign = foreign_message
 step_fault_number fault.OutOfMemory = out_of_memory
-
--- the message has a page's bytes
-abbrev pub holds_page : {A : Type 0} → Message A → Bool
-holds_page (message.Page _ _) = true
-holds_page _ = false
-
-abbrev pub is_page : note.Note → Bool
-is_page (note.Page _ _ _) = true
-is_page _ = false
-
-abbrev pub is_delivery : model.Input → Bool
-is_delivery (model.Deliver _) = true
-is_delivery _ = false

@@ -2,49 +2,28 @@
 ghost use Rattle.std.specs.Prelude.{◌≡◌, IfOk, OnErr};
 ghost use Rattle.shm_model.specs.Access as model;
 ghost use Rattle.shm_model.specs.declared.answer.Answer.TheVariants as answer;
-ghost use Rattle.shm_site.specs.Site.{SameSeat, sent_after, site_of, stepped};
+ghost use Rattle.shm_site.specs.Site.{StepsTo, Unchanged, site_of};
 
 use crate::sending::to_manager;
 use crate::site::Site;
 use shm_model::refusal::NUMBERS_USED_UP;
 use shm_model::{Answer, Kind, Numbered};
-use shm_parts::{Kept, Loaded, Message, Outbox};
+use shm_parts::{Envelope, Kept, Loaded, Note, Outbox};
 use shm_place::PageId;
 use std::alloc::{AllocError, Allocator};
 
 impl<A: Allocator + Copy> Site<A> {
     /// Loads a byte through an attachment. Where the right is here this takes no memory.
     #[inline(always)]
-    pub fn load(
+    pub fn load<O: Outbox<Envelope<A>>>(
         &mut self,
         at: u32,
         offset: u32,
-        outbox: &mut Outbox<A>,
+        outbox: &mut O,
     ) -> Result<Answer, AllocError>
-        ensures step { IfOk result (λ answer. sent_after outbox.old.sent (model.load self.old.sites self.old.me at offset (site_of self.old)) ≡ stepped self.new answer outbox.new.sent) }
-        ensures refused { OnErr result ((site_of self.new ≡ site_of self.old) × (outbox.new.sent ≡ outbox.old.sent)) }
+        ensures step { IfOk result (λ answer. StepsTo O.posted self.old self.new outbox.old outbox.new answer (model.load self.old.sites self.old.me at offset (site_of self.old))) }
+        ensures refused { OnErr result (Unchanged O.posted self.old self.new outbox.old outbox.new) }
         ensures memory { OnErr result ((model.load self.old.sites self.old.me at offset (site_of self.old)).answer ≡ answer.Fault) }
-        ensures seat { SameSeat self.old self.new }
-    {
-        if let Some(byte) = self.byte_here(at, offset) {
-            return Ok(Answer::Byte(byte));
-        }
-        self.load_or_ask(at, offset, outbox)
-    }
-
-    /// The load with all that may come of it: the byte, a request to the page's manager, or a refusal.
-    // Out of line, so that a load with the right stays short.
-    #[inline(never)]
-    pub(crate) fn load_or_ask(
-        &mut self,
-        at: u32,
-        offset: u32,
-        outbox: &mut Outbox<A>,
-    ) -> Result<Answer, AllocError>
-        ensures step { IfOk result (λ answer. sent_after outbox.old.sent (model.load self.old.sites self.old.me at offset (site_of self.old)) ≡ stepped self.new answer outbox.new.sent) }
-        ensures refused { OnErr result ((site_of self.new ≡ site_of self.old) × (outbox.new.sent ≡ outbox.old.sent)) }
-        ensures memory { OnErr result ((model.load self.old.sites self.old.me at offset (site_of self.old)).answer ≡ answer.Fault) }
-        ensures seat { SameSeat self.old self.new }
     {
         match self.holdings.load(at, offset) {
             Ok(Loaded::Byte(byte)) => Ok(Answer::Byte(byte)),
@@ -54,17 +33,16 @@ impl<A: Allocator + Copy> Site<A> {
     }
 
     /// Stores a byte through an attachment. Where the right is here this takes no memory.
-    pub fn store(
+    pub fn store<O: Outbox<Envelope<A>>>(
         &mut self,
         at: u32,
         offset: u32,
         byte: u8,
-        outbox: &mut Outbox<A>,
+        outbox: &mut O,
     ) -> Result<Answer, AllocError>
-        ensures step { IfOk result (λ answer. sent_after outbox.old.sent (model.store self.old.sites self.old.me at offset byte (site_of self.old)) ≡ stepped self.new answer outbox.new.sent) }
-        ensures refused { OnErr result ((site_of self.new ≡ site_of self.old) × (outbox.new.sent ≡ outbox.old.sent)) }
+        ensures step { IfOk result (λ answer. StepsTo O.posted self.old self.new outbox.old outbox.new answer (model.store self.old.sites self.old.me at offset byte (site_of self.old))) }
+        ensures refused { OnErr result (Unchanged O.posted self.old self.new outbox.old outbox.new) }
         ensures memory { OnErr result ((model.store self.old.sites self.old.me at offset byte (site_of self.old)).answer ≡ answer.Fault) }
-        ensures seat { SameSeat self.old self.new }
     {
         match self.holdings.store(at, offset, byte) {
             Ok(Kept::Stored) => Ok(Answer::Stored),
@@ -74,16 +52,17 @@ impl<A: Allocator + Copy> Site<A> {
     }
 
     /// An access without the right: it waits for what is pending, or asks the manager.
-    fn ask_for(
+    // Out of line, so that an access with the right stays short.
+    #[inline(never)]
+    fn ask_for<O: Outbox<Envelope<A>>>(
         &mut self,
         kind: Kind,
         page: &PageId,
-        outbox: &mut Outbox<A>,
+        outbox: &mut O,
     ) -> Result<Answer, AllocError>
-        ensures step { IfOk result (λ answer. sent_after outbox.old.sent (model.ask_for self.old.sites self.old.me kind page.now (site_of self.old)) ≡ stepped self.new answer outbox.new.sent) }
-        ensures refused { OnErr result ((site_of self.new ≡ site_of self.old) × (outbox.new.sent ≡ outbox.old.sent)) }
+        ensures step { IfOk result (λ answer. StepsTo O.posted self.old self.new outbox.old outbox.new answer (model.ask_for self.old.sites self.old.me kind page.now (site_of self.old))) }
+        ensures refused { OnErr result (Unchanged O.posted self.old self.new outbox.old outbox.new) }
         ensures memory { OnErr result ((model.ask_for self.old.sites self.old.me kind page.now (site_of self.old)).answer ≡ answer.Fault) }
-        ensures seat { SameSeat self.old self.new }
     {
         if self.pending.serves(kind, *page) {
             return Ok(Answer::Waiting);
@@ -95,16 +74,7 @@ impl<A: Allocator + Copy> Site<A> {
         outbox.reserve(1)?;
         self.pending.put(*page, request, kind)?;
         self.requests = requests;
-        outbox.push(to_manager(
-            self.sites,
-            self.me,
-            page,
-            Message::Ask {
-                page: *page,
-                request,
-                kind,
-            },
-        ));
+        outbox.push(to_manager(self.sites, self.me, page, Note::Ask { request, kind }));
         Ok(Answer::Fault)
     }
 }

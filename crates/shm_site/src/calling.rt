@@ -5,29 +5,28 @@ ghost use Rattle.shm_model.specs.declared.call.Op.TheVariants.{Attach};
 ghost use Rattle.shm_model.specs.declared.call.Reply.TheVariants.{Attached as AttachedReply};
 ghost use Rattle.shm_model.specs.Site.{Step};
 ghost use Rattle.shm_model.specs.SegmentCalls as model;
-ghost use Rattle.shm_site.specs.Site.{SameSeat, sent_after, site_of, stepped};
+ghost use Rattle.shm_site.specs.Site.{SameSeat, StepsTo, Unchanged, site_of, stepped};
 ghost use Rattle.shm_site.specs.Step.{is_refused};
 
 use crate::homing::op_home;
 use crate::site::Site;
 use shm_attach::CallBook;
-use shm_model::refusal::{BUSY, NO_ATTACHMENT, TOO_MANY_ATTACHMENTS};
-use shm_model::{Answer, Attached, Numbered, Op, Reply, Request};
+use shm_model::refusal::{BUSY, NO_ATTACHMENT, NUMBERS_USED_UP, TOO_MANY_ATTACHMENTS};
+use shm_model::{Answer, Attached, Op, Reply, Request};
 use shm_parts::{Envelope, Message, Outbox};
 use shm_place::SegId;
 use std::alloc::{AllocError, Allocator};
 
 impl<A: Allocator + Copy> Site<A> {
     /// Begins a segment call. A detach takes its attachment away at once. A call that is refused takes no memory.
-    pub(crate) fn begin(
+    pub(crate) fn begin<O: Outbox<Envelope<A>>>(
         &mut self,
         request: Request,
-        outbox: &mut Outbox<A>,
+        outbox: &mut O,
     ) -> Result<Answer, AllocError>
-        ensures step { IfOk result (λ answer. sent_after outbox.old.sent (model.begin self.old.sites self.old.me request (site_of self.old)) ≡ stepped self.new answer outbox.new.sent) }
+        ensures step { IfOk result (λ answer. StepsTo O.posted self.old self.new outbox.old outbox.new answer (model.begin self.old.sites self.old.me request (site_of self.old))) }
         ensures memory { OnErr result (is_refused (model.begin self.old.sites self.old.me request (site_of self.old)).answer ≡ false) }
-        ensures refused { OnErr result ((site_of self.new ≡ site_of self.old) × (outbox.new.sent ≡ outbox.old.sent)) }
-        ensures seat { SameSeat self.old self.new }
+        ensures refused { OnErr result (Unchanged O.posted self.old self.new outbox.old outbox.new) }
     {
         if self.calls.outstanding().is_some() {
             return Ok(Answer::Refused(BUSY));
@@ -38,12 +37,15 @@ impl<A: Allocator + Copy> Site<A> {
         }
     }
 
-    fn begin_op(&mut self, op: Op, outbox: &mut Outbox<A>) -> Result<Answer, AllocError>
+    fn begin_op<O: Outbox<Envelope<A>>>(
+        &mut self,
+        op: Op,
+        outbox: &mut O,
+    ) -> Result<Answer, AllocError>
         requires { self.old.calls.outstanding ≡ None }
-        ensures step { IfOk result (λ answer. sent_after outbox.old.sent (model.begin_op self.old.sites self.old.me op (site_of self.old)) ≡ stepped self.new answer outbox.new.sent) }
+        ensures step { IfOk result (λ answer. StepsTo O.posted self.old self.new outbox.old outbox.new answer (model.begin_op self.old.sites self.old.me op (site_of self.old))) }
         ensures memory { OnErr result (is_refused (model.begin_op self.old.sites self.old.me op (site_of self.old)).answer ≡ false) }
-        ensures refused { OnErr result ((site_of self.new ≡ site_of self.old) × (outbox.new.sent ≡ outbox.old.sent)) }
-        ensures seat { SameSeat self.old self.new }
+        ensures refused { OnErr result (Unchanged O.posted self.old self.new outbox.old outbox.new) }
     {
         match op {
             Op::Detach { .. } => Ok(Answer::Refused(NO_ATTACHMENT)),
@@ -57,12 +59,15 @@ impl<A: Allocator + Copy> Site<A> {
         }
     }
 
-    fn begin_detach(&mut self, number: u32, outbox: &mut Outbox<A>) -> Result<Answer, AllocError>
+    fn begin_detach<O: Outbox<Envelope<A>>>(
+        &mut self,
+        number: u32,
+        outbox: &mut O,
+    ) -> Result<Answer, AllocError>
         requires { self.old.calls.outstanding ≡ None }
-        ensures step { IfOk result (λ answer. sent_after outbox.old.sent (model.begin_detach self.old.sites self.old.me number ((site_of self.old).attachments number) (site_of self.old)) ≡ stepped self.new answer outbox.new.sent) }
+        ensures step { IfOk result (λ answer. StepsTo O.posted self.old self.new outbox.old outbox.new answer (model.begin_detach self.old.sites self.old.me number ((site_of self.old).attachments number) (site_of self.old))) }
         ensures memory { OnErr result (is_refused (model.begin_detach self.old.sites self.old.me number ((site_of self.old).attachments number) (site_of self.old)).answer ≡ false) }
-        ensures refused { OnErr result ((site_of self.new ≡ site_of self.old) × (outbox.new.sent ≡ outbox.old.sent)) }
-        ensures seat { SameSeat self.old self.new }
+        ensures refused { OnErr result (Unchanged O.posted self.old self.new outbox.old outbox.new) }
     {
         let Some(id) = self.holdings.segment(number) else {
             return Ok(Answer::Refused(NO_ATTACHMENT));
@@ -77,32 +82,29 @@ impl<A: Allocator + Copy> Site<A> {
     }
 
     /// Notes the call as outstanding and sends it to its home, where a number is left for it.
-    fn call(&mut self, op: Op, outbox: &mut Outbox<A>) -> Result<Answer, AllocError>
+    fn call<O: Outbox<Envelope<A>>>(&mut self, op: Op, outbox: &mut O) -> Result<Answer, AllocError>
         requires { self.old.calls.outstanding ≡ None }
-        ensures step { IfOk result (λ answer. sent_after outbox.old.sent (model.numbered (site_of self.old) (model.call_begun self.old.sites self.old.me op (site_of self.old))) ≡ stepped self.new answer outbox.new.sent) }
+        ensures step { IfOk result (λ answer. StepsTo O.posted self.old self.new outbox.old outbox.new answer (model.numbered (site_of self.old) (model.call_begun self.old.sites self.old.me op (site_of self.old)))) }
         ensures memory { OnErr result ((step : Step) → model.numbered (site_of self.old) step ≡ step) }
-        ensures refused { OnErr result ((site_of self.new ≡ site_of self.old) × (outbox.new.sent ≡ outbox.old.sent)) }
+        ensures refused { OnErr result (Unchanged O.posted self.old self.new outbox.old outbox.new) }
         ensures holdings { self.new.holdings ≡ self.old.holdings }
-        ensures seat { SameSeat self.old self.new }
     {
         let mut calls = self.calls.copy();
-        match calls.begin(op) {
-            Err(fault) => Ok(Answer::Refused(fault.number())),
-            Ok(number) => {
-                outbox.reserve(1)?;
-                self.calls = calls;
-                outbox.push(Envelope {
-                    from: self.me,
-                    to: op_home(self.sites, self.me, &op),
-                    message: Message::Call { number, op },
-                });
-                Ok(Answer::Began(number))
-            }
-        }
+        let Some(number) = calls.begin_next(op) else {
+            return Ok(Answer::Refused(NUMBERS_USED_UP));
+        };
+        outbox.reserve(1)?;
+        self.calls = calls;
+        outbox.push(Envelope {
+            from: self.me,
+            to: op_home(self.sites, self.me, &op),
+            message: Message::Call { number, op },
+        });
+        Ok(Answer::Began(number))
     }
 
     /// A reply to the outstanding call, or to one that ended.
-    pub(crate) fn replied(&mut self, number: u64, reply: Reply) -> Result<Answer, AllocError>
+    pub(crate) fn on_reply(&mut self, number: u64, reply: Reply) -> Result<Answer, AllocError>
         ensures step { IfOk result (λ answer. model.on_reply number reply (site_of self.old) ≡ stepped self.new answer []) }
         ensures refused { OnErr result (site_of self.new ≡ site_of self.old) }
         ensures seat { SameSeat self.old self.new }

@@ -1,17 +1,20 @@
-//! What a site does with an envelope that is handed to it.
+//! What a site does with an envelope that is handed to it: one case for each kind of message, and of a note.
 ghost use Rattle.std.specs.Prelude.{◌≡◌, ◌<◌, Some, true, false, IsOk, IfOk, IfErr, OnErr};
+ghost use Rattle.shm_model.specs.Message.{Of};
 ghost use Rattle.shm_model.specs.Step.{deliver, foreign, is_proper, on_message};
-ghost use Rattle.shm_parts.specs.Message.{envelope_of, message_of};
-ghost use Rattle.shm_site.specs.Site.{SameSeat, sent_after, site_of, stepped};
-ghost use Rattle.shm_site.specs.Step.{envelope_if, fault_of, holds_page, is_refused};
+ghost use Rattle.shm_model.specs.Transfer.{on_note, on_note_of};
+ghost use Rattle.shm_parts.specs.Message.{envelope_of, message_of, note_of};
+ghost use Rattle.shm_parts.specs.Purged.{purged_of};
+ghost use Rattle.shm_site.specs.Site.{StepsTo, Unchanged, site_of};
+ghost use Rattle.shm_site.specs.Step.{envelope_if, fault_of, is_refused};
 ghost use Rattle.shm_site.specs.declared.step_error.StepFault.TheVariants as fault;
 
 use crate::foreign::is_foreign;
 use crate::site::Site;
 use crate::step_error::{StepError, StepFault};
 use shm_model::Answer;
-use shm_parts::{Envelope, Message, Outbox};
-use shm_place::SiteId;
+use shm_parts::{Envelope, Message, Note, Outbox};
+use shm_place::{PageId, SiteId};
 use std::alloc::Allocator;
 
 impl<A: Allocator + Copy> Site<A> {
@@ -22,19 +25,18 @@ impl<A: Allocator + Copy> Site<A> {
         is_foreign(self.sites, self.me, envelope)
     }
 
-    /// Takes an envelope that the network hands over. An Ask for which no number is left is refused before memory is needed.
-    pub(crate) fn deliver(
+    /// Takes an envelope that the network hands over.
+    pub(crate) fn deliver<O: Outbox<Envelope<A>>>(
         &mut self,
         envelope: Envelope<A>,
-        outbox: &mut Outbox<A>,
+        outbox: &mut O,
     ) -> Result<Answer, StepError<A>>
-        ensures step { IfOk result (λ answer. sent_after outbox.old.sent (deliver self.old.sites self.old.me (envelope_of envelope) (site_of self.old)) ≡ stepped self.new answer outbox.new.sent) }
+        ensures step { IfOk result (λ answer. StepsTo O.posted self.old self.new outbox.old outbox.new answer (deliver self.old.sites self.old.me (envelope_of envelope) (site_of self.old))) }
         ensures taken { IsOk result → foreign self.old.sites self.old.me (envelope_of envelope) ≡ false }
         ensures fault { IfErr result (λ e. e.fault ≡ fault_of (foreign self.old.sites self.old.me (envelope_of envelope))) }
         ensures memory { IfErr result (λ e. e.fault ≡ fault.OutOfMemory → is_refused (deliver self.old.sites self.old.me (envelope_of envelope) (site_of self.old)).answer ≡ false) }
         ensures back { IfErr result (λ e. envelope_if e.envelope ≡ Some (envelope_of envelope)) }
-        ensures refused { OnErr result ((site_of self.new ≡ site_of self.old) × (outbox.new.sent ≡ outbox.old.sent)) }
-        ensures seat { SameSeat self.old self.new }
+        ensures refused { OnErr result (Unchanged O.posted self.old self.new outbox.old outbox.new) }
     {
         // Reading it tells the proof its limits.
         let _count = self.sites.count();
@@ -45,62 +47,106 @@ impl<A: Allocator + Copy> Site<A> {
             });
         }
         let Envelope { from, to, message } = envelope;
-        if let Some(answer) = self.message_refused(from, &message) {
-            return Ok(answer);
-        }
-        match self.take(from, message, outbox) {
+        match self.on_message(from, message, outbox) {
             Ok(answer) => Ok(answer),
-            Err(message) => Err(out_of_memory(Envelope { from, to, message })),
+            Err(message) => Err(StepError {
+                fault: StepFault::OutOfMemory,
+                envelope: Some(Envelope { from, to, message }),
+            }),
         }
     }
 
-    /// Takes a message that may be for this site.
-    fn take(
+    /// Takes a message. Where memory is refused it comes back.
+    fn on_message<O: Outbox<Envelope<A>>>(
         &mut self,
         from: SiteId,
         message: Message<A>,
-        outbox: &mut Outbox<A>,
+        outbox: &mut O,
     ) -> Result<Answer, Message<A>>
         requires from { from < 16 }
         requires proper { is_proper self.old.sites self.old.me from (message_of message) ≡ true }
-        ensures step { IfOk result (λ answer. sent_after outbox.old.sent (on_message self.old.sites self.old.me from (message_of message) (site_of self.old)) ≡ stepped self.new answer outbox.new.sent) }
+        ensures step { IfOk result (λ answer. StepsTo O.posted self.old self.new outbox.old outbox.new answer (on_message self.old.sites self.old.me from (message_of message) (site_of self.old))) }
+        ensures memory { OnErr result (is_refused (on_message self.old.sites self.old.me from (message_of message) (site_of self.old)).answer ≡ false) }
         ensures back { IfErr result (λ back. message_of back ≡ message_of message) }
-        ensures refused { OnErr result ((site_of self.new ≡ site_of self.old) × (outbox.new.sent ≡ outbox.old.sent)) }
-        ensures seat { SameSeat self.old self.new }
+        ensures refused { OnErr result (Unchanged O.posted self.old self.new outbox.old outbox.new) }
     {
         match message {
-            Message::Page { page, grant } => self.take_page(&page, grant, outbox),
-            plain => self.take_plain(from, plain, outbox),
+            Message::Of { page, note } => self.on_note_of(from, &page, note, outbox),
+            // The call and the reply are handed on as copies: what was passed by value can't go back.
+            Message::Call { number, op } => {
+                let call = op;
+                match self.on_call(from, number, call, outbox) {
+                    Ok(answer) => Ok(answer),
+                    Err(_) => Err(Message::Call { number, op }),
+                }
+            }
+            Message::Reply { number, reply } => {
+                let told = reply;
+                match self.on_reply(number, told) {
+                    Ok(answer) => Ok(answer),
+                    Err(_) => Err(Message::Reply { number, reply }),
+                }
+            }
+            Message::Purge { id } => match self.on_purge(id, outbox) {
+                Ok(answer) => Ok(answer),
+                Err(_) => Err(Message::Purge { id }),
+            },
+            Message::Purged { id } => Ok(self.on_purged(from, id)),
         }
     }
 
-    fn take_plain(
+    /// Takes a note of a page, which is dropped where its segment was purged. Where memory is refused it comes back.
+    fn on_note_of<O: Outbox<Envelope<A>>>(
         &mut self,
         from: SiteId,
-        message: Message<A>,
-        outbox: &mut Outbox<A>,
+        page: &PageId,
+        note: Note<A>,
+        outbox: &mut O,
     ) -> Result<Answer, Message<A>>
-        requires from { from < 16 }
-        requires proper { is_proper self.old.sites self.old.me from (message_of message) ≡ true }
-        requires plain { holds_page message ≡ false }
-        ensures step { IfOk result (λ answer. sent_after outbox.old.sent (on_message self.old.sites self.old.me from (message_of message) (site_of self.old)) ≡ stepped self.new answer outbox.new.sent) }
-        ensures back { IfErr result (λ back. message_of back ≡ message_of message) }
-        ensures refused { OnErr result ((site_of self.new ≡ site_of self.old) × (outbox.new.sent ≡ outbox.old.sent)) }
-        ensures seat { SameSeat self.old self.new }
+        requires { from < 16 }
+        ensures step { IfOk result (λ answer. StepsTo O.posted self.old self.new outbox.old outbox.new answer (on_note_of self.old.sites self.old.me from page.now (note_of note) (site_of self.old))) }
+        ensures memory { OnErr result (is_refused (on_note_of self.old.sites self.old.me from page.now (note_of note) (site_of self.old)).answer ≡ false) }
+        ensures back { IfErr result (λ back. message_of back ≡ Of page.now (note_of note)) }
+        ensures refused { OnErr result (Unchanged O.posted self.old self.new outbox.old outbox.new) }
     {
-        match self.hear(from, &message, outbox) {
+        if self.holdings.is_purged(page.seg) {
+            return Ok(Answer::Dropped);
+        }
+        match self.on_note(from, page, note, outbox) {
             Ok(answer) => Ok(answer),
-            Err(_) => Err(message),
+            Err(note) => Err(Message::Of { page: *page, note }),
         }
     }
-}
 
-fn out_of_memory<A: Allocator + Copy>(envelope: Envelope<A>) -> StepError<A>
-    ensures fault { result.fault ≡ fault_of false }
-    ensures back { envelope_if result.envelope ≡ Some (envelope_of envelope) }
-{
-    StepError {
-        fault: StepFault::OutOfMemory,
-        envelope: Some(envelope),
+    /// Takes a note of a page that wasn't purged, to its manager's book or to its entry. Where memory is refused it comes back.
+    fn on_note<O: Outbox<Envelope<A>>>(
+        &mut self,
+        from: SiteId,
+        page: &PageId,
+        note: Note<A>,
+        outbox: &mut O,
+    ) -> Result<Answer, Note<A>>
+        requires from { from < 16 }
+        requires alive { purged_of self.old.holdings.purged page.now.seg ≡ false }
+        ensures step { IfOk result (λ answer. StepsTo O.posted self.old self.new outbox.old outbox.new answer (on_note self.old.sites self.old.me from page.now (note_of note) (site_of self.old))) }
+        ensures memory { OnErr result (is_refused (on_note self.old.sites self.old.me from page.now (note_of note) (site_of self.old)).answer ≡ false) }
+        ensures back { IfErr result (λ back. note_of back ≡ note_of note) }
+        ensures refused { OnErr result (Unchanged O.posted self.old self.new outbox.old outbox.new) }
+    {
+        match note {
+            Note::Ask { request, kind } => match self.on_ask(*page, from, request, kind, outbox) {
+                Ok(answer) => Ok(answer),
+                Err(_) => Err(Note::Ask { request, kind }),
+            },
+            Note::Cleared(number) => match self.on_cleared(*page, from, number, outbox) {
+                Ok(answer) => Ok(answer),
+                Err(_) => Err(Note::Cleared(number)),
+            },
+            Note::Confirm(number) => match self.on_confirm(*page, from, number, outbox) {
+                Ok(answer) => Ok(answer),
+                Err(_) => Err(Note::Confirm(number)),
+            },
+            to_entry => self.to_entry(*page, to_entry, outbox),
+        }
     }
 }

@@ -1,11 +1,10 @@
 //! Envelopes that a site can't have been sent.
-ghost use Rattle.std.specs.Prelude.{◌≡◌, ◌==◌, ◌&&◌};
-ghost use Rattle.shm_place.specs.Page.{in_limits, manager_of};
-ghost use Rattle.shm_model.specs.Step.{foreign, id_in_limits, is_proper};
-ghost use Rattle.shm_parts.specs.Message.{envelope_of, message_of};
+ghost use Rattle.std.specs.Prelude.{◌≡◌};
+ghost use Rattle.shm_model.specs.Step.{foreign, id_in_limits, is_proper, is_to_manager};
+ghost use Rattle.shm_parts.specs.Message.{envelope_of, message_of, note_of};
 
 use crate::homing::op_home;
-use shm_parts::{Envelope, Message};
+use shm_parts::{Envelope, Message, Note};
 use shm_place::{
     PageId, SEGMENTS_OF_A_HOME, SegId, SiteId, Sites, home_of_id, in_limits, manager_of,
 };
@@ -33,12 +32,9 @@ fn is_proper<A: Allocator + Copy>(
     ensures { result ≡ is_proper sites me from (message_of message.now) }
 {
     match message {
-        Message::Ask { page, .. } => is_managed(sites, me, page),
-        Message::Clear { page, .. } => in_limits(sites, *page),
-        Message::Cleared { page, .. } => is_managed(sites, me, page),
-        Message::Hand { page, .. } => in_limits(sites, *page),
-        Message::Page { page, .. } => in_limits(sites, *page),
-        Message::Confirm { page, .. } => is_managed(sites, me, page),
+        Message::Of { page, note } => {
+            in_limits(sites, *page) && (!is_to_manager(note) || manager_of(sites, *page) == me)
+        }
         Message::Call { op, .. } => op_home(sites, from, op) == me,
         Message::Reply { .. } => true,
         Message::Purge { id } => is_identifier(sites, *id) && from == home_of_id(sites, *id),
@@ -46,11 +42,11 @@ fn is_proper<A: Allocator + Copy>(
     }
 }
 
-/// The page exists, and this site manages it.
-fn is_managed(sites: Sites, me: SiteId, page: &PageId) -> bool
-    ensures { result ≡ (in_limits sites page.now && (manager_of sites page.now == me)) }
+/// Only the page's manager is sent such a note.
+fn is_to_manager<A: Allocator + Copy>(note: &Note<A>) -> bool
+    ensures { result ≡ is_to_manager (note_of note.now) }
 {
-    in_limits(sites, *page) && manager_of(sites, *page) == me
+    matches!(note, Note::Ask { .. } | Note::Cleared(_) | Note::Confirm(_))
 }
 
 /// Some home could give the identifier.

@@ -5,30 +5,29 @@
 
 mod accessing;
 mod book_view;
-mod booking;
 mod calling;
-mod completing;
 mod delivering;
 mod fault_number;
 mod foreign;
 mod homing;
 mod input;
+mod listing;
 mod opening;
 mod purging;
-mod refusing;
 mod sending;
 mod serving;
 mod showing;
 mod site;
 mod step;
 mod step_error;
-mod taking;
 mod ticking;
-mod turning;
+mod to_book;
+mod to_entry;
 
 pub use book_view::BookView;
 pub use input::Input;
+pub use listing::Made;
 pub use shm_model::Answer;
-pub use shm_parts::{Envelope, Message, Outbox};
+pub use shm_parts::{Envelope, Message, Note, Outbox};
 pub use site::Site;
 pub use step_error::{StepError, StepFault};

@@ -1,7 +1,7 @@
 //! How a site gives up what it holds of a destroyed segment.
 ghost use Rattle.std.specs.Prelude.{◌≡◌, IfOk, OnErr};
 ghost use Rattle.shm_model.specs.SegmentCalls.{on_purge};
-ghost use Rattle.shm_site.specs.Site.{SameSeat, sent_after, site_of, stepped};
+ghost use Rattle.shm_site.specs.Site.{StepsTo, Unchanged, site_of};
 
 use crate::site::Site;
 use shm_model::Answer;
@@ -11,10 +11,13 @@ use std::alloc::{AllocError, Allocator};
 
 impl<A: Allocator + Copy> Site<A> {
     /// The home of a destroyed segment tells the site to give it up.
-    pub(crate) fn purge(&mut self, id: SegId, outbox: &mut Outbox<A>) -> Result<Answer, AllocError>
-        ensures step { IfOk result (λ answer. sent_after outbox.old.sent (on_purge self.old.sites self.old.me id (site_of self.old)) ≡ stepped self.new answer outbox.new.sent) }
-        ensures refused { OnErr result ((site_of self.new ≡ site_of self.old) × (outbox.new.sent ≡ outbox.old.sent)) }
-        ensures seat { SameSeat self.old self.new }
+    pub(crate) fn on_purge<O: Outbox<Envelope<A>>>(
+        &mut self,
+        id: SegId,
+        outbox: &mut O,
+    ) -> Result<Answer, AllocError>
+        ensures step { IfOk result (λ answer. StepsTo O.posted self.old self.new outbox.old outbox.new answer (on_purge self.old.sites self.old.me id (site_of self.old))) }
+        ensures refused { OnErr result (Unchanged O.posted self.old self.new outbox.old outbox.new) }
     {
         outbox.reserve(1)?;
         if !self.holdings.purge(id)? {

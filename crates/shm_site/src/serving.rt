@@ -1,10 +1,10 @@
 //! Segment calls at their home: what is executed there, and what goes out for it.
-ghost use Rattle.std.specs.Prelude.{◌≡◌, ◌+◌, ◌<◌, ◌≤◌, ◌++◌, [], length, map, IfOk, OnErr};
+ghost use Rattle.std.specs.Prelude.{◌≡◌, ◌<◌, ◌≤◌, [], map, IfOk, OnErr};
 ghost use Rattle.std.specs.List.{range_with_len};
 ghost use Rattle.shm_model.specs.Calls.{op_home};
 ghost use Rattle.shm_model.specs.SegmentCalls.{on_call, on_purged, purge_envelope};
 ghost use Rattle.shm_attach.specs.Home.{answered, sent_for};
-ghost use Rattle.shm_site.specs.Site.{SameSeat, sent_after, site_of, stepped};
+ghost use Rattle.shm_site.specs.Site.{SameSeat, StepsTo, Told, Unchanged, site_of, stepped};
 
 use crate::site::Site;
 use shm_attach::Done;
@@ -18,18 +18,17 @@ const MOST_FOR_A_CALL: usize = 17;
 
 impl<A: Allocator + Copy> Site<A> {
     /// A segment call at its home, which executes it once, however often it comes.
-    pub(crate) fn called(
+    pub(crate) fn on_call<O: Outbox<Envelope<A>>>(
         &mut self,
         from: SiteId,
         number: u64,
         op: Op,
-        outbox: &mut Outbox<A>,
+        outbox: &mut O,
     ) -> Result<Answer, AllocError>
         requires site { from < 16 }
         requires home { op_home self.old.sites from op ≡ self.old.me }
-        ensures step { IfOk result (λ answer. sent_after outbox.old.sent (on_call self.old.sites self.old.me from number op (site_of self.old)) ≡ stepped self.new answer outbox.new.sent) }
-        ensures refused { OnErr result ((site_of self.new ≡ site_of self.old) × (outbox.new.sent ≡ outbox.old.sent)) }
-        ensures seat { SameSeat self.old self.new }
+        ensures step { IfOk result (λ answer. StepsTo O.posted self.old self.new outbox.old outbox.new answer (on_call self.old.sites self.old.me from number op (site_of self.old))) }
+        ensures refused { OnErr result (Unchanged O.posted self.old self.new outbox.old outbox.new) }
     {
         outbox.reserve(MOST_FOR_A_CALL)?;
         let served = self.home.serve(from, number, op)?;
@@ -37,7 +36,7 @@ impl<A: Allocator + Copy> Site<A> {
     }
 
     /// A site tells the home that it has purged the segment. It takes no memory.
-    pub(crate) fn purged(&mut self, from: SiteId, id: SegId) -> Answer
+    pub(crate) fn on_purged(&mut self, from: SiteId, id: SegId) -> Answer
         ensures step { on_purged from id (site_of self.old) ≡ stepped self.new result [] }
         ensures seat { SameSeat self.old self.new }
     {
@@ -50,17 +49,17 @@ impl<A: Allocator + Copy> Site<A> {
 }
 
 /// Sends what a home tells of a call: the reply, and a purge to every site where the call destroyed a segment.
-fn tell<A: Allocator + Copy>(
+fn tell<A: Allocator + Copy, O: Outbox<Envelope<A>>>(
     sites: Sites,
     me: SiteId,
     from: SiteId,
     number: u64,
     served: Option<Done>,
-    outbox: &mut Outbox<A>,
+    outbox: &mut O,
 ) -> Answer
-    requires room { length outbox.old.sent + MOST_FOR_A_CALL ≤ outbox.old.room }
+    requires room { MOST_FOR_A_CALL ≤ O.room outbox.old }
     ensures answer { result ≡ answered served }
-    ensures sent { outbox.new.sent ≡ outbox.old.sent ++ sent_for sites me from number served }
+    ensures sent { Told O.posted outbox.old outbox.new (sent_for sites me from number served) }
 {
     let Some(done) = served else {
         return Answer::Dropped;
@@ -73,16 +72,24 @@ fn tell<A: Allocator + Copy>(
             reply: done.reply,
         },
     });
-    if let Some(id) = done.destroyed {
-        send_purges(sites, me, id, outbox);
+    match done.destroyed {
+        None => Answer::Took,
+        Some(id) => {
+            send_purges(sites, me, id, outbox);
+            Answer::Took
+        }
     }
-    Answer::Took
 }
 
 /// Tells every site to purge the segment.
-fn send_purges<A: Allocator + Copy>(sites: Sites, me: SiteId, id: SegId, outbox: &mut Outbox<A>)
-    requires room { length outbox.old.sent + 16 ≤ outbox.old.room }
-    ensures sent { outbox.new.sent ≡ outbox.old.sent ++ map (purge_envelope me id) (range_with_len 0 sites) }
+fn send_purges<A: Allocator + Copy, O: Outbox<Envelope<A>>>(
+    sites: Sites,
+    me: SiteId,
+    id: SegId,
+    outbox: &mut O,
+)
+    requires { 16 ≤ O.room outbox.old }
+    ensures { Told O.posted outbox.old outbox.new (map (purge_envelope me id) (range_with_len 0 sites)) }
 {
     'sites: for to in 0..sites.count() {
         outbox.push(Envelope {

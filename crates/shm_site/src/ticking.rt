@@ -1,5 +1,5 @@
 //! What a site sends again at a tick, and what a restart takes from it.
-ghost use Rattle.std.specs.Prelude.{◌≡◌, ◌++◌, [], length, map, filter, take, IfOk, OnOk, OnErr};
+ghost use Rattle.std.specs.Prelude.{◌≡◌, ◌≤◌, ◌++◌, [], length, map, filter, IfOk, OnOk, OnErr};
 ghost use Rattle.std.specs.List.{flat_map, range_with_len};
 ghost use Rattle.shm_keys.specs.SiteSet.{has};
 ghost use Rattle.shm_manager.specs.Book.{book_of};
@@ -10,15 +10,15 @@ ghost use Rattle.shm_model.specs.Transfer as transfer;
 ghost use Rattle.shm_parts.specs.Books.{booked_of};
 ghost use Rattle.shm_parts.specs.Message.{envelope_of};
 ghost use Rattle.shm_parts.specs.Pendings.{pendings_of};
-ghost use Rattle.shm_site.specs.Site.{SameSeat, sent_after, site_of, stepped};
+ghost use Rattle.shm_site.specs.Site.{SameSeat, StepsTo, site_of, stepped};
 
 use crate::homing::op_home;
-use crate::sending::{MOST_ORDERS, send_orders, to_manager};
+use crate::sending::{order_envelope, to_manager};
 use crate::site::Site;
 use shm_keys::SiteSet;
 use shm_manager::Book;
 use shm_model::{Answer, Kind};
-use shm_parts::{Envelope, Message, Outbox};
+use shm_parts::{Envelope, Message, Note, Outbox};
 use shm_place::{PageId, SegId, SiteId, Sites};
 use std::alloc::{AllocError, Allocator};
 
@@ -32,66 +32,52 @@ fn ask_envelope<A: Allocator + Copy>(
 ) -> Envelope<A>
     ensures { envelope_of result ≡ model.ask_again sites me (record { page = page.now; request = request; kind = kind }) }
 {
-    to_manager(
-        sites,
-        me,
-        page,
-        Message::Ask {
-            page: *page,
-            request,
-            kind,
-        },
-    )
+    to_manager(sites, me, page, Note::Ask { request, kind })
 }
 
 impl<A: Allocator + Copy> Site<A> {
-    /// Sends again, in this order: the pending requests, what the running transactions ask for, the outstanding call, the purges.
-    /// Where memory is refused nothing is sent.
-    pub(crate) fn tick(&self, outbox: &mut Outbox<A>) -> Result<Answer, AllocError>
-        ensures step { IfOk result (λ answer. sent_after outbox.old.sent (model.tick self.now.sites self.now.me (site_of self.now)) ≡ stepped self.now answer outbox.new.sent) }
-        ensures refused { OnErr result (outbox.new.sent ≡ outbox.old.sent) }
+    /// Sends again, in this order: the pending requests, what the running transactions ask for, the outstanding call, the purges. All
+    /// is listed first; then room is made for just so much. Where memory is refused nothing is sent.
+    pub(crate) fn tick<O: Outbox<Envelope<A>>>(&self, outbox: &mut O) -> Result<Answer, AllocError>
+        ensures step { IfOk result (λ answer. StepsTo O.posted self.now self.now outbox.old outbox.new answer (model.tick self.now.sites self.now.me (site_of self.now))) }
+        ensures refused { OnErr result (O.posted outbox.old outbox.new []) }
     {
-        let count = outbox.len();
-        match self.send_again(outbox) {
-            Ok(()) => Ok(Answer::Took),
-            Err(error) => {
-                outbox.truncate(count);
-                Err(error)
-            }
-        }
+        let again = self.listed_again()?;
+        outbox.reserve(again.len())?;
+        post_all(again, outbox);
+        Ok(Answer::Took)
     }
 
-    fn send_again(&self, outbox: &mut Outbox<A>) -> Result<(), AllocError>
-        ensures sent { OnOk result (outbox.new.sent ≡ outbox.old.sent ++ model.tick_envelopes self.now.sites self.now.me (site_of self.now)) }
-        ensures kept { OnErr result (take (length outbox.old.sent) outbox.new.sent ≡ outbox.old.sent) }
+    /// All that a tick sends again.
+    fn listed_again(&self) -> Result<Vec<Envelope<A>, A>, AllocError>
+        ensures { IfOk result (λ list. map envelope_of list.items ≡ model.tick_envelopes self.now.sites self.now.me (site_of self.now)) }
     {
-        self.ask_again(outbox)?;
-        self.order_again(outbox)?;
-        self.call_again(outbox)?;
-        self.purge_again(outbox)?;
-        Ok(())
+        let mut list = Vec::new(self.alloc);
+        self.ask_again(&mut list)?;
+        self.order_again(&mut list)?;
+        self.call_again(&mut list)?;
+        self.purge_again(&mut list)?;
+        Ok(list)
     }
 
     /// The pending requests.
-    fn ask_again(&self, outbox: &mut Outbox<A>) -> Result<(), AllocError>
-        ensures sent { OnOk result (outbox.new.sent ≡ outbox.old.sent ++ map (model.ask_again self.now.sites self.now.me) (pendings_of self.now.pending)) }
-        ensures kept { OnErr result (take (length outbox.old.sent) outbox.new.sent ≡ outbox.old.sent) }
+    fn ask_again(&self, list: &mut Vec<Envelope<A>, A>) -> Result<(), AllocError>
+        ensures { OnOk result (map envelope_of list.new.items ≡ map envelope_of list.old.items ++ map (model.ask_again self.now.sites self.now.me) (pendings_of self.now.pending)) }
     {
         'requests: for (page, pending) in self.pending.iter() {
             let (request, kind) = *pending;
-            outbox.try_push(ask_envelope(self.sites, self.me, page, request, kind))?;
+            list.push(ask_envelope(self.sites, self.me, page, request, kind))?;
         }
         Ok(())
     }
 
     /// What the running transactions ask for.
-    fn order_again(&self, outbox: &mut Outbox<A>) -> Result<(), AllocError>
-        ensures sent { OnOk result (outbox.new.sent ≡ outbox.old.sent ++ flat_map (model.orders_again self.now.me (site_of self.now)) (booked_of self.now.books)) }
-        ensures kept { OnErr result (take (length outbox.old.sent) outbox.new.sent ≡ outbox.old.sent) }
+    fn order_again(&self, list: &mut Vec<Envelope<A>, A>) -> Result<(), AllocError>
+        ensures { OnOk result (map envelope_of list.new.items ≡ map envelope_of list.old.items ++ flat_map (model.orders_again self.now.me (site_of self.now)) (booked_of self.now.books)) }
     {
         let mut last = None;
         'pages: while let Some((place, page, book)) = self.books.running_after(last) {
-            self.resend(&page, book, outbox)?;
+            self.resend(&page, book, list)?;
             last = Some(place);
         }
         Ok(())
@@ -102,66 +88,61 @@ impl<A: Allocator + Copy> Site<A> {
         &self,
         page: &PageId,
         book: &Book<A>,
-        outbox: &mut Outbox<A>,
+        list: &mut Vec<Envelope<A>, A>,
     ) -> Result<(), AllocError>
-        ensures sent { OnOk result (outbox.new.sent ≡ outbox.old.sent ++ transfer.order_envelopes self.now.me page.now (book_of book.now) (orders (book_of book.now))) }
-        ensures kept { OnErr result (outbox.new.sent ≡ outbox.old.sent) }
+        ensures { OnOk result (map envelope_of list.new.items ≡ map envelope_of list.old.items ++ transfer.order_envelopes self.now.me page.now (book_of book.now) (orders (book_of book.now))) }
     {
         let orders = book.resend();
-        if orders.is_empty() {
-            return Ok(());
+        'orders: for order in orders.as_slice() {
+            list.push(order_envelope(self.me, page, book.number(), order))?;
         }
-        outbox.reserve(MOST_ORDERS)?;
-        send_orders(self.me, page, book.number(), &orders, outbox);
         Ok(())
     }
 
     /// The outstanding call.
-    fn call_again(&self, outbox: &mut Outbox<A>) -> Result<(), AllocError>
-        ensures sent { OnOk result (outbox.new.sent ≡ outbox.old.sent ++ model.call_again self.now.sites self.now.me self.now.calls.outstanding) }
-        ensures kept { OnErr result (take (length outbox.old.sent) outbox.new.sent ≡ outbox.old.sent) }
+    fn call_again(&self, list: &mut Vec<Envelope<A>, A>) -> Result<(), AllocError>
+        ensures { OnOk result (map envelope_of list.new.items ≡ map envelope_of list.old.items ++ model.call_again self.now.sites self.now.me self.now.calls.outstanding) }
     {
         match self.calls.outstanding() {
             None => Ok(()),
             Some((number, op)) => {
                 let to = op_home(self.sites, self.me, &op);
-                outbox.try_push(Envelope {
+                list.push(Envelope {
                     from: self.me,
                     to,
                     message: Message::Call { number, op },
-                })
+                })?;
+                Ok(())
             }
         }
     }
 
     /// The purges of this home's destroyed segments.
-    fn purge_again(&self, outbox: &mut Outbox<A>) -> Result<(), AllocError>
-        ensures sent { OnOk result (outbox.new.sent ≡ outbox.old.sent ++ flat_map (model.purges_again self.now.sites self.now.me (site_of self.now)) self.now.home.table.segments) }
-        ensures kept { OnErr result (take (length outbox.old.sent) outbox.new.sent ≡ outbox.old.sent) }
+    fn purge_again(&self, list: &mut Vec<Envelope<A>, A>) -> Result<(), AllocError>
+        ensures { OnOk result (map envelope_of list.new.items ≡ map envelope_of list.old.items ++ flat_map (model.purges_again self.now.sites self.now.me (site_of self.now)) self.now.home.table.segments) }
     {
         let mut last = None;
         'segments: while let Some((id, missing)) = self.home.next_purge(last) {
-            self.send_purges(id, missing, outbox)?;
+            self.list_purges(id, missing, list)?;
             last = Some(id);
         }
         Ok(())
     }
 
-    fn send_purges(
+    fn list_purges(
         &self,
         id: SegId,
         missing: SiteSet,
-        outbox: &mut Outbox<A>,
+        list: &mut Vec<Envelope<A>, A>,
     ) -> Result<(), AllocError>
-        ensures sent { OnOk result (outbox.new.sent ≡ outbox.old.sent ++ map (purge_envelope self.now.me id) (filter (has missing) (range_with_len 0 self.now.sites))) }
-        ensures kept { OnErr result (take (length outbox.old.sent) outbox.new.sent ≡ outbox.old.sent) }
+        ensures { OnOk result (map envelope_of list.new.items ≡ map envelope_of list.old.items ++ map (purge_envelope self.now.me id) (filter (has missing) (range_with_len 0 self.now.sites))) }
     {
         'sites: for site in 0..self.sites.count() {
             let to = SiteId(site);
             if !missing.contains(to) {
                 continue;
             }
-            outbox.try_push(Envelope {
+            list.push(Envelope {
                 from: self.me,
                 to,
                 message: Message::Purge { id },
@@ -178,5 +159,15 @@ impl<A: Allocator + Copy> Site<A> {
         self.pending.clear();
         self.books.forget_volatile();
         Answer::Took
+    }
+}
+
+/// Posts all of the list, for which there is room.
+fn post_all<A: Allocator + Copy, O: Outbox<Envelope<A>>>(list: Vec<Envelope<A>, A>, outbox: &mut O)
+    requires { length list.items ≤ O.room outbox.old }
+    ensures { O.posted outbox.old outbox.new list.items }
+{
+    'envelopes: for envelope in list {
+        outbox.push(envelope);
     }
 }

@@ -1,12 +1,13 @@
 //! The envelopes that were sent and aren't gone.
 ghost use Rattle.std.specs.Prelude.{◌≡◌, ◌++◌, OnOk, string_bytes};
 ghost use Rattle.shm_model.specs.World as model;
-ghost use Rattle.shm_parts.specs.Message.{envelope_of, message_of};
+ghost use Rattle.shm_parts.specs.Message.{envelope_of, message_of, note_of};
 ghost use Rattle.shm_world.specs.World.{StandsFor};
+ghost use Rattle.shm_text.specs.Text;
 ghost use Rattle.shm_text.specs.Text.{envelope_text, live_text, message_name, sent_text};
 
 use crate::pushing::push_number;
-use shm_parts::{Envelope, Message};
+use shm_parts::{Envelope, Message, Note};
 use shm_world::World;
 use std::alloc::{AllocError, Allocator};
 
@@ -60,15 +61,24 @@ fn name_of<A: Allocator + Copy>(message: &Message<A>) -> &'static str
     ensures { result.now ≡ message_name (message_of message.now) }
 {
     match message {
-        Message::Ask { .. } => "Ask",
-        Message::Clear { .. } => "Clear",
-        Message::Cleared { .. } => "Cleared",
-        Message::Hand { .. } => "Hand",
-        Message::Page { .. } => "Page",
-        Message::Confirm { .. } => "Confirm",
+        Message::Of { note, .. } => note_name(note),
         Message::Call { .. } => "Call",
         Message::Reply { .. } => "Reply",
         Message::Purge { .. } => "Purge",
         Message::Purged { .. } => "Purged",
+    }
+}
+
+/// What a note of a page is called.
+fn note_name<A: Allocator + Copy>(note: &Note<A>) -> &'static str
+    ensures { result.now ≡ Text.note_name (note_of note.now) }
+{
+    match note {
+        Note::Ask { .. } => "Ask",
+        Note::Clear(_) => "Clear",
+        Note::Cleared(_) => "Cleared",
+        Note::Hand { .. } => "Hand",
+        Note::Read(_) | Note::Write(_) => "Page",
+        Note::Confirm(_) => "Confirm",
     }
 }

@@ -9,7 +9,7 @@ use crate::calls::call;
 use crate::replies::reply;
 use crate::words::{kind, wide};
 use shm_lines::Words;
-use shm_parts::Message;
+use shm_parts::{Message, Note};
 use shm_place::{PageId, SegId, SiteId};
 use std::alloc::Allocator;
 
@@ -69,10 +69,9 @@ fn ask<A: Allocator + Copy>(words: Words<'_>) -> Option<Message<A>>
     if !words.is_empty() {
         return None;
     }
-    Some(Message::Ask {
+    Some(Message::Of {
         page,
-        request,
-        kind,
+        note: Note::Ask { request, kind },
     })
 }
 
@@ -84,7 +83,10 @@ fn clear<A: Allocator + Copy>(words: Words<'_>) -> Option<Message<A>>
     if !words.is_empty() {
         return None;
     }
-    Some(Message::Clear { page, number })
+    Some(Message::Of {
+        page,
+        note: Note::Clear(number),
+    })
 }
 
 fn cleared<A: Allocator + Copy>(words: Words<'_>) -> Option<Message<A>>
@@ -95,7 +97,10 @@ fn cleared<A: Allocator + Copy>(words: Words<'_>) -> Option<Message<A>>
     if !words.is_empty() {
         return None;
     }
-    Some(Message::Cleared { page, number })
+    Some(Message::Of {
+        page,
+        note: Note::Cleared(number),
+    })
 }
 
 fn hand<A: Allocator + Copy>(words: Words<'_>) -> Option<Message<A>>
@@ -108,11 +113,13 @@ fn hand<A: Allocator + Copy>(words: Words<'_>) -> Option<Message<A>>
     if !words.is_empty() {
         return None;
     }
-    Some(Message::Hand {
+    Some(Message::Of {
         page,
-        number,
-        kind,
-        to: SiteId(to),
+        note: Note::Hand {
+            number,
+            kind,
+            to: SiteId(to),
+        },
     })
 }
 
@@ -124,7 +131,10 @@ fn confirm<A: Allocator + Copy>(words: Words<'_>) -> Option<Message<A>>
     if !words.is_empty() {
         return None;
     }
-    Some(Message::Confirm { page, number })
+    Some(Message::Of {
+        page,
+        note: Note::Confirm(number),
+    })
 }
 
 fn called<A: Allocator + Copy>(words: Words<'_>) -> Option<Message<A>>

@@ -1,9 +1,9 @@
-//! How a page's bytes are read, and the grant that brings them.
+//! How a page's bytes are read, and the note that brings them.
 ghost use Rattle.std.specs.Prelude.{◌≡◌, ◌<◌, length, option_map, IfOk, IfSome};
 ghost use Rattle.shm_place.specs.Limits.{page_bytes};
 ghost use Rattle.shm_model.specs.Entry as note;
 ghost use Rattle.shm_page.specs.State as state;
-ghost use Rattle.shm_parts.specs.Message.{grant_of, message_of};
+ghost use Rattle.shm_parts.specs.Message.{message_of, note_of};
 ghost use Rattle.shm_wire.specs.Messages.{page_of};
 ghost use Rattle.shm_wire.specs.PageWord.{bytes_of};
 
@@ -14,7 +14,7 @@ use base64::engine::general_purpose::STANDARD;
 use shm_lines::Words;
 use shm_model::Kind;
 use shm_page::{Entry, OwnWritePage};
-use shm_parts::{Grant, Message};
+use shm_parts::{Message, Note};
 use shm_place::{PAGE_BYTES, SiteId};
 use std::alloc::{AllocError, Allocator};
 
@@ -43,8 +43,8 @@ pub fn page<A: Allocator + Copy>(
     if number == 0 || !words.is_empty() {
         return Ok(None);
     }
-    let grant = granted(alloc, number, kind, bytes.as_slice())?;
-    Ok(Some(Message::Page { page, grant }))
+    let note = granted(alloc, number, kind, bytes.as_slice())?;
+    Ok(Some(Message::Of { page, note }))
 }
 
 /// The bytes of a page that the word is the base64 of.
@@ -64,25 +64,25 @@ fn decoded<A: Allocator + Copy>(alloc: A, word: &[u8]) -> Result<Option<Vec<u8, 
     }
 }
 
-/// The grant of a page with these bytes. As each grant it is made by an owner's page, which is lent or handed.
+/// The note that grants a page with these bytes. As each grant it is made by an owner's page, which is lent or handed.
 fn granted<A: Allocator + Copy>(
     alloc: A,
     number: u64,
     kind: Kind,
     bytes: &[u8],
-) -> Result<Grant<A>, AllocError>
+) -> Result<Note<A>, AllocError>
     requires number { 0 < number }
     requires whole { length bytes.now ≡ page_bytes }
-    ensures { IfOk result (λ grant. grant_of grant ≡ note.Page number kind bytes.now) }
+    ensures { IfOk result (λ n. note_of n ≡ note.Page number kind bytes.now) }
 {
     let owned = owned(alloc, bytes)?;
     match kind {
         Kind::Read => match owned.downgrade(number) {
-            Ok((_page, grant)) => Ok(Grant::Read(grant)),
+            Ok((_page, grant)) => Ok(Note::Read(grant)),
             Err((_page, error)) => Err(error),
         },
         Kind::Write => match owned.hand(number, SiteId(0)) {
-            Ok((_page, grant)) => Ok(Grant::Write(grant)),
+            Ok((_page, grant)) => Ok(Note::Write(grant)),
             Err((_page, error)) => Err(error),
         },
     }

@@ -4,7 +4,7 @@ use crate::spelling_calls::{CallWords, ReplyWords};
 use base64::display::Base64Display;
 use base64::engine::general_purpose::STANDARD;
 use shm_model::Kind;
-use shm_parts::{Grant, Message};
+use shm_parts::{Message, Note};
 use shm_place::PageId;
 use std::alloc::Allocator;
 use std::fmt;
@@ -64,42 +64,9 @@ impl<'a, A: Allocator + Copy> fmt::Display for Told<'a, A> {
 
     fn fmt<W: fmt::Write>(&self, f: &mut fmt::Formatter<W>) -> fmt::Result {
         match self.message {
-            Message::Ask {
-                page,
-                request,
-                kind,
-            } => write!(
-                f,
-                "ask {} {} {request} {}",
-                page.seg.0,
-                page.index,
-                KindWord(*kind)
-            ),
-            Message::Clear { page, number } => {
-                write!(f, "clear {} {} {number}", page.seg.0, page.index)
-            }
-            Message::Cleared { page, number } => {
-                write!(f, "cleared {} {} {number}", page.seg.0, page.index)
-            }
-            Message::Hand {
-                page,
-                number,
-                kind,
-                to,
-            } => write!(
-                f,
-                "hand {} {} {number} {} {}",
-                page.seg.0,
-                page.index,
-                KindWord(*kind),
-                to.0
-            ),
-            Message::Page { page, grant } => {
-                let granted = Granted { page: *page, grant };
-                write!(f, "{granted}")
-            }
-            Message::Confirm { page, number } => {
-                write!(f, "confirm {} {} {number}", page.seg.0, page.index)
+            Message::Of { page, note } => {
+                let told = ToldNote { page: *page, note };
+                write!(f, "{told}")
             }
             Message::Call { number, op } => write!(f, "call {number} {}", CallWords(*op)),
             Message::Reply { number, reply } => write!(f, "reply {number} {}", ReplyWords(*reply)),
@@ -109,35 +76,47 @@ impl<'a, A: Allocator + Copy> fmt::Display for Told<'a, A> {
     }
 }
 
-/// A page's bytes on their way, as their words spell them.
+/// A note of a page, as its words spell it.
 #[derive(Clone, Copy)]
-struct Granted<'a, A: Allocator + Copy> {
+struct ToldNote<'a, A: Allocator + Copy> {
     page: PageId,
-    grant: &'a Grant<A>,
+    note: &'a Note<A>,
 }
 
-impl<'a, A: Allocator + Copy> fmt::Display for Granted<'a, A> {
+impl<'a, A: Allocator + Copy> fmt::Display for ToldNote<'a, A> {
     ghost use Rattle.std.specs.Prelude.{Some};
     ghost use Rattle.std.specs.List.{join_with_byte};
-    ghost use Rattle.shm_parts.specs.Message.{grant_of};
+    ghost use Rattle.shm_parts.specs.Message.{note_of};
     ghost use Rattle.shm_wire.specs.Messages.{note_words};
 
-    ghost output = { λ granted. Some (join_with_byte 32 (note_words granted.page (grant_of granted.grant.now))) };
+    ghost output = { λ told. Some (join_with_byte 32 (note_words told.page (note_of told.note.now))) };
 
     fn fmt<W: fmt::Write>(&self, f: &mut fmt::Formatter<W>) -> fmt::Result {
         let seg = self.page.seg.0;
         let index = self.page.index;
-        match self.grant {
-            Grant::Read(grant) => {
+        match self.note {
+            Note::Ask { request, kind } => {
+                write!(f, "ask {seg} {index} {request} {}", KindWord(*kind))
+            }
+            Note::Clear(number) => write!(f, "clear {seg} {index} {number}"),
+            Note::Cleared(number) => write!(f, "cleared {seg} {index} {number}"),
+            Note::Hand { number, kind, to } => write!(
+                f,
+                "hand {seg} {index} {number} {} {}",
+                KindWord(*kind),
+                to.0
+            ),
+            Note::Read(grant) => {
                 let number = grant.number();
                 let bytes = Base64Display::new(grant.bytes(), &STANDARD);
                 write!(f, "page {seg} {index} {number} read {bytes}")
             }
-            Grant::Write(grant) => {
+            Note::Write(grant) => {
                 let number = grant.number();
                 let bytes = Base64Display::new(grant.bytes(), &STANDARD);
                 write!(f, "page {seg} {index} {number} write {bytes}")
             }
+            Note::Confirm(number) => write!(f, "confirm {seg} {index} {number}"),
         }
     }
 }

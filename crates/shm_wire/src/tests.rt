@@ -1,6 +1,6 @@
 use crate::{Sent, parse_answer, parse_ask, parse_envelope};
 use linked_list_allocator::LocalHeap;
-use shm_parts::{Grant, Message};
+use shm_parts::{Message, Note};
 use std::alloc::{AllocError, Allocator, Global};
 use std::test::Fail;
 
@@ -140,12 +140,12 @@ fn page_line(alloc: Global, kind: &str) -> Result<String, AllocError> {
 /// Whether it brings that page, to read or to write.
 fn brings_the_page<A: Allocator + Copy>(sent: &Sent<A>, kind: &str) -> bool {
     match &sent.envelope.message {
-        Message::Page {
-            grant: Grant::Read(grant),
+        Message::Of {
+            note: Note::Read(grant),
             ..
         } => kind == "read" && grant.number() == 6 && is_the_page(grant.bytes()),
-        Message::Page {
-            grant: Grant::Write(grant),
+        Message::Of {
+            note: Note::Write(grant),
             ..
         } => kind == "write" && grant.number() == 6 && is_the_page(grant.bytes()),
         _ => false,

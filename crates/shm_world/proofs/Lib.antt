@@ -1,6 +1,6 @@
-pub mod Bounds
 pub mod Envelopes
 pub mod Loads
+pub mod NetworkLemmas
 pub mod Runs
 pub mod Seats
 pub mod Steps

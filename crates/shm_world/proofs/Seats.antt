@@ -1,5 +1,5 @@
 -- Sites in their seats: one more, one changed, and what the definitions see of them.
-use Rattle.std.proofs.Common.{◌≡◌, ℕ, ◌+◌, ◌⊎◌, inl, inr, ⊎_elim, zero, suc, List, [], ◌∷◌, ◌++◌, length, map, Option, None, Some, IfNone, IfSome, Result, Ok, Err, IfErr, slice_get, slice_set, take, option_map, refl, sym, ap, ap₂, ◌∙◌, subst}
+use Rattle.std.proofs.Common.{◌≡◌, ℕ, ◌+◌, ◌⊎◌, inl, inr, ⊎_elim, zero, suc, List, [], ◌∷◌, ◌++◌, length, map, Option, None, Some, IfSome, Result, Ok, Err, IfErr, IfOk, OnErr, slice_get, slice_set, take, option_map, refl, sym, ap, ap₂, ◌∙◌, subst}
 use Rattle.std.proofs.lemmas.Grind.{take_at_read}
 use Rattle.std.proofs.lemmas.List.{map-append, map-set}
 use Rattle.std.proofs.lemmas.Option.{get_or_from_slice_get, none-some, same_Some, slice_get-map, slice_get_past, slice_get_read, slice_get_within}
@@ -8,9 +8,10 @@ use Rattle.std.specs.Option.{option_copied}
 use denote.Ref.{Bor}
 use Rattle.shm_model.specs.declared.answer.Answer.{Answer}
 use Rattle.shm_model.specs.Site.{Step}
-use Rattle.shm_model.specs.Message.{Envelope}
 use Rattle.shm_model.specs.Site as model
-use Rattle.shm_site.specs.Site.{SameSeat, sent_after, site_of, stepped}
+use Rattle.shm_parts.specs.Message.{envelope_of}
+use Rattle.shm_parts.specs.declared.message.Envelope.{Envelope}
+use Rattle.shm_site.specs.Site.{SameSeat, StepsTo, Unchanged, site_of}
 use Rattle.shm_site.specs.declared.site.Site.{Site}
 use Rattle.shm_world.specs.declared.members.Members.{Members}
 use Rattle.shm_world.specs.Members.{members_of, seen_by, Made}
@@ -48,10 +49,6 @@ pub if_err-weaker : {X Y : Type 0} (r : Result X Y) (P Q : Y → Type 0) → ((y
 if_err-weaker (Ok x) P Q f h = tt
 if_err-weaker (Err y) P Q f h = f y h
 
-pub if_none-weaker : {X P Q : Type 0} (r : Option X) → (P → Q) → IfNone r P → IfNone r Q
-if_none-weaker None f h = f h
-if_none-weaker (Some x) f h = tt
-
 -- ---- seats
 
 pub none-seated : {A : Type 0} (count : ℕ) (xs : List (Site A)) → xs ≡ [] → Seated count xs
@@ -72,6 +69,12 @@ seated-set count xs i old new seats there same = λ s x e. ⊎_elim
     let was = seats i old there in
     (ap (λ (y : Site _). y.sites) (sym h.1) ∙ same.0 ∙ was.0, ap (λ (y : Site _). y.me) (sym h.1) ∙ same.1 ∙ was.1 ∙ sym h.0))
     (at-set xs i new x s e)
+
+-- a site keeps its seat, whether its step is made or not
+pub seat-kept : {A O E : Type 0} (posted : O → O → List (Envelope A) → Type 0) (old new : Site A) (before after : O) (r : Result Answer E) (step : Step)
+    → IfOk r (λ answer. StepsTo posted old new before after answer step) → OnErr r (Unchanged posted old new before after) → SameSeat old new
+seat-kept posted old new before after (Ok answer) step to same = to.seat
+seat-kept posted old new before after (Err e) step to same = same.seat
 
 -- ---- what is seen of them
 
@@ -115,17 +118,18 @@ pub seen-in-seat : {A : Type 0} (old : Members A) (i s : ℕ) (was : Site A) →
 seen-in-seat old i s was at_i there P p x seen = in-seat old i s was at_i there (λ n m. P n m x) (subst (P was.sites was.me) (seen-there old.sites.items i s was x at_i there seen) p)
 
 -- a step of the site in seat i is one of all
-pub made-there : {A : Type 0} (old new : Members A) (i s : ℕ) (was is : Site A) (before after : List Envelope) (answer : Answer) (f : ℕ → ℕ → model.Site → Step)
-    → i ≡ s → slice_get old.sites.items i ≡ Some was → new.sites.items ≡ slice_set old.sites.items i is → sent_after before (f was.sites was.me (site_of was)) ≡ stepped is answer after
-    → (x : model.Site) → slice_get (members_of old) s ≡ Some x → Made old new s before after answer (f old.count s x)
-made-there old new i s was is before after answer f at_i there changed e x seen =
+pub made-there : {A O : Type 0} (posted : O → O → List (Envelope A) → Type 0) (old new : Members A) (i s : ℕ) (was is : Site A) (before after : O) (answer : Answer) (f : ℕ → ℕ → model.Site → Step)
+    → i ≡ s → slice_get old.sites.items i ≡ Some was → new.sites.items ≡ slice_set old.sites.items i is → StepsTo posted was is before after answer (f was.sites was.me (site_of was))
+    → (x : model.Site) → slice_get (members_of old) s ≡ Some x → Made posted old new s before after answer (f old.count s x)
+made-there posted old new i s was is before after answer f at_i there changed to x seen =
     let seat = old.seats i was there in
+    let m = to.makes in
     let step : f was.sites was.me (site_of was) ≡ f old.count s x =
     ap (λ n. f n was.me (site_of was)) seat.0 ∙ ap (λ n. f old.count n (site_of was)) (seat.1 ∙ at_i) ∙ ap (f old.count s) (seen-there old.sites.items i s was x at_i there seen)
     in
-    let whole : sent_after before (f old.count s x) ≡ stepped is answer after = ap (sent_after before) (sym step) ∙ e in
+    let whole : f old.count s x ≡ record { site = site_of is; answer = answer; sent = map envelope_of m.sent } = sym step ∙ m.made in
     record {
       sites = ap (map site_of) changed ∙ map-set site_of old.sites.items i is ∙ ap (λ n. slice_set (map site_of old.sites.items) n (site_of is)) at_i ∙ ap (slice_set (map site_of old.sites.items) s) (sym (ap (λ (t : Step). t.site) whole));
-      sent = sym (ap (λ (t : Step). t.sent) whole);
+      sent = record { sent = m.sent; behind = m.behind; meant = sym (ap (λ (t : Step). t.sent) whole) };
       answered = sym (ap (λ (t : Step). t.answer) whole);
     }

@@ -1,24 +1,25 @@
 -- Steps of the world, as its code makes them.
-use Rattle.std.proofs.Common.{◌≡◌, ◌∙◌, ℕ, ◌<◌, ◌≤◌, false, List, [], ◌∷◌, ◌++◌, Option, Some, None, Result, Ok, Err, IfNone, IfOk, IfSome, IsErr, OnErr, OnOk, ap, append-nil, arith, length, length-append, map, nat_lt, refl, slice_get, slice_set, subst, suc, sym, zero}
+use Rattle.std.proofs.Common.{◌≡◌, ◌∙◌, ℕ, ◌<◌, ◌≤◌, Bool, true, false, List, [], ◌∷◌, ◌++◌, Some, None, ap, append-nil, arith, length, length-append, map, nat_lt, not, refl, slice_get, slice_set, subst, suc, sym, zero}
 use Rattle.std.proofs.lemmas.Bool.{cond-true, cond-false}
 use Rattle.std.proofs.lemmas.Bool.Decides.{nat_tests}
 use Rattle.std.proofs.lemmas.Option.{same_Some}
 use Rattle.shm_model.specs.Basics.{max_sent}
 use Rattle.shm_model.specs.declared.answer.Answer.{Answer}
 use Rattle.shm_model.specs.declared.answer.Answer.TheVariants.{Refused}
-use Rattle.shm_model.specs.Site.{Step}
-use Rattle.shm_model.specs.Message.{Envelope, Input}
-use Rattle.shm_model.specs.Refusal.{no_such_site, numbers_used_up}
+use Rattle.shm_model.specs.Site.{Step, still}
+use Rattle.shm_model.specs.Message.{Input, Load, Store, Begin, Deliver, Tick, Restart}
+use Rattle.shm_model.specs.Refusal.{foreign_message, no_such_site, numbers_used_up}
 use Rattle.shm_model.specs.Site as model
-use Rattle.shm_model.specs.Step.{step}
+use Rattle.shm_model.specs.Step.{foreign, on_message, step}
 use Rattle.shm_model.specs.World as world
-use Rattle.shm_network.specs.Network.{Carries}
+use Rattle.shm_world.specs.Network.{Carries, CarriesOn}
 use Rattle.shm_world.specs.Members.{members_of, Made}
-use Rattle.shm_world.specs.Steps.{is_tick, Went}
-use Rattle.shm_world.specs.World.{StandsFor}
-use Rattle.shm_world.specs.declared.members.Members.{Members}
+use Rattle.shm_parts.specs.Message.{envelope_of}
+use Rattle.shm_site.specs.Step.{fault_of, is_foreign, may_grow}
+use Rattle.shm_site.specs.declared.step_error.StepFault.TheVariants as fault
+use Rattle.shm_world.specs.Steps.{Went}
+use Rattle.shm_world.specs.World.{StandsFor, input_may_grow}
 use Rattle.shm_world.specs.declared.world.World.{World}
-use Rattle.shm_world.proofs.Bounds.{few-sent}
 
 -- a site that a list has
 pub record Found {X : Type 0} (xs : List X) (s : ℕ) : Type 0 where
@@ -55,36 +56,40 @@ steps w s x i there few =
     ap (λ m. world.step_site m w s i) there
     ∙ cond-false (nat_lt max_sent (length w.sent)) (world.unstepped w s (Refused numbers_used_up)) (world.stepped w s i (step w.count s x i)) (grind (arith, nat_tests))
 
+-- the same world, whose network carries the same
+pub still_stands : {A : Type 0} (old new : World A) (w : world.World) → StandsFor old w → new.members.count ≡ old.members.count → members_of new.members ≡ members_of old.members → Carries new.network w.sent w.gone → StandsFor new w
+still_stands old new w stands count sites carries = record { count = stands.count ∙ sym count; sites = stands.sites ∙ sym sites; carries = carries; unsent = stands.unsent }
+
+-- and on which nothing was posted
+pub stays : {A : Type 0} (old new : World A) (w : world.World) → StandsFor old w → new.members.count ≡ old.members.count → members_of new.members ≡ members_of old.members
+    → CarriesOn old.network new.network [] → StandsFor new w
+stays old new w stands count sites carries =
+    still_stands old new w stands count sites (subst (λ l. Carries new.network l w.gone) (append-nil w.sent) (carries.carries w.sent w.gone stands.carries stands.unsent))
+
 -- where the world stands when a site has made its step and what it sent is on its way
-pub went : {A : Type 0} (old new : World A) (w : world.World) (s : ℕ) (x : model.Site) (i : Input) (answer : Answer) (out : List Envelope)
+pub went : {A : Type 0} (old new : World A) (w : world.World) (s : ℕ) (x : model.Site) (i : Input) (answer : Answer)
     → StandsFor old w → slice_get w.sites s ≡ Some x → length w.sent ≤ max_sent
-    → Made old.members new.members s [] out answer (step old.members.count s x i) → new.members.count ≡ old.members.count → Carries new.network (w.sent ++ out) w.gone
+    → Made CarriesOn old.members new.members s old.network new.network answer (step old.members.count s x i) → new.members.count ≡ old.members.count
     → Went new (world.step_at w s i) answer
-went old new w s x i answer out stands there few made count carries =
+went old new w s x i answer stands there few made count =
     let same : step old.members.count s x i ≡ step w.count s x i = ap (λ n. step n s x i) (sym stands.count) in
-    let sent : out ≡ (step w.count s x i).sent = made.sent ∙ ap (λ (t : Step). t.sent) same in
+    let told = made.sent in
+    let sent : map envelope_of told.sent ≡ (step w.count s x i).sent = told.meant ∙ ap (λ (t : Step). t.sent) same in
     subst (λ (n : world.Next). Went new n answer) (sym (steps w s x i there few)) (record {
       stands = record {
         count = stands.count ∙ sym count;
         sites = ap (λ l. slice_set l s (step w.count s x i).site) stands.sites ∙ sym (made.sites ∙ ap (λ (t : Step). slice_set (members_of old.members) s t.site) same);
-        carries = subst (λ l. Carries new.network (w.sent ++ l) w.gone) sent carries;
+        carries = subst (λ l. Carries new.network (w.sent ++ l) w.gone) sent (told.behind.carries w.sent w.gone stands.carries stands.unsent);
         unsent = λ k h. stands.unsent k (omega (arith, h, length-append w.sent (step w.count s x i).sent));
       };
       answered = made.answered ∙ ap (λ (t : Step). t.answer) same;
     })
 
--- the room that a step needs
-pub little : {A : Type 0} (old new : Members A) (s : ℕ) (x : model.Site) (i : Input) (answer : Answer) (out : List Envelope)
-    → old.count ≤ 16 → is_tick i ≡ false → Made old new s [] out answer (step old.count s x i) → length out ≤ 17
-little old new s x i answer out few other made =
-    let enough = few-sent old.count s x i few other in
-    omega (arith, ap length made.sent, enough)
-
 -- a step that leaves its site as it was and sends nothing
-pub stays : {A : Type 0} (world' : World A) (w : world.World) (s : ℕ) (x : model.Site) (i : Input) (answer : Answer)
-    → StandsFor world' w → slice_get w.sites s ≡ Some x → length w.sent ≤ max_sent → step w.count s x i ≡ record { site = x; answer = answer; sent = [] } → Went world' (world.step_at w s i) answer
-stays world' w s x i answer stands there few still =
-    subst (λ (n : world.Next). Went world' n answer) (sym (steps w s x i there few ∙ ap (λ t. world.stepped w s i t) still)) (record {
+pub still_there : {A : Type 0} (world' : World A) (w : world.World) (s : ℕ) (x : model.Site) (i : Input) (answer : Answer)
+    → StandsFor world' w → slice_get w.sites s ≡ Some x → length w.sent ≤ max_sent → step w.count s x i ≡ still answer x → Went world' (world.step_at w s i) answer
+still_there world' w s x i answer stands there few same =
+    subst (λ (n : world.Next). Went world' n answer) (sym (steps w s x i there few ∙ ap (λ t. world.stepped w s i t) same)) (record {
       stands = record {
         count = stands.count;
         sites = set_same w.sites s x there ∙ stands.sites;
@@ -94,42 +99,36 @@ stays world' w s x i answer stands there few still =
       answered = refl;
     })
 
+-- a site's answer to an envelope that can't be for it
+foreign_still : (sites me : ℕ) (i : Input) (x : model.Site) → is_foreign sites me i ≡ true → step sites me x i ≡ still (Refused foreign_message) x
+foreign_still sites me (Deliver e) x h = cond-true (foreign sites me e) (still (Refused foreign_message) x) (on_message sites me e.from e.message x) h
+foreign_still sites me (Load a o) x h = absurd (cc)
+foreign_still sites me (Store a o b) x h = absurd (cc)
+foreign_still sites me (Begin r) x h = absurd (cc)
+foreign_still sites me Tick x h = absurd (cc)
+foreign_still sites me Restart x h = absurd (cc)
+
+pub was_foreign : (b : Bool) → fault.Foreign ≡ fault_of b → b ≡ true
+was_foreign true e = refl
+was_foreign false e = absurd (cc)
+
+pub turned_away : {A : Type 0} (new : World A) (w : world.World) (s : ℕ) (x : model.Site) (i : Input) → StandsFor new w → slice_get w.sites s ≡ Some x → length w.sent ≤ max_sent
+    → is_foreign w.count s i ≡ true → Went new (world.step_at w s i) (Refused foreign_message)
+turned_away new w s x i stands there few is = still_there new w s x i (Refused foreign_message) stands there few (foreign_still w.count s i x is)
+
+pub not_so : (b : Bool) → not b ≡ true → b ≡ false
+not_so true h = absurd (cc)
+not_so false h = refl
+
+-- memory may be missing where a step may need some
+pub grows : (sites me : ℕ) (x : model.Site) (i : Input) → may_grow sites me x i ≡ true → input_may_grow i (step sites me x i).answer ≡ true
+grows sites me x (Deliver e) h = h
+grows sites me x (Load a o) h = h
+grows sites me x (Store a o b) h = h
+grows sites me x (Begin r) h = h
+grows sites me x Tick h = refl
+grows sites me x Restart h = h
+
 -- the answer of a step that is made
 pub answered : (w : world.World) (s : ℕ) (x : model.Site) (i : Input) → slice_get w.sites s ≡ Some x → length w.sent ≤ max_sent → (world.step_at w s i).done.answer ≡ (step w.count s x i).answer
 answered w s x i there few = ap (λ (n : world.Next). n.done.answer) (steps w s x i there few)
-
--- results that stand for one another
-pub on_err : {X E : Type 0} (r : Result X E) (P : Type 0) → P → OnErr r P
-on_err (Ok x) P p = tt
-on_err (Err e) P p = p
-
-pub ok_through : {X E F : Type 0} (r : Result X E) (made : Result X F) (P : X → Type 0) → IfOk r (λ x. made ≡ Ok x) → IfOk made P → IfOk r P
-ok_through (Ok x) made P is h = subst (λ m. IfOk m P) is h
-ok_through (Err e) made P is h = tt
-
-pub err_through : {X E F : Type 0} (r : Result X E) (made : Result X F) (P : Type 0) → OnErr r (IsErr made) → OnErr made P → OnErr r P
-err_through (Ok x) made P is h = tt
-err_through (Err e) (Err f) P is h = h
-err_through (Err e) (Ok x) P is h = absurd (cc)
-
--- an answer that is given where something holds
-pub ok_where : {X E : Type 0} (r : Result X E) (x : X) (H : Type 0) (P : X → Type 0) → IfOk r (λ y. y ≡ x) → OnOk r H → (H → P x) → IfOk r P
-ok_where (Ok y) x H P is h f = subst P (sym is) (f h)
-ok_where (Err e) x H P is h f = tt
-
-pub err_where : {X E : Type 0} (r : Result X E) (H P : Type 0) → OnErr r H → (H → P) → OnErr r P
-err_where (Ok x) H P h f = tt
-err_where (Err e) H P h f = f h
-
-pub some_where : {X : Type 0} (r : Option X) (H P : X → Type 0) → IfSome r H → ((x : X) → H x → P x) → IfSome r P
-some_where None H P h f = tt
-some_where (Some x) H P h f = f x h
-
-pub none_where : {X : Type 0} (r : Option X) (H P : Type 0) → IfNone r H → (H → P) → IfNone r P
-none_where None H P h f = f h
-none_where (Some x) H P h f = tt
-
--- a step that sends nothing, or isn't made, leaves an empty outbox empty
-pub quiet : {X E : Type 0} (r : Result X E) (P : X → Type 0) (Q : Type 0) (before out : List Envelope) → before ≡ [] → IfOk r P → ((x : X) → P x → out ≡ before ++ []) → OnErr r (Q × (out ≡ before)) → out ≡ []
-quiet (Ok x) P Q before out none made same refused = same x made ∙ append-nil before ∙ none
-quiet (Err e) P Q before out none made same refused = refused.1 ∙ none

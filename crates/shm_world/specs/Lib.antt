@@ -1,4 +1,6 @@
 pub mod Members
+pub mod Network
+pub mod Posting
 pub mod Stopped
 pub mod Seats
 pub mod Showing

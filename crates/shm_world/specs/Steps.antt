@@ -1,7 +1,6 @@
 -- Steps of the world of the code, against those of the definitions.
-use Rattle.std.specs.Prelude.{◌≡◌, Bool, true, false}
+use Rattle.std.specs.Prelude.{◌≡◌}
 use Rattle.shm_model.specs.declared.answer.Answer.{Answer}
-use Rattle.shm_model.specs.Message as model
 use Rattle.shm_model.specs.World.{Next}
 use Rattle.shm_world.specs.World.{StandsFor}
 use Rattle.shm_world.specs.declared.world.World.{World}
@@ -10,7 +9,3 @@ use Rattle.shm_world.specs.declared.world.World.{World}
 pub record Went {A : Type 0} (new : World A) (next : Next) (answer : Answer) : Type 0 where
   pub stands : StandsFor new next.world
   pub answered : answer ≡ next.done.answer
-
-abbrev pub is_tick : model.Input → Bool
-is_tick model.Tick = true
-is_tick _ = false

@@ -1,10 +1,11 @@
 -- A world of the code against one of the definitions; and what a list of events makes of a world.
-use Rattle.std.specs.Prelude.{◌≡◌, ℕ, ◌≤◌, Bool, true, false, not, List, [], ◌∷◌, ◌++◌, length, take}
+use Rattle.std.specs.Prelude.{◌≡◌, ℕ, ◌≤◌, Bool, false, not, List, [], ◌∷◌, ◌++◌, length, take}
 use Rattle.shm_model.specs.declared.answer.Answer.{Answer}
 use Rattle.shm_model.specs.declared.event.Event.{Event}
 use Rattle.shm_model.specs.declared.event.Event.TheVariants as event
+use Rattle.shm_model.specs.Message as input
 use Rattle.shm_model.specs.World as model
-use Rattle.shm_network.specs.Network.{Carries}
+use Rattle.shm_world.specs.Network.{Carries}
 use Rattle.shm_site.specs.Step.{is_fault, is_refused}
 use Rattle.shm_world.specs.Members.{members_of}
 use Rattle.shm_world.specs.declared.world.World.{World}
@@ -24,6 +25,13 @@ after w (e ∷ es) = after (model.next w e).world es
 abbrev pub answers : model.World → List Event → List Answer
 answers w [] = []
 answers w (e ∷ es) = (model.next w e).done.answer ∷ answers (model.next w e).world es
+
+-- Whether memory may be missing at a site's input that has this answer
+abbrev pub input_may_grow : input.Input → Answer → Bool
+input_may_grow (input.Load _ _) answer = is_fault answer
+input_may_grow (input.Store _ _ _) answer = is_fault answer
+input_may_grow input.Restart answer = false
+input_may_grow _ answer = not (is_refused answer)
 
 -- Whether memory may be missing at an event that has this answer: never where it is a refusal; for a load or store only where it asks
 -- for its page; never for a restart or a loss.

@@ -1,10 +1,10 @@
 //! The world: all sites and the network between them, stepped by events; and the headline as the contract of its run.
 #![tactic(auto)]
 
-mod accessing;
 mod delivering;
 pub mod laws;
 mod members;
+mod network;
 mod opening;
 mod running;
 mod showing;
@@ -12,6 +12,7 @@ mod start;
 mod stepping;
 mod world;
 
+pub use network::Network;
 pub use shm_model::{Access, Answer, Event, Shown};
 pub use shm_site::BookView;
 pub use world::World;

@@ -1,19 +1,17 @@
 //! What is done with the sites, each at its number.
-ghost use Rattle.std.specs.Prelude.{◌≡◌, length, [], false, true, ◌<◌, Some, map, slice_get, IfErr, IfNone, IfOk, IfSome, IsOk, OnErr};
+ghost use Rattle.std.specs.Prelude.{◌≡◌, length, [], false, true, ◌<◌, Some, map, slice_get, IfErr, IfOk, IfSome, IsOk, OnErr};
 ghost use Rattle.shm_world.specs.Seats.{Seated};
 ghost use Rattle.std.specs.List.{range_with_len};
 ghost use Rattle.std.specs.Option.{option_copied};
-ghost use Rattle.shm_model.specs.Access.{store};
 ghost use Rattle.shm_model.specs.Site as model;
 ghost use Rattle.shm_model.specs.Step.{step};
 ghost use Rattle.shm_model.specs.World.{IsOpening, opened_site};
-ghost use Rattle.shm_model.specs.declared.answer.Answer.TheVariants as answer;
 ghost use Rattle.shm_site.specs.Step.{envelope_if, fault_of, handed_in, input_of, is_foreign, may_grow};
 ghost use Rattle.shm_site.specs.declared.step_error.StepFault.TheVariants as fault;
 
 use crate::start::{Start, begun};
 use shm_model::Answer;
-use shm_parts::Outbox;
+use shm_parts::{Envelope, Outbox};
 use shm_place::{SiteId, Sites};
 use shm_site::{Input, Site, StepError};
 use std::alloc::{AllocError, Allocator, Global};
@@ -53,37 +51,20 @@ impl<A: Allocator + Copy> Members<A> {
         self.sites.get(site.0 as usize)
     }
 
-    /// A site's store, where nothing has to be sent for it. It takes no memory.
-    pub(crate) fn store_here(
-        &mut self,
-        site: SiteId,
-        at: u32,
-        offset: u32,
-        byte: u8,
-    ) -> Option<Answer>
-        requires { site < self.old.count }
-        ensures here { IfSome result (λ answer. (x : model.Site) → slice_get (members_of self.old) site ≡ Some x → Made self.old self.new site [] [] answer (store self.old.count site at offset byte x)) }
-        ensures elsewhere { IfNone result ((x : model.Site) → slice_get (members_of self.old) site ≡ Some x → (store self.old.count site at offset byte x).answer ≡ answer.Fault) }
-        ensures same { IfNone result (members_of self.new ≡ members_of self.old) }
-        ensures count { self.new.count ≡ self.old.count }
-    {
-        self.sites[site.0 as usize].store_here(at, offset, byte)
-    }
-
     /// A site's step. Where it isn't made, the sites are as before and an envelope that was handed in comes back.
-    pub(crate) fn step(
+    pub(crate) fn step<O: Outbox<Envelope<A>>>(
         &mut self,
         site: SiteId,
         input: Input<A>,
-        outbox: &mut Outbox<A>,
+        outbox: &mut O,
     ) -> Result<Answer, StepError<A>>
         requires { site < self.old.count }
-        ensures step { IfOk result (λ answer. (x : model.Site) → slice_get (members_of self.old) site ≡ Some x → Made self.old self.new site outbox.old.sent outbox.new.sent answer (step self.old.count site x (input_of input))) }
+        ensures step { IfOk result (λ answer. (x : model.Site) → slice_get (members_of self.old) site ≡ Some x → Made O.posted self.old self.new site outbox.old outbox.new answer (step self.old.count site x (input_of input))) }
         ensures taken { IsOk result → is_foreign self.old.count site (input_of input) ≡ false }
         ensures fault { IfErr result (λ e. e.fault ≡ fault_of (is_foreign self.old.count site (input_of input))) }
         ensures memory { IfErr result (λ e. e.fault ≡ fault.OutOfMemory → (x : model.Site) → slice_get (members_of self.old) site ≡ Some x → may_grow self.old.count site x (input_of input) ≡ true) }
         ensures back { IfErr result (λ e. envelope_if e.envelope ≡ handed_in (input_of input)) }
-        ensures refused { OnErr result ((members_of self.new ≡ members_of self.old) × (outbox.new.sent ≡ outbox.old.sent)) }
+        ensures refused { OnErr result ((members_of self.new ≡ members_of self.old) × O.posted outbox.old outbox.new []) }
         ensures count { self.new.count ≡ self.old.count }
     {
         self.sites[site.0 as usize].step(input, outbox)

@@ -5,10 +5,9 @@ ghost use Rattle.shm_world.specs.Start.{opening_of};
 ghost use Rattle.shm_world.specs.World.{StandsFor};
 
 use crate::members::Members;
+use crate::network::Network;
 use crate::start::Start;
 use crate::world::World;
-use shm_network::Network;
-use shm_parts::Outbox;
 use shm_place::{MAX_FRAMES, PAGES, Sites};
 use std::alloc::{AllocError, Allocator};
 
@@ -54,7 +53,6 @@ impl<A: Allocator + Copy> World<A> {
         Ok(World {
             members,
             network: Network::new(alloc),
-            outbox: Outbox::new(alloc),
             alloc,
         })
     }
@@ -68,7 +66,6 @@ impl<A: Allocator + Copy> World<A> {
         Ok(World {
             members,
             network,
-            outbox: Outbox::new(self.alloc),
             alloc: self.alloc,
         })
     }

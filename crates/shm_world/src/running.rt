@@ -10,6 +10,7 @@ ghost use Rattle.shm_world.specs.World.{after, answers, may_grow, AnsweredSome, 
 use crate::laws;
 use crate::world::World;
 use shm_model::{Answer, Event};
+use shm_site::Input;
 use std::alloc::{AllocError, Allocator};
 
 impl<A: Allocator + Copy> World<A> {
@@ -58,20 +59,20 @@ impl<A: Allocator + Copy> World<A> {
         ensures refused { (w : model.World) → StandsFor self.old w → OnErr result (StandsFor self.new w) }
         ensures memory { (w : model.World) → StandsFor self.old w → OnErr result (may_grow event.now (model.next w event.now).done.answer ≡ true) }
     {
-        match event {
-            Event::Load { site, at, offset } => self.load(*site, *at, *offset),
+        match *event {
+            Event::Load { site, at, offset } => self.act(site, Input::Load { at, offset }),
             Event::Store {
                 site,
                 at,
                 offset,
                 byte,
-            } => self.store(*site, *at, *offset, *byte),
-            Event::Begin { site, request } => self.begin(*site, *request),
-            Event::Tick { site } => self.tick(*site),
-            Event::Restart { site } => self.restart(*site),
-            Event::Deliver(number) => self.deliver(*number),
-            Event::Repeat(number) => self.repeat(*number),
-            Event::Lose(number) => Ok(self.lose(*number)),
+            } => self.act(site, Input::Store { at, offset, byte }),
+            Event::Begin { site, request } => self.act(site, Input::Begin(request)),
+            Event::Tick { site } => self.act(site, Input::Tick),
+            Event::Restart { site } => self.act(site, Input::Restart),
+            Event::Deliver(number) => self.deliver(number),
+            Event::Repeat(number) => self.repeat(number),
+            Event::Lose(number) => Ok(self.lose(number)),
         }
     }
 }

@@ -4,7 +4,7 @@ ghost use Rattle.std.specs.Option.{option_copied};
 ghost use Rattle.shm_place.specs.Page.{in_limits, manager_of};
 ghost use Rattle.shm_model.specs.Site as site;
 ghost use Rattle.shm_model.specs.World as model;
-ghost use Rattle.shm_network.specs.Network.{envelope_at};
+ghost use Rattle.shm_world.specs.Network.{envelope_at};
 ghost use Rattle.shm_site.specs.Showing.{Tells};
 ghost use Rattle.shm_world.specs.Members.{seen_by};
 ghost use Rattle.shm_world.specs.Showing.{access, keeps_book, shown};

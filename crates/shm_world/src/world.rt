@@ -1,8 +1,5 @@
-ghost use Rattle.std.specs.Prelude.{◌≡◌, []};
-
 use crate::members::Members;
-use shm_network::Network;
-use shm_parts::Outbox;
+use crate::network::Network;
 use std::alloc::{Allocator, Global};
 
 /// All sites, and the network between them.
@@ -10,7 +7,5 @@ use std::alloc::{Allocator, Global};
 pub struct World<A: Allocator + Copy = Global> {
     pub(crate) members: Members<A>,
     pub(crate) network: Network<A>,
-    pub(crate) outbox: Outbox<A>,
     pub(crate) alloc: A,
-    ghost posted: { outbox.sent ≡ [] },
 }

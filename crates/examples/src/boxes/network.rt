@@ -1,5 +1,5 @@
 use anyhow::Result;
-use shm_parts::Message;
+use shm_parts::{Message, Note};
 use shm_sites::{Envelope, Stamp};
 use std::alloc::Global;
 use std::collections::VecDeque;
@@ -22,7 +22,7 @@ impl Network {
 
     /// Takes an envelope, and tells how often it will arrive.
     pub fn post(&mut self, envelope: &Envelope, source: Stamp) -> Result<u32> {
-        let is_page = matches!(envelope.message, Message::Page { .. });
+        let is_page = kind_of(envelope) == "Page";
         self.pages = self.pages.saturating_add(u32::from(is_page));
         let copies = match self.pages {
             1 if is_page => 0,
@@ -43,11 +43,14 @@ impl Network {
 
 /// What an envelope's message is called.
 pub fn kind_of(envelope: &Envelope) -> &'static str {
-    match envelope.message {
-        Message::Ask { .. } => "Ask",
-        Message::Hand { .. } => "Hand",
-        Message::Page { .. } => "Page",
-        Message::Confirm { .. } => "Confirm",
-        _ => "another message",
+    let Message::Of { note, .. } = &envelope.message else {
+        return "another message";
+    };
+    match note {
+        Note::Ask { .. } => "Ask",
+        Note::Hand { .. } => "Hand",
+        Note::Read(_) | Note::Write(_) => "Page",
+        Note::Confirm(_) => "Confirm",
+        Note::Clear(_) | Note::Cleared(_) => "another message",
     }
 }

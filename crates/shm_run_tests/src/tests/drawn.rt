@@ -1,6 +1,6 @@
 //! That a run draws from its seed: what becomes of the first envelope that a site's thread sends.
 use shm_lines::parse_workload;
-use shm_parts::Message;
+use shm_parts::{Message, Note};
 use shm_place::Sites;
 use shm_report::run_workload;
 use shm_sites::{Input, SiteLog};
@@ -75,7 +75,13 @@ fn first_order(log: &SiteLog) -> Option<Seen> {
 
 fn is_hand(input: &Input) -> bool {
     match input {
-        Input::Deliver(envelope) => matches!(envelope.message, Message::Hand { .. }),
+        Input::Deliver(envelope) => matches!(
+            envelope.message,
+            Message::Of {
+                note: Note::Hand { .. },
+                ..
+            }
+        ),
         _ => false,
     }
 }

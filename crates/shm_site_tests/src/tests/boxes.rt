@@ -3,7 +3,7 @@
 //! Whoever holds a box drops it by name: a drop at the end of its scope is written out there, and takes far longer to prove.
 use super::expect;
 use shm_model::Kind;
-use shm_parts::Message;
+use shm_parts::{Message, Note};
 use shm_place::{PageId, SegId, SiteId, Sites};
 use shm_sites::{Answer, Asked, BoxFault, Envelope, Input, Receipt, SiteBox, Stamp};
 use std::alloc::{AllocError, Allocator};
@@ -156,13 +156,15 @@ fn input_of<A: Allocator + Copy>(given: &Given) -> Input<A> {
         Given::Ask(index) => Input::Deliver(Envelope {
             from: SiteId(1),
             to: SiteId(0),
-            message: Message::Ask {
+            message: Message::Of {
                 page: PageId {
                     seg: SegId(0),
                     index,
                 },
-                request: 1,
-                kind: Kind::Read,
+                note: Note::Ask {
+                    request: 1,
+                    kind: Kind::Read,
+                },
             },
         }),
     }

@@ -1,7 +1,7 @@
 //! Envelopes that are posted, taken out and put back.
-use shm_network::Network;
 use shm_parts::{Envelope, Message, Outbox};
 use shm_place::{SegId, SiteId};
+use shm_world::Network;
 use std::alloc::{AllocError, Global};
 use std::test::Fail;
 
@@ -15,11 +15,9 @@ fn purge(id: u32) -> Envelope {
 
 /// A network that carries one purge of segment 7.
 fn posted(alloc: Global) -> Result<Network, AllocError> {
-    let mut outbox = Outbox::new(alloc);
-    outbox.try_push(purge(7))?;
     let mut network = Network::new(alloc);
     network.reserve(1)?;
-    network.post(&mut outbox);
+    network.push(purge(7));
     Ok(network)
 }
 
@@ -31,15 +29,29 @@ fn is_of(envelope: Option<&Envelope>, segment: u32) -> bool {
 }
 
 #[test]
-fn what_is_taken_is_gone(rt: HostRuntime) -> Result<(), Fail> {
+fn what_is_lost_is_gone(rt: HostRuntime) -> Result<(), Fail> {
     let mut network = posted(rt.alloc())?;
     let copy = network.copy()?;
     assert!(rt; is_of(network.envelope(0), 7));
-    let taken = network.take(0);
-    assert!(rt; taken.is_some());
+    assert!(rt; network.lose(0));
     assert!(rt; network.envelope(0).is_none());
+    assert!(rt; !network.lose(0));
     assert!(rt; is_of(copy.envelope(0), 7));
     let sent = network.sent();
     assert_eq!(rt; sent, 1);
+    Ok(())
+}
+
+#[test]
+fn what_is_taken_out_is_put_back(rt: HostRuntime) -> Result<(), Fail> {
+    let mut network = posted(rt.alloc())?;
+    let Some(envelope) = network.take_out(0) else {
+        return Err(Fail::new("the envelope is on its way"));
+    };
+    assert!(rt; network.envelope(0).is_none());
+    network.put_back(0, envelope);
+    assert!(rt; is_of(network.envelope(0), 7));
+    assert!(rt; network.take_out(0).is_some());
+    assert!(rt; network.take_out(0).is_none());
     Ok(())
 }

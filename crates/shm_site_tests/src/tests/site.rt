@@ -4,7 +4,7 @@
 use super::expect;
 use shm_model::{Access, Kind, Op, Reply, Request, Shown};
 use shm_place::{PageId, SegId, SiteId, Sites};
-use shm_site::{Answer, Envelope, Input, Message, Outbox, Site, StepError, StepFault};
+use shm_site::{Answer, Envelope, Input, Message, Note, Site, StepError, StepFault};
 use std::alloc::{AllocError, Allocator};
 use std::process::Abort;
 
@@ -39,6 +39,9 @@ enum Given {
     Tick,
     Restart,
 }
+
+/// What a site sent, the first envelope first.
+type Sent<A> = Vec<Envelope<A>, A>;
 
 /// A step that wasn't made: why, and sender and receiver of the envelope that came back.
 type Unmade = (StepFault, Option<(u32, u32)>);
@@ -89,7 +92,7 @@ fn expect_answer(
 fn run<A: Allocator + Copy>(
     rt: &impl Abort,
     site: &mut Site<A>,
-    outbox: &mut Outbox<A>,
+    outbox: &mut Sent<A>,
     inputs: &[(Given, Answer)],
 ) {
     'inputs: for (place, (given, answer)) in inputs.iter().enumerate() {
@@ -102,7 +105,7 @@ fn run<A: Allocator + Copy>(
 fn run_at<A: Allocator + Copy>(
     rt: &impl Abort,
     made: Result<Site<A>, AllocError>,
-    outbox: &mut Outbox<A>,
+    outbox: &mut Sent<A>,
     inputs: &[(Given, Answer)],
 ) {
     match made {
@@ -117,7 +120,7 @@ fn run_at<A: Allocator + Copy>(
 /// Makes the step of this input.
 fn give<A: Allocator + Copy>(
     site: &mut Site<A>,
-    outbox: &mut Outbox<A>,
+    outbox: &mut Sent<A>,
     given: &Given,
 ) -> Result<Answer, Unmade> {
     let input = match given {
@@ -140,10 +143,7 @@ fn give<A: Allocator + Copy>(
 }
 
 /// Hands the last envelope over; one that comes back is the last again. With no envelope it fails as no step does.
-fn carry<A: Allocator + Copy>(
-    site: &mut Site<A>,
-    outbox: &mut Outbox<A>,
-) -> Result<Answer, Unmade> {
+fn carry<A: Allocator + Copy>(site: &mut Site<A>, outbox: &mut Sent<A>) -> Result<Answer, Unmade> {
     let Some(envelope) = outbox.pop() else {
         return Err((StepFault::Foreign, None));
     };
@@ -152,14 +152,14 @@ fn carry<A: Allocator + Copy>(
 
 fn put_back<A: Allocator + Copy>(
     made: Result<Answer, StepError<A>>,
-    outbox: &mut Outbox<A>,
+    outbox: &mut Sent<A>,
 ) -> Result<Answer, Unmade> {
     match made {
         Ok(answer) => Ok(answer),
         Err(StepError { fault, envelope }) => {
             let back = ends(&envelope);
             if let Some(envelope) = envelope {
-                let _ = outbox.try_push(envelope);
+                let _ = outbox.push(envelope);
             }
             Err((fault, back))
         }
@@ -176,33 +176,30 @@ fn told_by<A: Allocator + Copy>(from: u32, to: u32, told: &Told) -> Input<A> {
 
 fn message_of<A: Allocator + Copy>(told: &Told) -> Message<A> {
     match *told {
-        Told::Ask(index, request, kind) => Message::Ask {
-            page: page(index),
-            request,
-            kind,
-        },
-        Told::Clear(index, number) => Message::Clear {
-            page: page(index),
-            number,
-        },
-        Told::Cleared(index, number) => Message::Cleared {
-            page: page(index),
-            number,
-        },
-        Told::Hand(index, number, kind, to) => Message::Hand {
-            page: page(index),
-            number,
-            kind,
-            to: SiteId(to),
-        },
-        Told::Confirm(index, number) => Message::Confirm {
-            page: page(index),
-            number,
-        },
+        Told::Ask(index, request, kind) => of(index, Note::Ask { request, kind }),
+        Told::Clear(index, number) => of(index, Note::Clear(number)),
+        Told::Cleared(index, number) => of(index, Note::Cleared(number)),
+        Told::Hand(index, number, kind, to) => of(
+            index,
+            Note::Hand {
+                number,
+                kind,
+                to: SiteId(to),
+            },
+        ),
+        Told::Confirm(index, number) => of(index, Note::Confirm(number)),
         Told::Call(number, op) => Message::Call { number, op },
         Told::Reply(number, reply) => Message::Reply { number, reply },
         Told::Purge(id) => Message::Purge { id: SegId(id) },
         Told::Purged(id) => Message::Purged { id: SegId(id) },
+    }
+}
+
+/// A note of a page of segment 0.
+fn of<A: Allocator + Copy>(index: u32, note: Note<A>) -> Message<A> {
+    Message::Of {
+        page: page(index),
+        note,
     }
 }
 
@@ -233,7 +230,7 @@ struct Seen {
 /// A book's owner, its number, and what runs.
 type BookNumbers = (SiteId, u64, Option<(Kind, SiteId)>);
 
-fn look<A: Allocator + Copy>(site: &Site<A>, outbox: &Outbox<A>) -> Seen {
+fn look<A: Allocator + Copy>(site: &Site<A>, outbox: &Sent<A>) -> Seen {
     Seen {
         access: [access(site, 0), access(site, 1)],
         shown: [shown(site, 0), shown(site, 1)],

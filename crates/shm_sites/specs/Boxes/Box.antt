@@ -1,13 +1,13 @@
 -- A site in its box, which logs every step that it makes; and what taking an input makes of it.
-use Rattle.std.specs.Prelude.{ℕ, ◌+◌, Bool, ◌||◌, List, [], ◌∷◌, ◌++◌, Option, Some, None, ◌==◌, if◌then◌else◌, length, max}
+use Rattle.std.specs.Prelude.{ℕ, ◌+◌, Bool, true, false, ◌||◌, List, [], ◌∷◌, ◌++◌, Option, Some, None, ◌==◌, if◌then◌else◌, length, max}
 use Rattle.shm_model.specs.Log.{Logged, Stamp}
-use Rattle.shm_model.specs.Message.{Input}
+use Rattle.shm_model.specs.Message.{Deliver, Input}
 use Rattle.shm_model.specs.Receipt as model
 use Rattle.shm_model.specs.Refusal.{clock_end, foreign_message, out_of_memory}
 use Rattle.shm_model.specs.Site.{Site}
 use Rattle.shm_model.specs.Step.{step}
 use Rattle.shm_model.specs.World.{Preset, opened_site}
-use Rattle.shm_site.specs.Step.{is_delivery, is_foreign, may_grow}
+use Rattle.shm_site.specs.Step.{is_foreign, may_grow}
 use Rattle.shm_sites.specs.declared.boxes.box_fault.BoxFault.{BoxFault}
 use Rattle.shm_sites.specs.declared.boxes.box_fault.BoxFault.TheVariants as fault
 
@@ -49,6 +49,11 @@ abbrev pub refusal : Box → Input → Stamp → Option BoxFault
 refusal box input source =
     if is_foreign box.sites box.me input then Some fault.Foreign
     else (if max box.clock source.at == greatest_stamp then Some fault.ClockEnd else None)
+
+-- an envelope is handed over
+abbrev pub is_delivery : Input → Bool
+is_delivery (Deliver _) = true
+is_delivery _ = false
 
 -- whether memory may be missing beside that for the log: an envelope is copied into it, and the site's step may need some
 abbrev pub needs_memory : Box → Input → Bool

@@ -1,9 +1,9 @@
 //! Whether two envelopes are one.
 ghost use Rattle.std.specs.Prelude.{◌≡◌};
 ghost use Rattle.std.specs.Bool.{Decides};
-ghost use Rattle.shm_parts.specs.Message.{envelope_of, grant_of, message_of};
+ghost use Rattle.shm_parts.specs.Message.{envelope_of, message_of, note_of};
 
-use shm_parts::{Envelope, Grant, Message};
+use shm_parts::{Envelope, Message, Note};
 use std::alloc::Allocator;
 
 pub(crate) fn same_envelope<A: Allocator + Copy>(a: &Envelope<A>, b: &Envelope<A>) -> bool
@@ -16,43 +16,8 @@ fn same_message<A: Allocator + Copy>(a: &Message<A>, b: &Message<A>) -> bool
     ensures { Decides result (message_of a.now ≡ message_of b.now) }
 {
     match (a, b) {
-        (
-            Message::Ask {
-                page,
-                request,
-                kind,
-            },
-            Message::Ask {
-                page: p,
-                request: r,
-                kind: k,
-            },
-        ) => page == p && request == r && kind == k,
-        (Message::Clear { page, number }, Message::Clear { page: p, number: n }) => {
-            page == p && number == n
-        }
-        (Message::Cleared { page, number }, Message::Cleared { page: p, number: n }) => {
-            page == p && number == n
-        }
-        (
-            Message::Hand {
-                page,
-                number,
-                kind,
-                to,
-            },
-            Message::Hand {
-                page: p,
-                number: n,
-                kind: k,
-                to: t,
-            },
-        ) => page == p && number == n && kind == k && to == t,
-        (Message::Page { page, grant }, Message::Page { page: p, grant: g }) => {
-            page == p && same_grant(grant, g)
-        }
-        (Message::Confirm { page, number }, Message::Confirm { page: p, number: n }) => {
-            page == p && number == n
+        (Message::Of { page, note }, Message::Of { page: p, note: n }) => {
+            page == p && same_note(note, n)
         }
         (Message::Call { number, op }, Message::Call { number: n, op: o }) => {
             number == n && op == o
@@ -63,23 +28,41 @@ fn same_message<A: Allocator + Copy>(a: &Message<A>, b: &Message<A>) -> bool
                 number: n,
                 reply: r,
             },
-        ) => { number == n && reply == r }
+        ) => number == n && reply == r,
         (Message::Purge { id }, Message::Purge { id: i }) => id == i,
         (Message::Purged { id }, Message::Purged { id: i }) => id == i,
         _ => false,
     }
 }
 
-fn same_grant<A: Allocator + Copy>(a: &Grant<A>, b: &Grant<A>) -> bool
-    ensures { Decides result (grant_of a.now ≡ grant_of b.now) }
+fn same_note<A: Allocator + Copy>(a: &Note<A>, b: &Note<A>) -> bool
+    ensures { Decides result (note_of a.now ≡ note_of b.now) }
 {
     match (a, b) {
-        (Grant::Read(grant), Grant::Read(g)) => {
+        (
+            Note::Ask { request, kind },
+            Note::Ask {
+                request: r,
+                kind: k,
+            },
+        ) => request == r && kind == k,
+        (Note::Clear(number), Note::Clear(n)) => number == n,
+        (Note::Cleared(number), Note::Cleared(n)) => number == n,
+        (
+            Note::Hand { number, kind, to },
+            Note::Hand {
+                number: n,
+                kind: k,
+                to: t,
+            },
+        ) => number == n && kind == k && to == t,
+        (Note::Read(grant), Note::Read(g)) => {
             grant.number() == g.number() && grant.bytes() == g.bytes()
         }
-        (Grant::Write(grant), Grant::Write(g)) => {
+        (Note::Write(grant), Note::Write(g)) => {
             grant.number() == g.number() && grant.bytes() == g.bytes()
         }
+        (Note::Confirm(number), Note::Confirm(n)) => number == n,
         _ => false,
     }
 }

@@ -1,5 +1,6 @@
 ghost use Rattle.std.specs.Prelude.{◌≡◌, true, IfOk, OnErr};
-ghost use Rattle.shm_site.specs.Step.{input_of, is_delivery};
+ghost use Rattle.shm_site.specs.Step.{input_of};
+ghost use Rattle.shm_sites.specs.Boxes.Box.{is_delivery};
 
 use shm_site::Input;
 use std::alloc::{AllocError, Allocator};

@@ -1,14 +1,15 @@
 //! What a box does with an input: it logs the step that the site makes, or refuses.
-ghost use Rattle.std.specs.Prelude.{◌≡◌, ◌<◌, None, Some, false, true, Ok, length, unwrap_or, vec_capacity, IfErr, IfOk, IsErr, IsOk, OnErr, OnOk};
-ghost use Rattle.shm_sites.specs.Boxes.Box.{after, needs_memory, next_stamp, receipt, refusal};
+ghost use Rattle.std.specs.Prelude.{◌≡◌, ◌<◌, None, Some, false, true, Ok, length, map, unwrap_or, vec_capacity, IfErr, IfOk, IsErr, IsOk, OnErr, OnOk};
+ghost use Rattle.shm_sites.specs.Boxes.Box.{after, is_delivery, needs_memory, next_stamp, receipt, refusal};
 ghost use Rattle.shm_sites.specs.Boxes.Logged.{stamp_of};
 ghost use Rattle.shm_sites.specs.Boxes.Receipt.{receipt_of};
 ghost use Rattle.shm_sites.specs.Boxes.SiteBox.{box_of};
 ghost use Rattle.shm_sites.specs.Boxes.SiteLog.{HasRoom};
 ghost use Rattle.shm_sites.specs.declared.boxes.box_fault.BoxFault.TheVariants as fault;
 ghost use Rattle.shm_model.specs.Step.{step};
-ghost use Rattle.shm_site.specs.Site.{sent_after, site_of, stepped as after_step, SameSeat};
-ghost use Rattle.shm_site.specs.Step.{input_of, is_delivery, is_foreign, may_grow};
+ghost use Rattle.shm_parts.specs.Message.{envelope_of};
+ghost use Rattle.shm_site.specs.Site.{site_of, stepped as after_step, SameSeat};
+ghost use Rattle.shm_site.specs.Step.{input_of, is_foreign, may_grow};
 
 use crate::boxes::box_fault::BoxFault;
 use crate::boxes::copying::copy;
@@ -16,8 +17,7 @@ use crate::boxes::receipt::Receipt;
 use crate::boxes::site_box::SiteBox;
 use crate::boxes::stamp::Stamp;
 use crate::boxes::step::Step;
-use shm_parts::Outbox;
-use shm_site::{Answer, Input, Site, StepError};
+use shm_site::{Input, Made, Site, StepError};
 use std::alloc::{AllocError, Allocator};
 
 impl<A: Allocator + Copy> SiteBox<A> {
@@ -107,9 +107,7 @@ impl<A: Allocator + Copy> SiteBox<A> {
         ensures told { IfOk result (λ told. receipt_of told ≡ receipt (box_of self.old) (input_of input)) }
         ensures refused { OnErr result (box_of self.new ≡ box_of self.old) }
     {
-        let mut outbox = Outbox::new(self.alloc);
-        let answer = stepped(&mut self.site, copy, &mut outbox)?;
-        let sent = outbox.into_envelopes();
+        let Made { answer, sent } = listed(&mut self.site, copy)?;
         let step = Step {
             input,
             stamp,
@@ -125,18 +123,14 @@ impl<A: Allocator + Copy> SiteBox<A> {
 }
 
 /// One step of the site at an input that isn't foreign. An envelope that comes back is given up.
-fn stepped<A: Allocator + Copy>(
-    site: &mut Site<A>,
-    input: Input<A>,
-    outbox: &mut Outbox<A>,
-) -> Result<Answer, AllocError>
-    ensures step { IfOk result (λ answer. sent_after outbox.old.sent (step site.old.sites site.old.me (site_of site.old) (input_of input)) ≡ after_step site.new answer outbox.new.sent) }
+fn listed<A: Allocator + Copy>(site: &mut Site<A>, input: Input<A>) -> Result<Made<A>, AllocError>
+    ensures step { IfOk result (λ made. step site.old.sites site.old.me (site_of site.old) (input_of input) ≡ after_step site.new made.answer (map envelope_of made.sent.items)) }
     ensures refused { OnErr result (site_of site.new ≡ site_of site.old) }
     ensures memory { OnErr result (is_foreign site.old.sites site.old.me (input_of input) ≡ false → may_grow site.old.sites site.old.me (site_of site.old) (input_of input) ≡ true) }
     ensures seat { SameSeat site.old site.new }
 {
-    match site.step(input, outbox) {
-        Ok(answer) => Ok(answer),
+    match site.step_listed(input) {
+        Ok(made) => Ok(made),
         Err(error) => Err(given_up(error)),
     }
 }

@@ -21,12 +21,15 @@ const PAGE_BLOCKS: usize = 256;
 /// How often a hole is widened at most.
 const TRIES: usize = 2000;
 
-/// A world of two pages in which site 1 asked for the first one, and its manager, site 0, told itself to lend it: envelope 1 is on its
-/// way. Being a copy, it has no room to spare.
+/// A world of two pages in which site 1 asked for the first one, and its manager, site 0, told itself to lend it, and again at each of
+/// eight ticks: envelopes 1 to 9 are on their way. Being a copy, it has no room to spare: a map of nine is full.
 fn asked(heap: &LocalHeap) -> Result<World<&LocalHeap>, Fail> {
     let mut world = preset(heap, 2, 2)?;
     world.step(load(1, 0, 0))?;
     world.step(Deliver(0))?;
+    for _again in 0..8usize {
+        world.step(tick(0))?;
+    }
     Ok(world.copy()?)
 }
 

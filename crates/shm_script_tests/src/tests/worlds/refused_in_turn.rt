@@ -50,8 +50,7 @@ fn refusals<'a>(
     Err(Fail::new("an event was never made"))
 }
 
-/// The event is refused in turn and is then told so. One that sends something is refused once at least. Before it the world becomes a
-/// copy, which has no room to spare.
+/// How often the event is refused in turn before it is told so. Before it the world becomes a copy, which has little room to spare.
 fn refuse<'a>(
     rt: &impl Abort,
     alloc: Global,
@@ -59,17 +58,16 @@ fn refuse<'a>(
     world: &mut World<&'a LocalHeap>,
     (number, event): (u64, &Event),
     told: &[u8],
-) -> Result<(), Fail> {
+) -> Result<usize, Fail> {
     let sent = world.sent();
     *world = world.copy()?;
     let (tries, answer) = refusals(rt, alloc, heap, world, event)?;
     let line = print_answer(heap, number, &answer, world, sent)?;
     assert_eq!(rt; line.as_slice(), told, "{event:?}");
-    assert!(rt; tries > 0 || world.sent() == sent, "{event:?}");
-    Ok(())
+    Ok(tries)
 }
 
-/// The same of each event of the script.
+/// Each event of the script is refused in turn and is then told so; some of them are refused.
 fn refuse_each<'a>(
     rt: &impl Abort,
     alloc: Global,
@@ -79,11 +77,14 @@ fn refuse_each<'a>(
 ) -> Result<(), Fail> {
     let told = script.text.split_inclusive(is_line_feed);
     let lines = script.input.split(is_line_feed);
+    let mut refused = 0usize;
     'lines: for (number, (line, told)) in (1..script.lines.saturating_add(1)).zip(lines.zip(told)) {
         if let Ok(Line::Event(event)) = parse_line(line) {
-            refuse(rt, alloc, heap, world, (number, &event), told)?;
+            let tries = refuse(rt, alloc, heap, world, (number, &event), told)?;
+            refused = refused.saturating_add(tries);
         }
     }
+    assert!(rt; refused > 0, "no event was refused");
     Ok(())
 }
 

@@ -1,10 +1,11 @@
-use Rattle.std.specs.Prelude.{◌≡◌, ◌++◌, map}
+use Rattle.std.specs.Prelude.{◌+◌, ◌≤◌, map}
 use Rattle.std.specs.List.{range_with_len}
 use Rattle.shm_model.specs.SegmentCalls.{purge_envelope}
+use Rattle.shm_site.specs.Site.{Told}
 use Rattle.shm_site.proofs.serving.send_purges.Given as goal
 
 abbrev pub invariant-sites : goal.invariant-sites
 invariant-sites g l = record {
-  sent : l.outbox.sent ≡ l.initial.outbox.sent ++ map (purge_envelope l.me l.id) (range_with_len 0 l.to);
-  room : l.outbox.room ≡ l.initial.outbox.room;
+  sent : Told g.O.Outbox.posted l.initial.outbox l.outbox (map (purge_envelope l.me l.id) (range_with_len 0 l.to));
+  room : 16 ≤ g.O.Outbox.room l.outbox + l.to;
 }

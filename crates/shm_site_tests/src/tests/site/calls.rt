@@ -1,8 +1,8 @@
 //! Segment calls of a single site, which is their home.
-use super::{Given, expect, new_site, preset_site, run};
+use super::{Given, Sent, expect, new_site, preset_site, run};
 use shm_model::{Attached, Cred, GetFlags, Mode, Op, Reply, Request};
 use shm_place::{Key, SegId};
-use shm_site::{Answer, Outbox, Site};
+use shm_site::{Answer, Site};
 use std::alloc::Allocator;
 use std::process::Abort;
 use std::test::Fail;
@@ -68,7 +68,7 @@ const FULL: [(Given, Answer); 9] = [
 #[test]
 fn sixty_four_attachments_are_most(rt: HostRuntime) -> Result<(), Fail> {
     let mut site = preset_site(rt.alloc(), 1, 0)?;
-    let mut outbox = Outbox::new(rt.alloc());
+    let mut outbox = Vec::new(rt.alloc());
     attach_all(&rt, &mut site, &mut outbox);
     run(&rt, &mut site, &mut outbox, &FULL);
     let freed = [(Given::Last, Answer::Took), (Given::Last, attached(65, 17))];
@@ -79,7 +79,7 @@ fn sixty_four_attachments_are_most(rt: HostRuntime) -> Result<(), Fail> {
 }
 
 /// Attaches segment 0 sixty-three times more: call and attachment have the same number.
-fn attach_all<A: Allocator + Copy>(rt: &impl Abort, site: &mut Site<A>, outbox: &mut Outbox<A>) {
+fn attach_all<A: Allocator + Copy>(rt: &impl Abort, site: &mut Site<A>, outbox: &mut Sent<A>) {
     'attachments: for number in 1..64 {
         let call = number as u64;
         let inputs = [
@@ -104,7 +104,7 @@ const AFTER_RESTART: [(Given, Answer); 6] = [
 #[test]
 fn a_call_outlives_a_restart(rt: HostRuntime) -> Result<(), Fail> {
     let mut site = new_site(rt.alloc())?;
-    let mut outbox = Outbox::new(rt.alloc());
+    let mut outbox = Vec::new(rt.alloc());
     run(&rt, &mut site, &mut outbox, &[(GET, Answer::Began(1))]);
     outbox.clear();
     run(&rt, &mut site, &mut outbox, &AFTER_RESTART);

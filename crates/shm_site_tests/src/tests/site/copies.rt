@@ -1,7 +1,7 @@
 //! Copies of sites.
-use super::{Given, Told, expect, look, preset_site, run};
+use super::{Given, Sent, Told, expect, look, preset_site, run};
 use shm_model::Kind;
-use shm_site::{Answer, Outbox, Site};
+use shm_site::{Answer, Site};
 use std::alloc::{AllocError, Allocator};
 use std::process::Abort;
 use std::test::Fail;
@@ -9,7 +9,7 @@ use std::test::Fail;
 #[test]
 fn a_copy_goes_on_alone(rt: HostRuntime) -> Result<(), Fail> {
     let mut site = preset_site(rt.alloc(), 1, 0)?;
-    let mut outbox = Outbox::new(rt.alloc());
+    let mut outbox = Vec::new(rt.alloc());
     let stored = [(Given::Store(4097, 7), Answer::Stored)];
     run(&rt, &mut site, &mut outbox, &stored);
     let copy = site.copy();
@@ -24,7 +24,7 @@ fn apart<A: Allocator + Copy>(
     rt: &impl Abort,
     site: &mut Site<A>,
     copy: Result<Site<A>, AllocError>,
-    outbox: &mut Outbox<A>,
+    outbox: &mut Sent<A>,
 ) {
     match copy {
         Ok(mut copy) => {

@@ -1,10 +1,10 @@
 //! Envelopes that can't be for the site, and proper ones that nobody waits for.
 use super::{
-    Given, Told, expect, expect_answer, framed_site, give, look, preset_site, run, run_at,
+    Given, Sent, Told, expect, expect_answer, framed_site, give, look, preset_site, run, run_at,
 };
 use shm_model::{Kind, Op, Reply};
 use shm_place::SegId;
-use shm_site::{Answer, Message, Outbox, Site, StepFault};
+use shm_site::{Answer, Message, Site, StepFault};
 use std::alloc::Allocator;
 use std::process::Abort;
 use std::test::Fail;
@@ -56,7 +56,7 @@ const IGNORED: [Given; 9] = [
 #[test]
 fn what_cannot_be_for_the_site_comes_back(rt: HostRuntime) -> Result<(), Fail> {
     let mut site = preset_site(rt.alloc(), 2, 1)?;
-    let mut outbox = Outbox::new(rt.alloc());
+    let mut outbox = Vec::new(rt.alloc());
     unchanged(&rt, &mut site, &mut outbox, &FOREIGN, true);
     drop(outbox);
     drop(site);
@@ -66,7 +66,7 @@ fn what_cannot_be_for_the_site_comes_back(rt: HostRuntime) -> Result<(), Fail> {
 #[test]
 fn what_nobody_waits_for_is_dropped(rt: HostRuntime) -> Result<(), Fail> {
     let mut site = preset_site(rt.alloc(), 2, 1)?;
-    let mut outbox = Outbox::new(rt.alloc());
+    let mut outbox = Vec::new(rt.alloc());
     unchanged(&rt, &mut site, &mut outbox, &IGNORED, false);
     drop(outbox);
     drop(site);
@@ -77,7 +77,7 @@ fn what_nobody_waits_for_is_dropped(rt: HostRuntime) -> Result<(), Fail> {
 fn unchanged<A: Allocator + Copy>(
     rt: &impl Abort,
     site: &mut Site<A>,
-    outbox: &mut Outbox<A>,
+    outbox: &mut Sent<A>,
     envelopes: &[Given],
     foreign: bool,
 ) {
@@ -123,7 +123,7 @@ const TAKEN: [(Given, Answer); 5] = [
 #[test]
 fn bytes_that_nobody_asked_for_are_taken(rt: HostRuntime) -> Result<(), Fail> {
     let mut site = framed_site(rt.alloc())?;
-    let mut outbox = Outbox::new(rt.alloc());
+    let mut outbox = Vec::new(rt.alloc());
     run_at(&rt, preset_site(rt.alloc(), 2, 0), &mut outbox, &LENT);
     rename(&mut outbox, NOWHERE);
     let foreign = give(&mut site, &mut outbox, &Given::Last);
@@ -136,11 +136,11 @@ fn bytes_that_nobody_asked_for_are_taken(rt: HostRuntime) -> Result<(), Fail> {
 }
 
 /// The last envelope's bytes are said to be those of another page.
-fn rename<A: Allocator + Copy>(outbox: &mut Outbox<A>, index: u32) {
+fn rename<A: Allocator + Copy>(outbox: &mut Sent<A>, index: u32) {
     if let Some(mut envelope) = outbox.pop() {
-        if let Message::Page { page, .. } = &mut envelope.message {
+        if let Message::Of { page, .. } = &mut envelope.message {
             page.index = index;
         }
-        let _ = outbox.try_push(envelope);
+        let _ = outbox.push(envelope);
     }
 }

@@ -1,10 +1,10 @@
 //! Steps that memory is refused to, and steps that take none.
-use super::{Given, Told, expect, give, look, preset_site, run, run_at};
+use super::{Given, Sent, Told, expect, give, look, preset_site, run, run_at};
 use crate::tests::full_heap::{Blocks, fill};
 use linked_list_allocator::LocalHeap;
 use shm_model::{Attached, Cred, GetFlags, Kind, Mode, Op, Reply, Request};
 use shm_place::{Key, SegId};
-use shm_site::{Answer, Outbox, Site, StepFault};
+use shm_site::{Answer, Site, StepFault};
 use std::process::Abort;
 use std::test::Fail;
 
@@ -108,7 +108,7 @@ fn frugal<'a>(
     blocks: &mut Blocks<'a>,
 ) {
     expect(rt, fill(heap, blocks).is_ok());
-    let mut outbox = Outbox::new(heap);
+    let mut outbox = Vec::new(heap);
     run(rt, site, &mut outbox, &FRUGAL);
     drop(outbox);
 }
@@ -123,7 +123,7 @@ fn refused_first<'a>(
     answer: Answer,
 ) {
     expect(rt, fill(heap, blocks).is_ok());
-    let mut outbox = Outbox::new(heap);
+    let mut outbox = Vec::new(heap);
     let made = widened(rt, site, &mut outbox, blocks, given);
     expect(rt, made == Some(answer));
     drop(outbox);
@@ -133,7 +133,7 @@ fn refused_first<'a>(
 fn widened<'a>(
     rt: &impl Abort,
     site: &mut Site<&'a LocalHeap>,
-    outbox: &mut Outbox<&'a LocalHeap>,
+    outbox: &mut Sent<&'a LocalHeap>,
     blocks: &mut Blocks<'a>,
     given: &Given,
 ) -> Option<Answer> {
@@ -169,7 +169,7 @@ const OWNED: [(Given, Answer); 2] = [
 fn a_page_is_refused_until_there_is_room(rt: HostRuntime) -> Result<(), Fail> {
     let heap = LocalHeap::new(rt.alloc(), 1 << 16)?;
     let mut site = preset_site(&heap, 2, 0)?;
-    let mut outbox = Outbox::new(&heap);
+    let mut outbox = Vec::new(&heap);
     run_at(&rt, preset_site(&heap, 2, 1), &mut outbox, &HANDED);
     let mut blocks = Vec::new(rt.alloc());
     expect(&rt, fill(&heap, &mut blocks).is_ok());

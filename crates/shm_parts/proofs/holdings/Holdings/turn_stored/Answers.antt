@@ -3,7 +3,8 @@ use Rattle.shm_place.specs.declared.page.PageId.{PageId}
 use Rattle.shm_model.specs.Site.{untouched}
 use Rattle.shm_attach.specs.Attachments.{attachments_of}
 use Rattle.shm_page.specs.Out.{out_of}
-use Rattle.shm_parts.specs.Entries.{entries_of, note_of}
+use Rattle.shm_parts.specs.Entries.{entries_of}
+use Rattle.shm_parts.specs.Message.{note_of}
 use Rattle.shm_parts.specs.Holdings.{held_frames, with_holdings}
 use Rattle.shm_parts.specs.Purged.{purged_of}
 use Rattle.shm_parts.proofs.Held.{Pages, masked, site_of}
@@ -26,7 +27,7 @@ pub returns-then-is_nothing-clause-step : goal.returns-then-is_nothing-clause-st
 returns-then-is_nothing-clause-step g c = λ sites site.
     let held = c.args.self.now in
     let rest = untouched sites c.args.me in
-    turned_quiet sites c.args.me c.args.page.now (note_of c.args.turn) (entries_of rest held.entries) (entries_of rest c.turn.new.self)
+    turned_quiet sites c.args.me c.args.page.now (note_of c.args.note) (entries_of rest held.entries) (entries_of rest c.turn.new.self)
     (attachments_of held.attachments) (purged_of held.purged) (held_frames held.frames) (out_of c.in-Ok.turned.0) c.in-Ok.turned.1 site
     c.requires.alive c.if-is_nothing.ensures (c.in-Ok.ensures.out rest) (c.in-Ok.ensures.after rest)
 
@@ -38,7 +39,7 @@ pub returns-clause-step : goal.returns-clause-step
 returns-clause-step g c = λ sites site.
     let held = c.args.self.now in
     let rest = untouched sites c.args.me in
-    turned_sent sites c.args.me c.args.page.now (note_of c.args.turn) (entries_of rest held.entries) (entries_of rest c.turn.new.self)
+    turned_sent sites c.args.me c.args.page.now (note_of c.args.note) (entries_of rest held.entries) (entries_of rest c.turn.new.self)
     (attachments_of held.attachments) (purged_of held.purged) (held_frames held.frames) (out_of c.in-Ok.turned.0) c.in-Ok.turned.1
     (with_holdings sites c.args.me c.arrange.new.self) site
     c.requires.alive c.if-is_nothing.ensures (c.in-Ok.ensures.out rest) (c.in-Ok.ensures.change rest) (c.in-Ok.ensures.after rest)

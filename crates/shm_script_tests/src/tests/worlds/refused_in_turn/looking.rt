@@ -1,6 +1,6 @@
 //! All that can be seen of a world: its sites, its books, and the envelopes that are on their way.
 use shm_model::{Kind, Op, Reply};
-use shm_parts::{Envelope, Grant, Message};
+use shm_parts::{Envelope, Message, Note};
 use shm_place::{MAX_SITES, PageId, SegId, SiteId};
 use shm_world::{Access, BookView, Shown, World};
 use std::alloc::{AllocError, Allocator, Global};
@@ -123,21 +123,7 @@ fn envelope_of<A: Allocator + Copy>(envelope: &Envelope<A>) -> SeenEnvelope {
 
 fn message_of<A: Allocator + Copy>(message: &Message<A>) -> SeenMessage {
     match message {
-        &Message::Ask {
-            page,
-            request,
-            kind,
-        } => SeenMessage::Ask(page, request, kind),
-        &Message::Clear { page, number } => SeenMessage::Clear(page, number),
-        &Message::Cleared { page, number } => SeenMessage::Cleared(page, number),
-        &Message::Hand {
-            page,
-            number,
-            kind,
-            to,
-        } => SeenMessage::Hand(page, number, kind, to),
-        Message::Page { page, grant } => page_of(*page, grant),
-        &Message::Confirm { page, number } => SeenMessage::Confirm(page, number),
+        Message::Of { page, note } => note_of(*page, note),
         &Message::Call { number, op } => SeenMessage::Call(number, op),
         &Message::Reply { number, reply } => SeenMessage::Reply(number, reply),
         &Message::Purge { id } => SeenMessage::Purge(id),
@@ -145,14 +131,19 @@ fn message_of<A: Allocator + Copy>(message: &Message<A>) -> SeenMessage {
     }
 }
 
-fn page_of<A: Allocator + Copy>(page: PageId, grant: &Grant<A>) -> SeenMessage {
-    match grant {
-        Grant::Read(grant) => {
+fn note_of<A: Allocator + Copy>(page: PageId, note: &Note<A>) -> SeenMessage {
+    match note {
+        &Note::Ask { request, kind } => SeenMessage::Ask(page, request, kind),
+        &Note::Clear(number) => SeenMessage::Clear(page, number),
+        &Note::Cleared(number) => SeenMessage::Cleared(page, number),
+        &Note::Hand { number, kind, to } => SeenMessage::Hand(page, number, kind, to),
+        Note::Read(grant) => {
             SeenMessage::Page(page, grant.number(), Kind::Read, sum(grant.bytes()))
         }
-        Grant::Write(grant) => {
+        Note::Write(grant) => {
             SeenMessage::Page(page, grant.number(), Kind::Write, sum(grant.bytes()))
         }
+        &Note::Confirm(number) => SeenMessage::Confirm(page, number),
     }
 }
 

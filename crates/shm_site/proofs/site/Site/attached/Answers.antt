@@ -3,7 +3,8 @@ use Rattle.shm_model.specs.Calls.{Attachment}
 use Rattle.shm_model.specs.declared.call.Reply.TheVariants.{Attached as AttachedReply}
 use Rattle.shm_parts.specs.Holdings.{with_holdings}
 use Rattle.shm_site.specs.Site.{site_of}
-use Rattle.shm_site.proofs.CallSteps.{attached_none, attached_some, on_err}
+use Rattle.shm_site.proofs.CallSteps.{attached_none, attached_some}
+use Rattle.shm_site.proofs.Steps.{on_err}
 use Rattle.shm_site.proofs.site.Site.attached.Goals as goal
 
 pub returns-in_err-attachment-clause-refused : goal.returns-in_err-attachment-clause-refused

@@ -1,12 +1,13 @@
-use Rattle.std.proofs.Common.{◌≡◌, ◌∙◌, Ok, IfOk, OnErr, ap, subst, sym}
+use Rattle.std.proofs.Common.{◌≡◌, ◌∙◌, Ok, OnErr, ap, refl, subst, sym}
+use Rattle.std.proofs.lemmas.Result.{on_err_weaker}
 use Rattle.shm_model.specs.Access.{ask_for, store}
 use Rattle.shm_model.specs.Site.{Step, still}
 use Rattle.shm_model.specs.Site as model
-use Rattle.shm_model.specs.declared.answer.Answer.TheVariants.{Fault, Refused, Stored}
+use Rattle.shm_model.specs.declared.answer.Answer.TheVariants.{Fault, Refused}
 use Rattle.shm_model.specs.declared.kind.Kind.TheVariants.{Write}
 use Rattle.shm_parts.specs.Holdings.{kept_step, with_holdings}
-use Rattle.shm_site.specs.Site.{sent_after, site_of, stepped}
-use Rattle.shm_site.proofs.Steps.{told_still}
+use Rattle.shm_site.specs.Site.{site_of}
+use Rattle.shm_site.proofs.Steps.{if_steps, quietly}
 use Rattle.shm_site.proofs.Stores.{store_stays}
 use Rattle.shm_site.proofs.site.Site.store.Goals as goal
 
@@ -14,9 +15,8 @@ pub returns-in-Ok-Stored-clause-step : goal.returns-in-Ok-Stored-clause-step
 returns-in-Ok-Stored-clause-step g c =
     let old = c.args.self.now in
     let new : model.Site = with_holdings old.sites old.me c.store.new.self (site_of old) in
-    told_still c.args.outbox.now.sent (store old.sites old.me c.args.at c.args.offset c.args.byte (site_of old)) (kept_step old.sites old.me c.store.result new) Stored new
-    (c.store.ensures old.sites old.me (site_of old))
-    (ap (λ r. kept_step old.sites old.me r new) (c.in-Ok-Stored.is ∙ ap Ok c.in-Ok-Stored.field-0-is))
+    quietly (g.O.Outbox.nothing c.args.outbox.now) (refl, refl)
+    (c.store.ensures old.sites old.me (site_of old) ∙ ap (λ r. kept_step old.sites old.me r new) (c.in-Ok-Stored.is ∙ ap Ok c.in-Ok-Stored.field-0-is))
 
 absent : (g : _) (c : goal.After-ask_for g) (site : model.Site) → store c.args.self.now.sites c.args.self.now.me c.args.at c.args.offset c.args.byte (with_holdings c.args.self.now.sites c.args.self.now.me c.args.self.now.holdings site) ≡ ask_for c.args.self.now.sites c.args.self.now.me Write c.in-Ok-Absent.page (with_holdings c.args.self.now.sites c.args.self.now.me c.store.new.self site)
 absent g c site =
@@ -25,15 +25,13 @@ absent g c site =
 
 pub returns-in-Ok-Absent-clause-step : goal.returns-in-Ok-Absent-clause-step
 returns-in-Ok-Absent-clause-step g c =
-    subst (λ (step : Step). IfOk c.ask_for.result (λ answer. sent_after c.args.outbox.now.sent step ≡ stepped c.ask_for.new.self answer c.ask_for.new.outbox.sent))
-    (sym (absent g c (site_of c.args.self.now))) c.ask_for.ensures.step
+    if_steps g.O.Outbox.posted c.args.self.now _ c.ask_for.new.self c.args.outbox.now c.ask_for.new.outbox _ _ c.ask_for.result (absent g c (site_of c.args.self.now)) c.ask_for.ensures.step (refl, refl)
 
 pub returns-in-Ok-Absent-clause-refused : goal.returns-in-Ok-Absent-clause-refused
 returns-in-Ok-Absent-clause-refused g c =
     let old = c.args.self.now in
-    subst (λ (site : model.Site). OnErr c.ask_for.result ((site_of c.ask_for.new.self ≡ site) × (c.ask_for.new.outbox.sent ≡ c.args.outbox.now.sent)))
-    (sym (store_stays old.sites old.me c.args.at c.args.offset c.args.byte c.in-Ok-Absent.page old.holdings c.store.new.self (absent g c) (site_of old)))
-    c.ask_for.ensures.refused
+    let same = store_stays old.sites old.me c.args.at c.args.offset c.args.byte c.in-Ok-Absent.page old.holdings c.store.new.self (absent g c) (site_of old) in
+    on_err_weaker c.ask_for.result (λ kept. record { site = kept.site ∙ sym same; behind = kept.behind; seat = kept.seat }) c.ask_for.ensures.refused
 
 pub returns-in-Ok-Absent-clause-memory : goal.returns-in-Ok-Absent-clause-memory
 returns-in-Ok-Absent-clause-memory g c =
@@ -43,6 +41,5 @@ pub returns-in-Err-clause-step : goal.returns-in-Err-clause-step
 returns-in-Err-clause-step g c =
     let old = c.args.self.now in
     let new : model.Site = with_holdings old.sites old.me c.store.new.self (site_of old) in
-    told_still c.args.outbox.now.sent (store old.sites old.me c.args.at c.args.offset c.args.byte (site_of old)) (kept_step old.sites old.me c.store.result new) (Refused c.number.result) new
-    (c.store.ensures old.sites old.me (site_of old))
-    (ap (λ r. kept_step old.sites old.me r new) c.in-Err.is ∙ ap (λ n. still (Refused n) new) (sym c.number.ensures))
+    quietly (g.O.Outbox.nothing c.args.outbox.now) (refl, refl)
+    (c.store.ensures old.sites old.me (site_of old) ∙ ap (λ r. kept_step old.sites old.me r new) c.in-Err.is ∙ ap (λ n. still (Refused n) new) (sym c.number.ensures))

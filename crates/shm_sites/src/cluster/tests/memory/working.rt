@@ -4,7 +4,7 @@ use crate::boxes::{Envelope, Input, SiteBox, Stamp};
 use crate::cluster::work::taken;
 use linked_list_allocator::LocalHeap;
 use shm_model::Kind;
-use shm_parts::Message;
+use shm_parts::{Message, Note};
 use shm_place::{PageId, SegId, SiteId, Sites};
 use std::alloc::{AllocError, Allocator, Global};
 use std::test::Fail;
@@ -57,13 +57,15 @@ fn asking<A: Allocator + Copy>() -> Input<A> {
     Input::Deliver(Envelope {
         from: SiteId(1),
         to: SiteId(0),
-        message: Message::Ask {
+        message: Message::Of {
             page: PageId {
                 seg: SegId(0),
                 index: 0,
             },
-            request: 1,
-            kind: Kind::Read,
+            note: Note::Ask {
+                request: 1,
+                kind: Kind::Read,
+            },
         },
     })
 }

@@ -2,8 +2,9 @@ use Rattle.std.proofs.Common.{◌≡◌, false, true, IfErr, IsOk, length, refl,
 use Rattle.std.proofs.lemmas.Option.{slice_get_read}
 use Rattle.std.proofs.lemmas.Result.{IfOk-weaker, on_err_weaker}
 use Rattle.shm_model.specs.Step.{step}
+use Rattle.shm_site.specs.Site.{site_of}
 use Rattle.shm_site.specs.Step.{fault_of, input_of, is_foreign, may_grow}
-use Rattle.shm_world.proofs.Seats.{if_err-weaker, in-seat, made-there, seated-set, seen-in-seat, seen-same}
+use Rattle.shm_world.proofs.Seats.{if_err-weaker, in-seat, made-there, seat-kept, seated-set, seen-in-seat, seen-same}
 use Rattle.shm_world.proofs.members.Members.step.Goals as goal
 
 pub invariant_of-self-clause-seats : goal.invariant_of-self-clause-seats
@@ -11,7 +12,9 @@ invariant_of-self-clause-seats g c =
     let is : c.site.inside.0 ≡ c.args.site = omega arith in
     let sites = c.args.self.now.sites.items in
     let there = slice_get_read sites (length sites) c.site.inside.0 c.index_mut.result.now refl (omega arith) c.index_mut.ensures.value in
-    seated-set c.args.self.now.count sites c.site.inside.0 c.index_mut.result.now c.step.new.self c.args.self.now.seats there c.step.ensures.seat
+    let was = c.index_mut.result.now in
+    seated-set c.args.self.now.count sites c.site.inside.0 was c.step.new.self c.args.self.now.seats there
+    (seat-kept g.O.Outbox.posted was c.step.new.self c.args.outbox.now c.step.new.outbox c.step.result (step was.sites was.me (site_of was) (input_of c.args.input)) c.step.ensures.step c.step.ensures.refused)
 
 pub returns-clause-step : goal.returns-clause-step
 returns-clause-step g c =
@@ -19,7 +22,7 @@ returns-clause-step g c =
     let sites = c.args.self.now.sites.items in
     let there = slice_get_read sites (length sites) c.site.inside.0 c.index_mut.result.now refl (omega arith) c.index_mut.ensures.value in
     IfOk-weaker c.step.result _ _
-    (λ answer e. made-there c.args.self.now _ c.site.inside.0 c.args.site c.index_mut.result.now c.step.new.self c.args.outbox.now.sent c.step.new.outbox.sent answer (λ n m x. step n m x (input_of c.args.input)) is there refl e)
+    (λ answer e. made-there g.O.Outbox.posted c.args.self.now _ c.site.inside.0 c.args.site c.index_mut.result.now c.step.new.self c.args.outbox.now c.step.new.outbox answer (λ n m x. step n m x (input_of c.args.input)) is there refl e)
     c.step.ensures.step
 
 pub returns-clause-taken : goal.returns-clause-taken
@@ -50,4 +53,4 @@ returns-clause-refused g c =
     let is : c.site.inside.0 ≡ c.args.site = omega arith in
     let sites = c.args.self.now.sites.items in
     let there = slice_get_read sites (length sites) c.site.inside.0 c.index_mut.result.now refl (omega arith) c.index_mut.ensures.value in
-    on_err_weaker c.step.result (λ same. (seen-same sites c.site.inside.0 c.index_mut.result.now c.step.new.self there same.0, same.1)) c.step.ensures.refused
+    on_err_weaker c.step.result (λ same. (seen-same sites c.site.inside.0 c.index_mut.result.now c.step.new.self there same.site, same.behind)) c.step.ensures.refused

@@ -1,4 +1,4 @@
-use Rattle.shm_world.proofs.Envelopes.{still_stands}
+use Rattle.shm_world.proofs.Steps.{still_stands}
 use Rattle.shm_world.proofs.world.World.copy.Goals as goal
 
 pub returns : goal.returns

@@ -1,14 +1,40 @@
-use Rattle.std.proofs.Common.{◌∙◌, ap, refl}
-use Rattle.shm_site.specs.Step.{is_refused}
-use Rattle.shm_world.proofs.Envelopes.{same_answer, turned_back}
-use Rattle.shm_world.proofs.Steps.{on_err}
+use Rattle.std.proofs.Common.{◌∙◌, Some, ap, refl, sym}
+use Rattle.shm_model.specs.World.{without}
+use Rattle.shm_parts.specs.Message.{envelope_of}
+use Rattle.shm_world.proofs.Envelopes.{delivered, delivers, missed, put_back, taken}
+use Rattle.shm_world.proofs.Steps.{still_stands}
 use Rattle.shm_world.proofs.world.World.deliver.Goals as goal
 
-pub returns-in-Some-clause-step : goal.returns-in-Some-clause-step
-returns-in-Some-clause-step g c = λ w stands.
-    turned_back c.args.self.now _ w c.args.number c.take.result c.in-Some.answer (c.take.ensures.envelope ∙ stands.carries.live c.args.number) stands refl refl
-    c.take.ensures.after c.take.ensures.missing (c.in-Some.ensures.refused w stands)
+pub returns-in_default-clause-step : goal.returns-in_default-clause-step
+returns-in_default-clause-step g c = λ w stands.
+    missed _ w c.args.number (c.in_default.ensures.envelope ∙ stands.carries.live c.args.number)
+    (still_stands c.args.self.now _ w stands refl refl (c.in_default.ensures.missing w.sent w.gone stands.carries))
 
-pub returns-clause-memory : goal.returns-clause-memory
-returns-clause-memory g c = λ w stands.
-    on_err c.deliver_admitted.result _ (ap (λ a. is_refused a) (same_answer w c.args.number) ∙ c.in_default.ensures.admitted w stands)
+pub returns-in-Ok-clause-step : goal.returns-in-Ok-clause-step
+returns-in-Ok-clause-step g c = λ w stands.
+    let old = c.args.self.now in
+    let number = c.args.number in
+    let e = envelope_of c.in-Some.envelope in
+    let live = c.in-Some.ensures.envelope ∙ stands.carries.live number in
+    let kept = taken old _ w number e (sym live) stands refl refl (c.in-Some.ensures.after w.sent w.gone stands.carries) in
+    delivered c.hand.new.self _ w number e c.in-Ok.answer c.lose.result live (c.in-Ok.ensures.step (without w number) kept) refl refl c.lose.ensures.was c.lose.ensures.missing
+
+pub returns-in-Err-clause-refused : goal.returns-in-Err-clause-refused
+returns-in-Err-clause-refused g c = λ w stands.
+    let old = c.args.self.now in
+    let number = c.args.number in
+    let e = envelope_of c.in-Some.envelope in
+    let live = c.in-Some.ensures.envelope ∙ stands.carries.live number in
+    let kept = taken old _ w number e (sym live) stands refl refl (c.in-Some.ensures.after w.sent w.gone stands.carries) in
+    put_back c.hand.new.self _ w number e live (c.in-Err.ensures.refused (without w number) kept) refl refl
+    (λ sent gone had here is. c.put_back.ensures sent gone had here (is ∙ ap (λ x. Some x) (sym c.in-Err.ensures.back)))
+    stands.unsent
+
+pub returns-in-Err-clause-memory : goal.returns-in-Err-clause-memory
+returns-in-Err-clause-memory g c = λ w stands.
+    let old = c.args.self.now in
+    let number = c.args.number in
+    let e = envelope_of c.in-Some.envelope in
+    let live = c.in-Some.ensures.envelope ∙ stands.carries.live number in
+    let kept = taken old _ w number e (sym live) stands refl refl (c.in-Some.ensures.after w.sent w.gone stands.carries) in
+    delivers w number e live (c.in-Err.ensures.memory (without w number) kept)

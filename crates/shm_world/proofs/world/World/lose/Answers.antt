@@ -1,8 +1,16 @@
-use Rattle.std.proofs.Common.{◌∙◌, refl}
-use Rattle.shm_world.proofs.Envelopes.{lost}
+use Rattle.std.proofs.Common.{◌∙◌, refl, sym}
+use Rattle.shm_world.specs.Network.{on_way}
+use Rattle.shm_world.proofs.Envelopes.{lost, not_lost}
+use Rattle.shm_world.proofs.Steps.{still_stands}
 use Rattle.shm_world.proofs.world.World.lose.Goals as goal
 
-pub returns : goal.returns
-returns g c = λ w stands.
-    lost c.args.self.now _ w c.args.number c.take.result c.lost.result (c.take.ensures.envelope ∙ stands.carries.live c.args.number) stands refl refl
-    (c.take.ensures.after w.sent w.gone stands.carries) c.take.ensures.missing (c.lost.ensures w c.args.number)
+pub returns-then-lose : goal.returns-then-lose
+returns-then-lose g c = λ w stands.
+    let old = c.args.self.now in
+    lost old _ w c.args.number (on_way old.network c.args.number) (stands.carries.live c.args.number) (sym c.lose.ensures.was ∙ c.if-lose.true) stands refl refl (c.lose.ensures.after w.sent w.gone stands.carries)
+
+pub returns-else-lose : goal.returns-else-lose
+returns-else-lose g c = λ w stands.
+    let old = c.args.self.now in
+    not_lost _ w c.args.number (on_way old.network c.args.number) (stands.carries.live c.args.number) (sym c.lose.ensures.was ∙ c.if-lose.false)
+    (still_stands old _ w stands refl refl (c.lose.ensures.missing c.if-lose.false w.sent w.gone stands.carries))

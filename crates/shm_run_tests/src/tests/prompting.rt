@@ -1,0 +1,262 @@
+//! Dialogs of the prompt: typed line by line, saved and replayed, and with streams and memory that fail.
+use super::pieces::{Giver, NEVER, Taker};
+use linked_list_allocator::LocalHeap;
+use shm_debug::replay;
+use shm_prompt::{PromptFault, SaveFile, prompt};
+use std::alloc::Global;
+use std::cell::Cell;
+use std::io::{self, ErrorKind, Read, Write};
+use std::test::Fail;
+
+/// The file that was saved last, if one was.
+#[derive(Drop)]
+struct Shelf {
+    saved: Option<Vec<u8>>,
+    alloc: Global,
+}
+
+impl SaveFile for Shelf {
+    fn save(&mut self, name: &str, bytes: &[u8]) -> io::Result<()> {
+        if name == "full" {
+            return Err(io::Error::from(ErrorKind::Other));
+        }
+        self.saved = Some(bytes.to_vec(self.alloc)?);
+        Ok(())
+    }
+}
+
+fn empty_shelf(alloc: Global) -> Shelf {
+    Shelf { saved: None, alloc }
+}
+
+/// What a reader and a writer both see.
+#[derive(Drop)]
+struct Seen {
+    /// How many bytes were taken before the last flush.
+    flushed: Cell<usize>,
+    reads: Cell<usize>,
+    /// The reads before which some text was missing, or text came too early.
+    wrong: Cell<usize>,
+}
+
+fn count(cell: &Cell<usize>) {
+    cell.set(cell.get().saturating_add(1));
+}
+
+/// Gives a line a read. At each read it looks whether the text of the lines that were given was flushed: it has a mark for each read.
+#[derive(Drop)]
+struct Typing<'a> {
+    rest: &'a [u8],
+    text: &'a [u8],
+    seen: &'a Seen,
+}
+
+impl Typing<'_> {
+    fn look(&self) {
+        let told = up_to_mark(self.text, self.seen.reads.get());
+        if self.seen.flushed.get() != told.len() {
+            count(&self.seen.wrong);
+        }
+        count(&self.seen.reads);
+    }
+}
+
+impl Read for Typing<'_> {
+    fn read(&mut self, buf: &mut [u8]) -> io::Result<usize> {
+        self.look();
+        let line = first_line(self.rest).min(buf.len());
+        let count = line.min(self.rest.len());
+        buf[..count].copy_from_slice(&self.rest[..count]);
+        self.rest = &self.rest[count..];
+        Ok(count)
+    }
+}
+
+/// How many bytes the first line has, its line feed among them.
+fn first_line(text: &[u8]) -> usize {
+    for (at, byte) in text.iter().enumerate() {
+        if *byte == b'\n' {
+            return at.saturating_add(1);
+        }
+    }
+    text.len()
+}
+
+/// The text to the end of the mark that follows so many marks. A mark is a `>` before a blank.
+fn up_to_mark(text: &[u8], marks: usize) -> &[u8] {
+    let mut left = marks;
+    let mut before = b' ';
+    for (at, byte) in text.iter().enumerate() {
+        if before == b'>' && *byte == b' ' {
+            if left == 0 {
+                return &text[..=at];
+            }
+            left -= 1;
+        }
+        before = *byte;
+    }
+    text
+}
+
+/// Takes all that is written, and tells at each flush how much that is.
+#[derive(Drop)]
+struct Screen<'a> {
+    text: Vec<u8>,
+    seen: &'a Seen,
+}
+
+impl Write for Screen<'_> {
+    fn write(&mut self, buf: &[u8]) -> io::Result<usize> {
+        match self.text.extend_from_slice(buf) {
+            Ok(()) => Ok(buf.len()),
+            Err(_) => Err(io::Error::from(ErrorKind::OutOfMemory)),
+        }
+    }
+
+    fn flush(&mut self) -> io::Result<()> {
+        self.seen.flushed.set(self.text.len());
+        Ok(())
+    }
+}
+
+const TYPED: &[u8] =
+    b"load 1 0 0\nsites 2 preset 1\nload 1 0 0\nflight\nloud\nstore 0 0 x 1\nrun 1\nrun\nsites\nsegments\nundo\nquit\n";
+
+const TOLD: &str = "> no sites stand yet: begin with a line as sites 2 preset 1
+> 1 ready
+> 2 fault m0>0:Ask
+> m0 1>0 Ask page 0 0 request 1 to read
+> word 1, `loud`: expected a command; `help` lists them
+> word 4, `x`: expected the offset, a number from 0 to 4294967295
+> 3 took m1>0:Hand
+stopped at the bound of 1: more is on its way
+> 4 took m2>1:Page
+5 took m3>0:Confirm
+6 took
+nothing is on its way
+> page        site 0        site 1        manager
+0 0         OwnRead/1     Copy/1        0: owner 0 copies 1 t 1 idle
+> key        shmid      owner      perms      bytes      nattch     status
+0x00000000 0          0          666        4096       2          \n> 5 back 4\n> ";
+
+/// Each answer is written and flushed before the next line is read, and no more than it.
+#[test]
+fn each_line_is_answered_before_the_next(rt: HostRuntime) {
+    let seen = Seen {
+        flushed: Cell::new(0),
+        reads: Cell::new(0),
+        wrong: Cell::new(0),
+    };
+    let mut reader = Typing {
+        rest: TYPED,
+        text: TOLD.as_bytes(),
+        seen: &seen,
+    };
+    let mut writer = Screen {
+        text: Vec::new(rt.alloc()),
+        seen: &seen,
+    };
+    let mut files = empty_shelf(rt.alloc());
+    let result = prompt(rt.alloc(), true, &mut reader, &mut writer, &mut files);
+    assert_eq!(rt; result, Ok(()));
+    assert_eq!(rt; std::str::from_utf8(writer.text.as_slice()), Ok(TOLD));
+    assert_eq!(rt; seen.wrong.get(), 0);
+    assert_eq!(rt; seen.reads.get(), 12);
+}
+
+/// What is answered to bytes that are typed at once, and what is saved.
+fn typed(alloc: Global, bytes: &[u8]) -> (Result<(), PromptFault>, Vec<u8>, Shelf) {
+    let mut reader = bytes;
+    let mut text = Vec::new(alloc);
+    let mut files = empty_shelf(alloc);
+    let result = prompt(alloc, false, &mut reader, &mut text, &mut files);
+    (result, text, files)
+}
+
+const KEPT: &str = "sites 2 preset 1
+store 0 0 0 7
+load 1 0 0
+get 1 0 0 5 1 600 c
+deliver 0
+deliver 1
+deliver 2
+deliver 3
+deliver 4
+deliver 5
+load 1 0 0
+";
+
+/// What is saved replays to the answers that stand; what was taken back, shown and asked isn't in it.
+#[test]
+fn what_is_saved_replays(rt: HostRuntime) -> Result<(), Fail> {
+    let (result, _text, files) = typed(
+        rt.alloc(),
+        b"sites 3\nsites 2 preset 1\nstore 0 0 0 7\ntick 0\nundo\nload 1 0 0\nshow 0 0\nget 1 0 0 5 1 600 c\nsave full\nrun\nsave a b\nload 1 0 0\nsave a\n",
+    );
+    assert_eq!(rt; result, Ok(()));
+    let saved = files.saved.ok_or("a file")?;
+    assert_eq!(rt; std::str::from_utf8(saved.as_slice()), Ok(KEPT));
+    let mut script = saved.as_slice();
+    let mut text = Vec::new(rt.alloc());
+    let done = replay(rt.alloc(), &mut script, &mut text);
+    assert!(rt; done.is_ok());
+    assert!(rt; text.as_slice().ends_with(b"11 byte 7\n".as_slice()));
+    Ok(())
+}
+
+/// A writer that stops ends the dialog, and so does a reader that fails. The writer's call after each line is its flush.
+#[test]
+fn one_call_of_a_dialog_fails(rt: HostRuntime) -> Result<(), Fail> {
+    for calls in 0..8usize {
+        let mut writer = Taker {
+            text: Vec::new(rt.alloc()),
+            calls,
+            kind: None,
+        };
+        let mut reader = b"sites 2\n".as_slice();
+        let mut files = empty_shelf(rt.alloc());
+        let result = prompt(rt.alloc(), false, &mut reader, &mut writer, &mut files);
+        assert_eq!(rt; result, Err(PromptFault::WriteFault));
+        assert_eq!(rt;
+            writer.text.as_slice(),
+            &b"1 ready\n"[..calls.saturating_sub(1)]
+        );
+    }
+    for calls in 0..9usize {
+        let mut reader = Giver {
+            rest: b"sites 2\n".as_slice(),
+            calls,
+            kind: ErrorKind::Other,
+        };
+        let mut text = Vec::new(rt.alloc());
+        let mut files = empty_shelf(rt.alloc());
+        let result = prompt(rt.alloc(), false, &mut reader, &mut text, &mut files);
+        assert_eq!(rt; result, Err(PromptFault::ReadFault));
+    }
+    Ok(())
+}
+
+/// Whatever allocation is refused, the dialog ends with that, or is the same as with ample memory.
+#[test]
+fn a_dialog_runs_out_of_memory(rt: HostRuntime) -> Result<(), Fail> {
+    let bytes =
+        b"sites 2 preset 1\nload 1 0 0\nflight\nrun\nsites\nsegments\nloud\nundo\nhelp\n".as_slice();
+    let (whole, text, _files) = typed(rt.alloc(), bytes);
+    assert_eq!(rt; whole, Ok(()));
+    let mut done = false;
+    for step in 1..2000usize {
+        let heap = LocalHeap::new(rt.alloc(), step * 64)?;
+        let mut reader = bytes;
+        let mut told = Vec::new(rt.alloc());
+        let mut files = empty_shelf(rt.alloc());
+        let result = prompt(&heap, false, &mut reader, &mut told, &mut files);
+        if result.is_ok() {
+            assert!(rt; told.as_slice() == text.as_slice());
+            done = true;
+            break;
+        }
+        assert_eq!(rt; result, Err(PromptFault::OutOfMemory));
+    }
+    assert!(rt; done);
+    Ok(())
+}

@@ -1,0 +1,13 @@
+use Rattle.std.proofs.Common.{refl}
+use Rattle.shm_parts.specs.Books.{with_books}
+use Rattle.shm_site.specs.Site.{site_of}
+use Rattle.shm_site.proofs.Steps.{with_room}
+use Rattle.shm_site.proofs.site.Site.on_confirm.Goals as goal
+
+pub returns-clause-step : goal.returns-clause-step
+returns-clause-step g c =
+    let old = c.args.self.now in
+    record {
+      makes = with_room g.O.Outbox.joined c.reserve.ensures.same (c.confirm-outcome.ensures old.me (site_of old)) (c.booked.ensures (with_books old.me c.confirm-outcome.new.self (site_of old)));
+      seat = (refl, refl);
+    }

@@ -1,8 +1,0 @@
-use Rattle.std.proofs.Common.{◌≡◌, ◌++◌, map}
-use Rattle.shm_model.specs.SegmentCalls.{purge_envelope}
-use Rattle.shm_keys.specs.SiteSet.{has}
-use Rattle.shm_site.proofs.Ticks.{passing}
-use Rattle.shm_site.proofs.site.Site.send_purges.Given as goal
-
-abbrev pub invariant-sites : goal.invariant-sites
-invariant-sites g l = l.outbox.sent ≡ l.fn.outbox.sent ++ map (purge_envelope l.self.me l.id) (passing (has l.missing) l.site)

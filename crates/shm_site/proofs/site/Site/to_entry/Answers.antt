@@ -1,0 +1,13 @@
+use Rattle.std.proofs.Common.{refl}
+use Rattle.shm_site.specs.Site.{site_of}
+use Rattle.shm_site.proofs.Steps.{with_room}
+use Rattle.shm_site.proofs.site.Site.to_entry.Goals as goal
+
+pub returns-in-Err-clause-refused : goal.returns-in-Err-clause-refused
+returns-in-Err-clause-refused g c = record { site = c.in-Err.ensures.refused (site_of c.args.self.now); behind = c.reserve.ensures.same; seat = (refl, refl) }
+
+pub returns-clause-step : goal.returns-clause-step
+returns-clause-step g c = record {
+  makes = with_room g.O.Outbox.joined c.reserve.ensures.same (c.in-Ok.ensures.step (site_of c.args.self.now)) c.turned.ensures.makes;
+  seat = c.turned.ensures.seat;
+}

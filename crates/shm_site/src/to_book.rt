@@ -1,0 +1,112 @@
+//! Notes of a page to its manager's book: each is a row of the book's table (Li and Hudak 1989, §3.2).
+ghost use Rattle.std.specs.Prelude.{◌≡◌, ◌≤◌, ◌<◌, false, IfOk, OnErr};
+ghost use Rattle.shm_manager.specs.Book.{is_used_up};
+ghost use Rattle.shm_model.specs.Book as book;
+ghost use Rattle.shm_model.specs.Site as model;
+ghost use Rattle.shm_model.specs.Transfer.{to_book};
+ghost use Rattle.shm_model.specs.declared.kind.Kind.{Kind};
+ghost use Rattle.shm_parts.specs.Books.{booked_step};
+ghost use Rattle.shm_site.specs.Site.{Makes, StepsTo, Unchanged, site_of};
+ghost use Rattle.shm_site.specs.Step.{is_refused};
+
+use crate::sending::{MOST_ORDERS, send_orders};
+use crate::site::Site;
+use shm_model::refusal::NUMBERS_USED_UP;
+use shm_model::{Answer, Kind};
+use shm_parts::{Envelope, Outbox, Outcome};
+use shm_place::{PageId, SiteId};
+use std::alloc::{AllocError, Allocator};
+
+impl<A: Allocator + Copy> Site<A> {
+    /// A site asks for a right to the page. An Ask for which no number is left is refused before memory is needed.
+    pub(crate) fn on_ask<O: Outbox<Envelope<A>>>(
+        &mut self,
+        page: PageId,
+        from: SiteId,
+        request: u64,
+        kind: Kind,
+        outbox: &mut O,
+    ) -> Result<Answer, AllocError>
+        requires { from < 16 }
+        ensures step { IfOk result (λ answer. StepsTo O.posted self.old self.new outbox.old outbox.new answer (to_book self.old.me page (book.on_ask from request kind ((site_of self.old).books page)) (site_of self.old))) }
+        ensures memory { OnErr result (is_refused (to_book self.old.me page (book.on_ask from request kind ((site_of self.old).books page)) (site_of self.old)).answer ≡ false) }
+        ensures refused { OnErr result (Unchanged O.posted self.old self.new outbox.old outbox.new) }
+    {
+        if self.lacks_number(&page, from, request) {
+            return Ok(Answer::Refused(NUMBERS_USED_UP));
+        }
+        outbox.reserve(MOST_ORDERS)?;
+        let page = &page;
+        let outcome = self
+            .books
+            .ask(self.alloc, self.me, *page, from, request, kind)?;
+        Ok(booked(self.me, page, outcome, outbox))
+    }
+
+    /// Whether an Ask would start a transaction of the page for which no number is left.
+    fn lacks_number(&self, page: &PageId, from: SiteId, request: u64) -> bool
+        requires { from < 16 }
+        ensures { (kind : Kind) → result ≡ is_used_up (book.on_ask from request kind ((site_of self.now).books page.now)) }
+    {
+        match self.books.get(*page) {
+            Some(book) => book.lacks_number(from, request),
+            None => false,
+        }
+    }
+
+    /// A site has given up its copy of the page.
+    pub(crate) fn on_cleared<O: Outbox<Envelope<A>>>(
+        &mut self,
+        page: PageId,
+        from: SiteId,
+        number: u64,
+        outbox: &mut O,
+    ) -> Result<Answer, AllocError>
+        requires { from < 16 }
+        ensures step { IfOk result (λ answer. StepsTo O.posted self.old self.new outbox.old outbox.new answer (to_book self.old.me page (book.on_cleared from number ((site_of self.old).books page)) (site_of self.old))) }
+        ensures refused { OnErr result (Unchanged O.posted self.old self.new outbox.old outbox.new) }
+    {
+        outbox.reserve(MOST_ORDERS)?;
+        let page = &page;
+        let outcome = self.books.cleared(*page, from, number);
+        Ok(booked(self.me, page, outcome, outbox))
+    }
+
+    /// A site has what it asked for.
+    pub(crate) fn on_confirm<O: Outbox<Envelope<A>>>(
+        &mut self,
+        page: PageId,
+        from: SiteId,
+        number: u64,
+        outbox: &mut O,
+    ) -> Result<Answer, AllocError>
+        requires { from < 16 }
+        ensures step { IfOk result (λ answer. StepsTo O.posted self.old self.new outbox.old outbox.new answer (to_book self.old.me page (book.on_confirm from number ((site_of self.old).books page)) (site_of self.old))) }
+        ensures refused { OnErr result (Unchanged O.posted self.old self.new outbox.old outbox.new) }
+    {
+        outbox.reserve(MOST_ORDERS)?;
+        let page = &page;
+        let outcome = self.books.confirm(*page, from, number);
+        Ok(booked(self.me, page, outcome, outbox))
+    }
+}
+
+/// Sends what a row of the page's book calls for, and answers.
+fn booked<A: Allocator + Copy, O: Outbox<Envelope<A>>>(
+    me: SiteId,
+    page: &PageId,
+    outcome: Outcome,
+    outbox: &mut O,
+) -> Answer
+    requires { MOST_ORDERS ≤ O.room outbox.old }
+    ensures { (site : model.Site) → Makes O.posted outbox.old outbox.new site result (booked_step me page.now outcome site) }
+{
+    match outcome {
+        Outcome::Ignored => Answer::Dropped,
+        Outcome::UsedUp => Answer::Refused(NUMBERS_USED_UP),
+        Outcome::Taken { number, orders } => {
+            send_orders(me, page, number, &orders, outbox);
+            Answer::Took
+        }
+    }
+}
