@@ -7,3 +7,8 @@ pub mod ReplayLemmas
 pub mod ToldLemmas
 pub mod Holding
 pub mod Going
+pub mod Booked
+pub mod Listing
+pub mod Paged
+pub mod Sending
+pub mod Telling

@@ -8,12 +8,12 @@ use Rattle.shm_model.specs.declared.event.Event.TheVariants.{Load}
 use Rattle.shm_lines.specs.declared.line.Line.{Line}
 use Rattle.shm_lines.specs.declared.line.Line.TheVariants.{Event as EventLine}
 use Rattle.shm_debug.specs.Standing.{Standing}
-use Rattle.shm_text.specs.Text.{line_text}
+use Rattle.shm_debug.specs.Text.{line_text}
 use Rattle.shm_debug.specs.Promise.{AlwaysTellsLast, TellsLast}
 use Rattle.shm_debug.specs.Replay.{Ends}
 use Rattle.shm_debug.specs.Said.{next, said, said_to_event, standing_after}
 use Rattle.shm_debug.specs.Script.{Script}
-use Rattle.shm_debug.specs.Text.{text_from, text_of}
+use Rattle.shm_debug.specs.Output.{text_from, text_of}
 use Rattle.shm_debug.specs.Told.{IsOutput, IsOutputLine, IsWholeOutput, SaysLast, ToldLast}
 use Rattle.shm_debug.specs.declared.outcome.Summary.{Summary}
 use Rattle.shm_debug.specs.declared.outcome.DebugFault.{DebugFault}

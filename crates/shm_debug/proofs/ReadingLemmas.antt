@@ -5,10 +5,10 @@ use Rattle.std.proofs.lemmas.Bool.Decides.{nat_tests}
 use Rattle.std.proofs.lemmas.List.Elements.{All-append, All-cons, All-nil}
 use Rattle.shm_lines.specs.Line.{may_stand, line_of}
 use Rattle.shm_debug.specs.Standing.{Standing}
-use Rattle.shm_text.specs.Text.{line_text}
+use Rattle.shm_debug.specs.Text.{line_text}
 use Rattle.shm_debug.specs.Script.{Script, after, broken, whole, read_on, read_line, placed, unended, parts_of}
 use Rattle.shm_debug.specs.Said.{next, said, standing_after}
-use Rattle.shm_debug.specs.Text.{text_from}
+use Rattle.shm_debug.specs.Output.{text_from}
 use Rattle.shm_debug.specs.Reading.{Moment, rest_of, reach, passed, Onward, Tells, Begins, Breaks, Stops, Plays, Fails}
 use Rattle.shm_lines.specs.declared.line.Line.{Line}
 use Rattle.shm_debug.specs.declared.outcome.DebugFault.{DebugFault}

@@ -5,7 +5,7 @@ use Rattle.std.specs.Io.KnownBytes.{Appends, Consumes, Keeps, IsAtEnd}
 use Rattle.std.proofs.KnownBytes.{Consumes-nil, Consumes-trans, Consumes-kept, Consumes-whole, Appends-kept, Appends-nil, Appends-trans}
 use Rattle.shm_debug.specs.Limits.{max_bytes}
 use Rattle.shm_debug.specs.Script.{Script, after, broken, whole, script_of}
-use Rattle.shm_debug.specs.Text.{text_of, text_from}
+use Rattle.shm_debug.specs.Output.{text_of, text_from}
 use Rattle.shm_debug.specs.Said.{standing_after}
 use Rattle.shm_debug.specs.Reading.{Moment, start, reach, rest_of, Onward, Tells, Begins, Breaks, Stops, Plays, Fails, Ended}
 use Rattle.shm_debug.specs.Replay.{summary_at, Ends, Pauses, Gathers, IsTextOfFirst, IsFrontOfText, IsFaultOf, is_write_fault, PausesAllRead, TellsAllRead}

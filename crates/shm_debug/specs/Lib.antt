@@ -2,7 +2,7 @@ pub mod Limits
 pub mod Notice
 pub mod Script
 pub mod Said
-pub mod Text
+pub mod Output
 pub mod Promise
 pub mod Told
 pub mod Replay
@@ -12,3 +12,6 @@ pub mod Checkpoints
 pub mod Opening
 pub mod Standing
 pub mod BackFaults
+pub mod Text
+pub mod Page
+pub mod Tell

@@ -4,7 +4,7 @@ use Rattle.shm_debug.specs.Limits.{max_line_bytes, max_bytes}
 use Rattle.shm_debug.specs.Script.{Script, after, whole, broken, read_on, parts_of}
 use Rattle.shm_debug.specs.Said.{next, standing_after}
 use Rattle.shm_debug.specs.Replay.{summary_at}
-use Rattle.shm_debug.specs.Text.{text_from}
+use Rattle.shm_debug.specs.Output.{text_from}
 use Rattle.shm_lines.specs.declared.line.Line.{Line}
 use Rattle.shm_debug.specs.Standing.{Standing}
 use Rattle.shm_debug.specs.declared.outcome.Summary.{Summary}

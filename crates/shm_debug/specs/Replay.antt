@@ -4,7 +4,7 @@ use Rattle.std.specs.Io.KnownBytes.{Appends, Consumes}
 use Rattle.shm_debug.specs.Standing.{Standing, stood}
 use Rattle.shm_debug.specs.Said.{standing_after}
 use Rattle.shm_debug.specs.Script.{Script, script_of}
-use Rattle.shm_debug.specs.Text.{text_of}
+use Rattle.shm_debug.specs.Output.{text_of}
 use Rattle.shm_debug.specs.declared.outcome.Summary.{Summary}
 use Rattle.shm_debug.specs.declared.outcome.DebugFault.{DebugFault}
 use Rattle.shm_debug.specs.declared.outcome.DebugFault.TheVariants.{OutOfMemory, BadLine, LineTooLong, TooManyLines, ReadFault, WriteFault}

@@ -2,6 +2,7 @@
 ghost use Rattle.std.specs.Prelude.{ℕ, List};
 ghost use Rattle.shm_debug.specs.Promise.{AlwaysKept, AlwaysTellsLast};
 ghost use Rattle.shm_debug.specs.Script.{script_of};
+ghost use Rattle.shm_debug.specs.Tell.{EachEventTells};
 
 /// Wherever a script is read up to: in the run of the events that stand then, each load gives the byte that was stored last to its
 /// place, no page is writable at one site while readable at another, each segment call was executed once, attachments are counted, and
@@ -13,3 +14,8 @@ pub fn every_script_keeps_the_promise()
     shm_lines::laws::lines_have_one_spelling();
     shm_world::laws::every_run_keeps_the_promise();
 }
+
+/// What an event sends isn't gone right after it: the line of the event tells exactly that.
+pub fn an_event_tells_what_it_sent()
+    ensures { EachEventTells }
+{}

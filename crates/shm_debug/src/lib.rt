@@ -16,6 +16,7 @@ mod player;
 mod script;
 mod session;
 mod showing;
+mod telling;
 mod turns;
 
 pub use back_fault::BackFault;
@@ -25,4 +26,6 @@ pub use player::Player;
 pub use script::replay;
 pub use session::Session;
 pub use shm_lines::{BadLine, Line, parse_line};
-pub use shm_text::print_answer;
+pub use telling::{
+    AnswerText, NotWritten, Text, print_answer, print_page, read_up_to, write_whole,
+};

@@ -3,16 +3,16 @@ ghost use Rattle.std.specs.Prelude.{◌≡◌, ◌+◌, ◌<◌, ◌≤◌, ◌�
 ghost use Rattle.std.specs.Option.{option_copied};
 ghost use Rattle.shm_lines.specs.Line.{may_stand};
 ghost use Rattle.shm_lines.specs.Spelling.{IsLine};
-ghost use Rattle.shm_text.specs.Text.{line_text};
+ghost use Rattle.shm_debug.specs.Text.{line_text};
 ghost use Rattle.shm_debug.specs.Limits.{max_bytes, max_lines};
 ghost use Rattle.shm_debug.specs.Reading.{start, reach, rest_of, passed, Plays, Fails, Ended};
 ghost use Rattle.shm_debug.specs.Said.{said};
 
 use crate::Session;
 use crate::outcome::{DebugFault, Summary};
+use crate::telling::Text;
 use crate::turns::{pass_line, summary};
 use shm_lines::{Line, laws, parse_line};
-use shm_text::Text;
 use std::alloc::{AllocError, Allocator};
 use std::marker::Model;
 

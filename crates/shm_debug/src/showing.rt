@@ -1,11 +1,11 @@
 //! What a session shows.
 ghost use Rattle.std.specs.Prelude.{◌≡◌, IfOk};
 ghost use Rattle.shm_debug.specs.Standing.{stood};
-ghost use Rattle.shm_text.specs.Page.{page_text};
+ghost use Rattle.shm_debug.specs.Page.{page_text};
 
 use crate::session::Session;
+use crate::telling::print_page;
 use shm_place::PageId;
-use shm_text::print_page;
 use std::alloc::{AllocError, Allocator};
 
 impl<A: Allocator + Copy> Session<A> {

@@ -2,17 +2,17 @@
 ghost use Rattle.std.specs.Prelude.{◌≡◌, ◌++◌, Some, false, is_some, not, true, IfOk, OnErr, OnOk};
 ghost use Rattle.shm_lines.specs.Line.{is_first};
 ghost use Rattle.shm_lines.specs.Spelling.{IsLine};
-ghost use Rattle.shm_text.specs.Text.{line_text};
+ghost use Rattle.shm_debug.specs.Text.{line_text};
 ghost use Rattle.shm_debug.specs.Replay.{summary_at};
 ghost use Rattle.shm_debug.specs.Said.{said, said_to_back, said_to_event, next, next_back};
 ghost use Rattle.shm_debug.specs.Standing.{with_event};
 
 use crate::notice::Notice;
 use crate::outcome::Summary;
+use crate::telling::Text;
 use crate::{BackFault, Session};
 use shm_lines::Line;
 use shm_model::Event;
-use shm_text::Text;
 use std::alloc::{AllocError, Allocator};
 
 /// A line that may stand here: the first one opens the session, the others are turns of it.

@@ -11,10 +11,9 @@ ghost use Rattle.shm_world.specs.World.{StandsFor};
 ghost use Rattle.shm_draw.specs.Drawn.{BeganRight, Draws, Stands, Stopped, drawing};
 
 use crate::picture::picture_of;
-use shm_debug::{DebugFault, Opening, Player, Session};
+use shm_debug::{DebugFault, Opening, Player, Session, Text, read_up_to, write_whole};
 use shm_lines::laws::lines_have_one_spelling;
 use shm_place::PageId;
-use shm_text::{Text, read_up_to, write_whole};
 use shm_world::World;
 use std::alloc::{AllocError, Allocator};
 use std::io::{Read, Write};

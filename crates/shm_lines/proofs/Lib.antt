@@ -7,3 +7,4 @@ pub mod SpelledLemmas
 pub mod StepLemmas
 pub mod WordLemmas
 mod Lines
+pub mod AnswerLemmas

@@ -2,6 +2,7 @@
 #![tactic(auto)]
 
 mod access;
+mod hints;
 pub mod laws;
 mod line;
 mod mode;
@@ -18,6 +19,10 @@ mod workload_fault;
 mod workload_line;
 
 pub use access::Access;
+pub use hints::{
+    Expected, Hint, Recalling, Word, hint_of_access_line, hint_of_first_line, hint_of_script_line,
+    write_hint,
+};
 pub use line::Line;
 pub use options::{AccessWord, FlagsWord};
 pub use parse::{BadLine, parse_line};

@@ -8,3 +8,4 @@ pub mod Calls
 pub mod FirstFault
 pub mod Served
 pub mod Counted
+mod Pushed

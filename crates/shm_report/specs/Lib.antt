@@ -5,3 +5,4 @@ pub mod Callers
 pub mod RunFaults
 pub mod Counts
 pub mod Audited
+pub mod LogText

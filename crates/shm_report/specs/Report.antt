@@ -12,7 +12,7 @@ use Rattle.shm_model.specs.Log.{Logged}
 use Rattle.shm_model.specs.World.{Preset}
 use Rattle.shm_report.specs.Callers.{AllServed, Serves, lines_of}
 use Rattle.shm_report.specs.Counts.{counts_of, summary_text}
-use Rattle.shm_text.specs.Text.{answer_text, line_text}
+use Rattle.shm_debug.specs.Text.{answer_text, line_text}
 use Rattle.shm_lines.specs.Access.{site_of}
 use Rattle.shm_lines.specs.Workload.{Whole, workload_of}
 use Rattle.shm_lines.specs.declared.access.Access.{Access}

@@ -11,3 +11,4 @@ pub mod AskWords
 pub mod SpelledAsks
 pub mod AnswerWords
 pub mod Apart
+pub mod SentLines

@@ -7,3 +7,6 @@ pub mod Sent
 pub mod SentOf
 pub mod Asks
 pub mod Answers
+pub mod Node
+pub mod NodeOf
+pub mod Lines

@@ -4,10 +4,10 @@ use Rattle.std.specs.Prelude.{IsSomeAnd, None, Option, Some}
 use Rattle.std.specs.Borrow.{Bor}
 use Rattle.clap.specs.Words.{Row, Text, subcommand_of}
 use Rattle.shm_place.specs.declared.page.PageId.{PageId}
-use Rattle.shm_words.specs.Commands.{app}
-use Rattle.shm_words.specs.Words.{asked_for, name_of, page_given, sites_given, summary_given, IsAsked}
-use Rattle.shm_words.specs.declared.task.Task.{Task}
-use Rattle.shm_words.specs.declared.task.Task.TheVariants.{Draw, Prompt, Replay, Run}
+use Rattle.shmdbg.specs.Commands.{app}
+use Rattle.shmdbg.specs.Words.{asked_for, name_of, page_given, sites_given, summary_given, IsAsked}
+use Rattle.shmdbg.specs.declared.words.task.Task.{Task}
+use Rattle.shmdbg.specs.declared.words.task.Task.TheVariants.{Draw, Prompt, Replay, Run}
 use Rattle.shmdbg.specs.Status.{Asks}
 
 -- the words ask for this task

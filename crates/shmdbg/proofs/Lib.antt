@@ -1,2 +1,4 @@
 mod Asked
 mod Plain
+mod Wrong
+mod Numbers

@@ -13,7 +13,7 @@ use Rattle.shm_report.specs.Causes.{audit_cause, input_cause, is_after_reading, 
 use Rattle.shm_report.specs.Report.{IsToldReport}
 use Rattle.shm_report.specs.declared.report_fault.ReportFault.{ReportFault}
 use Rattle.shm_report.specs.declared.report_fault.ReportFault.TheVariants as report
-use Rattle.shm_words.specs.Words.{asked_for, fault_in}
+use Rattle.shmdbg.specs.Words.{asked_for, fault_in}
 
 -- the script is wrong, or something else failed
 abbrev pub fault_status : DebugFault → ℕ

@@ -2,9 +2,8 @@
 ghost use Rattle.std.specs.Prelude.{IfErr};
 ghost use Rattle.shm_report.specs.Causes.{IsOther};
 
-use shm_logs::log_text;
 use shm_prompt::SaveFile;
-use shm_report::ReportFault;
+use shm_report::{ReportFault, log_text};
 use shm_sites::SiteLog;
 use std::alloc::{AllocError, Global};
 

@@ -10,6 +10,7 @@ mod source;
 mod tell;
 #[cfg(test)]
 mod tests;
+mod words;
 
 use program::run_words;
 use source::Source;

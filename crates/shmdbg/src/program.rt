@@ -1,6 +1,6 @@
 ghost use Rattle.std.specs.Prelude.{◌≡◌, ◌≢◌, ◌<◌, ◌⊎◌, ℕ, List, [], ◌∷◌, codes, map, IfSome, Some};
 ghost use Rattle.shm_debug.specs.Script.{script_of};
-ghost use Rattle.shm_words.specs.Words.{page_given, sites_given, summary_given};
+ghost use Rattle.shmdbg.specs.Words.{page_given, sites_given, summary_given};
 ghost use Rattle.shmdbg.specs.Status.{Asks, Fails, Pictures, Replays, Reports, Takes};
 
 use crate::disk::Disk;
@@ -8,11 +8,11 @@ use crate::reporting::{Wanted, tell_run};
 use crate::showing::{script_fault, workload_fault};
 use crate::source::Recalls;
 use crate::tell;
+use crate::words::{Task, parse_words};
 use shm_debug::replay;
 use shm_draw::draw;
 use shm_place::{PageId, Sites};
 use shm_prompt::prompt;
-use shm_words::{Task, parse_words};
 use std::convert::AsStr;
 use std::io::{Read, Write};
 use std::rt::{Clock, Files};

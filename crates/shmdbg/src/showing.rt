@@ -5,7 +5,7 @@ ghost use Rattle.shmdbg.specs.Status.{fault_status, run_status};
 use crate::source::Recalls;
 use crate::tell;
 use shm_debug::DebugFault;
-use shm_hints::{hint_of_access_line, hint_of_first_line, hint_of_script_line, write_hint};
+use shm_lines::{hint_of_access_line, hint_of_first_line, hint_of_script_line, write_hint};
 use shm_place::{PAGES, Sites};
 use shm_report::ReportFault;
 use std::io::Write;

@@ -1,4 +1,4 @@
-use shm_hints::Recalling;
+use shm_lines::Recalling;
 use std::io::{self, Read};
 
 /// A reader from which the lines can be had that it gave last, where wrong ones are to be shown.

@@ -5,7 +5,7 @@ ghost use Rattle.shm_model.specs.Promise.{GivesLast};
 ghost use Rattle.shm_world.specs.World.{StandsFor};
 
 use anyhow::Result;
-use shm_text::print_answer;
+use shm_debug::print_answer;
 use shm_world::{Answer, Event, World};
 use std::alloc::Global;
 use std::io::Write;

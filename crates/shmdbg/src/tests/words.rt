@@ -1,6 +1,6 @@
 use super::{expect, run_over};
+use crate::words::{Task, parse_words};
 use shm_place::Sites;
-use shm_words::{Task, parse_words};
 use std::alloc::AllocError;
 use std::test::Fail;
 

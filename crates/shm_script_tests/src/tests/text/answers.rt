@@ -1,9 +1,9 @@
 use super::{Deliver, expect_bytes};
 use crate::tests::{load, preset, store};
+use shm_debug::{AnswerText, Text, print_answer};
 use shm_model::Answer::{Began, Byte, Dropped, Fault, Refused, Replied, Stored, Took, Waiting};
 use shm_model::{Answer, Attached, Errno, Mode, Reply, Stat};
 use shm_place::{Key, SegId};
-use shm_text::{AnswerText, Text, print_answer};
 use shm_world::Event::Lose;
 use shm_world::{Event, World};
 use std::alloc::{AllocError, Global};

@@ -1,8 +1,8 @@
 use super::{Deliver, expect_bytes};
 use crate::tests::{load, preset, store};
+use shm_debug::print_page;
 use shm_model::{Cred, Op, Request};
 use shm_place::{PageId, SegId, SiteId};
-use shm_text::print_page;
 use shm_world::Event::Begin;
 use shm_world::{Event, World};
 use std::alloc::{AllocError, Global};

@@ -9,8 +9,8 @@ use Rattle.shm_debug.specs.Script.{script_of}
 use Rattle.shm_debug.specs.declared.outcome.DebugFault.TheVariants.{OutOfMemory}
 use Rattle.shm_place.specs.declared.page.PageId.{PageId}
 use Rattle.shmdbg.specs.Status.{Asks, Fails, Pictures, Replays, status_of}
-use Rattle.shm_words.specs.Words.{page_given, sites_given}
-use Rattle.shm_words.specs.declared.task.Task.TheVariants.{Draw, Run}
+use Rattle.shmdbg.specs.Words.{page_given, sites_given}
+use Rattle.shmdbg.specs.declared.words.task.Task.TheVariants.{Draw, Run}
 use Rattle.shmdbg.proofs.Asked.{AskFor, page_asked, sites_asked}
 use Rattle.shm_report.specs.declared.report_fault.ReportFault.TheVariants as report
 use Rattle.shmdbg.proofs.Plain.{plain_words}

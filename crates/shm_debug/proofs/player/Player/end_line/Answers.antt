@@ -1,6 +1,6 @@
 use Rattle.std.proofs.Common.{◌≡◌, ◌+◌, ◌<◌, ◌++◌, [], ◌∷◌, Some, None, true, false, sym, ap, subst, ◌∙◌, arith}
 use Rattle.shm_lines.specs.Line.{line_of, may_stand}
-use Rattle.shm_text.specs.Text.{line_text}
+use Rattle.shm_debug.specs.Text.{line_text}
 use Rattle.shm_debug.specs.Said.{said}
 use Rattle.shm_debug.specs.Reading.{Moment, Plays}
 use Rattle.shm_debug.proofs.PlayerLemmas.{no_line, misplaced, ended, none_read, some_read}

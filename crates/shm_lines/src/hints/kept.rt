@@ -1,0 +1,95 @@
+//! The bytes that a reader remembers.
+ghost use Rattle.std.specs.Prelude.{◌≡◌, ◌≤◌, ◌==◌, [], count_by, length, IfSome};
+
+use crate::split_at;
+
+/// How many bytes of a line are kept at most while it isn't ended.
+const LINE: usize = 256;
+
+/// How many bytes are kept at most.
+const KEPT: usize = 8448;
+
+/// The last bytes of a text, from the beginning of a line on.
+#[derive(Drop)]
+pub struct Kept {
+    /// The number of the line with which they begin.
+    first: u64,
+    bytes: [u8; KEPT],
+    len: usize,
+    ghost within: { len ≤ 8448 },
+}
+
+impl Kept {
+    /// Nothing yet.
+    pub fn new() -> Kept {
+        Kept {
+            first: 1,
+            bytes: [0; KEPT],
+            len: 0,
+        }
+    }
+
+    /// Forgets the lines that are ended, and keeps these bytes. Where there are none, as at the end of what is read, nothing is forgotten.
+    pub fn keep(&mut self, block: &[u8])
+        ensures { block.now ≡ [] → self.new ≡ self.old }
+    {
+        if block.is_empty() {
+            return;
+        }
+        self.forget();
+        self.append(block);
+    }
+
+    /// Keeps the front of the line that isn't ended, and nothing else.
+    fn forget(&mut self) {
+        let held = &self.bytes[..self.len];
+        let ended = line_feeds(held) as u64;
+        let start = open_from(held);
+        let count = (self.len - start).min(LINE);
+        for at in 0..count {
+            self.bytes[at] = self.bytes[start + at];
+        }
+        self.len = count;
+        self.first = self.first.saturating_add(ended);
+    }
+
+    fn append(&mut self, block: &[u8]) {
+        for byte in block {
+            if self.len >= KEPT {
+                return;
+            }
+            self.bytes[self.len] = *byte;
+            self.len += 1;
+        }
+    }
+
+    /// The front of the line of this number.
+    pub fn line(&self, number: u64) -> Option<&[u8]>
+        ensures { IfSome result (λ line. length line.now ≤ 256) }
+    {
+        let ended = number.checked_sub(self.first)?;
+        let mut rest = &self.bytes[..self.len];
+        for _ in 0..ended {
+            let (_, others) = split_at(rest, b'\n');
+            rest = others?;
+        }
+        let (line, _) = split_at(rest, b'\n');
+        Some(&line[..line.len().min(LINE)])
+    }
+}
+
+/// Where the last line begins, the one that isn't ended.
+fn open_from(bytes: &[u8]) -> usize
+    ensures { result ≤ length bytes.now }
+{
+    match bytes.iter().rev().position(|byte| *byte == b'\n') {
+        Some(behind) => bytes.len() - behind,
+        None => 0,
+    }
+}
+
+fn line_feeds(bytes: &[u8]) -> usize
+    ensures { result ≡ count_by (λ byte. byte == 10) bytes.now }
+{
+    bytes.iter().filter(|byte| **byte == b'\n').count()
+}

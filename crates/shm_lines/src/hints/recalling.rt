@@ -1,0 +1,50 @@
+//! A reader that remembers the lines that it gave last.
+ghost use Rattle.std.specs.Prelude.{◌≤◌, length, IfSome};
+
+use crate::hints::kept::Kept;
+use std::io::{self, Read};
+
+/// How many bytes are read at once at most.
+const BLOCK: usize = 8192;
+
+/// A reader that gives what another gives, at most 8,192 bytes at once, and from which the lines can be had that it gave last: those of
+/// the last read that gave any, and the one that stood open before it. It takes some 8 KB, however much is read. Which line is told is not proved.
+#[derive(Drop)]
+pub struct Recalling<R> {
+    reader: R,
+    kept: Kept,
+}
+
+impl<R: Read> Recalling<R> {
+    pub fn new(reader: R) -> Recalling<R> {
+        Recalling {
+            reader,
+            kept: Kept::new(),
+        }
+    }
+}
+
+impl<R> Recalling<R> {
+    /// The first 256 bytes of the line of this number, from 1, without its line feed. There is none where it has not been read, or is no
+    /// longer kept.
+    pub fn line(&self, number: u64) -> Option<&[u8]>
+        ensures { IfSome result (λ line. length line.now ≤ 256) }
+    {
+        self.kept.line(number)
+    }
+}
+
+impl<R: Read> Read for Recalling<R> {
+    ghost remaining = { λ recalling. R.remaining recalling.reader };
+
+    fn read(&mut self, buf: &mut [u8]) -> io::Result<usize> {
+        let room = buf.len().min(BLOCK);
+        match self.reader.read(&mut buf[..room]) {
+            Ok(count) => {
+                self.kept.keep(&buf[..count]);
+                Ok(count)
+            }
+            Err(error) => Err(error),
+        }
+    }
+}

@@ -1,0 +1,34 @@
+//! The lines of a script.
+ghost use Rattle.std.specs.Prelude.{◌≡◌, ◌≤◌, length, None, IfNone, IfSome, IsSome};
+ghost use Rattle.shm_lines.specs.Line.{line_of};
+
+use crate::hints::expected::Word;
+use crate::hints::hint::Hint;
+use crate::hints::verbs::words_after;
+use crate::hints::walk::{first_fault, read_word};
+use crate::parse_line;
+
+/// Where a line of a script can't be read on. A right line has no hint.
+///
+/// Proved: which lines have a hint, and that it lies within the line or at its end. Not proved, only shown by examples in tests: that some
+/// right line begins with the bytes before it, and none with these and the byte there; and that what is expected could stand there.
+pub fn hint_of_script_line(line: &[u8]) -> Option<Hint>
+    ensures right { IfNone result (IsSome (line_of line.now)) }
+    ensures wrong { IfSome result (λ hint. line_of line.now ≡ None) }
+    ensures within { IfSome result (λ hint. hint.at ≤ length line.now) }
+{
+    match parse_line(line) {
+        Ok(_) => None,
+        Err(_) => Some(fault_of_script_line(line)),
+    }
+}
+
+/// Where a line can't be read on, if it isn't right.
+fn fault_of_script_line(line: &[u8]) -> Hint
+    ensures { result.at ≤ length line.now }
+{
+    match read_word(Word::Verb, line, 0) {
+        Ok(end) => first_fault(words_after(&line[..end]), line, end),
+        Err(hint) => hint,
+    }
+}

@@ -1,3 +1,0 @@
-pub mod Node
-pub mod NodeOf
-pub mod Lines

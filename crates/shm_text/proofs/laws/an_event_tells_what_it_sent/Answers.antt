@@ -1,5 +1,0 @@
-use Rattle.shm_text.proofs.Sending.{each_event_tells}
-use Rattle.shm_text.proofs.laws.an_event_tells_what_it_sent.Goals as goal
-
-pub returns : goal.returns
-returns c = each_event_tells

@@ -1,0 +1,89 @@
+//! What a line is to a node: an envelope for its site, what a caller asks of it, or nothing.
+ghost use Rattle.std.specs.Prelude.{◌≡◌, ◌<◌, ℕ, false, max, IfOk, IfSome, option_and_then, option_map};
+ghost use Rattle.shm_model.specs.Basics.{greatest};
+ghost use Rattle.shm_wire.specs.Node as spec;
+ghost use Rattle.shm_wire.specs.NodeOf.{heard_of, node_of};
+ghost use Rattle.shm_site.specs.Step.{input_of, is_foreign};
+ghost use Rattle.shm_wire.specs.Asks.{read_ask};
+ghost use Rattle.shm_wire.specs.SentOf.{sent_of};
+
+use crate::process::heard::Heard;
+use crate::process::node::Node;
+use crate::{Asked, Sent, parse_ask, parse_envelope};
+use shm_site::Input;
+use std::alloc::{AllocError, Allocator};
+
+impl<A: Allocator + Copy> Node<A> {
+    /// What the line hands to the site, if it is for this site. A page's bytes and a caller's tag take memory.
+    pub(crate) fn heard(&self, line: &[u8]) -> Result<Option<Heard<A>>, AllocError>
+        ensures heard { IfOk result (λ heard. option_map heard_of heard ≡ spec.heard (node_of self.now) line.now) }
+        ensures proper { IfOk result (λ heard. IfSome heard (λ h. is_foreign self.now.sites self.now.me (input_of h.input) ≡ false)) }
+        ensures early { IfOk result (λ heard. IfSome heard (λ h. max self.now.clock h.source < greatest)) }
+    {
+        match parse_envelope(self.alloc, line)? {
+            Some(sent) => Ok(self.handed(sent)),
+            None => self.asked(line),
+        }
+    }
+
+    fn handed(&self, sent: Sent<A>) -> Option<Heard<A>>
+        ensures heard { option_map heard_of result ≡ spec.handed (node_of self.now) (sent_of sent) }
+        ensures proper { IfSome result (λ h. is_foreign self.now.sites self.now.me (input_of h.input) ≡ false) }
+        ensures early { IfSome result (λ h. max self.now.clock h.source < greatest) }
+    {
+        let Sent { source, envelope } = sent;
+        if self.site.foreign(&envelope) || self.is_late(source.clock) {
+            return None;
+        }
+        Some(Heard {
+            input: Input::Deliver(envelope),
+            source: source.clock,
+            tag: None,
+        })
+    }
+
+    /// What a caller asks of this site.
+    fn asked(&self, line: &[u8]) -> Result<Option<Heard<A>>, AllocError>
+        ensures heard { IfOk result (λ heard. option_map heard_of heard ≡ option_and_then (spec.asked_here (node_of self.now)) (read_ask line.now)) }
+        ensures proper { IfOk result (λ heard. IfSome heard (λ h. is_foreign self.now.sites self.now.me (input_of h.input) ≡ false)) }
+        ensures early { IfOk result (λ heard. IfSome heard (λ h. max self.now.clock h.source < greatest)) }
+    {
+        let Some(ask) = parse_ask(line) else {
+            return Ok(None);
+        };
+        if ask.site != self.me || self.is_late(0) {
+            return Ok(None);
+        }
+        let Some(input) = input_asked(ask.asked) else {
+            return Ok(None);
+        };
+        let tag = String::from_str(self.alloc, ask.tag)?;
+        Ok(Some(Heard {
+            input,
+            source: 0,
+            tag: Some(tag),
+        }))
+    }
+
+    /// No stamp is above this site's clock, or above the sender's.
+    fn is_late(&self, source: u64) -> bool
+        ensures late { result ≡ spec.is_late (node_of self.now) source }
+        ensures below { result ≡ false → max self.now.clock source < greatest }
+    {
+        self.clock.max(source) == u64::MAX
+    }
+}
+
+/// What the site is made to do.
+fn input_asked<A: Allocator + Copy>(asked: Asked) -> Option<Input<A>>
+    ensures input { option_map input_of result ≡ spec.input_asked asked }
+    ensures proper { (sites me : ℕ) → IfSome result (λ input. is_foreign sites me (input_of input) ≡ false) }
+{
+    match asked {
+        Asked::Load { at, offset } => Some(Input::Load { at, offset }),
+        Asked::Store { at, offset, byte } => Some(Input::Store { at, offset, byte }),
+        Asked::Begin(request) => Some(Input::Begin(request)),
+        Asked::Tick => Some(Input::Tick),
+        Asked::Show(_) => None,
+    }
+}

@@ -1,0 +1,105 @@
+//! What a node does with a line.
+ghost use Rattle.std.specs.Prelude.{◌≡◌, ◌<◌, false, map, max, option_map, string_bytes, IfOk, OnErr, OnOk};
+ghost use Rattle.shm_model.specs.Basics.{greatest};
+ghost use Rattle.shm_model.specs.Step.{step};
+ghost use Rattle.shm_wire.specs.Node.{after, caller_after, counted, said, says, stepped, told};
+ghost use Rattle.shm_wire.specs.NodeOf.{heard_of, node_of, said_of};
+ghost use Rattle.shm_parts.specs.Message.{envelope_of};
+ghost use Rattle.shm_site.specs.Site.{SameSeat, site_of, stepped as site_stepped};
+ghost use Rattle.shm_site.specs.Step.{input_of, is_foreign};
+
+use crate::process::heard::Heard;
+use crate::process::node::Node;
+use crate::process::said::Said;
+use shm_site::{Answer, Input, Made, Site, StepError};
+use std::alloc::{AllocError, Allocator};
+
+impl<A: Allocator + Copy> Node<A> {
+    /// Takes a line, which stands without its line feed, and says what the site's step does; `None`: the line was passed over. Where
+    /// memory is refused the node is as before, and the line may be taken again.
+    pub fn take(&mut self, line: &[u8]) -> Result<Option<Said<A>>, AllocError>
+        ensures said { IfOk result (λ said_now. option_map said_of said_now ≡ said (node_of self.old) line.now) }
+        ensures after { OnOk result (node_of self.new ≡ after (node_of self.old) line.now) }
+        ensures refused { OnErr result (node_of self.new ≡ node_of self.old) }
+    {
+        match self.heard(line)? {
+            Some(heard) => {
+                let said = self.make(heard)?;
+                Ok(Some(said))
+            }
+            None => {
+                self.passed = counted(self.passed);
+                Ok(None)
+            }
+        }
+    }
+
+    /// Makes a step that can be this site's, under a clock that there is.
+    fn make(&mut self, heard: Heard<A>) -> Result<Said<A>, AllocError>
+        requires proper { is_foreign self.old.sites self.old.me (input_of heard.input) ≡ false }
+        requires early { max self.old.clock heard.source < greatest }
+        ensures said { IfOk result (λ said. said_of said ≡ says (node_of self.old) (heard_of heard)) }
+        ensures after { OnOk result (node_of self.new ≡ stepped (node_of self.old) (heard_of heard)) }
+        ensures refused { OnErr result (node_of self.new ≡ node_of self.old) }
+    {
+        let Heard { input, source, tag } = heard;
+        let clock = self.clock.max(source) + 1;
+        let index = self.steps;
+        let Made { answer, sent } = listed(&mut self.site, input)?;
+        self.clock = clock;
+        self.steps = index + 1;
+        self.taken = counted(self.taken);
+        let tag = told(tag, &mut self.caller, &answer);
+        Ok(Said {
+            site: self.me,
+            clock,
+            index,
+            sent,
+            tag,
+            answer,
+        })
+    }
+}
+
+/// Who is told the answer. A segment call that begins has its caller until it is replied to.
+fn told<A: Allocator + Copy>(
+    tag: Option<String<A>>,
+    caller: &mut Option<String<A>>,
+    answer: &Answer,
+) -> Option<String<A>>
+    ensures told { option_map string_bytes result ≡ told (option_map string_bytes tag) (option_map string_bytes caller.old) answer.now }
+    ensures caller { option_map string_bytes caller.new ≡ caller_after (option_map string_bytes tag) (option_map string_bytes caller.old) answer.now }
+{
+    match answer {
+        Answer::Began(_) => {
+            *caller = tag;
+            None
+        }
+        Answer::Replied { .. } => caller.take(),
+        _ => tag,
+    }
+}
+
+/// One more line.
+fn counted(lines: u64) -> u64
+    ensures { result ≡ counted lines }
+{
+    lines.saturating_add(1)
+}
+
+/// One step of the site at an input that isn't foreign. An envelope that comes back is given up.
+fn listed<A: Allocator + Copy>(site: &mut Site<A>, input: Input<A>) -> Result<Made<A>, AllocError>
+    ensures step { IfOk result (λ made. step site.old.sites site.old.me (site_of site.old) (input_of input) ≡ site_stepped site.new made.answer (map envelope_of made.sent.items)) }
+    ensures refused { OnErr result (site_of site.new ≡ site_of site.old) }
+    ensures seat { SameSeat site.old site.new }
+{
+    match site.step_listed(input) {
+        Ok(made) => Ok(made),
+        Err(error) => Err(given_up(error)),
+    }
+}
+
+fn given_up<A: Allocator + Copy>(error: StepError<A>) -> AllocError {
+    drop(error);
+    AllocError
+}

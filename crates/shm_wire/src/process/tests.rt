@@ -1,0 +1,105 @@
+//! Two nodes that a test carries lines between.
+use crate::process::{Node, Said};
+use linked_list_allocator::LocalHeap;
+use shm_model::Answer;
+use shm_place::{SiteId, Sites};
+use std::alloc::{AllocError, Allocator, Global};
+use std::test::Fail;
+
+/// How often a hole is widened at most.
+const TRIES: usize = 1600;
+
+/// A site of 2, where segment 0 has 4 pages and is attached.
+fn new_node<A: Allocator + Copy>(alloc: A, me: u32) -> Result<Node<A>, AllocError> {
+    match Sites::new(2) {
+        Ok(sites) if me < sites.count() => Node::new(alloc, sites, SiteId(me), 4),
+        _ => Err(AllocError),
+    }
+}
+
+/// Whether a caller is told this answer under this tag.
+fn tells<A: Allocator + Copy>(said: &Option<Said<A>>, tag: &str, answer: Answer) -> bool {
+    match said {
+        Some(said) => match &said.tag {
+            Some(told) => told.as_str() == tag && said.answer == answer,
+            None => false,
+        },
+        None => false,
+    }
+}
+
+/// The line of the one envelope that was sent, if the node told nobody anything.
+fn sent_line<A: Allocator + Copy>(
+    alloc: A,
+    said: Option<Said<A>>,
+) -> Result<String<A>, AllocError> {
+    match said {
+        Some(said) => said.envelopes(alloc),
+        None => Ok(String::new(alloc)),
+    }
+}
+
+#[test]
+fn a_copy_is_lent(rt: HostRuntime) -> Result<(), Fail> {
+    let alloc = rt.alloc();
+    let mut owner = new_node(alloc, 0)?;
+    let mut reader = new_node(alloc, 1)?;
+    let stored = owner.take(b"ask 0 a store 0 5 7")?;
+    assert!(rt; tells(&stored, "a", Answer::Stored));
+    let fault = reader.take(b"ask 1 b load 0 5")?;
+    assert!(rt; tells(&fault, "b", Answer::Fault));
+    let ask = sent_line(alloc, fault)?;
+    assert_eq!(rt; ask.as_str(), "env 1 0 1 0 0 ask 0 0 1 read\n");
+    let handed = owner.take(ask.as_str().trim_end().as_bytes())?;
+    let hand = sent_line(alloc, handed)?;
+    assert_eq!(rt; hand.as_str(), "env 0 0 2 1 0 hand 0 0 1 read 1\n");
+    assert!(rt; reader.take(hand.as_str().trim_end().as_bytes())?.is_none());
+    let lent = owner.take(hand.as_str().trim_end().as_bytes())?;
+    let page = sent_line(alloc, lent)?;
+    let taken = reader.take(page.as_str().trim_end().as_bytes())?;
+    let confirm = sent_line(alloc, taken)?;
+    assert_eq!(rt; confirm.as_str(), "env 1 0 4 1 0 confirm 0 0 1\n");
+    let loaded = reader.take(b"ask 1 c load 0 5")?;
+    assert!(rt; tells(&loaded, "c", Answer::Byte(7)));
+    assert_eq!(rt;
+        (
+            reader.steps(),
+            reader.clock(),
+            reader.taken(),
+            reader.passed()
+        ),
+        (3, 5, 3, 1)
+    );
+    Ok(())
+}
+
+/// Blocks of 16 bytes that fill a heap; each that is dropped widens the hole at its end.
+fn filled(alloc: Global, heap: &LocalHeap) -> Result<Vec<Vec<u8, &LocalHeap>>, AllocError> {
+    let mut blocks = Vec::new(alloc);
+    for _ in 0..heap.free() / 16 {
+        let block = Vec::with_capacity(heap, 16)?;
+        blocks.push(block)?;
+    }
+    Ok(blocks)
+}
+
+#[test]
+fn each_growth_is_refused_in_turn(rt: HostRuntime) -> Result<(), Fail> {
+    let heap = LocalHeap::new(rt.alloc(), 1 << 16)?;
+    let mut node = new_node(&heap, 1)?;
+    let mut blocks = filled(rt.alloc(), &heap)?;
+    for tries in 0..TRIES {
+        match node.take(b"ask 1 b load 0 5") {
+            Ok(said) => {
+                assert!(rt; tries > 1, "the tag and what is sent were refused too");
+                assert!(rt; tells(&said, "b", Answer::Fault));
+                assert_eq!(rt; (node.steps(), node.taken()), (1, 1));
+                drop(said);
+                return Ok(());
+            }
+            Err(_) => assert_eq!(rt; (node.steps(), node.taken(), node.passed()), (0, 0, 0)),
+        }
+        drop(blocks.pop());
+    }
+    Err(Fail::new("no step was made"))
+}

@@ -1,0 +1,126 @@
+-- What the words ask for, as clap reads them, and what is wrong with them.
+use Rattle.std.specs.Prelude.{◌≡◌, ◌==◌, ◌&&◌, ℕ, Bool, true, false, not, if◌then◌else◌, List, [], ◌∷◌, length, drop, slice_index, nat_lt, Option, Some, None, codes, option_and_then, option_map}
+use Rattle.std.specs.List.{list_all, list_any}
+use Rattle.std.specs.Char.{is_ascii_digit}
+use Rattle.std.specs.Option.{option_map_or}
+use Rattle.std.specs.Str.{bytes_eq}
+use Rattle.std.specs.Str.Parse.{digits_value, without_leading_plus}
+use Rattle.clap.specs.Words.{Kinds, Row, Text, fault_of, first_of, one_of, subcommand_of}
+use Rattle.clap.specs.Walk.{all_of}
+use Rattle.clap.specs.Kinds.{or_else}
+use Rattle.clap.specs.declared.error.kind.ErrorKind.TheVariants.{UnknownArgument, ValueValidation}
+use Rattle.shm_place.specs.declared.page.PageId.{PageId}
+use Rattle.shmdbg.specs.Commands.{app}
+use Rattle.shmdbg.specs.declared.words.task.Task.{Task}
+use Rattle.shmdbg.specs.declared.words.task.Task.TheVariants.{Replay, Run, Prompt, Draw}
+
+-- the name of the subcommand that the words ask for, where the program takes them; the first word is the program's name
+abbrev pub asked_for : List Text → Option Text
+asked_for words = option_map (λ named. named.0) (subcommand_of app words)
+
+-- the name of the subcommand that has this task
+abbrev pub name_of : Task → Text
+name_of Replay = codes "replay"
+name_of (Run sites seed summary log) = codes "run"
+name_of Prompt = codes "prompt"
+name_of (Draw page) = codes "draw"
+
+-- ---- what is given for an option
+
+-- the number that decimal digits write, behind a plus or none
+abbrev pub number_of : Text → ℕ
+number_of text = digits_value 10 (without_leading_plus text)
+
+-- digits, of which the first isn't a 0 before others: so no sign stands before them
+abbrev pub is_plain : Text → Bool
+is_plain text = nat_lt 0 (length text) && not (nat_lt 1 (length text) && (slice_index text 0 == 48)) && list_all is_ascii_digit text
+
+-- what was written for an option is spelled so
+abbrev pub is_plain_at : Text → List Row → Bool
+is_plain_at option rows = option_map_or (list_all is_plain) (all_of option rows) true
+
+-- the number that was written for an option, if it is spelled so
+abbrev pub number_at : Text → List Row → Option ℕ
+number_at option rows = if is_plain_at option rows then option_map number_of (one_of option rows) else None
+
+-- the page that two numbers name
+abbrev pub page_named : List Text → Option PageId
+page_named (seg ∷ index ∷ []) = Some (record { seg = number_of seg; index = number_of index })
+page_named _ = None
+
+-- the page that was written for `--page`, if one was
+abbrev pub page_at : List Row → Option PageId
+page_at rows = option_and_then page_named (all_of (codes "page") rows)
+
+abbrev pub rows_in : Option (Text × List Row) → List Row
+rows_in None = []
+rows_in (Some named) = named.1
+
+-- what stands behind the subcommand, where the program takes the words
+abbrev pub rows_given : List Text → List Row
+rows_given words = rows_in (subcommand_of app words)
+
+abbrev pub number_given : List Text → Text → Option ℕ
+number_given words option = number_at option (rows_given words)
+
+abbrev pub sites_given : List Text → Option ℕ
+sites_given words = number_given words (codes "sites")
+
+abbrev pub page_given : List Text → Option PageId
+page_given words = page_at (rows_given words)
+
+-- an option that has no value is there
+abbrev pub is_set_at : Text → List Row → Bool
+is_set_at option rows = option_map_or (λ text. bytes_eq text (codes "true")) (first_of option rows) false
+
+abbrev pub summary_given : List Text → Bool
+summary_given words = is_set_at (codes "summary") (rows_given words)
+
+-- the task has what is written for its options
+abbrev pub HasOptions : List Row → Task → Type 0
+HasOptions rows Replay = Unit {0}
+HasOptions rows (Run sites seed summary log) =
+    (number_at (codes "sites") rows ≡ Some sites) × (number_at (codes "seed") rows ≡ Some seed) × (is_set_at (codes "summary") rows ≡ summary)
+    × (first_of (codes "log") rows ≡ option_map (λ folder. folder.now) log)
+HasOptions rows Prompt = Unit {0}
+HasOptions rows (Draw page) = page ≡ page_at rows
+
+-- a subcommand's name, and what stands behind it, ask for the task
+pub record IsAsked (name : Text) (rows : List Row) (task : Task) : Type 0 where
+  pub called : name ≡ name_of task
+  pub options : HasOptions rows task
+
+-- ---- what is wrong with the words
+
+-- the numbers of a subcommand's options
+abbrev pub numbers : List Text
+numbers = codes "sites" ∷ codes "seed" ∷ codes "page" ∷ []
+
+abbrev pub are_plain : List Row → Bool
+are_plain rows = list_all (λ option. is_plain_at option rows) numbers
+
+abbrev pub has_plain_rows : Option (List Row) → Bool
+has_plain_rows rows = option_map_or are_plain rows true
+
+abbrev pub has_plain_numbers : List Text → Bool
+has_plain_numbers words = has_plain_rows (option_map (λ named. named.1) (subcommand_of app words))
+
+-- A word is longer than any that is told whole.
+abbrev pub is_long : Text → Bool
+is_long word = nat_lt 80 (length word)
+
+-- the program's own name may be as long as it likes
+abbrev pub has_long_word : List Text → Bool
+has_long_word words = list_any is_long (drop 1 words)
+
+-- where clap refuses the words, and one of them is long, that is told alone
+abbrev pub clap_fault : Bool → Kinds → Kinds
+clap_fault long [] = []
+clap_fault long (kind ∷ kinds) = if long then UnknownArgument ∷ [] else kind ∷ kinds
+
+abbrev pub spelling_fault : List Text → Kinds
+spelling_fault words = if has_plain_numbers words then [] else ValueValidation ∷ []
+
+-- the kinds of error that the words may give; none where the program takes them
+abbrev pub fault_in : List Text → Kinds
+fault_in words = or_else (clap_fault (has_long_word words) (fault_of app words)) (spelling_fault words)

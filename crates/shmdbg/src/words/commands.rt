@@ -1,0 +1,134 @@
+//! The commands that there are, with their options.
+ghost use Rattle.std.specs.Prelude.{◌≡◌, false, IfOk};
+ghost use Rattle.clap.specs.Words.{app_of, rule_of};
+ghost use Rattle.clap.specs.declared.builder.command.Command.TheViews.{out-Command};
+ghost use Rattle.shmdbg.specs.Commands as spec;
+
+use crate::words::help;
+use clap::{Arg, ArgAction, Command, value_parser};
+use std::alloc::{AllocError, Global};
+
+/// What help calls the numbers that name a page.
+const PAGE: [&str; 2] = ["SEG", "INDEX"];
+
+/// The program with all its subcommands.
+pub(crate) fn command<'a>(alloc: Global) -> Result<Command<'a>, AllocError>
+    ensures app { IfOk result (λ c. app_of c ≡ spec.app) }
+{
+    bare_command(alloc)
+        .subcommand(replay_command(alloc))?
+        .subcommand(run_command(alloc)?)?
+        .subcommand(prompt_command(alloc))?
+        .subcommand(draw_command(alloc)?)
+}
+
+/// The program without its subcommands.
+fn bare_command<'a>(alloc: Global) -> Command<'a>
+    ensures app { app_of result ≡ spec.bare_app }
+{
+    Command::new(alloc, "shmdbg")
+        .about("Shared memory segments over sites that have no memory in common")
+        .version(help::VERSION)
+        .after_help(help::PROGRAM)
+        .subcommand_required(true)
+}
+
+fn replay_command<'a>(alloc: Global) -> Command<'a>
+    ensures app { app_of result ≡ spec.replay_app }
+    ensures local { (out-Command result).has_globals ≡ false }
+{
+    Command::new(alloc, "replay")
+        .about("Replay the script on standard input")
+        .after_help(help::REPLAY)
+}
+
+fn run_command<'a>(alloc: Global) -> Result<Command<'a>, AllocError>
+    ensures app { IfOk result (λ c. app_of c ≡ spec.run_app) }
+    ensures local { IfOk result (λ c. (out-Command c).has_globals ≡ false) }
+{
+    Command::new(alloc, "run")
+        .about("Run the workload on standard input on sites in threads, and audit it")
+        .after_help(help::RUN)
+        .arg(sites_arg(alloc))?
+        .arg(seed_arg(alloc))?
+        .arg(summary_arg(alloc))?
+        .arg(log_arg(alloc))
+}
+
+fn prompt_command<'a>(alloc: Global) -> Command<'a>
+    ensures app { app_of result ≡ spec.prompt_app }
+    ensures local { (out-Command result).has_globals ≡ false }
+{
+    Command::new(alloc, "prompt")
+        .about("Answer each line as it is typed")
+        .after_help(help::PROMPT)
+}
+
+fn draw_command<'a>(alloc: Global) -> Result<Command<'a>, AllocError>
+    ensures app { IfOk result (λ c. app_of c ≡ spec.draw_app) }
+    ensures local { IfOk result (λ c. (out-Command c).has_globals ≡ false) }
+{
+    Command::new(alloc, "draw")
+        .about("Draw the run that the script on standard input leaves")
+        .after_help(help::DRAW)
+        .arg(page_arg(alloc))
+}
+
+fn sites_arg<'a>(alloc: Global) -> Arg<'a>
+    ensures rule { rule_of result ≡ spec.sites_rule }
+    ensures local { result.global ≡ false }
+{
+    Arg::new(alloc, "sites")
+        .long("sites")
+        .value_name("N")
+        .help("How many sites, 1 to 16")
+        .required(true)
+        .action(ArgAction::Set)
+        .value_parser(value_parser!(u32).range(1..=16))
+}
+
+fn seed_arg<'a>(alloc: Global) -> Arg<'a>
+    ensures rule { rule_of result ≡ spec.seed_rule }
+    ensures local { result.global ≡ false }
+{
+    Arg::new(alloc, "seed")
+        .long("seed")
+        .value_name("S")
+        .help("Where the losses and repeats are drawn from")
+        .required(true)
+        .action(ArgAction::Set)
+        .value_parser(value_parser!(u32))
+}
+
+fn page_arg<'a>(alloc: Global) -> Arg<'a>
+    ensures rule { rule_of result ≡ spec.page_rule }
+    ensures local { result.global ≡ false }
+{
+    Arg::new(alloc, "page")
+        .long("page")
+        .value_names(&PAGE)
+        .help("The page that is shown, by its segment and its index in it")
+        .action(ArgAction::Set)
+        .value_parser(value_parser!(u32))
+}
+
+fn summary_arg<'a>(alloc: Global) -> Arg<'a>
+    ensures rule { rule_of result ≡ spec.summary_rule }
+    ensures local { result.global ≡ false }
+{
+    Arg::new(alloc, "summary")
+        .long("summary")
+        .help("Tell at the end how much was done, and how long it took")
+        .action(ArgAction::SetTrue)
+}
+
+fn log_arg<'a>(alloc: Global) -> Arg<'a>
+    ensures rule { rule_of result ≡ spec.log_rule }
+    ensures local { result.global ≡ false }
+{
+    Arg::new(alloc, "log")
+        .long("log")
+        .value_name("DIR")
+        .help("Leave each site's log in this folder, which exists")
+        .action(ArgAction::Set)
+}

@@ -1,0 +1,79 @@
+//! What is written for a subcommand's options. Words that were taken have those that are required, in range.
+ghost use Rattle.std.specs.Prelude.{◌≡◌, Some, codes, map, IfSome};
+ghost use Rattle.clap.specs.Words.{found_of, rows_of};
+ghost use Rattle.shmdbg.specs.Words.{is_set_at, number_at, number_of, page_named, IsAsked};
+
+use crate::words::spelling::is_plain_at;
+use crate::words::task::Task;
+use clap::ArgMatches;
+use shm_place::{PageId, SegId, Sites};
+
+/// A run's options.
+pub(crate) fn run_task<'a>(found: &ArgMatches<'a>) -> Option<Task<'a>>
+    ensures { IfSome result (λ task. IsAsked (codes "run") (rows_of (found_of found.now)) task) }
+{
+    let sites = Sites::new(number(found, "sites")?).ok()?;
+    let seed = number(found, "seed")?;
+    let summary = is_set(found, "summary");
+    let log = found.get_str("log");
+    Some(Task::Run {
+        sites,
+        seed,
+        summary,
+        log,
+    })
+}
+
+/// Whether an option that has no value is there.
+fn is_set(found: &ArgMatches<'_>, option: &str) -> bool
+    ensures { result ≡ is_set_at option.now (rows_of (found_of found.now)) }
+{
+    match found.get_str(option) {
+        Some(text) => text == "true",
+        None => false,
+    }
+}
+
+/// The number that is written for an option.
+fn number(found: &ArgMatches<'_>, option: &str) -> Option<u32>
+    ensures { IfSome result (λ number. number_at option.now (rows_of (found_of found.now)) ≡ Some number) }
+{
+    if is_plain_at(found, option) {
+        found.get_one(option)
+    } else {
+        None
+    }
+}
+
+/// What is to be drawn.
+pub(crate) fn draw_task<'a>(found: &ArgMatches<'a>) -> Option<Task<'a>>
+    ensures { IfSome result (λ task. IsAsked (codes "draw") (rows_of (found_of found.now)) task) }
+{
+    match found.get_raw("page") {
+        Some(values) => {
+            let page = page_of(values)?;
+            Some(Task::Draw { page: Some(page) })
+        }
+        None => Some(Task::Draw { page: None }),
+    }
+}
+
+/// The page that is written as two numbers.
+fn page_of(values: &[&str]) -> Option<PageId>
+    ensures { IfSome result (λ page. page_named (map (λ value. value.now) values.now) ≡ Some page) }
+{
+    match values {
+        [seg, index] => {
+            let seg = SegId(plain_number(seg)?);
+            let index = plain_number(index)?;
+            Some(PageId { seg, index })
+        }
+        _ => None,
+    }
+}
+
+fn plain_number(value: &str) -> Option<u32>
+    ensures { IfSome result (λ number. number ≡ number_of value.now) }
+{
+    value.parse::<u32>().ok()
+}
