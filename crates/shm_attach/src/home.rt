@@ -6,12 +6,12 @@ ghost use Rattle.shm_model.specs.Site.{Site};
 ghost use Rattle.shm_model.specs.SegmentCalls.{on_call};
 
 use crate::done::Done;
-use crate::recall::{Recall, told_by};
+use crate::recall::{Recall, recall_of};
 use crate::run::execute;
-use shm_keys::{SegTable, Segment, SiteSet};
+use shm_keys::{SegTable, Segment};
 use shm_model::{Op, Reply};
 use shm_number::KeptReply;
-use shm_place::{SegId, SiteId};
+use shm_place::{SegId, SiteId, SiteSet};
 use std::alloc::{AllocError, Allocator, Global};
 use std::marker::Model;
 
@@ -32,7 +32,7 @@ impl<A: Allocator + Copy> Model for Home<A> {
 
 impl<A: Allocator + Copy> Home<A> {
     ghost use Rattle.shm_keys.specs.Purge.{is_above};
-    ghost use Rattle.shm_keys.specs.SiteSet.{has, has_none};
+    ghost use Rattle.shm_place.specs.SiteSet.{has, has_none};
     ghost use Rattle.shm_keys.specs.Table.{IsNumbered, is_purged_from, missing_of};
     ghost use Rattle.shm_attach.specs.Home.{answered, kept_of, sent_for, with_home};
 
@@ -65,7 +65,7 @@ impl<A: Allocator + Copy> Home<A> {
         ensures fresh { OnErr result (Fresh ≡ freshness (kept_of self.old.kept from) number) }
         ensures memory { OnErr result ((call self.old.table.sites self.old.table.home op self.old.table.segments).reply ≡ Id (next_id self.old.table.sites self.old.table.home self.old.table.segments)) }
     {
-        match told_by(&self.kept, from, number) {
+        match recall_of(&self.kept, from, number) {
             Recall::Old => Ok(None),
             Recall::Again(reply) => Ok(Some(Done {
                 reply,
@@ -107,12 +107,12 @@ impl<A: Allocator + Copy> Home<A> {
     }
 
     /// A site has purged a segment, which it is missing of no longer. Tells whether it was.
-    pub fn purged(&mut self, id: SegId, site: SiteId) -> bool
+    pub fn on_purged(&mut self, id: SegId, site: SiteId) -> bool
         ensures was_missing { result ≡ missing_of self.old.table id site }
         ensures missing { (other at : ℕ) → missing_of self.new.table other at ≡ (missing_of self.old.table other at && not ((other == id) && (at == site))) }
         ensures rest { self.new ≡ record self.old { table = record self.old.table { missing = self.new.table.missing } } }
     {
-        self.table.purged(id, site)
+        self.table.on_purged(id, site)
     }
 
     /// An equal home.

@@ -14,7 +14,7 @@ pub(crate) enum Recall {
     Old,
 }
 
-pub(crate) fn told_by(kept: &KeptReply<Reply>, from: SiteId, number: u64) -> Recall
+pub(crate) fn recall_of(kept: &KeptReply<Reply>, from: SiteId, number: u64) -> Recall
     requires { from < 16 }
     ensures { freshness_of result ≡ freshness (kept_of kept.now from) number }
 {

@@ -58,8 +58,8 @@ fn get<A: Allocator + Copy>(
     ensures memory { OnErr result ((call table.old.sites table.old.home (GetOp cred key size mode flags) table.old.segments).reply ≡ Id (next_id table.old.sites table.old.home table.old.segments)) }
 {
     match table.get(cred, key, size, mode, flags) {
-        Ok(id) => Ok(told(Reply::Id(id))),
-        Err(GetFault::Refused(errno)) => Ok(told(Reply::Refused(errno))),
+        Ok(id) => Ok(reply_alone(Reply::Id(id))),
+        Err(GetFault::Refused(errno)) => Ok(reply_alone(Reply::Refused(errno))),
         Err(GetFault::OutOfMemory) => Err(AllocError),
     }
 }
@@ -69,8 +69,8 @@ fn attach<A: Allocator + Copy>(table: &mut SegTable<A>, cred: Cred, id: SegId, r
     ensures { IsRun (AttachOp cred id ro) table.old table.new result }
 {
     match table.attach(cred, id, ro) {
-        Ok(attached) => told(Reply::Attached(attached)),
-        Err(errno) => told(Reply::Refused(errno)),
+        Ok(attached) => reply_alone(Reply::Attached(attached)),
+        Err(errno) => reply_alone(Reply::Refused(errno)),
     }
 }
 
@@ -80,7 +80,7 @@ fn detach<A: Allocator + Copy>(table: &mut SegTable<A>, id: SegId) -> Done
 {
     match table.detach(id) {
         Ok(()) => done(table, id),
-        Err(errno) => told(Reply::Refused(errno)),
+        Err(errno) => reply_alone(Reply::Refused(errno)),
     }
 }
 
@@ -90,7 +90,7 @@ fn remove<A: Allocator + Copy>(table: &mut SegTable<A>, cred: Cred, id: SegId) -
 {
     match table.remove(cred, id) {
         Ok(()) => done(table, id),
-        Err(errno) => told(Reply::Refused(errno)),
+        Err(errno) => reply_alone(Reply::Refused(errno)),
     }
 }
 
@@ -106,8 +106,8 @@ fn set<A: Allocator + Copy>(
     ensures { IsRun (SetOp cred id uid gid mode) table.old table.new result }
 {
     match table.set(cred, id, uid, gid, mode) {
-        Ok(()) => told(Reply::Ok),
-        Err(errno) => told(Reply::Refused(errno)),
+        Ok(()) => reply_alone(Reply::Ok),
+        Err(errno) => reply_alone(Reply::Refused(errno)),
     }
 }
 
@@ -116,13 +116,13 @@ fn stat<A: Allocator + Copy>(table: &SegTable<A>, cred: Cred, id: SegId) -> Done
     ensures { IsRun (StatOp cred id) table.now table.now result }
 {
     match table.stat(cred, id) {
-        Ok(stat) => told(Reply::Stat(stat)),
-        Err(errno) => told(Reply::Refused(errno)),
+        Ok(stat) => reply_alone(Reply::Stat(stat)),
+        Err(errno) => reply_alone(Reply::Refused(errno)),
     }
 }
 
 /// A reply to a call that destroyed nothing.
-fn told(reply: Reply) -> Done
+fn reply_alone(reply: Reply) -> Done
     ensures { result ≡ record { reply = reply; destroyed = None } }
 {
     Done {

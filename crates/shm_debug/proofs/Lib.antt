@@ -11,4 +11,4 @@ pub mod Booked
 pub mod Listing
 pub mod Paged
 pub mod Sending
-pub mod Telling
+pub mod TellingLemmas

@@ -84,14 +84,14 @@ some_read (Some m) b l h = cc
 
 -- a first line is answered alike, whatever stands
 pub said-first : (s : Option Standing) (l : Line) → is_first l ≡ true → said s l ≡ codes "ready"
-said-first s (Sites count preset frames) e = refl
+said-first s (Sites opening) e = refl
 said-first s (EventLine event) e = absurd (cc)
 said-first s (Show page) e = absurd (cc)
 said-first s (Back n) e = absurd (cc)
 
 -- after a line that may stand here something stands
 pub opened-next : (s : Option Standing) (l : Line) → is_first l ≡ not (is_some s) → is_some (next s l) ≡ true
-opened-next s (Sites count preset frames) e = refl
+opened-next s (Sites opening) e = refl
 opened-next None (EventLine event) e = absurd (cc)
 opened-next None (Show page) e = absurd (cc)
 opened-next None (Back n) e = absurd (cc)

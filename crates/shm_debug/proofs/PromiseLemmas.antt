@@ -2,12 +2,13 @@
 use Rattle.std.proofs.Common.{◌≡◌, ℕ, Bool, true, false, List, [], ◌∷◌, ◌&&◌, ◌==◌, ◌+◌, length, nat_lt, nat_le, take, All, Option, None, Some, Result, Ok, Err, cond, refl, sym}
 use Rattle.std.proofs.lemmas.List.Elements.{All-cons, All-nil, All-head, All-tail, All-take}
 use Rattle.shm_model.specs.declared.event.Event.{Event}
+use Rattle.shm_model.specs.Opening.{opening_with}
 use Rattle.shm_model.specs.World.{IsOpening, Opening}
-use Rattle.shm_lines.specs.Line.{line_of, may_stand}
+use Rattle.shm_lines.specs.Line.{line_of, may_stand, sites_line}
 use Rattle.shm_lines.specs.Spelling.{IsLine, spelling}
 use Rattle.shm_lines.specs.declared.line.Line.{Line}
 use Rattle.shm_lines.specs.declared.line.Line.TheVariants.{Sites, Event as EventLine, Show, Back}
-use Rattle.shm_debug.specs.Standing.{Standing, opening_of, without_last}
+use Rattle.shm_debug.specs.Standing.{Standing, without_last}
 use Rattle.shm_model.specs.Promise.{Promised}
 use Rattle.shm_debug.specs.Said.{next, standing_after}
 use Rattle.shm_debug.specs.Promise.{Kept}
@@ -20,7 +21,7 @@ abbrev pub Begins : Option Standing → Type 0
 Begins None = Unit {0}
 Begins (Some s) = IsOpening s.opening
 
-opens : (count : ℕ) (preset frames : Option ℕ) → IsLine (Sites count preset frames) → IsOpening (opening_of count preset frames)
+opens : (count : ℕ) (preset frames : Option ℕ) → IsLine (sites_line count preset frames) → IsOpening (opening_with count preset frames)
 opens count None None h = h.0
 opens count None (Some frames) h = absurd h.1
 opens count (Some size) None h = (h.0.0, h.0.1, h.1.0, h.1.1)
@@ -31,7 +32,7 @@ either true s t h k = h
 either false s t h k = k
 
 begins-next : (s : Option Standing) (line : Line) → IsLine line → Begins s → Begins (next s line)
-begins-next s (Sites count preset frames) is b = opens count preset frames is
+begins-next s (Sites opening) is b = opens opening.sites opening.preset opening.frames is
 begins-next None (EventLine e) is b = tt
 begins-next None (Show page) is b = tt
 begins-next None (Back n) is b = tt

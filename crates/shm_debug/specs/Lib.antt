@@ -9,7 +9,6 @@ pub mod Replay
 pub mod Reading
 pub mod Faults
 pub mod Checkpoints
-pub mod Opening
 pub mod Standing
 pub mod BackFaults
 pub mod Text

@@ -1,6 +1,7 @@
 -- What is said to each line of a script, and what stands after it. Each event's answer is that of the run of the events which stand, from
 -- the beginning; nothing else is remembered.
 use Rattle.std.specs.Prelude.{ℕ, ◌-◌, List, [], ◌∷◌, length, nat_le, if◌then◌else◌, Option, None, Some}
+use Rattle.shm_model.specs.Opening.{opening_of}
 use Rattle.shm_model.specs.World as model
 use Rattle.shm_model.specs.declared.event.Event.{Event}
 use Rattle.shm_lines.specs.declared.line.Line.{Line}
@@ -9,7 +10,7 @@ use Rattle.shm_debug.specs.Text.{event_text}
 use Rattle.shm_debug.specs.Page.{page_text}
 use Rattle.shm_debug.specs.Notice.{notice_text}
 use Rattle.shm_debug.specs.declared.notice.Notice.TheVariants as notice
-use Rattle.shm_debug.specs.Standing.{Standing, opening_of, stood, with_event, without_last}
+use Rattle.shm_debug.specs.Standing.{Standing, stood, with_event, without_last}
 
 -- an event: its answer, and the envelopes that it sent
 abbrev pub said_to_event : Standing → Event → List ℕ
@@ -21,7 +22,7 @@ said_to_back s n = if nat_le n (length s.events) then notice_text (notice.Back (
 
 -- before the first line nothing stands, and no other line has an answer there
 abbrev pub said : Option Standing → Line → List ℕ
-said s (line.Sites sites preset frames) = notice_text notice.Ready
+said s (line.Sites opening) = notice_text notice.Ready
 said None (line.Event e) = []
 said None (line.Show page) = []
 said None (line.Back n) = []
@@ -34,7 +35,7 @@ next_back s n = if nat_le n (length s.events) then without_last s n else s
 
 -- what stands after a line
 abbrev pub next : Option Standing → Line → Option Standing
-next s (line.Sites sites preset frames) = Some (record { opening = opening_of sites preset frames; events = [] })
+next s (line.Sites opening) = Some (record { opening = opening_of opening; events = [] })
 next None (line.Event e) = None
 next None (line.Show page) = None
 next None (line.Back n) = None

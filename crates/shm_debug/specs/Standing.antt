@@ -1,13 +1,7 @@
 -- What a debugger's session stands for: how its world began, and the events that weren't taken back.
-use Rattle.std.specs.Prelude.{ℕ, ◌-◌, List, [], ◌∷◌, ◌++◌, Option, Some, None, length, take}
+use Rattle.std.specs.Prelude.{ℕ, ◌-◌, List, [], ◌∷◌, ◌++◌, length, take}
 use Rattle.shm_model.specs.declared.event.Event.{Event}
-use Rattle.shm_model.specs.World.{Opening, New, Preset, Framed, World, run}
-
--- the opening of so many sites; with so many pages of segment 0, if any; and with so many frames at each site, if any, beside pages alone
-abbrev pub opening_of : ℕ → Option ℕ → Option ℕ → Opening
-opening_of sites None frames = New sites
-opening_of sites (Some pages) None = Preset sites pages
-opening_of sites (Some pages) (Some frames) = Framed sites pages frames
+use Rattle.shm_model.specs.World.{Opening, World, run}
 
 -- the oldest event first
 pub record Standing : Type 0 where

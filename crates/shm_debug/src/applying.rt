@@ -18,12 +18,12 @@ impl<A: Allocator + Copy> Session<A> {
         ensures ok { OnOk result (self.new ≡ with_event self.old event) }
         ensures err { OnErr result (self.new ≡ self.old) }
     {
-        answered(&mut self.world, &mut self.events, &event)
+        step_and_keep(&mut self.world, &mut self.events, &event)
     }
 }
 
 /// What the world answers to the event, which joins the others.
-fn answered<A: Allocator + Copy>(
+fn step_and_keep<A: Allocator + Copy>(
     world: &mut World<A>,
     events: &mut Vec<Event, A>,
     event: &Event,

@@ -44,12 +44,12 @@ impl<A: Allocator + Copy> Checkpoints<A> {
     pub(crate) fn drop_past(&mut self, count: u64)
         ensures { (s : Standing) → count ≤ length s.events → AllHold s self.old → AllHold (first_events count s) self.new }
     {
-        let kept = self.reached(count);
+        let kept = self.count_within(count);
         self.ring.truncate_back(kept);
     }
 
     /// How many checkpoints, from the oldest on, stand within the first `count` events.
-    fn reached(&self, count: u64) -> usize
+    fn count_within(&self, count: u64) -> usize
         ensures { result ≡ length (take_while (λ checkpoint. nat_le checkpoint.count count) self.now.ring.items) }
     {
         // Reading it tells the proof its limits.

@@ -1,17 +1,17 @@
 //! Going back: the last events are taken off, and the rest runs again from the latest checkpoint.
 ghost use Rattle.std.specs.Prelude.{◌≡◌, ◌≤◌, ◌<◌, ◌↔◌, List, IfOk, IsErrOf, OnErr, OnOk, length};
+ghost use Rattle.shm_model.specs.Opening.{opening_of};
 ghost use Rattle.shm_model.specs.World as model;
 ghost use Rattle.shm_model.specs.declared.event.Event.{Event};
 ghost use Rattle.shm_debug.specs.Checkpoints.{AllHold, Holds};
-ghost use Rattle.shm_debug.specs.Opening.{begins};
 ghost use Rattle.shm_debug.specs.Standing.{Standing, first_events, standing, stood, without_last};
 ghost use Rattle.shm_world.specs.World.{StandsFor};
 
 use crate::back_fault::BackFault;
 use crate::checkpoint::Checkpoint;
 use crate::checkpoints::Checkpoints;
-use crate::opening::Opening;
 use crate::session::Session;
+use shm_model::Opening;
 use shm_world::{Event, World};
 use std::alloc::{AllocError, Allocator};
 
@@ -57,10 +57,10 @@ fn world_after<A: Allocator + Copy>(
     checkpoints: &mut Checkpoints<A>,
     events: &[Event],
 ) -> Result<World<A>, AllocError>
-    requires opening { model.IsOpening (begins opening) }
-    requires checkpoints { AllHold (standing (begins opening) events.now) checkpoints.old }
-    ensures world { IfOk result (λ world. StandsFor world (stood (standing (begins opening) events.now))) }
-    ensures kept { AllHold (standing (begins opening) events.now) checkpoints.new }
+    requires opening { model.IsOpening (opening_of opening) }
+    requires checkpoints { AllHold (standing (opening_of opening) events.now) checkpoints.old }
+    ensures world { IfOk result (λ world. StandsFor world (stood (standing (opening_of opening) events.now))) }
+    ensures kept { AllHold (standing (opening_of opening) events.now) checkpoints.new }
 {
     let Checkpoint { count, mut world } = nearest(alloc, opening, checkpoints)?;
     run_on(&mut world, events, count as usize, checkpoints)?;
@@ -73,8 +73,8 @@ fn nearest<A: Allocator + Copy>(
     opening: Opening,
     checkpoints: &Checkpoints<A>,
 ) -> Result<Checkpoint<A>, AllocError>
-    requires { model.IsOpening (begins opening) }
-    ensures { (events : List Event) → AllHold (standing (begins opening) events) checkpoints.now → IfOk result (Holds (standing (begins opening) events)) }
+    requires { model.IsOpening (opening_of opening) }
+    ensures { (events : List Event) → AllHold (standing (opening_of opening) events) checkpoints.now → IfOk result (Holds (standing (opening_of opening) events)) }
 {
     match checkpoints.latest() {
         Some(checkpoint) => {
@@ -85,7 +85,7 @@ fn nearest<A: Allocator + Copy>(
             })
         }
         None => {
-            let world = opening.begin(alloc)?;
+            let world = World::begin(alloc, &opening)?;
             Ok(Checkpoint { count: 0, world })
         }
     }

@@ -9,7 +9,6 @@ mod checkpoints;
 mod going_back;
 pub mod laws;
 mod notice;
-mod opening;
 mod outcome;
 mod output;
 mod player;
@@ -20,7 +19,6 @@ mod telling;
 mod turns;
 
 pub use back_fault::BackFault;
-pub use opening::Opening;
 pub use outcome::{DebugFault, Summary};
 pub use player::Player;
 pub use script::replay;

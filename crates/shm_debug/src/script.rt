@@ -46,15 +46,15 @@ pub fn replay<A: Allocator + Copy, R: Read, W: Write>(
 {
     laws::every_script_keeps_the_promise();
     let Ok(mut output) = gathering(alloc) else {
-        return flushed(Err(DebugFault::OutOfMemory), writer);
+        return flush_at_end(Err(DebugFault::OutOfMemory), writer);
     };
     let played = play_all(alloc, reader, writer, &mut output);
-    let ended = written(played, &mut output, writer);
-    flushed(ended, writer)
+    let ended = write_rest(played, &mut output, writer);
+    flush_at_end(ended, writer)
 }
 
 /// Writes what is still pending, unless the writer has failed already.
-fn written<A: Allocator + Copy, W: Write>(
+fn write_rest<A: Allocator + Copy, W: Write>(
     played: Result<Summary, DebugFault>,
     output: &mut Text<A>,
     writer: &mut W,
@@ -74,7 +74,7 @@ fn written<A: Allocator + Copy, W: Write>(
 }
 
 /// Flushes the writer. That this fails counts only where nothing else has.
-fn flushed<W: Write>(
+fn flush_at_end<W: Write>(
     ended: Result<Summary, DebugFault>,
     writer: &mut W,
 ) -> Result<Summary, DebugFault>

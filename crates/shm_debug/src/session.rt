@@ -1,12 +1,11 @@
 ghost use Rattle.std.specs.Prelude.{◌≡◌, ◌==◌, [], IfOk, IsSome, length};
+ghost use Rattle.shm_model.specs.Opening.{opening_of};
 ghost use Rattle.shm_model.specs.World.{IsOpening};
-ghost use Rattle.shm_debug.specs.Opening.{begins};
-ghost use Rattle.shm_debug.specs.Standing.{opening_of, standing, stood};
+ghost use Rattle.shm_debug.specs.Standing.{standing, stood};
 ghost use Rattle.shm_world.specs.World.{StandsFor};
 
 use crate::checkpoints::Checkpoints;
-use crate::opening::Opening;
-use shm_place::Sites;
+use shm_model::Opening;
 use shm_world::{Event, World};
 use std::alloc::{AllocError, Allocator, Global};
 use std::marker::Model;
@@ -23,38 +22,27 @@ pub struct Session<A: Allocator + Copy = Global> {
 }
 
 impl<A: Allocator + Copy> Model for Session<A> {
+    ghost use Rattle.shm_model.specs.Opening.{opening_of};
     ghost use Rattle.shm_model.specs.World.{IsOpening};
     ghost use Rattle.shm_debug.specs.Checkpoints.{AllHold};
-    ghost use Rattle.shm_debug.specs.Opening.{begins};
     ghost use Rattle.shm_debug.specs.Standing.{Standing, standing, stood};
     ghost use Rattle.shm_world.specs.World.{StandsFor};
 
     ghost Value = { Standing };
 
-    ghost view = { λ s. standing (begins s.opening) s.events.items };
+    ghost view = { λ s. standing (opening_of s.opening) s.events.items };
 
-    ghost invariant = { λ s. StandsFor s.world (stood (standing (begins s.opening) s.events.items)) × AllHold (standing (begins s.opening) s.events.items) s.checkpoints × IsOpening (begins s.opening) };
+    ghost invariant = { λ s. StandsFor s.world (stood (standing (opening_of s.opening) s.events.items)) × AllHold (standing (opening_of s.opening) s.events.items) s.checkpoints × IsOpening (opening_of s.opening) };
 }
 
 impl<A: Allocator + Copy> Session<A> {
-    /// Nothing has happened yet. With `preset`, segment 0 has so many pages, which every site has attached, to read and write, as
-    /// attachment 0; with `frames`, at most so many pages are held as copies at each site.
-    pub fn new(
-        alloc: A,
-        sites: Sites,
-        preset: Option<u32>,
-        frames: Option<u32>,
-    ) -> Result<Session<A>, AllocError>
-        requires opening { IsOpening (opening_of sites preset frames) }
-        requires beside { IsSome frames → IsSome preset }
-        ensures { IfOk result (λ session. session ≡ standing (opening_of sites preset frames) []) }
+    /// Nothing has happened yet. The pages of a segment 0 are attached at every site, to read and write, as attachment 0.
+    pub fn new(alloc: A, opening: Opening) -> Result<Session<A>, AllocError>
+        requires opening { IsOpening (opening_of opening) }
+        requires beside { IsSome opening.frames → IsSome opening.preset }
+        ensures { IfOk result (λ session. session ≡ standing (opening_of opening) []) }
     {
-        let opening = Opening {
-            sites,
-            preset,
-            frames,
-        };
-        let world = opening.begin(alloc)?;
+        let world = World::begin(alloc, &opening)?;
         let checkpoints = Checkpoints::new(alloc)?;
         Ok(Session {
             opening,
@@ -74,7 +62,7 @@ impl<A: Allocator + Copy> Session<A> {
 
     /// How the world began.
     pub fn opening(&self) -> Opening
-        ensures { begins result ≡ self.now.opening }
+        ensures { opening_of result ≡ self.now.opening }
     {
         self.opening
     }

@@ -48,11 +48,7 @@ fn opened<A: Allocator + Copy>(alloc: A, line: Line) -> Result<Session<A>, Alloc
     ensures { IfOk result (λ session. next None line ≡ Some session) }
 {
     match line {
-        Line::Sites {
-            sites,
-            preset,
-            frames,
-        } => Session::new(alloc, sites, preset, frames),
+        Line::Sites(opening) => Session::new(alloc, opening),
         _ => unreachable!(),
     }
 }
@@ -73,7 +69,7 @@ fn turn<A: Allocator + Copy>(
         Line::Event(event) => happen(session, number, event, output),
         Line::Show(page) => output.tell_page(number, session.world(), page),
         Line::Back(count) => go_back(session, number, count, output),
-        Line::Sites { .. } => unreachable!(),
+        Line::Sites(_) => unreachable!(),
     }
 }
 

@@ -62,7 +62,7 @@ fn tell_label<A: Allocator + Copy>(
     let side = side_of(way.from, way.to);
     let number = way.number;
     let word = name_of(way.word);
-    let ended = ended_by(end);
+    let ended = end_text(end);
     write!(
         out,
         "<text class='m' x='{tip}' y='{y}' dy='4' {side}>m{number} {word}{ended}"
@@ -122,7 +122,7 @@ fn class_of(end: End) -> &'static str
     }
 }
 
-fn ended_by(end: End) -> &'static str
+fn end_text(end: End) -> &'static str
     ensures { result.now ≡ Svg.end_text end }
 {
     match end {

@@ -28,14 +28,14 @@ pub(crate) fn mark_of<A: Allocator + Copy>(
         Event::Begin { site, .. } => Mark::At(site.0, Symbol::Request),
         Event::Tick { site } => Mark::At(site.0, Symbol::Tick),
         Event::Restart { site } => Mark::At(site.0, Symbol::Restart),
-        Event::Deliver(number) => passed(world, origins, page, *number, End::HandedOver),
-        Event::Repeat(number) => passed(world, origins, page, *number, End::Repeated),
-        Event::Lose(number) => passed(world, origins, page, *number, End::Lost),
+        Event::Deliver(number) => numbered_arrow(world, origins, page, *number, End::HandedOver),
+        Event::Repeat(number) => numbered_arrow(world, origins, page, *number, End::Repeated),
+        Event::Lose(number) => numbered_arrow(world, origins, page, *number, End::Lost),
     }
 }
 
 /// The arrow of the envelope of this number, if there is one that is drawn.
-fn passed<A: Allocator + Copy>(
+fn numbered_arrow<A: Allocator + Copy>(
     world: &World<A>,
     origins: &[u64],
     page: &Option<PageId>,

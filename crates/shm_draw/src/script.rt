@@ -3,15 +3,13 @@ ghost use Rattle.std.specs.Prelude.{◌≡◌, ◌≤◌, ℕ, List, Some, Ok, E
 ghost use Rattle.std.specs.Io.KnownBytes.{Appends, Consumes};
 ghost use Rattle.shm_model.specs.World as model;
 ghost use Rattle.shm_debug.specs.Limits.{max_bytes};
-ghost use Rattle.shm_debug.specs.Opening.{begins};
 ghost use Rattle.shm_debug.specs.Reading.{Ended};
 ghost use Rattle.shm_debug.specs.Script.{script_of};
 ghost use Rattle.shm_debug.specs.declared.outcome.Summary.{Summary};
-ghost use Rattle.shm_world.specs.World.{StandsFor};
 ghost use Rattle.shm_draw.specs.Drawn.{BeganRight, Draws, Stands, Stopped, drawing};
 
 use crate::picture::picture_of;
-use shm_debug::{DebugFault, Opening, Player, Session, Text, read_up_to, write_whole};
+use shm_debug::{DebugFault, Player, Session, Text, read_up_to, write_whole};
 use shm_lines::laws::lines_have_one_spelling;
 use shm_place::PageId;
 use shm_world::World;
@@ -126,18 +124,6 @@ fn drawn_session<A: Allocator + Copy>(
     requires { model.IsOpening session.now.opening }
     ensures { IfOk result (λ picture. string_bytes picture ≡ drawing page (Some session.now)) }
 {
-    let world = opened(alloc, session.opening())?;
+    let world = World::begin(alloc, &session.opening())?;
     picture_of(alloc, world, session.events(), page)
-}
-
-/// The world before the first event.
-fn opened<A: Allocator + Copy>(alloc: A, opening: Opening) -> Result<World<A>, AllocError>
-    requires { model.IsOpening (begins opening) }
-    ensures { IfOk result (λ world. StandsFor world (model.opened (begins opening))) }
-{
-    match (opening.preset, opening.frames) {
-        (None, _) => World::new(alloc, opening.sites),
-        (Some(pages), None) => World::preset(alloc, opening.sites, pages),
-        (Some(pages), Some(frames)) => World::framed(alloc, opening.sites, pages, frames),
-    }
 }

@@ -6,7 +6,7 @@ use Rattle.std.proofs.lemmas.Bool.{and_left, false≢true, ne_eqb, cases_lt, cas
 use Rattle.std.proofs.lemmas.List.{get_or_default, get_or_past, set_split, set-get_or, take-append-drop}
 use Rattle.std.proofs.lemmas.List.Edits.{get_or-remove_below, get_or-remove_above, length-remove, length-insert, get_or-insert_below, get_or-insert_at, get_or-insert_above}
 use Rattle.std.proofs.lemmas.List.Folds.{list_any-append, list_any_none, list_all_at}
-use Rattle.shm_keys.specs.SiteSet.{has, has_none}
+use Rattle.shm_place.specs.SiteSet.{has, has_none}
 use Rattle.shm_keys.specs.Purge.{names, missing_in, IsRising}
 use Rattle.shm_keys.specs.declared.purge.Purge.{Purge}
 

@@ -1,4 +1,3 @@
-pub mod SiteSet
 pub mod Purge
 pub mod Table
 pub mod Answer

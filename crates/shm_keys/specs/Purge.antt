@@ -2,7 +2,7 @@
 use Rattle.std.specs.Prelude.{◌≡◌, ℕ, ◌<◌, Bool, true, false, ◌&&◌, ◌==◌, nat_lt, List, Option, Some, None, length, slice_index_or}
 use Rattle.std.specs.List.{list_any, AllPairs}
 use Rattle.shm_model.specs.Basics.{at}
-use Rattle.shm_keys.specs.SiteSet.{has, has_none}
+use Rattle.shm_place.specs.SiteSet.{has, has_none}
 use Rattle.shm_keys.specs.declared.purge.Purge.{Purge}
 
 abbrev pub names : ℕ → ℕ → Purge → Bool

@@ -11,11 +11,9 @@ mod purge;
 mod purging;
 mod replace;
 mod segment;
-mod site_set;
 mod table;
 
 pub use get::{GetFault, MAX_LIVE};
 pub use segment::Segment;
 pub use shm_model::{Attached, Cred, Errno, GetFlags, Mode, Stat};
-pub use site_set::SiteSet;
 pub use table::SegTable;

@@ -2,8 +2,7 @@ ghost use Rattle.std.specs.Prelude.{◌≡◌, ℕ, ◌+◌, ◌<◌, ◌≤◌,
 ghost use Rattle.shm_keys.specs.Purge.{missing_in, AllMissing, AllPass, IsRising};
 ghost use Rattle.shm_keys.specs.declared.purge.Purge.{Purge as Record};
 
-use crate::site_set::SiteSet;
-use shm_place::{SegId, SiteId, Sites};
+use shm_place::{SegId, SiteId, SiteSet, Sites};
 use std::alloc::Allocator;
 
 /// A destroyed segment that some sites have yet to purge.

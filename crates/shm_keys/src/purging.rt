@@ -1,11 +1,10 @@
 ghost use Rattle.std.specs.Prelude.{◌≡◌, ℕ, ◌≤◌, ◌==◌, ◌&&◌, not, true, false, nat_le, IfSome, IsSomeAnd};
 ghost use Rattle.shm_keys.specs.Purge.{is_above};
-ghost use Rattle.shm_keys.specs.SiteSet.{has, has_none};
+ghost use Rattle.shm_place.specs.SiteSet.{has, has_none};
 
 use crate::purge::{place_of, take};
-use crate::site_set::SiteSet;
 use crate::table::SegTable;
-use shm_place::{SegId, SiteId};
+use shm_place::{SegId, SiteId, SiteSet};
 use std::alloc::Allocator;
 
 impl<A: Allocator + Copy> SegTable<A> {
@@ -29,7 +28,7 @@ impl<A: Allocator + Copy> SegTable<A> {
     }
 
     /// A site has purged a segment, which it is missing of no longer. Tells whether it was.
-    pub fn purged(&mut self, id: SegId, site: SiteId) -> bool
+    pub fn on_purged(&mut self, id: SegId, site: SiteId) -> bool
         ensures was_missing { result ≡ missing_of self.old id site }
         ensures missing { (other at : ℕ) → missing_of self.new other at ≡ (missing_of self.old other at && not ((other == id) && (at == site))) }
         ensures rest { self.new ≡ record self.old { missing = self.new.missing } }

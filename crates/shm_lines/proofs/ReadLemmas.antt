@@ -13,10 +13,10 @@ use Rattle.shm_model.specs.declared.event.Event.TheVariants.{Load, Store, Tick, 
 use Rattle.shm_lines.proofs.OneWord.{IsPrinter, number, byte}
 use Rattle.shm_lines.proofs.StepLemmas.{step, some-is, cond-some, and-parts}
 use Rattle.shm_lines.specs.Words.{◌>>=◌, next_word, next_of, next_number, next_cred, next_named, is_from_1_to, is_end}
-use Rattle.shm_lines.specs.Line.{closed, sites_of, preset_of, frames_of, load_of, store_of, deliver_of, repeat_of, lose_of, tick_of, restart_of, show_of, back_of}
+use Rattle.shm_lines.specs.Line.{closed, sites_line, sites_of, preset_of, frames_of, load_of, store_of, deliver_of, repeat_of, lose_of, tick_of, restart_of, show_of, back_of}
 use Rattle.shm_lines.specs.Spelling.{IsCred, IsLine, spelled_words}
 use Rattle.shm_lines.specs.declared.line.Line.{Line}
-use Rattle.shm_lines.specs.declared.line.Line.TheVariants.{Sites, Event, Show, Back}
+use Rattle.shm_lines.specs.declared.line.Line.TheVariants.{Event, Show, Back}
 
 -- a line, and the words that it was read from
 abbrev pub Reads : List (List ℕ) → Line → Type 0
@@ -127,7 +127,7 @@ frames-is : (count size : ℕ) (words : List (List ℕ)) (line : Line) → IsInR
     → Reads (codes "sites" ∷ decimal count ∷ codes "preset" ∷ decimal size ∷ words) line
 frames-is count size words line n m h =
     let a = took_named (codes "frames") max_frames words _ line h in
-    let e = closed-is (Sites count (Some size) (Some a.value)) line a.others a.gives in
+    let e = closed-is (sites_line count (Some size) (Some a.value)) line a.others a.gives in
     subst (Reads (codes "sites" ∷ decimal count ∷ codes "preset" ∷ decimal size ∷ words)) e.1 (
       (n, (m, a.is)),
       ap (λ l. codes "sites" ∷ decimal count ∷ codes "preset" ∷ decimal size ∷ l) (a.are ∙ ap (λ l. codes "frames" ∷ decimal a.value ∷ l) e.0),
@@ -140,10 +140,10 @@ preset-is count words line n h =
     subst (λ l. Reads (codes "sites" ∷ decimal count ∷ l) line) (sym a.are) (go a.value a.others (is_end a.others) refl a.is a.gives)
   where
     go : (size : ℕ) (others : List (List ℕ)) (end : Bool) → is_end others ≡ end → IsInRange 1 pages size
-        → cond end (Some (Sites count (Some size) None)) (frames_of count size others) ≡ Some line
+        → cond end (Some (sites_line count (Some size) None)) (frames_of count size others) ≡ Some line
         → Reads (codes "sites" ∷ decimal count ∷ codes "preset" ∷ decimal size ∷ others) line
     go size others true e m g = subst (Reads (codes "sites" ∷ decimal count ∷ codes "preset" ∷ decimal size ∷ others))
-        (some-is (Sites count (Some size) None) line g)
+        (some-is (sites_line count (Some size) None) line g)
         ((n, m), ap (λ l. codes "sites" ∷ decimal count ∷ codes "preset" ∷ decimal size ∷ l) (is_end-nil others e))
     go size others false e m g = frames-is count size others line n m g
 
@@ -153,10 +153,10 @@ sites-is words line h =
     subst (λ l. Reads (codes "sites" ∷ l) line) (sym a.are) (go a.value a.others (is_from_1_to max_sites a.value) (is_end a.others) refl refl a.gives)
   where
     go : (count : ℕ) (others : List (List ℕ)) (some end : Bool) → is_from_1_to max_sites count ≡ some → is_end others ≡ end
-        → cond (not some) None (cond end (Some (Sites count None None)) (preset_of count others)) ≡ Some line
+        → cond (not some) None (cond end (Some (sites_line count None None)) (preset_of count others)) ≡ Some line
         → Reads (codes "sites" ∷ decimal count ∷ others) line
     go count others false end s e g = absurd (cc)
-    go count others true true s e g = subst (Reads (codes "sites" ∷ decimal count ∷ others)) (some-is (Sites count None None) line g)
+    go count others true true s e g = subst (Reads (codes "sites" ∷ decimal count ∷ others)) (some-is (sites_line count None None) line g)
         ((from_1 max_sites count s, tt), ap (λ l. codes "sites" ∷ decimal count ∷ l) (is_end-nil others e))
     go count others true false s e g = preset-is count others line (from_1 max_sites count s) g
 

@@ -16,7 +16,7 @@ use Rattle.shm_model.specs.declared.event.Event.TheVariants.{Load, Store, Begin,
 use Rattle.shm_lines.proofs.OneWord.{IsPrinter, number, byte, mode, flags, access}
 use Rattle.shm_lines.proofs.StepLemmas.{step-is, NoBlanks, NoBlank-test, has_none, words_of-join}
 use Rattle.shm_lines.specs.Words.{next_of, next_number, next_cred, is_from_1_to}
-use Rattle.shm_lines.specs.Line.{line_of, line_of_words, call}
+use Rattle.shm_lines.specs.Line.{line_of, line_of_words, sites_line, call}
 use Rattle.shm_model.specs.Mode.{mode_word}
 use Rattle.shm_lines.specs.Spelling.{IsNumber, IsCred, IsCall, IsEvent, IsOpened, IsLine, flags_word, access_word, call_words, event_words, first_words, spelling}
 use Rattle.shm_lines.specs.declared.line.Line.{Line}
@@ -40,23 +40,23 @@ in_range : (most n : ℕ) → IsInRange 1 most n → is_from_1_to most n ≡ tru
 in_range most n h = grind (arith, nat_tests)
 
 first-read : (count : ℕ) (preset frames : Option ℕ) → IsInRange 1 max_sites count → IsOpened preset frames
-    → line_of (join_with_byte 32 (first_words count preset frames)) ≡ Some (Sites count preset frames)
+    → line_of (join_with_byte 32 (first_words count preset frames)) ≡ Some (sites_line count preset frames)
 first-read count None None n h =
     let c : IsNumber count = omega arith in
-    stands (codes "sites") (decimal count ∷ []) (Sites count None None) refl (number.unparted count c, tt)
+    stands (codes "sites") (decimal count ∷ []) (sites_line count None None) refl (number.unparted count c, tt)
     (rw (prints number count [] c, in_range max_sites count n) refl)
 first-read count None (Some frames) n h = absurd h
 first-read count (Some size) None n h =
     let c : IsNumber count = omega arith in
     let s : IsNumber size = omega arith in
-    stands (codes "sites") (decimal count ∷ codes "preset" ∷ decimal size ∷ []) (Sites count (Some size) None) refl
+    stands (codes "sites") (decimal count ∷ codes "preset" ∷ decimal size ∷ []) (sites_line count (Some size) None) refl
     (number.unparted count c, (NoBlank-test (codes "preset") refl, (number.unparted size s, tt)))
     (rw (prints number count (codes "preset" ∷ decimal size ∷ []) c, in_range max_sites count n, prints number size [] s, in_range pages size h) refl)
 first-read count (Some size) (Some frames) n h =
     let c : IsNumber count = omega arith in
     let s : IsNumber size = omega (arith, h.0) in
     let f : IsNumber frames = omega (arith, h.1) in
-    stands (codes "sites") (decimal count ∷ codes "preset" ∷ decimal size ∷ codes "frames" ∷ decimal frames ∷ []) (Sites count (Some size) (Some frames)) refl
+    stands (codes "sites") (decimal count ∷ codes "preset" ∷ decimal size ∷ codes "frames" ∷ decimal frames ∷ []) (sites_line count (Some size) (Some frames)) refl
     (number.unparted count c, (NoBlank-test (codes "preset") refl, (number.unparted size s, (NoBlank-test (codes "frames") refl, (number.unparted frames f, tt)))))
     (rw (
       prints number count (codes "preset" ∷ decimal size ∷ codes "frames" ∷ decimal frames ∷ []) c,
@@ -150,7 +150,7 @@ event-read (Repeat k) h = stands (codes "repeat") (decimal k ∷ []) (EventLine 
 event-read (Lose k) h = stands (codes "lose") (decimal k ∷ []) (EventLine (Lose k)) refl (number.unparted k h, tt) (rw (prints number k [] h) refl)
 
 pub spelled-is_read : (line : Line) → IsLine line → line_of (spelling line) ≡ Some line
-spelled-is_read (Sites count preset frames) h = first-read count preset frames h.0 h.1
+spelled-is_read (Sites opening) h = first-read opening.sites opening.preset opening.frames h.0 h.1
 spelled-is_read (EventLine event) h = event-read event h
 spelled-is_read (Show page) h =
     stands (codes "show") (decimal page.seg ∷ decimal page.index ∷ []) (Show page) refl

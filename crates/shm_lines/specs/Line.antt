@@ -17,21 +17,24 @@ closed line words = if is_end words then Some line else None
 
 -- ---- the first line: `sites N`, `sites N preset P`, `sites N preset P frames F`
 
+abbrev pub sites_line : ℕ → Option ℕ → Option ℕ → Line
+sites_line count preset frames = Sites (record { sites = count; preset = preset; frames = frames })
+
 abbrev pub frames_of : ℕ → ℕ → List (List ℕ) → Option Line
 frames_of count size words = do
   (frames, words) ← next_named (codes "frames") max_frames words
-  closed (Sites count (Some size) (Some frames)) words
+  closed (sites_line count (Some size) (Some frames)) words
 
 abbrev pub preset_of : ℕ → List (List ℕ) → Option Line
 preset_of count words = do
   (size, words) ← next_named (codes "preset") pages words
-  if is_end words then Some (Sites count (Some size) None) else frames_of count size words
+  if is_end words then Some (sites_line count (Some size) None) else frames_of count size words
 
 abbrev pub sites_of : List (List ℕ) → Option Line
 sites_of words = do
   (count, words) ← next_number words
   if not (is_from_1_to max_sites count) then None
-      else if is_end words then Some (Sites count None None)
+      else if is_end words then Some (sites_line count None None)
       else preset_of count words
 
 -- ---- accesses: `load site attachment offset`, `store site attachment offset byte`
@@ -186,7 +189,7 @@ line_of bytes = line_of_words (words_of bytes)
 -- ---- where a line stands
 
 abbrev pub is_first : Line → Bool
-is_first (Sites count preset frames) = true
+is_first (Sites opening) = true
 is_first _ = false
 
 -- what happens at a site or on the network; `show` and `back` don't count

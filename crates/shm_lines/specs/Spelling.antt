@@ -12,6 +12,7 @@ use Rattle.shm_model.specs.declared.call.Request.TheVariants.{Op as OpRequest, D
 use Rattle.shm_model.specs.declared.event.Event.{Event}
 use Rattle.shm_model.specs.declared.event.Event.TheVariants.{Load, Store, Begin, Tick, Restart, Deliver, Repeat, Lose}
 use Rattle.shm_model.specs.declared.mode.GetFlags.{GetFlags}
+use Rattle.shm_model.specs.declared.opening.Opening.{Opening}
 use Rattle.shm_model.specs.Book.{max_sites}
 use Rattle.shm_model.specs.Mode.{mode_word}
 use Rattle.shm_lines.specs.declared.line.Line.{Line}
@@ -64,7 +65,7 @@ IsOpened (Some size) None = IsInRange 1 pages size
 IsOpened (Some size) (Some frames) = IsInRange 1 pages size × IsInRange 1 max_frames frames
 
 abbrev pub IsLine : Line → Type 0
-IsLine (Sites count preset frames) = IsInRange 1 max_sites count × IsOpened preset frames
+IsLine (Sites opening) = IsInRange 1 max_sites opening.sites × IsOpened opening.preset opening.frames
 IsLine (EventLine event) = IsEvent event
 IsLine (Show page) = IsNumber page.seg × IsNumber page.index
 IsLine (Back n) = IsNumber n
@@ -110,8 +111,11 @@ first_words count None (Some frames) = codes "sites" ∷ decimal count ∷ codes
 first_words count (Some size) None = codes "sites" ∷ decimal count ∷ codes "preset" ∷ decimal size ∷ []
 first_words count (Some size) (Some frames) = codes "sites" ∷ decimal count ∷ codes "preset" ∷ decimal size ∷ codes "frames" ∷ decimal frames ∷ []
 
+abbrev pub opening_words : Opening → List (List ℕ)
+opening_words opening = first_words opening.sites opening.preset opening.frames
+
 abbrev pub spelled_words : Line → List (List ℕ)
-spelled_words (Sites count preset frames) = first_words count preset frames
+spelled_words (Sites opening) = opening_words opening
 spelled_words (EventLine event) = event_words event
 spelled_words (Show page) = codes "show" ∷ decimal page.seg ∷ decimal page.index ∷ []
 spelled_words (Back n) = codes "back" ∷ decimal n ∷ []

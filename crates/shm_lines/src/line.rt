@@ -1,17 +1,12 @@
 //! A line of a script, as data, and where it may stand.
-use shm_model::Event;
-use shm_place::{PageId, Sites};
+use shm_model::{Event, Opening};
+use shm_place::PageId;
 
 /// A line of a script.
 #[derive(Clone, Copy, Debug, PartialEq, Eq)]
 pub enum Line {
-    /// The first line: the sites, the pages of segment 0 if it stands from the beginning, and the pages that each site has as copies
-    /// at most, if there is such a limit. A line that is read has `frames` only beside a `preset`.
-    Sites {
-        sites: Sites,
-        preset: Option<u32>,
-        frames: Option<u32>,
-    },
+    /// The first line: how the sites begin. A line that is read has `frames` only beside a `preset`.
+    Sites(Opening),
     Event(Event),
     /// What each site has of a page, and what its manager knows.
     Show(PageId),
@@ -38,7 +33,7 @@ impl Line {
         ensures { result ≡ said.is_first self.now }
     {
         match self {
-            Line::Sites { .. } => true,
+            Line::Sites(_) => true,
             _ => false,
         }
     }

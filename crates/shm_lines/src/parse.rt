@@ -6,7 +6,7 @@ ghost use Rattle.shm_lines.specs.Line.{line_of, by_verb, others, sites_of, prese
 use crate::line::Line;
 use crate::parse_calls::call;
 use crate::words::Words;
-use shm_model::Event;
+use shm_model::{Event, Opening};
 use shm_place::{MAX_FRAMES, PAGES, PageId, SegId, SiteId, Sites};
 
 /// The bytes are no line of a script.
@@ -72,11 +72,7 @@ fn sites(words: Words<'_>) -> Option<Line>
     let (count, words) = words.number()?;
     let sites = Sites::new(count).ok()?;
     if words.is_empty() {
-        return Some(Line::Sites {
-            sites,
-            preset: None,
-            frames: None,
-        });
+        return Some(Line::Sites(Opening::new(sites)));
     }
     preset(sites, words)
 }
@@ -84,13 +80,9 @@ fn sites(words: Words<'_>) -> Option<Line>
 fn preset(sites: Sites, words: Words<'_>) -> Option<Line>
     ensures { result ≡ preset_of sites words.entry }
 {
-    let (size, words) = named(b"preset".as_slice(), PAGES, words)?;
+    let (size, words) = named_number(b"preset".as_slice(), PAGES, words)?;
     if words.is_empty() {
-        return Some(Line::Sites {
-            sites,
-            preset: Some(size),
-            frames: None,
-        });
+        return Some(Line::Sites(Opening::preset(sites, size)));
     }
     frames(sites, size, words)
 }
@@ -98,16 +90,12 @@ fn preset(sites: Sites, words: Words<'_>) -> Option<Line>
 fn frames(sites: Sites, size: u32, words: Words<'_>) -> Option<Line>
     ensures { result ≡ frames_of sites size words.entry }
 {
-    let (frames, words) = named(b"frames".as_slice(), MAX_FRAMES, words)?;
-    words.closed(Line::Sites {
-        sites,
-        preset: Some(size),
-        frames: Some(frames),
-    })
+    let (frames, words) = named_number(b"frames".as_slice(), MAX_FRAMES, words)?;
+    words.closed(Line::Sites(Opening::framed(sites, size, frames)))
 }
 
 /// This word and a number from 1 to `most`, and the words after them.
-fn named<'a>(name: &[u8], most: u32, words: Words<'a>) -> Option<(u32, Words<'a>)>
+fn named_number<'a>(name: &[u8], most: u32, words: Words<'a>) -> Option<(u32, Words<'a>)>
     ensures { result ≡ next_named name.now most words.entry }
 {
     let (word, words) = words.word()?;

@@ -14,16 +14,8 @@ impl fmt::Display for Line {
     /// The line as a script has it, without a line feed.
     fn fmt<W: fmt::Write>(&self, f: &mut fmt::Formatter<W>) -> fmt::Result {
         match self {
-            Line::Sites {
-                sites,
-                preset,
-                frames,
-            } => {
-                let first = First {
-                    count: sites.count(),
-                    preset: *preset,
-                    frames: *frames,
-                };
+            Line::Sites(opening) => {
+                let first = First(*opening);
                 write!(f, "{first}")
             }
             Line::Event(event) => {

@@ -57,7 +57,7 @@ fn further_lines<A: Allocator>(
         let number = accesses.len() as u64 + 2;
         let (line, others) = split_at(rest, b'\n');
         let Some(others) = others else {
-            return ended(size, accesses, number, line);
+            return finish(size, accesses, number, line);
         };
         match access_line(sites, size, number, line) {
             Ok(access) => match accesses.push(access) {
@@ -71,7 +71,7 @@ fn further_lines<A: Allocator>(
 }
 
 /// The workload that ends with this, which has no line feed.
-fn ended<A: Allocator>(
+fn finish<A: Allocator>(
     size: u32,
     accesses: Vec<Access, A>,
     number: u64,

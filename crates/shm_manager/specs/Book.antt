@@ -5,7 +5,7 @@ use Rattle.shm_model.specs.Book as model
 use Rattle.shm_number.specs.Served.{served_of}
 use Rattle.shm_number.specs.declared.counter.UsedUp.{UsedUp}
 use Rattle.shm_manager.specs.declared.book.Book.{Book}
-use Rattle.shm_manager.specs.SiteSet.{is_member}
+use Rattle.shm_place.specs.SiteSet.{has}
 
 abbrev pub run_of : Kind → ℕ → model.Running
 run_of kind requester = record { kind = kind; requester = requester }
@@ -18,10 +18,10 @@ module _ {A : Type 0} where
   abbrev pub book_of : Book A → model.Book
   book_of b = record {
     owner = b.owner;
-    copies = is_member b.copies;
+    copies = has b.copies;
     number = b.number;
     running = running_of b.running;
-    cleared = is_member b.cleared;
+    cleared = has b.cleared;
     served = served_of b.served;
     waiting = b.waiting;
   }

@@ -1,4 +1,3 @@
-pub mod SiteSet
 pub mod Order
 pub mod Queue
 pub mod Book

@@ -1,13 +1,12 @@
 ghost use Rattle.std.specs.Prelude.{◌≡◌, IfOk};
 ghost use Rattle.shm_model.specs.Book as model;
 ghost use Rattle.shm_manager.specs.Book.{book_of, kind_and_requester, untouched_at};
-ghost use Rattle.shm_manager.specs.SiteSet.{is_member};
+ghost use Rattle.shm_place.specs.SiteSet.{has};
 
 use crate::queue::Queue;
-use crate::site_set::SiteSet;
 use shm_model::Kind;
 use shm_number::Served;
-use shm_place::SiteId;
+use shm_place::{SiteId, SiteSet};
 use std::alloc::{AllocError, Allocator, Global};
 
 /// The book that a page's manager keeps. One transaction runs at a time; up to 16 requests wait behind it.
@@ -55,7 +54,7 @@ impl<A: Allocator> Book<A> {
 
     /// The sites that may have a copy beside the owner's.
     pub fn copies(&self) -> SiteSet
-        ensures { is_member result ≡ (book_of self.now).copies }
+        ensures { has result ≡ (book_of self.now).copies }
     {
         self.copies
     }

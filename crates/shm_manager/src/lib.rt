@@ -7,9 +7,7 @@ mod book;
 mod orders;
 mod queue;
 mod rows;
-mod site_set;
 
 pub use book::Book;
 pub use orders::{Order, Orders};
 pub use shm_model::Kind;
-pub use site_set::SiteSet;

@@ -8,10 +8,9 @@ ghost use Rattle.shm_manager.specs.Book.{book_of, run_of, row_of, asked_row_of, 
 use crate::ask::Ask;
 use crate::book::Book;
 use crate::orders::Orders;
-use crate::site_set::SiteSet;
 use shm_model::Kind;
 use shm_number::UsedUp;
-use shm_place::SiteId;
+use shm_place::{SiteId, SiteSet};
 use std::alloc::Allocator;
 
 impl<A: Allocator> Book<A> {
@@ -98,7 +97,7 @@ impl<A: Allocator> Book<A> {
         requires { self.now.running ≡ Some (kind, requester) }
         ensures { result ≡ model.hand_if_cleared (book_of self.now) (run_of kind requester) (model.awaited (book_of self.now) (run_of kind requester)) }
     {
-        if self.awaited(kind, requester).is_empty() {
+        if self.orders_to_clear(kind, requester).is_empty() {
             return Orders::hand(self.owner, requester, kind);
         }
         Orders::none()
@@ -164,7 +163,7 @@ impl<A: Allocator> Book<A> {
     fn orders_for(&self, kind: Kind, requester: SiteId) -> Orders
         ensures { result ≡ model.orders_to (book_of self.now) (run_of kind requester) (model.awaited (book_of self.now) (run_of kind requester)) }
     {
-        let clears = self.awaited(kind, requester);
+        let clears = self.orders_to_clear(kind, requester);
         if clears.is_empty() {
             return Orders::hand(self.owner, requester, kind);
         }
@@ -172,7 +171,7 @@ impl<A: Allocator> Book<A> {
     }
 
     /// An order to clear for each site that the transaction still waits for.
-    fn awaited(&self, kind: Kind, requester: SiteId) -> Orders
+    fn orders_to_clear(&self, kind: Kind, requester: SiteId) -> Orders
         ensures { result ≡ map model.ClearTo (model.awaited (book_of self.now) (run_of kind requester)) }
     {
         let mut clears = Orders::none();

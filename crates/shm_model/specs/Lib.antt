@@ -13,6 +13,7 @@ pub mod Transfer
 pub mod SegmentCalls
 pub mod Step
 pub mod World
+pub mod Opening
 pub mod Memory
 pub mod History
 pub mod Promise

@@ -8,6 +8,7 @@ mod event;
 mod kind;
 mod limits;
 mod mode;
+mod opening;
 pub mod refusal;
 
 pub use answer::{Access, Answer, Shown, State};
@@ -16,4 +17,5 @@ pub use event::Event;
 pub use kind::Kind;
 pub use limits::MAX_SENT;
 pub use mode::{GetFlags, Mode};
+pub use opening::Opening;
 pub use refusal::Numbered;

@@ -31,7 +31,7 @@ impl<A: Allocator + Copy> Model for CopyPage<A> {
 
 impl<A: Allocator + Copy> CopyPage<A> {
     /// The copy that a grant brings.
-    pub(crate) fn granted(grant: ReadGrant<A>) -> CopyPage<A>
+    pub(crate) fn from_grant(grant: ReadGrant<A>) -> CopyPage<A>
         ensures { result ≡ page_of grant.number grant.bytes }
     {
         let seen = grant.number();
@@ -76,7 +76,7 @@ impl<A: Allocator + Copy> CopyPage<A> {
         requires { self.seen < grant.number }
         ensures { result ≡ page_of grant.number grant.bytes }
     {
-        CopyPage::granted(grant)
+        CopyPage::from_grant(grant)
     }
 
     /// The page comes, and this site owns it. Where memory is refused, page and grant come back.
@@ -88,7 +88,7 @@ impl<A: Allocator + Copy> CopyPage<A> {
         ensures installed { IfOk result (λ page. page ≡ page_of grant.number grant.bytes) }
         ensures refused { IfErr result (λ e. (e.0 ≡ self) × (e.1 ≡ grant)) }
     {
-        match OwnWritePage::granted(&grant) {
+        match OwnWritePage::from_grant(&grant) {
             Ok(page) => Ok(page),
             Err(error) => Err((self, grant, error)),
         }

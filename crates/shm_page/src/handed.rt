@@ -120,7 +120,7 @@ impl<A: Allocator + Copy> HandedPage<A> {
         requires { self.seen < grant.number }
         ensures { result ≡ page_of grant.number grant.bytes }
     {
-        CopyPage::granted(grant)
+        CopyPage::from_grant(grant)
     }
 
     /// The page comes back, and this site owns it again. Where memory is refused, page and grant come back.
@@ -132,7 +132,7 @@ impl<A: Allocator + Copy> HandedPage<A> {
         ensures installed { IfOk result (λ page. page ≡ page_of grant.number grant.bytes) }
         ensures refused { IfErr result (λ e. (e.0 ≡ self) × (e.1 ≡ grant)) }
     {
-        match OwnWritePage::granted(&grant) {
+        match OwnWritePage::from_grant(&grant) {
             Ok(page) => Ok(page),
             Err(error) => Err((self, grant, error)),
         }

@@ -50,7 +50,7 @@ impl NilPage {
         requires { self.seen < grant.number }
         ensures { result ≡ page_of grant.number grant.bytes }
     {
-        CopyPage::granted(grant)
+        CopyPage::from_grant(grant)
     }
 
     /// The page comes, and this site owns it. Where memory is refused, page and grant come back.
@@ -62,7 +62,7 @@ impl NilPage {
         ensures installed { IfOk result (λ page. page ≡ page_of grant.number grant.bytes) }
         ensures refused { IfErr result (λ e. (e.0 ≡ self) × (e.1 ≡ grant)) }
     {
-        match OwnWritePage::granted(&grant) {
+        match OwnWritePage::from_grant(&grant) {
             Ok(page) => Ok(page),
             Err(error) => Err((self, grant, error)),
         }

@@ -80,13 +80,17 @@ impl<A: Allocator + Copy> OwnReadPage<A> {
         ensures grant { IfOk result (λ r. r.1 ≡ grant_of number self.bytes) }
         ensures refused { IfErr result (λ e. e.0 ≡ self) }
     {
-        match self.handed(number, to) {
+        match self.hand_bytes(number, to) {
             Ok(handed) => Ok(handed),
             Err(error) => Err((self, error)),
         }
     }
 
-    fn handed(&self, number: u64, to: SiteId) -> Result<(HandedPage<A>, WriteGrant<A>), AllocError>
+    fn hand_bytes(
+        &self,
+        number: u64,
+        to: SiteId,
+    ) -> Result<(HandedPage<A>, WriteGrant<A>), AllocError>
         ensures page { IfOk result (λ r. r.0 ≡ handed_of number to self.now.bytes) }
         ensures grant { IfOk result (λ r. r.1 ≡ grant_of number self.now.bytes) }
     {

@@ -71,7 +71,7 @@ impl<A: Allocator + Copy> OwnWritePage<A> {
     }
 
     /// The page that a grant brings.
-    pub(crate) fn granted(grant: &WriteGrant<A>) -> Result<OwnWritePage<A>, AllocError>
+    pub(crate) fn from_grant(grant: &WriteGrant<A>) -> Result<OwnWritePage<A>, AllocError>
         ensures { IfOk result (λ page. page ≡ page_of grant.now.number grant.now.bytes) }
     {
         let bytes = grant.to_vec()?;
@@ -88,7 +88,7 @@ impl<A: Allocator + Copy> OwnWritePage<A> {
         ensures grant { IfOk result (λ r. r.1 ≡ grant_of number self.bytes) }
         ensures refused { IfErr result (λ e. e.0 ≡ self) }
     {
-        match self.lent(number) {
+        match self.lend_bytes(number) {
             Ok((shared, grant)) => {
                 let OwnWritePage { seen: _, bytes } = self;
                 Ok((OwnReadPage::of(number, bytes, shared), grant))
@@ -97,7 +97,7 @@ impl<A: Allocator + Copy> OwnWritePage<A> {
         }
     }
 
-    fn lent(&self, number: u64) -> Result<(Bytes<A>, ReadGrant<A>), AllocError>
+    fn lend_bytes(&self, number: u64) -> Result<(Bytes<A>, ReadGrant<A>), AllocError>
         ensures shared { IfOk result (λ r. r.0 ≡ self.now.bytes) }
         ensures whole { IfOk result (λ r. length r.0 ≡ page_bytes) }
         ensures grant { IfOk result (λ r. r.1 ≡ grant_of number self.now.bytes) }
@@ -118,13 +118,17 @@ impl<A: Allocator + Copy> OwnWritePage<A> {
         ensures grant { IfOk result (λ r. r.1 ≡ grant_of number self.bytes) }
         ensures refused { IfErr result (λ e. e.0 ≡ self) }
     {
-        match self.handed(number, to) {
+        match self.hand_bytes(number, to) {
             Ok(handed) => Ok(handed),
             Err(error) => Err((self, error)),
         }
     }
 
-    fn handed(&self, number: u64, to: SiteId) -> Result<(HandedPage<A>, WriteGrant<A>), AllocError>
+    fn hand_bytes(
+        &self,
+        number: u64,
+        to: SiteId,
+    ) -> Result<(HandedPage<A>, WriteGrant<A>), AllocError>
         ensures page { IfOk result (λ r. r.0 ≡ handed_of number to self.now.bytes) }
         ensures grant { IfOk result (λ r. r.1 ≡ grant_of number self.now.bytes) }
     {

@@ -79,7 +79,7 @@ impl<V: Drop, A: Allocator + Copy> Line<V, A> {
         ensures refused { OnErr result (self.new ≡ self.old) }
     {
         let Some(cache) = &mut self.cache else {
-            self.cache = Some(opened(self.alloc, page, value)?);
+            self.cache = Some(cache_with(self.alloc, page, value)?);
             self.last = page.index;
             return Ok(());
         };
@@ -179,7 +179,7 @@ impl<V: Drop, A: Allocator + Copy> Line<V, A> {
 type Cache<V, A> = LruCache<PageId, V, lru::DefaultHasher, A>;
 
 /// A cache that never gives a page up by itself, with this page alone.
-fn opened<V: Drop, A: Allocator + Copy>(
+fn cache_with<V: Drop, A: Allocator + Copy>(
     alloc: A,
     page: PageId,
     value: V,

@@ -21,7 +21,7 @@ impl<A: Allocator + Copy> Holdings<A> {
     pub fn new(alloc: A) -> Holdings<A>
         ensures { (sites me : ℕ) → (site : Site) → with_holdings sites me result site ≡ record site { entries = untouched sites me; attachments = λ _. None; purged = λ _. false; frames = None } }
     {
-        Holdings::opened(alloc, None)
+        Holdings::empty(alloc, None)
     }
 
     /// Segment 0 with so many pages is attached as attachment 0, to read and write; its pages' entries are stored. `limit`: how many
@@ -37,14 +37,14 @@ impl<A: Allocator + Copy> Holdings<A> {
         requires to { pages ≤ PAGES }
         ensures { IfOk result (λ held. (site : Site) → with_holdings sites me held site ≡ record site { entries = untouched sites me; attachments = at (λ _. None) 0 (Some (preset_attachment pages)); purged = λ _. false; frames = option_map framed limit }) }
     {
-        let mut held = Holdings::opened(alloc, limit);
+        let mut held = Holdings::empty(alloc, limit);
         let bytes = PAGE_BYTES as u32 * pages;
         held.attach(sites, me, SegId(0), bytes, false)?;
         Ok(held)
     }
 
     /// Nothing is held, and `limit` says how many copies there may be, if that is limited.
-    fn opened(alloc: A, limit: Option<u32>) -> Holdings<A>
+    fn empty(alloc: A, limit: Option<u32>) -> Holdings<A>
         ensures held { (sites me : ℕ) → (site : Site) → with_holdings sites me result site ≡ record site { entries = untouched sites me; attachments = λ _. None; purged = λ _. false; frames = option_map framed limit } }
         ensures purged { purged_of result.purged ≡ (λ _. false) }
         ensures attachments { attachments_of result.attachments ≡ (λ _. None) }

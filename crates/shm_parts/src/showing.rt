@@ -45,7 +45,7 @@ impl<A: Allocator + Copy> Holdings<A> {
                 state: state_of(entry),
                 seen: entry.seen(),
             },
-            None => untouched(manager_of(sites, *place) == me),
+            None => untouched_page(manager_of(sites, *place) == me),
         }
     }
 
@@ -101,7 +101,7 @@ fn state_of<A: Allocator + Copy>(entry: &Entry<A>) -> State
 }
 
 /// An untouched page is its manager's to write.
-fn untouched(is_manager: bool) -> Shown
+fn untouched_page(is_manager: bool) -> Shown
     ensures { result ≡ shown_of false (if is_manager then OwnWrite 0 blank else Nil 0) }
 {
     Shown {

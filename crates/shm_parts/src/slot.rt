@@ -58,7 +58,7 @@ pub(crate) fn turn_in<A: Allocator + Copy>(
 {
     let seen = entry.seen();
     let before = mem::replace(entry, Entry::Nil(NilPage::after(0)));
-    match turned(before, me, note) {
+    match turn(before, me, note) {
         Ok((after, out)) => {
             let change = change_since(seen, &after);
             *entry = after;
@@ -80,7 +80,7 @@ pub(crate) fn forget_in<A: Allocator + Copy>(entry: &mut Entry<A>)
 }
 
 /// The entry that the note makes of this one, and what the site sends. Where memory is refused, both come back.
-fn turned<A: Allocator + Copy>(
+fn turn<A: Allocator + Copy>(
     entry: Entry<A>,
     me: SiteId,
     note: Note<A>,
@@ -91,7 +91,7 @@ fn turned<A: Allocator + Copy>(
 {
     match note {
         Note::Clear(number) => Ok(clear(entry, number)),
-        Note::Hand { number, kind, to } => handed(entry, me, number, kind, to),
+        Note::Hand { number, kind, to } => hand(entry, me, number, kind, to),
         Note::Read(grant) => Ok(take_copy(entry, grant)),
         Note::Write(grant) => match take_ownership(entry, grant) {
             Ok(taken) => Ok(taken),
@@ -102,7 +102,7 @@ fn turned<A: Allocator + Copy>(
 }
 
 /// The entry that a Hand makes of this one, and what the site sends. Where memory is refused, both come back.
-fn handed<A: Allocator + Copy>(
+fn hand<A: Allocator + Copy>(
     entry: Entry<A>,
     me: SiteId,
     number: u64,

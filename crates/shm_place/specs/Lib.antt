@@ -2,3 +2,4 @@ pub mod Limits
 pub mod Home
 pub mod Page
 pub mod Offset
+pub mod SiteSet

@@ -13,31 +13,31 @@ use Rattle.shm_prompt.specs.Dialog.{answered, told, not_begun, delivered, told_o
 -- ---- lines
 
 pub told-first : (s : Option Standing) (l : Line) → is_first l ≡ true → told s l ≡ line_text 1 (codes "ready")
-told-first s (line.Sites sites preset frames) h = refl
+told-first s (line.Sites opening) h = refl
 told-first s (line.Event e) h = absurd (cc)
 told-first s (line.Show page) h = absurd (cc)
 told-first s (line.Back n) h = absurd (cc)
 
 pub next-first : (s : Option Standing) (l : Line) → is_first l ≡ true → next s l ≡ next None l
-next-first s (line.Sites sites preset frames) h = refl
+next-first s (line.Sites opening) h = refl
 next-first s (line.Event e) h = absurd (cc)
 next-first s (line.Show page) h = absurd (cc)
 next-first s (line.Back n) h = absurd (cc)
 
 pub told-none : (l : Line) → is_first l ≡ false → told None l ≡ not_begun
-told-none (line.Sites sites preset frames) h = absurd (cc)
+told-none (line.Sites opening) h = absurd (cc)
 told-none (line.Event e) h = refl
 told-none (line.Show page) h = refl
 told-none (line.Back n) h = refl
 
 pub next-none : (l : Line) → is_first l ≡ false → next None l ≡ None
-next-none (line.Sites sites preset frames) h = absurd (cc)
+next-none (line.Sites opening) h = absurd (cc)
 next-none (line.Event e) h = refl
 next-none (line.Show page) h = refl
 next-none (line.Back n) h = refl
 
 pub told-some : (s : Standing) (l : Line) → told (Some s) l ≡ answered (Some s) l
-told-some s (line.Sites sites preset frames) = refl
+told-some s (line.Sites opening) = refl
 told-some s (line.Event e) = refl
 told-some s (line.Show page) = refl
 told-some s (line.Back n) = refl

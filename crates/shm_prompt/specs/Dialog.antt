@@ -26,7 +26,7 @@ answered s l = line_text (last_line (next s l)) (said s l)
 
 -- what is told to a line of a script
 abbrev pub told : Option Standing → Line → List ℕ
-told s (line.Sites sites preset frames) = answered s (line.Sites sites preset frames)
+told s (line.Sites opening) = answered s (line.Sites opening)
 told None (line.Event e) = not_begun
 told None (line.Show page) = not_begun
 told None (line.Back n) = not_begun

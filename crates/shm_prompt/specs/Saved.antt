@@ -1,8 +1,9 @@
 -- The script of what stands, and what a replay makes of it.
 use Rattle.std.specs.Prelude.{◌≡◌, ℕ, List, [], ◌∷◌, ◌++◌, map, Option, None, Some}
 use Rattle.shm_model.specs.World.{Opening, New, Preset, Framed}
+use Rattle.shm_lines.specs.Line.{sites_line}
 use Rattle.shm_lines.specs.declared.line.Line.{Line}
-use Rattle.shm_lines.specs.declared.line.Line.TheVariants.{Sites, Event}
+use Rattle.shm_lines.specs.declared.line.Line.TheVariants.{Event}
 use Rattle.shm_debug.specs.Said.{standing_after}
 use Rattle.shm_debug.specs.Script.{Script, script_of}
 use Rattle.shm_debug.specs.Standing.{Standing}
@@ -10,9 +11,9 @@ use Rattle.shm_prompt.specs.Spelled.{line_bytes}
 
 -- the line that says how the sites begin
 abbrev pub first_line : Opening → Line
-first_line (New sites) = Sites sites None None
-first_line (Preset sites pages) = Sites sites (Some pages) None
-first_line (Framed sites pages frames) = Sites sites (Some pages) (Some frames)
+first_line (New sites) = sites_line sites None None
+first_line (Preset sites pages) = sites_line sites (Some pages) None
+first_line (Framed sites pages frames) = sites_line sites (Some pages) (Some frames)
 
 -- it, and a line for each event that stands, the oldest first
 abbrev pub lines_of : Standing → List Line

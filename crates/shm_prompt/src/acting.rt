@@ -10,8 +10,8 @@ use crate::dialog::Dialog;
 use crate::telling::{last_line, tell_line};
 use shm_debug::{BackFault, Session, print_answer};
 use shm_lines::Line;
-use shm_model::Event;
-use shm_place::{PageId, Sites};
+use shm_model::{Event, Opening};
+use shm_place::PageId;
 use std::alloc::{AllocError, Allocator};
 
 /// What is told where no sites stand yet.
@@ -39,11 +39,7 @@ fn act_on<A: Allocator + Copy>(
     ensures next { OnOk result (session.new ≡ next session.old line) }
 {
     match line {
-        Line::Sites {
-            sites,
-            preset,
-            frames,
-        } => begin(session, alloc, sites, preset, frames, out),
+        Line::Sites(opening) => begin(session, alloc, opening, out),
         Line::Event(event) => match session {
             None => out.extend_from_slice(NOT_BEGUN.as_bytes()),
             Some(session) => happen(session, alloc, event, out),
@@ -63,16 +59,14 @@ fn act_on<A: Allocator + Copy>(
 fn begin<A: Allocator + Copy>(
     session: &mut Option<Session<A>>,
     alloc: A,
-    sites: Sites,
-    preset: Option<u32>,
-    frames: Option<u32>,
+    opening: Opening,
     out: &mut Vec<u8, A>,
 ) -> Result<(), AllocError>
-    requires { IsLine (line.Sites sites preset frames) }
-    ensures told { OnOk result (out.new.items ≡ out.old.items ++ told session.old (line.Sites sites preset frames)) }
-    ensures next { OnOk result (session.new ≡ next session.old (line.Sites sites preset frames)) }
+    requires { IsLine (line.Sites opening) }
+    ensures told { OnOk result (out.new.items ≡ out.old.items ++ told session.old (line.Sites opening)) }
+    ensures next { OnOk result (session.new ≡ next session.old (line.Sites opening)) }
 {
-    let opened = Session::new(alloc, sites, preset, frames)?;
+    let opened = Session::new(alloc, opening)?;
     tell_line(out, 1, b"ready")?;
     *session = Some(opened);
     Ok(())

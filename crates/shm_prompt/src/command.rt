@@ -67,7 +67,7 @@ fn other(bytes: &[u8], verb: &[u8], words: Words<'_>) -> Option<Command>
     if verb == b"quit".as_slice() {
         return alone(Command::Quit, words);
     }
-    scripted(bytes)
+    script_command(bytes)
 }
 
 /// The command, if no word is left.
@@ -82,7 +82,7 @@ fn alone(command: Command, words: Words<'_>) -> Option<Command>
 }
 
 /// A line of a script.
-fn scripted(bytes: &[u8]) -> Option<Command>
+fn script_command(bytes: &[u8]) -> Option<Command>
     ensures command { result ≡ said.scripted bytes.now }
     ensures is_line { IfSome result said.IsCommand }
 {
@@ -100,7 +100,7 @@ fn sites(bytes: &[u8], words: Words<'_>) -> Option<Command>
     if words.is_empty() {
         return Some(Command::Sites);
     }
-    scripted(bytes)
+    script_command(bytes)
 }
 
 fn run(words: Words<'_>) -> Option<Command>

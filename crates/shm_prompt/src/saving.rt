@@ -1,15 +1,15 @@
 //! The script of what stands, which a replay plays to the same end.
 ghost use Rattle.std.specs.Prelude.{◌≡◌, ◌<◌, IfOk, length};
-ghost use Rattle.shm_debug.specs.Opening.{begins};
+ghost use Rattle.shm_model.specs.Opening.{opening_of};
 ghost use Rattle.shm_debug.specs.Standing.{Standing};
 ghost use Rattle.shm_prompt.specs.Saved as saved;
 ghost use Rattle.shm_prompt.specs.Saved.{Replays, lines_of, text_of_lines};
 
 use crate::save_refusal::SaveRefusal;
 use crate::spelled::push_line;
-use shm_debug::{Opening, Session};
+use shm_debug::Session;
 use shm_lines::{Line, laws};
-use shm_model::Event;
+use shm_model::{Event, Opening};
 use std::alloc::Allocator;
 
 /// How many lines a script has at most.
@@ -57,28 +57,12 @@ fn text_of<A: Allocator + Copy>(
 
 /// The line that says how the sites begin.
 fn first_line(opening: Opening) -> Line
-    ensures { result ≡ saved.first_line (begins opening) }
+    ensures { result ≡ saved.first_line (opening_of opening) }
 {
-    let Opening {
-        sites,
-        preset,
-        frames,
-    } = opening;
-    match (preset, frames) {
-        (None, _) => Line::Sites {
-            sites,
-            preset: None,
-            frames: None,
-        },
-        (Some(pages), None) => Line::Sites {
-            sites,
-            preset: Some(pages),
-            frames: None,
-        },
-        (Some(pages), Some(frames)) => Line::Sites {
-            sites,
-            preset: Some(pages),
-            frames: Some(frames),
-        },
+    let sites = opening.sites;
+    match (opening.preset, opening.frames) {
+        (None, _) => Line::Sites(Opening::new(sites)),
+        (Some(pages), None) => Line::Sites(Opening::preset(sites, pages)),
+        (Some(pages), Some(frames)) => Line::Sites(Opening::framed(sites, pages, frames)),
     }
 }

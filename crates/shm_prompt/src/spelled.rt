@@ -6,7 +6,7 @@ ghost use Rattle.shm_prompt.specs.Spelled.{IsSpelled, line_bytes, max_line_bytes
 
 use crate::save_refusal::SaveRefusal;
 use shm_lines::Line;
-use shm_model::{Event, Op, Request};
+use shm_model::{Event, Op, Opening, Request};
 use shm_place::{MAX_FRAMES, PAGES};
 use std::alloc::Allocator;
 
@@ -67,17 +67,17 @@ fn is_line(line: Line) -> bool
     ensures { result ≡ true → IsLine line }
 {
     match line {
-        Line::Sites { preset, frames, .. } => is_opened(preset, frames),
+        Line::Sites(opening) => is_opened(opening),
         Line::Event(event) => is_event(event),
         Line::Show(_) => true,
         Line::Back(_) => true,
     }
 }
 
-fn is_opened(preset: Option<u32>, frames: Option<u32>) -> bool
-    ensures { result ≡ true → IsOpened preset frames }
+fn is_opened(opening: Opening) -> bool
+    ensures { result ≡ true → IsOpened opening.preset opening.frames }
 {
-    match (preset, frames) {
+    match (opening.preset, opening.frames) {
         (None, None) => true,
         (None, Some(_)) => false,
         (Some(pages), None) => pages >= 1 && pages <= PAGES,

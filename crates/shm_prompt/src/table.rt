@@ -1,8 +1,7 @@
 //! `sites`: a row for each page that was asked for, a column for each site, and the manager's book.
 use crate::flight::is_in_flight;
-use shm_manager::SiteSet;
 use shm_model::{Kind, Shown, State};
-use shm_place::{MAX_SITES, PAGE_BYTES, PAGES, PageId, SegId, SiteId, manager_of};
+use shm_place::{MAX_SITES, PAGE_BYTES, PAGES, PageId, SegId, SiteId, SiteSet, manager_of};
 use shm_world::{BookView, World};
 use std::alloc::{AllocError, Allocator};
 

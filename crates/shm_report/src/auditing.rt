@@ -16,7 +16,7 @@ use std::alloc::Global;
 
 /// All steps in one order, where the logs and receipts are those of so many sites that shared one plain memory, and the receipts are
 /// all; if not, the first cause.
-pub(crate) fn audited(
+pub(crate) fn order_steps(
     alloc: Global,
     sites: Sites,
     pages: u32,

@@ -13,7 +13,7 @@ use shm_sites::{Answer, Event, SiteLog, Step};
 use std::alloc::{AllocError, Global};
 
 /// What is counted in these logs and events. Memory is refused, too, where a number can't hold a count: no memory holds such logs.
-pub(crate) fn counted(
+pub(crate) fn count_all(
     alloc: Global,
     logs: &[SiteLog],
     events: &[Event],
@@ -23,7 +23,7 @@ pub(crate) fn counted(
     let steps = steps_in(logs).ok_or(AllocError)?;
     let faults = faults_in(logs).ok_or(AllocError)?;
     let envelopes = envelopes_in(logs).ok_or(AllocError)?;
-    let received = received(alloc, envelopes, events)?;
+    let received = count_received(alloc, envelopes, events)?;
     let receipts = receipts_in(events);
     Ok(Counts {
         steps,
@@ -89,7 +89,7 @@ fn envelopes_in(logs: &[SiteLog]) -> Option<u64>
 {
     let mut total = 0u64;
     'logs: for log in logs {
-        match sent_with(total, log.steps()) {
+        match add_sent(total, log.steps()) {
             Some(sum) => total = sum,
             None => return None,
         }
@@ -98,7 +98,7 @@ fn envelopes_in(logs: &[SiteLog]) -> Option<u64>
 }
 
 /// So many, and what these steps sent.
-fn sent_with(before: u64, steps: &[Step]) -> Option<u64>
+fn add_sent(before: u64, steps: &[Step]) -> Option<u64>
     ensures { IfSome result (λ sum. sum ≡ before + sent_by (map logged_of steps.now)) }
 {
     let mut total = before;
@@ -124,17 +124,17 @@ fn is_receipt(event: &Event) -> bool
 }
 
 /// How many of so many envelopes some site received.
-fn received(alloc: Global, envelopes: u64, events: &[Event]) -> Result<u64, AllocError>
+fn count_received(alloc: Global, envelopes: u64, events: &[Event]) -> Result<u64, AllocError>
     ensures { IfOk result (λ count. count ≡ spec.received_of envelopes events.now) }
 {
     let mut marks = vec![in alloc; false; envelopes as usize]?;
     'events: for event in events {
         mark(&mut marks, event);
     }
-    Ok(marked(marks.as_slice()) as u64)
+    Ok(count_marks(marks.as_slice()) as u64)
 }
 
-fn marked(marks: &[bool]) -> usize
+fn count_marks(marks: &[bool]) -> usize
     ensures { result ≡ count_by (λ mark. mark) marks.now }
 {
     marks.iter().filter(|mark| **mark).count()

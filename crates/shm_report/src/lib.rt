@@ -9,7 +9,7 @@ mod counting;
 mod counts;
 mod counts_text;
 mod fault_number;
-mod log_text;
+mod log_lines;
 mod ran;
 mod reading;
 mod report_fault;
@@ -21,7 +21,7 @@ mod telling;
 
 pub use audited::Audited;
 pub use counts::Counts;
-pub use log_text::log_text;
+pub use log_lines::log_text;
 pub use ran::Ran;
 pub use report_fault::ReportFault;
 pub use reporting::{report, run_audited};

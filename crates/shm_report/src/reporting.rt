@@ -10,7 +10,7 @@ ghost use Rattle.shm_report.specs.Report.{whole_of, IsCutShort, IsReport};
 ghost use Rattle.shm_report.specs.declared.report_fault.ReportFault.TheVariants as cause;
 
 use crate::audited::Audited;
-use crate::auditing::audited;
+use crate::auditing::order_steps;
 use crate::reading::read_all;
 use crate::report_fault::ReportFault;
 use crate::{Ran, run_workload};
@@ -114,7 +114,7 @@ fn audit_run(
     ensures input { IfErr result (λ fault. input_cause fault ≡ None) }
     ensures audit { IfErr result (λ fault. IfSome (audit_cause fault) (IsFoundIn sites (whole_of workload) (logs_of ran.logs.items) ran.callers.items)) }
 {
-    match audited(alloc, sites, workload.pages, &ran) {
+    match order_steps(alloc, sites, workload.pages, &ran) {
         Ok(events) => Ok(Audited {
             sites,
             workload,

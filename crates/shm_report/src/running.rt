@@ -140,7 +140,7 @@ fn receipts(alloc: Global, told: Told) -> Result<Vec<Vec<Receipt>>, RunFault>
 {
     match first_fault(told.as_slice()) {
         Some(fault) => Err(RunFault::Call(fault)),
-        None => gathered(alloc, told),
+        None => gather(alloc, told),
     }
 }
 
@@ -177,7 +177,7 @@ fn earlier(one: Option<CallFault>, other: Option<CallFault>) -> Option<CallFault
 }
 
 /// The receipts of all callers, where none ended by a fault.
-fn gathered(alloc: Global, told: Told) -> Result<Vec<Vec<Receipt>>, RunFault>
+fn gather(alloc: Global, told: Told) -> Result<Vec<Vec<Receipt>>, RunFault>
     requires { NoneFailed told.items }
     ensures all { IfOk result (λ callers. told.items ≡ map Ok callers.items) }
     ensures fault { IfErr result (λ fault. fault ≡ cause.OutOfMemory) }

@@ -8,10 +8,10 @@ ghost use Rattle.shm_report.specs.Report.{IsCutShort};
 ghost use Rattle.shm_report.specs.declared.report_fault.ReportFault.TheVariants as cause;
 
 use crate::audited::Audited;
-use crate::counting::counted;
+use crate::counting::count_all;
 use crate::counts::Counts;
 use crate::report_fault::ReportFault;
-use crate::telling::{told, write_report};
+use crate::telling::{answer_lines, write_report};
 use shm_sites::SiteLog;
 use std::alloc::{AllocError, Global};
 use std::fmt;
@@ -29,7 +29,7 @@ impl Audited {
     pub fn counts(&self, alloc: Global) -> Result<Counts, AllocError>
         ensures { IfOk result (λ counts. counts ≡ counts_of_run self.now) }
     {
-        counted(alloc, self.ran.logs.as_slice(), self.events.as_slice())
+        count_all(alloc, self.ran.logs.as_slice(), self.events.as_slice())
     }
 
     /// How much was done, and how many milliseconds it took, where that is known: as text, a line for each number.
@@ -56,7 +56,7 @@ impl Audited {
             × IsCutShort (O.contents writer.old) (O.contents writer.new) (lines ++ more.now)
             × IsReportOfRun self.now lines) }
     {
-        match told(
+        match answer_lines(
             alloc,
             self.workload.accesses.as_slice(),
             self.ran.callers.as_slice(),

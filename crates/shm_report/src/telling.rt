@@ -20,7 +20,7 @@ type ToldOf = [usize; MAX_SITES as usize];
 
 /// What each line was answered, under its number: line 1 made the sites ready, and each further line has the next receipt of its
 /// site's caller, where the callers have one for each of their sites' lines.
-pub(crate) fn told(
+pub(crate) fn answer_lines(
     alloc: Global,
     accesses: &[Access],
     callers: &[Vec<Receipt>],

@@ -17,6 +17,7 @@ mod worlds;
 
 use scripts::Script;
 use shm_debug::{DebugFault, Session, Summary, replay};
+use shm_model::Opening;
 use shm_place::{SiteId, Sites};
 use shm_world::{Event, World};
 use std::alloc::{Allocator, Global};
@@ -78,9 +79,9 @@ fn lines_within(script: &[u8], bytes: usize) -> usize {
 fn opened<A: Allocator + Copy>(alloc: A, sites: u32, preset: bool) -> Result<Session<A>, Fail> {
     let sites = Sites::new(sites).ok().ok_or("1 to 16 sites")?;
     if preset {
-        return Ok(Session::new(alloc, sites, Some(1), None)?);
+        return Ok(Session::new(alloc, Opening::preset(sites, 1))?);
     }
-    Ok(Session::new(alloc, sites, None, None)?)
+    Ok(Session::new(alloc, Opening::new(sites))?)
 }
 
 /// A world of so many sites, with segment 0 of so many pages attached everywhere.

@@ -22,7 +22,7 @@ use Rattle.shm_model.specs.Step.{orders_again, purges_again}
 use Rattle.shm_model.specs.Transfer.{order_envelope}
 use Rattle.shm_model.specs.World.{preset_segment}
 use Rattle.shm_keys.specs.Purge.{is_above}
-use Rattle.shm_keys.specs.SiteSet.{has}
+use Rattle.shm_place.specs.SiteSet.{has}
 use Rattle.shm_keys.specs.Table.{IsNumbered, is_purged_from}
 
 -- all is sent behind what was there before, but for what is left

@@ -2,12 +2,12 @@
 use Rattle.std.specs.Prelude.{◌≡◌}
 use Rattle.shm_model.specs.Book.{Book}
 use Rattle.shm_manager.specs.Book.{kind_and_requester}
-use Rattle.shm_manager.specs.SiteSet.{is_member}
+use Rattle.shm_place.specs.SiteSet.{has}
 use Rattle.shm_site.specs.declared.book_view.BookView.{BookView}
 
 -- the view tells the book
 pub record Tells (view : BookView) (book : Book) : Type 0 where
   pub owner : view.owner ≡ book.owner
-  pub copies : is_member view.copies ≡ book.copies
+  pub copies : has view.copies ≡ book.copies
   pub number : view.number ≡ book.number
   pub running : view.running ≡ kind_and_requester book.running

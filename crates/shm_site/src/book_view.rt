@@ -1,6 +1,5 @@
-use shm_manager::SiteSet;
 use shm_model::Kind;
-use shm_place::SiteId;
+use shm_place::{SiteId, SiteSet};
 
 /// What a manager's book shows: the owner, the sites that may have copies beside it, the number of the last transaction, and what the
 /// running one gives to whom.

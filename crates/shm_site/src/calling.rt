@@ -113,35 +113,40 @@ impl<A: Allocator + Copy> Site<A> {
         let Some(op) = self.calls.copy().reply(number, &reply) else {
             return Ok(Answer::Dropped);
         };
-        self.counted(number, op, reply)
+        self.end_counted_call(number, op, reply)
     }
 
     /// The reply to this call, which it ends.
-    fn counted(&mut self, number: u64, op: Op, reply: Reply) -> Result<Answer, AllocError>
+    fn end_counted_call(&mut self, number: u64, op: Op, reply: Reply) -> Result<Answer, AllocError>
         ensures step { IfOk result (λ answer. model.reply_counts number op reply (site_of self.old) ≡ stepped self.new answer []) }
         ensures refused { OnErr result (site_of self.new ≡ site_of self.old) }
         ensures seat { SameSeat self.old self.new }
     {
         match op {
-            Op::Attach { id, .. } => self.attach_replied(number, id, reply),
+            Op::Attach { id, .. } => self.on_attach_reply(number, id, reply),
             _ => Ok(self.end_call(number, reply, None)),
         }
     }
 
     /// The reply to an attach.
-    fn attach_replied(&mut self, number: u64, id: SegId, reply: Reply) -> Result<Answer, AllocError>
+    fn on_attach_reply(
+        &mut self,
+        number: u64,
+        id: SegId,
+        reply: Reply,
+    ) -> Result<Answer, AllocError>
         ensures step { IfOk result (λ answer. (cred : Cred) (ro : Bool) → model.reply_counts number (Attach cred id ro) reply (site_of self.old) ≡ stepped self.new answer []) }
         ensures refused { OnErr result (site_of self.new ≡ site_of self.old) }
         ensures seat { SameSeat self.old self.new }
     {
         match reply {
-            Reply::Attached(attached) => self.attached(number, id, attached),
+            Reply::Attached(attached) => self.attach(number, id, attached),
             _ => Ok(self.end_call(number, reply, None)),
         }
     }
 
     /// The reply to an attach, which is given the least free number. A segment that was purged here isn't attached.
-    fn attached(&mut self, number: u64, id: SegId, attached: Attached) -> Result<Answer, AllocError>
+    fn attach(&mut self, number: u64, id: SegId, attached: Attached) -> Result<Answer, AllocError>
         ensures step { IfOk result (λ answer. model.attached number id (AttachedReply attached) (record { id = id; size = attached.size; ro = attached.ro }) (site_of self.old) ≡ stepped self.new answer []) }
         ensures refused { OnErr result (site_of self.new ≡ site_of self.old) }
         ensures seat { SameSeat self.old self.new }

@@ -23,7 +23,7 @@ impl<A: Allocator + Copy> Site<A> {
     {
         let holdings = Holdings::new(alloc);
         let table = SegTable::new(alloc, me, sites);
-        Site::begun(alloc, sites, me, holdings, table)
+        Site::of_parts(alloc, sites, me, holdings, table)
     }
 
     /// A site where segment 0 has so many pages and is attached, to read and write, as attachment 0. Its home is site 0.
@@ -34,7 +34,7 @@ impl<A: Allocator + Copy> Site<A> {
         ensures site { IfOk result (λ site. site_of site ≡ opened_site (Preset sites pages) me) }
         ensures seat { IfOk result (λ site. (site.sites ≡ sites) × (site.me ≡ me)) }
     {
-        Site::opened(alloc, sites, me, pages, None)
+        Site::with_segment(alloc, sites, me, pages, None)
     }
 
     /// The same with at most so many pages held as copies.
@@ -53,10 +53,10 @@ impl<A: Allocator + Copy> Site<A> {
         ensures site { IfOk result (λ site. site_of site ≡ opened_site (Framed sites pages frames) me) }
         ensures seat { IfOk result (λ site. (site.sites ≡ sites) × (site.me ≡ me)) }
     {
-        Site::opened(alloc, sites, me, pages, Some(frames))
+        Site::with_segment(alloc, sites, me, pages, Some(frames))
     }
 
-    fn opened(
+    fn with_segment(
         alloc: A,
         sites: Sites,
         me: SiteId,
@@ -71,11 +71,11 @@ impl<A: Allocator + Copy> Site<A> {
     {
         let holdings = Holdings::preset(alloc, sites, me, pages, limit)?;
         let table = SegTable::preset(alloc, me, sites, pages)?;
-        Ok(Site::begun(alloc, sites, me, holdings, table))
+        Ok(Site::of_parts(alloc, sites, me, holdings, table))
     }
 
     /// A site that holds this, and whose segments are those of the table.
-    fn begun(
+    fn of_parts(
         alloc: A,
         sites: Sites,
         me: SiteId,

@@ -40,7 +40,7 @@ impl<A: Allocator + Copy> Site<A> {
         ensures step { on_purged from id (site_of self.old) ≡ stepped self.new result [] }
         ensures seat { SameSeat self.old self.new }
     {
-        if self.home.purged(id, from) {
+        if self.home.on_purged(id, from) {
             Answer::Took
         } else {
             Answer::Dropped

@@ -10,9 +10,9 @@ ghost use Rattle.shm_site.specs.Site.{site_of};
 use crate::book_view::BookView;
 use crate::site::Site;
 use shm_keys::Segment;
-use shm_manager::{Book, SiteSet};
+use shm_manager::Book;
 use shm_model::{Access, Shown};
-use shm_place::{PageId, SiteId, in_limits, manager_of};
+use shm_place::{PageId, SiteId, SiteSet, in_limits, manager_of};
 use std::alloc::Allocator;
 
 impl<A: Allocator + Copy> Site<A> {
@@ -60,7 +60,7 @@ impl<A: Allocator + Copy> Site<A> {
         }
         match self.books.get(*page) {
             Some(book) => Some(view_of(book)),
-            None => Some(untouched(self.me)),
+            None => Some(untouched_view(self.me)),
         }
     }
 }
@@ -77,7 +77,7 @@ fn view_of<A: Allocator + Copy>(book: &Book<A>) -> BookView
 }
 
 /// What the book of a page shows that was never asked for.
-fn untouched(me: SiteId) -> BookView
+fn untouched_view(me: SiteId) -> BookView
     ensures { Tells result (untouched_book me) }
 {
     BookView {

@@ -28,18 +28,22 @@ impl<A: Allocator + Copy> Site<A> {
         ensures refused { OnErr result (Unchanged O.posted self.old self.new outbox.old outbox.new) }
     {
         match input {
-            Input::Load { at, offset } => made(self.load(at, offset, outbox)),
-            Input::Store { at, offset, byte } => made(self.store(at, offset, byte, outbox)),
-            Input::Begin(request) => made(self.begin(request, outbox)),
+            Input::Load { at, offset } => or_out_of_memory(self.load(at, offset, outbox)),
+            Input::Store { at, offset, byte } => or_out_of_memory(self.store(
+                at, offset, byte, outbox,
+            )),
+            Input::Begin(request) => or_out_of_memory(self.begin(request, outbox)),
             Input::Deliver(envelope) => self.deliver(envelope, outbox),
-            Input::Tick => made(self.tick(outbox)),
+            Input::Tick => or_out_of_memory(self.tick(outbox)),
             Input::Restart => Ok(self.restart()),
         }
     }
 }
 
 /// A step that can only be refused for memory.
-fn made<A: Allocator + Copy>(answer: Result<Answer, AllocError>) -> Result<Answer, StepError<A>>
+fn or_out_of_memory<A: Allocator + Copy>(
+    answer: Result<Answer, AllocError>,
+) -> Result<Answer, StepError<A>>
     ensures answer { IfOk result (λ a. answer ≡ Ok a) }
     ensures fault { IfErr result (λ e. IsErr answer × (e.fault ≡ fault.OutOfMemory) × (envelope_if e.envelope ≡ None)) }
 {

@@ -1,7 +1,7 @@
 //! What a site sends again at a tick, and what a restart takes from it.
 ghost use Rattle.std.specs.Prelude.{◌≡◌, ◌≤◌, ◌++◌, [], length, map, filter, IfOk, OnOk, OnErr};
 ghost use Rattle.std.specs.List.{flat_map, range_with_len};
-ghost use Rattle.shm_keys.specs.SiteSet.{has};
+ghost use Rattle.shm_place.specs.SiteSet.{has};
 ghost use Rattle.shm_manager.specs.Book.{book_of};
 ghost use Rattle.shm_model.specs.Book.{orders};
 ghost use Rattle.shm_model.specs.SegmentCalls.{purge_envelope};
@@ -15,11 +15,10 @@ ghost use Rattle.shm_site.specs.Site.{SameSeat, StepsTo, site_of, stepped};
 use crate::homing::op_home;
 use crate::sending::{order_envelope, to_manager};
 use crate::site::Site;
-use shm_keys::SiteSet;
 use shm_manager::Book;
 use shm_model::{Answer, Kind};
 use shm_parts::{Envelope, Message, Note, Outbox};
-use shm_place::{PageId, SegId, SiteId, Sites};
+use shm_place::{PageId, SegId, SiteId, SiteSet, Sites};
 use std::alloc::{AllocError, Allocator};
 
 /// What a pending request asks for.
@@ -42,14 +41,14 @@ impl<A: Allocator + Copy> Site<A> {
         ensures step { IfOk result (λ answer. StepsTo O.posted self.now self.now outbox.old outbox.new answer (model.tick self.now.sites self.now.me (site_of self.now))) }
         ensures refused { OnErr result (O.posted outbox.old outbox.new []) }
     {
-        let again = self.listed_again()?;
+        let again = self.list_again()?;
         outbox.reserve(again.len())?;
         post_all(again, outbox);
         Ok(Answer::Took)
     }
 
     /// All that a tick sends again.
-    fn listed_again(&self) -> Result<Vec<Envelope<A>, A>, AllocError>
+    fn list_again(&self) -> Result<Vec<Envelope<A>, A>, AllocError>
         ensures { IfOk result (λ list. map envelope_of list.items ≡ model.tick_envelopes self.now.sites self.now.me (site_of self.now)) }
     {
         let mut list = Vec::new(self.alloc);

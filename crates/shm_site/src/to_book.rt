@@ -40,7 +40,7 @@ impl<A: Allocator + Copy> Site<A> {
         let outcome = self
             .books
             .ask(self.alloc, self.me, *page, from, request, kind)?;
-        Ok(booked(self.me, page, outcome, outbox))
+        Ok(answer_row(self.me, page, outcome, outbox))
     }
 
     /// Whether an Ask would start a transaction of the page for which no number is left.
@@ -69,7 +69,7 @@ impl<A: Allocator + Copy> Site<A> {
         outbox.reserve(MOST_ORDERS)?;
         let page = &page;
         let outcome = self.books.cleared(*page, from, number);
-        Ok(booked(self.me, page, outcome, outbox))
+        Ok(answer_row(self.me, page, outcome, outbox))
     }
 
     /// A site has what it asked for.
@@ -87,12 +87,12 @@ impl<A: Allocator + Copy> Site<A> {
         outbox.reserve(MOST_ORDERS)?;
         let page = &page;
         let outcome = self.books.confirm(*page, from, number);
-        Ok(booked(self.me, page, outcome, outbox))
+        Ok(answer_row(self.me, page, outcome, outbox))
     }
 }
 
 /// Sends what a row of the page's book calls for, and answers.
-fn booked<A: Allocator + Copy, O: Outbox<Envelope<A>>>(
+fn answer_row<A: Allocator + Copy, O: Outbox<Envelope<A>>>(
     me: SiteId,
     page: &PageId,
     outcome: Outcome,

@@ -38,11 +38,11 @@ impl<A: Allocator + Copy> Site<A> {
             Ok(turned) => turned,
             Err(note) => return Err(note),
         };
-        Ok(self.turned(page, out, change, outbox))
+        Ok(self.answer_turn(page, out, change, outbox))
     }
 
     /// What the site does once the page's entry was turned.
-    fn turned<O: Outbox<Envelope<A>>>(
+    fn answer_turn<O: Outbox<Envelope<A>>>(
         &mut self,
         page: &PageId,
         out: Out<A>,

@@ -32,7 +32,7 @@ fn ask(words: Words<'_>) -> Option<Ask<'_>>
     let (site, words) = words.number()?;
     let (word, words) = words.word()?;
     let tag = tag(word)?;
-    let asked = asked(words)?;
+    let asked = ask_of_words(words)?;
     Some(Ask {
         site: SiteId(site),
         tag,
@@ -60,7 +60,7 @@ fn is_graphic(word: &[u8]) -> bool
     word.iter().all(|byte| byte.is_ascii_graphic())
 }
 
-fn asked(words: Words<'_>) -> Option<Asked>
+fn ask_of_words(words: Words<'_>) -> Option<Asked>
     ensures { result ≡ asked_of words.entry }
 {
     let (verb, words) = words.word()?;
@@ -79,7 +79,7 @@ fn asked(words: Words<'_>) -> Option<Asked>
     if verb == b"show".as_slice() {
         return show(words);
     }
-    begun(verb, words)
+    begin_of_words(verb, words)
 }
 
 fn load(words: Words<'_>) -> Option<Asked>
@@ -134,7 +134,7 @@ fn show(words: Words<'_>) -> Option<Asked>
     Some(Asked::Show(page))
 }
 
-fn begun(verb: &[u8], words: Words<'_>) -> Option<Asked>
+fn begin_of_words(verb: &[u8], words: Words<'_>) -> Option<Asked>
     ensures { result ≡ begun_of verb.now words.entry }
 {
     let op = common(verb, words)?;

@@ -33,10 +33,10 @@ pub fn plain<A: Allocator + Copy>(verb: &[u8], words: Words<'_>) -> Option<Messa
         return confirm(words);
     }
     if verb == b"call".as_slice() {
-        return called(words);
+        return call_message(words);
     }
     if verb == b"reply".as_slice() {
-        return replied(words);
+        return reply_message(words);
     }
     if verb == b"purge".as_slice() {
         return purge(words);
@@ -137,7 +137,7 @@ fn confirm<A: Allocator + Copy>(words: Words<'_>) -> Option<Message<A>>
     })
 }
 
-fn called<A: Allocator + Copy>(words: Words<'_>) -> Option<Message<A>>
+fn call_message<A: Allocator + Copy>(words: Words<'_>) -> Option<Message<A>>
     ensures { option_map message_of result ≡ called_of words.entry }
 {
     let (number, words) = wide(words)?;
@@ -145,7 +145,7 @@ fn called<A: Allocator + Copy>(words: Words<'_>) -> Option<Message<A>>
     Some(Message::Call { number, op })
 }
 
-fn replied<A: Allocator + Copy>(words: Words<'_>) -> Option<Message<A>>
+fn reply_message<A: Allocator + Copy>(words: Words<'_>) -> Option<Message<A>>
     ensures { option_map message_of result ≡ replied_of words.entry }
 {
     let (number, words) = wide(words)?;

@@ -37,18 +37,18 @@ pub fn page<A: Allocator + Copy>(
     let Some((word, words)) = words.word() else {
         return Ok(None);
     };
-    let Some(bytes) = decoded(alloc, word)? else {
+    let Some(bytes) = decode(alloc, word)? else {
         return Ok(None);
     };
     if number == 0 || !words.is_empty() {
         return Ok(None);
     }
-    let note = granted(alloc, number, kind, bytes.as_slice())?;
+    let note = grant_note(alloc, number, kind, bytes.as_slice())?;
     Ok(Some(Message::Of { page, note }))
 }
 
 /// The bytes of a page that the word is the base64 of.
-fn decoded<A: Allocator + Copy>(alloc: A, word: &[u8]) -> Result<Option<Vec<u8, A>>, AllocError>
+fn decode<A: Allocator + Copy>(alloc: A, word: &[u8]) -> Result<Option<Vec<u8, A>>, AllocError>
     ensures bytes { IfOk result (λ bytes. option_map (λ v. v.items) bytes ≡ bytes_of word.now) }
     ensures whole { IfOk result (λ bytes. IfSome bytes (λ v. length v.items ≡ page_bytes)) }
 {
@@ -65,7 +65,7 @@ fn decoded<A: Allocator + Copy>(alloc: A, word: &[u8]) -> Result<Option<Vec<u8, 
 }
 
 /// The note that grants a page with these bytes. As each grant it is made by an owner's page, which is lent or handed.
-fn granted<A: Allocator + Copy>(
+fn grant_note<A: Allocator + Copy>(
     alloc: A,
     number: u64,
     kind: Kind,
@@ -75,7 +75,7 @@ fn granted<A: Allocator + Copy>(
     requires whole { length bytes.now ≡ page_bytes }
     ensures { IfOk result (λ n. note_of n ≡ note.Page number kind bytes.now) }
 {
-    let owned = owned(alloc, bytes)?;
+    let owned = owned_page(alloc, bytes)?;
     match kind {
         Kind::Read => match owned.downgrade(number) {
             Ok((_page, grant)) => Ok(Note::Read(grant)),
@@ -89,7 +89,7 @@ fn granted<A: Allocator + Copy>(
 }
 
 /// A page with these bytes, at an owner that has met no transaction.
-fn owned<A: Allocator + Copy>(alloc: A, bytes: &[u8]) -> Result<OwnWritePage<A>, AllocError>
+fn owned_page<A: Allocator + Copy>(alloc: A, bytes: &[u8]) -> Result<OwnWritePage<A>, AllocError>
     requires { length bytes.now ≡ page_bytes }
     ensures { IfOk result (λ page. page ≡ state.page_of 0 bytes.now) }
 {

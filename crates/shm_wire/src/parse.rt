@@ -29,10 +29,13 @@ pub fn parse_envelope<A: Allocator + Copy>(
     if verb != b"env".as_slice() {
         return Ok(None);
     }
-    sent(alloc, words)
+    envelope_of_words(alloc, words)
 }
 
-fn sent<A: Allocator + Copy>(alloc: A, words: Words<'_>) -> Result<Option<Sent<A>>, AllocError>
+fn envelope_of_words<A: Allocator + Copy>(
+    alloc: A,
+    words: Words<'_>,
+) -> Result<Option<Sent<A>>, AllocError>
     ensures { IfOk result (λ sent. option_map sent_of sent ≡ said.sent_of words.entry) }
 {
     let Some((from, words)) = words.number() else {

@@ -4,6 +4,5 @@ pub mod Posting
 pub mod Stopped
 pub mod Seats
 pub mod Showing
-pub mod Start
 pub mod Steps
 pub mod World

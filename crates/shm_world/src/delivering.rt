@@ -47,12 +47,12 @@ impl<A: Allocator + Copy> World<A> {
         };
         match envelope.copy() {
             Ok(copy) => self.hand(copy).map_err(|_| AllocError),
-            Err(_) => self.uncopied(envelope),
+            Err(_) => self.answer_without_copy(envelope),
         }
     }
 
     /// What the repeat of an envelope answers for whose bytes memory was refused: it may be refused anyway.
-    fn uncopied(&self, envelope: &Envelope<A>) -> Result<Answer, AllocError>
+    fn answer_without_copy(&self, envelope: &Envelope<A>) -> Result<Answer, AllocError>
         requires { holds_page envelope.now.message ≡ true }
         ensures step { (w : model.World) → StandsFor self.now w → IfOk result (λ answer. Went self.now (model.step_at w (envelope_of envelope.now).to (input.Deliver (envelope_of envelope.now))) answer) }
         ensures memory { (w : model.World) → StandsFor self.now w → OnErr result (is_refused (model.step_at w (envelope_of envelope.now).to (input.Deliver (envelope_of envelope.now))).done.answer ≡ false) }

@@ -9,8 +9,8 @@ ghost use Rattle.shm_model.specs.World.{IsOpening, opened_site};
 ghost use Rattle.shm_site.specs.Step.{envelope_if, fault_of, handed_in, input_of, is_foreign, may_grow};
 ghost use Rattle.shm_site.specs.declared.step_error.StepFault.TheVariants as fault;
 
-use crate::start::{Start, begun};
-use shm_model::Answer;
+use crate::start::begin;
+use shm_model::{Answer, Opening};
 use shm_parts::{Envelope, Outbox};
 use shm_place::{SiteId, Sites};
 use shm_site::{Input, Site, StepError};
@@ -27,17 +27,18 @@ pub struct Members<A: Allocator + Copy = Global> {
 
 impl<A: Allocator + Copy> Members<A> {
     ghost use Rattle.shm_world.specs.Members.{members_of, seen_by, Made};
-    ghost use Rattle.shm_world.specs.Start.{opening_of};
+    ghost use Rattle.shm_model.specs.Opening.{opening_of};
 
     /// All sites as they begin.
-    pub(crate) fn begun(alloc: A, count: Sites, start: Start) -> Result<Members<A>, AllocError>
-        requires { IsOpening (opening_of start count) }
-        ensures sites { IfOk result (λ members. members_of members ≡ map (opened_site (opening_of start count)) (range_with_len 0 count)) }
-        ensures count { IfOk result (λ members. members.count ≡ count) }
+    pub(crate) fn begin(alloc: A, opening: Opening) -> Result<Members<A>, AllocError>
+        requires { IsOpening (opening_of opening) }
+        ensures sites { IfOk result (λ members. members_of members ≡ map (opened_site (opening_of opening)) (range_with_len 0 opening.sites)) }
+        ensures count { IfOk result (λ members. members.count ≡ opening.sites) }
     {
+        let count = opening.sites;
         let mut sites = Vec::with_capacity(alloc, count.count() as usize)?;
         'sites: for site in 0..count.count() {
-            let site = begun(alloc, count, SiteId(site), start)?;
+            let site = begin(alloc, &opening, SiteId(site))?;
             sites.push_reserved(site);
         }
         Ok(Members { count, sites })

@@ -98,7 +98,7 @@ impl<A: Allocator + Copy> Network<A> {
         'entries: while left > 0 {
             left -= 1;
             let (number, place) = self.places.get_index(left).unwrap();
-            copy.put(*number, Network::copied(place)?);
+            copy.put(*number, Network::copy_place(place)?);
         }
         Ok(copy)
     }
@@ -118,7 +118,7 @@ impl<A: Allocator + Copy> Network<A> {
     }
 
     /// A place with an equal envelope, if any.
-    fn copied(place: &Option<Envelope<A>>) -> Result<Option<Envelope<A>>, AllocError>
+    fn copy_place(place: &Option<Envelope<A>>) -> Result<Option<Envelope<A>>, AllocError>
         ensures { IfOk result (λ copy. envelope_at copy ≡ envelope_at place.now) }
     {
         match place {

@@ -1,13 +1,13 @@
 //! How worlds begin, and how they are copied.
 ghost use Rattle.std.specs.Prelude.{◌≤◌, IfOk};
+ghost use Rattle.shm_model.specs.Opening.{opening_of};
 ghost use Rattle.shm_model.specs.World as model;
-ghost use Rattle.shm_world.specs.Start.{opening_of};
 ghost use Rattle.shm_world.specs.World.{StandsFor};
 
 use crate::members::Members;
 use crate::network::Network;
-use crate::start::Start;
 use crate::world::World;
+use shm_model::Opening;
 use shm_place::{MAX_FRAMES, PAGES, Sites};
 use std::alloc::{AllocError, Allocator};
 
@@ -18,7 +18,7 @@ impl<A: Allocator + Copy> World<A> {
     {
         // Reading it tells the proof its limits.
         let _count = sites.count();
-        World::begun(alloc, sites, Start::New)
+        World::begin(alloc, &Opening::new(sites))
     }
 
     /// The same with segment 0 of so many pages, which every site has attached, to read and write, as attachment 0.
@@ -29,7 +29,7 @@ impl<A: Allocator + Copy> World<A> {
     {
         // Reading it tells the proof its limits.
         let _count = sites.count();
-        World::begun(alloc, sites, Start::Preset { pages })
+        World::begin(alloc, &Opening::preset(sites, pages))
     }
 
     /// The same with at most so many pages held as copies at each site.
@@ -42,14 +42,15 @@ impl<A: Allocator + Copy> World<A> {
     {
         // Reading it tells the proof its limits.
         let _count = sites.count();
-        World::begun(alloc, sites, Start::Framed { pages, frames })
+        World::begin(alloc, &Opening::framed(sites, pages, frames))
     }
 
-    fn begun(alloc: A, sites: Sites, start: Start) -> Result<World<A>, AllocError>
-        requires { model.IsOpening (opening_of start sites) }
-        ensures { IfOk result (λ world. StandsFor world (model.opened (opening_of start sites))) }
+    /// A world that begins so. Frames count only beside pages of segment 0.
+    pub fn begin(alloc: A, opening: &Opening) -> Result<World<A>, AllocError>
+        requires { model.IsOpening (opening_of opening.now) }
+        ensures { IfOk result (λ world. StandsFor world (model.opened (opening_of opening.now))) }
     {
-        let members = Members::begun(alloc, sites, start)?;
+        let members = Members::begin(alloc, *opening)?;
         Ok(World {
             members,
             network: Network::new(alloc),

@@ -24,7 +24,7 @@ impl<A: Allocator + Copy> World<A> {
         ensures refused { (w : model.World) → StandsFor self.old w → OnErr result (StandsFor self.new w) }
         ensures memory { (w : model.World) → StandsFor self.old w → OnErr result (input_may_grow (input_of input) (model.step_at w site (input_of input)).done.answer ≡ true) }
     {
-        self.stepped(site, input).map_err(|_| AllocError)
+        self.step_site(site, input).map_err(|_| AllocError)
     }
 
     /// Hands the envelope to its site. Where memory is refused it comes back, and nothing changes.
@@ -35,7 +35,7 @@ impl<A: Allocator + Copy> World<A> {
         ensures memory { (w : model.World) → StandsFor self.old w → OnErr result (is_refused (model.step_at w (envelope_of envelope).to (input.Deliver (envelope_of envelope))).done.answer ≡ false) }
         ensures places { OnErr result ((k : ℕ) → has_place self.old.network k ≡ true → has_place self.new.network k ≡ true) }
     {
-        match self.stepped(envelope.to, Input::Deliver(envelope)) {
+        match self.step_site(envelope.to, Input::Deliver(envelope)) {
             Ok(answer) => Ok(answer),
             Err(Some(envelope)) => Err(envelope),
             Err(None) => unreachable!(),
@@ -44,7 +44,7 @@ impl<A: Allocator + Copy> World<A> {
 
     /// Steps a site, if there is one and envelopes have numbers left. Where memory is refused nothing changes, and an envelope that was
     /// handed in comes back.
-    fn stepped(&mut self, site: SiteId, input: Input<A>) -> Result<Answer, Option<Envelope<A>>>
+    fn step_site(&mut self, site: SiteId, input: Input<A>) -> Result<Answer, Option<Envelope<A>>>
         ensures step { (w : model.World) → StandsFor self.old w → IfOk result (λ answer. Went self.new (model.step_at w site (input_of input)) answer) }
         ensures back { IfErr result (λ back. envelope_if back ≡ handed_in (input_of input)) }
         ensures refused { (w : model.World) → StandsFor self.old w → OnErr result (StandsFor self.new w) }

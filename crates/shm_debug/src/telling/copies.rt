@@ -1,11 +1,10 @@
 //! The sites that may have copies of a page.
 ghost use Rattle.std.specs.Prelude.{◌≡◌, ◌++◌, ◌∷◌, [], ◌||◌, if◌then◌else◌, IfOk, OnOk, string_bytes};
 ghost use Rattle.std.specs.Fmt.{decimal};
-ghost use Rattle.shm_manager.specs.SiteSet.{is_member};
+ghost use Rattle.shm_place.specs.SiteSet.{has};
 ghost use Rattle.shm_debug.specs.Page.{copies_text};
 
-use shm_manager::SiteSet;
-use shm_place::{MAX_SITES, SiteId};
+use shm_place::{MAX_SITES, SiteId, SiteSet};
 use std::alloc::{AllocError, Allocator};
 
 /// Tells the sites of the set, rising, with commas between them; or a dash.
@@ -13,7 +12,7 @@ pub(crate) fn tell_copies<A: Allocator>(
     out: &mut String<A>,
     copies: SiteSet,
 ) -> Result<(), AllocError>
-    ensures { OnOk result (string_bytes out.new ≡ string_bytes out.old ++ copies_text (is_member copies)) }
+    ensures { OnOk result (string_bytes out.new ≡ string_bytes out.old ++ copies_text (has copies)) }
 {
     let mut some = false;
     'sites: for site in 0..MAX_SITES {

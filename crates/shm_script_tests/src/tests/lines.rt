@@ -1,5 +1,5 @@
 use shm_lines::{BadLine, Line, parse_line};
-use shm_model::{Cred, Event, GetFlags, Mode, Op, Request};
+use shm_model::{Cred, Event, GetFlags, Mode, Op, Opening, Request};
 use shm_place::{Key, PageId, SegId, SiteId, Sites};
 use std::alloc::Global;
 use std::test::Fail;
@@ -69,11 +69,11 @@ fn first_lines(rt: HostRuntime) -> Result<(), Fail> {
         ("sites 16 preset 1 frames 65536", Some(1), Some(65_536)),
     ];
     for (text, preset, frames) in cases {
-        let line = Line::Sites {
+        let line = Line::Sites(Opening {
             sites,
             preset,
             frames,
-        };
+        });
         assert!(rt; stands_for(rt.alloc(), text, line)?, "at {text}");
         assert!(rt; line.is_first() && !line.is_event(), "at {text}");
     }

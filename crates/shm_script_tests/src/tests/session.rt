@@ -1,6 +1,7 @@
 mod back;
 
 use shm_debug::Session;
+use shm_model::Opening;
 use shm_place::{SiteId, Sites};
 use shm_world::Event;
 use std::alloc::Allocator;
@@ -28,5 +29,5 @@ fn store(offset: u32, byte: u8) -> Event {
 /// A session of two sites, with segment 0 of one page.
 fn preset<A: Allocator + Copy>(alloc: A) -> Result<Session<A>, Fail> {
     let sites = Sites::new(2).ok().ok_or("1 to 16 sites")?;
-    Ok(Session::new(alloc, sites, Some(1), None)?)
+    Ok(Session::new(alloc, Opening::preset(sites, 1))?)
 }

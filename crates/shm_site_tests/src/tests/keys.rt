@@ -1,8 +1,8 @@
 //! The rules of the calls as tables of calls and answers, a home that has made all that it may make, and refused growths.
 ghost use Rattle.std.specs.Prelude.{◌≡◌};
 
-use shm_keys::{Attached, Cred, Errno, GetFault, GetFlags, Mode, SegTable, SiteSet, Stat};
-use shm_place::{Key, SegId, SiteId, Sites};
+use shm_keys::{Attached, Cred, Errno, GetFault, GetFlags, Mode, SegTable, Stat};
+use shm_place::{Key, SegId, SiteId, SiteSet, Sites};
 use std::alloc::{Allocator, Global};
 use std::process::Abort;
 
@@ -70,7 +70,7 @@ impl<A: Allocator + Copy> Lone<A> {
     }
 
     fn purged(&mut self, id: u32) -> bool {
-        self.table.purged(SegId(id), SiteId(0))
+        self.table.on_purged(SegId(id), SiteId(0))
     }
 
     fn next_purge(&self, after: Option<u32>) -> Option<(u32, SiteSet)> {

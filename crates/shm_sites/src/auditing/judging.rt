@@ -47,7 +47,7 @@ pub fn audit<A: Allocator + Copy>(
     if let Err(fault) = cause(alloc, logs, callers) {
         return Err(fault);
     }
-    audited(alloc, sites, pages, logs)
+    order_events(alloc, sites, pages, logs)
 }
 
 /// The same of receipts that claim to be all: every step that was answered a byte, or that it stored, is named by one of them. A step
@@ -71,7 +71,7 @@ pub fn audit_complete<A: Allocator + Copy>(
     if let Err(fault) = cause_of_all(alloc, logs, callers) {
         return Err(fault);
     }
-    audited(alloc, sites, pages, logs)
+    order_events(alloc, sites, pages, logs)
 }
 
 /// The first cause, where there is one.
@@ -128,13 +128,13 @@ fn named_steps<A: Allocator + Copy>(
         return Err(fault);
     }
     match Marks::new(alloc, logs) {
-        Ok(marks) => named(logs, callers, marks),
+        Ok(marks) => name_steps(logs, callers, marks),
         Err(_) => Err(AuditFault::OutOfMemory),
     }
 }
 
 /// The steps that the receipts name, where these hold; or the first with which they don't. No step is marked yet.
-fn named<A: Allocator + Copy>(
+fn name_steps<A: Allocator + Copy>(
     logs: &[SiteLog<A>],
     callers: &[Vec<Receipt, A>],
     marks: Marks<A>,
@@ -170,7 +170,7 @@ fn all_told<A: Allocator + Copy>(logs: &[SiteLog<A>], marks: Marks<A>) -> Result
 }
 
 /// The events of logs with which nothing is wrong. They are a run in which all receipts hold that hold of the logs.
-fn audited<A: Allocator + Copy>(
+fn order_events<A: Allocator + Copy>(
     alloc: A,
     sites: Sites,
     pages: u32,
@@ -185,11 +185,14 @@ fn audited<A: Allocator + Copy>(
     matching_logs_fit(sites, pages, logs);
     merged_logs_are_a_run();
     every_run_is_legal_and_coherent();
-    in_memory(merged(alloc, logs))
+    in_memory(merge_events(alloc, logs))
 }
 
 /// The events of logs with which nothing is wrong, in the one order of their steps.
-fn merged<A: Allocator + Copy>(alloc: A, logs: &[SiteLog<A>]) -> Result<Vec<Event, A>, AllocError>
+fn merge_events<A: Allocator + Copy>(
+    alloc: A,
+    logs: &[SiteLog<A>],
+) -> Result<Vec<Event, A>, AllocError>
     requires sites { length logs.now ≤ 16 }
     requires sound { AllSound (logs_of logs.now) }
     requires few { sum_by sent_by (logs_of logs.now) ≤ max_sent }

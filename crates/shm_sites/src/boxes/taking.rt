@@ -35,14 +35,14 @@ impl<A: Allocator + Copy> SiteBox<A> {
         ensures memory { IfErr result (λ e. e ≡ fault.OutOfMemory → HasRoom self.old.log → needs_memory (box_of self.old) (input_of input) ≡ true) }
         ensures refused { OnErr result (box_of self.new ≡ box_of self.old) }
     {
-        match self.stamped(&input, source) {
-            Ok(stamp) => in_memory(self.logged(input, source, stamp)),
+        match self.next_stamp(&input, source) {
+            Ok(stamp) => in_memory(self.log_step(input, source, stamp)),
             Err(fault) => Err(fault),
         }
     }
 
     /// The stamp that the step would have.
-    fn stamped(&self, input: &Input<A>, source: Stamp) -> Result<u64, BoxFault>
+    fn next_stamp(&self, input: &Input<A>, source: Stamp) -> Result<u64, BoxFault>
         ensures stamp { IfOk result (λ stamp. stamp ≡ next_stamp self.now.clock (stamp_of source)) }
         ensures taken { IsOk result → refusal (box_of self.now) (input_of input.now) (stamp_of source) ≡ None }
         ensures fault { IfErr result (λ e. refusal (box_of self.now) (input_of input.now) (stamp_of source) ≡ Some e) }
@@ -67,7 +67,12 @@ impl<A: Allocator + Copy> SiteBox<A> {
     }
 
     /// Makes the step under this stamp, if there is memory.
-    fn logged(&mut self, input: Input<A>, source: Stamp, stamp: u64) -> Result<Receipt, AllocError>
+    fn log_step(
+        &mut self,
+        input: Input<A>,
+        source: Stamp,
+        stamp: u64,
+    ) -> Result<Receipt, AllocError>
         requires stamp { stamp ≡ next_stamp self.old.clock (stamp_of source) }
         requires taken { is_foreign self.old.log.sites self.old.log.me (input_of input) ≡ false }
         ensures memory { OnErr result (HasRoom self.old.log → needs_memory (box_of self.old) (input_of input) ≡ true) }
@@ -75,12 +80,12 @@ impl<A: Allocator + Copy> SiteBox<A> {
         ensures told { IfOk result (λ told. receipt_of told ≡ receipt (box_of self.old) (input_of input)) }
         ensures refused { OnErr result (box_of self.new ≡ box_of self.old) }
     {
-        let copy = self.copied(&input)?;
-        self.made(input, copy, source, stamp)
+        let copy = self.copy_for_log(&input)?;
+        self.make_step(input, copy, source, stamp)
     }
 
     /// Makes room for one more step in the log, and copies the input.
-    fn copied(&mut self, input: &Input<A>) -> Result<Input<A>, AllocError>
+    fn copy_for_log(&mut self, input: &Input<A>) -> Result<Input<A>, AllocError>
         ensures copy { IfOk result (λ copy. input_of copy ≡ input_of input.now) }
         ensures room { OnOk result (length self.new.log.steps.items < vec_capacity self.new.log.steps) }
         ensures memory { OnErr result (HasRoom self.old.log → is_delivery (input_of input.now) ≡ true) }
@@ -91,7 +96,7 @@ impl<A: Allocator + Copy> SiteBox<A> {
     }
 
     /// Makes the step. Nothing that memory could be refused to comes after it.
-    fn made(
+    fn make_step(
         &mut self,
         input: Input<A>,
         copy: Input<A>,
@@ -107,7 +112,7 @@ impl<A: Allocator + Copy> SiteBox<A> {
         ensures told { IfOk result (λ told. receipt_of told ≡ receipt (box_of self.old) (input_of input)) }
         ensures refused { OnErr result (box_of self.new ≡ box_of self.old) }
     {
-        let Made { answer, sent } = listed(&mut self.site, copy)?;
+        let Made { answer, sent } = step_site(&mut self.site, copy)?;
         let step = Step {
             input,
             stamp,
@@ -123,7 +128,10 @@ impl<A: Allocator + Copy> SiteBox<A> {
 }
 
 /// One step of the site at an input that isn't foreign. An envelope that comes back is given up.
-fn listed<A: Allocator + Copy>(site: &mut Site<A>, input: Input<A>) -> Result<Made<A>, AllocError>
+fn step_site<A: Allocator + Copy>(
+    site: &mut Site<A>,
+    input: Input<A>,
+) -> Result<Made<A>, AllocError>
     ensures step { IfOk result (λ made. step site.old.sites site.old.me (site_of site.old) (input_of input) ≡ after_step site.new made.answer (map envelope_of made.sent.items)) }
     ensures refused { OnErr result (site_of site.new ≡ site_of site.old) }
     ensures memory { OnErr result (is_foreign site.old.sites site.old.me (input_of input) ≡ false → may_grow site.old.sites site.old.me (site_of site.old) (input_of input) ≡ true) }
@@ -131,11 +139,11 @@ fn listed<A: Allocator + Copy>(site: &mut Site<A>, input: Input<A>) -> Result<Ma
 {
     match site.step_listed(input) {
         Ok(made) => Ok(made),
-        Err(error) => Err(given_up(error)),
+        Err(error) => Err(give_up(error)),
     }
 }
 
-fn given_up<A: Allocator + Copy>(error: StepError<A>) -> AllocError {
+fn give_up<A: Allocator + Copy>(error: StepError<A>) -> AllocError {
     drop(error);
     AllocError
 }

@@ -7,7 +7,7 @@ ghost use Rattle.shm_sites.specs.Cluster.Client.{waits as is_waiting, IsServed, 
 use crate::boxes::{Asked, Receipt};
 use crate::cluster::access::access;
 use crate::cluster::client_fault::ClientFault;
-use crate::cluster::copies::posted_by;
+use crate::cluster::copies::copies_of;
 use crate::cluster::shared::{Post, Shared};
 use shm_model::Answer;
 use shm_place::SiteId;
@@ -110,7 +110,7 @@ impl<'a, A: Allocator + Copy> Client<'a, A> {
         let mut held = self.post.site.lock(rt);
         match access(&mut held, self.site, asked) {
             Ok(receipt) => {
-                let posted = posted_by(self.shared.alloc, held.log(), receipt.index());
+                let posted = copies_of(self.shared.alloc, held.log(), receipt.index());
                 drop(held);
                 if let Ok(posted) = posted {
                     self.shared.send_all(rt, posted);

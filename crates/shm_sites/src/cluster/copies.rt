@@ -10,7 +10,7 @@ use crate::cluster::posted::Posted;
 use std::alloc::{AllocError, Allocator};
 
 /// All that the step of this index sent; nothing, where the log has no such step.
-pub(crate) fn posted_by<A: Allocator + Copy>(
+pub(crate) fn copies_of<A: Allocator + Copy>(
     alloc: A,
     log: &SiteLog<A>,
     index: usize,

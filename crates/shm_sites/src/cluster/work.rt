@@ -8,7 +8,7 @@ ghost use Rattle.shm_sites.specs.Cluster.Posted.{all_sent, sent_at};
 
 use crate::boxes::{Input, SiteBox, Stamp};
 use crate::cluster::carrying::{carry, draws_of};
-use crate::cluster::copies::posted_by;
+use crate::cluster::copies::copies_of;
 use crate::cluster::gate::Gate;
 use crate::cluster::mail::Mail;
 use crate::cluster::posted::Posted;
@@ -73,14 +73,14 @@ fn step<R: Wait, A: Allocator + Copy, G: Gate>(
 ) -> Result<Vec<Posted<A>, A>, AllocError> {
     let mut held = post.site.lock(rt);
     gate.pass(site);
-    let posted = taken(&mut held, alloc, input, source);
+    let posted = give_input(&mut held, alloc, input, source);
     drop(held);
     posted
 }
 
 /// Gives the box its input, and tells all that the step sent. Where the box doesn't take it, nothing happens and nothing was sent. It fails
 /// where memory was refused for the copies.
-pub(crate) fn taken<A: Allocator + Copy>(
+pub(crate) fn give_input<A: Allocator + Copy>(
     site: &mut SiteBox<A>,
     alloc: A,
     input: Input<A>,
@@ -90,7 +90,7 @@ pub(crate) fn taken<A: Allocator + Copy>(
     ensures sent { IfOk result (λ posted. all_sent posted.items ≡ sent_at (box_of site.new).log (length (box_of site.old).log)) }
 {
     match site.take(input, source) {
-        Ok(receipt) => posted_by(alloc, site.log(), receipt.index()),
+        Ok(receipt) => copies_of(alloc, site.log(), receipt.index()),
         Err(_) => Ok(Vec::new(alloc)),
     }
 }

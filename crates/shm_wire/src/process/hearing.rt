@@ -21,12 +21,12 @@ impl<A: Allocator + Copy> Node<A> {
         ensures early { IfOk result (λ heard. IfSome heard (λ h. max self.now.clock h.source < greatest)) }
     {
         match parse_envelope(self.alloc, line)? {
-            Some(sent) => Ok(self.handed(sent)),
-            None => self.asked(line),
+            Some(sent) => Ok(self.hear_envelope(sent)),
+            None => self.hear_caller(line),
         }
     }
 
-    fn handed(&self, sent: Sent<A>) -> Option<Heard<A>>
+    fn hear_envelope(&self, sent: Sent<A>) -> Option<Heard<A>>
         ensures heard { option_map heard_of result ≡ spec.handed (node_of self.now) (sent_of sent) }
         ensures proper { IfSome result (λ h. is_foreign self.now.sites self.now.me (input_of h.input) ≡ false) }
         ensures early { IfSome result (λ h. max self.now.clock h.source < greatest) }
@@ -43,7 +43,7 @@ impl<A: Allocator + Copy> Node<A> {
     }
 
     /// What a caller asks of this site.
-    fn asked(&self, line: &[u8]) -> Result<Option<Heard<A>>, AllocError>
+    fn hear_caller(&self, line: &[u8]) -> Result<Option<Heard<A>>, AllocError>
         ensures heard { IfOk result (λ heard. option_map heard_of heard ≡ option_and_then (spec.asked_here (node_of self.now)) (read_ask line.now)) }
         ensures proper { IfOk result (λ heard. IfSome heard (λ h. is_foreign self.now.sites self.now.me (input_of h.input) ≡ false)) }
         ensures early { IfOk result (λ heard. IfSome heard (λ h. max self.now.clock h.source < greatest)) }
@@ -54,7 +54,7 @@ impl<A: Allocator + Copy> Node<A> {
         if ask.site != self.me || self.is_late(0) {
             return Ok(None);
         }
-        let Some(input) = input_asked(ask.asked) else {
+        let Some(input) = input_of_ask(ask.asked) else {
             return Ok(None);
         };
         let tag = String::from_str(self.alloc, ask.tag)?;
@@ -75,7 +75,7 @@ impl<A: Allocator + Copy> Node<A> {
 }
 
 /// What the site is made to do.
-fn input_asked<A: Allocator + Copy>(asked: Asked) -> Option<Input<A>>
+fn input_of_ask<A: Allocator + Copy>(asked: Asked) -> Option<Input<A>>
     ensures input { option_map input_of result ≡ spec.input_asked asked }
     ensures proper { (sites me : ℕ) → IfSome result (λ input. is_foreign sites me (input_of input) ≡ false) }
 {

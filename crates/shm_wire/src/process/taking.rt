@@ -28,7 +28,7 @@ impl<A: Allocator + Copy> Node<A> {
                 Ok(Some(said))
             }
             None => {
-                self.passed = counted(self.passed);
+                self.passed = one_more(self.passed);
                 Ok(None)
             }
         }
@@ -45,11 +45,11 @@ impl<A: Allocator + Copy> Node<A> {
         let Heard { input, source, tag } = heard;
         let clock = self.clock.max(source) + 1;
         let index = self.steps;
-        let Made { answer, sent } = listed(&mut self.site, input)?;
+        let Made { answer, sent } = step_site(&mut self.site, input)?;
         self.clock = clock;
         self.steps = index + 1;
-        self.taken = counted(self.taken);
-        let tag = told(tag, &mut self.caller, &answer);
+        self.taken = one_more(self.taken);
+        let tag = take_tag(tag, &mut self.caller, &answer);
         Ok(Said {
             site: self.me,
             clock,
@@ -62,7 +62,7 @@ impl<A: Allocator + Copy> Node<A> {
 }
 
 /// Who is told the answer. A segment call that begins has its caller until it is replied to.
-fn told<A: Allocator + Copy>(
+fn take_tag<A: Allocator + Copy>(
     tag: Option<String<A>>,
     caller: &mut Option<String<A>>,
     answer: &Answer,
@@ -81,25 +81,28 @@ fn told<A: Allocator + Copy>(
 }
 
 /// One more line.
-fn counted(lines: u64) -> u64
+fn one_more(lines: u64) -> u64
     ensures { result ≡ counted lines }
 {
     lines.saturating_add(1)
 }
 
 /// One step of the site at an input that isn't foreign. An envelope that comes back is given up.
-fn listed<A: Allocator + Copy>(site: &mut Site<A>, input: Input<A>) -> Result<Made<A>, AllocError>
+fn step_site<A: Allocator + Copy>(
+    site: &mut Site<A>,
+    input: Input<A>,
+) -> Result<Made<A>, AllocError>
     ensures step { IfOk result (λ made. step site.old.sites site.old.me (site_of site.old) (input_of input) ≡ site_stepped site.new made.answer (map envelope_of made.sent.items)) }
     ensures refused { OnErr result (site_of site.new ≡ site_of site.old) }
     ensures seat { SameSeat site.old site.new }
 {
     match site.step_listed(input) {
         Ok(made) => Ok(made),
-        Err(error) => Err(given_up(error)),
+        Err(error) => Err(give_up(error)),
     }
 }
 
-fn given_up<A: Allocator + Copy>(error: StepError<A>) -> AllocError {
+fn give_up<A: Allocator + Copy>(error: StepError<A>) -> AllocError {
     drop(error);
     AllocError
 }

@@ -1,6 +1,6 @@
 use Rattle.std.proofs.Common.{◌∙◌, ap, ◌++◌, arith, string_bytes}
 use Rattle.shm_world.specs.Showing.{shown}
-use Rattle.shm_debug.proofs.Telling.{told_more}
+use Rattle.shm_debug.proofs.TellingLemmas.{told_more}
 use Rattle.shm_draw.specs.Svg.{cell_text}
 use Rattle.shm_draw.proofs.lanes.tell_cells.Goals as goal
 

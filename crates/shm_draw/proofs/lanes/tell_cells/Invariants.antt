@@ -2,7 +2,7 @@ use Rattle.std.proofs.Common.{string_bytes}
 use Rattle.shm_model.specs.World as model
 use Rattle.shm_world.specs.Showing.{shown}
 use Rattle.shm_world.specs.World.{StandsFor}
-use Rattle.shm_debug.proofs.Telling.{Told}
+use Rattle.shm_debug.proofs.TellingLemmas.{Told}
 use Rattle.shm_draw.specs.Svg.{cell_text}
 use Rattle.shm_draw.proofs.lanes.tell_cells.Given as goal
 

@@ -1,5 +1,5 @@
 use Rattle.std.proofs.Common.{arith, string_bytes}
-use Rattle.shm_debug.proofs.Telling.{told_more}
+use Rattle.shm_debug.proofs.TellingLemmas.{told_more}
 use Rattle.shm_draw.specs.Svg.{name_text}
 use Rattle.shm_draw.proofs.lanes.tell_names.Goals as goal
 

@@ -1,5 +1,5 @@
 use Rattle.std.proofs.Common.{string_bytes}
-use Rattle.shm_debug.proofs.Telling.{Told}
+use Rattle.shm_debug.proofs.TellingLemmas.{Told}
 use Rattle.shm_draw.specs.Svg.{name_text}
 use Rattle.shm_draw.proofs.lanes.tell_names.Given as goal
 

@@ -1,7 +1,7 @@
 use Rattle.std.proofs.Common.{◌≡◌, ◌||◌, ◌&&◌, ◌==◌, Bool, nat_lt, ap, ◌∙◌, subst, sym, arith}
 use Rattle.std.proofs.lemmas.Grind.{common_steps}
 use Rattle.std.specs.List.{insert}
-use Rattle.shm_keys.specs.SiteSet.{has}
+use Rattle.shm_place.specs.SiteSet.{has}
 use Rattle.shm_keys.specs.Purge.{missing_in, IsRising}
 use Rattle.shm_keys.specs.declared.purge.Purge.{Purge}
 use Rattle.shm_keys.proofs.Purges.{missing-insert, rising-insert}

@@ -156,7 +156,7 @@ fn played<'a>(
         Line::Event(event) => happens(rt, alloc, heap, session, (number, event), text),
         Line::Show(page) => shows(alloc, heap, session, (number, page), text),
         Line::Back(count) => goes_back(rt, alloc, heap, session, (number, *count), text),
-        Line::Sites { .. } => Err(Fail::new("only the first line is one of sites")),
+        Line::Sites(_) => Err(Fail::new("only the first line is one of sites")),
     }
 }
 

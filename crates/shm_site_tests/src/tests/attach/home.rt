@@ -90,8 +90,8 @@ fn what_was_destroyed_is_purged_once(rt: HostRuntime) -> Result<(), Fail> {
     lone.make(1)?;
     lone.remove(2)?;
     let mut copy = lone.home.copy()?;
-    expect(&rt, copy.purged(SegId(0), SiteId(0)));
-    expect(&rt, !copy.purged(SegId(0), SiteId(0)));
+    expect(&rt, copy.on_purged(SegId(0), SiteId(0)));
+    expect(&rt, !copy.on_purged(SegId(0), SiteId(0)));
     expect(&rt, copy.next_purge(None).is_none());
     expect(&rt, lone.home.next_purge(None).is_some());
     Ok(())

@@ -42,10 +42,10 @@ fn each_site_purges_for_itself(rt: HostRuntime) -> Result<(), Fail> {
     let made = table.get(ROOT, Key(0), 1, Mode::OWNER_READ_WRITE, GetFlags(0));
     assert_eq!(rt; made, Ok(SegId(0)));
     expect_answer(&rt, table.remove(ROOT, SegId(0)), Ok(()));
-    expect(&rt, table.purged(SegId(0), SiteId(1)));
+    expect(&rt, table.on_purged(SegId(0), SiteId(1)));
     let copy = table.copy()?;
-    expect(&rt, table.purged(SegId(0), SiteId(0)));
-    expect(&rt, table.purged(SegId(0), SiteId(2)));
+    expect(&rt, table.on_purged(SegId(0), SiteId(0)));
+    expect(&rt, table.on_purged(SegId(0), SiteId(2)));
     expect(&rt, table.next_purge(None).is_none());
     let (id, missing) = copy.next_purge(None).ok_or("sites are missing")?;
     assert_eq!(rt; id, SegId(0));

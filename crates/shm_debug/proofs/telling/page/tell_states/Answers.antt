@@ -1,7 +1,7 @@
 use Rattle.std.proofs.Common.{◌∙◌, ap, ◌++◌, arith, string_bytes}
 use Rattle.shm_world.specs.Showing.{shown}
 use Rattle.shm_debug.specs.Page.{state_text}
-use Rattle.shm_debug.proofs.Telling.{told_more}
+use Rattle.shm_debug.proofs.TellingLemmas.{told_more}
 use Rattle.shm_debug.proofs.telling.page.tell_states.Goals as goal
 
 pub sites-preserved : goal.sites-preserved

@@ -3,7 +3,7 @@ use Rattle.shm_model.specs.World as model
 use Rattle.shm_world.specs.Showing.{shown}
 use Rattle.shm_world.specs.World.{StandsFor}
 use Rattle.shm_debug.specs.Page.{state_text}
-use Rattle.shm_debug.proofs.Telling.{Told}
+use Rattle.shm_debug.proofs.TellingLemmas.{Told}
 use Rattle.shm_debug.proofs.telling.page.tell_states.Given as goal
 
 abbrev pub invariant-sites : goal.invariant-sites

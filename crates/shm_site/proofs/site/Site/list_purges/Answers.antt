@@ -2,7 +2,7 @@ use Rattle.std.proofs.Common.{◌≡◌, ◌++◌, ◌∷◌, [], ℕ, true, fal
 use Rattle.std.proofs.lemmas.Grind.{common_steps}
 use Rattle.std.proofs.lemmas.List.{map_push}
 use Rattle.shm_model.specs.SegmentCalls.{purge_envelope}
-use Rattle.shm_keys.specs.SiteSet.{has}
+use Rattle.shm_place.specs.SiteSet.{has}
 use Rattle.shm_parts.specs.Message.{envelope_of}
 use Rattle.shm_site.proofs.Ticks.{passing, passing_all, sent_here, sent_none, sent_not_here}
 use Rattle.shm_site.proofs.site.Site.list_purges.Goals as goal

@@ -1,6 +1,6 @@
 use Rattle.std.proofs.Common.{◌≡◌, ◌++◌, map}
 use Rattle.shm_model.specs.SegmentCalls.{purge_envelope}
-use Rattle.shm_keys.specs.SiteSet.{has}
+use Rattle.shm_place.specs.SiteSet.{has}
 use Rattle.shm_parts.specs.Message.{envelope_of}
 use Rattle.shm_site.proofs.Ticks.{passing}
 use Rattle.shm_site.proofs.site.Site.list_purges.Given as goal

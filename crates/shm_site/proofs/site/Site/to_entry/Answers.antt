@@ -8,6 +8,6 @@ returns-in-Err-clause-refused g c = record { site = c.in-Err.ensures.refused (si
 
 pub returns-clause-step : goal.returns-clause-step
 returns-clause-step g c = record {
-  makes = with_room g.O.Outbox.joined c.reserve.ensures.same (c.in-Ok.ensures.step (site_of c.args.self.now)) c.turned.ensures.makes;
-  seat = c.turned.ensures.seat;
+  makes = with_room g.O.Outbox.joined c.reserve.ensures.same (c.in-Ok.ensures.step (site_of c.args.self.now)) c.answer_turn.ensures.makes;
+  seat = c.answer_turn.ensures.seat;
 }

@@ -5,12 +5,12 @@ use Rattle.shm_sites.specs.Auditing.Callers.{callers_of}
 use Rattle.shm_sites.proofs.Audits.AuditLemmas.{audited-with}
 use Rattle.shm_sites.proofs.auditing.judging.audit_complete.Goals as goal
 
-pub audited-requires-clause-sound : goal.audited-requires-clause-sound
-audited-requires-clause-sound g c = c.in_default.ensures.sound refl
+pub order_events-requires-clause-sound : goal.order_events-requires-clause-sound
+order_events-requires-clause-sound g c = c.in_default.ensures.sound refl
 
 pub returns-clause-sound : goal.returns-clause-sound
 returns-clause-sound g c =
-    audited-with (Preset c.args.sites c.args.pages) (logs_of c.args.logs.now) (callers_of c.args.callers.now) c.audited.result c.audited.ensures.sound (c.in_default.ensures.held refl)
+    audited-with (Preset c.args.sites c.args.pages) (logs_of c.args.logs.now) (callers_of c.args.callers.now) c.order_events.result c.order_events.ensures.sound (c.in_default.ensures.held refl)
 
 pub returns-clause-complete : goal.returns-clause-complete
 returns-clause-complete g c = λ ok. c.in_default.ensures.told refl

@@ -1,7 +1,7 @@
 //! Steps of a site's thread for which memory is refused.
 use super::{HEAP, HOLES, PAGES, filled_but};
 use crate::boxes::{Envelope, Input, SiteBox, Stamp};
-use crate::cluster::work::taken;
+use crate::cluster::work::give_input;
 use linked_list_allocator::LocalHeap;
 use shm_model::Kind;
 use shm_parts::{Message, Note};
@@ -47,7 +47,7 @@ fn takes<'a>(
     bytes: usize,
 ) -> Result<Outcome, AllocError> {
     let blocks = filled_but(alloc, heap, bytes)?;
-    let posted = taken(site, heap, asking(), Stamp::NONE);
+    let posted = give_input(site, heap, asking(), Stamp::NONE);
     drop(blocks);
     let sent = posted.map_or(0, |posted| posted.len());
     Ok((site.log().len(), sent))

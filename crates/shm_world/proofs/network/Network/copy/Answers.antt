@@ -27,6 +27,6 @@ entries-preserved g c =
       within = omega (arith, i.within);
       room = omega (arith, i.room, c.put.ensures.room, c.entries-test.true);
       sent = c.put.ensures.sent ∙ i.sent;
-      copied = one_copied (on_way c.entries.copy) (on_way c.put.new.self) es (c.entries.left - 1) c.entries.left number place (envelope_at c.in_ok-copied.field-0)
-          (omega (arith, c.entries-test.true)) entry c.in_ok-copied.ensures i.copied c.put.ensures.puts;
+      copied = one_copied (on_way c.entries.copy) (on_way c.put.new.self) es (c.entries.left - 1) c.entries.left number place (envelope_at c.in_ok-copy_place.field-0)
+          (omega (arith, c.entries-test.true)) entry c.in_ok-copy_place.ensures i.copied c.put.ensures.puts;
     }
