@@ -14,7 +14,7 @@ use Rattle.shm_model.specs.declared.event.Event.{Event}
 use Rattle.shm_world.specs.World.{StandsFor}
 use Rattle.shm_world.specs.declared.world.World.{World}
 use Rattle.shm_debug.specs.Checkpoints.{Holds}
-use Rattle.shm_debug.specs.Standing.{Standing, first_events, standing, stood}
+use Rattle.shm_debug.specs.Standing.{Standing, first_events, standing, world_of}
 use Rattle.shm_debug.specs.declared.checkpoint.Checkpoint.{Checkpoint}
 
 take-take : {X : Type 0} (k n : ℕ) (xs : List X) → k ≤ n → take k (take n xs) ≡ take k xs
@@ -32,7 +32,7 @@ take-front (suc k) (x ∷ xs) ys h = ap (λ l. x ∷ l) (take-front k xs ys (ome
 pub holds-first : {A : Type 0} (s : Standing) (n : ℕ) (c : Checkpoint A) → n ≤ length s.events → c.count ≤ n → Holds s c → Holds (first_events n s) c
 holds-first {A} s n c h le holds = record {
   within = omega (arith, le, length-take-le n s.events h);
-  stands = subst (λ (xs : List Event). StandsFor {A = A} c.world (stood (standing s.opening xs))) (sym (take-take c.count n s.events le)) holds.stands;
+  stands = subst (λ (xs : List Event). StandsFor {A = A} c.world (world_of (standing s.opening xs))) (sym (take-take c.count n s.events le)) holds.stands;
 }
 
 -- what holds for the first n events holds for all
@@ -41,7 +41,7 @@ holds-whole {A} s n c h holds =
     let le : c.count ≤ n = omega (arith, holds.within, length-take-le n s.events h) in
     record {
       within = omega (arith, le, h);
-      stands = subst (λ (xs : List Event). StandsFor {A = A} c.world (stood (standing s.opening xs))) (take-take c.count n s.events le) holds.stands;
+      stands = subst (λ (xs : List Event). StandsFor {A = A} c.world (world_of (standing s.opening xs))) (take-take c.count n s.events le) holds.stands;
     }
 
 pub all-whole : {A : Type 0} (s : Standing) (n : ℕ) (xs : List (Checkpoint A)) → n ≤ length s.events → All (Holds (first_events n s)) xs → All (Holds s) xs
@@ -53,7 +53,7 @@ all-longer {A} s more xs all = λ k d lt.
     let holds : Holds s (get_or xs k d) = all k d lt in
     record {
       within = omega (arith, holds.within, length-append s.events more);
-      stands = subst (λ (events : List Event). StandsFor {A = A} (get_or xs k d).world (stood (standing s.opening events))) (sym (take-front (get_or xs k d).count s.events more holds.within)) holds.stands;
+      stands = subst (λ (events : List Event). StandsFor {A = A} (get_or xs k d).world (world_of (standing s.opening events))) (sym (take-front (get_or xs k d).count s.events more holds.within)) holds.stands;
     }
 
 -- those up to the first one past n events

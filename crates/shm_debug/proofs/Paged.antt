@@ -9,7 +9,7 @@ use Rattle.shm_model.specs.Book.{Book}
 use Rattle.shm_model.specs.Refusal.{foreign_message}
 use Rattle.shm_model.specs.Site.{Site}
 use Rattle.shm_model.specs.World.{World}
-use Rattle.shm_site.specs.Showing.{Tells}
+use Rattle.shm_site.specs.Showing.{Shows}
 use Rattle.shm_site.specs.declared.book_view.BookView.{BookView}
 use Rattle.shm_world.specs.Showing.{keeps_book, shown, shown_at}
 use Rattle.shm_debug.specs.Page.{book_text, manager_text, page_text, states_text}
@@ -23,15 +23,15 @@ unpurged false x y h = refl
 -- of a manager that keeps the book the book is told
 pub manager_told : {X Y : Type 0} (r : Result X Y) (o : Option Site) (page : PageId) (seen : Option Shown) (book : Option BookView) (view : BookView) (old new : List ℕ)
     → is_some seen ≡ true → book ≡ Some view → seen ≡ shown_at o page → is_some book ≡ keeps_book o page
-    → ((x : Site) → o ≡ Some x → IfSome book (λ v. Tells v (x.books page)))
-    → ((b : Book) → Tells view b → OnOk r (new ≡ old ++ book_text b))
+    → ((x : Site) → o ≡ Some x → IfSome book (λ v. Shows v (x.books page)))
+    → ((b : Book) → Shows view b → OnOk r (new ≡ old ++ book_text b))
     → OnOk r (new ≡ old ++ manager_text o page)
 manager_told r None page seen book view old new there is same found tells told = absurd (false≢true (sym (ap (λ (s : Option Shown). is_some s) same) ∙ there))
 manager_told r (Some x) page seen book view old new there is same found tells told =
     let keeps : true ≡ not (x.purged page.seg) = ap (λ (b : Option BookView). is_some b) (sym is) ∙ found in
     on_ok-then r
     (λ e. e ∙ ap (λ t. old ++ t) (sym (unpurged (x.purged page.seg) (codes " purged") (book_text (x.books page)) keeps)))
-    (told (x.books page) (subst (λ (b : Option BookView). IfSome b (λ v. Tells v (x.books page))) is (tells x refl)))
+    (told (x.books page) (subst (λ (b : Option BookView). IfSome b (λ v. Shows v (x.books page))) is (tells x refl)))
 
 in_a_row : (a b c d : List ℕ) → ((a ++ b) ++ c) ++ d ≡ a ++ (b ++ (c ++ d))
 in_a_row a b c d = simp append_assoc refl
@@ -39,9 +39,9 @@ in_a_row a b c d = simp append_assoc refl
 pub page_told : {X Y : Type 0} (r : Result X Y) (w : World) (page : PageId) (manager : ℕ) (seen : Option Shown) (book : Option BookView) (old first second new : List ℕ)
     → in_limits w.count page ≡ true → manager ≡ manager_of w.count page → seen ≡ shown w manager page
     → is_some book ≡ (in_limits w.count page && keeps_book (slice_get w.sites (manager_of w.count page)) page)
-    → ((x : Site) → slice_get w.sites (manager_of w.count page) ≡ Some x → IfSome book (λ v. Tells v (x.books page)))
+    → ((x : Site) → slice_get w.sites (manager_of w.count page) ≡ Some x → IfSome book (λ v. Shows v (x.books page)))
     → first ≡ old ++ codes "page" → second ≡ first ++ states_text w page
-    → ((o : Option Site) → seen ≡ shown_at o page → is_some book ≡ keeps_book o page → ((x : Site) → o ≡ Some x → IfSome book (λ v. Tells v (x.books page))) → OnOk r (new ≡ second ++ manager_text o page))
+    → ((o : Option Site) → seen ≡ shown_at o page → is_some book ≡ keeps_book o page → ((x : Site) → o ≡ Some x → IfSome book (λ v. Shows v (x.books page))) → OnOk r (new ≡ second ++ manager_text o page))
     → OnOk r (new ≡ old ++ page_text w page)
 page_told r w page manager seen book old first second new inside is same found tells f g told =
     let o = slice_get w.sites (manager_of w.count page) in

@@ -1,10 +1,10 @@
 -- The parts that line feeds leave, and what is read from them.
-use Rattle.std.proofs.Common.{◌≡◌, ℕ, ◌+◌, ◌<◌, ◌≤◌, ◌==◌, Bool, true, false, List, [], ◌∷◌, ◌++◌, length, All, Option, None, Some, Result, Ok, Err, ◌⊎◌, inl, inr, refl, sym, ap, ◌∙◌, arith, append_assoc}
-use Rattle.std.specs.List.{slice_split, onto_first}
+use Rattle.std.proofs.Common.{◌≡◌, ℕ, ◌+◌, ◌<◌, ◌==◌, Bool, true, false, List, [], ◌∷◌, ◌++◌, length, All, Ok, Err, ◌⊎◌, inl, inr, refl, ap, ◌∙◌, arith}
+use Rattle.std.specs.List.{onto_first}
 use Rattle.std.proofs.lemmas.List.Splits.{slice_split-cons_yes, slice_split-cons_no, slice_split_none, slice_split_at}
-use Rattle.std.proofs.lemmas.List.Elements.{All-append, All-cons, All-nil, All-head, All-tail}
+use Rattle.std.proofs.lemmas.List.Elements.{All-head, All-tail}
 use Rattle.std.proofs.lemmas.Bool.Decides.{nat_tests}
-use Rattle.shm_debug.specs.Script.{Script, parts_of, read_on, read_line, broken, after, begun, unended}
+use Rattle.shm_debug.specs.Script.{parts_of, read_on, read_line, broken, after, begun, unended}
 use Rattle.shm_lines.specs.declared.line.Line.{Line}
 use Rattle.shm_debug.specs.declared.outcome.DebugFault.{DebugFault}
 
@@ -28,14 +28,6 @@ parts (x ∷ xs) = go (true_or_false (x == 10)) (parts xs)
     go : ((x == 10) ≡ true) ⊎ ((x == 10) ≡ false) → Parts xs → Parts (x ∷ xs)
     go (inl e) p = record { first = []; others = parts_of xs; are = slice_split-cons_yes (λ byte. byte == 10) x xs e }
     go (inr e) p = record { first = x ∷ p.first; others = p.others; are = slice_split-cons_no (λ byte. byte == 10) x xs e ∙ ap (onto_first x) p.are }
-
--- and one of the two isn't empty, where there is a byte
-pub parts-more : (x : ℕ) (xs : List ℕ) → (p : Parts (x ∷ xs)) × (0 < length p.first + length p.others)
-parts-more x xs = go (true_or_false (x == 10)) (parts xs)
-  where
-    go : ((x == 10) ≡ true) ⊎ ((x == 10) ≡ false) → Parts xs → (p : Parts (x ∷ xs)) × (0 < length p.first + length p.others)
-    go (inl e) p = (record { first = []; others = p.first ∷ p.others; are = slice_split-cons_yes (λ byte. byte == 10) x xs e ∙ ap (λ l. [] ∷ l) p.are }, omega arith)
-    go (inr e) p = (record { first = x ∷ p.first; others = p.others; are = slice_split-cons_no (λ byte. byte == 10) x xs e ∙ ap (onto_first x) p.are }, omega arith)
 
 -- bytes without a line feed go to the front of the first part
 pub parts-after : (xs ys : List ℕ) (p : Parts ys) → NoFeed xs → parts_of (xs ++ ys) ≡ (xs ++ p.first) ∷ p.others

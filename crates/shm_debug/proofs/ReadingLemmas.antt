@@ -1,19 +1,20 @@
 -- From one moment of a script that is read to the next.
-use Rattle.std.proofs.Common.{◌≡◌, ℕ, ◌+◌, ◌*◌, ◌<◌, ◌≤◌, ◌==◌, ◌&&◌, Bool, true, false, List, [], ◌∷◌, ◌++◌, length, All, Option, None, Some, Result, Ok, Err, ◌⊎◌, inl, inr, cond, nat_lt, refl, sym, ap, subst, ◌∙◌, arith, append_assoc, append-nil, length-append, if◌then◌else◌}
+use Rattle.std.proofs.Common.{◌≡◌, ℕ, ◌+◌, ◌<◌, ◌≤◌, ◌==◌, ◌&&◌, Bool, true, false, List, [], ◌∷◌, ◌++◌, length, Option, None, Some, Result, Ok, Err, ◌⊎◌, inl, inr, cond, nat_lt, refl, sym, ap, subst, ◌∙◌, arith, append_assoc, append-nil, length-append}
 use Rattle.std.proofs.lemmas.Bool.{cases_Bool}
 use Rattle.std.proofs.lemmas.Bool.Decides.{nat_tests}
-use Rattle.std.proofs.lemmas.List.Elements.{All-append, All-cons, All-nil}
+use Rattle.std.proofs.lemmas.List.Elements.{All-append}
 use Rattle.shm_lines.specs.Line.{may_stand, line_of}
+use Rattle.shm_lines.specs.Spelling.{IsLine, spelling}
 use Rattle.shm_debug.specs.Standing.{Standing}
 use Rattle.shm_debug.specs.Text.{line_text}
 use Rattle.shm_debug.specs.Script.{Script, after, broken, whole, read_on, read_line, placed, unended, parts_of}
 use Rattle.shm_debug.specs.Said.{next, said, standing_after}
 use Rattle.shm_debug.specs.Output.{text_from}
-use Rattle.shm_debug.specs.Reading.{Moment, rest_of, reach, passed, Onward, Tells, Begins, Breaks, Stops, Plays, Fails}
+use Rattle.shm_debug.specs.Reading.{Moment, rest_of, gathered, passed, Onward, WritesLines, Begins, Breaks, Stops, Plays, Fails, Completes}
 use Rattle.shm_lines.specs.declared.line.Line.{Line}
 use Rattle.shm_debug.specs.declared.outcome.DebugFault.{DebugFault}
 use Rattle.shm_debug.specs.declared.outcome.DebugFault.TheVariants.{OutOfMemory, BadLine, LineTooLong, TooManyLines, ReadFault, WriteFault}
-use Rattle.shm_debug.proofs.PartsLemmas.{NoFeed, Parts, parts, parts-more, parts-feed, parts-after, parts-alone, read_on-line, read_on-fault}
+use Rattle.shm_debug.proofs.PartsLemmas.{NoFeed, parts, parts-feed, parts-after, parts-alone, read_on-line, read_on-fault}
 
 pub after-after : (xs ys : List Line) (s : Script) → after xs (after ys s) ≡ after (xs ++ ys) s
 after-after xs ys s = ap (λ (l : List Line). record { lines = l; fault = s.fault }) (sym (append_assoc xs ys s.lines))
@@ -40,7 +41,7 @@ Onward-trans a b c x y xs ys p q = record {
   reached = omega (arith, length-append x y, p.reached, q.reached);
 }
 
-Tells-trans : (a b : Moment) (x : List ℕ) (xs ys : List Line) (s t u : List ℕ) → Onward a x xs b → Tells a xs s t → Tells b ys t u → Tells a (xs ++ ys) s u
+Tells-trans : (a b : Moment) (x : List ℕ) (xs ys : List Line) (s t u : List ℕ) → Onward a x xs b → WritesLines a xs s t → WritesLines b ys t u → WritesLines a (xs ++ ys) s u
 Tells-trans a b x xs ys s t u o p q =
     q ∙ ap (λ l. l ++ text_from (b.lines + 1) b.standing ys) p
     ∙ append_assoc s (text_from (a.lines + 1) a.standing xs) (text_from (b.lines + 1) b.standing ys)
@@ -92,21 +93,21 @@ Stops-more a x y xs TooManyLines h = Breaks-more a x y xs TooManyLines h
 pub Fails-more : (a : Moment) (x y s t : List ℕ) (f : DebugFault) → Fails a x f s t → Fails a (x ++ y) f s t
 Fails-more a x y s t f p = (p.0, Stops-more a x y p.0 f p.1, p.2)
 
-nothing_told : (m : Moment) (text : List ℕ) → Tells m [] text text
+nothing_told : (m : Moment) (text : List ℕ) → WritesLines m [] text text
 nothing_told m text = sym (append-nil text)
 
 pub Plays-none : (m : Moment) (text : List ℕ) → Plays m [] m text text
 Plays-none m text = ([], record { rest = λ more. refl; count = omega arith; stands = refl; reached = omega arith }, nothing_told m text)
 
--- a byte joins the line
-pub Plays-push : (m : Moment) (byte : ℕ) (text : List ℕ) → Plays m (byte ∷ []) (record m { line = m.line ++ byte ∷ [] }) text text
-Plays-push m byte text = (
+-- bytes join the line
+pub Plays-gather : (m : Moment) (bytes text : List ℕ) → Plays m bytes (gathered m bytes) text text
+Plays-gather m bytes text = (
   [],
   record {
-    rest = λ more. ap (λ l. read_on (m.lines + 1) (parts_of l)) (sym (append_assoc m.line (byte ∷ []) more));
+    rest = λ more. ap (λ l. read_on (m.lines + 1) (parts_of l)) (sym (append_assoc m.line bytes more));
     count = omega arith;
     stands = refl;
-    reached = omega (arith, length-append m.line (byte ∷ []));
+    reached = omega (arith, length-append m.line bytes);
   },
   nothing_told m text,
 )
@@ -149,36 +150,67 @@ Stops-own m bytes lines (BadLine n) own h = h
 Stops-own m bytes lines (LineTooLong n) own h = h
 Stops-own m bytes lines TooManyLines own h = h
 
-pub NoFeed-push : (line : List ℕ) (byte : ℕ) → NoFeed line → (byte == 10) ≡ false → NoFeed (line ++ byte ∷ [])
-NoFeed-push line byte h e = All-append (λ b. (b == 10) ≡ false) line (byte ∷ []) h (All-cons (λ b. (b == 10) ≡ false) byte [] e (All-nil (λ b. (b == 10) ≡ false)))
+-- what is read of a line is the line, or such a fault
+abbrev IfErrOwn : Result Line DebugFault → Type 0
+IfErrOwn (Ok line) = Unit {0}
+IfErrOwn (Err fault) = IsOwn fault
 
-longer : (line : List ℕ) (byte : ℕ) (more : List ℕ) → length line + 1 ≤ length ((line ++ byte ∷ []) ++ more)
-longer line byte more = omega (arith, length-append (line ++ byte ∷ []) more, length-append line (byte ∷ []))
+own-either : (b : Bool) (x y : Result Line DebugFault) → IfErrOwn x → IfErrOwn y → IfErrOwn (cond b x y)
+own-either true x y h k = h
+own-either false x y h k = k
 
-longer_still : (line : List ℕ) (byte : ℕ) (more : List ℕ) (others : List (List ℕ)) → 0 < length ((line ++ byte ∷ []) ++ more) + length others
-longer_still line byte more others = omega (arith, longer line byte more)
+placed-own : (number : ℕ) (line : Option Line) → IfErrOwn (placed number line)
+placed-own number None = tt
+placed-own number (Some line) = own-either (may_stand number line) (Ok line) (Err (BadLine number)) tt tt
 
--- the line that ends is none, or may not stand there
-pub Fails-line : (m : Moment) (fault : DebugFault) (text : List ℕ) → NoFeed m.line → read_line (m.lines + 1) m.line ≡ Err fault → IsOwn fault → Fails m (10 ∷ []) fault text text
-Fails-line m fault text closed reads own = (
+read-own : (number : ℕ) (bytes : List ℕ) (fault : DebugFault) → read_line number bytes ≡ Err fault → IsOwn fault
+read-own number bytes fault e =
+    let short = own-either (nat_lt 200 (length bytes)) (Err (LineTooLong number)) (placed number (line_of bytes)) tt (placed-own number (line_of bytes)) in
+    subst IfErrOwn e (own-either (nat_lt 100000 number) (Err TooManyLines) (cond (nat_lt 200 (length bytes)) (Err (LineTooLong number)) (placed number (line_of bytes))) tt short)
+
+pub NoFeed-append : (line bytes : List ℕ) → NoFeed line → NoFeed bytes → NoFeed (line ++ bytes)
+NoFeed-append line bytes h k = All-append (λ b. (b == 10) ≡ false) line bytes h k
+
+longer : (line bytes more : List ℕ) → length line + length bytes ≤ length ((line ++ bytes) ++ more)
+longer line bytes more = omega (arith, length-append (line ++ bytes) more, length-append line bytes)
+
+longer_still : (line bytes more : List ℕ) (others : List (List ℕ)) → 0 < length bytes → 0 < length ((line ++ bytes) ++ more) + length others
+longer_still line bytes more others some = omega (arith, some, longer line bytes more)
+
+-- the line that ends is none, breaks a limit, or may not stand there
+pub Fails-line : (m : Moment) (fault : DebugFault) (text : List ℕ) → NoFeed m.line → read_line (m.lines + 1) m.line ≡ Err fault → Fails m (10 ∷ []) fault text text
+Fails-line m fault text closed reads = (
   [],
-  Stops-own m (10 ∷ []) [] fault own (λ more. let p = parts more in
+  Stops-own m (10 ∷ []) [] fault (read-own (m.lines + 1) m.line fault reads) (λ more. let p = parts more in
       ap (read_on (m.lines + 1)) (parts-feed m.line more closed ∙ ap (λ l. m.line ∷ l) p.are)
       ∙ read_on-fault (m.lines + 1) m.line (p.first ∷ p.others) fault reads (omega arith)),
   nothing_told m text,
 )
 
--- a byte after the last line, or one too many in a line
-pub Fails-limit : (m : Moment) (byte : ℕ) (fault : DebugFault) (text : List ℕ) → NoFeed m.line
-    → ((line : List ℕ) → length m.line + 1 ≤ length line → read_line (m.lines + 1) line ≡ Err fault)
-    → (byte == 10) ≡ false → IsOwn fault → Fails m (byte ∷ []) fault text text
-Fails-limit m byte fault text closed reads other own = (
-  [],
-  Stops-own m (byte ∷ []) [] fault own (λ more. let p = parts more in
-      ap (read_on (m.lines + 1)) (ap parts_of (sym (append_assoc m.line (byte ∷ []) more)) ∙ parts-after (m.line ++ byte ∷ []) more p (NoFeed-push m.line byte closed other))
-      ∙ read_on-fault (m.lines + 1) ((m.line ++ byte ∷ []) ++ p.first) p.others fault (reads ((m.line ++ byte ∷ []) ++ p.first) (longer m.line byte p.first)) (longer_still m.line byte p.first p.others)),
-  nothing_told m text,
-)
+-- bytes after the last line, or too many in one
+pub Fails-limit : (m : Moment) (bytes : List ℕ) (fault : DebugFault) (text : List ℕ) → NoFeed m.line → NoFeed bytes → 0 < length bytes
+    → ((line : List ℕ) → length m.line + length bytes ≤ length line → read_line (m.lines + 1) line ≡ Err fault)
+    → Fails m bytes fault text text
+Fails-limit m bytes fault text closed free some reads =
+    let own = read-own (m.lines + 1) (m.line ++ bytes) fault (reads (m.line ++ bytes) (omega (arith, length-append m.line bytes))) in (
+      [],
+      Stops-own m bytes [] fault own (λ more. let p = parts more in
+          ap (read_on (m.lines + 1)) (ap parts_of (sym (append_assoc m.line bytes more)) ∙ parts-after (m.line ++ bytes) more p (NoFeed-append m.line bytes closed free))
+          ∙ read_on-fault (m.lines + 1) ((m.line ++ bytes) ++ p.first) p.others fault (reads ((m.line ++ bytes) ++ p.first) (longer m.line bytes p.first)) (longer_still m.line bytes p.first p.others some)),
+      nothing_told m text,
+    )
+
+-- a line ends whose last bytes these are
+pub Plays-ended : (m : Moment) (bytes : List ℕ) (line : Line) (old new : List ℕ) → NoFeed (m.line ++ bytes) → length (m.line ++ bytes) ≤ 200
+    → read_line (m.lines + 1) (m.line ++ bytes) ≡ Ok line → new ≡ old ++ line_text (m.lines + 1) (said m.standing line)
+    → Plays m (bytes ++ 10 ∷ []) (passed m line) old new
+Plays-ended m bytes line old new closed short reads told =
+    Plays-trans m (gathered m bytes) (passed m line) bytes (10 ∷ []) old old new (Plays-gather m bytes old) (Plays-line (gathered m bytes) line old new closed short reads told)
+
+pub Fails-ended : (m : Moment) (bytes : List ℕ) (fault : DebugFault) (text : List ℕ) → NoFeed (m.line ++ bytes)
+    → read_line (m.lines + 1) (m.line ++ bytes) ≡ Err fault → Fails m (bytes ++ 10 ∷ []) fault text text
+Fails-ended m bytes fault text closed reads =
+    Fails-after m (gathered m bytes) bytes (10 ∷ []) text text text fault (Plays-gather m bytes text) (Fails-line (gathered m bytes) fault text closed reads)
 
 pub read-late : (number : ℕ) (bytes : List ℕ) → 100000 < number → read_line number bytes ≡ Err TooManyLines
 read-late number bytes late = let t : nat_lt 100000 number ≡ true = grind (arith, nat_tests) in ap (λ b. cond b (Err TooManyLines) (cond (nat_lt 200 (length bytes)) (Err (LineTooLong number)) (placed number (line_of bytes)))) t
@@ -202,6 +234,54 @@ placed-yes number line e = ap (λ b. cond b (Ok line) (Err (BadLine number))) e
 
 pub placed-no : (number : ℕ) (line : Line) → may_stand number line ≡ false → placed number (Some line) ≡ Err (BadLine number)
 placed-no number line e = ap (λ b. cond b (Ok line) (Err (BadLine number))) e
+
+-- what is read breaks no limit, and may stand there
+no_line : {A : Type 0} (fault : DebugFault) (line : Line) (r : Result Line DebugFault) → r ≡ Err fault → r ≡ Ok line → A
+no_line fault line r e h = absurd (cc)
+
+same_line : (first line : Line) (r : Result Line DebugFault) → r ≡ Ok first → r ≡ Ok line → first ≡ line
+same_line first line r e h = cc
+
+above : (a b : ℕ) → nat_lt a b ≡ true → a < b
+above a b h = grind (arith, nat_tests)
+
+not_above : (a b : ℕ) → nat_lt a b ≡ false → b ≤ a
+not_above a b h = grind (arith, nat_tests)
+
+early_by : (number : ℕ) (bytes : List ℕ) (line : Line) → read_line number bytes ≡ Ok line
+    → (nat_lt 100000 number ≡ true) ⊎ (nat_lt 100000 number ≡ false) → number ≤ 100000
+early_by number bytes line h (inl t) = no_line TooManyLines line (read_line number bytes) (read-late number bytes (above 100000 number t)) h
+early_by number bytes line h (inr f) = not_above 100000 number f
+
+short_by : (number : ℕ) (bytes : List ℕ) (line : Line) → read_line number bytes ≡ Ok line → number ≤ 100000
+    → (nat_lt 200 (length bytes) ≡ true) ⊎ (nat_lt 200 (length bytes) ≡ false) → length bytes ≤ 200
+short_by number bytes line h early (inl t) = no_line (LineTooLong number) line (read_line number bytes) (read-long number bytes early (above 200 (length bytes) t)) h
+short_by number bytes line h early (inr f) = not_above 200 (length bytes) f
+
+stands_by : (number : ℕ) (first line : Line) → placed number (Some first) ≡ Ok line
+    → (may_stand number first ≡ true) ⊎ (may_stand number first ≡ false) → (Some first ≡ Some line) × (may_stand number line ≡ true)
+stands_by number first line h (inl y) =
+    let same = same_line first line (placed number (Some first)) (placed-yes number first y) h in
+    (ap Some same, subst (λ l. may_stand number l ≡ true) same y)
+stands_by number first line h (inr n) = no_line (BadLine number) line (placed number (Some first)) (placed-no number first n) h
+
+placed-ok : (number : ℕ) (o : Option Line) (line : Line) → placed number o ≡ Ok line → (o ≡ Some line) × (may_stand number line ≡ true)
+placed-ok number None line h = no_line (BadLine number) line (Err (BadLine number)) refl h
+placed-ok number (Some first) line h = stands_by number first line h (cases_Bool (may_stand number first))
+
+pub Completes-read : (m : Moment) (bytes : List ℕ) (line : Line) → NoFeed (m.line ++ bytes)
+    → ((b : List ℕ) (x : Line) → line_of b ≡ Some x → IsLine x × (b ≡ spelling x))
+    → read_line (m.lines + 1) (m.line ++ bytes) ≡ Ok line → Completes m bytes line
+Completes-read m bytes line closed spells h =
+    let early = early_by (m.lines + 1) (m.line ++ bytes) line h (cases_Bool (nat_lt 100000 (m.lines + 1))) in
+    let short = short_by (m.lines + 1) (m.line ++ bytes) line h early (cases_Bool (nat_lt 200 (length (m.line ++ bytes)))) in
+    let p = placed-ok (m.lines + 1) (line_of (m.line ++ bytes)) line (sym (read-within (m.lines + 1) (m.line ++ bytes) early short) ∙ h) in
+    record {
+      within = omega (arith, early);
+      placed = p.1;
+      spelled = (spells (m.line ++ bytes) line p.0).0;
+      plays = λ text text' told. Plays-ended m bytes line text text' closed short h told;
+    }
 
 unended-placed : (number : ℕ) (line : Option Line) → unended number (placed number line) ≡ broken (BadLine number)
 unended-placed number None = refl
@@ -238,13 +318,3 @@ pub rest-whole : (m : Moment) → m.line ≡ [] → 0 < m.lines → rest_of m []
 rest-whole m empty some =
     let t : nat_lt 1 (m.lines + 1) ≡ true = grind (arith, nat_tests) in
     ap (λ l. read_on (m.lines + 1) (parts_of (l ++ []))) empty ∙ ap (λ b. cond b whole (unended (m.lines + 1) (read_line (m.lines + 1) []))) t
-
--- a byte after the last line
-pub Fails-late : (m : Moment) (byte : ℕ) (text : List ℕ) → m.lines ≡ 100000 → m.line ≡ [] → Fails m (byte ∷ []) TooManyLines text text
-Fails-late m byte text late empty = (
-  [],
-  λ more. let q = parts-more byte more in let p = q.0 in
-      ap (λ l. read_on (m.lines + 1) (parts_of (l ++ byte ∷ more))) empty ∙ ap (read_on (m.lines + 1)) p.are
-      ∙ read_on-fault (m.lines + 1) p.first p.others TooManyLines (read-late (m.lines + 1) p.first (omega arith)) q.1,
-  nothing_told m text,
-)

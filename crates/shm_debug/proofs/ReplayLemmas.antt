@@ -7,7 +7,7 @@ use Rattle.shm_debug.specs.Limits.{max_bytes}
 use Rattle.shm_debug.specs.Script.{Script, after, broken, whole, script_of}
 use Rattle.shm_debug.specs.Output.{text_of, text_from}
 use Rattle.shm_debug.specs.Said.{standing_after}
-use Rattle.shm_debug.specs.Reading.{Moment, start, reach, rest_of, Onward, Tells, Begins, Breaks, Stops, Plays, Fails, Ended}
+use Rattle.shm_debug.specs.Reading.{Moment, start, reach, rest_of, Onward, WritesLines, Begins, Breaks, Stops, Plays, Fails, Ended}
 use Rattle.shm_debug.specs.Replay.{summary_at, Ends, Pauses, Gathers, IsTextOfFirst, IsFrontOfText, IsFaultOf, is_write_fault, PausesAllRead, TellsAllRead}
 use Rattle.shm_lines.specs.declared.line.Line.{Line}
 use Rattle.shm_debug.specs.declared.outcome.Summary.{Summary}
@@ -24,7 +24,7 @@ pub SoFar-none : (r w : Option (List ℕ)) → SoFar r r w w [] start
 SoFar-none r w = ([], [], Plays-none start [], Consumes-nil r, ([], Appends-nil w, refl))
 
 -- the text before what is pending doesn't matter to what is told
-Tells-behind : (m : Moment) (lines : List Line) (front old new : List ℕ) → Tells m lines old new → Tells m lines (front ++ old) (front ++ new)
+Tells-behind : (m : Moment) (lines : List Line) (front old new : List ℕ) → WritesLines m lines old new → WritesLines m lines (front ++ old) (front ++ new)
 Tells-behind m lines front old new t = ap (λ l. front ++ l) t ∙ sym (append_assoc front old (text_from (m.lines + 1) m.standing lines))
 
 pub SoFar-played : (r0 r r1 w0 w : Option (List ℕ)) (old new : List ℕ) (player next : Moment) (bytes : List ℕ)
@@ -32,7 +32,7 @@ pub SoFar-played : (r0 r r1 w0 w : Option (List ℕ)) (old new : List ℕ) (play
 SoFar-played r0 r r1 w0 w old new player next bytes s c p =
     let written = s.4.0 in
     let moved : Plays player bytes next s.1 (written ++ new) =
-    (p.0, p.1, subst (λ t. Tells player p.0 t (written ++ new)) (sym s.4.2) (Tells-behind player p.0 written old new p.2)) in
+    (p.0, p.1, subst (λ t. WritesLines player p.0 t (written ++ new)) (sym s.4.2) (Tells-behind player p.0 written old new p.2)) in
     (s.0 ++ bytes, written ++ new, Plays-trans start player next s.0 bytes [] s.1 (written ++ new) s.2 moved, Consumes-trans r0 r r1 s.0 bytes s.3 c, (written, s.4.1, refl))
 
 pub SoFar-written : (r0 r w0 w w1 : Option (List ℕ)) (pending : List ℕ) (player : Moment)
@@ -126,7 +126,7 @@ pub stopped_there : (r0 r r1 w0 w : Option (List ℕ)) (old new : List ℕ) (pla
 stopped_there r0 r r1 w0 w old new player bytes fault s c f =
     let written = s.4.0 in
     let moved : Fails player bytes fault s.1 (written ++ new) =
-    (f.0, f.1, subst (λ t. Tells player f.0 t (written ++ new)) (sym s.4.2) (Tells-behind player f.0 written old new f.2)) in
+    (f.0, f.1, subst (λ t. WritesLines player f.0 t (written ++ new)) (sym s.4.2) (Tells-behind player f.0 written old new f.2)) in
     let joined = Fails-after start player s.0 bytes [] s.1 (written ++ new) fault s.2 moved in
     known r0 r1 (s.0 ++ bytes) (λ all. Pauses w0 w new (script_of all) (Err fault)) (Consumes-trans r0 r r1 s.0 bytes s.3 c)
     (λ more. stopped w0 w (s.0 ++ bytes) (written ++ new) new more joined.0 fault (written, s.4.1, refl) joined.1 joined.2)

@@ -11,7 +11,7 @@ use Rattle.shm_lines.specs.Line.{line_of}
 use Rattle.shm_lines.specs.Spelling.{IsLine}
 use Rattle.shm_lines.specs.declared.line.Line.{Line}
 use Rattle.shm_lines.specs.declared.line.Line.TheVariants.{Event as EventLine}
-use Rattle.shm_debug.specs.Standing.{Standing, stood, with_event}
+use Rattle.shm_debug.specs.Standing.{Standing, with_event, world_of}
 use Rattle.shm_debug.specs.Text.{answer_text, sent_text}
 use Rattle.shm_model.specs.Promise.{Promised}
 use Rattle.shm_world.proofs.Loads.{gives-last}
@@ -48,8 +48,8 @@ module _ (spelled : (bytes : List ℕ) (line : Line) → line_of bytes ≡ Some 
   tells-last : (s : Option Standing) (line : Line) → Begins s → TellsLast s line
   tells-last (Some s) (EventLine (Load site a offset)) begins = λ rest told.
       let e = Load site a offset in
-      let sent = sent_text (stood (with_event s e)) (length (stood s).sent) in
-      let given = gives-byte (model.next (stood s) e).done.answer sent rest told in
+      let sent = sent_text (world_of (with_event s e)) (length (world_of s).sent) in
+      let given = gives-byte (model.next (world_of s) e).done.answer sent rest told in
       let last = gives-last s.opening s.events e (Byte given.0) (promised s.opening (s.events ++ e ∷ []) begins) given.1 in
       (last.0, last.1, given.2 ∙ ap (λ byte. decimal byte ++ sent) last.2)
   tells-last _ _ begins = tt

@@ -2,11 +2,11 @@
 use Rattle.std.specs.Prelude.{◌≡◌, ℕ, List, ◌++◌, codes, length, slice_get, take, Option, None, Some}
 use Rattle.std.specs.Fmt.{decimal}
 use Rattle.shm_model.specs.declared.event.Event.TheVariants.{Load}
-use Rattle.shm_model.specs.Memory.{last_store, names}
+use Rattle.shm_model.specs.Memory.{last_store, segment_of}
 use Rattle.shm_model.specs.World.{run}
 use Rattle.shm_lines.specs.declared.line.Line.{Line}
 use Rattle.shm_lines.specs.declared.line.Line.TheVariants.{Event as EventLine}
-use Rattle.shm_debug.specs.Standing.{Standing, stood, with_event}
+use Rattle.shm_debug.specs.Standing.{Standing, with_event, world_of}
 use Rattle.shm_debug.specs.Text.{sent_text}
 use Rattle.shm_model.specs.Promise.{Promised}
 use Rattle.shm_debug.specs.Said.{said_to_event, standing_after}
@@ -24,8 +24,8 @@ AlwaysKept lines = (n : ℕ) → Kept (standing_after None (take n lines))
 -- there is none (Li and Hudak 1989, §2); the place is in the segment that the attachment names then. The envelopes that were sent follow.
 abbrev pub IsLastByte : Standing → ℕ → ℕ → ℕ → List ℕ → Type 0
 IsLastByte s site a offset rest =
-    (id : ℕ) × (names s.opening (run s.opening s.events).account site a ≡ Some id)
-    × (rest ≡ decimal (last_store s.opening (run s.opening s.events).account id offset) ++ sent_text (stood (with_event s (Load site a offset))) (length (stood s).sent))
+    (id : ℕ) × (segment_of s.opening (run s.opening s.events).account site a ≡ Some id)
+    × (rest ≡ decimal (last_store s.opening (run s.opening s.events).account id offset) ++ sent_text (world_of (with_event s (Load site a offset))) (length (world_of s).sent))
 
 -- where a load is told `byte B`, B is that byte
 abbrev pub TellsLast : Option Standing → Line → Type 0

@@ -1,8 +1,11 @@
 -- A script that is being read: what was read of it, and what it says from there on, whatever follows.
-use Rattle.std.specs.Prelude.{◌≡◌, ℕ, ◌+◌, ◌*◌, ◌<◌, ◌≤◌, ◌==◌, false, List, [], ◌∷◌, ◌++◌, length, nat_lt, All, Option, None, Some, is_some, Result, Ok, Err}
-use Rattle.shm_debug.specs.Limits.{max_line_bytes, max_bytes}
+use Rattle.std.specs.Prelude.{◌≡◌, ℕ, ◌+◌, ◌*◌, ◌<◌, ◌≤◌, ◌==◌, true, false, List, [], ◌∷◌, ◌++◌, length, nat_lt, All, Option, None, is_some, Result, Ok, Err}
+use Rattle.shm_lines.specs.Line.{may_stand}
+use Rattle.shm_lines.specs.Spelling.{IsLine}
+use Rattle.shm_debug.specs.Limits.{max_line_bytes, max_bytes, max_lines}
+use Rattle.shm_debug.specs.Text.{line_text}
 use Rattle.shm_debug.specs.Script.{Script, after, whole, broken, read_on, parts_of}
-use Rattle.shm_debug.specs.Said.{next, standing_after}
+use Rattle.shm_debug.specs.Said.{next, said, standing_after}
 use Rattle.shm_debug.specs.Replay.{summary_at}
 use Rattle.shm_debug.specs.Output.{text_from}
 use Rattle.shm_lines.specs.declared.line.Line.{Line}
@@ -28,6 +31,10 @@ rest_of m bytes = read_on (m.lines + 1) (parts_of (m.line ++ bytes))
 abbrev pub reach : Moment → ℕ
 reach m = m.lines * (max_line_bytes + 1) + length m.line
 
+-- the moment after bytes that end no line
+abbrev pub gathered : Moment → List ℕ → Moment
+gathered m bytes = record { lines = m.lines; standing = m.standing; line = m.line ++ bytes }
+
 -- the moment after a line feed, where the line that it ends may stand
 abbrev pub passed : Moment → Line → Moment
 passed m line = record { lines = m.lines + 1; standing = next m.standing line; line = [] }
@@ -40,8 +47,8 @@ pub record Onward (old : Moment) (bytes : List ℕ) (lines : List Line) (new : M
   pub reached : reach old + length bytes ≤ reach new
 
 -- the output grew by what is said to these lines
-abbrev pub Tells : Moment → List Line → List ℕ → List ℕ → Type 0
-Tells m lines old new = new ≡ old ++ text_from (m.lines + 1) m.standing lines
+abbrev pub WritesLines : Moment → List Line → List ℕ → List ℕ → Type 0
+WritesLines m lines old new = new ≡ old ++ text_from (m.lines + 1) m.standing lines
 
 -- the script, where it begins with these bytes, has these lines and more
 abbrev pub Begins : Moment → List ℕ → List Line → Type 0
@@ -61,10 +68,17 @@ Stops m bytes lines (LineTooLong number) = Breaks m bytes lines (LineTooLong num
 Stops m bytes lines TooManyLines = Breaks m bytes lines TooManyLines
 
 abbrev pub Plays : Moment → List ℕ → Moment → List ℕ → List ℕ → Type 0
-Plays m bytes new text text' = (lines : List Line) × Onward m bytes lines new × Tells m lines text text'
+Plays m bytes new text text' = (lines : List Line) × Onward m bytes lines new × WritesLines m lines text text'
 
 abbrev pub Fails : Moment → List ℕ → DebugFault → List ℕ → List ℕ → Type 0
-Fails m bytes fault text text' = (lines : List Line) × Stops m bytes lines fault × Tells m lines text text'
+Fails m bytes fault text text' = (lines : List Line) × Stops m bytes lines fault × WritesLines m lines text text'
+
+-- these bytes and a line feed end this line, which may stand there: they are played where it is told what is said to it
+pub record Completes (m : Moment) (bytes : List ℕ) (line : Line) : Type 0 where
+  pub within : m.lines < max_lines
+  pub placed : may_stand (m.lines + 1) line ≡ true
+  pub spelled : IsLine line
+  pub plays : (text text' : List ℕ) → text' ≡ text ++ line_text (m.lines + 1) (said m.standing line) → Plays m (bytes ++ 10 ∷ []) (passed m line) text text'
 
 -- how a script ends whose input ends at this moment
 abbrev pub Ended : Moment → Result Summary DebugFault → Type 0

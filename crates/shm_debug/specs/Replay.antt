@@ -1,7 +1,7 @@
 -- How a replay ends, and what it has written by then.
 use Rattle.std.specs.Prelude.{◌≡◌, ℕ, Bool, true, false, List, [], ◌++◌, length, take, Option, None, Some, Result, Ok, Err}
 use Rattle.std.specs.Io.KnownBytes.{Appends, Consumes}
-use Rattle.shm_debug.specs.Standing.{Standing, stood}
+use Rattle.shm_debug.specs.Standing.{Standing, world_of}
 use Rattle.shm_debug.specs.Said.{standing_after}
 use Rattle.shm_debug.specs.Script.{Script, script_of}
 use Rattle.shm_debug.specs.Output.{text_of}
@@ -12,7 +12,7 @@ use Rattle.shm_debug.specs.declared.outcome.DebugFault.TheVariants.{OutOfMemory,
 -- so many lines; the events that stand after them, and the envelopes that were sent in their run
 abbrev pub summary_at : ℕ → Option Standing → Summary
 summary_at lines None = record { lines = lines; events = 0; sent = 0 }
-summary_at lines (Some s) = record { lines = lines; events = length s.events; sent = length (stood s).sent }
+summary_at lines (Some s) = record { lines = lines; events = length s.events; sent = length (world_of s).sent }
 
 abbrev pub summary_of : Script → Summary
 summary_of script = summary_at (length script.lines) (standing_after None script.lines)

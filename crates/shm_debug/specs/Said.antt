@@ -10,11 +10,11 @@ use Rattle.shm_debug.specs.Text.{event_text}
 use Rattle.shm_debug.specs.Page.{page_text}
 use Rattle.shm_debug.specs.Notice.{notice_text}
 use Rattle.shm_debug.specs.declared.notice.Notice.TheVariants as notice
-use Rattle.shm_debug.specs.Standing.{Standing, stood, with_event, without_last}
+use Rattle.shm_debug.specs.Standing.{Standing, with_event, without_last, world_of}
 
 -- an event: its answer, and the envelopes that it sent
 abbrev pub said_to_event : Standing → Event → List ℕ
-said_to_event s e = event_text (model.next (stood s) e).done.answer (stood (with_event s e)) (length (stood s).sent)
+said_to_event s e = event_text (model.next (world_of s) e).done.answer (world_of (with_event s e)) (length (world_of s).sent)
 
 -- going back, where so many events stand: how many stand after it, or that there are fewer
 abbrev pub said_to_back : Standing → ℕ → List ℕ
@@ -27,7 +27,7 @@ said None (line.Event e) = []
 said None (line.Show page) = []
 said None (line.Back n) = []
 said (Some s) (line.Event e) = said_to_event s e
-said (Some s) (line.Show page) = page_text (stood s) page
+said (Some s) (line.Show page) = page_text (world_of s) page
 said (Some s) (line.Back n) = said_to_back s n
 
 abbrev pub next_back : Standing → ℕ → Standing

@@ -12,8 +12,8 @@ abbrev pub standing : Opening → List Event → Standing
 standing opening events = record { opening = opening; events = events }
 
 -- the world that they lead to
-abbrev pub stood : Standing → World
-stood s = (run s.opening s.events).world
+abbrev pub world_of : Standing → World
+world_of s = (run s.opening s.events).world
 
 abbrev pub with_event : Standing → Event → Standing
 with_event s e = standing s.opening (s.events ++ e ∷ [])

@@ -3,7 +3,7 @@ ghost use Rattle.std.specs.Prelude.{◌≡◌, ◌<◌, List, [], ◌∷◌, ◌
 ghost use Rattle.std.specs.Vec.{vec_capacity, vec_len};
 ghost use Rattle.shm_model.specs.World as model;
 ghost use Rattle.shm_model.specs.declared.event.Event.{Event};
-ghost use Rattle.shm_debug.specs.Standing.{stood, with_event};
+ghost use Rattle.shm_debug.specs.Standing.{with_event, world_of};
 ghost use Rattle.shm_world.specs.World.{StandsFor, may_grow};
 
 use crate::session::Session;
@@ -14,7 +14,7 @@ impl<A: Allocator + Copy> Session<A> {
     /// One more event, which stands from then on. Where memory is refused nothing changes. A load or store that has the right takes
     /// memory for the list of the events alone, and so does a restart or a loss.
     pub fn apply(&mut self, event: Event) -> Result<Answer, AllocError>
-        ensures answered { IfOk result (λ answer. answer ≡ (model.next (stood self.old) event).done.answer) }
+        ensures answered { IfOk result (λ answer. answer ≡ (model.next (world_of self.old) event).done.answer) }
         ensures ok { OnOk result (self.new ≡ with_event self.old event) }
         ensures err { OnErr result (self.new ≡ self.old) }
     {

@@ -4,7 +4,7 @@ ghost use Rattle.shm_model.specs.Opening.{opening_of};
 ghost use Rattle.shm_model.specs.World as model;
 ghost use Rattle.shm_model.specs.declared.event.Event.{Event};
 ghost use Rattle.shm_debug.specs.Checkpoints.{AllHold, Holds};
-ghost use Rattle.shm_debug.specs.Standing.{Standing, first_events, standing, stood, without_last};
+ghost use Rattle.shm_debug.specs.Standing.{Standing, first_events, standing, without_last, world_of};
 ghost use Rattle.shm_world.specs.World.{StandsFor};
 
 use crate::back_fault::BackFault;
@@ -59,7 +59,7 @@ fn world_after<A: Allocator + Copy>(
 ) -> Result<World<A>, AllocError>
     requires opening { model.IsOpening (opening_of opening) }
     requires checkpoints { AllHold (standing (opening_of opening) events.now) checkpoints.old }
-    ensures world { IfOk result (λ world. StandsFor world (stood (standing (opening_of opening) events.now))) }
+    ensures world { IfOk result (λ world. StandsFor world (world_of (standing (opening_of opening) events.now))) }
     ensures kept { AllHold (standing (opening_of opening) events.now) checkpoints.new }
 {
     let Checkpoint { count, mut world } = nearest(alloc, opening, checkpoints)?;
@@ -99,8 +99,8 @@ fn run_on<A: Allocator + Copy>(
     checkpoints: &mut Checkpoints<A>,
 ) -> Result<(), AllocError>
     requires { from ≤ length events.now }
-    ensures world { (o : model.Opening) → StandsFor world.old (stood (first_events from (standing o events.now))) → OnOk result (StandsFor world.new (stood (standing o events.now))) }
-    ensures kept { (o : model.Opening) → StandsFor world.old (stood (first_events from (standing o events.now))) → AllHold (standing o events.now) checkpoints.old → AllHold (standing o events.now) checkpoints.new }
+    ensures world { (o : model.Opening) → StandsFor world.old (world_of (first_events from (standing o events.now))) → OnOk result (StandsFor world.new (world_of (standing o events.now))) }
+    ensures kept { (o : model.Opening) → StandsFor world.old (world_of (first_events from (standing o events.now))) → AllHold (standing o events.now) checkpoints.old → AllHold (standing o events.now) checkpoints.new }
 {
     'events: for index in from..events.len() {
         world.step(events[index])?;
@@ -118,7 +118,7 @@ fn keep<A: Allocator + Copy>(
     checkpoints: &mut Checkpoints<A>,
 )
     requires { count ≤ last }
-    ensures { (s : Standing) → count ≤ length s.events → StandsFor world.now (stood (first_events count s)) → AllHold s checkpoints.old → AllHold s checkpoints.new }
+    ensures { (s : Standing) → count ≤ length s.events → StandsFor world.now (world_of (first_events count s)) → AllHold s checkpoints.old → AllHold s checkpoints.new }
 {
     let from_the_last = (last - count) / STRIDE + 1;
     if count % STRIDE != 0 || !from_the_last.is_power_of_two() {

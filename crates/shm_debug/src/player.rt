@@ -1,17 +1,19 @@
-//! A script that is read byte by byte, and what its lines make of a session.
-ghost use Rattle.std.specs.Prelude.{◌≡◌, ◌+◌, ◌<◌, ◌≤◌, ◌∷◌, ◌++◌, [], true, IfErr, IfOk, OnErr, OnOk};
+//! A script that is read block by block, and what its lines make of a session.
+ghost use Rattle.std.specs.Prelude.{◌≡◌, ◌==◌, ◌+◌, ◌<◌, ◌≤◌, ◌∷◌, ◌++◌, ℕ, List, [], All, length, false, true, Err, IfErr, IfNone, IfOk, IfSome, OnErr, OnOk};
 ghost use Rattle.std.specs.Option.{option_copied};
 ghost use Rattle.shm_lines.specs.Line.{may_stand};
 ghost use Rattle.shm_lines.specs.Spelling.{IsLine};
 ghost use Rattle.shm_debug.specs.Text.{line_text};
-ghost use Rattle.shm_debug.specs.Limits.{max_bytes, max_lines};
-ghost use Rattle.shm_debug.specs.Reading.{start, reach, rest_of, passed, Plays, Fails, Ended};
+ghost use Rattle.shm_debug.specs.Limits.{max_bytes, max_line_bytes, max_lines};
+ghost use Rattle.shm_debug.specs.Reading.{start, reach, rest_of, gathered, passed, Plays, Fails, Completes, Ended};
 ghost use Rattle.shm_debug.specs.Said.{said};
+ghost use Rattle.shm_debug.specs.Script;
 
 use crate::Session;
 use crate::outcome::{DebugFault, Summary};
 use crate::telling::Text;
 use crate::turns::{pass_line, summary};
+use memchr::memchr;
 use shm_lines::{Line, laws, parse_line};
 use std::alloc::{AllocError, Allocator};
 use std::marker::Model;
@@ -25,7 +27,7 @@ const MAX_LINES: u64 = 100_000;
 /// How many bytes of a script are read at most: one more than all its lines can have.
 const MAX_BYTES: usize = 20_100_001;
 
-/// A script that is being read, byte by byte.
+/// A script that is being read. A line is read where it lies, unless its front came with an earlier block: that is kept in `line`.
 #[derive(Drop)]
 pub struct Player<A: Allocator + Copy> {
     session: Option<Session<A>>,
@@ -77,13 +79,17 @@ impl<A: Allocator + Copy> Player<A> {
         ensures ok { OnOk result (Plays self.old bytes.now self.new output.old output.new) }
         ensures err { IfErr result (λ fault. Fails self.old bytes.now fault output.old output.new) }
     {
-        'bytes: for byte in bytes {
-            match self.step(*byte, output) {
+        let mut rest = bytes;
+        'lines: loop {
+            let Some((line, others)) = cut_line(rest) else {
+                return self.gather(rest);
+            };
+            match self.end_line(line, output) {
                 Ok(()) => {}
                 Err(fault) => return Err(fault),
             }
+            rest = others;
         }
-        Ok(())
     }
 
     /// The input's end: what the script was, unless it stops inside a line.
@@ -99,39 +105,60 @@ impl<A: Allocator + Copy> Player<A> {
         Ok(summary(self.lines, &self.session))
     }
 
-    fn step(&mut self, byte: u8, output: &mut Text<A>) -> Result<(), DebugFault>
-        ensures ok { OnOk result (Plays self.old (byte ∷ []) self.new output.old output.new) }
-        ensures err { IfErr result (λ fault. Fails self.old (byte ∷ []) fault output.old output.new) }
+    /// These bytes and a line feed come: the line ends with them.
+    fn end_line(&mut self, bytes: &[u8], output: &mut Text<A>) -> Result<(), DebugFault>
+        requires { All (λ byte. (byte == 10) ≡ false) bytes.now }
+        ensures ok { OnOk result (Plays self.old (bytes.now ++ 10 ∷ []) self.new output.old output.new) }
+        ensures err { IfErr result (λ fault. Fails self.old (bytes.now ++ 10 ∷ []) fault output.old output.new) }
     {
-        if self.lines == MAX_LINES {
-            return Err(DebugFault::TooManyLines);
-        }
-        if byte == b'\n' {
-            return self.end_line(output);
-        }
-        if self.line.len() == MAX_LINE_BYTES {
-            return Err(DebugFault::LineTooLong(self.lines + 1));
-        }
-        match self.line.push(byte) {
-            Ok(()) => Ok(()),
-            Err(_) => Err(DebugFault::OutOfMemory),
+        match self.complete(bytes) {
+            Ok(line) => match self.pass(line, output) {
+                Ok(()) => Ok(()),
+                Err(_) => Err(DebugFault::OutOfMemory),
+            },
+            Err(fault) => Err(fault),
         }
     }
 
-    fn end_line(&mut self, output: &mut Text<A>) -> Result<(), DebugFault>
-        requires { self.old.lines < max_lines }
-        ensures ok { OnOk result (Plays self.old (10 ∷ []) self.new output.old output.new) }
-        ensures err { IfErr result (λ fault. Fails self.old (10 ∷ []) fault output.old output.new) }
+    /// The line that ends with these bytes. They are gathered only where its front was.
+    fn complete(&mut self, bytes: &[u8]) -> Result<Line, DebugFault>
+        requires { All (λ byte. (byte == 10) ≡ false) bytes.now }
+        ensures ok { IfOk result (λ line. Completes self.old bytes.now line) }
+        ensures lines { OnOk result (self.new.lines ≡ self.old.lines) }
+        ensures standing { OnOk result (self.new.standing ≡ self.old.standing) }
+        ensures err { IfErr result (λ fault. (text : List ℕ) → Fails self.old (bytes.now ++ 10 ∷ []) fault text text) }
     {
         laws::lines_have_one_spelling();
-        let number = self.lines + 1;
-        let Ok(line) = parse_line(self.line.as_slice()) else {
-            return Err(DebugFault::BadLine(number));
-        };
-        if !line.may_stand(number) {
-            return Err(DebugFault::BadLine(number));
+        if self.line.is_empty() {
+            return read_line(self.lines + 1, bytes);
         }
-        match self.pass(line, output) {
+        match self.gather(bytes) {
+            Ok(()) => self.read_gathered(),
+            Err(fault) => Err(fault),
+        }
+    }
+
+    /// What the gathered bytes say, where a line feed follows.
+    fn read_gathered(&self) -> Result<Line, DebugFault>
+        ensures { result ≡ Script.read_line (self.now.lines + 1) self.now.line }
+    {
+        read_line(self.lines + 1, self.line.as_slice())
+    }
+
+    /// Keeps bytes of a line whose end is still to come.
+    fn gather(&mut self, bytes: &[u8]) -> Result<(), DebugFault>
+        requires { All (λ byte. (byte == 10) ≡ false) bytes.now }
+        ensures ok { OnOk result (self.new ≡ gathered self.old bytes.now) }
+        ensures err { IfErr result (λ fault. (text : List ℕ) → Fails self.old bytes.now fault text text) }
+    {
+        if bytes.is_empty() {
+            return Ok(());
+        }
+        match check_limits(self.lines + 1, self.line.len() + bytes.len()) {
+            Ok(()) => {}
+            Err(fault) => return Err(fault),
+        }
+        match self.line.extend_from_slice(bytes) {
             Ok(()) => Ok(()),
             Err(_) => Err(DebugFault::OutOfMemory),
         }
@@ -153,4 +180,46 @@ impl<A: Allocator + Copy> Player<A> {
         self.line.clear();
         Ok(())
     }
+}
+
+/// What the line of this number says, which has these bytes.
+fn read_line(number: u64, bytes: &[u8]) -> Result<Line, DebugFault>
+    ensures { result ≡ Script.read_line number bytes.now }
+{
+    match check_limits(number, bytes.len()) {
+        Ok(()) => {}
+        Err(fault) => return Err(fault),
+    }
+    let Ok(line) = parse_line(bytes) else {
+        return Err(DebugFault::BadLine(number));
+    };
+    if !line.may_stand(number) {
+        return Err(DebugFault::BadLine(number));
+    }
+    Ok(line)
+}
+
+/// Whether a line of this number may have so many bytes. If not, the fault is that of each line which has as many or more.
+fn check_limits(number: u64, len: usize) -> Result<(), DebugFault>
+    ensures number { OnOk result (number ≤ max_lines) }
+    ensures len { OnOk result (len ≤ max_line_bytes) }
+    ensures err { IfErr result (λ fault. (line : List ℕ) → len ≤ length line → Script.read_line number line ≡ Err fault) }
+{
+    if number > MAX_LINES {
+        return Err(DebugFault::TooManyLines);
+    }
+    if len > MAX_LINE_BYTES {
+        return Err(DebugFault::LineTooLong(number));
+    }
+    Ok(())
+}
+
+/// What stands before the first line feed, and what stands after it.
+fn cut_line(bytes: &[u8]) -> Option<(&[u8], &[u8])>
+    ensures cut { IfSome result (λ cut. bytes.now ≡ cut.0.now ++ 10 ∷ cut.1.now) }
+    ensures first { IfSome result (λ cut. All (λ byte. (byte == 10) ≡ false) cut.0.now) }
+    ensures none { IfNone result (All (λ byte. (byte == 10) ≡ false) bytes.now) }
+{
+    let at = memchr(b'\n', bytes)?;
+    Some((&bytes[..at], &bytes[at + 1..]))
 }

@@ -1,7 +1,7 @@
 ghost use Rattle.std.specs.Prelude.{◌≡◌, ◌==◌, [], IfOk, IsSome, length};
 ghost use Rattle.shm_model.specs.Opening.{opening_of};
 ghost use Rattle.shm_model.specs.World.{IsOpening};
-ghost use Rattle.shm_debug.specs.Standing.{standing, stood};
+ghost use Rattle.shm_debug.specs.Standing.{standing, world_of};
 ghost use Rattle.shm_world.specs.World.{StandsFor};
 
 use crate::checkpoints::Checkpoints;
@@ -25,14 +25,14 @@ impl<A: Allocator + Copy> Model for Session<A> {
     ghost use Rattle.shm_model.specs.Opening.{opening_of};
     ghost use Rattle.shm_model.specs.World.{IsOpening};
     ghost use Rattle.shm_debug.specs.Checkpoints.{AllHold};
-    ghost use Rattle.shm_debug.specs.Standing.{Standing, standing, stood};
+    ghost use Rattle.shm_debug.specs.Standing.{Standing, standing, world_of};
     ghost use Rattle.shm_world.specs.World.{StandsFor};
 
     ghost Value = { Standing };
 
     ghost view = { λ s. standing (opening_of s.opening) s.events.items };
 
-    ghost invariant = { λ s. StandsFor s.world (stood (standing (opening_of s.opening) s.events.items)) × AllHold (standing (opening_of s.opening) s.events.items) s.checkpoints × IsOpening (opening_of s.opening) };
+    ghost invariant = { λ s. StandsFor s.world (world_of (standing (opening_of s.opening) s.events.items)) × AllHold (standing (opening_of s.opening) s.events.items) s.checkpoints × IsOpening (opening_of s.opening) };
 }
 
 impl<A: Allocator + Copy> Session<A> {
@@ -55,7 +55,7 @@ impl<A: Allocator + Copy> Session<A> {
 
     /// The world that the standing events lead to.
     pub fn world(&self) -> &World<A>
-        ensures { StandsFor result.now (stood self.now) }
+        ensures { StandsFor result.now (world_of self.now) }
     {
         &self.world
     }

@@ -17,7 +17,7 @@ use Rattle.shm_debug.specs.declared.outcome.DebugFault.{DebugFault}
 use Rattle.shm_debug.specs.declared.outcome.DebugFault.TheVariants.{OutOfMemory, BadLine, LineTooLong, TooManyLines, ReadFault, WriteFault}
 use Rattle.shm_debug.proofs.PromiseLemmas.{Begins, begins-always}
 use Rattle.shm_debug.proofs.ReplayLemmas.{IfSome-map, SoFar, all_read}
-use Rattle.shm_draw.specs.Drawn.{BeganRight, Draws, Stands, Stopped, drawing, drawing_of}
+use Rattle.shm_draw.specs.Drawn.{BeganRight, Draws, LeadsTo, Stopped, drawing, drawing_of}
 
 -- ---- the lines that were read, and what stands after them
 
@@ -41,12 +41,12 @@ began spelled r0 r w0 w pending player s =
 -- ---- the end of the input
 
 pub stands_there : (r0 r w0 w : Option (List ℕ)) (pending : List ℕ) (player : Moment) (summary : Summary)
-    → SoFar r0 r w0 w pending player → IsAtEnd r → Ended player (Ok summary) → IfSome r0 (λ bytes. Stands (script_of bytes) player.standing)
+    → SoFar r0 r w0 w pending player → IsAtEnd r → Ended player (Ok summary) → IfSome r0 (λ bytes. LeadsTo (script_of bytes) player.standing)
 stands_there r0 r w0 w pending player summary s end e =
     let lines = s.2.0 in
     let script : script_of s.0 ≡ after lines whole = ap script_of (sym (append-nil s.0)) ∙ s.2.1.rest [] ∙ ap (after lines) e.0 in
     let kept : (script_of s.0).lines ≡ lines = ap (λ (t : Script). t.lines) script ∙ append-nil lines in
-    Consumes-whole r0 r s.0 (λ bytes. Stands (script_of bytes) player.standing) s.3 end
+    Consumes-whole r0 r s.0 (λ bytes. LeadsTo (script_of bytes) player.standing) s.3 end
     (record { whole = ap (λ (t : Script). t.fault) script; stands = s.2.1.stands ∙ ap (standing_after None) (sym kept) })
 
 pub stopped-pauses : (w0 w : Option (List ℕ)) (pending : List ℕ) (script : Script) (fault : DebugFault) → Pauses w0 w pending script (Err fault) → Stopped script fault
@@ -83,37 +83,37 @@ draws-stopped page script (BadLine n) s = (s, refl)
 draws-stopped page script (LineTooLong n) s = (s, refl)
 draws-stopped page script TooManyLines s = (s, refl)
 
-pub is-drawing : (page : Option PageId) (script : Script) (standing : Option Standing) (picture : List ℕ) → Stands script standing → picture ≡ drawing page standing → picture ≡ drawing_of page script
+pub is-drawing : (page : Option PageId) (script : Script) (standing : Option Standing) (picture : List ℕ) → LeadsTo script standing → picture ≡ drawing page standing → picture ≡ drawing_of page script
 is-drawing page script standing picture s e = e ∙ ap (drawing page) s.stands
 
-pub draws-front : (page : Option PageId) (script : Script) (standing : Option Standing) (picture : List ℕ) (n : ℕ) → Stands script standing → picture ≡ drawing page standing
+pub draws-front : (page : Option PageId) (script : Script) (standing : Option Standing) (picture : List ℕ) (n : ℕ) → LeadsTo script standing → picture ≡ drawing page standing
     → Draws page script (Err WriteFault) (take n picture)
 draws-front page script standing picture n s e =
     inr (s.whole, (drop n picture, sym (is-drawing page script standing picture s e) ∙ sym (take-append-drop n picture)))
 
-pub draws-unflushed : (page : Option PageId) (script : Script) (standing : Option Standing) (picture : List ℕ) → Stands script standing → picture ≡ drawing page standing
+pub draws-unflushed : (page : Option PageId) (script : Script) (standing : Option Standing) (picture : List ℕ) → LeadsTo script standing → picture ≡ drawing page standing
     → Draws page script (Err WriteFault) picture
 draws-unflushed page script standing picture s e = inr (s.whole, ([], sym (is-drawing page script standing picture s e) ∙ sym (append-nil picture)))
 
 -- ---- the picture is written
 
 pub drawn_whole : (r : Option (List ℕ)) (page : Option PageId) (standing : Option Standing) (picture : List ℕ) (w0 w1 w2 : Option (List ℕ)) (done : Unit {0})
-    → IfSome r (λ bytes. Stands (script_of bytes) standing) → picture ≡ drawing page standing → Appends w0 w1 picture → Keeps w1 w2
+    → IfSome r (λ bytes. LeadsTo (script_of bytes) standing) → picture ≡ drawing page standing → Appends w0 w1 picture → Keeps w1 w2
     → IfSome r (λ bytes. (text : List ℕ) × Appends w0 w2 text × Draws page (script_of bytes) (Ok done) text)
 drawn_whole r page standing picture w0 w1 w2 done stands is wrote kept =
-    IfSome-map r (λ bytes. Stands (script_of bytes) standing) (λ bytes. (text : List ℕ) × Appends w0 w2 text × Draws page (script_of bytes) (Ok done) text) stands
+    IfSome-map r (λ bytes. LeadsTo (script_of bytes) standing) (λ bytes. (text : List ℕ) × Appends w0 w2 text × Draws page (script_of bytes) (Ok done) text) stands
     (λ bytes s. (picture, Appends-kept w0 w1 w2 picture wrote kept, (s.whole, is-drawing page (script_of bytes) standing picture s is)))
 
 pub drawn_unflushed : (r : Option (List ℕ)) (page : Option PageId) (standing : Option Standing) (picture : List ℕ) (w0 w1 w2 : Option (List ℕ))
-    → IfSome r (λ bytes. Stands (script_of bytes) standing) → picture ≡ drawing page standing → Appends w0 w1 picture → Keeps w1 w2
+    → IfSome r (λ bytes. LeadsTo (script_of bytes) standing) → picture ≡ drawing page standing → Appends w0 w1 picture → Keeps w1 w2
     → IfSome r (λ bytes. (text : List ℕ) × Appends w0 w2 text × Draws page (script_of bytes) (Err WriteFault) text)
 drawn_unflushed r page standing picture w0 w1 w2 stands is wrote kept =
-    IfSome-map r (λ bytes. Stands (script_of bytes) standing) (λ bytes. (text : List ℕ) × Appends w0 w2 text × Draws page (script_of bytes) (Err WriteFault) text) stands
+    IfSome-map r (λ bytes. LeadsTo (script_of bytes) standing) (λ bytes. (text : List ℕ) × Appends w0 w2 text × Draws page (script_of bytes) (Err WriteFault) text) stands
     (λ bytes s. (picture, Appends-kept w0 w1 w2 picture wrote kept, draws-unflushed page (script_of bytes) standing picture s is))
 
 pub drawn_in_front : (r : Option (List ℕ)) (page : Option PageId) (standing : Option Standing) (picture : List ℕ) (w0 w1 : Option (List ℕ)) (n : ℕ)
-    → IfSome r (λ bytes. Stands (script_of bytes) standing) → picture ≡ drawing page standing → Appends w0 w1 (take n picture)
+    → IfSome r (λ bytes. LeadsTo (script_of bytes) standing) → picture ≡ drawing page standing → Appends w0 w1 (take n picture)
     → IfSome r (λ bytes. (text : List ℕ) × Appends w0 w1 text × Draws page (script_of bytes) (Err WriteFault) text)
 drawn_in_front r page standing picture w0 w1 n stands is wrote =
-    IfSome-map r (λ bytes. Stands (script_of bytes) standing) (λ bytes. (text : List ℕ) × Appends w0 w1 text × Draws page (script_of bytes) (Err WriteFault) text) stands
+    IfSome-map r (λ bytes. LeadsTo (script_of bytes) standing) (λ bytes. (text : List ℕ) × Appends w0 w1 text × Draws page (script_of bytes) (Err WriteFault) text) stands
     (λ bytes s. (take n picture, wrote, draws-front page (script_of bytes) standing picture n s is))

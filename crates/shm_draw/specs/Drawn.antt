@@ -42,7 +42,7 @@ BeganRight None = Unit {0}
 BeganRight (Some s) = IsOpening s.opening
 
 -- the script has no fault, and this stands after its lines
-pub record Stands (script : Script) (standing : Option Standing) : Type 0 where
+pub record LeadsTo (script : Script) (standing : Option Standing) : Type 0 where
   pub whole : script.fault ≡ None
   pub stands : standing ≡ standing_after None script.lines
 

@@ -6,7 +6,7 @@ ghost use Rattle.shm_debug.specs.Limits.{max_bytes};
 ghost use Rattle.shm_debug.specs.Reading.{Ended};
 ghost use Rattle.shm_debug.specs.Script.{script_of};
 ghost use Rattle.shm_debug.specs.declared.outcome.Summary.{Summary};
-ghost use Rattle.shm_draw.specs.Drawn.{BeganRight, Draws, Stands, Stopped, drawing};
+ghost use Rattle.shm_draw.specs.Drawn.{BeganRight, Draws, LeadsTo, Stopped, drawing};
 
 use crate::picture::picture_of;
 use shm_debug::{DebugFault, Player, Session, Text, read_up_to, write_whole};
@@ -62,7 +62,7 @@ fn read_script<A: Allocator + Copy, R: Read>(
     alloc: A,
     reader: &mut R,
 ) -> Result<Player<A>, DebugFault>
-    ensures ok { IfSome (R.remaining reader.old) (λ bytes. IfOk result (λ player. Stands (script_of bytes) player.standing)) }
+    ensures ok { IfSome (R.remaining reader.old) (λ bytes. IfOk result (λ player. LeadsTo (script_of bytes) player.standing)) }
     ensures began { IfOk result (λ player. BeganRight player.standing) }
     ensures fault { IfSome (R.remaining reader.old) (λ bytes. IfErr result (Stopped (script_of bytes))) }
     ensures limit { (taken : List ℕ) × Consumes (R.remaining reader.old) (R.remaining reader.new) taken × (length taken ≤ max_bytes) }

@@ -7,7 +7,7 @@ use Rattle.std.proofs.lemmas.List.{get_or_default, get_or_past, set_split, set-g
 use Rattle.std.proofs.lemmas.List.Edits.{get_or-remove_below, get_or-remove_above, length-remove, length-insert, get_or-insert_below, get_or-insert_at, get_or-insert_above}
 use Rattle.std.proofs.lemmas.List.Folds.{list_any-append, list_any_none, list_all_at}
 use Rattle.shm_place.specs.SiteSet.{has, has_none}
-use Rattle.shm_keys.specs.Purge.{names, missing_in, IsRising}
+use Rattle.shm_keys.specs.Purge.{awaits_site, missing_in, IsRising}
 use Rattle.shm_keys.specs.declared.purge.Purge.{Purge}
 
 pub not_falling : (ps : List Purge) → IsRising ps → IsNonDecreasingBy (λ p. p.id) ps
@@ -20,27 +20,27 @@ or_middle : (a b c : Bool) → (a || (b || c)) ≡ (b || (a || c))
 or_middle a b c = grind arith
 
 -- an entry between two parts of a list
-pub missing_between : (front back : List Purge) (p : Purge) (id site : ℕ) → missing_in (front ++ (p ∷ back)) id site ≡ (names id site p || missing_in (front ++ back) id site)
+pub missing_between : (front back : List Purge) (p : Purge) (id site : ℕ) → missing_in (front ++ (p ∷ back)) id site ≡ (awaits_site id site p || missing_in (front ++ back) id site)
 missing_between front back p id site =
-    rw (list_any-append (names id site) front (p ∷ back), list_any-append (names id site) front back)
-    (or_middle (missing_in front id site) (names id site p) (missing_in back id site))
+    rw (list_any-append (awaits_site id site) front (p ∷ back), list_any-append (awaits_site id site) front back)
+    (or_middle (missing_in front id site) (awaits_site id site p) (missing_in back id site))
 
-pub missing-insert : (ps : List Purge) (i : ℕ) (p : Purge) (id site : ℕ) → missing_in (insert ps i p) id site ≡ (names id site p || missing_in ps id site)
+pub missing-insert : (ps : List Purge) (i : ℕ) (p : Purge) (id site : ℕ) → missing_in (insert ps i p) id site ≡ (awaits_site id site p || missing_in ps id site)
 missing-insert ps i p id site =
-    missing_between (take i ps) (drop i ps) p id site ∙ ap (λ qs. names id site p || missing_in qs id site) (take-append-drop i ps)
+    missing_between (take i ps) (drop i ps) p id site ∙ ap (λ qs. awaits_site id site p || missing_in qs id site) (take-append-drop i ps)
 
-pub missing-set : (ps : List Purge) (i : ℕ) (p : Purge) (id site : ℕ) → i < length ps → missing_in (set ps i p) id site ≡ (names id site p || missing_in (remove ps i) id site)
+pub missing-set : (ps : List Purge) (i : ℕ) (p : Purge) (id site : ℕ) → i < length ps → missing_in (set ps i p) id site ≡ (awaits_site id site p || missing_in (remove ps i) id site)
 missing-set ps i p id site lt =
     ap (λ qs. missing_in qs id site) (set_split ps i p lt) ∙ missing_between (take i ps) (drop (suc i) ps) p id site
 
-pub missing_with : (ps : List Purge) (i : ℕ) (d : Purge) (id site : ℕ) → i < length ps → missing_in ps id site ≡ (names id site (get_or ps i d) || missing_in (remove ps i) id site)
+pub missing_with : (ps : List Purge) (i : ℕ) (d : Purge) (id site : ℕ) → i < length ps → missing_in ps id site ≡ (awaits_site id site (get_or ps i d) || missing_in (remove ps i) id site)
 missing_with ps i d id site lt =
     ap (λ qs. missing_in qs id site) (sym (set-get_or ps i d)) ∙ missing-set ps i (get_or ps i d) id site lt
 
 -- no entry has the identifier
 pub none_missing : (ps : List Purge) (id site : ℕ) → ((k : ℕ) (d : Purge) → k < length ps → (get_or ps k d).id ≢ id) → missing_in ps id site ≡ false
 none_missing ps id site apart =
-    list_any_none (names id site) ps (λ k d lt. and_left (id == (get_or ps k d).id) _ (ne_eqb id (get_or ps k d).id (λ e. apart k d lt (sym e))))
+    list_any_none (awaits_site id site) ps (λ k d lt. and_left (id == (get_or ps k d).id) _ (ne_eqb id (get_or ps k d).id (λ e. apart k d lt (sym e))))
 
 -- the identifiers of a rising list are apart
 pub none_beside : (ps : List Purge) (i : ℕ) (e : Purge) (site : ℕ) → IsRising ps → i < length ps → missing_in (remove ps i) (get_or ps i e).id site ≡ false
@@ -85,10 +85,10 @@ taken_other : (left nm r e s : Bool) → left ≡ false → nm ≡ false → e �
 taken_other left nm r e s a b c = grind arith
 
 -- the entry at the place, for one identifier or another
-named_here : (purge : Purge) (id site : ℕ) → id ≡ purge.id → names id site purge ≡ has purge.missing site
+named_here : (purge : Purge) (id site : ℕ) → id ≡ purge.id → awaits_site id site purge ≡ has purge.missing site
 named_here purge id site e = rw (eq-eqb id purge.id e) refl
 
-named_other : (purge : Purge) (id site : ℕ) → (id ≡ purge.id → ⊥) → names id site purge ≡ false
+named_other : (purge : Purge) (id site : ℕ) → (id ≡ purge.id → ⊥) → awaits_site id site purge ≡ false
 named_other purge id site ne = and_left (id == purge.id) (has purge.missing site) (ne_eqb id purge.id ne)
 
 -- one site is taken out of the entry at the place, which then goes
@@ -100,11 +100,11 @@ missing-taken_last ps i d id site left up lt is_id less none other at =
     rw (missing_with ps i d other at lt)
     (⊎_elim
     (λ (e : other ≡ id).
-    taken_same false (names other at p) (missing_in (remove ps i) other at) (other == id) (at == site) (has p.missing at)
+    taken_same false (awaits_site other at p) (missing_in (remove ps i) other at) (other == id) (at == site) (has p.missing at)
     (subst (λ n. missing_in (remove ps i) n at ≡ false) (is_id ∙ sym e) (none_beside ps i d at up lt))
     (named_here p other at (e ∙ sym is_id)) (eq-eqb other id e) (sym (none_in left at none) ∙ less at))
     (λ (ne : other ≡ id → ⊥).
-    taken_other false (names other at p) (missing_in (remove ps i) other at) (other == id) (at == site) refl
+    taken_other false (awaits_site other at p) (missing_in (remove ps i) other at) (other == id) (at == site) refl
     (named_other p other at (λ e. ne (e ∙ is_id))) (ne_eqb other id ne))
     (cases_eq other id))
 
@@ -118,11 +118,11 @@ missing-taken ps i d id site left up lt is_id less other at =
     rw (missing-set ps i q other at lt, missing_with ps i d other at lt)
     (⊎_elim
     (λ (e : other ≡ id).
-    taken_same (names other at q) (names other at p) (missing_in (remove ps i) other at) (other == id) (at == site) (has p.missing at)
+    taken_same (awaits_site other at q) (awaits_site other at p) (missing_in (remove ps i) other at) (other == id) (at == site) (has p.missing at)
     (subst (λ n. missing_in (remove ps i) n at ≡ false) (is_id ∙ sym e) (none_beside ps i d at up lt))
     (named_here p other at (e ∙ sym is_id)) (eq-eqb other id e) (named_here q other at e ∙ less at))
     (λ (ne : other ≡ id → ⊥).
-    taken_other (names other at q) (names other at p) (missing_in (remove ps i) other at) (other == id) (at == site) (named_other q other at ne)
+    taken_other (awaits_site other at q) (awaits_site other at p) (missing_in (remove ps i) other at) (other == id) (at == site) (named_other q other at ne)
     (named_other p other at (λ e. ne (e ∙ is_id))) (ne_eqb other id ne))
     (cases_eq other id))
 

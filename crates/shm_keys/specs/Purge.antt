@@ -5,12 +5,12 @@ use Rattle.shm_model.specs.Basics.{at}
 use Rattle.shm_place.specs.SiteSet.{has, has_none}
 use Rattle.shm_keys.specs.declared.purge.Purge.{Purge}
 
-abbrev pub names : ℕ → ℕ → Purge → Bool
-names id site purge = (id == purge.id) && has purge.missing site
+abbrev pub awaits_site : ℕ → ℕ → Purge → Bool
+awaits_site id site purge = (id == purge.id) && has purge.missing site
 
 -- whether the site has yet to purge the segment
 abbrev pub missing_in : List Purge → ℕ → ℕ → Bool
-missing_in purges id site = list_any (names id site) purges
+missing_in purges id site = list_any (awaits_site id site) purges
 
 abbrev pub IsRising : List Purge → Type 0
 IsRising purges = AllPairs (λ p q. p.id < q.id) purges

@@ -44,8 +44,8 @@ pub(crate) fn begin<A: Allocator>(purges: &mut Vec<Purge, A>, id: SegId, sites: 
     let _ = purges.insert(place, purge);
 }
 
-/// The site has purged the segment. Tells whether it was missing.
-pub(crate) fn take<A: Allocator>(purges: &mut Vec<Purge, A>, id: SegId, site: SiteId) -> bool
+/// Strikes the site, which has purged the segment, out of those that are missing. Tells whether it was one of them.
+pub(crate) fn strike_out<A: Allocator>(purges: &mut Vec<Purge, A>, id: SegId, site: SiteId) -> bool
     requires rising { IsRising purges.old.items }
     requires all_missing { AllMissing purges.old.items }
     ensures was_missing { result ≡ missing_in purges.old.items id site }

@@ -2,7 +2,7 @@ ghost use Rattle.std.specs.Prelude.{◌≡◌, ℕ, ◌≤◌, ◌==◌, ◌&&�
 ghost use Rattle.shm_keys.specs.Purge.{is_above};
 ghost use Rattle.shm_place.specs.SiteSet.{has, has_none};
 
-use crate::purge::{place_of, take};
+use crate::purge::{place_of, strike_out};
 use crate::table::SegTable;
 use shm_place::{SegId, SiteId, SiteSet};
 use std::alloc::Allocator;
@@ -33,7 +33,7 @@ impl<A: Allocator + Copy> SegTable<A> {
         ensures missing { (other at : ℕ) → missing_of self.new other at ≡ (missing_of self.old other at && not ((other == id) && (at == site))) }
         ensures rest { self.new ≡ record self.old { missing = self.new.missing } }
     {
-        take(&mut self.purges, id, site)
+        strike_out(&mut self.purges, id, site)
     }
 }
 

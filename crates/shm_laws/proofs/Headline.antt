@@ -14,17 +14,17 @@ use Rattle.shm_model.specs.Message.{Input, Load, Store, Begin, Deliver, Tick, Re
 use Rattle.shm_model.specs.Calls.{Attachment}
 use Rattle.shm_model.specs.Site.{Site, Step, blank, untouched}
 use Rattle.shm_model.specs.Step.{step}
-use Rattle.shm_model.specs.Memory.{Legal, names}
+use Rattle.shm_model.specs.Memory.{Legal, segment_of}
 use Rattle.shm_model.specs.World.{Done, Opening, Run, extended, sites_of, stepped, unstepped}
-use Rattle.shm_laws.proofs.RunInduction.{IsHonest, Shape}
-use Rattle.shm_laws.proofs.PageView.{View, Holds}
-use Rattle.shm_laws.proofs.PageEntry.{false-true}
-use Rattle.shm_laws.proofs.PageOrders.{each-imp}
-use Rattle.shm_laws.proofs.PageMoves.{EnvelopeFits, Local, Moves, now_of}
-use Rattle.shm_laws.proofs.MoveSteps.{each-append}
-use Rattle.shm_laws.proofs.FramesSteps.{step-held}
-use Rattle.shm_laws.proofs.Naming.{Naming, done_at, other-naming}
-use Rattle.shm_laws.proofs.NamingSteps.{step-naming}
+use Rattle.shm_laws.proofs.Run.Induction.{IsHonest, Shape}
+use Rattle.shm_laws.proofs.Page.View.{View, Holds}
+use Rattle.shm_laws.proofs.Page.Entry.{false-true}
+use Rattle.shm_laws.proofs.Page.Orders.{each-imp}
+use Rattle.shm_laws.proofs.Page.Moves.{EnvelopeFits, Local, Moves, now_of}
+use Rattle.shm_laws.proofs.Move.Steps.{each-append}
+use Rattle.shm_laws.proofs.Frame.Steps.{step-held}
+use Rattle.shm_laws.proofs.Naming.Kept.{Naming, done_at, other-naming}
+use Rattle.shm_laws.proofs.Naming.Steps.{step-naming}
 use Rattle.std.specs.List.{range_with_len}
 use Rattle.std.proofs.lemmas.List.{get_or-replicate, length-replicate}
 use Rattle.shm_model.specs.declared.call.Op.TheVariants.{Attach}
@@ -32,12 +32,12 @@ use Rattle.shm_model.specs.declared.event.Event.{Event}
 use Rattle.shm_model.specs.Entry.{OwnWrite, Handed, is_copy, owned, seen}
 use Rattle.shm_model.specs.Book.{Book, untouched_book}
 use Rattle.shm_model.specs.Basics.{at}
-use Rattle.shm_model.specs.Memory.{Agree, Coherent, called}
+use Rattle.shm_model.specs.Memory.{Agree, Coherent, op_of}
 use Rattle.shm_model.specs.World.{Framed, IsOpening, New, Preset, begun, opened, opened_site, preset_attachment, run}
-use Rattle.shm_laws.proofs.RunInduction.{Kept, run-good}
-use Rattle.shm_laws.proofs.PageView.{Runs}
-use Rattle.shm_laws.proofs.PageHand.{own-readable-of}
-use Rattle.shm_laws.proofs.PageHandOver.{writable-owned}
+use Rattle.shm_laws.proofs.Run.Induction.{Kept, run-good}
+use Rattle.shm_laws.proofs.Page.View.{Runs}
+use Rattle.shm_laws.proofs.Page.Hand.{own-readable-of}
+use Rattle.shm_laws.proofs.Page.HandOver.{writable-owned}
 use Rattle.shm_laws.proofs.Sound.{PageSound, SiteSound, Sound, input-moves, load-is-last, set-here, set-there}
 
 none-some : {X : Type 0} (x : X) → None ≡ Some x → ⊥
@@ -238,8 +238,8 @@ legal-step o r s site Restart sound found = (tt, sound.legal)
 -- an event that steps no site
 still-naming : (o : Opening) (account : List Done) (s : ℕ) (answer : Answer) (t : ℕ) (site : Site) → Naming o account t site → Naming o (record { site = s; input = None; answer = answer } ∷ account) t site
 still-naming o account s answer t site n = record {
-  named = λ a x e. cond_both (s == t) (names o account t a) (names o account t a) (λ y. y ≡ Some x.id) (λ _. n.named a x e) (λ _. n.named a x e);
-  called_as = λ out cred id ro e f. cond_both (s == t) (called account t out.number) (called account t out.number) (λ y. y ≡ Some (Attach cred id ro)) (λ _. n.called_as out cred id ro e f) (λ _. n.called_as out cred id ro e f);
+  named = λ a x e. cond_both (s == t) (segment_of o account t a) (segment_of o account t a) (λ y. y ≡ Some x.id) (λ _. n.named a x e) (λ _. n.named a x e);
+  called_as = λ out cred id ro e f. cond_both (s == t) (op_of account t out.number) (op_of account t out.number) (λ y. y ≡ Some (Attach cred id ro)) (λ _. n.called_as out cred id ro e f) (λ _. n.called_as out cred id ro e f);
 }
 
 still-sound : (o : Opening) (r : Run) (gone : ℕ → Bool) (s : ℕ) (answer : Answer) → Sound o r → Sound o (extended r (unstepped (record r.world { gone = gone }) s answer))

@@ -13,11 +13,11 @@ use Rattle.shm_model.specs.Message.{Envelope, Of}
 use Rattle.shm_model.specs.Site.{Site}
 use Rattle.shm_model.specs.Transactions.{BytesAreLast, InvalidatedFirst, IsRequester, IsRunning, NumbersTell, ReadersAreKnown, Stands, TellsToHand, entry_number}
 use Rattle.shm_model.specs.World.{IsOpening, Opening, Run, run, sites_of}
-use Rattle.shm_laws.proofs.RunInduction.{Shape, run-shape}
-use Rattle.shm_laws.proofs.PageView.{AllMet, Fits, Holds, InFlight, Runs, View}
-use Rattle.shm_laws.proofs.PageHand.{HandNow, hand-now, hand-running}
-use Rattle.shm_laws.proofs.PageKeep.{readable-is}
-use Rattle.shm_laws.proofs.PageMoves.{EnvelopeFits, now_of}
+use Rattle.shm_laws.proofs.Run.Induction.{Shape, run-shape}
+use Rattle.shm_laws.proofs.Page.View.{AllMet, Fits, Holds, InFlight, Runs, View}
+use Rattle.shm_laws.proofs.Page.Hand.{HandNow, hand-now, hand-running}
+use Rattle.shm_laws.proofs.Page.Keep.{readable-is}
+use Rattle.shm_laws.proofs.Page.Moves.{EnvelopeFits, now_of}
 use Rattle.shm_laws.proofs.Sound.{Sound, each-in}
 use Rattle.shm_laws.proofs.Headline.{run-sound, size-of}
 

@@ -15,18 +15,18 @@ use Rattle.shm_model.specs.Calls.{Attachment}
 use Rattle.shm_model.specs.Site.{Site, Step}
 use Rattle.shm_model.specs.Access.{ask_for, is_pending, load, load_at, load_if, place_in, right_through}
 use Rattle.shm_model.specs.Step.{step}
-use Rattle.shm_model.specs.Memory.{Legal, LoadsLast, last_store, names}
+use Rattle.shm_model.specs.Memory.{Legal, LoadsLast, last_store, segment_of}
 use Rattle.shm_model.specs.World.{Done, Opening, Run, World, sites_of}
-use Rattle.shm_laws.proofs.RunInduction.{IsHonest}
-use Rattle.shm_laws.proofs.PageView.{View, Holds}
-use Rattle.shm_laws.proofs.PageEntry.{false-true}
-use Rattle.shm_laws.proofs.PageOrders.{Each}
-use Rattle.shm_laws.proofs.PageMoves.{EnvelopeFits, Local, StepMoves, now_of}
-use Rattle.shm_laws.proofs.MoveAccess.{load-moves, offset-parts, store-moves}
-use Rattle.shm_laws.proofs.CallsAreQuiet.{begin-quiet}
-use Rattle.shm_laws.proofs.MoveSteps.{deliver-moves, quiet-step, restart-moves, tick-moves}
-use Rattle.shm_laws.proofs.FramesSteps.{SiteHeld}
-use Rattle.shm_laws.proofs.Naming.{Naming, done_at}
+use Rattle.shm_laws.proofs.Run.Induction.{IsHonest}
+use Rattle.shm_laws.proofs.Page.View.{View, Holds}
+use Rattle.shm_laws.proofs.Page.Entry.{false-true}
+use Rattle.shm_laws.proofs.Page.Orders.{Each}
+use Rattle.shm_laws.proofs.Page.Moves.{EnvelopeFits, Local, StepMoves, now_of}
+use Rattle.shm_laws.proofs.Move.Access.{load-moves, offset-parts, store-moves}
+use Rattle.shm_laws.proofs.Move.Calls.{begin-quiet}
+use Rattle.shm_laws.proofs.Move.Steps.{deliver-moves, quiet-step, restart-moves, tick-moves}
+use Rattle.shm_laws.proofs.Frame.Steps.{SiteHeld}
+use Rattle.shm_laws.proofs.Naming.Kept.{Naming, done_at}
 
 pub set-here : {X : Type 0} (xs : List X) (s : ℕ) (x y : X) → slice_get xs s ≡ Some x → slice_get (slice_set xs s y) s ≡ Some y
 set-here [] s x y e = absurd (none-some x e)
@@ -91,7 +91,7 @@ module _ (o : Opening) (account : List Done) (s : ℕ) (small : s < max_sites) (
 -- a load that completes gives what was stored last
 module _ (o : Opening) (account : List Done) (s : ℕ) (site : Site) (naming : Naming o account s site) (a offset : ℕ) (pages : (q : PageId) → (v : View) × Local (sites_of o) s q site v × Holds (now_of o q account) v) where
   abbrev Loads : Step → Type 0
-  Loads st = LoadsLast (Some (Load a offset)) st.answer (names o account s) (last_store o account)
+  Loads st = LoadsLast (Some (Load a offset)) st.answer (segment_of o account s) (last_store o account)
 
   ask-loads : (page : PageId) → Loads (ask_for (sites_of o) s Read page site)
   ask-loads page = cond_both (is_pending Read page site.pending) _ _ Loads (λ e. tt) (λ e. cond_both (site.requests == greatest) _ _ Loads (λ f. tt) (λ f. tt))

@@ -1,7 +1,6 @@
 pub mod Words
 pub mod Line
 pub mod Spelling
-pub mod Access
 pub mod Limits
 pub mod Workload
 pub mod WorkloadFaults

@@ -4,12 +4,12 @@ use Rattle.std.specs.Prelude.{ℕ, ◌+◌, ◌*◌, ◌==◌, ◌&&◌, Bool, i
 use Rattle.std.specs.List.{slice_split}
 use Rattle.std.specs.Str.{bytes_eq}
 use Rattle.shm_place.specs.Limits.{page_bytes, pages}
+use Rattle.shm_model.specs.declared.asked.Asked.TheVariants.{Load, Store}
 use Rattle.shm_lines.specs.Words.{◌>>=◌, words_of, byte_of, next_word, next_of, next_number, next_named, is_end}
 use Rattle.shm_lines.specs.Limits.{max_line_bytes, max_lines}
 use Rattle.shm_lines.specs.declared.workload_fault.WorkloadFault.{WorkloadFault}
 use Rattle.shm_lines.specs.declared.workload_fault.WorkloadFault.TheVariants.{BadLine, LineTooLong, TooManyLines}
 use Rattle.shm_lines.specs.declared.access.Access.{Access}
-use Rattle.shm_lines.specs.declared.access.Access.TheVariants.{Load, Store}
 
 -- there is such a site, and segment 0 has a byte there
 abbrev pub is_inside : ℕ → ℕ → ℕ → ℕ → Bool
@@ -20,7 +20,7 @@ abbrev pub load_of : ℕ → ℕ → List (List ℕ) → Option Access
 load_of sites size words = do
   (site, words) ← next_number words
   (offset, words) ← next_number words
-  if is_end words && is_inside sites size site offset then Some (Load site offset) else None
+  if is_end words && is_inside sites size site offset then Some (record { site = site; asked = Load 0 offset }) else None
 
 -- `store site offset byte`
 abbrev pub store_of : ℕ → ℕ → List (List ℕ) → Option Access
@@ -28,7 +28,7 @@ store_of sites size words = do
   (site, words) ← next_number words
   (offset, words) ← next_number words
   (byte, words) ← next_of byte_of words
-  if is_end words && is_inside sites size site offset then Some (Store site offset byte) else None
+  if is_end words && is_inside sites size site offset then Some (record { site = site; asked = Store 0 offset byte }) else None
 
 abbrev pub access_of : ℕ → ℕ → List ℕ → Option Access
 access_of sites size line = do

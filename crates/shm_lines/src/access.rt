@@ -1,23 +1,9 @@
+use shm_model::Asked;
 use shm_place::SiteId;
 
-/// A load or a store at a site, through its attachment 0.
+/// A load or a store of a workload: the site that makes it, and what it asks, through the site's attachment 0.
 #[derive(Clone, Copy, Debug, PartialEq, Eq)]
-pub enum Access {
-    Load { site: SiteId, offset: u32 },
-    Store { site: SiteId, offset: u32, byte: u8 },
-}
-
-impl Access {
-    ghost use Rattle.std.specs.Prelude.{◌≡◌};
-    ghost use Rattle.shm_lines.specs.Access as said;
-
-    /// The site that makes it.
-    pub fn site(&self) -> SiteId
-        ensures { result ≡ said.site_of self.now }
-    {
-        match self {
-            Access::Load { site, .. } => *site,
-            Access::Store { site, .. } => *site,
-        }
-    }
+pub struct Access {
+    pub site: SiteId,
+    pub asked: Asked,
 }

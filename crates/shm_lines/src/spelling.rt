@@ -59,7 +59,7 @@ impl fmt::Display for Happening {
                 write!(f, "store {site} {at} {offset} {byte}")
             }
             Event::Begin { site, request } => {
-                let request = Asked {
+                let request = RequestWords {
                     site: site.0,
                     request,
                 };
@@ -82,17 +82,17 @@ impl fmt::Display for Happening {
 
 /// What a site is asked to begin, as its line spells it.
 #[derive(Clone, Copy)]
-struct Asked {
+struct RequestWords {
     site: u32,
     request: Request,
 }
 
-impl fmt::Display for Asked {
+impl fmt::Display for RequestWords {
     ghost use Rattle.std.specs.Prelude.{Some};
     ghost use Rattle.std.specs.List.{join_with_byte};
     ghost use Rattle.shm_lines.specs.Spelling as spelled;
 
-    ghost output = { λ asked. Some (join_with_byte 32 (spelled.request_words asked.site asked.request)) };
+    ghost output = { λ words. Some (join_with_byte 32 (spelled.request_words words.site words.request)) };
 
     fn fmt<W: fmt::Write>(&self, f: &mut fmt::Formatter<W>) -> fmt::Result {
         let site = self.site;

@@ -5,6 +5,7 @@ ghost use Rattle.shm_lines.specs.Workload as said;
 use crate::Words;
 use crate::access::Access;
 use crate::workload_fault::WorkloadFault;
+use shm_model::Asked;
 use shm_place::{PAGE_BYTES, PAGES, SiteId, Sites};
 
 /// How many bytes a line has at most, without its line feed.
@@ -104,9 +105,9 @@ fn load(sites: Sites, size: u32, words: Words<'_>) -> Option<Access>
     if !words.is_empty() || !is_inside(sites, size, site, offset) {
         return None;
     }
-    Some(Access::Load {
+    Some(Access {
         site: SiteId(site),
-        offset,
+        asked: Asked::Load { at: 0, offset },
     })
 }
 
@@ -120,10 +121,13 @@ fn store(sites: Sites, size: u32, words: Words<'_>) -> Option<Access>
     if !words.is_empty() || !is_inside(sites, size, site, offset) {
         return None;
     }
-    Some(Access::Store {
+    Some(Access {
         site: SiteId(site),
-        offset,
-        byte,
+        asked: Asked::Store {
+            at: 0,
+            offset,
+            byte,
+        },
     })
 }
 

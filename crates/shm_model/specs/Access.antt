@@ -11,11 +11,11 @@ use Rattle.shm_model.specs.declared.kind.Kind.{Kind}
 use Rattle.shm_model.specs.declared.kind.Kind.TheVariants.{Read, Write}
 use Rattle.shm_model.specs.Entry.{Entry, OwnWrite, Ask, bytes, readable, writable}
 use Rattle.shm_model.specs.Book.{is_write}
-use Rattle.shm_model.specs.Basics.{greatest}
+use Rattle.shm_model.specs.Basics.{at_page, greatest}
 use Rattle.shm_model.specs.Refusal.{no_attachment, read_only, out_of_segment, numbers_used_up}
 use Rattle.shm_model.specs.Message.{Of, Envelope}
 use Rattle.shm_model.specs.Calls.{Attachment}
-use Rattle.shm_model.specs.Site.{Site, Step, Pending, at_page, still}
+use Rattle.shm_model.specs.Site.{Site, Step, Pending, still}
 
 -- where an access goes: its page and the offset within it
 pub record Place : Type 0 where

@@ -15,7 +15,7 @@ use Rattle.shm_model.specs.Message.{Message, Call, Replies, Envelope, Input, Beg
 use Rattle.shm_model.specs.Calls.{op_home}
 use Rattle.shm_model.specs.Site.{Site, max_attachments}
 use Rattle.shm_model.specs.World.{Done, Opening, New, Preset, Framed, Run, preset_segment, sites_of}
-use Rattle.shm_model.specs.Memory.{is_named, names}
+use Rattle.shm_model.specs.Memory.{is_segment, segment_of}
 
 -- a segment call, by its site and the site's number for it
 pub record Numbered : Type 0 where
@@ -92,20 +92,20 @@ is_attached _ = false
 
 -- an attachment of some site names the segment
 abbrev pub naming : Opening → List Done → ℕ → ℕ
-naming o account id = sum_by (λ s. count_by (λ a. is_named (names o account s a) id) (range_with_len 0 max_attachments)) (range_with_len 0 (sites_of o))
+naming o account id = sum_by (λ s. count_by (λ a. is_segment (segment_of o account s a) id) (range_with_len 0 max_attachments)) (range_with_len 0 (sites_of o))
 
 -- an attach to the segment succeeded at its home, and its site doesn't know yet
 abbrev pub attaching : Opening → List Done → List Numbered → ℕ → ℕ
 attaching o account calls id = count_by (λ c. is_attach c.op id && is_attached (reply_to o calls c.site c.number) && not (has_replied account c.site c.number)) calls
 
 abbrev pub is_detach_begun : Option Input → Answer → ℕ → (ℕ → Option ℕ) → List Numbered → ℕ → Bool
-is_detach_begun (Some (Begin (DetachAt a))) (Began n) s named calls id = is_named (named a) id && not (has_call s n calls)
+is_detach_begun (Some (Begin (DetachAt a))) (Began n) s named calls id = is_segment (named a) id && not (has_call s n calls)
 is_detach_begun _ _ s named calls id = false
 
 -- a detach from the segment began, and its home doesn't know yet
 abbrev pub detaching : Opening → List Numbered → List Done → ℕ → ℕ
 detaching o calls [] id = 0
-detaching o calls (d ∷ ds) id = (if is_detach_begun d.input d.answer d.site (names o ds d.site) calls id then 1 else 0) + detaching o calls ds id
+detaching o calls (d ∷ ds) id = (if is_detach_begun d.input d.answer d.site (segment_of o ds d.site) calls id then 1 else 0) + detaching o calls ds id
 
 -- what holds a segment: who is attached, who is about to learn that it is, and whose detach is on its way
 abbrev pub held : Opening → List Done → ℕ → ℕ
@@ -114,8 +114,8 @@ held o account id = naming o account id + (attaching o account (calls_of account
 -- Attachments are counted, all of them, and none names a destroyed segment.
 pub record Counted (o : Opening) (r : Run) : Type 0 where
   pub count : (g : Segment) → Contains (segments_after o r) g → destroyed g ≡ false → g.nattch ≡ held o r.account g.id
-  pub named : (s a id : ℕ) → s < sites_of o → names o r.account s a ≡ Some id → (g : Segment) × (with_id id (segments_after o r) ≡ Some g) × (destroyed g ≡ false)
-  pub small : (s a id : ℕ) → names o r.account s a ≡ Some id → a < max_attachments
+  pub named : (s a id : ℕ) → s < sites_of o → segment_of o r.account s a ≡ Some id → (g : Segment) × (with_id id (segments_after o r) ≡ Some g) × (destroyed g ≡ false)
+  pub small : (s a id : ℕ) → segment_of o r.account s a ≡ Some id → a < max_attachments
 
 -- Each home's table is its part of the one kernel's list.
 abbrev pub HomesKeepTheirPart : Opening → Run → Type 0
@@ -124,4 +124,4 @@ HomesKeepTheirPart o r = (h : ℕ) (home : Site) → slice_get r.world.sites h �
 -- Nothing alive is purged: what a site has purged is destroyed, and no attachment names it.
 pub record PurgedDead (o : Opening) (r : Run) : Type 0 where
   pub dead : (s id : ℕ) (site : Site) → slice_get r.world.sites s ≡ Some site → IsTrue (site.purged id) → (g : Segment) × (with_id id (segments_after o r) ≡ Some g) × IsTrue (destroyed g)
-  pub unnamed : (s t a id : ℕ) (site : Site) → slice_get r.world.sites s ≡ Some site → IsTrue (site.purged id) → t < sites_of o → names o r.account t a ≢ Some id
+  pub unnamed : (s t a id : ℕ) (site : Site) → slice_get r.world.sites s ≡ Some site → IsTrue (site.purged id) → t < sites_of o → segment_of o r.account t a ≢ Some id

@@ -27,19 +27,20 @@ pub record Logged : Type 0 where
 abbrev pub inputs_of : List Logged → List Input
 inputs_of log = map (λ l. l.input) log
 
-pub record Told : Type 0 where
+-- what a step answers and sends
+pub record StepOutcome : Type 0 where
   pub answer : Answer
   pub sent : List Envelope
 
-abbrev pub told : Logged → Told
-told l = record { answer = l.answer; sent = l.sent }
+abbrev pub outcome_of : Logged → StepOutcome
+outcome_of l = record { answer = l.answer; sent = l.sent }
 
--- what a site in this state tells of these inputs
-abbrev pub tells : ℕ → ℕ → Site → List Input → List Told
-tells sites s site [] = []
-tells sites s site (input ∷ inputs) =
+-- the outcomes of these inputs at a site in this state
+abbrev pub outcomes : ℕ → ℕ → Site → List Input → List StepOutcome
+outcomes sites s site [] = []
+outcomes sites s site (input ∷ inputs) =
     let done = step sites s site input in
-    record { answer = done.answer; sent = done.sent } ∷ tells sites s done.site inputs
+    record { answer = done.answer; sent = done.sent } ∷ outcomes sites s done.site inputs
 
 -- the state that they leave it in
 abbrev pub moved_by : ℕ → ℕ → Site → List Input → Site
@@ -53,7 +54,7 @@ is_logged sites s _ = true
 
 -- the log is that of a site which began in this state
 pub record Fits (sites s : ℕ) (site : Site) (log : List Logged) : Type 0 where
-  pub tell : map told log ≡ tells sites s site (inputs_of log)
+  pub tell : map outcome_of log ≡ outcomes sites s site (inputs_of log)
   pub inputs : All (λ l. IsTrue (is_logged sites s l.input)) log
 
 -- a site's log, where there is one log for each site, in the sites' order

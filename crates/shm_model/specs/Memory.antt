@@ -16,47 +16,47 @@ use Rattle.shm_model.specs.Site.{Site}
 use Rattle.shm_model.specs.World.{Done, Opening, New, Preset, Framed, World}
 
 -- the call that began under this number, by what was asked and answered
-abbrev pub begun_op : Option Input → Answer → ℕ → Option Op → Option Op
-begun_op (Some (Begin (OpRequest op))) (Began m) n earlier = if m == n then Some op else earlier
-begun_op _ _ n earlier = earlier
+abbrev pub op_after : Option Input → Answer → ℕ → Option Op → Option Op
+op_after (Some (Begin (OpRequest op))) (Began m) n earlier = if m == n then Some op else earlier
+op_after _ _ n earlier = earlier
 
-abbrev pub called : List Done → ℕ → ℕ → Option Op
-called [] s n = None
-called (d ∷ ds) s n = if d.site == s then begun_op d.input d.answer n (called ds s n) else called ds s n
+abbrev pub op_of : List Done → ℕ → ℕ → Option Op
+op_of [] s n = None
+op_of (d ∷ ds) s n = if d.site == s then op_after d.input d.answer n (op_of ds s n) else op_of ds s n
 
 abbrev pub attach_id : Option Op → Option ℕ
 attach_id (Some (Attach _ id _)) = Some id
 attach_id _ = None
 
 -- at the opening attachment 0 names segment 0, where there is one
-abbrev pub names_at_first : Opening → ℕ → Option ℕ
-names_at_first (New _) a = None
-names_at_first (Preset _ _) a = if a == 0 then Some 0 else None
-names_at_first (Framed _ _ _) a = if a == 0 then Some 0 else None
+abbrev pub segment_at_first : Opening → ℕ → Option ℕ
+segment_at_first (New _) a = None
+segment_at_first (Preset _ _) a = if a == 0 then Some 0 else None
+segment_at_first (Framed _ _ _) a = if a == 0 then Some 0 else None
 
 -- a reply that gives the attachment lets it name what its attach named; a detach that began ends that
-abbrev pub renamed : Option Input → Answer → (ℕ → Option Op) → ℕ → Option ℕ → Option ℕ
-renamed (Some (Deliver _)) (Replied n _ (Some b)) ops a earlier = if b == a then attach_id (ops n) else earlier
-renamed (Some (Begin (DetachAt b))) (Began _) ops a earlier = if b == a then None else earlier
-renamed _ _ ops a earlier = earlier
+abbrev pub segment_after : Option Input → Answer → (ℕ → Option Op) → ℕ → Option ℕ → Option ℕ
+segment_after (Some (Deliver _)) (Replied n _ (Some b)) ops a earlier = if b == a then attach_id (ops n) else earlier
+segment_after (Some (Begin (DetachAt b))) (Began _) ops a earlier = if b == a then None else earlier
+segment_after _ _ ops a earlier = earlier
 
 -- the segment that attachment a of site s names after this account
-abbrev pub names : Opening → List Done → ℕ → ℕ → Option ℕ
-names o [] s a = names_at_first o a
-names o (d ∷ ds) s a = if d.site == s then renamed d.input d.answer (called ds s) a (names o ds s a) else names o ds s a
+abbrev pub segment_of : Opening → List Done → ℕ → ℕ → Option ℕ
+segment_of o [] s a = segment_at_first o a
+segment_of o (d ∷ ds) s a = if d.site == s then segment_after d.input d.answer (op_of ds s) a (segment_of o ds s a) else segment_of o ds s a
 
-abbrev pub is_named : Option ℕ → ℕ → Bool
-is_named None id = false
-is_named (Some i) id = i == id
+abbrev pub is_segment : Option ℕ → ℕ → Bool
+is_segment None id = false
+is_segment (Some i) id = i == id
 
 abbrev pub stored_last : Option Input → Answer → (ℕ → Option ℕ) → ℕ → ℕ → ℕ → ℕ
-stored_last (Some (Store a at byte)) Stored named id offset earlier = if is_named (named a) id && (at == offset) then byte else earlier
+stored_last (Some (Store a at byte)) Stored named id offset earlier = if is_segment (named a) id && (at == offset) then byte else earlier
 stored_last _ _ named id offset earlier = earlier
 
 -- the byte of the last completed store to this offset of this segment, or 0 where there is none
 abbrev pub last_store : Opening → List Done → ℕ → ℕ → ℕ
 last_store o [] id offset = 0
-last_store o (d ∷ ds) id offset = stored_last d.input d.answer (names o ds d.site) id offset (last_store o ds id offset)
+last_store o (d ∷ ds) id offset = stored_last d.input d.answer (segment_of o ds d.site) id offset (last_store o ds id offset)
 
 abbrev pub LoadsLast : Option Input → Answer → (ℕ → Option ℕ) → (ℕ → ℕ → ℕ) → Type 0
 LoadsLast (Some (Load a offset)) (Byte byte) named last = (id : ℕ) × (named a ≡ Some id) × (byte ≡ last id offset)
@@ -65,7 +65,7 @@ LoadsLast _ _ named last = Unit {0}
 -- each completed load gives the last store to its place before it
 abbrev pub Legal : Opening → List Done → Type 0
 Legal o [] = Unit {0}
-Legal o (d ∷ ds) = LoadsLast d.input d.answer (names o ds d.site) (last_store o ds) × Legal o ds
+Legal o (d ∷ ds) = LoadsLast d.input d.answer (segment_of o ds d.site) (last_store o ds) × Legal o ds
 
 abbrev pub SameBytes : List ℕ → List ℕ → Type 0
 SameBytes xs ys = (k : ℕ) → k < page_bytes → slice_index xs k ≡ slice_index ys k

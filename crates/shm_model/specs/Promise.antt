@@ -11,7 +11,7 @@ use Rattle.shm_model.specs.declared.answer.Answer.TheVariants.{Byte}
 use Rattle.shm_model.specs.declared.event.Event.{Event}
 use Rattle.shm_model.specs.declared.event.Event.TheVariants.{Load}
 use Rattle.shm_model.specs.History.{Counted, ExecutedOnce, PurgedDead}
-use Rattle.shm_model.specs.Memory.{Coherent, Legal, last_store, names}
+use Rattle.shm_model.specs.Memory.{Coherent, Legal, last_store, segment_of}
 use Rattle.shm_model.specs.World.{Opening, run}
 
 -- what holds of the run of these events from this opening
@@ -25,7 +25,7 @@ pub record Promised (o : Opening) (events : List Event) : Type 0 where
 -- A byte that this event loads is the one stored last to its place by the events before it, or 0 where there is none (Li and Hudak 1989, §2);
 -- the place is in the segment that the attachment names then.
 abbrev pub GivesLast : Opening → List Event → Event → Answer → Type 0
-GivesLast o before (Load s a offset) (Byte byte) = (id : ℕ) × (names o (run o before).account s a ≡ Some id) × (byte ≡ last_store o (run o before).account id offset)
+GivesLast o before (Load s a offset) (Byte byte) = (id : ℕ) × (segment_of o (run o before).account s a ≡ Some id) × (byte ≡ last_store o (run o before).account id offset)
 GivesLast o before _ _ = Unit {0}
 
 -- so it is for each of these events, where the answers from number `first` on are theirs

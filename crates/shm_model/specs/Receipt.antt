@@ -1,7 +1,9 @@
 -- What callers are told of the steps that they made, and when it is true of the logs.
-use Rattle.std.specs.Prelude.{◌≡◌, ℕ, ◌<◌, Bool, false, ◌&&◌, List, Option, Some, None, ◌==◌, slice_get}
+use Rattle.std.specs.Prelude.{◌≡◌, ℕ, ◌<◌, Bool, false, ◌&&◌, List, Option, Some, None, ◌==◌, option_map, slice_get}
 use Rattle.std.specs.List.{All, AllPairs, flat_map}
 use Rattle.shm_model.specs.declared.answer.Answer.{Answer}
+use Rattle.shm_model.specs.declared.asked.Asked.{Asked}
+use Rattle.shm_model.specs.declared.asked.Asked.TheVariants as code
 use Rattle.shm_model.specs.Message.{Input, Load, Store}
 use Rattle.shm_model.specs.Log.{Logged, log_of}
 
@@ -10,6 +12,14 @@ abbrev pub access : Input → Option Input
 access (Load at offset) = Some (Load at offset)
 access (Store at offset byte) = Some (Store at offset byte)
 access _ = None
+
+-- the input that makes this access
+abbrev pub access_of : Asked → Input
+access_of (code.Load at offset) = Load at offset
+access_of (code.Store at offset byte) = Store at offset byte
+
+abbrev pub asked_of : Option Asked → Option Input
+asked_of asked = option_map access_of asked
 
 -- the step of this index at this site had this access, or none, and this answer
 pub record Receipt : Type 0 where

@@ -43,7 +43,7 @@ no_such_site = 14
 abbrev pub no_such_message : ℕ
 no_such_message = 15
 
--- an envelope that its receiver can't have been sent
+-- an envelope that its receiver can't have been sent, and a box that is another site's
 abbrev pub foreign_message : ℕ
 foreign_message = 16
 

@@ -3,7 +3,7 @@ use Rattle.std.specs.Prelude.{ℕ, Bool, false, List, [], Option, Some, None, �
 use Rattle.std.specs.List.{find, list_any, range_with_len}
 use Rattle.shm_place.specs.declared.page.PageId.{PageId}
 use Rattle.shm_place.specs.Limits.{page_bytes}
-use Rattle.shm_place.specs.Page.{manager_of, same_page}
+use Rattle.shm_place.specs.Page.{manager_of}
 use Rattle.shm_model.specs.declared.answer.Answer.{Answer}
 use Rattle.shm_model.specs.declared.answer.Answer.TheVariants.{Dropped}
 use Rattle.shm_model.specs.declared.kind.Kind.{Kind}
@@ -40,10 +40,6 @@ pub record Site : Type 0 where
   pub purged : ℕ → Bool
   pub frames : Option Frames
   pub pending : List Pending
-
--- a function of the page with one value changed
-abbrev pub at_page : {X : Type 0} → (PageId → X) → PageId → X → PageId → X
-at_page f p x q = if same_page p q then x else f q
 
 unfoldable pub blank : List ℕ
 blank = replicate page_bytes 0

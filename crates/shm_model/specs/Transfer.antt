@@ -9,7 +9,8 @@ use Rattle.shm_model.specs.Entry.{Entry, Note, Ask, Clear, Cleared, Hand, Page, 
 use Rattle.shm_model.specs.Book.{Book, Order, ClearTo, HandTo, Outcome, Ignored, UsedUp, Taken, is_write, on_ask, on_cleared, on_confirm}
 use Rattle.shm_model.specs.Refusal.{numbers_used_up}
 use Rattle.shm_model.specs.Message.{Envelope, Of}
-use Rattle.shm_model.specs.Site.{Site, Frames, Pending, at_page, Step, dropped, still}
+use Rattle.shm_model.specs.Basics.{at_page}
+use Rattle.shm_model.specs.Site.{Site, Frames, Pending, Step, dropped, still}
 
 -- the right to read settles a pending Ask to read, the right to write any
 abbrev pub is_settled : Bool → Bool → Pending → Bool

@@ -3,6 +3,7 @@
 #![tactic(auto)]
 
 mod answer;
+mod asked;
 mod call;
 mod event;
 mod kind;
@@ -12,6 +13,7 @@ mod opening;
 pub mod refusal;
 
 pub use answer::{Access, Answer, Shown, State};
+pub use asked::Asked;
 pub use call::{Attached, Cred, Errno, Op, Reply, Request, Stat};
 pub use event::Event;
 pub use kind::Kind;

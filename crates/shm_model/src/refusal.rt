@@ -51,7 +51,7 @@ pub const NO_SUCH_SITE: u8 = 14;
 /// The envelope was never sent, or is gone.
 pub const NO_SUCH_MESSAGE: u8 = 15;
 
-/// The envelope can't be for its site; or no segment can have the page.
+/// The envelope can't be for its site; or no segment can have the page; or a client met another site's box.
 pub const FOREIGN: u8 = 16;
 
 /// Memory was refused.

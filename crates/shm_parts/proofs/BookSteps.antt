@@ -11,7 +11,8 @@ use Rattle.shm_place.specs.declared.page.PageId.{PageId}
 use Rattle.shm_place.specs.Page.{same_page}
 use Rattle.shm_model.specs.declared.kind.Kind.{Kind}
 use Rattle.shm_model.specs.Book as model
-use Rattle.shm_model.specs.Site.{Site, at_page, Step, dropped, still}
+use Rattle.shm_model.specs.Basics.{at_page}
+use Rattle.shm_model.specs.Site.{Site, Step, dropped, still}
 use Rattle.shm_model.specs.Transfer.{booked_with, to_book, order_envelope}
 use Rattle.shm_model.specs.declared.answer.Answer.TheVariants.{Took, Refused}
 use Rattle.shm_model.specs.Refusal.{numbers_used_up}

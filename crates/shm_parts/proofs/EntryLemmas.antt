@@ -16,7 +16,7 @@ use Rattle.indexmap.specs.IndexMap.{IndexMap, insert_entry}
 use Rattle.shm_place.specs.declared.page.PageId.{PageId}
 use Rattle.shm_place.specs.Page.{same_page}
 use Rattle.shm_model.specs.Entry as model
-use Rattle.shm_model.specs.Site.{at_page}
+use Rattle.shm_model.specs.Basics.{at_page}
 use Rattle.shm_page.specs.Entry.{entry_of}
 use Rattle.shm_page.specs.declared.entry.Entry.{Entry}
 use Rattle.shm_parts.specs.Entries.{entries_of, entry_or, is_stored, stored_at}

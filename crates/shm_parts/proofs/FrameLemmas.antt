@@ -6,6 +6,7 @@ use Rattle.std.proofs.lemmas.Option.{same_Some, none-some}
 use Rattle.shm_place.specs.declared.page.PageId.{PageId}
 use Rattle.shm_place.specs.Page.{same_page}
 use Rattle.shm_model.specs.Entry.{forget}
+use Rattle.shm_model.specs.Basics.{at_page}
 use Rattle.shm_model.specs.Site as model
 use Rattle.shm_model.specs.SegmentCalls.{without_segment}
 use Rattle.shm_model.specs.Transfer.{drop_first, limited, without_page}
@@ -105,7 +106,7 @@ limited-few f site h = few_step (nat_lt f.limit (length f.copies)) f.copies f si
 abbrev pub given_up : PageId → model.Frames → model.Site → model.Site
 given_up page frames site = record site {
   frames = Some frames;
-  entries = model.at_page site.entries page (forget (site.entries page));
+  entries = at_page site.entries page (forget (site.entries page));
 }
 
 more_step : (b : Bool) (qs : List PageId) (f : model.Frames) (site : model.Site) (page : PageId) → (if b then first_out qs f else (None, f)).0 ≡ Some page

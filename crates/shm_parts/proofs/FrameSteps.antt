@@ -1,4 +1,4 @@
--- The copies, after a change of the line in which they stand.
+-- The copies, after a change of the pages among which they stand.
 use Rattle.std.proofs.Common.{◌≡◌, ℕ, Bool, true, false, cond, not, ◌&&◌, ◌==◌, filter, List, [], ◌∷◌, ◌++◌, Option, None, Some, is_some, if◌then◌else◌, refl, sym, ap, ◌∙◌}
 use Rattle.std.specs.Map.{keys_of, lookup}
 use Rattle.std.proofs.lemmas.Bool.{true≢false}
@@ -8,10 +8,10 @@ use Rattle.shm_place.specs.Page.{same_page}
 use Rattle.shm_model.specs.SegmentCalls.{without_segment}
 use Rattle.shm_model.specs.Transfer.{without_page}
 use Rattle.shm_parts.specs.Frames.{IsFor, arranged_by, counted}
-use Rattle.shm_parts.specs.Line.{without, without_pages_of}
+use Rattle.shm_parts.specs.OrderedPages.{without, without_pages_of}
 use Rattle.shm_parts.specs.declared.change.Change.{Change}
 use Rattle.shm_parts.proofs.EntryLemmas.{same-page}
-use Rattle.shm_parts.proofs.LineLemmas.{filter-both, insert-new}
+use Rattle.shm_parts.proofs.OrderedPagesLemmas.{filter-both, insert-new}
 
 twice : (b : Bool) → not b ≡ (not b && not b)
 twice true = refl
@@ -59,7 +59,7 @@ module _ {V : Type 0} where
   unseen page v (e ∷ es) none =
       new_step (same_page page e.0) e (lookup (same_page page) es) (without_page page (keys_of (es ++ (page, v) ∷ []))) (keys_of es) none (unseen page v es)
 
-  -- a page that was put in the line for later is no copy
+  -- a page that was put among them for later is no copy
   pub awaited-unseen : (page : PageId) (v : V) (es new : List (PageId × V)) → is_some (lookup (same_page page) es) ≡ false → new ≡ insert_entry same_page es page v
       → without_page page (keys_of new) ≡ keys_of es
   awaited-unseen page v es new absent put =

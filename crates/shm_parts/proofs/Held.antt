@@ -7,8 +7,8 @@ use Rattle.shm_place.specs.Page.{same_page}
 use Rattle.shm_model.specs.declared.kind.Kind.TheVariants.{Write}
 use Rattle.shm_model.specs.declared.answer.Answer.TheVariants.{Stored}
 use Rattle.shm_model.specs.Access.{ask_for, store_at, stored_entry}
-use Rattle.shm_model.specs.Site.{still, Frames as ModelFrames, Site, at_page}
-use Rattle.shm_model.specs.Basics.{at}
+use Rattle.shm_model.specs.Site.{still, Frames as ModelFrames, Site}
+use Rattle.shm_model.specs.Basics.{at, at_page}
 use Rattle.shm_model.specs.Calls.{Attachment}
 use Rattle.shm_model.specs.Entry as model
 use Rattle.shm_model.specs.SegmentCalls.{of_segment}

@@ -8,7 +8,7 @@ pub mod NextLemmas
 pub mod GoneLemmas
 pub mod BookedLemmas
 pub mod EntryLemmas
-pub mod LineLemmas
+pub mod OrderedPagesLemmas
 pub mod Held
 pub mod Reaches
 pub mod Turned

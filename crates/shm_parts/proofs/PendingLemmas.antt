@@ -1,4 +1,4 @@
--- The words of a line over its pages, against those of the definitions over the requests that are pending.
+-- The words of pages in their order, against those of the definitions over the requests that are pending.
 use Rattle.std.proofs.Common.{◌≡◌, ℕ, Bool, true, false, cond, not, ◌&&◌, ◌||◌, ◌==◌, filter, List, [], ◌∷◌, map, Option, None, Some, refl, sym, ap, ◌∙◌}
 use Rattle.std.specs.Option.{option_map}
 use Rattle.std.specs.Map.{lookup, remove_entry}

@@ -6,7 +6,8 @@ use Rattle.shm_place.specs.declared.page.PageId.{PageId}
 use Rattle.shm_model.specs.declared.answer.Answer.TheVariants.{Took}
 use Rattle.shm_model.specs.declared.kind.Kind.{Kind}
 use Rattle.shm_model.specs.declared.kind.Kind.TheVariants.{Read, Write}
-use Rattle.shm_model.specs.Site.{dropped, Frames as ModelFrames, Site, at_page}
+use Rattle.shm_model.specs.Basics.{at_page}
+use Rattle.shm_model.specs.Site.{dropped, Frames as ModelFrames, Site}
 use Rattle.shm_model.specs.Calls.{Attachment}
 use Rattle.shm_model.specs.Entry as model
 use Rattle.shm_model.specs.Transfer.{arranged, drop_first, is_nothing, limited, sent_by, settle, to_entry, with_entry}

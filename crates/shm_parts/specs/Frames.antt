@@ -8,14 +8,14 @@ use Rattle.shm_model.specs.Transfer.{without_page}
 use Rattle.shm_parts.specs.declared.change.Change.{Change}
 use Rattle.shm_parts.specs.declared.frames.Frames.{Frames}
 
--- the pages in the line that are copies, where one may be that is not, but for which room was made
+-- the pages that are copies, among which one may stand that is not, but for which room was made
 abbrev pub counted : Option PageId → List PageId → List PageId
 counted None pages = pages
 counted (Some awaited) pages = without_page awaited pages
 
 -- the copies, the next to go first
 unfoldable pub copies_in : {A : Type 0} → Frames A → List PageId
-copies_in frames = counted frames.awaited (keys_of frames.line)
+copies_in frames = counted frames.awaited (keys_of frames.pages)
 
 abbrev pub frames_of : {A : Type 0} → Frames A → model.Frames
 frames_of frames = record { limit = frames.limit; copies = copies_in frames }
@@ -25,9 +25,9 @@ abbrev pub IsFor : PageId → Option PageId → Type 0
 IsFor page None = ⊤
 IsFor page (Some awaited) = awaited ≡ page
 
--- the page stands in the line, as a copy or where it will be one, and so takes no more memory
+-- the page stands there, as a copy or where it will be one, and so takes no more memory
 abbrev pub has_room : {A : Type 0} → PageId → Frames A → Type 0
-has_room page frames = IsFor page frames.awaited × (is_some (lookup (same_page page) frames.line) ≡ true)
+has_room page frames = IsFor page frames.awaited × (is_some (lookup (same_page page) frames.pages) ≡ true)
 
 -- the copies after a change at the page
 abbrev pub arranged_by : Change → PageId → List PageId → List PageId

@@ -9,7 +9,8 @@ use Rattle.shm_model.specs.declared.answer.State.{State}
 use Rattle.shm_model.specs.declared.answer.State.TheVariants as state
 use Rattle.shm_model.specs.declared.kind.Kind.TheVariants.{Read, Write}
 use Rattle.shm_model.specs.Access.{ask_for}
-use Rattle.shm_model.specs.Site.{Step, dropped, still, Frames as ModelFrames, Site, at_page, untouched}
+use Rattle.shm_model.specs.Basics.{at_page}
+use Rattle.shm_model.specs.Site.{Step, dropped, still, Frames as ModelFrames, Site, untouched}
 use Rattle.shm_model.specs.Entry as model
 use Rattle.shm_model.specs.Transfer.{is_nothing, sent_by, settle}
 use Rattle.shm_attach.specs.Attachments.{attachments_of}

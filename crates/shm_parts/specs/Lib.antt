@@ -10,4 +10,4 @@ pub mod Books
 pub mod Holdings
 pub mod Reach
 pub mod Entries
-pub mod Line
+pub mod OrderedPages

@@ -11,7 +11,7 @@ abbrev pub pending_of : PageId × (ℕ × Kind) → Pending
 pending_of entry = record { page = entry.0; request = entry.1.0; kind = entry.1.1 }
 
 abbrev pub pendings_of : {A : Type 0} → Pendings A → List Pending
-pendings_of pendings = map pending_of pendings.line
+pendings_of pendings = map pending_of pendings.pages
 
 abbrev pub settled_by : Bool → Bool → Option Pending → Bool
 settled_by reads writes None = false

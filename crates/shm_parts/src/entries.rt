@@ -6,7 +6,8 @@ ghost use Rattle.shm_place.specs.Limits.{page_bytes};
 ghost use Rattle.shm_place.specs.Page.{same_page};
 ghost use Rattle.shm_model.specs.Access.{stored_entry};
 ghost use Rattle.shm_model.specs.Entry as model;
-ghost use Rattle.shm_model.specs.Site.{at_page, untouched};
+ghost use Rattle.shm_model.specs.Basics.{at_page};
+ghost use Rattle.shm_model.specs.Site.{untouched};
 ghost use Rattle.shm_page.specs.Out.{out_of};
 
 use crate::change::Change;

@@ -3,7 +3,7 @@ ghost use Rattle.std.specs.Prelude.{◌≡◌, [], None, IfOk, OnOk};
 ghost use Rattle.shm_model.specs.SegmentCalls.{without_segment};
 
 use crate::change::Change;
-use crate::line::Line;
+use crate::ordered_pages::OrderedPages;
 use shm_place::{PageId, SegId};
 use std::alloc::{AllocError, Allocator, Global};
 
@@ -12,8 +12,8 @@ use std::alloc::{AllocError, Allocator, Global};
 pub struct Frames<A: Allocator + Copy = Global> {
     pub(crate) limit: u32,
     /// The copies in their order, and the page for which room was made.
-    pub(crate) line: Line<(), A>,
-    /// The page for which room was made: it stands in the line, and is no copy yet.
+    pub(crate) pages: OrderedPages<(), A>,
+    /// The page for which room was made: it stands among the copies, and is none yet.
     pub(crate) awaited: Option<PageId>,
 }
 
@@ -27,7 +27,7 @@ impl<A: Allocator + Copy> Frames<A> {
     {
         Frames {
             limit,
-            line: Line::new(alloc),
+            pages: OrderedPages::new(alloc),
             awaited: None,
         }
     }
@@ -38,10 +38,10 @@ impl<A: Allocator + Copy> Frames<A> {
         ensures room { OnOk result (has_room page.now self.new) }
     {
         self.let_go();
-        if self.line.contains(page) {
+        if self.pages.contains(page) {
             return Ok(());
         }
-        self.line.put(*page, ())?;
+        self.pages.put(*page, ())?;
         self.awaited = Some(*page);
         Ok(())
     }
@@ -54,7 +54,7 @@ impl<A: Allocator + Copy> Frames<A> {
         let Some(page) = &self.awaited else {
             return;
         };
-        self.line.remove(page);
+        self.pages.remove(page);
         self.awaited = None;
     }
 
@@ -64,12 +64,12 @@ impl<A: Allocator + Copy> Frames<A> {
         ensures { frames_of self.new ≡ record (frames_of self.old) { copies = arranged_by change page (frames_of self.old).copies } }
     {
         if !change.copy {
-            self.line.remove(&page);
+            self.pages.remove(&page);
             self.awaited = None;
             return;
         }
         if change.newer {
-            self.line.move_last(&page);
+            self.pages.move_last(&page);
             self.awaited = None;
         }
     }
@@ -80,10 +80,10 @@ impl<A: Allocator + Copy> Frames<A> {
         ensures { (result, frames_of self.new) ≡ overflowed (frames_of self.old) }
     {
         self.let_go();
-        if self.line.len() <= self.limit as usize {
+        if self.pages.len() <= self.limit as usize {
             return None;
         }
-        self.line.pop_first()
+        self.pages.pop_first()
     }
 
     /// Forgets the copies of a segment's pages.
@@ -91,7 +91,7 @@ impl<A: Allocator + Copy> Frames<A> {
         ensures { frames_of self.new ≡ record (frames_of self.old) { copies = without_segment id (frames_of self.old).copies } }
     {
         self.let_go();
-        self.line.remove_segment(id);
+        self.pages.remove_segment(id);
     }
 
     /// An equal limit, and equal copies in equal order.
@@ -99,10 +99,10 @@ impl<A: Allocator + Copy> Frames<A> {
     pub fn copy(&self) -> Result<Frames<A>, AllocError>
         ensures { IfOk result (λ copy. frames_of copy ≡ frames_of self.now) }
     {
-        let line = self.line.copy()?;
+        let pages = self.pages.copy()?;
         Ok(Frames {
             limit: self.limit,
-            line,
+            pages,
             awaited: self.awaited,
         })
     }

@@ -4,8 +4,8 @@ ghost use Rattle.shm_model.specs.Access.{is_pending, put_pending};
 ghost use Rattle.shm_model.specs.Book as model;
 ghost use Rattle.shm_model.specs.Transfer.{settle};
 
-use crate::line::Line;
-use crate::line_pages::LinePages;
+use crate::ordered_pages::OrderedPages;
+use crate::pages_in_order::PagesInOrder;
 use shm_model::Kind;
 use shm_place::{PageId, SegId};
 use std::alloc::{AllocError, Allocator, Global};
@@ -17,7 +17,7 @@ use std::alloc::{AllocError, Allocator, Global};
 /// them, what is pending. `len` and `is_empty` count nothing.
 #[derive(Drop)]
 pub struct Pendings<A: Allocator + Copy = Global> {
-    pub(crate) line: Line<(u64, Kind), A>,
+    pub(crate) pages: OrderedPages<(u64, Kind), A>,
 }
 
 fn is_write(kind: Kind) -> bool
@@ -34,7 +34,7 @@ impl<A: Allocator + Copy> Pendings<A> {
         ensures { pendings_of result ≡ [] }
     {
         Pendings {
-            line: Line::new(alloc),
+            pages: OrderedPages::new(alloc),
         }
     }
 
@@ -42,7 +42,7 @@ impl<A: Allocator + Copy> Pendings<A> {
     pub fn serves(&self, kind: Kind, page: PageId) -> bool
         ensures { result ≡ is_pending kind page (pendings_of self.now) }
     {
-        match self.line.get(&page) {
+        match self.pages.get(&page) {
             Some(pending) => is_write(pending.1) || !is_write(kind),
             None => false,
         }
@@ -53,7 +53,7 @@ impl<A: Allocator + Copy> Pendings<A> {
         ensures put { OnOk result (pendings_of self.new ≡ put_pending (record { page = page; request = request; kind = kind }) (pendings_of self.old)) }
         ensures refused { OnErr result (pendings_of self.new ≡ pendings_of self.old) }
     {
-        self.line.put(page, (request, kind))
+        self.pages.put(page, (request, kind))
     }
 
     /// Drops the page's request where a right has come that serves it: the right to read serves a request to read, the right to
@@ -62,7 +62,7 @@ impl<A: Allocator + Copy> Pendings<A> {
         ensures { pendings_of self.new ≡ settle reads writes page (pendings_of self.old) }
     {
         if self.is_settled(reads, writes, page) {
-            self.line.remove(&page);
+            self.pages.remove(&page);
         }
     }
 
@@ -70,7 +70,7 @@ impl<A: Allocator + Copy> Pendings<A> {
     fn is_settled(&self, reads: bool, writes: bool, page: PageId) -> bool
         ensures { result ≡ settles reads writes page (pendings_of self.now) }
     {
-        match self.line.get(&page) {
+        match self.pages.get(&page) {
             Some(pending) => writes || (reads && !is_write(pending.1)),
             None => false,
         }
@@ -80,42 +80,42 @@ impl<A: Allocator + Copy> Pendings<A> {
     pub fn remove_segment(&mut self, id: SegId)
         ensures { pendings_of self.new ≡ filter (λ p. not (id == p.page.seg)) (pendings_of self.old) }
     {
-        self.line.remove_segment(id);
+        self.pages.remove_segment(id);
     }
 
     /// Drops all requests.
     pub fn clear(&mut self)
         ensures { pendings_of self.new ≡ [] }
     {
-        self.line.clear();
+        self.pages.clear();
     }
 
     /// How many requests are pending.
     pub fn len(&self) -> usize
         ensures { result ≡ length (pendings_of self.now) }
     {
-        self.line.len()
+        self.pages.len()
     }
 
     /// Whether no request is pending.
     pub fn is_empty(&self) -> bool
         ensures { result ≡ (length (pendings_of self.now) == 0) }
     {
-        self.line.len() == 0
+        self.pages.len() == 0
     }
 
     /// The requests in their order, each as its page, its number and what it asks for.
-    pub fn iter(&self) -> LinePages<'_, (u64, Kind)>
+    pub fn iter(&self) -> PagesInOrder<'_, (u64, Kind)>
         ensures { map pending_of result ≡ pendings_of self.now }
     {
-        self.line.iter()
+        self.pages.iter()
     }
 
     /// Equal requests in equal order.
     pub fn copy(&self) -> Result<Pendings<A>, AllocError>
         ensures { IfOk result (λ copy. pendings_of copy ≡ pendings_of self.now) }
     {
-        let line = self.line.copy()?;
-        Ok(Pendings { line })
+        let pages = self.pages.copy()?;
+        Ok(Pendings { pages })
     }
 }

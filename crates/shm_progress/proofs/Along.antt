@@ -2,8 +2,8 @@
 use Rattle.std.proofs.Common.{◌≡◌, false, List, [], ◌∷◌, ◌++◌, append_assoc, append-nil, sym, ◌∙◌, ap, subst}
 use Rattle.shm_model.specs.declared.event.Event.{Event}
 use Rattle.shm_model.specs.World.{Opening, Run, World, begun, extended, is_full, next, run, run_on}
-use Rattle.shm_laws.proofs.PageOrders.{Each}
-use Rattle.shm_laws.proofs.RunsOn.{run_on-append}
+use Rattle.shm_laws.proofs.Page.Orders.{Each}
+use Rattle.shm_laws.proofs.Run.GoesOn.{run_on-append}
 use Rattle.shm_progress.specs.OnTheWay.{NothingLost, is_loss}
 use Rattle.shm_progress.proofs.OnTheWay.{free-before}
 

@@ -11,8 +11,8 @@ use Rattle.shm_model.specs.Message.{Envelope, Input, Load, Store, Begin, Deliver
 use Rattle.shm_model.specs.Site.{Site}
 use Rattle.shm_model.specs.Step.{step}
 use Rattle.shm_model.specs.World.{Next, Opening, Run, World, begun, deliver, extended, hand_over, is_full, live, lose, next, run, run_on, step_site, stepped, without}
-use Rattle.shm_laws.proofs.RunInduction.{IsHonest}
-use Rattle.shm_laws.proofs.LogsLists.{slice_get-append_left, slice_get-append_right}
+use Rattle.shm_laws.proofs.Run.Induction.{IsHonest}
+use Rattle.shm_laws.proofs.Log.Lists.{slice_get-append_left, slice_get-append_right}
 use Rattle.shm_progress.specs.OnTheWay.{IsOnItsWay, is_loss}
 
 -- what goes with a site's step is what it is handed

@@ -5,7 +5,7 @@ use Rattle.shm_model.specs.declared.event.Event.{Event}
 use Rattle.shm_model.specs.declared.event.Event.TheVariants.{Tick}
 use Rattle.shm_model.specs.Site.{Site}
 use Rattle.shm_model.specs.World.{IsOpening, Opening, World, is_full, run, sites_of}
-use Rattle.shm_laws.proofs.RunInduction.{run-shape}
+use Rattle.shm_laws.proofs.Run.Induction.{run-shape}
 use Rattle.shm_progress.specs.Deliveries.{IsAtRest}
 use Rattle.shm_progress.specs.OnTheWay.{NothingLost, world_since}
 use Rattle.shm_progress.specs.Rounds.{AllTick, Settled}

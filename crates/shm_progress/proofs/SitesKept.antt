@@ -9,8 +9,8 @@ use Rattle.shm_model.specs.Message.{Input}
 use Rattle.shm_model.specs.Site.{Site}
 use Rattle.shm_model.specs.Step.{step}
 use Rattle.shm_model.specs.World.{Opening, World, begun, opened_site, run, sites_of}
-use Rattle.shm_laws.proofs.RunInduction.{Kept, run-good}
-use Rattle.shm_laws.proofs.RunsOn.{slice_get-range}
+use Rattle.shm_laws.proofs.Run.Induction.{Kept, run-good}
+use Rattle.shm_laws.proofs.Run.GoesOn.{slice_get-range}
 use Rattle.shm_laws.proofs.Sound.{set-here, set-there}
 
 some-same : (x y : Site) → Some x ≡ Some y → x ≡ y

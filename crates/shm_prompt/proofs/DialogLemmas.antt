@@ -6,13 +6,13 @@ use Rattle.shm_lines.specs.declared.line.Line.{Line}
 use Rattle.shm_lines.specs.declared.line.Line.TheVariants as line
 use Rattle.shm_debug.specs.Text.{line_text}
 use Rattle.shm_debug.specs.Said.{next}
-use Rattle.shm_debug.specs.Standing.{Standing, stood, with_event}
+use Rattle.shm_debug.specs.Standing.{Standing, with_event, world_of}
 use Rattle.shm_prompt.specs.Running.{IsQuiet}
-use Rattle.shm_prompt.specs.Dialog.{answered, told, not_begun, delivered, told_of_deliveries, Deliveries, Ran, run_end}
+use Rattle.shm_prompt.specs.Dialog.{answered, said_to, not_begun, delivered, told_of_deliveries, Deliveries, Ran, run_end}
 
 -- ---- lines
 
-pub told-first : (s : Option Standing) (l : Line) → is_first l ≡ true → told s l ≡ line_text 1 (codes "ready")
+pub told-first : (s : Option Standing) (l : Line) → is_first l ≡ true → said_to s l ≡ line_text 1 (codes "ready")
 told-first s (line.Sites opening) h = refl
 told-first s (line.Event e) h = absurd (cc)
 told-first s (line.Show page) h = absurd (cc)
@@ -24,7 +24,7 @@ next-first s (line.Event e) h = absurd (cc)
 next-first s (line.Show page) h = absurd (cc)
 next-first s (line.Back n) h = absurd (cc)
 
-pub told-none : (l : Line) → is_first l ≡ false → told None l ≡ not_begun
+pub told-none : (l : Line) → is_first l ≡ false → said_to None l ≡ not_begun
 told-none (line.Sites opening) h = absurd (cc)
 told-none (line.Event e) h = refl
 told-none (line.Show page) h = refl
@@ -36,7 +36,7 @@ next-none (line.Event e) h = refl
 next-none (line.Show page) h = refl
 next-none (line.Back n) h = refl
 
-pub told-some : (s : Standing) (l : Line) → told (Some s) l ≡ answered (Some s) l
+pub told-some : (s : Standing) (l : Line) → said_to (Some s) l ≡ answered (Some s) l
 told-some s (line.Sites opening) = refl
 told-some s (line.Event e) = refl
 told-some s (line.Show page) = refl
@@ -78,5 +78,5 @@ pub delivered_within : (n most : ℕ) (s t : Standing) (old new : List ℕ) → 
 delivered_within n most s t old new below h = record { numbers = h.numbers; within = omega (arith, below, h.within); stands = h.stands; told = h.told }
 
 pub ran : (most : ℕ) (s t : Standing) (old out new : List ℕ) (quiet : Bool) → Deliveries most s t old out → new ≡ out ++ run_end most quiet
-    → (quiet ≡ true → IsQuiet (stood t)) → Ran most s t old new
+    → (quiet ≡ true → IsQuiet (world_of t)) → Ran most s t old new
 ran most s t old out new quiet d told none = record { before_end = out; deliveries = d; quiet = quiet; told = told; none_left = none }

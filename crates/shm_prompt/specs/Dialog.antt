@@ -6,7 +6,7 @@ use Rattle.shm_lines.specs.declared.line.Line.{Line}
 use Rattle.shm_lines.specs.declared.line.Line.TheVariants as line
 use Rattle.shm_debug.specs.Text.{line_text}
 use Rattle.shm_debug.specs.Said.{next, said, said_to_event}
-use Rattle.shm_debug.specs.Standing.{Standing, stood, with_event}
+use Rattle.shm_debug.specs.Standing.{Standing, with_event, world_of}
 use Rattle.shm_prompt.specs.declared.command.Command.{Command}
 use Rattle.shm_prompt.specs.declared.command.Command.TheVariants as command
 use Rattle.shm_prompt.specs.Running.{IsQuiet}
@@ -24,15 +24,15 @@ not_begun = codes "no sites stand yet: begin with a line as sites 2 preset 1\n"
 abbrev pub answered : Option Standing → Line → List ℕ
 answered s l = line_text (last_line (next s l)) (said s l)
 
--- what is told to a line of a script
-abbrev pub told : Option Standing → Line → List ℕ
-told s (line.Sites opening) = answered s (line.Sites opening)
-told None (line.Event e) = not_begun
-told None (line.Show page) = not_begun
-told None (line.Back n) = not_begun
-told (Some s) (line.Event e) = answered (Some s) (line.Event e)
-told (Some s) (line.Show page) = answered (Some s) (line.Show page)
-told (Some s) (line.Back n) = answered (Some s) (line.Back n)
+-- what is said to a line of a script
+abbrev pub said_to : Option Standing → Line → List ℕ
+said_to s (line.Sites opening) = answered s (line.Sites opening)
+said_to None (line.Event e) = not_begun
+said_to None (line.Show page) = not_begun
+said_to None (line.Back n) = not_begun
+said_to (Some s) (line.Event e) = answered (Some s) (line.Event e)
+said_to (Some s) (line.Show page) = answered (Some s) (line.Show page)
+said_to (Some s) (line.Back n) = answered (Some s) (line.Back n)
 
 -- ---- `run`: deliveries and nothing else
 
@@ -64,7 +64,7 @@ pub record Ran (most : ℕ) (s t : Standing) (old new : List ℕ) : Type 0 where
   pub deliveries : Deliveries most s t old before_end
   pub quiet : Bool
   pub told : new ≡ before_end ++ run_end most quiet
-  pub none_left : quiet ≡ true → IsQuiet (stood t)
+  pub none_left : quiet ≡ true → IsQuiet (world_of t)
 
 abbrev pub Runs : ℕ → Option Standing → Option Standing → List ℕ → List ℕ → Type 0
 Runs most None new text text' = (new ≡ None) × (text' ≡ text ++ not_begun)
@@ -74,8 +74,8 @@ Runs most (Some s) (Some t) text text' = Ran most s t text text'
 -- ---- what a command makes of what stands, and what it tells: only a script's line, `undo` and `run` change it, and `undo` is `back 1`;
 -- of what the tables tell nothing is said
 abbrev pub Obeyed : Option Standing → Command → Option Standing → List ℕ → List ℕ → Type 0
-Obeyed old (command.Line l) new text text' = (new ≡ next old l) × (text' ≡ text ++ told old l)
-Obeyed old command.Undo new text text' = (new ≡ next old (line.Back 1)) × (text' ≡ text ++ told old (line.Back 1))
+Obeyed old (command.Line l) new text text' = (new ≡ next old l) × (text' ≡ text ++ said_to old l)
+Obeyed old command.Undo new text text' = (new ≡ next old (line.Back 1)) × (text' ≡ text ++ said_to old (line.Back 1))
 Obeyed old (command.Run most) new text text' = Runs most old new text text'
 Obeyed old command.Flight new text text' = new ≡ old
 Obeyed old command.Sites new text text' = new ≡ old

@@ -4,7 +4,7 @@ ghost use Rattle.shm_lines.specs.Spelling.{IsLine};
 ghost use Rattle.shm_lines.specs.declared.line.Line.TheVariants as line;
 ghost use Rattle.shm_debug.specs.Said.{next, next_back};
 ghost use Rattle.shm_debug.specs.Standing.{with_event};
-ghost use Rattle.shm_prompt.specs.Dialog.{answered, told};
+ghost use Rattle.shm_prompt.specs.Dialog.{answered, said_to};
 
 use crate::dialog::Dialog;
 use crate::telling::{last_line, tell_line};
@@ -21,7 +21,7 @@ impl<A: Allocator + Copy> Dialog<A> {
     /// Acts on a line of a script. A `sites` line begins anew.
     pub fn act(&mut self, line: Line, out: &mut Vec<u8, A>) -> Result<(), AllocError>
         requires { IsLine line }
-        ensures told { OnOk result (out.new.items ≡ out.old.items ++ told self.old line) }
+        ensures told { OnOk result (out.new.items ≡ out.old.items ++ said_to self.old line) }
         ensures next { OnOk result (self.new ≡ next self.old line) }
     {
         act_on(&mut self.session, self.alloc, line, out)
@@ -35,7 +35,7 @@ fn act_on<A: Allocator + Copy>(
     out: &mut Vec<u8, A>,
 ) -> Result<(), AllocError>
     requires { IsLine line }
-    ensures told { OnOk result (out.new.items ≡ out.old.items ++ told session.old line) }
+    ensures told { OnOk result (out.new.items ≡ out.old.items ++ said_to session.old line) }
     ensures next { OnOk result (session.new ≡ next session.old line) }
 {
     match line {
@@ -63,7 +63,7 @@ fn begin<A: Allocator + Copy>(
     out: &mut Vec<u8, A>,
 ) -> Result<(), AllocError>
     requires { IsLine (line.Sites opening) }
-    ensures told { OnOk result (out.new.items ≡ out.old.items ++ told session.old (line.Sites opening)) }
+    ensures told { OnOk result (out.new.items ≡ out.old.items ++ said_to session.old (line.Sites opening)) }
     ensures next { OnOk result (session.new ≡ next session.old (line.Sites opening)) }
 {
     let opened = Session::new(alloc, opening)?;

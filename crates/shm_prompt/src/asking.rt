@@ -45,7 +45,7 @@ pub fn prompt<A: Allocator + Copy, R: Read, W: Write, S: SaveFile>(
         if count == 0 {
             return Ok(());
         }
-        match typed.take(&chunk[..count], files, &mut out) {
+        match typed.feed(&chunk[..count], files, &mut out) {
             Ok(()) => {}
             Err(_) => return Err(PromptFault::OutOfMemory),
         }

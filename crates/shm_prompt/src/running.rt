@@ -1,6 +1,6 @@
 //! `run`: the oldest envelope is delivered, again and again.
 ghost use Rattle.std.specs.Prelude.{◌≡◌, true, IfOk, OnOk};
-ghost use Rattle.shm_debug.specs.Standing.{stood};
+ghost use Rattle.shm_debug.specs.Standing.{world_of};
 ghost use Rattle.shm_prompt.specs.Dialog.{Deliveries};
 ghost use Rattle.shm_prompt.specs.Running.{IsQuiet};
 
@@ -18,7 +18,7 @@ pub(crate) fn deliver_all<A: Allocator + Copy>(
     out: &mut Vec<u8, A>,
 ) -> Result<bool, AllocError>
     ensures delivers { OnOk result (Deliveries most session.old session.new out.old.items out.new.items) }
-    ensures quiet { IfOk result (λ quiet. quiet ≡ true → IsQuiet (stood session.new)) }
+    ensures quiet { IfOk result (λ quiet. quiet ≡ true → IsQuiet (world_of session.new)) }
 {
     let mut from = 0;
     'deliveries: for _turn in 0..most {

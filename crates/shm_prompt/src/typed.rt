@@ -34,7 +34,7 @@ impl<A: Allocator + Copy> Typed<A> {
     }
 
     /// Takes the bytes on, and does what the lines say that they end.
-    pub(crate) fn take<S: SaveFile>(
+    pub(crate) fn feed<S: SaveFile>(
         &mut self,
         bytes: &[u8],
         files: &mut S,

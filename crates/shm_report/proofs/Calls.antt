@@ -5,7 +5,6 @@ use Rattle.std.specs.List.{AllZip, filter}
 use Rattle.std.proofs.lemmas.List.{append-nil, take_more}
 use Rattle.std.proofs.lemmas.List.Elements.{filter-append}
 use Rattle.shm_sites.specs.declared.boxes.receipt.Receipt.{Receipt}
-use Rattle.shm_lines.specs.Access.{site_of}
 use Rattle.shm_lines.specs.declared.access.Access.{Access}
 use Rattle.shm_report.specs.Callers.{Adds, Serves, ServesAll}
 
@@ -39,4 +38,4 @@ one_call site accesses place access old new in' read before adds =
     let more : take (place + 1) accesses ≡ take place accesses ++ access ∷ [] =
     take_more accesses place access in' ∙ ap (λ a. take place accesses ++ a ∷ []) (sym read) in
     let P : List Access → Type 0 = λ xs. ServesAll site xs new in
-    subst P (sym more) (with_one (λ a. site_of a == site) (take place accesses) access old new (site_of access == site) refl before adds)
+    subst P (sym more) (with_one (λ (a : Access). a.site == site) (take place accesses) access old new (access.site == site) refl before adds)

@@ -9,7 +9,6 @@ use Rattle.std.proofs.lemmas.Option.{get_or_from_slice_get, none-some, slice_get
 use Rattle.shm_sites.specs.declared.boxes.receipt.Receipt.{Receipt}
 use Rattle.shm_report.specs.Callers.{AllServed, Serves, ServesAll}
 use Rattle.shm_debug.specs.Text.{line_text}
-use Rattle.shm_lines.specs.Access.{site_of}
 use Rattle.shm_lines.specs.declared.access.Access.{Access}
 use Rattle.shm_report.proofs.Lines.{answers_text-push, one_line}
 use Rattle.shm_report.specs.Report.{answers_text, earlier, lines_text, TellsLines, TellsReceipt, HasReceipt, IsReceiptOf}
@@ -54,10 +53,10 @@ own_site s = grind (arith, nat_tests)
 -- where all were served, the receipt behind so many tells of the line behind so many
 own_receipt : {A : Type 0} (accesses : List Access) (callers : List (Vec Receipt A)) (place : ℕ) (access : Access) (receipt : Receipt)
     → AllServed (length callers) accesses callers → slice_get accesses place ≡ Some access
-    → HasReceipt callers (site_of access) (earlier (site_of access) accesses place) receipt → Serves access receipt
+    → HasReceipt callers access.site (earlier access.site accesses place) receipt → Serves access receipt
 own_receipt accesses callers place access receipt served made told =
-    let site = site_of access in
-    let test : Access → Bool = λ a. site_of a == site in
+    let site = access.site in
+    let test : Access → Bool = λ a. a.site == site in
     let below : site < length callers = slice_get_within callers site told.caller told.own in
     let all : ServesAll site accesses told.caller.items =
     subst (λ caller. ServesAll site accesses caller.items) (get_or_from_slice_get callers site told.caller told.caller told.own) (served.each site told.caller below) in
@@ -87,31 +86,31 @@ none_found accesses callers found sites zeros = record {
   of_site = λ site below. zeros site;
 }
 
-count_more : (found : List ℕ) (accesses : List Access) (place : ℕ) (access : Access) (site : ℕ) (own : Bool) → (site_of access == site) ≡ own
-    → site_of access < length found → slice_index found site ≡ earlier site accesses place
+count_more : (found : List ℕ) (accesses : List Access) (place : ℕ) (access : Access) (site : ℕ) (own : Bool) → (access.site == site) ≡ own
+    → access.site < length found → slice_index found site ≡ earlier site accesses place
     → earlier site accesses (place + 1) ≡ earlier site accesses place + cond own 1 0
-    → slice_index (slice_set found (site_of access) (slice_index found (site_of access) + 1)) site ≡ earlier site accesses (place + 1)
+    → slice_index (slice_set found access.site (slice_index found access.site + 1)) site ≡ earlier site accesses (place + 1)
 count_more found accesses place access site true is below before more =
-    let same : site_of access ≡ site = grind (arith, nat_tests) in
-    subst (λ s. slice_index (slice_set found (site_of access) (slice_index found (site_of access) + 1)) s ≡ earlier site accesses (place + 1)) same
-    (get_or-set_same found (site_of access) (slice_index found (site_of access) + 1) 0 below
+    let same : access.site ≡ site = grind (arith, nat_tests) in
+    subst (λ s. slice_index (slice_set found access.site (slice_index found access.site + 1)) s ≡ earlier site accesses (place + 1)) same
+    (get_or-set_same found access.site (slice_index found access.site + 1) 0 below
     ∙ omega (arith, more, before, ap (slice_index found) same))
 count_more found accesses place access site false is below before more =
-    let other : site ≡ site_of access → ⊥ = λ e. grind (arith, nat_tests) in
-    get_or-set_other found (site_of access) site (slice_index found (site_of access) + 1) 0 other ∙ omega (arith, more, before)
+    let other : site ≡ access.site → ⊥ = λ e. grind (arith, nat_tests) in
+    get_or-set_other found access.site site (slice_index found access.site + 1) 0 other ∙ omega (arith, more, before)
 
 one_found : {A : Type 0} (accesses : List Access) (callers : List (Vec Receipt A)) (found : List ℕ) (receipts : List Receipt) (place : ℕ) (access : Access) (receipt : Receipt)
     → AllServed (length callers) accesses callers → place < length accesses → access ≡ get_or accesses place access → AreFound accesses callers found receipts place
-    → site_of access < length found → HasReceipt callers (site_of access) (slice_index found (site_of access)) receipt
-    → AreFound accesses callers (slice_set found (site_of access) (slice_index found (site_of access) + 1)) (receipts ++ receipt ∷ []) (place + 1)
+    → access.site < length found → HasReceipt callers access.site (slice_index found access.site) receipt
+    → AreFound accesses callers (slice_set found access.site (slice_index found access.site + 1)) (receipts ++ receipt ∷ []) (place + 1)
 one_found accesses callers found receipts place access receipt served in' read before below told =
     let made : slice_get accesses place ≡ Some access = slice_get_read accesses (length accesses) place access refl in' read in
-    let told' : HasReceipt callers (site_of access) (earlier (site_of access) accesses place) receipt =
-    subst (λ n. HasReceipt callers (site_of access) n receipt) (before.of_site (site_of access) (omega (arith, before.sites))) told in
+    let told' : HasReceipt callers access.site (earlier access.site accesses place) receipt =
+    subst (λ n. HasReceipt callers access.site n receipt) (before.of_site access.site (omega (arith, before.sites))) told in
     let this : IsReceiptOf accesses callers place receipt =
     record { access = access; made = made; told = told'; serves = own_receipt accesses callers place access receipt served made told' } in
     record {
-      sites = length-set found (site_of access) (slice_index found (site_of access) + 1) ∙ before.sites;
+      sites = length-set found access.site (slice_index found access.site + 1) ∙ before.sites;
       count = omega (arith, length-append receipts (receipt ∷ []), before.count);
       each = λ k r at.
           elim (at_end receipts receipt k r at) [
@@ -119,8 +118,8 @@ one_found accesses callers found receipts place access receipt served in' read b
             | inr h ↦ subst (λ n. IsReceiptOf accesses callers n r) (sym (h.0 ∙ before.count)) (subst (IsReceiptOf accesses callers place) h.1 this)
           ];
       of_site = λ site few.
-          count_more found accesses place access site (site_of access == site) refl below (before.of_site site few)
-          (length-filter_more (λ a. site_of a == site) accesses place access in' ∙ ap (λ a. earlier site accesses place + cond (site_of a == site) 1 0) (sym read));
+          count_more found accesses place access site (access.site == site) refl below (before.of_site site few)
+          (length-filter_more (λ (a : Access). a.site == site) accesses place access in' ∙ ap (λ (a : Access). earlier site accesses place + cond (a.site == site) 1 0) (sym read));
     }
 
 no_count : (n site : ℕ) → slice_index (replicate n 0) site ≡ 0
@@ -135,8 +134,8 @@ none_told accesses callers empty text none ready =
 
 pub one_told : {A : Type 0} (accesses : List Access) (callers : List (Vec Receipt A)) (told_of told_of' text text' : List ℕ) (place number : ℕ) (access : Access)
     → AllServed (length callers) accesses callers → place < length accesses → access ≡ get_or accesses place access → AreTold accesses callers told_of text place
-    → number ≡ place + 2 → site_of access < length told_of → TellsReceipt callers (site_of access) (slice_index told_of (site_of access)) number text text'
-    → told_of' ≡ slice_set told_of (site_of access) (slice_index told_of (site_of access) + 1) → AreTold accesses callers told_of' text' (place + 1)
+    → number ≡ place + 2 → access.site < length told_of → TellsReceipt callers access.site (slice_index told_of access.site) number text text'
+    → told_of' ≡ slice_set told_of access.site (slice_index told_of access.site + 1) → AreTold accesses callers told_of' text' (place + 1)
 one_told accesses callers told_of told_of' text text' place number access served in' read before next below (receipt, found, told) more =
     let ready = line_text 1 (codes "ready") in
     let now = one_found accesses callers told_of before.receipts place access receipt served in' read before.found below found in

@@ -1,26 +1,19 @@
 -- What the caller of a site does of a workload, and what it is told.
 use Rattle.std.specs.Prelude.{◌≡◌, ℕ, ◌<◌, ◌==◌, List, [], ◌∷◌, ◌++◌, Result, Vec, IfErr, IfOk, MatchBool, length, slice_index_or}
 use Rattle.std.specs.List.{AllZip, filter}
-use Rattle.shm_model.specs.Message.{Input, Load as LoadInput, Store as StoreInput}
+use Rattle.shm_model.specs.Receipt.{access_of}
 use Rattle.shm_sites.specs.declared.boxes.receipt.Receipt.{Receipt}
 use Rattle.shm_sites.specs.Cluster.Client.{IsServed, TellsOf}
 use Rattle.shm_report.specs.declared.run_fault.CallFault.{CallFault}
-use Rattle.shm_lines.specs.Access.{site_of}
 use Rattle.shm_lines.specs.declared.access.Access.{Access}
-use Rattle.shm_lines.specs.declared.access.Access.TheVariants.{Load, Store}
-
--- the access as a site's input: through attachment 0
-abbrev pub input_of : Access → Input
-input_of (Load site offset) = LoadInput 0 offset
-input_of (Store site offset byte) = StoreInput 0 offset byte
 
 -- a site's lines, in their order
 abbrev pub lines_of : ℕ → List Access → List Access
-lines_of site accesses = filter (λ access. site_of access == site) accesses
+lines_of site accesses = filter (λ (access : Access). access.site == site) accesses
 
 -- the step was this access, at its site, and the site had the right to it
 abbrev pub Serves : Access → Receipt → Type 0
-Serves access receipt = TellsOf (site_of access) (input_of access) receipt × IsServed receipt
+Serves access receipt = TellsOf access.site (access_of access.asked) receipt × IsServed receipt
 
 -- a receipt for each of the site's lines, in their order
 abbrev pub ServesAll : ℕ → List Access → List Receipt → Type 0
@@ -29,7 +22,7 @@ ServesAll site accesses receipts = AllZip Serves (lines_of site accesses) receip
 -- the receipt of this access is added where it is the site's
 abbrev pub Adds : ℕ → Access → List Receipt → List Receipt → Type 0
 Adds site access old new =
-    MatchBool (site_of access == site) ((receipt : Receipt) × (new ≡ old ++ receipt ∷ []) × Serves access receipt) (new ≡ old)
+    MatchBool (access.site == site) ((receipt : Receipt) × (new ≡ old ++ receipt ∷ []) × Serves access receipt) (new ≡ old)
 
 -- what the callers of so many sites were told, each at its site's number: a receipt for each of the site's lines, unless a fault ended it
 -- at one of the accesses

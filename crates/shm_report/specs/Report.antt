@@ -13,7 +13,6 @@ use Rattle.shm_model.specs.World.{Preset}
 use Rattle.shm_report.specs.Callers.{AllServed, Serves, lines_of}
 use Rattle.shm_report.specs.Counts.{counts_of, summary_text}
 use Rattle.shm_debug.specs.Text.{answer_text, line_text}
-use Rattle.shm_lines.specs.Access.{site_of}
 use Rattle.shm_lines.specs.Workload.{Whole, workload_of}
 use Rattle.shm_lines.specs.declared.access.Access.{Access}
 use Rattle.shm_lines.specs.declared.workload.Workload.{Workload}
@@ -33,7 +32,7 @@ pub record HasReceipt {A : Type 0} (callers : List (Vec Receipt A)) (site place 
 pub record IsReceiptOf {A : Type 0} (accesses : List Access) (callers : List (Vec Receipt A)) (place : ℕ) (receipt : Receipt) : Type 0 where
   pub access : Access
   pub made : slice_get accesses place ≡ Some access
-  pub told : HasReceipt callers (site_of access) (earlier (site_of access) accesses place) receipt
+  pub told : HasReceipt callers access.site (earlier access.site accesses place) receipt
   pub serves : Serves access receipt
 
 -- for each access its receipt, in the order of the lines

@@ -1,7 +1,6 @@
 //! The caller of one site.
-ghost use Rattle.std.specs.Prelude.{◌≡◌, ◌<◌, length, IfErr, IfOk, OnOk};
-ghost use Rattle.shm_sites.specs.Cluster.Client.{IsServed, TellsOf};
-ghost use Rattle.shm_report.specs.Callers.{Adds, ServesAll, input_of};
+ghost use Rattle.std.specs.Prelude.{◌<◌, length, IfErr, IfOk, OnOk};
+ghost use Rattle.shm_report.specs.Callers.{Adds, ServesAll};
 
 use crate::run_fault::CallFault;
 use shm_lines::Access;
@@ -38,27 +37,17 @@ fn add<R: Wait>(
 ) -> Result<(), ClientFault>
     ensures { OnOk result (Adds client.now.site access.now receipts.old.items receipts.new.items) }
 {
-    if access.site() != client.site() {
+    if access.site != client.site() {
         return Ok(());
     }
     if receipts.reserve(1).is_err() {
         return Err(ClientFault::OutOfMemory);
     }
-    match serve(rt, client, access) {
+    match client.serve(rt, access.asked) {
         Ok(receipt) => {
             receipts.push_reserved(receipt);
             Ok(())
         }
         Err(fault) => Err(fault),
-    }
-}
-
-fn serve<R: Wait>(rt: &R, client: &Client<'_>, access: &Access) -> Result<Receipt, ClientFault>
-    ensures tells { IfOk result (TellsOf client.now.site (input_of access.now)) }
-    ensures served { IfOk result IsServed }
-{
-    match access {
-        Access::Load { offset, .. } => client.load(rt, 0, *offset),
-        Access::Store { offset, byte, .. } => client.store(rt, 0, *offset, *byte),
     }
 }

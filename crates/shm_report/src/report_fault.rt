@@ -38,6 +38,9 @@ pub enum ReportFault {
     /// A site's clock has no further stamp.
     #[error("clock end")]
     ClockEnd,
+    /// The box under a site's lock was another site's.
+    #[error("foreign box")]
+    Foreign,
     /// The logs aren't those of these sites, or the receipts aren't those of this workload.
     #[error("audit: logs")]
     Logs,
@@ -79,6 +82,7 @@ impl ReportFault {
             RunFault::Call(call) => match call.fault {
                 ClientFault::OutOfMemory => ReportFault::OutOfMemory,
                 ClientFault::ClockEnd => ReportFault::ClockEnd,
+                ClientFault::Foreign => ReportFault::Foreign,
                 ClientFault::GaveUp => ReportFault::GaveUp((call.place as u64).saturating_add(2)),
             },
         }

@@ -2,7 +2,6 @@
 ghost use Rattle.std.specs.Prelude.{◌≡◌, ◌≢◌, ◌+◌, ◌++◌, ◌<◌, length, slice_index, slice_set, IfErr, IfOk, IfSome, IsSome, OnErr, OnOk};
 ghost use Rattle.std.specs.Io.KnownBytes.{Appends};
 ghost use Rattle.shm_report.specs.Callers.{AllServed};
-ghost use Rattle.shm_lines.specs.Access.{site_of};
 ghost use Rattle.shm_report.specs.Causes.{IsOther};
 ghost use Rattle.shm_report.specs.Report.{audit_yes, IsCutShort, HasReceipt, TellsLines, TellsReceipt};
 ghost use Rattle.shm_report.specs.declared.report_fault.ReportFault.TheVariants as cause;
@@ -57,11 +56,11 @@ fn tell(
 ) -> Result<(), ReportFault>
     ensures fault { IfErr result IsOther }
     ensures unwritten { IfErr result (λ fault. fault ≢ cause.WriteFault) }
-    ensures known { OnOk result (site_of access.now < length told_of.old) }
-    ensures told { OnOk result (TellsReceipt callers.now (site_of access.now) (slice_index told_of.old (site_of access.now)) number text.old text.new) }
-    ensures more { OnOk result (told_of.new ≡ slice_set told_of.old (site_of access.now) (slice_index told_of.old (site_of access.now) + 1)) }
+    ensures known { OnOk result (access.now.site < length told_of.old) }
+    ensures told { OnOk result (TellsReceipt callers.now access.now.site (slice_index told_of.old access.now.site) number text.old text.new) }
+    ensures more { OnOk result (told_of.new ≡ slice_set told_of.old access.now.site (slice_index told_of.old access.now.site + 1)) }
 {
-    let site = access.site().0 as usize;
+    let site = access.site.0 as usize;
     let Some(place) = next_place(told_of, site) else {
         return Err(ReportFault::Logs);
     };

@@ -3,8 +3,8 @@ use Rattle.std.proofs.Common.{◌≡◌, ◌∙◌, ℕ, ◌==◌, Bool, true, f
 use Rattle.std.proofs.lemmas.Bool.{false≢true}
 use Rattle.shm_place.specs.declared.page.PageId.{PageId}
 use Rattle.shm_model.specs.Access.{Place, ask_for, asked, is_pending, right, store, store_if, stored_entry}
-use Rattle.shm_model.specs.Site.{Step, still, Site, at_page}
-use Rattle.shm_model.specs.Basics.{greatest}
+use Rattle.shm_model.specs.Site.{Step, still, Site}
+use Rattle.shm_model.specs.Basics.{at_page, greatest}
 use Rattle.shm_model.specs.Entry.{writable}
 use Rattle.shm_model.specs.Refusal.{numbers_used_up}
 use Rattle.shm_model.specs.declared.answer.Answer.{Answer}

@@ -11,7 +11,7 @@ use crate::site::Site;
 use crate::step_error::StepError;
 use shm_model::Answer;
 use shm_parts::Envelope;
-use std::alloc::{Allocator, Global};
+use std::alloc::{AllocError, Allocator, Global};
 
 /// What a step made: what the site answers, and the envelopes that it sends, the first to send first.
 #[derive(Drop)]
@@ -37,4 +37,25 @@ impl<A: Allocator + Copy> Site<A> {
             Err(error) => Err(error),
         }
     }
+
+    /// Makes one step as [`Site::step_listed`] does, for whoever has no use for an input that comes back: where the step isn't made the
+    /// input is spent, and a foreign envelope is told as memory that was refused.
+    pub fn step_spending(&mut self, input: Input<A>) -> Result<Made<A>, AllocError>
+        ensures step { IfOk result (λ made. step self.old.sites self.old.me (site_of self.old) (input_of input) ≡ stepped self.new made.answer (map envelope_of made.sent.items)) }
+        ensures taken { IsOk result → is_foreign self.old.sites self.old.me (input_of input) ≡ false }
+        ensures memory { OnErr result (is_foreign self.old.sites self.old.me (input_of input) ≡ false → may_grow self.old.sites self.old.me (site_of self.old) (input_of input) ≡ true) }
+        ensures refused { OnErr result (site_of self.new ≡ site_of self.old) }
+        ensures seat { SameSeat self.old self.new }
+    {
+        match self.step_listed(input) {
+            Ok(made) => Ok(made),
+            Err(error) => Err(spend(error)),
+        }
+    }
+}
+
+/// The envelope that came back is given up.
+fn spend<A: Allocator + Copy>(error: StepError<A>) -> AllocError {
+    drop(error);
+    AllocError
 }

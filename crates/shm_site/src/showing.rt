@@ -4,7 +4,7 @@ ghost use Rattle.shm_place.specs.Page.{in_limits, manager_of};
 ghost use Rattle.shm_model.specs.Book.{untouched_book};
 ghost use Rattle.shm_manager.specs.Book.{book_of};
 ghost use Rattle.shm_parts.specs.Holdings.{access_of, shown_of};
-ghost use Rattle.shm_site.specs.Showing.{Tells};
+ghost use Rattle.shm_site.specs.Showing.{Shows};
 ghost use Rattle.shm_site.specs.Site.{site_of};
 
 use crate::book_view::BookView;
@@ -49,7 +49,7 @@ impl<A: Allocator + Copy> Site<A> {
     /// the page.
     pub fn book(&self, page: PageId) -> Option<BookView>
         ensures found { is_some result ≡ (in_limits self.now.sites page && (manager_of self.now.sites page == self.now.me) && not ((site_of self.now).purged page.seg)) }
-        ensures book { IfSome result (λ view. Tells view ((site_of self.now).books page)) }
+        ensures book { IfSome result (λ view. Shows view ((site_of self.now).books page)) }
     {
         let page = &page;
         if !in_limits(self.sites, *page) || manager_of(self.sites, *page) != self.me {
@@ -66,7 +66,7 @@ impl<A: Allocator + Copy> Site<A> {
 }
 
 fn view_of<A: Allocator + Copy>(book: &Book<A>) -> BookView
-    ensures { Tells result (book_of book.now) }
+    ensures { Shows result (book_of book.now) }
 {
     BookView {
         owner: book.owner(),
@@ -78,7 +78,7 @@ fn view_of<A: Allocator + Copy>(book: &Book<A>) -> BookView
 
 /// What the book of a page shows that was never asked for.
 fn untouched_view(me: SiteId) -> BookView
-    ensures { Tells result (untouched_book me) }
+    ensures { Shows result (untouched_book me) }
 {
     BookView {
         owner: me,

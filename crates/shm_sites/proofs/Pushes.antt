@@ -4,7 +4,7 @@ use Rattle.std.specs.Prelude.{IsTrue, map}
 use Rattle.std.proofs.lemmas.List.{map-append}
 use Rattle.std.proofs.lemmas.List.Elements.{All-push}
 use Rattle.shm_model.specs.Site.{Step, Site}
-use Rattle.shm_model.specs.Log.{Fits, Logged, Told, inputs_of, is_logged, moved_by, tells, told}
+use Rattle.shm_model.specs.Log.{Fits, Logged, StepOutcome, inputs_of, is_logged, moved_by, outcome_of, outcomes}
 use Rattle.shm_model.specs.Message.{Input}
 use Rattle.shm_model.specs.Step.{step}
 use Rattle.shm_model.specs.World.{Preset, opened_site}
@@ -14,7 +14,7 @@ use Rattle.shm_sites.specs.Boxes.SiteLog.{left_by}
 pub map-push : {X Y : Type 0} (f : X → Y) (xs ys : List X) (x : X) → ys ≡ xs ++ x ∷ [] → map f ys ≡ map f xs ++ f x ∷ []
 map-push f xs ys x pushed = ap (map f) pushed ∙ map-append f xs (x ∷ [])
 
-abbrev told_of : Step → Told
+abbrev told_of : Step → StepOutcome
 told_of done = record { answer = done.answer; sent = done.sent }
 
 pub moved-push : (n s : ℕ) (site : Site) (xs : List Logged) (l : Logged)
@@ -23,16 +23,16 @@ moved-push n s site [] l = refl
 moved-push n s site (x ∷ xs) l = moved-push n s (step n s site x.input).site xs l
 
 tells-push : (n s : ℕ) (site : Site) (xs : List Logged) (l : Logged)
-    → tells n s site (inputs_of (xs ++ l ∷ [])) ≡ tells n s site (inputs_of xs) ++ told_of (step n s (moved_by n s site (inputs_of xs)) l.input) ∷ []
+    → outcomes n s site (inputs_of (xs ++ l ∷ [])) ≡ outcomes n s site (inputs_of xs) ++ told_of (step n s (moved_by n s site (inputs_of xs)) l.input) ∷ []
 tells-push n s site [] l = refl
 tells-push n s site (x ∷ xs) l = ap (λ ts. told_of (step n s site x.input) ∷ ts) (tells-push n s (step n s site x.input).site xs l)
 
 pub fits-push : (n s : ℕ) (site : Site) (xs : List Logged) (l : Logged) → Fits n s site xs
-    → told l ≡ told_of (step n s (moved_by n s site (inputs_of xs)) l.input) → IsTrue (is_logged n s l.input) → Fits n s site (xs ++ l ∷ [])
+    → outcome_of l ≡ told_of (step n s (moved_by n s site (inputs_of xs)) l.input) → IsTrue (is_logged n s l.input) → Fits n s site (xs ++ l ∷ [])
 fits-push n s site xs l fits next logged =
-    let before : map told (xs ++ l ∷ []) ≡ map told xs ++ told l ∷ [] = map-append told xs (l ∷ []) in
-    let after : tells n s site (inputs_of (xs ++ l ∷ [])) ≡ tells n s site (inputs_of xs) ++ told_of (step n s (moved_by n s site (inputs_of xs)) l.input) ∷ [] = tells-push n s site xs l in
-    let same : map told xs ≡ tells n s site (inputs_of xs) = fits.tell in
+    let before : map outcome_of (xs ++ l ∷ []) ≡ map outcome_of xs ++ outcome_of l ∷ [] = map-append outcome_of xs (l ∷ []) in
+    let after : outcomes n s site (inputs_of (xs ++ l ∷ [])) ≡ outcomes n s site (inputs_of xs) ++ told_of (step n s (moved_by n s site (inputs_of xs)) l.input) ∷ [] = tells-push n s site xs l in
+    let same : map outcome_of xs ≡ outcomes n s site (inputs_of xs) = fits.tell in
     record { tell = cc; inputs = All-push (λ k. IsTrue (is_logged n s k.input)) xs l fits.inputs logged }
 
 pub last-push : (clock : ℕ) (xs : List Logged) (l : Logged) → last_stamp_or clock (xs ++ l ∷ []) ≡ l.stamp

@@ -2,7 +2,6 @@
 //!
 //! After Lamport 1978 (logical clocks): a step's stamp is above those of its site's steps before it, and above that of the step which
 //! sent what it is handed.
-mod asked;
 mod box_fault;
 mod copying;
 mod receipt;
@@ -12,9 +11,9 @@ mod stamp;
 mod step;
 mod taking;
 
-pub use asked::Asked;
 pub use box_fault::BoxFault;
 pub use receipt::Receipt;
+pub use shm_model::Asked;
 pub use shm_site::{Answer, Envelope, Input};
 pub use site_box::SiteBox;
 pub use site_log::SiteLog;

@@ -10,6 +10,7 @@ use Rattle.std.proofs.lemmas.List.Splits.{join_with_byte-slice_split}
 use Rattle.std.proofs.lemmas.List.Sums.{AllPass-from_list_all}
 use Rattle.std.proofs.lemmas.Str.{IsUtf8-from_ascii}
 use Rattle.std.proofs.lemmas.Str.Ascii.{IsAscii-from_all}
+use Rattle.shm_model.specs.declared.asked.Asked.TheVariants.{Load, Store}
 use Rattle.shm_model.specs.declared.call.Request.TheVariants.{Op as OpRequest, DetachAt}
 use Rattle.shm_lines.proofs.OneWord.{IsPrinter, number, byte}
 use Rattle.shm_lines.proofs.ReadLemmas.{onto, onto2}
@@ -21,8 +22,8 @@ use Rattle.shm_wire.proofs.Reading.{took, ended-is, Reads, Sound, SoundReader, S
 use Rattle.shm_wire.specs.Asks.{Ask, IsAsk, IsAsked, IsTag, ask_after, ask_line, ask_of_words, ask_words, asked_of, asked_words, begun_of, detach_of, is_tag, load_of, own, read_ask, show_of, store_of, tag_of}
 use Rattle.shm_wire.specs.Calls.{common_of}
 use Rattle.shm_wire.specs.Words.{by_verb, ended, nothing}
-use Rattle.shm_wire.specs.declared.ask.Asked.{Asked}
-use Rattle.shm_wire.specs.declared.ask.Asked.TheVariants.{Load, Store, Begin, Tick, Show}
+use Rattle.shm_wire.specs.declared.ask.Question.{Question}
+use Rattle.shm_wire.specs.declared.ask.Question.TheVariants.{Access, Begin, Tick, Show}
 
 -- ---- tags
 
@@ -49,15 +50,15 @@ tag = record {
 
 -- ---- what is read is spelled so
 
-abbrev ReadsAsked : List (List ℕ) → Asked → Type 0
+abbrev ReadsAsked : List (List ℕ) → Question → Type 0
 ReadsAsked words asked = Reads IsAsked asked_words words asked
 
-module _ (words : List (List ℕ)) (asked : Asked) where
+module _ (words : List (List ℕ)) (asked : Question) where
   load-is : load_of words ≡ Some asked → ReadsAsked (codes "load" ∷ words) asked
   load-is h =
       let a = took number words _ asked h in
       let o = took number a.others _ asked a.gives in
-      let e = ended-is (Load a.value o.value) asked o.others o.gives in
+      let e = ended-is (Access (Load a.value o.value)) asked o.others o.gives in
       subst (ReadsAsked (codes "load" ∷ words)) e.1 ((a.is, o.is), ap (λ l. codes "load" ∷ l) (onto a.are (onto o.are e.0)))
 
   store-is : store_of words ≡ Some asked → ReadsAsked (codes "store" ∷ words) asked
@@ -65,7 +66,7 @@ module _ (words : List (List ℕ)) (asked : Asked) where
       let a = took number words _ asked h in
       let o = took number a.others _ asked a.gives in
       let b = took byte o.others _ asked o.gives in
-      let e = ended-is (Store a.value o.value b.value) asked b.others b.gives in
+      let e = ended-is (Access (Store a.value o.value b.value)) asked b.others b.gives in
       subst (ReadsAsked (codes "store" ∷ words)) e.1 ((a.is, o.is, b.is), ap (λ l. codes "store" ∷ l) (onto a.are (onto o.are (onto b.are e.0))))
 
   detach-is : detach_of words ≡ Some asked → ReadsAsked (codes "detach" ∷ words) asked
@@ -94,7 +95,7 @@ begun-is word words asked h =
 sound : Sound IsAsked asked_words own
 sound = (load-is, (store-is, (detach-is, (tick-is, (show-is, tt)))))
 
-asked-is : (words : List (List ℕ)) (asked : Asked) → asked_of words ≡ Some asked → ReadsAsked words asked
+asked-is : (words : List (List ℕ)) (asked : Question) → asked_of words ≡ Some asked → ReadsAsked words asked
 asked-is words asked h = verb-is IsAsked asked_words (by_verb own begun_of) (by_verb-is IsAsked asked_words own begun_of sound begun-is) words asked h
 
 after-is : SoundWords IsAsk ask_words (codes "ask") ask_after

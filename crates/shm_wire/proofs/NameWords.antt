@@ -9,18 +9,18 @@ use Rattle.shm_model.specs.declared.kind.Kind.{Kind}
 use Rattle.shm_model.specs.declared.kind.Kind.TheVariants.{Read, Write}
 use Rattle.shm_lines.proofs.OneWord.{IsPrinter}
 use Rattle.shm_lines.proofs.StepLemmas.{some-is, NoBlank, NoBlank-test}
-use Rattle.shm_wire.specs.Words.{Names, named, kinds, kind_of, kind_word, standings, standing_of, standing_word, errnos, errno_of, errno_word}
+use Rattle.shm_wire.specs.Words.{Names, by_name, kinds, kind_of, kind_word, standings, standing_of, standing_word, errnos, errno_of, errno_word}
 
 -- each name of the table is that of what it stands for
 abbrev Tells : {A : Type 0} → (A → List ℕ) → Names A → Type 0
 Tells name [] = ⊤
 Tells name ((word, x) ∷ rest) = (word ≡ name x) × Tells name rest
 
-named-is : {A : Type 0} (name : A → List ℕ) (table : Names A) → Tells name table → (word : List ℕ) (x : A) → named table word ≡ Some x → word ≡ name x
+named-is : {A : Type 0} (name : A → List ℕ) (table : Names A) → Tells name table → (word : List ℕ) (x : A) → by_name table word ≡ Some x → word ≡ name x
 named-is name [] tells word x h = absurd (cc)
 named-is name ((first, y) ∷ rest) tells word x h = go (bytes_eq word first) refl (named-is name rest tells.1 word x) h
   where
-    go : (b : Bool) → bytes_eq word first ≡ b → (named rest word ≡ Some x → word ≡ name x) → cond b (Some y) (named rest word) ≡ Some x → word ≡ name x
+    go : (b : Bool) → bytes_eq word first ≡ b → (by_name rest word ≡ Some x → word ≡ name x) → cond b (Some y) (by_name rest word) ≡ Some x → word ≡ name x
     go true e more g = (bytes_eq-Decides word first).0 e ∙ tells.0 ∙ ap name (some-is y x g)
     go false e more g = more g
 

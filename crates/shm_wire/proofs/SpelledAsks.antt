@@ -2,6 +2,7 @@
 use Rattle.std.proofs.Common.{◌≡◌, [], ◌∷◌, Option, Some, refl, ap, ◌∙◌}
 use Rattle.std.specs.Prelude.{codes}
 use Rattle.std.specs.Fmt.{decimal}
+use Rattle.shm_model.specs.declared.asked.Asked.TheVariants.{Load, Store}
 use Rattle.shm_model.specs.declared.call.Op.{Op}
 use Rattle.shm_model.specs.declared.call.Op.TheVariants.{Get, Attach, Detach, Remove, Set, Stat}
 use Rattle.shm_model.specs.declared.call.Request.TheVariants.{Op as OpRequest, DetachAt}
@@ -15,10 +16,10 @@ use Rattle.shm_wire.proofs.Reading.{prints, Spelled}
 use Rattle.shm_wire.proofs.SpelledMessages.{prints_page}
 use Rattle.shm_wire.specs.Asks.{Ask, IsAsk, IsAsked, ask_line, ask_of_words, asked_of, asked_words, read_ask}
 use Rattle.shm_wire.specs.Calls.{call_words}
-use Rattle.shm_wire.specs.declared.ask.Asked.{Asked}
-use Rattle.shm_wire.specs.declared.ask.Asked.TheVariants.{Load, Store, Begin, Tick, Show}
+use Rattle.shm_wire.specs.declared.ask.Question.{Question}
+use Rattle.shm_wire.specs.declared.ask.Question.TheVariants.{Access, Begin, Tick, Show}
 
-begins : Option Op → Option Asked
+begins : Option Op → Option Question
 begins o = o >>= λ op. Some (Begin (OpRequest op))
 
 begun-spelled : (op : Op) → script.IsCall op → Spelled asked_of (call_words op) (Begin (OpRequest op))
@@ -30,12 +31,12 @@ begun-spelled (Remove cred id) h = let s = common-spelled (Remove cred id) h in 
 begun-spelled (Set cred id uid gid m) h = let s = common-spelled (Set cred id uid gid m) h in record { unparted = s.unparted; back = ap begins s.back }
 begun-spelled (Stat cred id) h = let s = common-spelled (Stat cred id) h in record { unparted = s.unparted; back = ap begins s.back }
 
-asked-spelled : (asked : Asked) → IsAsked asked → Spelled asked_of (asked_words asked) asked
-asked-spelled (Load at offset) h = record {
+asked-spelled : (asked : Question) → IsAsked asked → Spelled asked_of (asked_words asked) asked
+asked-spelled (Access (Load at offset)) h = record {
   unparted = (NoBlank-test (codes "load") refl, (number.unparted at h.0, (number.unparted offset h.1, tt)));
   back = rw (prints number at (decimal offset ∷ []) h.0, prints number offset [] h.1) refl;
 }
-asked-spelled (Store at offset b) h = record {
+asked-spelled (Access (Store at offset b)) h = record {
   unparted = (NoBlank-test (codes "store") refl, (number.unparted at h.0, (number.unparted offset h.1, (byte.unparted b h.2, tt))));
   back = rw (prints number at (decimal offset ∷ decimal b ∷ []) h.0, prints number offset (decimal b ∷ []) h.1, prints byte b [] h.2) refl;
 }

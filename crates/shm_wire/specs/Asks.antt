@@ -3,6 +3,7 @@ use Rattle.std.specs.Prelude.{⊤, ◌≡◌, ℕ, ◌<◌, ◌&&◌, Bool, true
 use Rattle.std.specs.Char.{is_ascii_graphic}
 use Rattle.std.specs.Fmt.{decimal}
 use Rattle.std.specs.List.{join_with_byte, list_all}
+use Rattle.shm_model.specs.declared.asked.Asked.TheVariants.{Load, Store}
 use Rattle.shm_model.specs.declared.call.Request.TheVariants.{Op as OpRequest, DetachAt}
 use Rattle.shm_model.specs.declared.event.Event.TheVariants as event
 use Rattle.shm_lines.specs.Words.{◌>>=◌, byte_of, words_of, next_word, next_of, next_number}
@@ -12,8 +13,8 @@ use Rattle.shm_wire.specs.Calls.{common_of, less_site}
 use Rattle.shm_wire.specs.Messages.{IsPageId, next_page}
 use Rattle.shm_wire.specs.Words.{Verbs, by_verb, ended, nothing}
 use Rattle.shm_wire.specs.declared.ask.Ask.{Ask as CodeAsk}
-use Rattle.shm_wire.specs.declared.ask.Asked.{Asked}
-use Rattle.shm_wire.specs.declared.ask.Asked.TheVariants.{Load, Store, Begin, Tick, Show}
+use Rattle.shm_wire.specs.declared.ask.Question.{Question}
+use Rattle.shm_wire.specs.declared.ask.Question.TheVariants.{Access, Begin, Tick, Show}
 
 -- ---- tags
 
@@ -29,57 +30,57 @@ tag_of word = if is_tag word then Some word else None
 
 -- ---- what is asked
 
-abbrev pub IsAsked : Asked → Type 0
-IsAsked (Load at offset) = IsNumber at × IsNumber offset
-IsAsked (Store at offset byte) = IsNumber at × IsNumber offset × (byte < 256)
+abbrev pub IsAsked : Question → Type 0
+IsAsked (Access (Load at offset)) = IsNumber at × IsNumber offset
+IsAsked (Access (Store at offset byte)) = IsNumber at × IsNumber offset × (byte < 256)
 IsAsked (Begin request) = script.IsRequest request
 IsAsked Tick = ⊤
 IsAsked (Show page) = IsPageId page
 
-abbrev pub asked_words : Asked → List (List ℕ)
-asked_words (Load at offset) = less_site (script.event_words (event.Load 0 at offset))
-asked_words (Store at offset byte) = less_site (script.event_words (event.Store 0 at offset byte))
+abbrev pub asked_words : Question → List (List ℕ)
+asked_words (Access (Load at offset)) = less_site (script.event_words (event.Load 0 at offset))
+asked_words (Access (Store at offset byte)) = less_site (script.event_words (event.Store 0 at offset byte))
 asked_words (Begin request) = less_site (script.request_words 0 request)
 asked_words Tick = less_site (script.event_words (event.Tick 0))
 asked_words (Show page) = codes "show" ∷ decimal page.seg ∷ decimal page.index ∷ []
 
 -- `load attachment offset`
-abbrev pub load_of : List (List ℕ) → Option Asked
+abbrev pub load_of : List (List ℕ) → Option Question
 load_of words = do
   (at, words) ← next_number words
   (offset, words) ← next_number words
-  ended (Load at offset) words
+  ended (Access (Load at offset)) words
 
 -- `store attachment offset byte`
-abbrev pub store_of : List (List ℕ) → Option Asked
+abbrev pub store_of : List (List ℕ) → Option Question
 store_of words = do
   (at, words) ← next_number words
   (offset, words) ← next_number words
   (byte, words) ← next_of byte_of words
-  ended (Store at offset byte) words
+  ended (Access (Store at offset byte)) words
 
 -- `detach attachment`
-abbrev pub detach_of : List (List ℕ) → Option Asked
+abbrev pub detach_of : List (List ℕ) → Option Question
 detach_of words = do
   (at, words) ← next_number words
   ended (Begin (DetachAt at)) words
 
 -- `show segment index`
-abbrev pub show_of : List (List ℕ) → Option Asked
+abbrev pub show_of : List (List ℕ) → Option Question
 show_of words = do
   (page, words) ← next_page words
   ended (Show page) words
 
 -- the other segment calls
-abbrev pub begun_of : List ℕ → List (List ℕ) → Option Asked
+abbrev pub begun_of : List ℕ → List (List ℕ) → Option Question
 begun_of verb words = do
   op ← common_of verb words
   Some (Begin (OpRequest op))
 
-abbrev pub own : Verbs Asked
+abbrev pub own : Verbs Question
 own = (codes "load", load_of) ∷ (codes "store", store_of) ∷ (codes "detach", detach_of) ∷ (codes "tick", ended Tick) ∷ (codes "show", show_of) ∷ []
 
-abbrev pub asked_of : List (List ℕ) → Option Asked
+abbrev pub asked_of : List (List ℕ) → Option Question
 asked_of words = do
   (verb, words) ← next_word words
   by_verb own begun_of verb words
@@ -89,7 +90,7 @@ asked_of words = do
 pub record Ask : Type 0 where
   pub site : ℕ
   pub tag : List ℕ
-  pub asked : Asked
+  pub asked : Question
 
 abbrev pub ask_of : CodeAsk → Ask
 ask_of ask = record { site = ask.site; tag = ask.tag.now; asked = ask.asked }

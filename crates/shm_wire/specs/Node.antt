@@ -5,14 +5,15 @@ use Rattle.std.specs.Prelude.{ℕ, ◌+◌, Bool, ◌||◌, List, Option, Some, 
 use Rattle.shm_model.specs.declared.answer.Answer.{Answer}
 use Rattle.shm_model.specs.declared.answer.Answer.TheVariants.{Began, Replied}
 use Rattle.shm_model.specs.Basics.{greatest}
-use Rattle.shm_model.specs.Message.{Envelope, Input, Load, Store, Begin, Deliver, Tick}
+use Rattle.shm_model.specs.Message.{Envelope, Input, Begin, Deliver, Tick}
+use Rattle.shm_model.specs.Receipt.{access_of}
 use Rattle.shm_model.specs.Site.{Site}
 use Rattle.shm_model.specs.Step.{foreign, step}
 use Rattle.shm_model.specs.World.{Preset, opened_site}
 use Rattle.shm_wire.specs.Asks.{Ask, read_ask}
 use Rattle.shm_wire.specs.Sent.{Sent, read_envelope}
-use Rattle.shm_wire.specs.declared.ask.Asked.{Asked}
-use Rattle.shm_wire.specs.declared.ask.Asked.TheVariants as asked
+use Rattle.shm_wire.specs.declared.ask.Question.{Question}
+use Rattle.shm_wire.specs.declared.ask.Question.TheVariants as question
 
 -- how many sites there are, and which one this is; the site as it stands, its clock, and how many steps it made; and how many lines made
 -- a step, and how many were passed over; and the tag of the caller whose segment call is outstanding
@@ -58,12 +59,11 @@ handed node sent =
     else Some (record { input = Deliver sent.envelope; source = sent.source.at; tag = None })
 
 -- what a site is made to do; a page is only shown
-abbrev pub input_asked : Asked → Option Input
-input_asked (asked.Load at offset) = Some (Load at offset)
-input_asked (asked.Store at offset byte) = Some (Store at offset byte)
-input_asked (asked.Begin request) = Some (Begin request)
-input_asked asked.Tick = Some Tick
-input_asked (asked.Show page) = None
+abbrev pub input_asked : Question → Option Input
+input_asked (question.Access asked) = Some (access_of asked)
+input_asked (question.Begin request) = Some (Begin request)
+input_asked question.Tick = Some Tick
+input_asked (question.Show page) = None
 
 abbrev pub under_tag : List ℕ → Input → Heard
 under_tag tag input = record { input = input; source = 0; tag = Some tag }
@@ -128,10 +128,10 @@ pub record Said : Type 0 where
   pub answer : Answer
 
 -- each ask is answered once: a segment call when it is replied to, unless it is refused
-abbrev pub told : Option (List ℕ) → Option (List ℕ) → Answer → Option (List ℕ)
-told tag caller (Began number) = None
-told tag caller (Replied number reply attachment) = caller
-told tag caller answer = tag
+abbrev pub tag_told : Option (List ℕ) → Option (List ℕ) → Answer → Option (List ℕ)
+tag_told tag caller (Began number) = None
+tag_told tag caller (Replied number reply attachment) = caller
+tag_told tag caller answer = tag
 
 abbrev pub says : Node → Heard → Said
 says node heard =
@@ -141,7 +141,7 @@ says node heard =
       clock = next_clock node heard.source;
       index = node.steps;
       sent = done.sent;
-      tag = told heard.tag node.caller done.answer;
+      tag = tag_told heard.tag node.caller done.answer;
       answer = done.answer;
     }
 

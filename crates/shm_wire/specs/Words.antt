@@ -22,9 +22,9 @@ wide_of word = if is_plain word then (if nat_lt (digits_value 10 word) (2 ^ 64) 
 abbrev pub Names : Type 0 → Type 0
 Names A = List (List ℕ × A)
 
-abbrev pub named : {A : Type 0} → Names A → List ℕ → Option A
-named [] word = None
-named ((name, x) ∷ rest) word = if bytes_eq word name then Some x else named rest word
+abbrev pub by_name : {A : Type 0} → Names A → List ℕ → Option A
+by_name [] word = None
+by_name ((name, x) ∷ rest) word = if bytes_eq word name then Some x else by_name rest word
 
 abbrev pub kind_word : Kind → List ℕ
 kind_word Read = codes "read"
@@ -34,7 +34,7 @@ abbrev pub kinds : Names Kind
 kinds = (codes "read", Read) ∷ (codes "write", Write) ∷ []
 
 abbrev pub kind_of : List ℕ → Option Kind
-kind_of = named kinds
+kind_of = by_name kinds
 
 -- whether a segment is marked to be destroyed
 abbrev pub standing_word : Bool → List ℕ
@@ -45,7 +45,7 @@ abbrev pub standings : Names Bool
 standings = (codes "marked", true) ∷ (codes "live", false) ∷ []
 
 abbrev pub standing_of : List ℕ → Option Bool
-standing_of = named standings
+standing_of = by_name standings
 
 abbrev pub errno_word : Errno → List ℕ
 errno_word Eacces = codes "eacces"
@@ -62,7 +62,7 @@ errnos =
     ∷ (codes "enoent", Enoent) ∷ (codes "enospc", Enospc) ∷ (codes "eperm", Eperm) ∷ []
 
 abbrev pub errno_of : List ℕ → Option Errno
-errno_of = named errnos
+errno_of = by_name errnos
 
 -- ---- several words
 

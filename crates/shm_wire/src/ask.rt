@@ -1,14 +1,13 @@
 //! What a caller asks of a site, under a tag of its own.
 use crate::spelling_calls::CallWords;
-use shm_model::Request;
+use shm_model::{Asked, Request};
 use shm_place::{PageId, SiteId};
 use std::fmt;
 
 /// What a caller may ask of a site: each event that a site can be made to have, and what it holds of a page.
 #[derive(Clone, Copy, Debug, PartialEq, Eq)]
-pub enum Asked {
-    Load { at: u32, offset: u32 },
-    Store { at: u32, offset: u32, byte: u8 },
+pub enum Question {
+    Access(Asked),
     Begin(Request),
     Tick,
     Show(PageId),
@@ -19,7 +18,7 @@ pub enum Asked {
 pub struct Ask<'a> {
     pub site: SiteId,
     pub tag: &'a str,
-    pub asked: Asked,
+    pub asked: Question,
 }
 
 impl<'a> fmt::Display for Ask<'a> {
@@ -37,21 +36,23 @@ impl<'a> fmt::Display for Ask<'a> {
     }
 }
 
-impl fmt::Display for Asked {
+impl fmt::Display for Question {
     ghost use Rattle.std.specs.Prelude.{Some};
     ghost use Rattle.std.specs.List.{join_with_byte};
     ghost use Rattle.shm_wire.specs.Asks as spelled;
 
-    ghost output = { λ asked. Some (join_with_byte 32 (spelled.asked_words asked)) };
+    ghost output = { λ question. Some (join_with_byte 32 (spelled.asked_words question)) };
 
     fn fmt<W: fmt::Write>(&self, f: &mut fmt::Formatter<W>) -> fmt::Result {
         match self {
-            Asked::Load { at, offset } => write!(f, "load {at} {offset}"),
-            Asked::Store { at, offset, byte } => write!(f, "store {at} {offset} {byte}"),
-            Asked::Begin(Request::Op(op)) => write!(f, "{}", CallWords(*op)),
-            Asked::Begin(Request::DetachAt(at)) => write!(f, "detach {at}"),
-            Asked::Tick => write!(f, "tick"),
-            Asked::Show(page) => write!(f, "show {} {}", page.seg.0, page.index),
+            Question::Access(Asked::Load { at, offset }) => write!(f, "load {at} {offset}"),
+            Question::Access(Asked::Store { at, offset, byte }) => {
+                write!(f, "store {at} {offset} {byte}")
+            }
+            Question::Begin(Request::Op(op)) => write!(f, "{}", CallWords(*op)),
+            Question::Begin(Request::DetachAt(at)) => write!(f, "detach {at}"),
+            Question::Tick => write!(f, "tick"),
+            Question::Show(page) => write!(f, "show {} {}", page.seg.0, page.index),
         }
     }
 }

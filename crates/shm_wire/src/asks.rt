@@ -6,11 +6,11 @@ ghost use Rattle.shm_wire.specs.Words.{ended};
 ghost use Rattle.shm_wire.specs.Asks as said;
 ghost use Rattle.shm_wire.specs.Asks.{ask_of, asked_of, begun_of, detach_of, load_of, read_ask, show_of, store_of, tag_of};
 
-use crate::ask::{Ask, Asked};
+use crate::ask::{Ask, Question};
 use crate::calls::common;
 use crate::messages::page_id;
 use shm_lines::Words;
-use shm_model::Request;
+use shm_model::{Asked, Request};
 use shm_place::SiteId;
 use std::str;
 
@@ -60,7 +60,7 @@ fn is_graphic(word: &[u8]) -> bool
     word.iter().all(|byte| byte.is_ascii_graphic())
 }
 
-fn ask_of_words(words: Words<'_>) -> Option<Asked>
+fn ask_of_words(words: Words<'_>) -> Option<Question>
     ensures { result ≡ asked_of words.entry }
 {
     let (verb, words) = words.word()?;
@@ -82,7 +82,7 @@ fn ask_of_words(words: Words<'_>) -> Option<Asked>
     begin_of_words(verb, words)
 }
 
-fn load(words: Words<'_>) -> Option<Asked>
+fn load(words: Words<'_>) -> Option<Question>
     ensures { result ≡ load_of words.entry }
 {
     let (at, words) = words.number()?;
@@ -90,10 +90,10 @@ fn load(words: Words<'_>) -> Option<Asked>
     if !words.is_empty() {
         return None;
     }
-    Some(Asked::Load { at, offset })
+    Some(Question::Access(Asked::Load { at, offset }))
 }
 
-fn store(words: Words<'_>) -> Option<Asked>
+fn store(words: Words<'_>) -> Option<Question>
     ensures { result ≡ store_of words.entry }
 {
     let (at, words) = words.number()?;
@@ -102,41 +102,41 @@ fn store(words: Words<'_>) -> Option<Asked>
     if !words.is_empty() {
         return None;
     }
-    Some(Asked::Store { at, offset, byte })
+    Some(Question::Access(Asked::Store { at, offset, byte }))
 }
 
-fn detach(words: Words<'_>) -> Option<Asked>
+fn detach(words: Words<'_>) -> Option<Question>
     ensures { result ≡ detach_of words.entry }
 {
     let (at, words) = words.number()?;
     if !words.is_empty() {
         return None;
     }
-    Some(Asked::Begin(Request::DetachAt(at)))
+    Some(Question::Begin(Request::DetachAt(at)))
 }
 
-fn tick(words: Words<'_>) -> Option<Asked>
-    ensures { result ≡ ended Asked.Tick words.entry }
+fn tick(words: Words<'_>) -> Option<Question>
+    ensures { result ≡ ended Question.Tick words.entry }
 {
     if !words.is_empty() {
         return None;
     }
-    Some(Asked::Tick)
+    Some(Question::Tick)
 }
 
-fn show(words: Words<'_>) -> Option<Asked>
+fn show(words: Words<'_>) -> Option<Question>
     ensures { result ≡ show_of words.entry }
 {
     let (page, words) = page_id(words)?;
     if !words.is_empty() {
         return None;
     }
-    Some(Asked::Show(page))
+    Some(Question::Show(page))
 }
 
-fn begin_of_words(verb: &[u8], words: Words<'_>) -> Option<Asked>
+fn begin_of_words(verb: &[u8], words: Words<'_>) -> Option<Question>
     ensures { result ≡ begun_of verb.now words.entry }
 {
     let op = common(verb, words)?;
-    Some(Asked::Begin(Request::Op(op)))
+    Some(Question::Begin(Request::Op(op)))
 }

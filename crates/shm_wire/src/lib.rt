@@ -28,7 +28,7 @@ mod words;
 
 pub use answer::Answer;
 pub use answers::parse_answer;
-pub use ask::{Ask, Asked};
+pub use ask::{Ask, Question};
 pub use asks::parse_ask;
 pub use parse::parse_envelope;
 pub use process::{Node, Said};

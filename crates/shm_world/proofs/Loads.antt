@@ -1,12 +1,12 @@
 -- The bytes that a run gives: each is that of the last store to its place, since the run's account is legal.
 use Rattle.std.proofs.Common.{◌≡◌, ◌∙◌, ℕ, ◌+◌, ◌≤◌, Bool, true, false, List, [], ◌∷◌, ◌++◌, Option, Some, None, Result, Ok, Err, OnErr, ap, if◌then◌else◌, length, refl, slice_get, subst, suc, sym, take, zero}
 use Rattle.std.proofs.lemmas.Option.{same_Some}
-use Rattle.shm_laws.proofs.LogsLists.{slice_get-append_right}
+use Rattle.shm_laws.proofs.Log.Lists.{slice_get-append_right}
 use Rattle.shm_model.specs.declared.answer.Answer.{Answer}
 use Rattle.shm_model.specs.declared.answer.Answer.TheVariants.{Byte, Refused}
 use Rattle.shm_model.specs.declared.event.Event.{Event}
 use Rattle.shm_model.specs.declared.event.Event.TheVariants as event
-use Rattle.shm_model.specs.Memory.{Legal, LoadsLast, last_store, names}
+use Rattle.shm_model.specs.Memory.{Legal, LoadsLast, last_store, segment_of}
 use Rattle.shm_model.specs.Message.{Load}
 use Rattle.shm_model.specs.Refusal.{numbers_used_up}
 use Rattle.shm_model.specs.Site.{Site}
@@ -21,18 +21,18 @@ use Rattle.shm_world.proofs.Runs.{Ran, run-then}
 -- ---- one load
 
 abbrev Loaded : model.Opening → List model.Done → ℕ → ℕ → ℕ → ℕ → Type 0
-Loaded o ds s a offset byte = (id : ℕ) × (names o ds s a ≡ Some id) × (byte ≡ last_store o ds id offset)
+Loaded o ds s a offset byte = (id : ℕ) × (segment_of o ds s a ≡ Some id) × (byte ≡ last_store o ds id offset)
 
 -- what became of this event is legal after this account
 abbrev LegalNext : model.Opening → List model.Done → model.Done → Type 0
-LegalNext o ds d = LoadsLast d.input d.answer (names o ds d.site) (last_store o ds)
+LegalNext o ds d = LoadsLast d.input d.answer (segment_of o ds d.site) (last_store o ds)
 
 loads-stepped : (o : model.Opening) (ds : List model.Done) (w : model.World) (s : ℕ) (x : Site) (a offset byte : ℕ) (full : Bool)
     → LegalNext o ds (if full then model.unstepped w s (Refused numbers_used_up) else model.stepped w s (Load a offset) (step w.count s x (Load a offset))).done
     → Byte byte ≡ (if full then model.unstepped w s (Refused numbers_used_up) else model.stepped w s (Load a offset) (step w.count s x (Load a offset))).done.answer
     → Loaded o ds s a offset byte
 loads-stepped o ds w s x a offset byte true h is = absurd (cc)
-loads-stepped o ds w s x a offset byte false h is = subst (λ answer. LoadsLast (Some (Load a offset)) answer (names o ds s) (last_store o ds)) (sym is) h
+loads-stepped o ds w s x a offset byte false h is = subst (λ answer. LoadsLast (Some (Load a offset)) answer (segment_of o ds s) (last_store o ds)) (sym is) h
 
 loads-at : (o : model.Opening) (ds : List model.Done) (w : model.World) (s a offset byte : ℕ) (m : Option Site) → LegalNext o ds (model.step_site m w s (Load a offset)).done
     → Byte byte ≡ (model.step_site m w s (Load a offset)).done.answer → Loaded o ds s a offset byte

@@ -28,7 +28,7 @@ impl<A: Allocator + Copy> World<A> {
         ensures last { (o : model.Opening) (before : List Event) → model.IsOpening o → StandsFor self.old (model.run o before).world → IfOk result (λ answer. GivesLast o before event answer) }
     {
         laws::every_run_keeps_the_promise();
-        self.take(&event)
+        self.apply(&event)
     }
 
     /// A list of events: their answers join the others. Where memory is refused at an event, the world stands after the events before
@@ -47,14 +47,14 @@ impl<A: Allocator + Copy> World<A> {
         laws::every_run_keeps_the_promise();
         out.reserve(events.len())?;
         'events: for event in events {
-            let answer = self.take(event)?;
+            let answer = self.apply(event)?;
             out.push_reserved(answer);
         }
         Ok(())
     }
 
     /// One event, without the promise.
-    fn take(&mut self, event: &Event) -> Result<Answer, AllocError>
+    fn apply(&mut self, event: &Event) -> Result<Answer, AllocError>
         ensures next { (w : model.World) → StandsFor self.old w → IfOk result (λ answer. Went self.new (model.next w event.now) answer) }
         ensures refused { (w : model.World) → StandsFor self.old w → OnErr result (StandsFor self.new w) }
         ensures memory { (w : model.World) → StandsFor self.old w → OnErr result (may_grow event.now (model.next w event.now).done.answer ≡ true) }

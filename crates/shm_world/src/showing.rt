@@ -5,7 +5,7 @@ ghost use Rattle.shm_place.specs.Page.{in_limits, manager_of};
 ghost use Rattle.shm_model.specs.Site as site;
 ghost use Rattle.shm_model.specs.World as model;
 ghost use Rattle.shm_world.specs.Network.{envelope_at};
-ghost use Rattle.shm_site.specs.Showing.{Tells};
+ghost use Rattle.shm_site.specs.Showing.{Shows};
 ghost use Rattle.shm_world.specs.Members.{seen_by};
 ghost use Rattle.shm_world.specs.Showing.{access, keeps_book, shown};
 ghost use Rattle.shm_world.specs.World.{StandsFor};
@@ -70,7 +70,7 @@ impl<A: Allocator + Copy> World<A> {
     /// The page's book, at its manager. None: there is no such page, or its manager has purged its segment.
     pub fn book(&self, page: PageId) -> Option<BookView>
         ensures found { (w : model.World) → StandsFor self.now w → is_some result ≡ (in_limits w.count page && keeps_book (slice_get w.sites (manager_of w.count page)) page) }
-        ensures book { (w : model.World) (x : site.Site) → StandsFor self.now w → slice_get w.sites (manager_of w.count page) ≡ Some x → IfSome result (λ view. Tells view (x.books page)) }
+        ensures book { (w : model.World) (x : site.Site) → StandsFor self.now w → slice_get w.sites (manager_of w.count page) ≡ Some x → IfSome result (λ view. Shows view (x.books page)) }
     {
         let page = &page;
         let manager = manager_of(self.members.count, *page);

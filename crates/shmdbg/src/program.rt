@@ -20,8 +20,9 @@ use std::sync::Wait;
 use std::thread::Threads;
 
 /// Does what the words ask for, and answers the exit status: 0 done, 1 the script has a fault, 2 the words were refused,
-/// 3 memory, reading or writing failed, or a site's clock ended, or there was no thread, 4 a run was not what an audit accepts, or gave
-/// up. At 2 the parser's text goes to `errors`, at 1, 3 and 4 one line; below it stands a wrong line that the reader recalls.
+/// 3 memory, reading or writing failed, or a site's clock ended, or there was no thread, or a box was another site's, 4 a run was not
+/// what an audit accepts, or gave up. At 2 the parser's text goes to `errors`, at 1, 3 and 4 one line; below it stands a wrong line that
+/// the reader recalls.
 pub fn run_words<
     R: AllocGlobal + Clock + Files + Threads + Wait + Copy + Send + Sync + 'static,
     S: AsStr,

@@ -54,7 +54,8 @@ pub fn run_fault<E: Write>(fault: ReportFault, errors: &mut E) -> u8
         | ReportFault::ReadFault
         | ReportFault::WriteFault
         | ReportFault::NoThread
-        | ReportFault::ClockEnd => 3,
+        | ReportFault::ClockEnd
+        | ReportFault::Foreign => 3,
     }
 }
 

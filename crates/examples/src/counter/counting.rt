@@ -10,7 +10,20 @@ use std::thread::Threads;
 const TIMES: u32 = 50;
 
 /// What a caller was told, or why it ended.
-pub type Told = Result<Vec<Receipt>, ClientFault>;
+pub type Told = Result<Vec<Receipt>, CallerFault>;
+
+/// Why a caller ended early.
+#[derive(Clone, Copy, Debug, PartialEq, Eq)]
+pub enum CallerFault {
+    /// The cluster has no such site.
+    NoSuchSite(SiteId),
+    /// The site answered a load with no byte.
+    NoByte(Answer),
+    /// There was no memory for another receipt.
+    OutOfMemory,
+    /// The client gave no receipt.
+    Client(ClientFault),
+}
 
 /// Runs a caller for each site, in a thread of its own.
 pub fn count_all<R: Threads + Wait + Sync>(
@@ -30,7 +43,7 @@ pub fn count_all<R: Threads + Wait + Sync>(
 /// Adds 1 to the byte whose offset is the site's number, so many times.
 fn count<R: Wait>(rt: &R, alloc: Global, clients: Clients<'_>, site: SiteId) -> Told {
     let Ok(client) = clients.client(site) else {
-        return Err(ClientFault::GaveUp);
+        return Err(CallerFault::NoSuchSite(site));
     };
     let mut receipts = Vec::new(alloc);
     for _ in 0..TIMES {
@@ -42,8 +55,9 @@ fn count<R: Wait>(rt: &R, alloc: Global, clients: Clients<'_>, site: SiteId) -> 
 
 /// Loads each caller's byte, at site 0.
 pub fn load_all<R: Wait>(rt: &R, alloc: Global, sites: Sites, clients: Clients<'_>) -> Told {
-    let Ok(client) = clients.client(SiteId(0)) else {
-        return Err(ClientFault::GaveUp);
+    let first = SiteId(0);
+    let Ok(client) = clients.client(first) else {
+        return Err(CallerFault::NoSuchSite(first));
     };
     let mut receipts = Vec::new(alloc);
     for offset in 0..sites.count() {
@@ -58,9 +72,9 @@ fn load<R: Wait>(
     client: &Client<'_>,
     offset: u32,
     receipts: &mut Vec<Receipt>,
-) -> Result<u8, ClientFault> {
+) -> Result<u8, CallerFault> {
     if receipts.reserve(1).is_err() {
-        return Err(ClientFault::OutOfMemory);
+        return Err(CallerFault::OutOfMemory);
     }
     match client.load(rt, 0, offset) {
         Ok(receipt) => {
@@ -68,7 +82,7 @@ fn load<R: Wait>(
             receipts.push_reserved(receipt);
             byte_of(answer)
         }
-        Err(fault) => Err(fault),
+        Err(fault) => Err(CallerFault::Client(fault)),
     }
 }
 
@@ -79,22 +93,22 @@ fn store<R: Wait>(
     offset: u32,
     byte: u8,
     receipts: &mut Vec<Receipt>,
-) -> Result<(), ClientFault> {
+) -> Result<(), CallerFault> {
     if receipts.reserve(1).is_err() {
-        return Err(ClientFault::OutOfMemory);
+        return Err(CallerFault::OutOfMemory);
     }
     match client.store(rt, 0, offset, byte) {
         Ok(receipt) => {
             receipts.push_reserved(receipt);
             Ok(())
         }
-        Err(fault) => Err(fault),
+        Err(fault) => Err(CallerFault::Client(fault)),
     }
 }
 
-fn byte_of(answer: Answer) -> Result<u8, ClientFault> {
+fn byte_of(answer: Answer) -> Result<u8, CallerFault> {
     match answer {
         Answer::Byte(byte) => Ok(byte),
-        _ => Err(ClientFault::GaveUp),
+        other => Err(CallerFault::NoByte(other)),
     }
 }

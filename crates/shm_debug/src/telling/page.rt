@@ -4,7 +4,7 @@ ghost use Rattle.shm_model.specs.Book.{Book, Running};
 ghost use Rattle.shm_model.specs.Site.{Site};
 ghost use Rattle.shm_model.specs.World as model;
 ghost use Rattle.shm_manager.specs.Book.{kind_and_requester};
-ghost use Rattle.shm_site.specs.Showing.{Tells};
+ghost use Rattle.shm_site.specs.Showing.{Shows};
 ghost use Rattle.shm_world.specs.Showing.{keeps_book, shown_at};
 ghost use Rattle.shm_world.specs.World.{StandsFor};
 ghost use Rattle.shm_debug.specs.Page.{book_text, manager_text, page_text, running_text, state_name, state_text, states_text};
@@ -91,7 +91,7 @@ fn tell_manager<A: Allocator>(
     shown: Option<Shown>,
     book: Option<BookView>,
 ) -> Result<(), AllocError>
-    ensures { (o : Option Site) → shown ≡ shown_at o page → is_some book ≡ keeps_book o page → ((x : Site) → o ≡ Some x → IfSome book (λ view. Tells view (x.books page))) → OnOk result (string_bytes out.new ≡ string_bytes out.old ++ manager_text o page) }
+    ensures { (o : Option Site) → shown ≡ shown_at o page → is_some book ≡ keeps_book o page → ((x : Site) → o ≡ Some x → IfSome book (λ view. Shows view (x.books page))) → OnOk result (string_bytes out.new ≡ string_bytes out.old ++ manager_text o page) }
 {
     let _place = &page;
     if shown.is_none() {
@@ -104,7 +104,7 @@ fn tell_manager<A: Allocator>(
 }
 
 fn tell_book<A: Allocator>(out: &mut String<A>, book: &BookView) -> Result<(), AllocError>
-    ensures { (b : Book) → Tells book.now b → OnOk result (string_bytes out.new ≡ string_bytes out.old ++ book_text b) }
+    ensures { (b : Book) → Shows book.now b → OnOk result (string_bytes out.new ≡ string_bytes out.old ++ book_text b) }
 {
     let owner = number_of(book.owner);
     write!(out, " owner {owner} copies ")?;

@@ -3,6 +3,7 @@ ghost use Rattle.std.specs.Prelude.{◌≡◌, ◌≤◌};
 ghost use Rattle.shm_lines.specs.Workload as said;
 
 use crate::{Access, Words};
+use shm_model::Asked;
 use shm_place::{PAGE_BYTES, PAGES, SiteId, Sites};
 
 /// How many pages the first line gives segment 0.
@@ -44,9 +45,9 @@ fn load(sites: Sites, pages: u32, words: Words<'_>) -> Option<Access>
     if !words.is_empty() || !is_inside(sites, pages, site, offset) {
         return None;
     }
-    Some(Access::Load {
+    Some(Access {
         site: SiteId(site),
-        offset,
+        asked: Asked::Load { at: 0, offset },
     })
 }
 
@@ -60,10 +61,13 @@ fn store(sites: Sites, pages: u32, words: Words<'_>) -> Option<Access>
     if !words.is_empty() || !is_inside(sites, pages, site, offset) {
         return None;
     }
-    Some(Access::Store {
+    Some(Access {
         site: SiteId(site),
-        offset,
-        byte,
+        asked: Asked::Store {
+            at: 0,
+            offset,
+            byte,
+        },
     })
 }
 

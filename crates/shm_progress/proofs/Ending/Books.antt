@@ -9,7 +9,7 @@ use Rattle.shm_model.specs.declared.kind.Kind.TheVariants.{Read, Write}
 use Rattle.shm_model.specs.Entry.{Entry, Note, Clear, Cleared, Hand, Page, Confirm, Out, Nothing, ToManager, ToSite, handed_to, on_clear, on_hand, on_page, owned, seen}
 use Rattle.shm_model.specs.Book.{Book, Order, ClearTo, HandTo, Outcome, Ignored, UsedUp, Taken, Running, Waiting, ask_behind, ask_while, awaited, awaits, cleared_while, confirm_while, ended, hand_if_cleared, is_waiting, is_write, max_sites, max_waiting, on_ask, on_cleared, on_confirm, orders, orders_of, orders_to, serve_next, start, start_first, started, unserved, with_cleared}
 use Rattle.shm_model.specs.Basics.{at, greatest}
-use Rattle.shm_laws.proofs.PageOrders.{Each}
+use Rattle.shm_laws.proofs.Page.Orders.{Each}
 use Rattle.shm_progress.specs.Deliveries.{note_deliveries, transaction_deliveries}
 
 -- rows of the entry's table

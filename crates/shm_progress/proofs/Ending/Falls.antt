@@ -8,8 +8,8 @@ use Rattle.shm_model.specs.Message.{Envelope, Message, Of, Call, Replies, Purge,
 use Rattle.shm_model.specs.Site.{Site, Step}
 use Rattle.shm_model.specs.Step.{deliver as site_deliver}
 use Rattle.shm_model.specs.World.{Next, Opening, Run, World, begun, deliver, extended, is_full, live, next, run, step_site, stepped, without}
-use Rattle.shm_laws.proofs.PageOrders.{each-imp}
-use Rattle.shm_laws.proofs.RunsOn.{run_on-append}
+use Rattle.shm_laws.proofs.Page.Orders.{each-imp}
+use Rattle.shm_laws.proofs.Run.GoesOn.{run_on-append}
 use Rattle.shm_laws.proofs.Sound.{set-here, set-there}
 use Rattle.shm_progress.specs.Deliveries.{AreOnTheirWay, deliveries_left, is_unserved, may_serve_at, may_serve_message, message_deliveries, not_gone, on_their_way, transaction_deliveries, unserved_asks}
 use Rattle.shm_progress.proofs.Ending.Sums.{count-fewer, count-less, count-none, left-more, left-without}

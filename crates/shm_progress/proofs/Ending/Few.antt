@@ -6,7 +6,7 @@ use Rattle.shm_model.specs.Book.{max_sites}
 use Rattle.shm_model.specs.Entry.{Ask, Clear, Cleared, Hand, Page, Confirm}
 use Rattle.shm_model.specs.Message.{Envelope, Message, Of, Call, Replies, Purge, Purged}
 use Rattle.shm_model.specs.World.{Framed, IsOpening, New, Opening, Preset, World, run, sites_of}
-use Rattle.shm_laws.proofs.RunInduction.{run-shape}
+use Rattle.shm_laws.proofs.Run.Induction.{run-shape}
 use Rattle.shm_progress.specs.Deliveries.{AreOnTheirWay, deliveries_left, is_unserved, message_deliveries}
 use Rattle.shm_progress.proofs.Ending.Falls.{ends}
 use Rattle.shm_progress.proofs.Ending.Sums.{left-small}

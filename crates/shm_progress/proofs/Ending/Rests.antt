@@ -7,7 +7,7 @@ use Rattle.shm_model.specs.declared.event.Event.{Event}
 use Rattle.shm_model.specs.declared.event.Event.TheVariants.{Deliver as DeliverEvent}
 use Rattle.shm_model.specs.Message.{Envelope}
 use Rattle.shm_model.specs.World.{Opening, Run, World, begun, extended, live, next, run}
-use Rattle.shm_laws.proofs.RunsOn.{run_on-append}
+use Rattle.shm_laws.proofs.Run.GoesOn.{run_on-append}
 use Rattle.shm_progress.specs.Deliveries.{AreOnTheirWay, ComesToRest, IsAtRest, deliveries_left}
 use Rattle.shm_progress.proofs.Ending.Falls.{counts, ends}
 

@@ -15,18 +15,18 @@ use Rattle.shm_model.specs.declared.call.Reply.TheVariants.{Id, Attached as Atta
 use Rattle.shm_model.specs.declared.kind.Kind.{Kind}
 use Rattle.shm_model.specs.Entry.{Entry, Note, Ask, Clear, Cleared, Hand, Page, Confirm, Out, Nothing, ToManager, ToSite, readable, writable}
 use Rattle.shm_model.specs.Book.{Book, Order, ClearTo, HandTo, Outcome, Ignored, UsedUp, Taken, untouched_book}
-use Rattle.shm_model.specs.Basics.{at}
+use Rattle.shm_model.specs.Basics.{at, at_page}
 use Rattle.shm_model.specs.Kernel.{Called, call, destroyed_by}
 use Rattle.shm_model.specs.Message.{Envelope, Message, Of, Call, Replies, Purge, Purged}
 use Rattle.shm_model.specs.Calls.{Again, Attachment, Fresh, Freshness, Old, Outstanding, fits, freshness}
-use Rattle.shm_model.specs.Site.{Frames, Site, at_page, is_attached, least_free, Step, still}
+use Rattle.shm_model.specs.Site.{Frames, Site, is_attached, least_free, Step, still}
 use Rattle.shm_model.specs.Transfer.{arranged, drop_first, is_nothing, limited, on_note, order_envelope, sent_by, settle, to_book, to_entry, with_entry}
 use Rattle.shm_model.specs.SegmentCalls.{attached_at, executed, on_call_as, on_purge, on_reply_to, purge_envelope, purged_site, reply_counts}
 use Rattle.shm_model.specs.Step.{deliver, foreign, on_message}
-use Rattle.shm_laws.proofs.PageOrders.{Each}
-use Rattle.shm_laws.proofs.PageMoves.{page-same}
-use Rattle.shm_laws.proofs.MoveTransfer.{at-page-here}
-use Rattle.shm_laws.proofs.CallsAreQuiet.{IsQuiet, call-quiet, reply-quiet}
+use Rattle.shm_laws.proofs.Page.Orders.{Each}
+use Rattle.shm_laws.proofs.Page.Moves.{page-same}
+use Rattle.shm_laws.proofs.Move.Transfer.{at-page-here}
+use Rattle.shm_laws.proofs.Move.Calls.{IsQuiet, call-quiet, reply-quiet}
 use Rattle.shm_progress.specs.Deliveries.{may_serve, may_serve_message, message_deliveries, note_deliveries, transaction_deliveries}
 use Rattle.shm_progress.proofs.Ending.Books.{AllAsked, AsksNothing, BookFalls, goes_on, starts, OutAsksNothing, RowFalls, all_deliveries, ask-falls, clear-falls, cleared-falls, confirm-falls, hand-falls, order_deliveries, out_deliveries, page-falls}
 

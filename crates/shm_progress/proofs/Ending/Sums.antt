@@ -5,7 +5,7 @@ use Rattle.std.proofs.lemmas.Bool.{cond_both, cond-true, cond-false}
 use Rattle.std.proofs.lemmas.List.Sums.{sum_by-cons, sum_by-append}
 use Rattle.shm_model.specs.Basics.{at}
 use Rattle.shm_model.specs.Message.{Envelope}
-use Rattle.shm_laws.proofs.PageOrders.{Each}
+use Rattle.shm_laws.proofs.Page.Orders.{Each}
 use Rattle.shm_progress.specs.Deliveries.{not_gone}
 
 some-same : {X : Type 0} (x y : X) → Some x ≡ Some y → x ≡ y

@@ -11,7 +11,7 @@ use Rattle.shm_model.specs.Basics.{greatest}
 use Rattle.shm_model.specs.Message.{Envelope, Of}
 use Rattle.shm_model.specs.Site.{Site}
 use Rattle.shm_model.specs.World.{Opening, run, sites_of}
-use Rattle.shm_laws.proofs.PageOrders.{Each, each-imp}
+use Rattle.shm_laws.proofs.Page.Orders.{Each, each-imp}
 use Rattle.shm_progress.proofs.Ending.Books.{AllAsked}
 use Rattle.shm_progress.proofs.Ending.Steps.{WaitingAsked}
 use Rattle.shm_progress.proofs.BooksKept.{OutcomeHolds, WorldRule, run-books}

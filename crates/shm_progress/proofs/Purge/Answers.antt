@@ -15,11 +15,11 @@ use Rattle.shm_model.specs.Message.{Envelope, Input, Purge, Purged}
 use Rattle.shm_model.specs.SegmentCalls.{purge_envelope, purges, reply_envelope}
 use Rattle.shm_model.specs.Site.{Site, is_attached, Step}
 use Rattle.shm_model.specs.Step.{ask_again, call_again, deliver, foreign, is_proper, orders_again, purges_again, tick_envelopes}
-use Rattle.shm_laws.proofs.RunsOn.{slice_get-range}
-use Rattle.shm_laws.proofs.CallsTurn.{Desk, Turn, again, attached, detach_begun, ended, executed, hears_purged, missing_with, old, op_begun, purges_one, quiet}
-use Rattle.shm_laws.proofs.CallsInvariant.{at-cases}
-use Rattle.shm_laws.proofs.CallsSteps.{at-here}
-use Rattle.shm_laws.proofs.KernelParts.{found-id}
+use Rattle.shm_laws.proofs.Run.GoesOn.{slice_get-range}
+use Rattle.shm_laws.proofs.Call.Turn.{Desk, Turn, again, attached, detach_begun, ended, executed, hears_purged, missing_with, old, op_begun, purges_one, quiet}
+use Rattle.shm_laws.proofs.Call.Invariant.{at-cases}
+use Rattle.shm_laws.proofs.Call.Steps.{at-here}
+use Rattle.shm_laws.proofs.Kernel.Parts.{found-id}
 use Rattle.shm_progress.specs.Purging.{purged_envelope}
 
 -- elements of lists

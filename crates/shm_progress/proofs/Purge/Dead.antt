@@ -10,16 +10,16 @@ use Rattle.shm_model.specs.Permission.{Segment, destroyed}
 use Rattle.shm_model.specs.Kernel.{is_destroyed, with_id}
 use Rattle.shm_model.specs.Calls.{Attachment}
 use Rattle.shm_model.specs.Site.{Site, is_attached, is_attachment_of, max_attachments}
-use Rattle.shm_model.specs.Memory.{names}
+use Rattle.shm_model.specs.Memory.{segment_of}
 use Rattle.shm_model.specs.History.{segments_after}
 use Rattle.shm_model.specs.World.{IsOpening, Opening, Run, World, opened_site, run, sites_of}
-use Rattle.shm_laws.proofs.RunInduction.{run-shape}
-use Rattle.shm_laws.proofs.KernelLists.{found-holds}
-use Rattle.shm_laws.proofs.KernelParts.{finds-id, found-id}
-use Rattle.shm_laws.proofs.CallsTurn.{desk_of}
-use Rattle.shm_laws.proofs.CallsNames.{id_of}
-use Rattle.shm_laws.proofs.CallsOnce.{homes-keep}
-use Rattle.shm_laws.proofs.CallsCounted.{attachments-counted, run-counted}
+use Rattle.shm_laws.proofs.Run.Induction.{run-shape}
+use Rattle.shm_laws.proofs.Kernel.Lists.{found-holds}
+use Rattle.shm_laws.proofs.Kernel.Parts.{finds-id, found-id}
+use Rattle.shm_laws.proofs.Call.Turn.{desk_of}
+use Rattle.shm_laws.proofs.Call.Names.{id_of}
+use Rattle.shm_laws.proofs.Call.Once.{homes-keep}
+use Rattle.shm_laws.proofs.Call.Counted.{attachments-counted, run-counted}
 use Rattle.shm_progress.proofs.Purge.Tables.{InLimits}
 use Rattle.shm_progress.proofs.Purge.Homes.{HomeKeeps, run-keeps}
 
@@ -58,7 +58,7 @@ module _ (o : Opening) (opening : IsOpening o) (events : List Event) where
       small : s < sites_of o
       small = let within = slice_get_within r.world.sites s y found in let all = (run-shape o events).sites in omega (arith, within, all)
 
-      name : names o r.account s a ≡ id_of (y.attachments a)
+      name : segment_of o r.account s a ≡ id_of (y.attachments a)
       name = (run-counted o opening events).named.names s a ∙ ap (λ (z : Site). id_of (z.attachments a)) (get_or_from_slice_get r.world.sites s y (opened_site o s) found)
 
       by-found : (t : Option Attachment) → y.attachments a ≡ t → is_attachment_of id t ≡ false

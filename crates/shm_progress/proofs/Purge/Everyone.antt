@@ -15,12 +15,12 @@ use Rattle.shm_model.specs.Message.{Deliver, Envelope, Input, Purge, Purged}
 use Rattle.shm_model.specs.SegmentCalls.{purge_envelope, purges, reply_envelope}
 use Rattle.shm_model.specs.Site.{Site}
 use Rattle.shm_model.specs.World.{Done, Framed, New, Opening, Preset, opened_site, run, sites_of}
-use Rattle.shm_laws.proofs.CallsTurn.{Desk, Repeats, Turn, again, attached, detach_begun, ended, executed, hears_purged, missing_with, old, op_begun, purges_one, quiet}
-use Rattle.shm_laws.proofs.CallsInvariant.{at-cases}
-use Rattle.shm_laws.proofs.CallsSteps.{at-here}
-use Rattle.shm_laws.proofs.CallsRun.{ByTurns, Honest, desks, run-turns}
-use Rattle.shm_laws.proofs.CallsOnce.{Once, none-sent, once-after, once-first, once-stays}
-use Rattle.shm_laws.proofs.KernelLists.{every-contains}
+use Rattle.shm_laws.proofs.Call.Turn.{Desk, Repeats, Turn, again, attached, detach_begun, ended, executed, hears_purged, missing_with, old, op_begun, purges_one, quiet}
+use Rattle.shm_laws.proofs.Call.Invariant.{at-cases}
+use Rattle.shm_laws.proofs.Call.Steps.{at-here}
+use Rattle.shm_laws.proofs.Call.Run.{ByTurns, Honest, desks, run-turns}
+use Rattle.shm_laws.proofs.Call.Once.{Once, none-sent, once-after, once-first, once-stays}
+use Rattle.shm_laws.proofs.Kernel.Lists.{every-contains}
 use Rattle.shm_progress.proofs.Purge.Tables.{destroyed-named, named-home}
 
 -- each site has purged the segment, or its home misses its answer

@@ -8,10 +8,10 @@ use Rattle.shm_model.specs.SegmentCalls.{purge_envelope}
 use Rattle.shm_model.specs.Site.{Site, Step}
 use Rattle.shm_model.specs.Step.{deliver, step}
 use Rattle.shm_model.specs.World.{IsOpening, Next, Opening, World, is_full, live, next, run, step_site, stepped, without}
-use Rattle.shm_laws.proofs.RunInduction.{run-shape}
+use Rattle.shm_laws.proofs.Run.Induction.{run-shape}
 use Rattle.shm_laws.proofs.Sound.{set-here, set-there}
-use Rattle.shm_laws.proofs.CallsTurn.{desk_of}
-use Rattle.shm_laws.proofs.CallsTurns.{turn-step}
+use Rattle.shm_laws.proofs.Call.Turn.{desk_of}
+use Rattle.shm_laws.proofs.Call.Turns.{turn-step}
 use Rattle.shm_progress.specs.Deliveries.{IsAtRest}
 use Rattle.shm_progress.specs.OnTheWay.{IsOnItsWay, NothingLost, is_loss}
 use Rattle.shm_progress.specs.Purging.{IsBeingPurged, PurgesGoOn, purged_envelope}

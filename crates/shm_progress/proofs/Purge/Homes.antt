@@ -13,10 +13,10 @@ use Rattle.shm_model.specs.Message.{Envelope, Input}
 use Rattle.shm_model.specs.Calls.{op_home}
 use Rattle.shm_model.specs.Site.{Site}
 use Rattle.shm_model.specs.World.{Done, IsOpening, Opening, New, Preset, Framed, opened_site, preset_segment, run, sites_of}
-use Rattle.shm_laws.proofs.CallsTurn.{Desk, Turn, again, attached, desk_of, detach_begun, ended, executed, executed_desk, hears_purged, missing_with, old, op_begun, purges_one, quiet}
-use Rattle.shm_laws.proofs.CallsInvariant.{at-cases}
-use Rattle.shm_laws.proofs.CallsRun.{ByTurns, Honest, run-turns}
-use Rattle.shm_laws.proofs.CallsOnce.{Once, once-after, once-first, once-stays}
+use Rattle.shm_laws.proofs.Call.Turn.{Desk, Turn, again, attached, desk_of, detach_begun, ended, executed, executed_desk, hears_purged, missing_with, old, op_begun, purges_one, quiet}
+use Rattle.shm_laws.proofs.Call.Invariant.{at-cases}
+use Rattle.shm_laws.proofs.Call.Run.{ByTurns, Honest, run-turns}
+use Rattle.shm_laws.proofs.Call.Once.{Once, once-after, once-first, once-stays}
 use Rattle.shm_progress.proofs.Purge.Tables.{Limited, call-limited, destroyed-named, destroyed-stays, named-home}
 
 pub record Missing (sites home : ℕ) (table : List Segment) (id s : ℕ) : Type 0 where

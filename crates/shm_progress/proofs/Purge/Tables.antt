@@ -11,9 +11,9 @@ use Rattle.shm_model.specs.Basics.{greatest}
 use Rattle.shm_model.specs.Permission.{Segment, destroyed, has_creat, has_excl, is_owner, may_attach, may_get, may_stat}
 use Rattle.shm_model.specs.Kernel.{Called, attach, call, destroyed_in, detach, get_found, is_destroyed, live_at, made_at, make, max_live, named_by, next_id, on_live, remove, replaced, set, stat, with_id, with_key}
 use Rattle.shm_model.specs.Calls.{is_size, op_home}
-use Rattle.shm_laws.proofs.KernelEffect.{effect-call, every-replaced}
-use Rattle.shm_laws.proofs.KernelCount.{found-after}
-use Rattle.shm_laws.proofs.KernelLists.{every-push, found-holds}
+use Rattle.shm_laws.proofs.Kernel.Effect.{effect-call, every-replaced}
+use Rattle.shm_laws.proofs.Kernel.Count.{found-after}
+use Rattle.shm_laws.proofs.Kernel.Lists.{every-push, found-holds}
 
 abbrev pub InLimits : ℕ → Segment → Type 0
 InLimits sites g = g.id < segments_of_a_home * sites

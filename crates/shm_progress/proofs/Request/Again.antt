@@ -12,9 +12,9 @@ use Rattle.shm_model.specs.Site.{Pending, Site, Step}
 use Rattle.shm_model.specs.Step.{step}
 use Rattle.shm_model.specs.World.{IsOpening, Opening, Run, World, begun, is_full, live, next, run, sites_of, stepped}
 use Rattle.shm_laws.proofs.Headline.{size-of}
-use Rattle.shm_laws.proofs.PageOrders.{Each}
-use Rattle.shm_laws.proofs.RunInduction.{IsHonest, run-shape}
-use Rattle.shm_laws.proofs.RunsOn.{run_on-append}
+use Rattle.shm_laws.proofs.Page.Orders.{Each}
+use Rattle.shm_laws.proofs.Run.Induction.{IsHonest, run-shape}
+use Rattle.shm_laws.proofs.Run.GoesOn.{run_on-append}
 use Rattle.shm_laws.proofs.Sound.{each-in, set-here, set-there}
 use Rattle.shm_progress.specs.Deliveries.{IsAtRest}
 use Rattle.shm_progress.specs.OnTheWay.{NothingLost}

@@ -9,18 +9,18 @@ use Rattle.shm_model.specs.declared.kind.Kind.{Kind}
 use Rattle.shm_model.specs.declared.kind.Kind.TheVariants.{Read, Write}
 use Rattle.shm_model.specs.Entry.{Entry, Note, Ask, Clear, Cleared, Hand, Page, Confirm, Out, Nothing, ToManager, ToSite, on_clear, on_hand, on_page, readable, writable}
 use Rattle.shm_model.specs.Book.{ClearTo, HandTo, Order, Outcome, Ignored, UsedUp, Taken, on_ask, on_cleared, on_confirm, orders}
-use Rattle.shm_model.specs.Basics.{greatest}
+use Rattle.shm_model.specs.Basics.{at_page, greatest}
 use Rattle.shm_model.specs.Calls.{Outstanding}
 use Rattle.shm_model.specs.Message.{Envelope, Input, Load, Store, Begin, Deliver, Tick, Restart, Message, Of, Call, Replies, Purge, Purged}
 use Rattle.shm_model.specs.SegmentCalls.{purge_envelope}
-use Rattle.shm_model.specs.Site.{Frames, Pending, Site, at_page, is_attached, Step}
+use Rattle.shm_model.specs.Site.{Frames, Pending, Site, is_attached, Step}
 use Rattle.shm_model.specs.Access.{Place, ask_for, asked, is_pending, load_if, put_pending, right, store_if}
 use Rattle.shm_model.specs.Transfer.{arranged, drop_first, is_nothing, limited, on_note, order_envelope, sent_by, settle, to_book, to_entry}
 use Rattle.shm_model.specs.Step.{ask_again, call_again, foreign, on_message, orders_again, purges_again, step, tick_envelopes}
-use Rattle.shm_laws.proofs.PageMoves.{off-of}
-use Rattle.shm_laws.proofs.PageOrders.{Each, each-imp}
-use Rattle.shm_laws.proofs.MoveSteps.{each-append, each-flat, each-of}
-use Rattle.shm_laws.proofs.CallsAreQuiet.{IsQuiet, begin-quiet, call-quiet, purged-quiet, reply-quiet}
+use Rattle.shm_laws.proofs.Page.Moves.{off-of}
+use Rattle.shm_laws.proofs.Page.Orders.{Each, each-imp}
+use Rattle.shm_laws.proofs.Move.Steps.{each-append, each-flat, each-of}
+use Rattle.shm_laws.proofs.Move.Calls.{IsQuiet, begin-quiet, call-quiet, purged-quiet, reply-quiet}
 use Rattle.shm_progress.proofs.Ending.Books.{AsksNothing, OutAsksNothing, clear-falls, hand-falls, page-falls}
 use Rattle.shm_progress.proofs.Purge.Answers.{contains-first, contains-later}
 use Rattle.shm_progress.proofs.Request.Once.{Once, none-in, once-filter, once-put, once-settle, put-has}

@@ -7,11 +7,12 @@ use Rattle.shm_model.specs.declared.event.Event.TheVariants.{Load as LoadEvent, 
 use Rattle.shm_model.specs.Entry.{Entry, Note, Ask, Clear, Cleared, Hand, Page, Confirm, Out, on_clear, on_hand, on_page, readable, writable}
 use Rattle.shm_model.specs.Book.{Outcome, Ignored, UsedUp, Taken, on_ask, on_cleared, on_confirm}
 use Rattle.shm_model.specs.Message.{Envelope, Input, Load, Store, Begin, Deliver, Tick, Restart, Message, Of, Call, Replies, Purge, Purged}
-use Rattle.shm_model.specs.Site.{Site, at_page, is_attached, Step}
+use Rattle.shm_model.specs.Basics.{at_page}
+use Rattle.shm_model.specs.Site.{Site, is_attached, Step}
 use Rattle.shm_model.specs.Transfer.{arranged, is_nothing, on_note, settle, to_book, to_entry}
 use Rattle.shm_model.specs.Step.{foreign, on_message, step}
 use Rattle.shm_model.specs.World.{Next, World, deliver, hand_over, is_full, live, lose, next, step_site, stepped, without}
-use Rattle.shm_laws.proofs.CallsAreQuiet.{begin-quiet, call-quiet, purged-quiet, reply-quiet}
+use Rattle.shm_laws.proofs.Move.Calls.{begin-quiet, call-quiet, purged-quiet, reply-quiet}
 use Rattle.shm_progress.specs.Rounds.{is_access}
 use Rattle.shm_progress.proofs.Request.Asking.{limited-requests}
 

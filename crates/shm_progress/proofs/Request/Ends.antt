@@ -6,7 +6,7 @@ use Rattle.shm_model.specs.declared.event.Event.TheVariants.{Tick}
 use Rattle.shm_model.specs.Book.{Running, Waiting, is_waiting}
 use Rattle.shm_model.specs.Site.{Pending, Site}
 use Rattle.shm_model.specs.World.{IsOpening, Opening, Run, World, is_full, live, run, sites_of}
-use Rattle.shm_laws.proofs.RunInduction.{run-shape}
+use Rattle.shm_laws.proofs.Run.Induction.{run-shape}
 use Rattle.shm_progress.specs.Deliveries.{IsAtRest}
 use Rattle.shm_progress.specs.OnTheWay.{NothingLost}
 use Rattle.shm_progress.specs.Requests.{IsStarted, IsTakenUp, IsTakenUpAt, RequestsSettled, TookNone, TurnedAway}

@@ -11,7 +11,7 @@ use Rattle.shm_model.specs.Site.{Pending, Site}
 use Rattle.shm_model.specs.Step.{step}
 use Rattle.shm_model.specs.Transfer.{is_settled}
 use Rattle.shm_model.specs.World.{IsOpening, Opening, Run, World, is_full, next, run, sites_of, stepped}
-use Rattle.shm_laws.proofs.PageOrders.{Each}
+use Rattle.shm_laws.proofs.Page.Orders.{Each}
 use Rattle.shm_laws.proofs.Sound.{set-here, set-there}
 use Rattle.shm_progress.specs.OnTheWay.{NothingLost}
 use Rattle.shm_progress.specs.Deliveries.{IsAtRest}

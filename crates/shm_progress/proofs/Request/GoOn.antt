@@ -12,7 +12,7 @@ use Rattle.shm_model.specs.Message.{Envelope, Input, Deliver, Restart, Tick}
 use Rattle.shm_model.specs.Site.{Pending, Site, Step}
 use Rattle.shm_model.specs.Step.{ask_again, deliver, step}
 use Rattle.shm_model.specs.World.{IsOpening, Next, Opening, Run, World, is_full, live, next, run, sites_of, step_site, stepped, without}
-use Rattle.shm_laws.proofs.RunInduction.{Shape, run-shape}
+use Rattle.shm_laws.proofs.Run.Induction.{Shape, run-shape}
 use Rattle.shm_laws.proofs.Sound.{set-here, set-there}
 use Rattle.shm_laws.proofs.Headline.{size-of}
 use Rattle.shm_progress.specs.Deliveries.{IsAtRest}

@@ -7,17 +7,17 @@ use Rattle.shm_place.specs.declared.page.PageId.{PageId}
 use Rattle.shm_place.specs.Page.{same_page}
 use Rattle.shm_model.specs.declared.kind.Kind.{Kind}
 use Rattle.shm_model.specs.declared.kind.Kind.TheVariants.{Read, Write}
-use Rattle.shm_model.specs.Basics.{greatest}
+use Rattle.shm_model.specs.Basics.{at_page, greatest}
 use Rattle.shm_model.specs.Book.{Outcome, Ignored, UsedUp, Taken, is_write, on_ask, on_cleared, on_confirm}
 use Rattle.shm_model.specs.Entry.{Entry, Nil, Copy, OwnRead, OwnWrite, Handed, Note, Ask, Clear, Cleared, Hand, Page, Confirm, Out, handed_to, installed, is_copy, meet, on_clear, on_hand, on_page, owned, readable, seen, writable}
 use Rattle.shm_model.specs.Message.{Input, Load, Store, Begin, Deliver, Tick, Restart, Message, Of, Call, Replies, Purge, Purged}
-use Rattle.shm_model.specs.Site.{Frames, Pending, Site, at_page, is_attached, Step}
+use Rattle.shm_model.specs.Site.{Frames, Pending, Site, is_attached, Step}
 use Rattle.shm_model.specs.Access.{Place, ask_for, is_pending, load_if, put_pending, right, serves, store_if}
 use Rattle.shm_model.specs.Transfer.{arranged, drop_first, is_nothing, is_settled, limited, on_note, reordered, settle, to_book, to_entry, without_page}
 use Rattle.shm_model.specs.Step.{foreign, on_message, step}
-use Rattle.shm_laws.proofs.CallsAreQuiet.{begin-quiet, call-quiet, purged-quiet, reply-quiet}
-use Rattle.shm_laws.proofs.PageMoves.{page-same, same-page}
-use Rattle.shm_laws.proofs.MoveTransfer.{at-page-here}
+use Rattle.shm_laws.proofs.Move.Calls.{begin-quiet, call-quiet, purged-quiet, reply-quiet}
+use Rattle.shm_laws.proofs.Page.Moves.{page-same, same-page}
+use Rattle.shm_laws.proofs.Move.Transfer.{at-page-here}
 use Rattle.shm_progress.proofs.Purge.Answers.{contains-first, contains-later}
 use Rattle.shm_progress.proofs.Request.Limit.{Limited}
 use Rattle.shm_progress.proofs.Request.Once.{none-in, put-has}

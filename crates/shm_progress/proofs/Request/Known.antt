@@ -13,8 +13,8 @@ use Rattle.shm_model.specs.Message.{Envelope, Input, Of}
 use Rattle.shm_model.specs.Site.{Pending, Site, Step}
 use Rattle.shm_model.specs.Step.{step}
 use Rattle.shm_model.specs.World.{Framed, New, Opening, Preset, World, begun, opened_site, run, sites_of}
-use Rattle.shm_laws.proofs.RunInduction.{Kept, run-good}
-use Rattle.shm_laws.proofs.RunsOn.{slice_get-range}
+use Rattle.shm_laws.proofs.Run.Induction.{Kept, run-good}
+use Rattle.shm_laws.proofs.Run.GoesOn.{slice_get-range}
 use Rattle.shm_laws.proofs.Sound.{each-in, set-here, set-there}
 use Rattle.shm_progress.proofs.Request.Asking.{Asking, AsksFor, step-asking}
 use Rattle.shm_progress.proofs.Request.Once.{Once, none-in, once-same}

@@ -13,8 +13,8 @@ use Rattle.shm_model.specs.Site.{Pending, Site}
 use Rattle.shm_model.specs.Access.{place_in}
 use Rattle.shm_model.specs.Step.{ask_again, step}
 use Rattle.shm_model.specs.World.{Framed, IsOpening, New, Opening, Preset, Run, World, is_full, next, opened_site, run, sites_of, stepped}
-use Rattle.shm_laws.proofs.PageOrders.{Each}
-use Rattle.shm_laws.proofs.RunsOn.{slice_get-range}
+use Rattle.shm_laws.proofs.Page.Orders.{Each}
+use Rattle.shm_laws.proofs.Run.GoesOn.{slice_get-range}
 use Rattle.shm_laws.proofs.Sound.{set-here, set-there}
 use Rattle.shm_progress.proofs.OnTheWay.{Moved, same, drops, steps, moved}
 use Rattle.shm_progress.proofs.Along.{along, run-more}

@@ -5,7 +5,7 @@ use Rattle.std.proofs.lemmas.Bool.{and_from, cond_both, cond-true, eq-eqb, leb-f
 use Rattle.shm_model.specs.declared.kind.Kind.{Kind}
 use Rattle.shm_model.specs.Book.{Book, Running, Waiting, ask_while, awaits, cleared_while, confirm_while, is_waiting, is_write, max_waiting, on_ask, on_cleared, on_confirm, serve_next, start, start_first, started, unserved, without_volatile}
 use Rattle.shm_model.specs.Basics.{at, greatest}
-use Rattle.shm_laws.proofs.PageOrders.{Each}
+use Rattle.shm_laws.proofs.Page.Orders.{Each}
 use Rattle.shm_progress.proofs.Ending.Books.{AllAsked}
 use Rattle.shm_progress.proofs.Ending.Waiting.{each-push, unserved-waits}
 use Rattle.shm_progress.proofs.BooksKept.{OutcomeHolds}

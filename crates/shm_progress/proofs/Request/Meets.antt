@@ -7,15 +7,15 @@ use Rattle.shm_model.specs.declared.kind.Kind.{Kind}
 use Rattle.shm_model.specs.declared.kind.Kind.TheVariants.{Read, Write}
 use Rattle.shm_model.specs.Entry.{Entry, Nil, Copy, OwnRead, OwnWrite, Handed, Note, Ask, Clear, Cleared, Hand, Page, Confirm, Out, forget, on_clear, on_hand, on_page, readable, seen, writable}
 use Rattle.shm_model.specs.Book.{Outcome, Ignored, UsedUp, Taken, on_ask, on_cleared, on_confirm}
-use Rattle.shm_model.specs.Basics.{greatest}
+use Rattle.shm_model.specs.Basics.{at_page, greatest}
 use Rattle.shm_model.specs.Message.{Envelope, Input, Load, Store, Begin, Deliver, Tick, Restart, Message, Of, Call, Replies, Purge, Purged}
-use Rattle.shm_model.specs.Site.{Frames, Pending, Site, at_page, is_attached, Step}
+use Rattle.shm_model.specs.Site.{Frames, Pending, Site, is_attached, Step}
 use Rattle.shm_model.specs.Access.{Place, ask_for, is_pending, load_if, right, store_if, stored_entry}
 use Rattle.shm_model.specs.Transfer.{arranged, drop_first, is_nothing, is_settled, limited, on_note, settle, to_book, to_entry}
 use Rattle.shm_model.specs.Step.{foreign, on_message, step}
-use Rattle.shm_laws.proofs.PageView.{Fits, View}
-use Rattle.shm_laws.proofs.PageMoves.{page-same}
-use Rattle.shm_laws.proofs.CallsAreQuiet.{IsQuiet, begin-quiet, call-quiet, purged-quiet, reply-quiet}
+use Rattle.shm_laws.proofs.Page.View.{Fits, View}
+use Rattle.shm_laws.proofs.Page.Moves.{page-same}
+use Rattle.shm_laws.proofs.Move.Calls.{IsQuiet, begin-quiet, call-quiet, purged-quiet, reply-quiet}
 use Rattle.shm_progress.proofs.Request.Met.{SettlesBy, clear-settles, hand-settles, page-settles}
 use Rattle.shm_progress.proofs.Request.Once.{Once, settle-left}
 use Rattle.shm_progress.proofs.Request.Pending.{limited-pending}

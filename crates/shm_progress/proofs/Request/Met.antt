@@ -7,8 +7,8 @@ use Rattle.shm_model.specs.Entry.{Entry, Nil, Copy, OwnRead, OwnWrite, Handed, C
 use Rattle.shm_model.specs.Book.{Running, is_write}
 use Rattle.shm_model.specs.Site.{Pending}
 use Rattle.shm_model.specs.Transfer.{is_settled}
-use Rattle.shm_laws.proofs.PageView.{View, ClearRuns, Fits, HandFits, InFlight, Runs}
-use Rattle.shm_laws.proofs.PageKeep.{seen-meet}
+use Rattle.shm_laws.proofs.Page.View.{View, ClearRuns, Fits, HandFits, InFlight, Runs}
+use Rattle.shm_laws.proofs.Page.Keep.{seen-meet}
 
 same-run : (found : Option Running) (x y : Running) → found ≡ Some x → found ≡ Some y → x ≡ y
 same-run found x y e f = cc

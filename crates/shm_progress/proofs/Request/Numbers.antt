@@ -18,10 +18,10 @@ use Rattle.shm_model.specs.Access.{right}
 use Rattle.shm_model.specs.Transfer.{on_note, order_envelope, to_book}
 use Rattle.shm_model.specs.Step.{foreign, on_message, step}
 use Rattle.shm_model.specs.World.{Framed, New, Opening, Preset, World, begun, is_full, opened_site, run, sites_of}
-use Rattle.shm_laws.proofs.CallsAreQuiet.{begin-quiet, call-quiet, purged-quiet, reply-quiet}
-use Rattle.shm_laws.proofs.PageMoves.{page-same}
-use Rattle.shm_laws.proofs.RunInduction.{Kept, run-good}
-use Rattle.shm_laws.proofs.RunsOn.{slice_get-range}
+use Rattle.shm_laws.proofs.Move.Calls.{begin-quiet, call-quiet, purged-quiet, reply-quiet}
+use Rattle.shm_laws.proofs.Page.Moves.{page-same}
+use Rattle.shm_laws.proofs.Run.Induction.{Kept, run-good}
+use Rattle.shm_laws.proofs.Run.GoesOn.{slice_get-range}
 use Rattle.shm_laws.proofs.Sound.{set-here, set-there}
 use Rattle.shm_progress.proofs.Transfer.Steps.{entry-aside, load-aside, store-aside}
 

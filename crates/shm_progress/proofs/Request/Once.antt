@@ -6,7 +6,7 @@ use Rattle.shm_place.specs.Page.{same_page}
 use Rattle.shm_model.specs.Site.{Pending}
 use Rattle.shm_model.specs.Access.{put_pending}
 use Rattle.shm_model.specs.Transfer.{is_settled, settle}
-use Rattle.shm_laws.proofs.PageMoves.{page-same, same-page}
+use Rattle.shm_laws.proofs.Page.Moves.{page-same, same-page}
 use Rattle.shm_progress.proofs.Purge.Answers.{contains-first, contains-later}
 use Rattle.shm_progress.proofs.Request.Pending.{contains-cons, filter-before, put-before, settle-before}
 

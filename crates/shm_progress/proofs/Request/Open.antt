@@ -8,20 +8,20 @@ use Rattle.shm_place.specs.declared.page.PageId.{PageId}
 use Rattle.shm_model.specs.declared.event.Event.{Event}
 use Rattle.shm_model.specs.Entry.{Note, Ask, Clear, Cleared, Hand, Page, Confirm, on_clear, on_hand, on_page}
 use Rattle.shm_model.specs.Book.{Outcome, Ignored, UsedUp, Taken, on_ask, on_cleared, on_confirm}
-use Rattle.shm_model.specs.Memory.{names}
+use Rattle.shm_model.specs.Memory.{segment_of}
 use Rattle.shm_model.specs.Message.{Input, Load, Store, Begin, Deliver, Tick, Restart, Message, Of, Call, Replies, Purge, Purged}
 use Rattle.shm_model.specs.Site.{Pending, Site, is_attached, Step}
 use Rattle.shm_model.specs.Access.{right}
 use Rattle.shm_model.specs.Transfer.{on_note, to_book}
 use Rattle.shm_model.specs.Step.{ask_again, foreign, on_message, step}
 use Rattle.shm_model.specs.World.{Framed, IsOpening, New, Opening, Preset, Run, World, next, opened_site, run, sites_of}
-use Rattle.shm_laws.proofs.CallsAreQuiet.{begin-quiet, call-quiet, purged-quiet, reply-quiet}
-use Rattle.shm_laws.proofs.CallsCounted.{run-counted}
-use Rattle.shm_laws.proofs.CallsNames.{id_of}
-use Rattle.shm_laws.proofs.CallsPurged.{purged-dead}
-use Rattle.shm_laws.proofs.PageOrders.{Each, each-filter}
-use Rattle.shm_laws.proofs.RunInduction.{run-shape}
-use Rattle.shm_laws.proofs.RunsOn.{slice_get-range}
+use Rattle.shm_laws.proofs.Move.Calls.{begin-quiet, call-quiet, purged-quiet, reply-quiet}
+use Rattle.shm_laws.proofs.Call.Counted.{run-counted}
+use Rattle.shm_laws.proofs.Call.Names.{id_of}
+use Rattle.shm_laws.proofs.Call.Purged.{purged-dead}
+use Rattle.shm_laws.proofs.Page.Orders.{Each, each-filter}
+use Rattle.shm_laws.proofs.Run.Induction.{run-shape}
+use Rattle.shm_laws.proofs.Run.GoesOn.{slice_get-range}
 use Rattle.shm_laws.proofs.Sound.{each-in, set-here, set-there}
 use Rattle.shm_progress.proofs.Along.{run-more}
 use Rattle.shm_progress.proofs.OnTheWay.{Moved, same, drops, steps, moved}
@@ -89,7 +89,7 @@ module _ (o : Opening) (opening : IsOpening o) where
       let all = (run-shape o events).sites in
       let within = slice_get_within (run o events).world.sites s x found in
       let small : s < sites_of o = omega (arith, within, all) in
-      let name : names o (run o events).account s placed.number ≡ id_of (x.attachments placed.number) =
+      let name : segment_of o (run o events).account s placed.number ≡ id_of (x.attachments placed.number) =
       (run-counted o opening events).named.names s placed.number ∙ ap (λ (z : Site). id_of (z.attachments placed.number)) (get_or_from_slice_get (run o events).world.sites s x (opened_site o s) found) in
       let seg : placed.through.id ≡ q.seg = ap (λ (k : PageId). k.seg) placed.page_is in
       (purged-dead o opening events).unnamed s s placed.number placed.through.id x found (subst (λ k. x.purged k ≡ true) (sym seg) gone) small (name ∙ ap id_of placed.is)

@@ -9,14 +9,14 @@ use Rattle.shm_model.specs.declared.kind.Kind.{Kind}
 use Rattle.shm_model.specs.declared.kind.Kind.TheVariants.{Read, Write}
 use Rattle.shm_model.specs.Entry.{Entry, Note, Ask, Clear, Cleared, Hand, Page, Confirm, Out, on_clear, on_hand, on_page, readable, writable}
 use Rattle.shm_model.specs.Book.{Outcome, Ignored, UsedUp, Taken, on_ask, on_cleared, on_confirm}
-use Rattle.shm_model.specs.Basics.{greatest}
+use Rattle.shm_model.specs.Basics.{at_page, greatest}
 use Rattle.shm_model.specs.Message.{Envelope, Input, Load, Store, Begin, Deliver, Tick, Restart, Message, Of, Call, Replies, Purge, Purged}
-use Rattle.shm_model.specs.Site.{Frames, Pending, Site, at_page, is_attached, Step}
+use Rattle.shm_model.specs.Site.{Frames, Pending, Site, is_attached, Step}
 use Rattle.shm_model.specs.Calls.{Attachment}
 use Rattle.shm_model.specs.Access.{Place, place_in, right_through, ask_for, is_pending, load_if, put_pending, right, store_if}
 use Rattle.shm_model.specs.Transfer.{arranged, drop_first, is_nothing, is_settled, limited, on_note, settle, to_book, to_entry}
 use Rattle.shm_model.specs.Step.{ask_again, foreign, on_message, step, tick_envelopes}
-use Rattle.shm_laws.proofs.CallsAreQuiet.{begin-quiet, call-quiet, purged-quiet, reply-quiet}
+use Rattle.shm_laws.proofs.Move.Calls.{begin-quiet, call-quiet, purged-quiet, reply-quiet}
 use Rattle.shm_progress.proofs.Purge.Answers.{contains-first, contains-later}
 use Rattle.shm_progress.proofs.Transfer.Told.{map-contains}
 

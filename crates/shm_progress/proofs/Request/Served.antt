@@ -11,7 +11,7 @@ use Rattle.shm_model.specs.Basics.{at}
 use Rattle.shm_model.specs.Message.{Envelope}
 use Rattle.shm_model.specs.Site.{Site}
 use Rattle.shm_model.specs.World.{Opening, run, sites_of}
-use Rattle.shm_laws.proofs.PageOrders.{each-imp}
+use Rattle.shm_laws.proofs.Page.Orders.{each-imp}
 use Rattle.shm_progress.proofs.Ending.Books.{AllAsked, BookFalls, ignored, used_up, goes_on, starts, ask-falls, cleared-falls, confirm-falls}
 use Rattle.shm_progress.proofs.Ending.Waiting.{ask-waits, cleared-waits-while, confirm-waits-while}
 use Rattle.shm_progress.proofs.BooksKept.{OutcomeHolds, WorldRule, run-books}

@@ -15,12 +15,12 @@ use Rattle.shm_model.specs.Message.{Envelope, Input, Deliver, Of}
 use Rattle.shm_model.specs.Site.{Pending, Site, Step}
 use Rattle.shm_model.specs.Step.{step}
 use Rattle.shm_model.specs.World.{Framed, IsOpening, New, Opening, Preset, Run, World, next, opened_site, run, sites_of, stepped}
-use Rattle.shm_laws.proofs.PageMoves.{EnvelopeFits, now_of}
-use Rattle.shm_laws.proofs.PageOrders.{each-imp}
-use Rattle.shm_laws.proofs.PageView.{Fits, View}
+use Rattle.shm_laws.proofs.Page.Moves.{EnvelopeFits, now_of}
+use Rattle.shm_laws.proofs.Page.Orders.{each-imp}
+use Rattle.shm_laws.proofs.Page.View.{Fits, View}
 use Rattle.shm_laws.proofs.Headline.{run-sound}
-use Rattle.shm_laws.proofs.RunInduction.{IsHonest, run-shape}
-use Rattle.shm_laws.proofs.RunsOn.{slice_get-range}
+use Rattle.shm_laws.proofs.Run.Induction.{IsHonest, run-shape}
+use Rattle.shm_laws.proofs.Run.GoesOn.{slice_get-range}
 use Rattle.shm_laws.proofs.Sound.{PageSound, each-in, set-here, set-there}
 use Rattle.shm_progress.specs.Requests.{StartedAreServed}
 use Rattle.shm_progress.proofs.Along.{run-more}

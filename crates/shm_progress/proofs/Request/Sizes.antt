@@ -16,25 +16,25 @@ use Rattle.shm_model.specs.declared.call.Request.{Request}
 use Rattle.shm_model.specs.declared.call.Request.TheVariants.{Op as OpRequest, DetachAt}
 use Rattle.shm_model.specs.Entry.{Entry, Note, Ask, Clear, Cleared, Hand, Page, Confirm, Out, on_clear, on_hand, on_page, readable, writable}
 use Rattle.shm_model.specs.Book.{Outcome, Ignored, UsedUp, Taken, on_ask, on_cleared, on_confirm}
-use Rattle.shm_model.specs.Basics.{at, greatest}
+use Rattle.shm_model.specs.Basics.{at, at_page, greatest}
 use Rattle.shm_model.specs.Kernel.{call, destroyed_by, with_id}
 use Rattle.shm_model.specs.Calls.{Again, Attachment, Fresh, Freshness, Old, Outstanding, fits, freshness}
-use Rattle.shm_model.specs.Memory.{names}
+use Rattle.shm_model.specs.Memory.{segment_of}
 use Rattle.shm_model.specs.Message.{Input, Load, Store, Begin, Deliver, Tick, Restart, Message, Of, Call, Replies, Purge, Purged}
 use Rattle.shm_model.specs.History.{segments_after}
-use Rattle.shm_model.specs.Site.{Frames, Site, at_page, is_attached, least_free, Step}
+use Rattle.shm_model.specs.Site.{Frames, Site, is_attached, least_free, Step}
 use Rattle.shm_model.specs.Access.{Place, ask_for, is_pending, load_if, right, store_if}
 use Rattle.shm_model.specs.Transfer.{arranged, drop_first, is_nothing, limited, on_note, settle, to_book, to_entry}
 use Rattle.shm_model.specs.SegmentCalls.{attached_at, begin_detach, begin_op, begin_request, call_begun, executed, numbered, on_call_as, on_reply_to, reply_counts}
 use Rattle.shm_model.specs.Step.{foreign, on_message, step}
 use Rattle.shm_model.specs.World.{Framed, IsOpening, New, Opening, Preset, opened_site, run, sites_of}
-use Rattle.shm_laws.proofs.RunInduction.{run-shape}
-use Rattle.shm_laws.proofs.KernelLists.{found-holds}
-use Rattle.shm_laws.proofs.KernelParts.{finds-id, found-id}
-use Rattle.shm_laws.proofs.CallsInvariant.{at-cases}
-use Rattle.shm_laws.proofs.CallsNames.{id_of}
-use Rattle.shm_laws.proofs.CallsOnce.{homes-keep}
-use Rattle.shm_laws.proofs.CallsCounted.{attachments-counted, run-counted}
+use Rattle.shm_laws.proofs.Run.Induction.{run-shape}
+use Rattle.shm_laws.proofs.Kernel.Lists.{found-holds}
+use Rattle.shm_laws.proofs.Kernel.Parts.{finds-id, found-id}
+use Rattle.shm_laws.proofs.Call.Invariant.{at-cases}
+use Rattle.shm_laws.proofs.Call.Names.{id_of}
+use Rattle.shm_laws.proofs.Call.Once.{homes-keep}
+use Rattle.shm_laws.proofs.Call.Counted.{attachments-counted, run-counted}
 use Rattle.shm_laws.proofs.Headline.{size-of}
 use Rattle.shm_progress.proofs.SitesKept.{run-sites}
 use Rattle.shm_progress.proofs.Purge.Tables.{InLimits}
@@ -188,7 +188,7 @@ module _ (o : Opening) (opening : IsOpening o) (events : List Event) (s : ℕ) (
       let all = (run-shape o events).sites in
       let within = slice_get_within (run o events).world.sites s x found in
       let small : s < sites_of o = omega (arith, within, all) in
-      let name : names o (run o events).account s a ≡ id_of (x.attachments a) =
+      let name : segment_of o (run o events).account s a ≡ id_of (x.attachments a) =
       (run-counted o opening events).named.names s a ∙ ap (λ (z : Site). id_of (z.attachments a)) (get_or_from_slice_get (run o events).world.sites s x (opened_site o s) found) in
       let alive = (attachments-counted o opening events).named s a t.id small (name ∙ ap id_of is) in
       let some = (size-of o opening).some_site in

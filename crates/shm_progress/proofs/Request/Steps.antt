@@ -12,8 +12,8 @@ use Rattle.shm_model.specs.Site.{Site, is_attached, Step}
 use Rattle.shm_model.specs.Access.{right}
 use Rattle.shm_model.specs.Transfer.{on_note, to_book}
 use Rattle.shm_model.specs.Step.{deliver, foreign, on_message, step}
-use Rattle.shm_laws.proofs.PageMoves.{page-same, same-page}
-use Rattle.shm_laws.proofs.CallsAreQuiet.{begin-quiet, call-quiet, purged-quiet, reply-quiet}
+use Rattle.shm_laws.proofs.Page.Moves.{page-same, same-page}
+use Rattle.shm_laws.proofs.Move.Calls.{begin-quiet, call-quiet, purged-quiet, reply-quiet}
 use Rattle.shm_progress.specs.Requests.{IsTakenUp, TakesNone}
 use Rattle.shm_progress.proofs.BooksKept.{OutcomeHolds}
 use Rattle.shm_progress.proofs.Transfer.Heard.{note-heard}

@@ -10,8 +10,8 @@ use Rattle.shm_model.specs.Site.{Pending, Site, is_attached, Step}
 use Rattle.shm_model.specs.Access.{right}
 use Rattle.shm_model.specs.Transfer.{on_note, to_book}
 use Rattle.shm_model.specs.Step.{foreign, on_message, step}
-use Rattle.shm_laws.proofs.PageMoves.{page-same}
-use Rattle.shm_laws.proofs.CallsAreQuiet.{begin-quiet, call-quiet, purged-quiet, reply-quiet}
+use Rattle.shm_laws.proofs.Page.Moves.{page-same}
+use Rattle.shm_laws.proofs.Move.Calls.{begin-quiet, call-quiet, purged-quiet, reply-quiet}
 use Rattle.shm_progress.proofs.Ending.Books.{AllAsked}
 use Rattle.shm_progress.proofs.BooksKept.{OutcomeHolds}
 use Rattle.shm_progress.proofs.Request.Turn.{InTurn, IsBehind, ask-turn, cleared-turn, confirm-turn, same-turn}

@@ -6,7 +6,7 @@ use Rattle.std.specs.declared.alloc.AllocError.{AllocError}
 use Rattle.shm_model.specs.declared.event.Event.{Event}
 use Rattle.shm_model.specs.declared.event.Event.TheVariants.{Deliver, Tick}
 use Rattle.shm_model.specs.World as model
-use Rattle.shm_laws.proofs.RunInduction.{run-shape}
+use Rattle.shm_laws.proofs.Run.Induction.{run-shape}
 use Rattle.shm_progress.specs.Deliveries.{IsAtRest}
 use Rattle.shm_progress.proofs.Request.Again.{second-settles}
 use Rattle.shm_progress.proofs.Request.Ends.{requests-settle}

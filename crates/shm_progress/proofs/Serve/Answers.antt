@@ -16,8 +16,8 @@ use Rattle.shm_model.specs.Message.{Call, Envelope, Input}
 use Rattle.shm_model.specs.SegmentCalls.{attached_at, call_envelope, on_call_as, on_reply_to, reply_counts, reply_envelope}
 use Rattle.shm_model.specs.Site.{Site, least_free, Step}
 use Rattle.shm_model.specs.Step.{ask_again, call_again, deliver, foreign, is_proper, orders_again, tick_envelopes}
-use Rattle.shm_laws.proofs.CallsInvariant.{kept_number}
-use Rattle.shm_laws.proofs.CallsTurn.{Desk, Turn, again, attached, detach_begun, ended, executed, hears_purged, old, op_begun, purges_one, quiet}
+use Rattle.shm_laws.proofs.Call.Invariant.{kept_number}
+use Rattle.shm_laws.proofs.Call.Turn.{Desk, Turn, again, attached, detach_begun, ended, executed, hears_purged, old, op_begun, purges_one, quiet}
 use Rattle.shm_progress.proofs.Purge.Answers.{contains-first, three}
 use Rattle.shm_progress.proofs.Serve.Replies.{Counts}
 

@@ -17,11 +17,11 @@ use Rattle.shm_model.specs.Site.{Site, least_free, Step}
 use Rattle.shm_model.specs.SegmentCalls.{begin_detach, begin_op, begin_request, call_begun, numbered}
 use Rattle.shm_model.specs.Step.{step}
 use Rattle.shm_model.specs.World.{New, Preset, Framed, Opening, World, begun, opened_site, run, sites_of}
-use Rattle.shm_laws.proofs.RunInduction.{Kept, run-good}
-use Rattle.shm_laws.proofs.RunsOn.{slice_get-range}
+use Rattle.shm_laws.proofs.Run.Induction.{Kept, run-good}
+use Rattle.shm_laws.proofs.Run.GoesOn.{slice_get-range}
 use Rattle.shm_laws.proofs.Sound.{set-here, set-there}
-use Rattle.shm_laws.proofs.CallsTurn.{Desk, Turn, again, attached, desk_of, detach_begun, ended, executed, hears_purged, old, op_begun, purges_one, quiet}
-use Rattle.shm_laws.proofs.CallsTurns.{turn-step}
+use Rattle.shm_laws.proofs.Call.Turn.{Desk, Turn, again, attached, desk_of, detach_begun, ended, executed, hears_purged, old, op_begun, purges_one, quiet}
+use Rattle.shm_laws.proofs.Call.Turns.{turn-step}
 
 abbrev pub attaches : Op → Bool
 attaches (Attach _ _ _) = true

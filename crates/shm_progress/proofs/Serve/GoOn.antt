@@ -13,11 +13,11 @@ use Rattle.shm_model.specs.SegmentCalls.{call_envelope, reply_envelope}
 use Rattle.shm_model.specs.Site.{Site, least_free, Step}
 use Rattle.shm_model.specs.Step.{deliver, step}
 use Rattle.shm_model.specs.World.{IsOpening, Next, Opening, World, is_full, live, next, run, step_site, stepped, without}
-use Rattle.shm_laws.proofs.RunInduction.{run-shape}
+use Rattle.shm_laws.proofs.Run.Induction.{run-shape}
 use Rattle.shm_laws.proofs.Sound.{set-here, set-there}
-use Rattle.shm_laws.proofs.CallsInvariant.{kept_number}
-use Rattle.shm_laws.proofs.CallsTurn.{desk_of}
-use Rattle.shm_laws.proofs.CallsTurns.{turn-step}
+use Rattle.shm_laws.proofs.Call.Invariant.{kept_number}
+use Rattle.shm_laws.proofs.Call.Turn.{desk_of}
+use Rattle.shm_laws.proofs.Call.Turns.{turn-step}
 use Rattle.shm_progress.specs.Deliveries.{IsAtRest}
 use Rattle.shm_progress.specs.OnTheWay.{IsOnItsWay, NothingLost, is_loss}
 use Rattle.shm_progress.specs.Serving.{CallGoesOn, IsBeingServed}

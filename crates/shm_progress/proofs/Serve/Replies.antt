@@ -22,13 +22,13 @@ use Rattle.shm_model.specs.SegmentCalls.{call_envelope}
 use Rattle.shm_model.specs.Site.{Site}
 use Rattle.shm_model.specs.History.{Numbered, attaching, called_on, calls_of, detaching, has_replied, held, is_attach, is_attached, is_call, kernel, naming, reply_to}
 use Rattle.shm_model.specs.World.{IsOpening, Opening, New, Preset, Framed, Run, opened_site, run, sites_of}
-use Rattle.shm_laws.proofs.KernelHeld.{held-alive}
-use Rattle.shm_laws.proofs.KernelLists.{every-contains, found-holds}
-use Rattle.shm_laws.proofs.CallsInvariant.{awaits, is-call-same, kept_number}
-use Rattle.shm_laws.proofs.CallsRun.{desks}
-use Rattle.shm_laws.proofs.CallsOpened.{CountedBy}
-use Rattle.shm_laws.proofs.CallsCounted.{run-counted}
-use Rattle.shm_laws.proofs.CallsPurged.{purged-dead}
+use Rattle.shm_laws.proofs.Kernel.Held.{held-alive}
+use Rattle.shm_laws.proofs.Kernel.Lists.{every-contains, found-holds}
+use Rattle.shm_laws.proofs.Call.Invariant.{awaits, is-call-same, kept_number}
+use Rattle.shm_laws.proofs.Call.Run.{desks}
+use Rattle.shm_laws.proofs.Call.Opened.{CountedBy}
+use Rattle.shm_laws.proofs.Call.Counted.{run-counted}
+use Rattle.shm_laws.proofs.Call.Purged.{purged-dead}
 use Rattle.shm_progress.proofs.Ending.Sums.{count-less}
 use Rattle.shm_progress.proofs.Purge.Tables.{Sized, call-sized}
 use Rattle.shm_progress.proofs.Purge.Answers.{contains-later}

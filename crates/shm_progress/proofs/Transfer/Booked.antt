@@ -12,16 +12,16 @@ use Rattle.shm_model.specs.declared.kind.Kind.TheVariants.{Read, Write}
 use Rattle.shm_model.specs.declared.event.Event.{Event}
 use Rattle.shm_model.specs.Entry.{Entry, Note, Ask, Clear, Cleared, Hand, Page, Confirm, Out, on_clear, on_hand, on_page, readable, writable}
 use Rattle.shm_model.specs.Book.{Book, Outcome, Ignored, Running, UsedUp, Taken, untouched_book}
-use Rattle.shm_model.specs.Basics.{greatest}
+use Rattle.shm_model.specs.Basics.{at_page, greatest}
 use Rattle.shm_model.specs.Message.{Input, Load, Store, Begin, Deliver, Tick, Restart, Message, Of, Call, Replies, Purge, Purged}
-use Rattle.shm_model.specs.Site.{Site, at_page, is_attached, Step}
+use Rattle.shm_model.specs.Site.{Site, is_attached, Step}
 use Rattle.shm_model.specs.Access.{Place, ask_for, is_pending, load_if, right, store_if}
 use Rattle.shm_model.specs.Transfer.{arranged, booked_with, is_nothing, on_note, settle, to_book, to_entry, with_entry}
 use Rattle.shm_model.specs.SegmentCalls.{begin, on_call, on_purged, on_reply, without_segment}
 use Rattle.shm_model.specs.Step.{foreign, on_message, step}
 use Rattle.shm_model.specs.World.{Framed, New, Opening, Preset, opened_site, run, sites_of}
-use Rattle.shm_laws.proofs.PageMoves.{page-same}
-use Rattle.shm_laws.proofs.CallsAreQuiet.{IsQuiet, begin-quiet, call-quiet, purged-quiet, reply-quiet}
+use Rattle.shm_laws.proofs.Page.Moves.{page-same}
+use Rattle.shm_laws.proofs.Move.Calls.{IsQuiet, begin-quiet, call-quiet, purged-quiet, reply-quiet}
 use Rattle.shm_progress.proofs.Ending.Steps.{limited-books}
 use Rattle.shm_progress.proofs.SitesKept.{run-sites}
 use Rattle.shm_progress.proofs.Purge.Answers.{contains-first, contains-later, filter-passes}

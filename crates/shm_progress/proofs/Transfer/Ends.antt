@@ -8,8 +8,8 @@ use Rattle.shm_model.specs.declared.event.Event.TheVariants.{Tick}
 use Rattle.shm_model.specs.Book.{Book}
 use Rattle.shm_model.specs.Site.{Site}
 use Rattle.shm_model.specs.World.{IsOpening, Opening, World, is_full, opened_site, run, sites_of}
-use Rattle.shm_laws.proofs.RunInduction.{run-shape}
-use Rattle.shm_laws.proofs.CallsRun.{desks}
+use Rattle.shm_laws.proofs.Run.Induction.{run-shape}
+use Rattle.shm_laws.proofs.Call.Run.{desks}
 use Rattle.shm_laws.proofs.Headline.{run-sound, size-of}
 use Rattle.shm_progress.specs.Deliveries.{IsAtRest}
 use Rattle.shm_progress.specs.OnTheWay.{NothingLost, world_since}

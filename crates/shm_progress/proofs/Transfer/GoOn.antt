@@ -14,11 +14,11 @@ use Rattle.shm_model.specs.Site.{Site, Step}
 use Rattle.shm_model.specs.Step.{step}
 use Rattle.shm_model.specs.Transfer.{order_envelopes}
 use Rattle.shm_model.specs.World.{IsOpening, Next, Opening, Run, World, is_full, live, run, sites_of, step_site, stepped, without}
-use Rattle.shm_laws.proofs.RunInduction.{IsHonest, Shape, run-shape}
-use Rattle.shm_laws.proofs.PageView.{Fits, Holds, View}
-use Rattle.shm_laws.proofs.PageOrders.{Each}
-use Rattle.shm_laws.proofs.PageBook.{with_book}
-use Rattle.shm_laws.proofs.PageMoves.{EnvelopeFits, now_of}
+use Rattle.shm_laws.proofs.Run.Induction.{IsHonest, Shape, run-shape}
+use Rattle.shm_laws.proofs.Page.View.{Fits, Holds, View}
+use Rattle.shm_laws.proofs.Page.Orders.{Each}
+use Rattle.shm_laws.proofs.Page.Book.{with_book}
+use Rattle.shm_laws.proofs.Page.Moves.{EnvelopeFits, now_of}
 use Rattle.shm_laws.proofs.Sound.{Sound, each-in, set-here, set-there}
 use Rattle.shm_laws.proofs.Headline.{run-sound}
 use Rattle.shm_progress.specs.Deliveries.{IsAtRest}

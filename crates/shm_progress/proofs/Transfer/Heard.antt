@@ -11,8 +11,8 @@ use Rattle.shm_model.specs.Message.{Envelope, Of}
 use Rattle.shm_model.specs.Site.{Site}
 use Rattle.shm_model.specs.Step.{deliver, foreign, is_to_manager}
 use Rattle.shm_model.specs.Transfer.{on_note, to_entry}
-use Rattle.shm_laws.proofs.PageView.{GaveAway, Holds, InFlight, IsKept, Runs, View}
-use Rattle.shm_laws.proofs.PageHand.{own-readable-of}
+use Rattle.shm_laws.proofs.Page.View.{GaveAway, Holds, InFlight, IsKept, Runs, View}
+use Rattle.shm_laws.proofs.Page.Hand.{own-readable-of}
 use Rattle.shm_progress.proofs.Purge.Answers.{contains-first}
 
 -- a note that isn't foreign

@@ -13,9 +13,9 @@ use Rattle.shm_model.specs.Site.{Site, Step}
 use Rattle.shm_model.specs.Step.{is_to_manager, step}
 use Rattle.shm_model.specs.Transfer.{on_note}
 use Rattle.shm_model.specs.World.{World, stepped}
-use Rattle.shm_laws.proofs.PageView.{Fits, Holds, Runs, View}
-use Rattle.shm_laws.proofs.PageOrders.{write-of}
-use Rattle.shm_laws.proofs.PageBook.{with_book}
+use Rattle.shm_laws.proofs.Page.View.{Fits, Holds, Runs, View}
+use Rattle.shm_laws.proofs.Page.Orders.{write-of}
+use Rattle.shm_laws.proofs.Page.Book.{with_book}
 use Rattle.shm_progress.specs.OnTheWay.{IsOnItsWay}
 use Rattle.shm_progress.specs.Transactions.{IsBeingCleared, IsBeingHanded, TransactionGoesOn}
 use Rattle.shm_progress.proofs.OnTheWay.{Fresh, OnlySent, Takes, joins, live-sent, stays}

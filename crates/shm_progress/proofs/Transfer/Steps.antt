@@ -8,14 +8,14 @@ use Rattle.shm_model.specs.declared.kind.Kind.{Kind}
 use Rattle.shm_model.specs.declared.kind.Kind.TheVariants.{Read, Write}
 use Rattle.shm_model.specs.Entry.{Entry, Note, Ask, Clear, Cleared, Hand, Page, Confirm, Out, on_clear, on_hand, on_page, readable, writable}
 use Rattle.shm_model.specs.Book.{Book, Outcome, Ignored, UsedUp, Taken, is_write, on_ask, on_cleared, on_confirm, untouched_book}
-use Rattle.shm_model.specs.Basics.{greatest}
+use Rattle.shm_model.specs.Basics.{at_page, greatest}
 use Rattle.shm_model.specs.Message.{Envelope, Input, Load, Store, Begin, Deliver, Tick, Restart, Message, Of, Call, Replies, Purge, Purged}
-use Rattle.shm_model.specs.Site.{Site, at_page, is_attached, Step}
+use Rattle.shm_model.specs.Site.{Site, is_attached, Step}
 use Rattle.shm_model.specs.Access.{Place, ask_for, is_pending, load_if, right, store_if}
 use Rattle.shm_model.specs.Transfer.{arranged, is_nothing, on_note, order_envelopes, settle, to_book, to_entry}
 use Rattle.shm_model.specs.Step.{foreign, is_to_manager, on_message, step}
-use Rattle.shm_laws.proofs.PageMoves.{page-same, same-page}
-use Rattle.shm_laws.proofs.CallsAreQuiet.{begin-quiet, call-quiet, purged-quiet, reply-quiet}
+use Rattle.shm_laws.proofs.Page.Moves.{page-same, same-page}
+use Rattle.shm_laws.proofs.Move.Calls.{begin-quiet, call-quiet, purged-quiet, reply-quiet}
 use Rattle.shm_progress.proofs.Ending.Steps.{limited-books}
 use Rattle.shm_progress.proofs.Transfer.Bounds.{Asker, Bounds}
 use Rattle.shm_progress.proofs.Transfer.Heard.{not-foreign}

@@ -11,7 +11,7 @@ use Rattle.shm_model.specs.Message.{Envelope, Of}
 use Rattle.shm_model.specs.Site.{Site}
 use Rattle.shm_model.specs.Step.{ask_again, orders_again, tick_envelopes}
 use Rattle.shm_model.specs.Transfer.{order_envelope, order_envelopes}
-use Rattle.shm_laws.proofs.PageOrders.{awaited-each}
+use Rattle.shm_laws.proofs.Page.Orders.{awaited-each}
 use Rattle.shm_laws.proofs.Sound.{each-in}
 use Rattle.shm_progress.proofs.Purge.Answers.{contains-first, contains-map, filter-passes, range-at}
 use Rattle.shm_progress.proofs.Transfer.Booked.{Booked}

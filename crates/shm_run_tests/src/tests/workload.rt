@@ -1,5 +1,6 @@
 use linked_list_allocator::LocalHeap;
 use shm_lines::{Access, WorkloadFault, parse_workload};
+use shm_model::Asked;
 use shm_place::{SiteId, Sites};
 use std::test::Fail;
 
@@ -14,14 +15,17 @@ fn what_callers_do(rt: HostRuntime) -> Result<(), Fail> {
     let Ok(workload) = parse_workload(rt.alloc(), sites()?, text) else {
         return Err("a workload".into());
     };
-    let store = Access::Store {
+    let store = Access {
         site: SiteId(1),
-        offset: 8191,
-        byte: 7,
+        asked: Asked::Store {
+            at: 0,
+            offset: 8191,
+            byte: 7,
+        },
     };
-    let load = Access::Load {
+    let load = Access {
         site: SiteId(2),
-        offset: 0,
+        asked: Asked::Load { at: 0, offset: 0 },
     };
     assert_eq!(rt; workload.pages, 2);
     assert_eq!(rt; workload.accesses.as_slice(), [store, load].as_slice());

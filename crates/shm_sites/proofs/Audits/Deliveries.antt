@@ -7,7 +7,7 @@ use Rattle.shm_model.specs.Log.{Logged, Matches, log_of, sent_by}
 use Rattle.shm_model.specs.Merge.{SiteStep}
 use Rattle.shm_model.specs.Message.{Input, Load, Store, Begin, Deliver, Tick, Restart}
 use Rattle.shm_model.specs.Basics.{max_sent}
-use Rattle.shm_laws.proofs.LogsRun.{has-log}
+use Rattle.shm_laws.proofs.Log.Run.{has-log}
 use Rattle.shm_sites.specs.Auditing.Numbering.{sent_in, NumberFits, Numbers}
 use Rattle.shm_sites.specs.declared.auditing.numbering.Numbering.{Numbering}
 use Rattle.shm_sites.proofs.Audits.Numbers.{sent_before-within}

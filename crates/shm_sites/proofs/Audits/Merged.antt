@@ -10,8 +10,8 @@ use Rattle.std.proofs.lemmas.List.Quantifiers.{all_pairs_push}
 use Rattle.std.proofs.lemmas.Option.{get_or_from_slice_get, none-some, slice_get_past, slice_get_within}
 use Rattle.shm_model.specs.Log.{Logged, log_of}
 use Rattle.shm_model.specs.Merge.{IsBefore, IsMerged, SiteStep, part}
-use Rattle.shm_laws.proofs.LogsLists.{part-other, part-seam}
-use Rattle.shm_laws.proofs.LogsRun.{has-log}
+use Rattle.shm_laws.proofs.Log.Lists.{part-other, part-seam}
+use Rattle.shm_laws.proofs.Log.Run.{has-log}
 use Rattle.shm_sites.specs.declared.auditing.merging.Head.{Head}
 use Rattle.shm_sites.specs.Auditing.Heads.{IsLeast, IsLeastIf, next}
 use Rattle.shm_sites.specs.Auditing.Logs.{LogsRise}

@@ -8,7 +8,7 @@ use Rattle.shm_sites.specs.Boxes.Logged.{logged_of}
 use Rattle.shm_sites.specs.Boxes.SiteLog.{steps_of}
 use Rattle.shm_sites.specs.declared.boxes.site_log.SiteLog.{SiteLog}
 use Rattle.shm_sites.specs.declared.boxes.step.Step.{Step}
-use Rattle.shm_laws.proofs.LogsRun.{has-log}
+use Rattle.shm_laws.proofs.Log.Run.{has-log}
 use Rattle.shm_sites.specs.Auditing.Logs.{logs_of}
 use Rattle.shm_sites.specs.Auditing.Order.{AllName, Names}
 use Rattle.shm_sites.specs.declared.auditing.step_name.StepName.{StepName}

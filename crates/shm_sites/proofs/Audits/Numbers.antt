@@ -7,7 +7,7 @@ use Rattle.std.proofs.lemmas.List.Concat.{length-flat_map}
 use Rattle.std.proofs.lemmas.List.Sums.{sum_by-cons}
 use Rattle.shm_model.specs.Log.{Logged, sent_by}
 use Rattle.shm_model.specs.Merge.{IsMerged, SiteStep, sent_before}
-use Rattle.shm_laws.proofs.LogsCount.{as-many-sent}
+use Rattle.shm_laws.proofs.Log.Count.{as-many-sent}
 use Rattle.std.specs.declared.vec.Vec.{Vec}
 use Rattle.shm_sites.specs.Auditing.Numbering.{sent_in}
 use Rattle.shm_sites.specs.Auditing.Rows.{rows_of}

@@ -9,7 +9,7 @@ use Rattle.std.proofs.lemmas.List.Quantifiers.{all_pairs_push}
 use Rattle.std.proofs.lemmas.Option.{same_Some}
 use Rattle.shm_model.specs.Log.{Logged, log_of}
 use Rattle.shm_model.specs.Receipt.{Receipt, IsTrueOf, ReceiptsHold, access, of_all, same_step}
-use Rattle.shm_sites.specs.Auditing.Marks.{is_named, next_index}
+use Rattle.shm_sites.specs.Auditing.Marks.{has_receipt, next_index}
 use Rattle.shm_sites.proofs.Audits.AllLemmas.{all-cons, all-first, all-front, all-last, all-none, all-rest, pairs-last}
 
 pub answered-so : (logs : List (List Logged)) (r : Receipt) (l : Logged) → slice_get (log_of logs r.site) r.index ≡ Some l → IsTrueOf logs r → l.answer ≡ r.answer
@@ -28,16 +28,16 @@ or-false : (a b : Bool) → (a || b) ≡ false → (a ≡ false) × (b ≡ false
 or-false true b h = cc
 or-false false b h = (refl, h)
 
-pub named-none : (rs : List Receipt) (r : Receipt) → is_named rs r.site r.index ≡ false → All (Apart r) rs
+pub named-none : (rs : List Receipt) (r : Receipt) → has_receipt rs r.site r.index ≡ false → All (Apart r) rs
 named-none [] r h = all-none (Apart r)
 named-none (q ∷ qs) r h =
-    let both = or-false (same_step q r) (is_named qs r.site r.index) h in
+    let both = or-false (same_step q r) (has_receipt qs r.site r.index) h in
     all-cons (Apart r) q qs both.0 (named-none qs r both.1)
 
-pub none-named : (rs : List Receipt) (r : Receipt) → All (Apart r) rs → is_named rs r.site r.index ≡ false
+pub none-named : (rs : List Receipt) (r : Receipt) → All (Apart r) rs → has_receipt rs r.site r.index ≡ false
 none-named [] r h = refl
 none-named (q ∷ qs) r h =
-    ap (λ b. b || is_named qs r.site r.index) (all-first (Apart r) q qs h) ∙ none-named qs r (all-rest (Apart r) q qs h)
+    ap (λ b. b || has_receipt qs r.site r.index) (all-first (Apart r) q qs h) ∙ none-named qs r (all-rest (Apart r) q qs h)
 
 or-swap : (a b c : Bool) → (a || (b || c)) ≡ (b || (a || c))
 or-swap true true c = refl
@@ -45,11 +45,11 @@ or-swap true false c = refl
 or-swap false true c = refl
 or-swap false false c = refl
 
-pub named-push : (qs : List Receipt) (r : Receipt) (s i : ℕ) → is_named (qs ++ r ∷ []) s i ≡ (((r.site == s) && (r.index == i)) || is_named qs s i)
+pub named-push : (qs : List Receipt) (r : Receipt) (s i : ℕ) → has_receipt (qs ++ r ∷ []) s i ≡ (((r.site == s) && (r.index == i)) || has_receipt qs s i)
 named-push [] r s i = refl
 named-push (q ∷ qs) r s i =
     ap (λ b. ((q.site == s) && (q.index == i)) || b) (named-push qs r s i)
-    ∙ or-swap ((q.site == s) && (q.index == i)) ((r.site == s) && (r.index == i)) (is_named qs s i)
+    ∙ or-swap ((q.site == s) && (q.index == i)) ((r.site == s) && (r.index == i)) (has_receipt qs s i)
 
 abbrev next : Bool → ℕ → ℕ → ℕ
 next same i n = if same then max (i + 1) n else n
@@ -91,7 +91,7 @@ of-all-more front own r =
     of-all-own front (own ++ r ∷ []) ∙ sym (append_assoc (of_all front) own (r ∷ [])) ∙ ap (λ rs. rs ++ r ∷ []) (sym (of-all-own front own))
 
 pub holds-more : (logs : List (List Logged)) (front : List (List Receipt)) (own : List Receipt) (r : Receipt) → ReceiptsHold logs (front ++ own ∷ [])
-    → IsTrueOf logs r → is_named (of_all (front ++ own ∷ [])) r.site r.index ≡ false → next_index r.site own ≤ r.index → ReceiptsHold logs (front ++ (own ++ r ∷ []) ∷ [])
+    → IsTrueOf logs r → has_receipt (of_all (front ++ own ∷ [])) r.site r.index ≡ false → next_index r.site own ≤ r.index → ReceiptsHold logs (front ++ (own ++ r ∷ []) ∷ [])
 holds-more logs front own r h tells new above =
     let all = of_all (front ++ own ∷ []) in
     let more = sym (of-all-more front own r) in
@@ -104,7 +104,7 @@ holds-more logs front own r h tells new above =
 
 pub record Next (logs : List (List Logged)) (front : List (List Receipt)) (own : List Receipt) (r : Receipt) : Type 0 where
   pub tells : IsTrueOf logs r
-  pub new : is_named (of_all (front ++ own ∷ [])) r.site r.index ≡ false
+  pub new : has_receipt (of_all (front ++ own ∷ [])) r.site r.index ≡ false
   pub above : next_index r.site own ≤ r.index
 
 pub holds-less : (logs : List (List Logged)) (front : List (List Receipt)) (own : List Receipt) (r : Receipt) → ReceiptsHold logs (front ++ (own ++ r ∷ []) ∷ []) → Next logs front own r

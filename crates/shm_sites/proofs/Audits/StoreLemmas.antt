@@ -5,7 +5,7 @@ use Rattle.std.proofs.lemmas.List.{append_assoc, map-append, reverse-append}
 use Rattle.std.proofs.lemmas.Option.{none-some, same_Some}
 use Rattle.shm_model.specs.declared.answer.Answer.{Answer}
 use Rattle.shm_model.specs.Log.{Logged}
-use Rattle.shm_model.specs.Memory.{last_store, names, Legal, LoadsLast}
+use Rattle.shm_model.specs.Memory.{last_store, segment_of, Legal, LoadsLast}
 use Rattle.shm_model.specs.Merge.{done_in, part, IsMerged, SiteStep}
 use Rattle.shm_model.specs.Message.{Begin, Deliver, Input, Load, Restart, Store, Tick}
 use Rattle.shm_model.specs.Receipt.{access, IsTrueOf, Receipt}
@@ -90,8 +90,8 @@ tells-last-store o logs order r merged legal tells =
     let whole = ap account_of here.whole ∙ account-seam here.before here.step here.after in
     let rest = legal-rest o (reverse (map done_in here.after)) (done_in here.step ∷ account_of here.before) (subst (Legal o) whole legal) in
     let acc = account_of here.before in
-    let own = subst (λ s. LoadsLast (Some here.step.logged.input) here.step.logged.answer (names o acc s) (last_store o acc)) here.site rest.0 in
-    let told = subst (λ l. LoadsLast (Some l.input) l.answer (names o acc r.site) (last_store o acc)) here.logged own in
+    let own = subst (λ s. LoadsLast (Some here.step.logged.input) here.step.logged.answer (segment_of o acc s) (last_store o acc)) here.site rest.0 in
+    let told = subst (λ l. LoadsLast (Some l.input) l.answer (segment_of o acc r.site) (last_store o acc)) here.logged own in
     record {
       before = here.before;
       step = here.step;
@@ -99,7 +99,7 @@ tells-last-store o logs order r merged legal tells =
       whole = here.whole;
       site = here.site;
       index = here.index;
-      last = subst (λ a. LoadsLast r.asked a (names o acc r.site) (last_store o acc)) tells.answered
-          (subst (λ i. LoadsLast i tells.step.answer (names o acc r.site) (last_store o acc)) tells.asked
-          (of-access tells.step.input tells.step.answer (names o acc r.site) (last_store o acc) told));
+      last = subst (λ a. LoadsLast r.asked a (segment_of o acc r.site) (last_store o acc)) tells.answered
+          (subst (λ i. LoadsLast i tells.step.answer (segment_of o acc r.site) (last_store o acc)) tells.asked
+          (of-access tells.step.input tells.step.answer (segment_of o acc r.site) (last_store o acc) told));
     }

@@ -3,7 +3,7 @@ use Rattle.std.specs.Prelude.{◌≡◌, List, ◌∷◌, ◌++◌, length, map,
 use Rattle.std.specs.List.{All}
 use Rattle.shm_model.specs.declared.event.Event.{Event}
 use Rattle.shm_model.specs.Log.{Logged, LogsMatch}
-use Rattle.shm_model.specs.Memory.{last_store, names, Coherent, Legal, LoadsLast}
+use Rattle.shm_model.specs.Memory.{last_store, segment_of, Coherent, Legal, LoadsLast}
 use Rattle.shm_model.specs.Merge.{done_in, events_in, part, IsMerged, RunsAs, SiteStep}
 use Rattle.shm_model.specs.Receipt.{of_all, Receipt, ReceiptsHold}
 use Rattle.shm_model.specs.World.{run, Done, Opening}
@@ -22,7 +22,7 @@ pub record TellsLastStore (o : Opening) (order : List SiteStep) (r : Receipt) : 
   pub whole : order ≡ before ++ step ∷ after
   pub site : step.site ≡ r.site
   pub index : length (part r.site before) ≡ r.index
-  pub last : LoadsLast r.asked r.answer (names o (account_of before) r.site) (last_store o (account_of before))
+  pub last : LoadsLast r.asked r.answer (segment_of o (account_of before) r.site) (last_store o (account_of before))
 
 -- Nothing is wrong with the logs, and they have an order, by stamp and site, which is a run of the world, as these events. In it the logs'
 -- steps are made, each with its answer and what it sent; memory is one plain memory; and what callers were told holds.

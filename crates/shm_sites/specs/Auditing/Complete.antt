@@ -5,7 +5,7 @@ use Rattle.shm_model.specs.declared.answer.Answer.TheVariants.{Byte, Stored}
 use Rattle.shm_model.specs.Log.{Logged, log_of}
 use Rattle.shm_model.specs.Receipt.{of_all, Receipt, ReceiptsHold}
 use Rattle.shm_sites.specs.Auditing.Cause.{AllSound, IsFirstCause}
-use Rattle.shm_sites.specs.Auditing.Marks.{is_named}
+use Rattle.shm_sites.specs.Auditing.Marks.{has_receipt}
 use Rattle.shm_sites.specs.declared.auditing.audit_fault.AuditFault.{AuditFault}
 use Rattle.shm_sites.specs.declared.auditing.audit_fault.AuditFault.TheVariants as fault
 
@@ -41,7 +41,7 @@ IsUntold logs told _ = ⊥
 
 -- some caller has a receipt that names the step of this index at this site
 abbrev pub told_by : List (List Receipt) → ℕ → ℕ → Bool
-told_by callers s i = is_named (of_all callers) s i
+told_by callers s i = has_receipt (of_all callers) s i
 
 -- callers have a receipt of each step that completed an access
 abbrev pub AllTold : List (List Logged) → List (List Receipt) → Type 0

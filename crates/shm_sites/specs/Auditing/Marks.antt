@@ -18,14 +18,14 @@ abbrev pub unmarked : List Logged → List Bool
 unmarked log = map (λ _. false) log
 
 -- one of these receipts names the step of this index at this site
-abbrev pub is_named : List Receipt → ℕ → ℕ → Bool
-is_named [] s i = false
-is_named (q ∷ qs) s i = ((q.site == s) && (q.index == i)) || is_named qs s i
+abbrev pub has_receipt : List Receipt → ℕ → ℕ → Bool
+has_receipt [] s i = false
+has_receipt (q ∷ qs) s i = ((q.site == s) && (q.index == i)) || has_receipt qs s i
 
 -- the marks are those of the steps that these receipts name
 pub record MarksName (logs : List (List Logged)) (marks : List (List Bool)) (rs : List Receipt) : Type 0 where
   pub rows : (s : ℕ) → length (slice_index_or marks s []) ≡ length (log_of logs s)
-  pub named : (s i : ℕ) → mark_at marks s i ≡ is_named rs s i
+  pub named : (s i : ℕ) → mark_at marks s i ≡ has_receipt rs s i
 
 -- the least index that is above those of the steps at this site which these receipts name
 abbrev pub next_index : ℕ → List Receipt → ℕ

@@ -1,6 +1,6 @@
 -- A site's log, as the definitions speak of it.
 use Rattle.std.specs.Prelude.{◌≡◌, ◌<◌, ℕ, List, length, map, vec_capacity}
-use Rattle.shm_model.specs.Log.{Logged, Told, inputs_of, moved_by}
+use Rattle.shm_model.specs.Log.{Logged, StepOutcome, inputs_of, moved_by}
 use Rattle.shm_model.specs.Message.{Input}
 use Rattle.shm_model.specs.Site.{Site}
 use Rattle.shm_model.specs.Step.{step}
@@ -24,7 +24,7 @@ abbrev pub left_by_log : {A : Type 0} → SiteLog A → Site
 left_by_log log = left_by log.sites log.me log.pages (steps_of log)
 
 -- what its site tells of one more input
-abbrev pub tells_next : {A : Type 0} → SiteLog A → Input → Told
+abbrev pub tells_next : {A : Type 0} → SiteLog A → Input → StepOutcome
 tells_next log input =
     let done = step log.sites log.me (left_by_log log) input in
     record { answer = done.answer; sent = done.sent }

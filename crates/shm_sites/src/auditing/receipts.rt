@@ -1,8 +1,8 @@
 //! Whether the receipts hold: each tells of a step, no two of one step, and each caller's steps at one site come in the site's order.
 ghost use Rattle.std.specs.Prelude.{◌≡◌, ℕ, ◌+◌, ◌≤◌, ◌<◌, List, [], Some, None, length, map, slice_get, slice_index_or, slice_set, take, true, IfNone, IfSome};
 ghost use Rattle.std.specs.Bool.{Decides};
-ghost use Rattle.shm_sites.specs.Boxes.Receipt.{asked_of, receipt_of};
-ghost use Rattle.shm_model.specs.Receipt.{of_all, IsTrueOf, ReceiptsHold};
+ghost use Rattle.shm_sites.specs.Boxes.Receipt.{receipt_of};
+ghost use Rattle.shm_model.specs.Receipt.{asked_of, of_all, IsTrueOf, ReceiptsHold};
 ghost use Rattle.shm_sites.specs.Auditing.Cause.{receipts_to, IsForged};
 ghost use Rattle.shm_sites.specs.Auditing.Callers.{callers_of, receipts_of};
 ghost use Rattle.shm_sites.specs.Auditing.Logs.{logs_of};
@@ -85,7 +85,7 @@ fn tells<A: Allocator + Copy>(logs: &[SiteLog<A>], receipt: &Receipt) -> bool
 {
     match step_at(logs, receipt.site(), receipt.index()) {
         Some(step) => {
-            same_access(Asked::of(&step.input), receipt.asked())
+            same_access(step.input.access(), receipt.asked())
                 && same_answer(step.answer, receipt.answer())
         }
         None => false,

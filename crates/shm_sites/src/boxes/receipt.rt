@@ -1,6 +1,5 @@
-use crate::boxes::asked::Asked;
 use crate::boxes::step::Step;
-use shm_model::Answer;
+use shm_model::{Answer, Asked};
 use shm_place::SiteId;
 use std::alloc::Allocator;
 
@@ -15,9 +14,9 @@ pub struct Receipt {
 
 impl Receipt {
     ghost use Rattle.std.specs.Prelude.{◌≡◌};
-    ghost use Rattle.shm_model.specs.Receipt.{access};
+    ghost use Rattle.shm_model.specs.Receipt.{access, asked_of};
     ghost use Rattle.shm_site.specs.Step.{input_of};
-    ghost use Rattle.shm_sites.specs.Boxes.Receipt.{asked_of, receipt_of};
+    ghost use Rattle.shm_sites.specs.Boxes.Receipt.{receipt_of};
 
     /// Of the step of this index in the site's log.
     pub(crate) fn of<A: Allocator + Copy>(site: SiteId, index: usize, step: &Step<A>) -> Receipt
@@ -26,7 +25,7 @@ impl Receipt {
         Receipt {
             site,
             index,
-            asked: Asked::of(&step.input),
+            asked: step.input.access(),
             answer: step.answer,
         }
     }

@@ -24,7 +24,7 @@ pub struct SiteLog<A: Allocator + Copy = Global> {
 
 impl<A: Allocator + Copy> SiteLog<A> {
     ghost use Rattle.std.specs.Prelude.{◌≡◌, ◌==◌, ◌++◌, [], ◌∷◌, length, IsOk, IsTrue, OnOk, vec_capacity};
-    ghost use Rattle.shm_model.specs.Log.{is_logged, told};
+    ghost use Rattle.shm_model.specs.Log.{is_logged, outcome_of};
     ghost use Rattle.shm_sites.specs.Boxes.SiteLog.{opening_of, steps_of, tells_next, HasRoom, SameOpening};
 
     /// No steps yet, of a site of so many where segment 0 has so many pages.
@@ -56,7 +56,7 @@ impl<A: Allocator + Copy> SiteLog<A> {
     /// Adds the site's next step, for which room was made.
     pub(crate) fn push(&mut self, step: Step<A>)
         requires room { length self.old.steps.items < vec_capacity self.old.steps }
-        requires tells { told (logged_of step) ≡ tells_next self.old (logged_of step).input }
+        requires tells { outcome_of (logged_of step) ≡ tells_next self.old (logged_of step).input }
         requires logged { IsTrue (is_logged self.old.sites self.old.me (logged_of step).input) }
         ensures steps { steps_of self.new ≡ steps_of self.old ++ logged_of step ∷ [] }
         ensures opening { SameOpening self.old self.new }

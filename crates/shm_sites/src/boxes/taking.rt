@@ -6,9 +6,6 @@ ghost use Rattle.shm_sites.specs.Boxes.Receipt.{receipt_of};
 ghost use Rattle.shm_sites.specs.Boxes.SiteBox.{box_of};
 ghost use Rattle.shm_sites.specs.Boxes.SiteLog.{HasRoom};
 ghost use Rattle.shm_sites.specs.declared.boxes.box_fault.BoxFault.TheVariants as fault;
-ghost use Rattle.shm_model.specs.Step.{step};
-ghost use Rattle.shm_parts.specs.Message.{envelope_of};
-ghost use Rattle.shm_site.specs.Site.{site_of, stepped as after_step, SameSeat};
 ghost use Rattle.shm_site.specs.Step.{input_of, is_foreign, may_grow};
 
 use crate::boxes::box_fault::BoxFault;
@@ -17,7 +14,7 @@ use crate::boxes::receipt::Receipt;
 use crate::boxes::site_box::SiteBox;
 use crate::boxes::stamp::Stamp;
 use crate::boxes::step::Step;
-use shm_site::{Input, Made, Site, StepError};
+use shm_site::{Input, Made};
 use std::alloc::{AllocError, Allocator};
 
 impl<A: Allocator + Copy> SiteBox<A> {
@@ -112,7 +109,7 @@ impl<A: Allocator + Copy> SiteBox<A> {
         ensures told { IfOk result (λ told. receipt_of told ≡ receipt (box_of self.old) (input_of input)) }
         ensures refused { OnErr result (box_of self.new ≡ box_of self.old) }
     {
-        let Made { answer, sent } = step_site(&mut self.site, copy)?;
+        let Made { answer, sent } = self.site.step_spending(copy)?;
         let step = Step {
             input,
             stamp,
@@ -125,27 +122,6 @@ impl<A: Allocator + Copy> SiteBox<A> {
         self.clock = stamp;
         Ok(receipt)
     }
-}
-
-/// One step of the site at an input that isn't foreign. An envelope that comes back is given up.
-fn step_site<A: Allocator + Copy>(
-    site: &mut Site<A>,
-    input: Input<A>,
-) -> Result<Made<A>, AllocError>
-    ensures step { IfOk result (λ made. step site.old.sites site.old.me (site_of site.old) (input_of input) ≡ after_step site.new made.answer (map envelope_of made.sent.items)) }
-    ensures refused { OnErr result (site_of site.new ≡ site_of site.old) }
-    ensures memory { OnErr result (is_foreign site.old.sites site.old.me (input_of input) ≡ false → may_grow site.old.sites site.old.me (site_of site.old) (input_of input) ≡ true) }
-    ensures seat { SameSeat site.old site.new }
-{
-    match site.step_listed(input) {
-        Ok(made) => Ok(made),
-        Err(error) => Err(give_up(error)),
-    }
-}
-
-fn give_up<A: Allocator + Copy>(error: StepError<A>) -> AllocError {
-    drop(error);
-    AllocError
 }
 
 fn in_memory(logged: Result<Receipt, AllocError>) -> Result<Receipt, BoxFault>

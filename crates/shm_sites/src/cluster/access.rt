@@ -2,9 +2,8 @@
 ghost use Rattle.std.specs.Prelude.{◌≡◌, IfErr, IfOk, OnErr, OnOk};
 ghost use Rattle.shm_sites.specs.Boxes.Box.{after};
 ghost use Rattle.shm_sites.specs.Boxes.Logged.{stamp_of};
-ghost use Rattle.shm_sites.specs.Boxes.Receipt.{access_of};
 ghost use Rattle.shm_sites.specs.Boxes.SiteBox.{box_of};
-ghost use Rattle.shm_site.specs.Step as step;
+ghost use Rattle.shm_model.specs.Receipt.{access_of};
 ghost use Rattle.shm_sites.specs.Cluster.Client.{TellsOf};
 ghost use Rattle.shm_sites.specs.Cluster.Faults.{no_access};
 
@@ -25,20 +24,12 @@ pub(crate) fn access<A: Allocator + Copy>(
     ensures fault { IfErr result (λ e. e ≡ no_access site (box_of held.old) (access_of asked)) }
 {
     if held.log().site() != site {
-        return Err(ClientFault::GaveUp);
+        return Err(ClientFault::Foreign);
     }
-    match held.take(input_of(asked), Stamp::NONE) {
+    match held.take(Input::of(asked), Stamp::NONE) {
         Ok(receipt) => Ok(receipt),
         Err(BoxFault::ClockEnd) => Err(ClientFault::ClockEnd),
-        Err(_) => Err(ClientFault::OutOfMemory),
-    }
-}
-
-fn input_of<A: Allocator + Copy>(asked: Asked) -> Input<A>
-    ensures { step.input_of result ≡ access_of asked }
-{
-    match asked {
-        Asked::Load { at, offset } => Input::Load { at, offset },
-        Asked::Store { at, offset, byte } => Input::Store { at, offset, byte },
+        Err(BoxFault::Foreign) => Err(ClientFault::Foreign),
+        Err(BoxFault::OutOfMemory) => Err(ClientFault::OutOfMemory),
     }
 }

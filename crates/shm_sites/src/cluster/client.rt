@@ -1,7 +1,7 @@
 //! Loads and stores at one site, and how often an access is tried.
 ghost use Rattle.std.specs.Prelude.{◌≡◌, IfOk};
 ghost use Rattle.shm_model.specs.Message.{Load, Store};
-ghost use Rattle.shm_sites.specs.Boxes.Receipt.{access_of};
+ghost use Rattle.shm_model.specs.Receipt.{access_of};
 ghost use Rattle.shm_sites.specs.Cluster.Client.{waits as is_waiting, IsServed, TellsOf};
 
 use crate::boxes::{Asked, Receipt};
@@ -81,7 +81,8 @@ impl<'a, A: Allocator + Copy> Client<'a, A> {
         self.serve(rt, Asked::Store { at, offset, byte })
     }
 
-    fn serve<R: Wait>(&self, rt: &R, asked: Asked) -> Result<Receipt, ClientFault>
+    /// The same for this load or store.
+    pub fn serve<R: Wait>(&self, rt: &R, asked: Asked) -> Result<Receipt, ClientFault>
         ensures tells { IfOk result (TellsOf self.now.site (access_of asked)) }
         ensures served { IfOk result IsServed }
     {

@@ -9,6 +9,8 @@ pub enum ClientFault {
     GaveUp,
     /// The site's clock has no further stamp.
     ClockEnd,
+    /// The box under the lock is another site's: no cluster that `start` made has one.
+    Foreign,
 }
 
 impl Numbered for ClientFault {
@@ -21,6 +23,7 @@ impl Numbered for ClientFault {
             ClientFault::OutOfMemory => refusal::OUT_OF_MEMORY,
             ClientFault::GaveUp => refusal::GAVE_UP,
             ClientFault::ClockEnd => refusal::CLOCK_END,
+            ClientFault::Foreign => refusal::FOREIGN,
         }
     }
 }

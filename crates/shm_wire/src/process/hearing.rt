@@ -9,7 +9,7 @@ ghost use Rattle.shm_wire.specs.SentOf.{sent_of};
 
 use crate::process::heard::Heard;
 use crate::process::node::Node;
-use crate::{Asked, Sent, parse_ask, parse_envelope};
+use crate::{Question, Sent, parse_ask, parse_envelope};
 use shm_site::Input;
 use std::alloc::{AllocError, Allocator};
 
@@ -54,7 +54,7 @@ impl<A: Allocator + Copy> Node<A> {
         if ask.site != self.me || self.is_late(0) {
             return Ok(None);
         }
-        let Some(input) = input_of_ask(ask.asked) else {
+        let Some(input) = input_of_question(ask.asked) else {
             return Ok(None);
         };
         let tag = String::from_str(self.alloc, ask.tag)?;
@@ -75,15 +75,14 @@ impl<A: Allocator + Copy> Node<A> {
 }
 
 /// What the site is made to do.
-fn input_of_ask<A: Allocator + Copy>(asked: Asked) -> Option<Input<A>>
-    ensures input { option_map input_of result ≡ spec.input_asked asked }
+fn input_of_question<A: Allocator + Copy>(question: Question) -> Option<Input<A>>
+    ensures input { option_map input_of result ≡ spec.input_asked question }
     ensures proper { (sites me : ℕ) → IfSome result (λ input. is_foreign sites me (input_of input) ≡ false) }
 {
-    match asked {
-        Asked::Load { at, offset } => Some(Input::Load { at, offset }),
-        Asked::Store { at, offset, byte } => Some(Input::Store { at, offset, byte }),
-        Asked::Begin(request) => Some(Input::Begin(request)),
-        Asked::Tick => Some(Input::Tick),
-        Asked::Show(_) => None,
+    match question {
+        Question::Access(asked) => Some(Input::of(asked)),
+        Question::Begin(request) => Some(Input::Begin(request)),
+        Question::Tick => Some(Input::Tick),
+        Question::Show(_) => None,
     }
 }

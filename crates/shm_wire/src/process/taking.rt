@@ -1,17 +1,14 @@
 //! What a node does with a line.
 ghost use Rattle.std.specs.Prelude.{◌≡◌, ◌<◌, false, map, max, option_map, string_bytes, IfOk, OnErr, OnOk};
 ghost use Rattle.shm_model.specs.Basics.{greatest};
-ghost use Rattle.shm_model.specs.Step.{step};
-ghost use Rattle.shm_wire.specs.Node.{after, caller_after, counted, said, says, stepped, told};
+ghost use Rattle.shm_wire.specs.Node.{after, caller_after, counted, said, says, stepped, tag_told};
 ghost use Rattle.shm_wire.specs.NodeOf.{heard_of, node_of, said_of};
-ghost use Rattle.shm_parts.specs.Message.{envelope_of};
-ghost use Rattle.shm_site.specs.Site.{SameSeat, site_of, stepped as site_stepped};
 ghost use Rattle.shm_site.specs.Step.{input_of, is_foreign};
 
 use crate::process::heard::Heard;
 use crate::process::node::Node;
 use crate::process::said::Said;
-use shm_site::{Answer, Input, Made, Site, StepError};
+use shm_site::{Answer, Made};
 use std::alloc::{AllocError, Allocator};
 
 impl<A: Allocator + Copy> Node<A> {
@@ -45,7 +42,7 @@ impl<A: Allocator + Copy> Node<A> {
         let Heard { input, source, tag } = heard;
         let clock = self.clock.max(source) + 1;
         let index = self.steps;
-        let Made { answer, sent } = step_site(&mut self.site, input)?;
+        let Made { answer, sent } = self.site.step_spending(input)?;
         self.clock = clock;
         self.steps = index + 1;
         self.taken = one_more(self.taken);
@@ -67,7 +64,7 @@ fn take_tag<A: Allocator + Copy>(
     caller: &mut Option<String<A>>,
     answer: &Answer,
 ) -> Option<String<A>>
-    ensures told { option_map string_bytes result ≡ told (option_map string_bytes tag) (option_map string_bytes caller.old) answer.now }
+    ensures told { option_map string_bytes result ≡ tag_told (option_map string_bytes tag) (option_map string_bytes caller.old) answer.now }
     ensures caller { option_map string_bytes caller.new ≡ caller_after (option_map string_bytes tag) (option_map string_bytes caller.old) answer.now }
 {
     match answer {
@@ -85,24 +82,4 @@ fn one_more(lines: u64) -> u64
     ensures { result ≡ counted lines }
 {
     lines.saturating_add(1)
-}
-
-/// One step of the site at an input that isn't foreign. An envelope that comes back is given up.
-fn step_site<A: Allocator + Copy>(
-    site: &mut Site<A>,
-    input: Input<A>,
-) -> Result<Made<A>, AllocError>
-    ensures step { IfOk result (λ made. step site.old.sites site.old.me (site_of site.old) (input_of input) ≡ site_stepped site.new made.answer (map envelope_of made.sent.items)) }
-    ensures refused { OnErr result (site_of site.new ≡ site_of site.old) }
-    ensures seat { SameSeat site.old site.new }
-{
-    match site.step_listed(input) {
-        Ok(made) => Ok(made),
-        Err(error) => Err(give_up(error)),
-    }
-}
-
-fn give_up<A: Allocator + Copy>(error: StepError<A>) -> AllocError {
-    drop(error);
-    AllocError
 }

@@ -1,14 +1,14 @@
 use Rattle.std.proofs.Common.{◌≤◌, ◌+◌, arith, length, take}
 use Rattle.shm_model.specs.World as model
 use Rattle.shm_world.specs.World.{StandsFor}
-use Rattle.shm_debug.specs.Standing.{first_events, standing, stood}
+use Rattle.shm_debug.specs.Standing.{first_events, standing, world_of}
 use Rattle.shm_debug.proofs.Going.{one-more}
 use Rattle.shm_debug.proofs.going_back.run_on.Goals as goal
 
 pub events-preserved : goal.events-preserved
 events-preserved g c =
     let events = c.args.events.now in
-    let next : (o : model.Opening) → StandsFor {A = g.row.A.Denot} c.args.world.now (stood (first_events c.args.from (standing o events))) → StandsFor {A = g.row.A.Denot} c.step.new.self (model.run o (take (c.events.index + 1) events)).world =
+    let next : (o : model.Opening) → StandsFor {A = g.row.A.Denot} c.args.world.now (world_of (first_events c.args.from (standing o events))) → StandsFor {A = g.row.A.Denot} c.step.new.self (model.run o (take (c.events.index + 1) events)).world =
     λ o at. one-more c.step.new.self o events c.events.index c.index-events-index.result c.events-test.true c.index-events-index.is (c.in_ok-step.ensures.led o (take c.events.index events) (c.events.invariant.stands o at)) in
     record {
       stands = next;

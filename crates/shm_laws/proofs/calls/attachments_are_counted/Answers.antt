@@ -1,4 +1,4 @@
-use Rattle.shm_laws.proofs.CallsCounted.{attachments-counted}
+use Rattle.shm_laws.proofs.Call.Counted.{attachments-counted}
 use Rattle.shm_laws.proofs.calls.attachments_are_counted.Goals as goal
 
 pub returns : goal.returns

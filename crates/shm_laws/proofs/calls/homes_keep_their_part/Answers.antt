@@ -1,4 +1,4 @@
-use Rattle.shm_laws.proofs.CallsOnce.{homes-keep}
+use Rattle.shm_laws.proofs.Call.Once.{homes-keep}
 use Rattle.shm_laws.proofs.calls.homes_keep_their_part.Goals as goal
 
 pub returns : goal.returns

@@ -1,6 +1,6 @@
 use Rattle.std.proofs.Common.{sym, subst, ◌≤◌}
-use Rattle.shm_laws.proofs.LogsCount.{as-many-sent}
-use Rattle.shm_laws.proofs.LogsRun.{runs-as}
+use Rattle.shm_laws.proofs.Log.Count.{as-many-sent}
+use Rattle.shm_laws.proofs.Log.Run.{runs-as}
 use Rattle.shm_laws.proofs.logs.merged_logs_are_a_run.Goals as goal
 
 pub returns : goal.returns

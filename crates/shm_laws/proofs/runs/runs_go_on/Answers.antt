@@ -1,5 +1,5 @@
 use Rattle.shm_model.specs.World.{begun}
-use Rattle.shm_laws.proofs.RunsOn.{run_on-append}
+use Rattle.shm_laws.proofs.Run.GoesOn.{run_on-append}
 use Rattle.shm_laws.proofs.runs.runs_go_on.Goals as goal
 
 pub returns : goal.returns

@@ -3,7 +3,7 @@ use Rattle.shm_model.specs.Opening.{opening_of}
 use Rattle.shm_model.specs.declared.event.Event.{Event}
 use Rattle.shm_world.specs.World.{StandsFor}
 use Rattle.shm_debug.specs.Checkpoints.{AllHold}
-use Rattle.shm_debug.specs.Standing.{standing, stood}
+use Rattle.shm_debug.specs.Standing.{standing, world_of}
 use Rattle.shm_debug.proofs.session.Session.back.Goals as goal
 
 pub world_after-requires-clause-checkpoints : goal.world_after-requires-clause-checkpoints
@@ -19,7 +19,7 @@ invariant_of-self-in-Ok g c =
     let o = opening_of c.self.inside.opening in
     let left = c.len-stood.result - c.args.count in
     let same : c.truncate.new.self.items ≡ take left c.deref.result.now = c.truncate.ensures.items ∙ ap (λ xs. take left xs) (sym c.deref.ensures.value) in (
-      subst (λ (xs : List Event). StandsFor {A = g.row.A.Denot} c.in-Ok.world (stood (standing o xs))) (sym same) c.in-Ok.ensures.world,
+      subst (λ (xs : List Event). StandsFor {A = g.row.A.Denot} c.in-Ok.world (world_of (standing o xs))) (sym same) c.in-Ok.ensures.world,
       subst (λ (xs : List Event). AllHold {A = g.row.A.Denot} (standing o xs) c.world_after.new.checkpoints) (sym same) c.in-Ok.ensures.kept,
       c.self.invariant.2,
     )

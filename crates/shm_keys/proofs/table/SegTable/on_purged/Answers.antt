@@ -5,7 +5,7 @@ use Rattle.shm_keys.proofs.table.SegTable.on_purged.Goals as goal
 pub invariant_of-self : goal.invariant_of-self
 invariant_of-self g c =
     let kept = c.self.invariant in
-    let e = c.take.ensures in
+    let e = c.strike_out.ensures in
     record {
       few = kept.few;
       numbered = kept.numbered;

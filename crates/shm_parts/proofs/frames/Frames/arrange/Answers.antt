@@ -11,11 +11,11 @@ pub returns-then-not-change : goal.returns-then-not-change
 unfolding copies_in
 returns-then-not-change g c =
     let with_copies : List PageId → model.Frames = λ copies. record { limit = c.args.self.now.limit; copies = copies } in
-    ap with_copies (copies-left c.args.page c.args.change c.args.self.now.awaited c.args.self.now.line c.remove.new.self c.requires.0 c.if-not-change.true c.remove.ensures.all)
+    ap with_copies (copies-left c.args.page c.args.change c.args.self.now.awaited c.args.self.now.pages c.remove.new.self c.requires.0 c.if-not-change.true c.remove.ensures.all)
 
 pub returns-then-change : goal.returns-then-change
 unfolding copies_in
 returns-then-change g c =
     let with_copies : List PageId → model.Frames = λ copies. record { limit = c.args.self.now.limit; copies = copies } in
-    ap with_copies (copies-joined c.args.page tt c.args.change c.args.self.now.awaited c.args.self.now.line c.move_last.new.self c.requires.0 c.if-not-change.false c.if-change.true
-    (c.move_last.ensures.moved tt (unit_from (lookup (same_page c.args.page) c.args.self.now.line) c.requires.1)))
+    ap with_copies (copies-joined c.args.page tt c.args.change c.args.self.now.awaited c.args.self.now.pages c.move_last.new.self c.requires.0 c.if-not-change.false c.if-change.true
+    (c.move_last.ensures.moved tt (unit_from (lookup (same_page c.args.page) c.args.self.now.pages) c.requires.1)))

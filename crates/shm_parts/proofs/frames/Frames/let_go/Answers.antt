@@ -10,4 +10,4 @@ pub returns-clause-same : goal.returns-clause-same
 unfolding copies_in
 returns-clause-same g c =
     let with_copies : List PageId → model.Frames = λ copies. record { limit = c.args.self.now.limit; copies = copies } in
-    ap with_copies (ap keys_of c.remove.ensures.all ∙ keys-without c.in-Some.page c.args.self.now.line ∙ ap (λ o. counted o (keys_of c.args.self.now.line)) (sym c.in-Some.is))
+    ap with_copies (ap keys_of c.remove.ensures.all ∙ keys-without c.in-Some.page c.args.self.now.pages ∙ ap (λ o. counted o (keys_of c.args.self.now.pages)) (sym c.in-Some.is))

@@ -13,6 +13,6 @@ returns g c =
     let frames = c.let_go.new.self in
     let id = c.args.id in
     let with_copies : List PageId → model.Frames = λ copies. record { limit = frames.limit; copies = copies } in
-    ap with_copies (ap (λ o. counted o (keys_of c.remove_segment.new.self)) c.let_go.ensures.none ∙ ap keys_of c.remove_segment.ensures ∙ keys-without_segment id frames.line
-    ∙ ap (λ o. without_segment id (counted o (keys_of frames.line))) (sym c.let_go.ensures.none))
+    ap with_copies (ap (λ o. counted o (keys_of c.remove_segment.new.self)) c.let_go.ensures.none ∙ ap keys_of c.remove_segment.ensures ∙ keys-without_segment id frames.pages
+    ∙ ap (λ o. without_segment id (counted o (keys_of frames.pages))) (sym c.let_go.ensures.none))
     ∙ ap (λ (f : model.Frames). record f { copies = without_segment id f.copies }) c.let_go.ensures.same

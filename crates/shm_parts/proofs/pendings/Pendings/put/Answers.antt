@@ -6,4 +6,4 @@ use Rattle.shm_parts.proofs.pendings.Pendings.put.Goals as goal
 
 pub returns-clause-put : goal.returns-clause-put
 returns-clause-put g c =
-    on_ok c.put.result (λ h. ap (map pending_of) h ∙ pending_put c.args.page (c.args.request, c.args.kind) c.args.self.now.line) c.put.ensures.put
+    on_ok c.put.result (λ h. ap (map pending_of) h ∙ pending_put c.args.page (c.args.request, c.args.kind) c.args.self.now.pages) c.put.ensures.put

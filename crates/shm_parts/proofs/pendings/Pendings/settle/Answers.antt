@@ -6,7 +6,7 @@ use Rattle.shm_parts.proofs.pendings.Pendings.settle.Goals as goal
 pub returns-then-is_settled : goal.returns-then-is_settled
 returns-then-is_settled g c =
     ap (map pending_of) c.remove.ensures.first
-    ∙ pending_settled c.args.reads c.args.writes c.args.page c.args.self.now.line (sym c.is_settled.ensures ∙ c.if-is_settled.true)
+    ∙ pending_settled c.args.reads c.args.writes c.args.page c.args.self.now.pages (sym c.is_settled.ensures ∙ c.if-is_settled.true)
 
 pub returns-else-is_settled : goal.returns-else-is_settled
 returns-else-is_settled g c =

@@ -25,7 +25,7 @@ returns-in_err-answer-clause-last g c = λ o before opening stands.
 pub returns-in_err-answer-clause-stopped : goal.returns-in_err-answer-clause-stopped
 returns-in_err-answer-clause-stopped g c = λ o before opening stands.
     let ran = c.events.invariant.ran (model.run o before).world stands in
-    stopped-after c.every_run_keeps_the_promise.ensures c.from_residual-in_err-answer.result c.events.self c.take.new.self c.args.out.now.items c.events.out.items o before
+    stopped-after c.every_run_keeps_the_promise.ensures c.from_residual-in_err-answer.result c.events.self c.apply.new.self c.args.out.now.items c.events.out.items o before
     c.args.events.now c.events.event-index c.events.auto.event-index-end opening ran (c.in_err-answer.ensures.refused _ ran.stands)
 
 pub push_reserved-requires : goal.push_reserved-requires
@@ -35,7 +35,7 @@ pub events-preserved : goal.events-preserved
 events-preserved g c = record {
   ran = λ w stands.
       let ran = c.events.invariant.ran w stands in
-      ran-more c.events.self c.take.new.self c.args.out.now.items c.events.out.items c.push_reserved.new.self.items c.in_ok-answer.answer w c.args.events.now
+      ran-more c.events.self c.apply.new.self c.args.out.now.items c.events.out.items c.push_reserved.new.self.items c.in_ok-answer.answer w c.args.events.now
       c.events.event-index c.event-item.result c.events-test.true c.event-item.is c.push_reserved.ensures.items ran (c.in_ok-answer.ensures.next _ ran.stands);
   room = omega (arith, c.events.invariant.room, c.push_reserved.ensures.len, c.push_reserved.ensures.capacity);
 }

@@ -17,11 +17,11 @@ invariant_of-self-2-clause-stands g c =
     let old = c.args.self.now in
     let log = c.push.new.self in
     let l : Logged = record { input = input_of c.args.input; stamp = c.args.stamp; source = stamp_of c.args.source; answer = c.in_ok-answer.field-0.answer; sent = map envelope_of c.in_ok-answer.field-0.sent.items } in
-    let made : (step old.site.sites old.site.me (site_of old.site) (input_of c.args.copy)).site ≡ site_of c.step_site.new.site =
+    let made : (step old.site.sites old.site.me (site_of old.site) (input_of c.args.copy)).site ≡ site_of c.step_spending.new.self =
     ap (λ (done : Step). done.site) (c.in_ok-answer.ensures.step) in
     let same = c.push.ensures.opening in
     stands-push old.log.sites old.log.me old.log.pages old.site.sites old.site.me log.sites log.me log.pages
-    (site_of old.site) (site_of c.step_site.new.site) (input_of c.args.copy) (steps_of old.log) (steps_of log) l
+    (site_of old.site) (site_of c.step_spending.new.self) (input_of c.args.copy) (steps_of old.log) (steps_of log) l
     old.all_sites old.own_log old.stands c.requires.copy made same.0 same.1 same.2 c.push.ensures.steps
 
 pub invariant_of-self-2-clause-stamped : goal.invariant_of-self-2-clause-stamped

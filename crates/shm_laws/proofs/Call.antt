@@ -1,0 +1,19 @@
+-- Segment calls: executed once, counted, and nothing alive purged.
+pub mod Turn
+pub mod Quiet
+pub mod Turns
+pub mod Invariant
+pub mod Steps
+pub mod Executed
+pub mod Run
+pub mod Views
+pub mod Once
+pub mod Counting
+pub mod Held
+pub mod Names
+pub mod Named
+pub mod Balance
+pub mod Opened
+pub mod Balanced
+pub mod Counted
+pub mod Purged

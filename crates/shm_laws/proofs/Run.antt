@@ -1,0 +1,3 @@
+-- Runs: induction over them, and how one goes on.
+pub mod Induction
+pub mod GoesOn

@@ -1,7 +1,0 @@
-use Rattle.std.proofs.Common.{◌≡◌}
-use Rattle.shm_parts.proofs.LineLemmas.{gone_below}
-use Rattle.shm_parts.proofs.line.Line.remove_segment.Given as goal
-
--- the pages before this index are gone
-abbrev pub invariant-indexes : goal.invariant-indexes
-invariant-indexes g l = l.self ≡ gone_below l.id l.index l.fn.self

@@ -1,0 +1,40 @@
+//! Going over pages in the order in which they joined.
+ghost use Rattle.std.specs.Prelude.{◌≡◌, length};
+ghost use Rattle.std.specs.Iterator.{at_most};
+ghost use Rattle.std.specs.Map.Iter.{TakesFirst, deref_pair};
+
+use lru::Iter;
+use shm_place::PageId;
+use std::marker::Model;
+
+/// The pages of an `OrderedPages` that are still to come, in the order in which they joined, each with its value. A step costs the
+/// same however many there are.
+#[derive(Drop)]
+pub struct PagesInOrder<'a, V> {
+    pub(crate) rest: Option<Iter<'a, PageId, V>>,
+}
+
+impl<'a, V> Model for PagesInOrder<'a, V> {
+    ghost use Rattle.std.specs.Prelude.{List};
+    ghost use Rattle.shm_place.specs.declared.page.PageId.{PageId as Page};
+    ghost use Rattle.shm_parts.specs.OrderedPages.{left};
+
+    ghost Value = { List (Page × V) };
+
+    ghost view = { λ pages. left pages.rest };
+}
+
+impl<'a, V> Iterator for PagesInOrder<'a, V> {
+    type Item = (&'a PageId, &'a V);
+
+    ghost next_gives = { TakesFirst deref_pair };
+
+    ghost remaining = { λ pages. at_most (length pages) };
+
+    fn next(&mut self) -> Option<(&'a PageId, &'a V)> {
+        match &mut self.rest {
+            Some(rest) => rest.next(),
+            None => None,
+        }
+    }
+}
