@@ -1,8 +1,8 @@
-# Everything here needs the command `rt` of the Rattle toolchain, and nothing else.
+# Everything here needs the command `rt` of the Rattle toolchain, and nothing else but `machines`, which needs Python.
 
 PROGRAM := crates/shmdbg
 
-.PHONY: replay build pictures examples manners refused test wrong-bodies
+.PHONY: replay build pictures examples manners machines refused test wrong-bodies
 
 # Replays an example without proving anything: a minute or two on a fresh machine, most of it compiling.
 replay:
@@ -40,6 +40,11 @@ examples:
 # Compares the shells' completions and the manual page with what the program's help names. Needs the program that `make build` leaves.
 manners:
 	@completions/check
+
+# Sites as processes, and a network between them that loses, repeats and reorders: some seconds of loads and stores, each load looked at.
+# Needs the program that `make build` leaves, and Python 3.
+machines:
+	@for seed in 1 2 3; do examples/machines/router.py --seed $$seed --seconds 4 --program $(PROGRAM)/out/shmdbg || exit 1; done
 
 # Programs that the types alone must refuse, each with the words of its refusal. Within a minute; nothing is proved.
 refused:

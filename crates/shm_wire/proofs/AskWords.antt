@@ -19,11 +19,11 @@ use Rattle.shm_lines.specs.Words.{words_of}
 use Rattle.shm_wire.proofs.CallWords.{common-is}
 use Rattle.shm_wire.proofs.MessageWords.{took_page}
 use Rattle.shm_wire.proofs.Reading.{took, ended-is, Reads, Sound, SoundReader, SoundWords, by_verb-is, nothing-is, verb-is}
-use Rattle.shm_wire.specs.Asks.{Ask, IsAsk, IsAsked, IsTag, ask_after, ask_line, ask_of_words, ask_words, asked_of, asked_words, begun_of, detach_of, is_tag, load_of, own, read_ask, show_of, store_of, tag_of}
+use Rattle.shm_wire.specs.Asks.{Ask, IsAsk, IsAsked, IsTag, ask_after, ask_line, ask_of_words, ask_words, asked_of, asked_words, begun_of, detach_of, is_tag, load_of, own, read_ask, show_of, store_of, tag_of, try_load_of, try_store_of}
 use Rattle.shm_wire.specs.Calls.{common_of}
 use Rattle.shm_wire.specs.Words.{by_verb, ended, nothing}
 use Rattle.shm_wire.specs.declared.ask.Question.{Question}
-use Rattle.shm_wire.specs.declared.ask.Question.TheVariants.{Access, Begin, Tick, Show}
+use Rattle.shm_wire.specs.declared.ask.Question.TheVariants.{Access, Try, Begin, Tick, Show}
 
 -- ---- tags
 
@@ -69,6 +69,21 @@ module _ (words : List (List ℕ)) (asked : Question) where
       let e = ended-is (Access (Store a.value o.value b.value)) asked b.others b.gives in
       subst (ReadsAsked (codes "store" ∷ words)) e.1 ((a.is, o.is, b.is), ap (λ l. codes "store" ∷ l) (onto a.are (onto o.are (onto b.are e.0))))
 
+  try_load-is : try_load_of words ≡ Some asked → ReadsAsked (codes "try-load" ∷ words) asked
+  try_load-is h =
+      let a = took number words _ asked h in
+      let o = took number a.others _ asked a.gives in
+      let e = ended-is (Try (Load a.value o.value)) asked o.others o.gives in
+      subst (ReadsAsked (codes "try-load" ∷ words)) e.1 ((a.is, o.is), ap (λ l. codes "try-load" ∷ l) (onto a.are (onto o.are e.0)))
+
+  try_store-is : try_store_of words ≡ Some asked → ReadsAsked (codes "try-store" ∷ words) asked
+  try_store-is h =
+      let a = took number words _ asked h in
+      let o = took number a.others _ asked a.gives in
+      let b = took byte o.others _ asked o.gives in
+      let e = ended-is (Try (Store a.value o.value b.value)) asked b.others b.gives in
+      subst (ReadsAsked (codes "try-store" ∷ words)) e.1 ((a.is, o.is, b.is), ap (λ l. codes "try-store" ∷ l) (onto a.are (onto o.are (onto b.are e.0))))
+
   detach-is : detach_of words ≡ Some asked → ReadsAsked (codes "detach" ∷ words) asked
   detach-is h =
       let a = took number words _ asked h in
@@ -93,7 +108,7 @@ begun-is word words asked h =
     subst (ReadsAsked (word ∷ words)) (some-is (Begin (OpRequest s.value)) asked s.gives) (r.0, r.1)
 
 sound : Sound IsAsked asked_words own
-sound = (load-is, (store-is, (detach-is, (tick-is, (show-is, tt)))))
+sound = (load-is, (store-is, (try_load-is, (try_store-is, (detach-is, (tick-is, (show-is, tt)))))))
 
 asked-is : (words : List (List ℕ)) (asked : Question) → asked_of words ≡ Some asked → ReadsAsked words asked
 asked-is words asked h = verb-is IsAsked asked_words (by_verb own begun_of) (by_verb-is IsAsked asked_words own begun_of sound begun-is) words asked h

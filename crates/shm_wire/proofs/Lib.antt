@@ -11,4 +11,3 @@ pub mod AskWords
 pub mod SpelledAsks
 pub mod AnswerWords
 pub mod Apart
-pub mod SentLines

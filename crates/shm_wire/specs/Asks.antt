@@ -14,7 +14,7 @@ use Rattle.shm_wire.specs.Messages.{IsPageId, next_page}
 use Rattle.shm_wire.specs.Words.{Verbs, by_verb, ended, nothing}
 use Rattle.shm_wire.specs.declared.ask.Ask.{Ask as CodeAsk}
 use Rattle.shm_wire.specs.declared.ask.Question.{Question}
-use Rattle.shm_wire.specs.declared.ask.Question.TheVariants.{Access, Begin, Tick, Show}
+use Rattle.shm_wire.specs.declared.ask.Question.TheVariants.{Access, Try, Begin, Tick, Show}
 
 -- ---- tags
 
@@ -33,6 +33,8 @@ tag_of word = if is_tag word then Some word else None
 abbrev pub IsAsked : Question → Type 0
 IsAsked (Access (Load at offset)) = IsNumber at × IsNumber offset
 IsAsked (Access (Store at offset byte)) = IsNumber at × IsNumber offset × (byte < 256)
+IsAsked (Try (Load at offset)) = IsNumber at × IsNumber offset
+IsAsked (Try (Store at offset byte)) = IsNumber at × IsNumber offset × (byte < 256)
 IsAsked (Begin request) = script.IsRequest request
 IsAsked Tick = ⊤
 IsAsked (Show page) = IsPageId page
@@ -40,6 +42,8 @@ IsAsked (Show page) = IsPageId page
 abbrev pub asked_words : Question → List (List ℕ)
 asked_words (Access (Load at offset)) = less_site (script.event_words (event.Load 0 at offset))
 asked_words (Access (Store at offset byte)) = less_site (script.event_words (event.Store 0 at offset byte))
+asked_words (Try (Load at offset)) = codes "try-load" ∷ decimal at ∷ decimal offset ∷ []
+asked_words (Try (Store at offset byte)) = codes "try-store" ∷ decimal at ∷ decimal offset ∷ decimal byte ∷ []
 asked_words (Begin request) = less_site (script.request_words 0 request)
 asked_words Tick = less_site (script.event_words (event.Tick 0))
 asked_words (Show page) = codes "show" ∷ decimal page.seg ∷ decimal page.index ∷ []
@@ -58,6 +62,21 @@ store_of words = do
   (offset, words) ← next_number words
   (byte, words) ← next_of byte_of words
   ended (Access (Store at offset byte)) words
+
+-- `try-load attachment offset`
+abbrev pub try_load_of : List (List ℕ) → Option Question
+try_load_of words = do
+  (at, words) ← next_number words
+  (offset, words) ← next_number words
+  ended (Try (Load at offset)) words
+
+-- `try-store attachment offset byte`
+abbrev pub try_store_of : List (List ℕ) → Option Question
+try_store_of words = do
+  (at, words) ← next_number words
+  (offset, words) ← next_number words
+  (byte, words) ← next_of byte_of words
+  ended (Try (Store at offset byte)) words
 
 -- `detach attachment`
 abbrev pub detach_of : List (List ℕ) → Option Question
@@ -78,7 +97,9 @@ begun_of verb words = do
   Some (Begin (OpRequest op))
 
 abbrev pub own : Verbs Question
-own = (codes "load", load_of) ∷ (codes "store", store_of) ∷ (codes "detach", detach_of) ∷ (codes "tick", ended Tick) ∷ (codes "show", show_of) ∷ []
+own =
+    (codes "load", load_of) ∷ (codes "store", store_of) ∷ (codes "try-load", try_load_of) ∷ (codes "try-store", try_store_of)
+    ∷ (codes "detach", detach_of) ∷ (codes "tick", ended Tick) ∷ (codes "show", show_of) ∷ []
 
 abbrev pub asked_of : List (List ℕ) → Option Question
 asked_of words = do

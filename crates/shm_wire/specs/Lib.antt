@@ -7,6 +7,3 @@ pub mod Sent
 pub mod SentOf
 pub mod Asks
 pub mod Answers
-pub mod Node
-pub mod NodeOf
-pub mod Lines

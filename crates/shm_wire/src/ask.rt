@@ -7,7 +7,10 @@ use std::fmt;
 /// What a caller may ask of a site: each event that a site can be made to have, and what it holds of a page.
 #[derive(Clone, Copy, Debug, PartialEq, Eq)]
 pub enum Question {
+    /// It waits for its right.
     Access(Asked),
+    /// An access that doesn't wait for its right: it is answered at once.
+    Try(Asked),
     Begin(Request),
     Tick,
     Show(PageId),
@@ -48,6 +51,10 @@ impl fmt::Display for Question {
             Question::Access(Asked::Load { at, offset }) => write!(f, "load {at} {offset}"),
             Question::Access(Asked::Store { at, offset, byte }) => {
                 write!(f, "store {at} {offset} {byte}")
+            }
+            Question::Try(Asked::Load { at, offset }) => write!(f, "try-load {at} {offset}"),
+            Question::Try(Asked::Store { at, offset, byte }) => {
+                write!(f, "try-store {at} {offset} {byte}")
             }
             Question::Begin(Request::Op(op)) => write!(f, "{}", CallWords(*op)),
             Question::Begin(Request::DetachAt(at)) => write!(f, "detach {at}"),

@@ -4,7 +4,7 @@ ghost use Rattle.std.specs.Char.{is_ascii_graphic};
 ghost use Rattle.std.specs.List.{list_all};
 ghost use Rattle.shm_wire.specs.Words.{ended};
 ghost use Rattle.shm_wire.specs.Asks as said;
-ghost use Rattle.shm_wire.specs.Asks.{ask_of, asked_of, begun_of, detach_of, load_of, read_ask, show_of, store_of, tag_of};
+ghost use Rattle.shm_wire.specs.Asks.{ask_of, asked_of, begun_of, detach_of, load_of, read_ask, show_of, store_of, tag_of, try_load_of, try_store_of};
 
 use crate::ask::{Ask, Question};
 use crate::calls::common;
@@ -70,6 +70,12 @@ fn ask_of_words(words: Words<'_>) -> Option<Question>
     if verb == b"store".as_slice() {
         return store(words);
     }
+    if verb == b"try-load".as_slice() {
+        return try_load(words);
+    }
+    if verb == b"try-store".as_slice() {
+        return try_store(words);
+    }
     if verb == b"detach".as_slice() {
         return detach(words);
     }
@@ -103,6 +109,29 @@ fn store(words: Words<'_>) -> Option<Question>
         return None;
     }
     Some(Question::Access(Asked::Store { at, offset, byte }))
+}
+
+fn try_load(words: Words<'_>) -> Option<Question>
+    ensures { result ≡ try_load_of words.entry }
+{
+    let (at, words) = words.number()?;
+    let (offset, words) = words.number()?;
+    if !words.is_empty() {
+        return None;
+    }
+    Some(Question::Try(Asked::Load { at, offset }))
+}
+
+fn try_store(words: Words<'_>) -> Option<Question>
+    ensures { result ≡ try_store_of words.entry }
+{
+    let (at, words) = words.number()?;
+    let (offset, words) = words.number()?;
+    let (byte, words) = words.byte()?;
+    if !words.is_empty() {
+        return None;
+    }
+    Some(Question::Try(Asked::Store { at, offset, byte }))
 }
 
 fn detach(words: Words<'_>) -> Option<Question>

@@ -38,9 +38,11 @@ const BAD: [&str; 8] = [
 ];
 
 /// A line of each form that a caller may ask in.
-const ASKS: [&str; 11] = [
+const ASKS: [&str; 13] = [
     "ask 0 a load 0 4096",
     "ask 15 ~!tag~ store 63 4294967295 255",
+    "ask 1 t try-load 0 4096",
+    "ask 1 t try-store 63 4294967295 255",
     "ask 1 t get 10 20 5 300 640 -",
     "ask 1 t attach 10 20 1 rw",
     "ask 1 t detach 2",

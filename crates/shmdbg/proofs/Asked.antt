@@ -1,14 +1,19 @@
 -- What the words ask for is what their task is.
-use Rattle.std.proofs.Common.{◌≡◌, ◌∙◌, ℕ, Bool, List, ap, arith, codes, refl, slice_index, sym}
+use Rattle.std.proofs.Common.{◌≡◌, ◌≤◌, ◌<◌, ◌∙◌, ℕ, Bool, List, ap, arith, codes, refl, slice_index, sym, true, []}
 use Rattle.std.specs.Prelude.{IsSomeAnd, None, Option, Some}
+use Rattle.std.proofs.lemmas.Bool.Decides.{nat_tests}
+use Rattle.std.specs.Option.{option_map_or}
 use Rattle.std.specs.Borrow.{Bor}
-use Rattle.clap.specs.Words.{Row, Text, subcommand_of}
+use Rattle.clap.specs.Words.{Row, Text, fault_of, subcommand_of}
+use Rattle.shm_place.specs.Limits.{pages as most_pages}
 use Rattle.shm_place.specs.declared.page.PageId.{PageId}
+use Rattle.shm_process.specs.Node.{new_node}
 use Rattle.shmdbg.specs.Commands.{app}
-use Rattle.shmdbg.specs.Words.{asked_for, name_of, page_given, sites_given, summary_given, IsAsked}
+use Rattle.shmdbg.specs.Words.{among_fault, asked_for, fault_in, has_plain_numbers, is_among, name_of, names_one, node_given, page_given, sites_given, summary_given, task_fault, IsAsked}
 use Rattle.shmdbg.specs.declared.words.task.Task.{Task}
-use Rattle.shmdbg.specs.declared.words.task.Task.TheVariants.{Draw, Prompt, Replay, Run}
+use Rattle.shmdbg.specs.declared.words.task.Task.TheVariants.{Draw, Prompt, Replay, Run, Site}
 use Rattle.shmdbg.specs.Status.{Asks}
+use Rattle.shmdbg.proofs.Wrong.{plainly_spelled}
 
 -- the words ask for this task
 abbrev pub AskFor : List Text → Task → Type 0
@@ -44,6 +49,38 @@ summary_asked words sites seed summary log asked =
     let of = of_named (subcommand_of app words) (Run sites seed summary log) asked in
     rw of.1 of.2.options.2
 
+pub node_asked : (words : List Text) (sites me pages : ℕ) → AskFor words (Site sites me pages) → node_given words ≡ Some (new_node sites me pages)
+node_asked words sites me pages asked =
+    let of = of_named (subcommand_of app words) (Site sites me pages) asked in
+    rw (of.1, of.2.options.0, of.2.options.1, of.2.options.2) refl
+
+pub pages_asked : (words : List Text) (sites me pages : ℕ) → AskFor words (Site sites me pages) → (1 ≤ pages) × (pages ≤ most_pages)
+pages_asked words sites me pages asked =
+    let of = of_named (subcommand_of app words) (Site sites me pages) asked in
+    (of.2.options.3, of.2.options.4)
+
+-- ---- a site that is there
+
+pub is_below : (sites me pages : ℕ) → is_among (Site sites me pages) ≡ true → me < sites
+is_below sites me pages among = grind (arith, nat_tests)
+
+one_named : (name : Text) (rows : List Row) (task : Task) → IsAsked name rows task → names_one (name, rows) ≡ is_among task
+one_named name rows Replay asked = rw asked.called refl
+one_named name rows (Run sites seed summary log) asked = rw asked.called refl
+one_named name rows Prompt asked = rw asked.called refl
+one_named name rows (Draw page) asked = rw asked.called refl
+one_named name rows (Site sites me pages) asked = rw (asked.called, asked.options.0, asked.options.1) refl
+
+-- the words name a site that is there where their task does
+pub among_asked : (words : List Text) (task : Task) → AskFor words task → option_map_or names_one (subcommand_of app words) true ≡ is_among task
+among_asked words task asked =
+    let of = of_named (subcommand_of app words) task asked in
+    rw of.1 (one_named of.0.0 of.0.1 task of.2)
+
+-- what is wrong with words that clap takes and whose numbers are spelled plainly is what is wrong with their task
+pub fault_asked : (words : List Text) (task : Task) → fault_of app words ≡ [] → has_plain_numbers words ≡ true → AskFor words task → fault_in words ≡ task_fault task
+fault_asked words task none plain asked = plainly_spelled words none plain ∙ ap among_fault (among_asked words task asked)
+
 -- ---- two names
 
 pub replay_is_not_run : codes "replay" ≡ codes "run" → ⊥
@@ -63,6 +100,18 @@ draw_is_not_run e = let bad : 100 ≡ 114 = ap (λ (t : Text). slice_index t 0) 
 
 pub draw_is_not_prompt : codes "draw" ≡ codes "prompt" → ⊥
 draw_is_not_prompt e = let bad : 100 ≡ 112 = ap (λ (t : Text). slice_index t 0) e in absurd (omega (arith, bad))
+
+pub site_is_not_replay : codes "site" ≡ codes "replay" → ⊥
+site_is_not_replay e = let bad : 115 ≡ 114 = ap (λ (t : Text). slice_index t 0) e in absurd (omega (arith, bad))
+
+pub site_is_not_run : codes "site" ≡ codes "run" → ⊥
+site_is_not_run e = let bad : 115 ≡ 114 = ap (λ (t : Text). slice_index t 0) e in absurd (omega (arith, bad))
+
+pub site_is_not_prompt : codes "site" ≡ codes "prompt" → ⊥
+site_is_not_prompt e = let bad : 115 ≡ 112 = ap (λ (t : Text). slice_index t 0) e in absurd (omega (arith, bad))
+
+pub site_is_not_draw : codes "site" ≡ codes "draw" → ⊥
+site_is_not_draw e = let bad : 115 ≡ 100 = ap (λ (t : Text). slice_index t 0) e in absurd (omega (arith, bad))
 
 -- ---- words that ask for one thing don't ask for another
 
@@ -101,3 +150,27 @@ a_run_is_no_drawing words sites seed summary log asked asks = draw_is_not_run (s
 
 pub a_prompt_is_no_drawing : (words : List Text) → AskFor words Prompt → Asks (codes "draw") words → ⊥
 a_prompt_is_no_drawing words asked asks = draw_is_not_prompt (same_name words Prompt (codes "draw") asked asks)
+
+pub a_site_is_no_replay : (words : List Text) (sites me pages : ℕ) → AskFor words (Site sites me pages) → Asks (codes "replay") words → ⊥
+a_site_is_no_replay words sites me pages asked asks = site_is_not_replay (sym (same_name words (Site sites me pages) (codes "replay") asked asks))
+
+pub a_site_is_no_run : (words : List Text) (sites me pages : ℕ) → AskFor words (Site sites me pages) → Asks (codes "run") words → ⊥
+a_site_is_no_run words sites me pages asked asks = site_is_not_run (sym (same_name words (Site sites me pages) (codes "run") asked asks))
+
+pub a_site_is_no_prompt : (words : List Text) (sites me pages : ℕ) → AskFor words (Site sites me pages) → Asks (codes "prompt") words → ⊥
+a_site_is_no_prompt words sites me pages asked asks = site_is_not_prompt (sym (same_name words (Site sites me pages) (codes "prompt") asked asks))
+
+pub a_site_is_no_drawing : (words : List Text) (sites me pages : ℕ) → AskFor words (Site sites me pages) → Asks (codes "draw") words → ⊥
+a_site_is_no_drawing words sites me pages asked asks = site_is_not_draw (sym (same_name words (Site sites me pages) (codes "draw") asked asks))
+
+pub a_replay_is_no_site : (words : List Text) → AskFor words Replay → Asks (codes "site") words → ⊥
+a_replay_is_no_site words asked asks = site_is_not_replay (same_name words Replay (codes "site") asked asks)
+
+pub a_run_is_no_site : (words : List Text) (sites seed : ℕ) (summary : Bool) (log : Option (Bor Text)) → AskFor words (Run sites seed summary log) → Asks (codes "site") words → ⊥
+a_run_is_no_site words sites seed summary log asked asks = site_is_not_run (same_name words (Run sites seed summary log) (codes "site") asked asks)
+
+pub a_prompt_is_no_site : (words : List Text) → AskFor words Prompt → Asks (codes "site") words → ⊥
+a_prompt_is_no_site words asked asks = site_is_not_prompt (same_name words Prompt (codes "site") asked asks)
+
+pub a_drawing_is_no_site : (words : List Text) (page : Option PageId) → AskFor words (Draw page) → Asks (codes "site") words → ⊥
+a_drawing_is_no_site words page asked asks = site_is_not_draw (same_name words (Draw page) (codes "site") asked asks)

@@ -10,7 +10,7 @@ use Rattle.clap.specs.declared.parser.matches.ArgMatches.TheViews.{out-SubComman
 use Rattle.clap.specs.declared.error.Error.{Error}
 use Rattle.clap.specs.declared.error.kind.ErrorKind.TheVariants.{ValueValidation}
 use Rattle.shmdbg.specs.Commands.{app}
-use Rattle.shmdbg.specs.Words.{clap_fault, fault_in, has_long_word, has_plain_numbers, spelling_fault}
+use Rattle.shmdbg.specs.Words.{clap_fault, fault_in, has_long_word, has_plain_numbers, site_fault, spelling_fault}
 
 pub any_map : {A B : Type 0} (p : B → Bool) (f : A → B) (xs : List A) → list_any (λ x. p (f x)) xs ≡ list_any p (map f xs)
 any_map p f [] = refl
@@ -29,8 +29,8 @@ has_first (kind ∷ kinds) next error has = has
 pub refused_by_clap : (words : List Text) (error : Error) → HasKind (clap_fault (has_long_word words) (fault_of app words)) error → HasKind (fault_in words) error
 refused_by_clap words error has = has_first (clap_fault (has_long_word words) (fault_of app words)) _ error has
 
--- where clap takes the words, what is wrong is their spelling
-after_clap : (words : List Text) → fault_of app words ≡ [] → fault_in words ≡ spelling_fault words
+-- where clap takes the words, what is wrong is their spelling, or else the site
+after_clap : (words : List Text) → fault_of app words ≡ [] → fault_in words ≡ or_else (spelling_fault words) (site_fault words)
 after_clap words none = rw none refl
 
 pub badly_spelled : (words : List Text) (error : Error) → fault_of app words ≡ [] → has_plain_numbers words ≡ false
@@ -39,9 +39,9 @@ badly_spelled words error none wrong kind =
     let is : fault_in words ≡ ValueValidation ∷ [] = after_clap words none ∙ rw wrong refl in
     subst (λ (kinds : Kinds). HasKind kinds error) (sym is) (inr (inl kind))
 
--- words that are spelled plainly are taken
-pub taken : (words : List Text) → fault_of app words ≡ [] → has_plain_numbers words ≡ true → fault_in words ≡ []
-taken words none plain = after_clap words none ∙ rw plain refl
+-- of words that are spelled plainly it is the site
+pub plainly_spelled : (words : List Text) → fault_of app words ≡ [] → has_plain_numbers words ≡ true → fault_in words ≡ site_fault words
+plainly_spelled words none plain = after_clap words none ∙ rw plain refl
 
 -- the subcommand that was met has this name and these rows
 pub named_so : {Z : Type 0} (met : Option (Box SubCommand Z)) (name : Text) (rows : List Row)

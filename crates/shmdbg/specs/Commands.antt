@@ -38,10 +38,20 @@ page_rule = record (new_rule (codes "page")) { long = Some (codes "page"); actio
 abbrev pub draw_app : App
 draw_app = with_rule (new_app (codes "draw")) page_rule
 
+abbrev pub me_rule : Rule
+me_rule = number_rule (codes "me") (Signed (pos 0) (pos 15))
+
+abbrev pub preset_rule : Rule
+preset_rule = number_rule (codes "preset") (Signed (pos 1) (pos 256))
+
+abbrev pub site_app : App
+site_app = with_rule (with_rule (with_rule (new_app (codes "site")) sites_rule) me_rule) preset_rule
+
 -- a subcommand is required, and `--version` tells the version
 abbrev pub bare_app : App
 bare_app = record { top = record (new_app (codes "shmdbg")).top { subcommand_required = true; has_version = true }; subs = [] }
 
 -- the program with all its subcommands
 abbrev pub app : App
-app = with_subcommand (with_subcommand (with_subcommand (with_subcommand bare_app replay_app.top) run_app.top) prompt_app.top) draw_app.top
+app =
+    with_subcommand (with_subcommand (with_subcommand (with_subcommand (with_subcommand bare_app replay_app.top) run_app.top) prompt_app.top) draw_app.top) site_app.top

@@ -1,6 +1,6 @@
 -- Exit statuses, and what each tells of the script on standard input and of the text on standard output.
-use Rattle.std.specs.Prelude.{◌≡◌, ℕ, Bool, true, List, [], IfSome, IsSomeAnd, Option, Some, Result, Ok, Err}
-use Rattle.std.specs.Io.KnownBytes.{Appends}
+use Rattle.std.specs.Prelude.{◌≡◌, ◌⊎◌, ℕ, Bool, true, List, [], IfSome, IsSomeAnd, Option, Some, Result, Ok, Err}
+use Rattle.std.specs.Io.KnownBytes.{Appends, Keeps}
 use Rattle.clap.specs.Words.{Text}
 use Rattle.shm_debug.specs.Script.{Script}
 use Rattle.shm_debug.specs.Replay.{Ends}
@@ -9,6 +9,9 @@ use Rattle.shm_draw.specs.Drawn.{Draws}
 use Rattle.shm_place.specs.declared.page.PageId.{PageId}
 use Rattle.shm_debug.specs.declared.outcome.DebugFault.{DebugFault}
 use Rattle.shm_debug.specs.declared.outcome.DebugFault.TheVariants.{OutOfMemory, BadLine, LineTooLong, TooManyLines, ReadFault, WriteFault}
+use Rattle.shm_process.specs.Node.{Node}
+use Rattle.shm_process.specs.Streams.{Served}
+use Rattle.shm_process.specs.declared.outcome.ProcessFault.{ProcessFault}
 use Rattle.shm_report.specs.Causes.{audit_cause, input_cause, is_after_reading, IsFound, IsRight, IsWrongBy}
 use Rattle.shm_report.specs.Report.{IsToldReport}
 use Rattle.shm_report.specs.declared.report_fault.ReportFault.{ReportFault}
@@ -78,3 +81,17 @@ pub record Fails (given : Option ℕ) (workload : Option (List ℕ)) (status : �
   pub input : IfSome (input_cause fault) (λ cause. IsSomeAnd given (λ sites. IsWrongBy sites workload cause))
   pub right : is_after_reading fault ≡ true → IsSomeAnd given (λ sites. IsRight sites workload)
   pub audit : IfSome (audit_cause fault) (λ cause. IsSomeAnd given (λ sites. IsFound sites workload cause))
+
+abbrev pub process_status : Result (Unit {0}) ProcessFault → ℕ
+process_status (Ok _) = 0
+process_status (Err fault) = 3
+
+-- the node ended with this status, and what was then read and written is what such an end reads and writes
+abbrev pub Serves : Node → ℕ → Option (List ℕ) → Option (List ℕ) → Option (List ℕ) → Option (List ℕ) → Type 0
+Serves node status remaining left old new =
+    (end : Result (Unit {0}) ProcessFault) × (status ≡ process_status end) × Served node remaining left old new end
+
+-- the node that is given did so; or memory was refused while the words were read, and nothing else was read, and nothing was written
+abbrev pub IsServed : Option Node → ℕ → Option (List ℕ) → Option (List ℕ) → Option (List ℕ) → Option (List ℕ) → Type 0
+IsServed given status remaining left old new =
+    ((status ≡ 3) × Keeps remaining left × Keeps old new) ⊎ IsSomeAnd given (λ node. Serves node status remaining left old new)

@@ -1,5 +1,5 @@
 -- What the words ask for, as clap reads them, and what is wrong with them.
-use Rattle.std.specs.Prelude.{◌≡◌, ◌==◌, ◌&&◌, ℕ, Bool, true, false, not, if◌then◌else◌, List, [], ◌∷◌, length, drop, slice_index, nat_lt, Option, Some, None, codes, option_and_then, option_map}
+use Rattle.std.specs.Prelude.{◌≡◌, ◌≤◌, ◌==◌, ◌&&◌, ℕ, Bool, true, false, not, if◌then◌else◌, List, [], ◌∷◌, length, drop, slice_index, nat_lt, Option, Some, None, codes, option_and_then, option_map}
 use Rattle.std.specs.List.{list_all, list_any}
 use Rattle.std.specs.Char.{is_ascii_digit}
 use Rattle.std.specs.Option.{option_map_or}
@@ -9,10 +9,12 @@ use Rattle.clap.specs.Words.{Kinds, Row, Text, fault_of, first_of, one_of, subco
 use Rattle.clap.specs.Walk.{all_of}
 use Rattle.clap.specs.Kinds.{or_else}
 use Rattle.clap.specs.declared.error.kind.ErrorKind.TheVariants.{UnknownArgument, ValueValidation}
+use Rattle.shm_place.specs.Limits.{pages as most_pages}
 use Rattle.shm_place.specs.declared.page.PageId.{PageId}
+use Rattle.shm_process.specs.Node.{Node, new_node}
 use Rattle.shmdbg.specs.Commands.{app}
 use Rattle.shmdbg.specs.declared.words.task.Task.{Task}
-use Rattle.shmdbg.specs.declared.words.task.Task.TheVariants.{Replay, Run, Prompt, Draw}
+use Rattle.shmdbg.specs.declared.words.task.Task.TheVariants.{Replay, Run, Prompt, Draw, Site}
 
 -- the name of the subcommand that the words ask for, where the program takes them; the first word is the program's name
 abbrev pub asked_for : List Text → Option Text
@@ -24,6 +26,7 @@ name_of Replay = codes "replay"
 name_of (Run sites seed summary log) = codes "run"
 name_of Prompt = codes "prompt"
 name_of (Draw page) = codes "draw"
+name_of (Site sites me pages) = codes "site"
 
 -- ---- what is given for an option
 
@@ -66,6 +69,16 @@ number_given words option = number_at option (rows_given words)
 abbrev pub sites_given : List Text → Option ℕ
 sites_given words = number_given words (codes "sites")
 
+abbrev pub me_given : List Text → Option ℕ
+me_given words = number_given words (codes "me")
+
+abbrev pub pages_given : List Text → Option ℕ
+pages_given words = number_given words (codes "preset")
+
+-- the node that a process of these words begins with
+abbrev pub node_given : List Text → Option Node
+node_given words = option_and_then (λ sites. option_and_then (λ me. option_map (new_node sites me) (pages_given words)) (me_given words)) (sites_given words)
+
 abbrev pub page_given : List Text → Option PageId
 page_given words = page_at (rows_given words)
 
@@ -84,6 +97,9 @@ HasOptions rows (Run sites seed summary log) =
     × (first_of (codes "log") rows ≡ option_map (λ folder. folder.now) log)
 HasOptions rows Prompt = Unit {0}
 HasOptions rows (Draw page) = page ≡ page_at rows
+HasOptions rows (Site sites me pages) =
+    (number_at (codes "sites") rows ≡ Some sites) × (number_at (codes "me") rows ≡ Some me) × (number_at (codes "preset") rows ≡ Some pages)
+    × (1 ≤ pages) × (pages ≤ most_pages)
 
 -- a subcommand's name, and what stands behind it, ask for the task
 pub record IsAsked (name : Text) (rows : List Row) (task : Task) : Type 0 where
@@ -94,7 +110,7 @@ pub record IsAsked (name : Text) (rows : List Row) (task : Task) : Type 0 where
 
 -- the numbers of a subcommand's options
 abbrev pub numbers : List Text
-numbers = codes "sites" ∷ codes "seed" ∷ codes "page" ∷ []
+numbers = codes "sites" ∷ codes "seed" ∷ codes "page" ∷ codes "me" ∷ codes "preset" ∷ []
 
 abbrev pub are_plain : List Row → Bool
 are_plain rows = list_all (λ option. is_plain_at option rows) numbers
@@ -104,6 +120,18 @@ has_plain_rows rows = option_map_or are_plain rows true
 
 abbrev pub has_plain_numbers : List Text → Bool
 has_plain_numbers words = has_plain_rows (option_map (λ named. named.1) (subcommand_of app words))
+
+-- The site that a process is to be is one of those that there are; of other tasks this isn't asked.
+abbrev pub is_among : Task → Bool
+is_among (Site sites me pages) = nat_lt me sites
+is_among _ = true
+
+-- so of what is written for the options
+abbrev pub is_below_at : List Row → Bool
+is_below_at rows = option_map_or (λ sites. option_map_or (λ me. nat_lt me sites) (number_at (codes "me") rows) true) (number_at (codes "sites") rows) true
+
+abbrev pub names_one : Text × List Row → Bool
+names_one named = if bytes_eq named.0 (codes "site") then is_below_at named.1 else true
 
 -- A word is longer than any that is told whole.
 abbrev pub is_long : Text → Bool
@@ -121,6 +149,16 @@ clap_fault long (kind ∷ kinds) = if long then UnknownArgument ∷ [] else kind
 abbrev pub spelling_fault : List Text → Kinds
 spelling_fault words = if has_plain_numbers words then [] else ValueValidation ∷ []
 
+abbrev pub among_fault : Bool → Kinds
+among_fault true = []
+among_fault false = ValueValidation ∷ []
+
+abbrev pub task_fault : Task → Kinds
+task_fault task = among_fault (is_among task)
+
+abbrev pub site_fault : List Text → Kinds
+site_fault words = among_fault (option_map_or names_one (subcommand_of app words) true)
+
 -- the kinds of error that the words may give; none where the program takes them
 abbrev pub fault_in : List Text → Kinds
-fault_in words = or_else (clap_fault (has_long_word words) (fault_of app words)) (spelling_fault words)
+fault_in words = or_else (clap_fault (has_long_word words) (fault_of app words)) (or_else (spelling_fault words) (site_fault words))

@@ -1,7 +1,8 @@
-ghost use Rattle.std.specs.Prelude.{◌≡◌, ◌≢◌, ◌<◌, ◌⊎◌, ℕ, List, [], ◌∷◌, codes, map, IfSome, Some};
+ghost use Rattle.std.specs.Prelude.{◌≡◌, ◌≢◌, ◌≤◌, ◌<◌, ◌⊎◌, ℕ, List, [], ◌∷◌, codes, map, IfSome, Some};
 ghost use Rattle.shm_debug.specs.Script.{script_of};
-ghost use Rattle.shmdbg.specs.Words.{page_given, sites_given, summary_given};
-ghost use Rattle.shmdbg.specs.Status.{Asks, Fails, Pictures, Replays, Reports, Takes};
+ghost use Rattle.shm_process.specs.Node.{new_node};
+ghost use Rattle.shmdbg.specs.Words.{node_given, page_given, sites_given, summary_given};
+ghost use Rattle.shmdbg.specs.Status.{Asks, Fails, IsServed, Pictures, Replays, Reports, Serves, Takes};
 
 use crate::disk::Disk;
 use crate::reporting::{Wanted, tell_run};
@@ -11,7 +12,8 @@ use crate::tell;
 use crate::words::{Task, parse_words};
 use shm_debug::replay;
 use shm_draw::draw;
-use shm_place::{PageId, Sites};
+use shm_place::{PAGES, PageId, SiteId, Sites};
+use shm_process::{Node, ProcessFault, serve};
 use shm_prompt::prompt;
 use std::convert::AsStr;
 use std::io::{Read, Write};
@@ -43,6 +45,9 @@ pub fn run_words<
     ensures prompted { Asks (codes "prompt") (map S.text words.now) → (result ≡ 0) ⊎ (result ≡ 3) }
     ensures drawn { Asks (codes "draw") (map S.text words.now) → IfSome (I.remaining reader.old) (λ bytes.
         Pictures (page_given (map S.text words.now)) (script_of bytes) result (O.contents out.old) (O.contents out.new)) }
+    ensures ended { Asks (codes "site") (map S.text words.now) → (result ≡ 0) ⊎ (result ≡ 3) }
+    ensures served { Asks (codes "site") (map S.text words.now) →
+        IsServed (node_given (map S.text words.now)) result (I.remaining reader.old) (I.remaining reader.new) (O.contents out.old) (O.contents out.new) }
     ensures audit { result ≡ 4 → Asks (codes "run") (map S.text words.now) }
     ensures quiet { Asks (codes "run") (map S.text words.now) → (result ≡ 1) ⊎ (result ≡ 4) → out.new ≡ out.old }
     ensures refused { ¬ Takes (map S.text words.now) → (reader.new ≡ reader.old) × (out.new ≡ out.old) }
@@ -63,6 +68,9 @@ pub fn run_words<
             }
             Task::Prompt => return talk(rt, reader, out, errors),
             Task::Draw { page } => return picture(rt, page, reader, out, errors),
+            Task::Site { sites, me, pages } => {
+                return site(rt, sites, me, pages, reader, out, errors);
+            }
         },
         Err(error) => return tell::refused_words(&error, errors),
     }
@@ -103,6 +111,31 @@ fn talk<R: AllocGlobal + Files, I: Read, O: Write, E: Write>(
     match prompt(rt.alloc(), false, reader, out, &mut Disk { rt }) {
         Ok(()) => 0,
         Err(fault) => tell::prompt_fault(fault, errors),
+    }
+}
+
+/// Is a site as a process until its lines end, and answers the exit status.
+fn site<R: AllocGlobal, I: Read, O: Write, E: Write>(
+    rt: &R,
+    sites: Sites,
+    me: SiteId,
+    pages: u32,
+    reader: &mut I,
+    out: &mut O,
+    errors: &mut E,
+) -> u8
+    requires below { me < sites }
+    requires from { 1 ≤ pages }
+    requires to { pages ≤ PAGES }
+    ensures ended { (result ≡ 0) ⊎ (result ≡ 3) }
+    ensures served { Serves (new_node sites me pages) result (I.remaining reader.old) (I.remaining reader.new) (O.contents out.old) (O.contents out.new) }
+{
+    let Ok(node) = Node::new(rt.alloc(), sites, me, pages) else {
+        return tell::process_fault(ProcessFault::OutOfMemory, errors);
+    };
+    match serve(rt.alloc(), node, reader, out) {
+        Ok(()) => 0,
+        Err(fault) => tell::process_fault(fault, errors),
     }
 }
 

@@ -7,6 +7,7 @@ ghost use Rattle.shmdbg.specs.Status.{fault_status, run_status};
 
 use clap::error::ErrorKind;
 use shm_debug::DebugFault;
+use shm_process::ProcessFault;
 use shm_prompt::PromptFault;
 use shm_report::ReportFault;
 use std::io::{self, Write};
@@ -24,6 +25,14 @@ pub fn fault<E: Write>(fault: DebugFault, errors: &mut E) -> u8
 
 /// The exit status where a dialog ended by this fault. Its one line goes to `errors`.
 pub fn prompt_fault<E: Write>(fault: PromptFault, errors: &mut E) -> u8
+    ensures { result ≡ 3 }
+{
+    let _ = writeln!(errors, "shmdbg: {fault}");
+    3
+}
+
+/// The exit status where a site's process ended by this fault. Its one line goes to `errors`.
+pub fn process_fault<E: Write>(fault: ProcessFault, errors: &mut E) -> u8
     ensures { result ≡ 3 }
 {
     let _ = writeln!(errors, "shmdbg: {fault}");

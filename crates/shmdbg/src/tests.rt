@@ -3,6 +3,7 @@ mod logs;
 mod prompts;
 mod rows;
 mod runs;
+mod sites;
 mod streams;
 mod words;
 

@@ -1,5 +1,6 @@
 //! The words of the command line of `shmdbg`: what they ask for, what is wrong with them, and what help tells.
 
+mod among;
 mod commands;
 mod help;
 mod options;

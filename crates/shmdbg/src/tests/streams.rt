@@ -13,6 +13,14 @@ const RUN: [&str; 6] = ["shmdbg", "run", "--sites", "1", "--seed", "1"];
 
 const WORKLOAD: &[u8] = b"preset 1\nstore 0 0 7\nload 0 0\n";
 
+const SITE: [&str; 8] = [
+    "shmdbg", "site", "--sites", "1", "--me", "0", "--preset", "1",
+];
+
+const ASKS: &[u8] = b"ask 0 a store 0 5 7\nask 0 b load 0 5\n";
+
+const TOLD: &[u8] = b"tell 0 a stored\ntell 0 b byte 7\n";
+
 const REPORT: &[u8] = b"1 ready\n2 stored\n3 byte 7\naudit yes\n";
 
 /// Gives one byte at a time, and then the end or an error.
@@ -167,6 +175,42 @@ fn runs_with_writers_that_fail(rt: HostRuntime) {
             assert_eq!(rt; errors.as_slice(), b"shmdbg: write fault\n".as_slice());
             assert_eq!(rt; out.taken.len(), room);
             assert!(rt; REPORT.starts_with(out.taken.as_slice()));
+        }
+    }
+}
+
+/// The same of a site: what was asked before is told.
+#[test]
+fn sites_with_readers_that_fail(rt: HostRuntime) {
+    for end in [0, 12, 30, ASKS.len()] {
+        let mut reader = Trickle {
+            rest: &ASKS[..end],
+            end: Some(ErrorKind::Other),
+        };
+        let ran = run_over(&rt, &SITE, &mut reader);
+        assert_eq!(rt; ran.status, 3);
+        assert_eq!(rt; ran.errors.as_slice(), b"shmdbg: read fault\n".as_slice());
+        assert!(rt; TOLD.starts_with(ran.out.as_slice()));
+        assert_eq!(rt; end == ASKS.len(), ran.out.as_slice() == TOLD);
+    }
+}
+
+/// The same of a site's writer.
+#[test]
+fn sites_with_writers_that_fail(rt: HostRuntime) {
+    for end in [Some(ErrorKind::Other), None] {
+        for room in [0, 7, 20] {
+            let mut reader = ASKS;
+            let mut out = Narrow {
+                taken: Vec::new(rt.alloc()),
+                room,
+                end,
+            };
+            let mut errors = Vec::new(rt.alloc());
+            let status = run_words(&rt, &SITE, &mut reader, &mut out, &mut errors);
+            assert_eq!(rt; status, 3);
+            assert_eq!(rt; errors.as_slice(), b"shmdbg: write fault\n".as_slice());
+            assert_eq!(rt; out.taken.as_slice(), &TOLD[..room]);
         }
     }
 }

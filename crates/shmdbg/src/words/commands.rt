@@ -19,7 +19,8 @@ pub(crate) fn command<'a>(alloc: Global) -> Result<Command<'a>, AllocError>
         .subcommand(replay_command(alloc))?
         .subcommand(run_command(alloc)?)?
         .subcommand(prompt_command(alloc))?
-        .subcommand(draw_command(alloc)?)
+        .subcommand(draw_command(alloc)?)?
+        .subcommand(site_command(alloc)?)
 }
 
 /// The program without its subcommands.
@@ -74,6 +75,18 @@ fn draw_command<'a>(alloc: Global) -> Result<Command<'a>, AllocError>
         .arg(page_arg(alloc))
 }
 
+fn site_command<'a>(alloc: Global) -> Result<Command<'a>, AllocError>
+    ensures app { IfOk result (λ c. app_of c ≡ spec.site_app) }
+    ensures local { IfOk result (λ c. (out-Command c).has_globals ≡ false) }
+{
+    Command::new(alloc, "site")
+        .about("Be one site of a cluster, whose lines come on standard input")
+        .after_help(help::SITE)
+        .arg(sites_arg(alloc))?
+        .arg(me_arg(alloc))?
+        .arg(preset_arg(alloc))
+}
+
 fn sites_arg<'a>(alloc: Global) -> Arg<'a>
     ensures rule { rule_of result ≡ spec.sites_rule }
     ensures local { result.global ≡ false }
@@ -85,6 +98,32 @@ fn sites_arg<'a>(alloc: Global) -> Arg<'a>
         .required(true)
         .action(ArgAction::Set)
         .value_parser(value_parser!(u32).range(1..=16))
+}
+
+fn me_arg<'a>(alloc: Global) -> Arg<'a>
+    ensures rule { rule_of result ≡ spec.me_rule }
+    ensures local { result.global ≡ false }
+{
+    Arg::new(alloc, "me")
+        .long("me")
+        .value_name("K")
+        .help("Which site this is, 0 to N-1")
+        .required(true)
+        .action(ArgAction::Set)
+        .value_parser(value_parser!(u32).range(0..=15))
+}
+
+fn preset_arg<'a>(alloc: Global) -> Arg<'a>
+    ensures rule { rule_of result ≡ spec.preset_rule }
+    ensures local { result.global ≡ false }
+{
+    Arg::new(alloc, "preset")
+        .long("preset")
+        .value_name("P")
+        .help("How many pages segment 0 has, 1 to 256")
+        .required(true)
+        .action(ArgAction::Set)
+        .value_parser(value_parser!(u32).range(1..=256))
 }
 
 fn seed_arg<'a>(alloc: Global) -> Arg<'a>

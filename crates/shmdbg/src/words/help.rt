@@ -89,6 +89,29 @@ Exit status: 0 done, 1 the workload has a fault, 2 these words were refused,
 3 memory, reading, writing or a thread failed, 4 the run gave up or its audit
 found a cause.";
 
+/// Of a site as a process.
+pub const SITE: &str = "\
+Takes the lines on standard input, one by one, and writes what its site tells:
+envelopes for other sites, and answers to callers. All N sites and their callers
+share one stream of lines, which anything may carry, and may lose, repeat and
+reorder: give each site the lines of all. Segment 0 has P pages of 4096 bytes,
+and each site has it attached as attachment 0. N and P are the same at all sites.
+A caller asks site S under a tag T of its own:
+  ask S T load 0 OFFSET        told when the site may read the page
+  ask S T store 0 OFFSET BYTE  told when it may write to it
+  ask S T tick                 send again what isn't answered
+docs/lines.md has all lines. A line that isn't for this site changes nothing.
+Somebody has to ask each site to tick now and then, as lines may be lost.
+  $ printf 'ask 0 a store 0 5 7\\nask 0 b load 0 5\\n' |
+    shmdbg site --sites 1 --me 0 --preset 1
+  tell 0 a stored
+  tell 0 b byte 7
+There is no journal yet: what the site holds ends with its process. A site must
+not be started again in a cluster that goes on, as it would have forgotten what
+it held.
+Exit status: 0 its input ended, 2 these words were refused, 3 memory, reading or
+writing failed.";
+
 /// Of the prompt.
 pub const PROMPT: &str = "\
 Lines are those of a script, and

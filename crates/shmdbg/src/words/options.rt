@@ -6,7 +6,7 @@ ghost use Rattle.shmdbg.specs.Words.{is_set_at, number_at, number_of, page_named
 use crate::words::spelling::is_plain_at;
 use crate::words::task::Task;
 use clap::ArgMatches;
-use shm_place::{PageId, SegId, Sites};
+use shm_place::{PAGES, PageId, SegId, SiteId, Sites};
 
 /// A run's options.
 pub(crate) fn run_task<'a>(found: &ArgMatches<'a>) -> Option<Task<'a>>
@@ -56,6 +56,19 @@ pub(crate) fn draw_task<'a>(found: &ArgMatches<'a>) -> Option<Task<'a>>
         }
         None => Some(Task::Draw { page: None }),
     }
+}
+
+/// A site's options.
+pub(crate) fn site_task<'a>(found: &ArgMatches<'a>) -> Option<Task<'a>>
+    ensures { IfSome result (λ task. IsAsked (codes "site") (rows_of (found_of found.now)) task) }
+{
+    let sites = Sites::new(number(found, "sites")?).ok()?;
+    let me = SiteId(number(found, "me")?);
+    let pages = number(found, "preset")?;
+    if pages < 1 || pages > PAGES {
+        return None;
+    }
+    Some(Task::Site { sites, me, pages })
 }
 
 /// The page that is written as two numbers.

@@ -1,10 +1,11 @@
-ghost use Rattle.std.specs.Prelude.{map, IfOk, IfSome, IsSomeAnd};
+ghost use Rattle.std.specs.Prelude.{◌≡◌, map, true, IfOk, IfSome, IsSomeAnd};
 ghost use Rattle.clap.specs.Words.{FailsBy, found_of, rows_of, subcommand_of};
 ghost use Rattle.shmdbg.specs.Commands.{app};
-ghost use Rattle.shmdbg.specs.Words.{fault_in, IsAsked};
+ghost use Rattle.shmdbg.specs.Words.{fault_in, is_among, IsAsked};
 
+use crate::words::among::look_for_site;
 use crate::words::commands::command;
-use crate::words::options::{draw_task, run_task};
+use crate::words::options::{draw_task, run_task, site_task};
 use crate::words::spelling::{has_plain_numbers, short_error, spelling_error};
 use crate::words::task::Task;
 use clap::{ArgMatches, Error};
@@ -15,6 +16,7 @@ use std::convert::AsStr;
 pub fn parse_words<'a, S: AsStr>(alloc: Global, words: &'a [S]) -> Result<Task<'a>, Error>
     ensures fault { FailsBy (fault_in (map S.text words.now)) result }
     ensures task { IfOk result (λ task. IsSomeAnd (subcommand_of app (map S.text words.now)) (λ named. IsAsked named.0 named.1 task)) }
+    ensures among { IfOk result (λ task. is_among task ≡ true) }
 {
     let matches = match command(alloc)?.try_get_matches_from(words) {
         Ok(matches) => matches,
@@ -25,7 +27,10 @@ pub fn parse_words<'a, S: AsStr>(alloc: Global, words: &'a [S]) -> Result<Task<'
     }
     match matches.subcommand() {
         Some((name, found)) => match task_of(name, found) {
-            Some(task) => Ok(task),
+            Some(task) => match look_for_site(alloc, &task) {
+                Ok(()) => Ok(task),
+                Err(error) => Err(error),
+            },
             None => Err(Error::from(AllocError)),
         },
         None => Err(Error::from(AllocError)),
@@ -47,6 +52,9 @@ fn task_of<'a>(name: &str, found: &ArgMatches<'a>) -> Option<Task<'a>>
     }
     if name == "draw" {
         return draw_task(found);
+    }
+    if name == "site" {
+        return site_task(found);
     }
     None
 }

@@ -51,7 +51,11 @@ pub fn has_plain_numbers(matches: &ArgMatches<'_>) -> bool
 fn are_plain(found: &ArgMatches<'_>) -> bool
     ensures { result ≡ spec.are_plain (rows_of (found_of found.now)) }
 {
-    is_plain_at(found, "sites") && is_plain_at(found, "seed") && is_plain_at(found, "page")
+    is_plain_at(found, "sites")
+        && is_plain_at(found, "seed")
+        && is_plain_at(found, "page")
+        && is_plain_at(found, "me")
+        && is_plain_at(found, "preset")
 }
 
 /// Whether what is written for an option is spelled plainly.
@@ -146,13 +150,12 @@ pub fn spelling_error(alloc: Global, matches: &ArgMatches<'_>) -> Result<Error, 
 
 /// The first of the options whose numbers aren't spelled plainly.
 fn option_of_error(found: &ArgMatches<'_>) -> &'static str {
-    if !is_plain_at(found, "sites") {
-        return "sites";
+    for option in ["sites", "seed", "page", "me"] {
+        if !is_plain_at(found, option) {
+            return option;
+        }
     }
-    if !is_plain_at(found, "seed") {
-        return "seed";
-    }
-    "page"
+    "preset"
 }
 
 /// The first of an option's values that isn't spelled plainly.

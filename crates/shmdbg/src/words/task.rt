@@ -1,4 +1,4 @@
-use shm_place::{PageId, Sites};
+use shm_place::{PageId, SiteId, Sites};
 
 /// What the words after the program's name ask for.
 #[derive(Clone, Copy, Debug, PartialEq, Eq)]
@@ -18,5 +18,11 @@ pub enum Task<'a> {
     /// Draw the run that the script on standard input leaves: what the sites have of this page, or of the first of segment 0.
     Draw {
         page: Option<PageId>,
+    },
+    /// Be this site of so many, where segment 0 has so many pages: take the lines on standard input, and write what is told of them.
+    Site {
+        sites: Sites,
+        me: SiteId,
+        pages: u32,
     },
 }

@@ -1,17 +1,18 @@
-use Rattle.std.proofs.Common.{rules, codes, ◌≡◌, ◌≢◌, ℕ, List, [], IfSome, map, inl, inr, refl, subst, sym}
+use Rattle.std.proofs.Common.{rules, codes, ◌≡◌, ◌≢◌, ℕ, List, [], IfSome, map, inl, inr, refl, subst, sym, true}
 use Rattle.std.specs.Prelude.{Err, None, Option, Result, Some}
 use Rattle.std.specs.Io.KnownBytes.{Appends}
 use Rattle.shm_debug.specs.Replay.{Ends}
 use Rattle.shm_debug.specs.declared.outcome.Summary.{Summary}
 use Rattle.shm_debug.specs.declared.outcome.DebugFault.{DebugFault}
-use Rattle.std.proofs.KnownBytes.{Appends-nil}
+use Rattle.std.proofs.KnownBytes.{Appends-nil, Keeps-refl}
 use Rattle.shm_debug.specs.Script.{script_of}
 use Rattle.shm_debug.specs.declared.outcome.DebugFault.TheVariants.{OutOfMemory}
 use Rattle.shm_place.specs.declared.page.PageId.{PageId}
-use Rattle.shmdbg.specs.Status.{Asks, Fails, Pictures, Replays, status_of}
-use Rattle.shmdbg.specs.Words.{page_given, sites_given}
-use Rattle.shmdbg.specs.declared.words.task.Task.TheVariants.{Draw, Run}
-use Rattle.shmdbg.proofs.Asked.{AskFor, page_asked, sites_asked}
+use Rattle.shm_process.specs.Node.{Node}
+use Rattle.shmdbg.specs.Status.{Asks, Fails, IsServed, Pictures, Replays, status_of}
+use Rattle.shmdbg.specs.Words.{is_among, node_given, page_given, sites_given}
+use Rattle.shmdbg.specs.declared.words.task.Task.TheVariants.{Draw, Run, Site}
+use Rattle.shmdbg.proofs.Asked.{AskFor, is_below, node_asked, page_asked, pages_asked, sites_asked}
 use Rattle.shm_report.specs.declared.report_fault.ReportFault.TheVariants as report
 use Rattle.shmdbg.proofs.Plain.{plain_words}
 use Rattle.shmdbg.proofs.program.run_words.Goals as goal
@@ -101,4 +102,45 @@ returns-in-Err-clause-drawn g c asks =
     elim c.refused_words.ensures.status [
       | inl h ↦ subst (λ status. Shows script status written written page) (sym h.1) (undrawn script written page)
       | inr h ↦ absurd {A = Shows script c.refused_words.result written written page} (taken h.1)
+    ]
+
+-- ---- a site
+
+-- memory was refused before there was a node
+unserved : (given : Option Node) (script written : Option (List ℕ)) → IsServed given 3 script script written written
+unserved given script written = inl (refl, Keeps-refl script, Keeps-refl written)
+
+pub site-requires-clause-below : goal.site-requires-clause-below
+site-requires-clause-below g c =
+    let among : is_among (Site c.in-Site.sites c.in-Site.me c.in-Site.pages) ≡ true = rw c.in-Site.is at c.in-Ok.ensures.among in
+    is_below c.in-Site.sites c.in-Site.me c.in-Site.pages among
+
+pub site-requires-clause-from : goal.site-requires-clause-from
+site-requires-clause-from g c =
+    let words = map g.S.AsStr.text c.args.words.now in
+    let asked : AskFor words (Site c.in-Site.sites c.in-Site.me c.in-Site.pages) = rw c.in-Site.is at c.in-Ok.ensures.task in
+    (pages_asked words c.in-Site.sites c.in-Site.me c.in-Site.pages asked).0
+
+pub site-requires-clause-to : goal.site-requires-clause-to
+site-requires-clause-to g c =
+    let words = map g.S.AsStr.text c.args.words.now in
+    let asked : AskFor words (Site c.in-Site.sites c.in-Site.me c.in-Site.pages) = rw c.in-Site.is at c.in-Ok.ensures.task in
+    (pages_asked words c.in-Site.sites c.in-Site.me c.in-Site.pages asked).1
+
+pub returns-in-Site-clause-served : goal.returns-in-Site-clause-served
+returns-in-Site-clause-served g c asks =
+    let words = map g.S.AsStr.text c.args.words.now in
+    let asked : AskFor words (Site c.in-Site.sites c.in-Site.me c.in-Site.pages) = rw c.in-Site.is at c.in-Ok.ensures.task in
+    subst (λ given. IsServed given c.site.result (g.I.Read.remaining c.args.reader.now) (g.I.Read.remaining c.site.new.reader) (g.O.Write.contents c.args.out.now) (g.O.Write.contents c.site.new.out))
+    (sym (node_asked words c.in-Site.sites c.in-Site.me c.in-Site.pages asked)) (inr c.site.ensures.served)
+
+pub returns-in-Err-clause-served : goal.returns-in-Err-clause-served
+returns-in-Err-clause-served g c asks =
+    let taken : c.refused_words.result ≢ 2 = search rules in
+    let script = g.I.Read.remaining c.args.reader.now in
+    let written = g.O.Write.contents c.args.out.now in
+    let given = node_given (map g.S.AsStr.text c.args.words.now) in
+    elim c.refused_words.ensures.status [
+      | inl h ↦ subst (λ status. IsServed given status script script written written) (sym h.1) (unserved given script written)
+      | inr h ↦ absurd {A = IsServed given c.refused_words.result script script written written} (taken h.1)
     ]

@@ -1,0 +1,126 @@
+-- A desk step by step: a byte after the others, an ask after the others. What a desk told before stands before all that it tells after.
+use Rattle.std.proofs.Common.{◌≡◌, ℕ, zero, suc, ◌+◌, ◌-◌, ◌<◌, ◌≤◌, ◌==◌, Bool, true, false, List, [], ◌∷◌, ◌++◌, length, drop, get_or, cond, refl, ap, sym, ◌∙◌, append-nil}
+use Rattle.std.specs.Prelude.{Option, Some, None, is_some, nat_lt, option_and_then, option_map}
+use Rattle.std.proofs.lemmas.List.{append_assoc, drop_all, drop_more}
+use Rattle.shm_process.specs.Desk.{Desk, after_line, grown, made_again, max_line_bytes, line_text, on_byte, on_bytes, settled, step_text, taken}
+use Rattle.shm_process.specs.Node.{Node, Heard, answer_to, heard, says}
+use Rattle.shm_process.specs.Telling.{shown_line}
+use Rattle.shm_process.specs.Waiting.{after_again, again_at, again_if, is_open, most_waiting, passed_over, ready, said, said_again, says_at, waiting_at}
+
+-- ---- loops
+
+-- a byte is taken after those before it
+pub byte_taken : (bytes : List ℕ) (i : ℕ) (d next whole : Desk) → i < length bytes → next ≡ on_byte d (get_or bytes i 0)
+    → on_bytes d (drop i bytes) ≡ whole → on_bytes next (drop (i + 1) bytes) ≡ whole
+unfolding on_bytes
+byte_taken bytes i d next whole within step before =
+    let later = drop (i + 1) bytes in
+    let split : drop i bytes ≡ get_or bytes i 0 ∷ later = drop_more bytes i 0 within in
+    ap (λ x. on_bytes x later) step ∙ sym (ap (on_bytes d) split) ∙ before
+
+-- all bytes are taken
+pub no_more : (bytes : List ℕ) (i : ℕ) (d whole : Desk) → length bytes ≤ i → on_bytes d (drop i bytes) ≡ whole → d ≡ whole
+unfolding on_bytes
+no_more bytes i d whole over before = sym (ap (on_bytes d) (drop_all i bytes over)) ∙ before
+
+-- a desk after one round
+abbrev pub after_round : Desk → Desk
+after_round desk = cond (is_some (said_again desk.node)) (made_again desk) desk
+
+-- of `n` rounds one is made
+pub round_made : (n m : ℕ) (d next whole : Desk) → n ≡ suc m → is_some (said_again d.node) ≡ true → next ≡ after_round d → settled n d ≡ whole → settled m next ≡ whole
+unfolding settled
+round_made n m d next whole more made step before =
+    ap (settled m) (step ∙ ap (λ b. cond b (made_again d) d) made)
+    ∙ sym (ap (λ k. settled k d) more ∙ ap (λ b. cond b (settled m (made_again d)) d) made) ∙ before
+
+-- no ask can be made
+pub none_made : (n m : ℕ) (d next whole : Desk) → n ≡ suc m → is_some (said_again d.node) ≡ false → next ≡ after_round d → settled n d ≡ whole → next ≡ whole
+unfolding settled
+none_made n m d next whole more none step before =
+    step ∙ ap (λ b. cond b (made_again d) d) none
+    ∙ sym (ap (λ k. settled k d) more ∙ ap (λ b. cond b (settled m (made_again d)) d) none) ∙ before
+
+-- where no ask can be made, the node stays as it is
+none_heard : (node : Node) (at : ℕ) (h : Option Heard)
+    → option_map (λ x. says node (waiting_at node at) x (is_open (answer_to node x))) h ≡ None → again_at node at h ≡ node
+none_heard node at None e = refl
+none_heard node at (Some h) e = absurd (cc)
+
+none_ready : (node : Node) (p : Option ℕ) → option_and_then (says_at node) p ≡ None → again_if node p ≡ node
+none_ready node None e = refl
+none_ready node (Some at) e = none_heard node at (heard node (waiting_at node at)) e
+
+pub none_again : (node : Node) → said_again node ≡ None → after_again node ≡ node
+none_again node e = none_ready node (ready node) e
+
+-- all rounds are made
+pub rounds_over : (n : ℕ) (d whole : Desk) → n ≡ 0 → settled n d ≡ whole → d ≡ whole
+unfolding settled
+rounds_over n d whole over before = sym (ap (λ k. settled k d) over) ∙ before
+
+-- ---- what was told before
+
+-- the desk, had it told this text before
+abbrev pub behind : List ℕ → Desk → Desk
+behind text desk = record desk { told = text ++ desk.told }
+
+-- the desk, had it told nothing
+abbrev pub silent : Desk → Desk
+silent desk = record desk { told = [] }
+
+cond-behind : (b : Bool) (t : List ℕ) (x after_x y after_y : Desk) → after_x ≡ behind t x → after_y ≡ behind t y → cond b after_x after_y ≡ behind t (cond b x y)
+cond-behind true t x after_x y after_y p q = p
+cond-behind false t x after_x y after_y p q = q
+
+made_again-behind : (t : List ℕ) (d : Desk) → made_again (behind t d) ≡ behind t (made_again d)
+made_again-behind t d = ap (λ told. record (made_again d) { told = told }) (append_assoc t d.told (step_text (said_again d.node)))
+
+settled-behind : (n : ℕ) (t : List ℕ) (d : Desk) → settled n (behind t d) ≡ behind t (settled n d)
+unfolding settled
+settled-behind zero t d = refl
+settled-behind (suc n) t d =
+    cond-behind (is_some (said_again d.node)) t (settled n (made_again d)) (settled n (made_again (behind t d))) d (behind t d)
+    (ap (settled n) (made_again-behind t d) ∙ settled-behind n t (made_again d)) refl
+
+taken-behind : (t : List ℕ) (d : Desk) (line : List ℕ) → taken (behind t d) line ≡ behind t (taken d line)
+unfolding taken
+taken-behind t d line =
+    ap (λ told. record (taken d line) { told = told }) (append_assoc t d.told (line_text (shown_line d.node line) ++ step_text (said d.node line)))
+
+after_line-behind : (t : List ℕ) (d : Desk) (line : List ℕ) → after_line (behind t d) line ≡ behind t (after_line d line)
+unfolding after_line
+after_line-behind t d line =
+    cond-behind (nat_lt max_line_bytes (length line)) t
+    (record d { node = passed_over d.node }) (record (behind t d) { node = passed_over d.node })
+    (settled most_waiting (taken d line)) (settled most_waiting (taken (behind t d) line))
+    refl (ap (settled most_waiting) (taken-behind t d line) ∙ settled-behind most_waiting t (taken d line))
+
+on_byte-behind : (t : List ℕ) (d : Desk) (byte : ℕ) → on_byte (behind t d) byte ≡ behind t (on_byte d byte)
+unfolding on_byte
+on_byte-behind t d byte =
+    cond-behind (byte == 10) t
+    (record (after_line d d.line) { line = [] }) (record (after_line (behind t d) d.line) { line = [] })
+    (record d { line = grown d.line byte }) (record (behind t d) { line = grown d.line byte })
+    (ap (λ (x : Desk). record x { line = [] }) (after_line-behind t d d.line)) refl
+
+on_bytes-behind : (bytes t : List ℕ) (d : Desk) → on_bytes (behind t d) bytes ≡ behind t (on_bytes d bytes)
+unfolding on_bytes
+on_bytes-behind [] t d = refl
+on_bytes-behind (b ∷ bs) t d = ap (λ x. on_bytes x bs) (on_byte-behind t d b) ∙ on_bytes-behind bs t (on_byte d b)
+
+on_bytes-append : (xs ys : List ℕ) (d : Desk) → on_bytes d (xs ++ ys) ≡ on_bytes (on_bytes d xs) ys
+unfolding on_bytes
+on_bytes-append [] ys d = refl
+on_bytes-append (x ∷ xs) ys d = on_bytes-append xs ys (on_byte d x)
+
+apart : (d : Desk) → d ≡ behind d.told (silent d)
+apart d = ap (λ told. record d { told = told }) (sym (append-nil d.told))
+
+-- a desk that has told all goes on as one that still holds what it told, less that
+pub gone_on : (first d : Desk) (bytes more : List ℕ) → d ≡ silent (on_bytes first bytes)
+    → on_bytes first (bytes ++ more) ≡ behind (on_bytes first bytes).told (on_bytes d more)
+gone_on first d bytes more e =
+    let whole = on_bytes first bytes in
+    on_bytes-append bytes more first ∙ ap (λ x. on_bytes x more) (apart whole) ∙ on_bytes-behind more whole.told (silent whole)
+    ∙ ap (λ x. behind whole.told (on_bytes x more)) (sym e)

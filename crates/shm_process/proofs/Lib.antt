@@ -1,0 +1,7 @@
+pub mod SentLines
+pub mod Still
+pub mod Ready
+pub mod Replays
+pub mod Asks
+pub mod DeskLemmas
+pub mod ServingLemmas

@@ -1,0 +1,63 @@
+-- What a process tells: its node, what was read of a line, and what callers and other sites are told, all lines so far.
+use Rattle.std.specs.Prelude.{ℕ, zero, suc, ◌==◌, List, [], ◌∷◌, ◌++◌, Option, Some, None, if◌then◌else◌, is_some, length, nat_lt}
+use Rattle.shm_process.specs.Lines.{sent_lines}
+use Rattle.shm_process.specs.Node.{Node, Said}
+use Rattle.shm_process.specs.Telling.{answer_line_of, shown_line}
+use Rattle.shm_process.specs.Waiting.{after, after_again, most_waiting, passed_over, said, said_again}
+
+pub record Desk : Type 0 where
+  pub node : Node
+  pub line : List ℕ
+  pub told : List ℕ
+
+abbrev pub desk_at : Node → Desk
+desk_at node = record { node = node; line = []; told = [] }
+
+-- a line and its line feed, if there is one
+abbrev pub line_text : Option (List ℕ) → List ℕ
+line_text None = []
+line_text (Some line) = line ++ 10 ∷ []
+
+-- what is told of a step: the answer, if a caller is told it, and what the site sent
+unfoldable pub step_text : Option Said → List ℕ
+step_text None = []
+step_text (Some said) = line_text (answer_line_of said) ++ sent_lines said
+
+abbrev pub tell : Desk → List ℕ → Desk
+tell desk text = record desk { told = desk.told ++ text }
+
+abbrev pub made_again : Desk → Desk
+made_again desk = record desk { node = after_again desk.node; told = desk.told ++ step_text (said_again desk.node) }
+
+-- asks that wait are made as far as they can, at most so many times
+unfoldable pub settled : ℕ → Desk → Desk
+settled zero desk = desk
+settled (suc n) desk = if is_some (said_again desk.node) then settled n (made_again desk) else desk
+
+-- a line is taken
+unfoldable pub taken : Desk → List ℕ → Desk
+taken desk line = record desk {
+  node = after desk.node line;
+  told = desk.told ++ (line_text (shown_line desk.node line) ++ step_text (said desk.node line));
+}
+
+-- the bytes that a line has at most, less its line feed; a longer one is passed over
+abbrev pub max_line_bytes : ℕ
+max_line_bytes = 8192
+
+unfoldable pub after_line : Desk → List ℕ → Desk
+after_line desk line =
+    if nat_lt max_line_bytes (length line) then record desk { node = passed_over desk.node }
+    else settled most_waiting (taken desk line)
+
+-- one more byte of a line; of a line that is too long the rest is not kept
+abbrev pub grown : List ℕ → ℕ → List ℕ
+grown line byte = if nat_lt max_line_bytes (length line) then line else line ++ byte ∷ []
+
+unfoldable pub on_byte : Desk → ℕ → Desk
+on_byte desk byte = if byte == 10 then record (after_line desk desk.line) { line = [] } else record desk { line = grown desk.line byte }
+
+-- the desk after these bytes
+unfoldable pub on_bytes : Desk → List ℕ → Desk
+on_bytes desk [] = desk
+on_bytes desk (byte ∷ bytes) = on_bytes (on_byte desk byte) bytes

@@ -1,0 +1,12 @@
+pub mod Node
+pub mod NodeOf
+pub mod Lines
+pub mod Waiting
+pub mod Access
+pub mod Showing
+pub mod Telling
+pub mod Recorded
+pub mod Desk
+pub mod DeskOf
+pub mod Streams
+pub mod Faults

@@ -1,0 +1,151 @@
+-- A site as a process. Lines come on one stream, which all sites and callers share; each that is for this site makes one step of it, and
+-- the others are passed over. A step's clock is above those of the steps before it, and above that of the step which sent what it is
+-- handed (Lamport 1978: logical clocks).
+use Rattle.std.specs.Prelude.{ℕ, ◌+◌, Bool, true, false, ◌||◌, List, [], Option, Some, None, ◌==◌, if◌then◌else◌, max, option_map, option_and_then}
+use Rattle.shm_model.specs.declared.answer.Answer.{Answer}
+use Rattle.shm_model.specs.declared.answer.Answer.TheVariants.{Began, Replied}
+use Rattle.shm_model.specs.Basics.{greatest}
+use Rattle.shm_model.specs.Message.{Envelope, Input, Begin, Deliver, Tick}
+use Rattle.shm_model.specs.Receipt.{access_of}
+use Rattle.shm_model.specs.Site.{Site}
+use Rattle.shm_model.specs.Step.{foreign, step}
+use Rattle.shm_model.specs.World.{Preset, opened_site}
+use Rattle.shm_wire.specs.Asks.{Ask, read_ask}
+use Rattle.shm_wire.specs.Sent.{Sent, read_envelope}
+use Rattle.shm_wire.specs.declared.ask.Question.{Question}
+use Rattle.shm_wire.specs.declared.ask.Question.TheVariants as question
+
+-- how many sites there are, and which one this is; the site as it stands, its clock, and how many steps it made; how many lines made
+-- a step, and how many were passed over; the tag of the caller whose segment call is outstanding; and the asks that wait, the oldest first
+pub record Node : Type 0 where
+  pub sites : ℕ
+  pub me : ℕ
+  pub site : Site
+  pub clock : ℕ
+  pub steps : ℕ
+  pub taken : ℕ
+  pub passed : ℕ
+  pub caller : Option (List ℕ)
+  pub waiting : List (List ℕ)
+
+-- a node at which nothing has happened
+abbrev pub new_node : ℕ → ℕ → ℕ → Node
+new_node sites me pages = record {
+  sites = sites;
+  me = me;
+  site = opened_site (Preset sites pages) me;
+  clock = 0;
+  steps = 0;
+  taken = 0;
+  passed = 0;
+  caller = None;
+  waiting = [];
+}
+
+-- ---- what a line is to a node
+
+-- what a line hands to the site: an input, the clock of the step which sent it, or 0, the tag of the caller who asks, and whether the
+-- ask is one that waits
+pub record Heard : Type 0 where
+  pub input : Input
+  pub source : ℕ
+  pub tag : Option (List ℕ)
+  pub waits : Bool
+
+-- no stamp is above this clock, or above the sender's
+abbrev pub is_late : Node → ℕ → Bool
+is_late node source = max node.clock source == greatest
+
+-- an envelope, unless it can't be for this site
+abbrev pub handed : Node → Sent → Option Heard
+handed node sent =
+    if foreign node.sites node.me sent.envelope || is_late node sent.source.at then None
+    else Some (record { input = Deliver sent.envelope; source = sent.source.at; tag = None; waits = false })
+
+-- what a site is made to do; a page is only shown
+abbrev pub input_asked : Question → Option Input
+input_asked (question.Access asked) = Some (access_of asked)
+input_asked (question.Try asked) = Some (access_of asked)
+input_asked (question.Begin request) = Some (Begin request)
+input_asked question.Tick = Some Tick
+input_asked (question.Show page) = None
+
+-- a load and a store wait for their right, unless they are only tried
+abbrev pub waits_for : Question → Bool
+waits_for (question.Access asked) = true
+waits_for _ = false
+
+abbrev pub under_tag : List ℕ → Bool → Input → Heard
+under_tag tag waits input = record { input = input; source = 0; tag = Some tag; waits = waits }
+
+-- what a caller asks of this site
+abbrev pub asked_here : Node → Ask → Option Heard
+asked_here node ask =
+    if (ask.site == node.me)
+    then (if is_late node 0 then None else option_map (under_tag ask.tag (waits_for ask.asked)) (input_asked ask.asked))
+    else None
+
+abbrev pub heard_in : Node → Option Sent → Option Ask → Option Heard
+heard_in node (Some sent) ask = handed node sent
+heard_in node None ask = option_and_then (asked_here node) ask
+
+abbrev pub heard : Node → List ℕ → Option Heard
+heard node line = heard_in node (read_envelope line) (read_ask line)
+
+-- ---- one step
+
+abbrev pub next_clock : Node → ℕ → ℕ
+next_clock node source = max node.clock source + 1
+
+abbrev pub answer_to : Node → Heard → Answer
+answer_to node heard = (step node.sites node.me node.site heard.input).answer
+
+-- a segment call has its caller until it is replied to
+abbrev pub caller_after : Option (List ℕ) → Option (List ℕ) → Answer → Option (List ℕ)
+caller_after tag caller (Began number) = tag
+caller_after tag caller (Replied number reply attachment) = None
+caller_after tag caller answer = caller
+
+-- the node after one step of its site
+abbrev pub stepped : Node → Heard → Node
+stepped node heard =
+    let done = step node.sites node.me node.site heard.input in
+    record node {
+      site = done.site;
+      clock = next_clock node heard.source;
+      steps = node.steps + 1;
+      caller = caller_after heard.tag node.caller done.answer;
+    }
+
+-- ---- what it says
+
+-- of one step: which site made it, its clock and its index, the envelopes that the site sent, what it answers, the tag of the caller
+-- who is told that; and the line that made it
+pub record Said : Type 0 where
+  pub site : ℕ
+  pub clock : ℕ
+  pub index : ℕ
+  pub sent : List Envelope
+  pub tag : Option (List ℕ)
+  pub answer : Answer
+  pub line : List ℕ
+
+-- each ask is answered once: a segment call when it is replied to, unless it is refused, and an ask that still waits not yet
+abbrev pub tag_told : Bool → Option (List ℕ) → Option (List ℕ) → Answer → Option (List ℕ)
+tag_told true tag caller answer = None
+tag_told false tag caller (Began number) = None
+tag_told false tag caller (Replied number reply attachment) = caller
+tag_told false tag caller answer = tag
+
+abbrev pub says : Node → List ℕ → Heard → Bool → Said
+says node line heard stays =
+    let done = step node.sites node.me node.site heard.input in
+    record {
+      site = node.me;
+      clock = next_clock node heard.source;
+      index = node.steps;
+      sent = done.sent;
+      tag = tag_told stays heard.tag node.caller done.answer;
+      answer = done.answer;
+      line = line;
+    }

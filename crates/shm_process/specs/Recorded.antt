@@ -1,0 +1,46 @@
+-- What is recorded of a node's steps, each as its clock and the line that made it; and the node that they lead to again.
+use Rattle.std.specs.Prelude.{ℕ, List, [], ◌∷◌, Option, Some, None, if◌then◌else◌, option_and_then}
+use Rattle.shm_process.specs.Node.{Node, Said, is_late}
+use Rattle.shm_process.specs.Waiting.{after, after_again, after_restart, replayed, said, said_again, said_restart}
+
+-- a line that is taken, an ask that waits and is made again, and a restart, as long as there is a clock for it
+pub data Event : Type 0 where
+  Line : List ℕ → Event
+  Again : Event
+  Restarted : Event
+
+abbrev pub after_event : Node → Event → Node
+after_event node (Line line) = after node line
+after_event node Again = after_again node
+after_event node Restarted = if is_late node 0 then node else after_restart node
+
+abbrev pub said_at : Node → Event → Option Said
+said_at node (Line line) = said node line
+said_at node Again = said_again node
+said_at node Restarted = if is_late node 0 then None else Some (said_restart node)
+
+pub record Entry : Type 0 where
+  pub clock : ℕ
+  pub line : List ℕ
+
+-- each step is recorded
+abbrev pub recorded : Option Said → List Entry → List Entry
+recorded None entries = entries
+recorded (Some said) entries = record { clock = said.clock; line = said.line } ∷ entries
+
+abbrev pub entries_of : Node → List Event → List Entry
+entries_of node [] = []
+entries_of node (event ∷ events) = recorded (said_at node event) (entries_of (after_event node event) events)
+
+abbrev pub after_events : Node → List Event → Node
+after_events node [] = node
+after_events node (event ∷ events) = after_events (after_event node event) events
+
+-- the steps that were recorded so, one after another
+abbrev pub replayed_all : Node → List Entry → Option Node
+replayed_all node [] = Some node
+replayed_all node (entry ∷ entries) = option_and_then (λ next. replayed_all next entries) (replayed node entry.clock entry.line)
+
+-- the node less the asks that wait, and less its counts of lines
+abbrev pub kept : Node → Node
+kept node = record node { waiting = []; taken = 0; passed = 0 }

@@ -1,0 +1,192 @@
+//! Bytes that come, and what is told of the lines that they end.
+ghost use Rattle.std.specs.Prelude.{◌≡◌, ◌++◌, ◌∷◌, [], if◌then◌else◌, is_some, option_map, string_bytes, IfOk, OnOk};
+ghost use Rattle.shm_process.specs.Desk.{after_line, desk_at, grown, made_again, on_byte, on_bytes, settled, step_text, taken, tell, line_text};
+ghost use Rattle.shm_process.specs.DeskOf.{desk_of};
+ghost use Rattle.shm_process.specs.NodeOf.{node_of, said_of};
+ghost use Rattle.shm_process.specs.Telling.{shown_line};
+ghost use Rattle.shm_process.specs.Waiting.{most_waiting, said_again};
+
+use crate::node::Node;
+use crate::said::Said;
+use crate::taking::MOST_WAITING;
+use std::alloc::{AllocError, Allocator, Global};
+
+/// How many bytes a line has at most, less its line feed. A longer one is passed over.
+const MAX_LINE_BYTES: usize = 8192;
+
+/// A node whose lines come as bytes, and what is to be told: answers, and what its site sent.
+#[derive(Drop)]
+pub struct Desk<A: Allocator + Copy = Global> {
+    pub(crate) node: Node<A>,
+    pub(crate) line: Vec<u8, A>,
+    pub(crate) told: String<A>,
+    pub(crate) alloc: A,
+}
+
+impl<A: Allocator + Copy> Desk<A> {
+    /// Nothing was read yet.
+    pub fn new(alloc: A, node: Node<A>) -> Desk<A>
+        ensures { desk_of result ≡ desk_at (node_of node) }
+    {
+        Desk {
+            node,
+            line: Vec::new(alloc),
+            told: String::new(alloc),
+            alloc,
+        }
+    }
+
+    /// The node as it stands.
+    pub fn node(&self) -> &Node<A>
+        ensures { node_of result.now ≡ (desk_of self.now).node }
+    {
+        &self.node
+    }
+
+    /// All that is to be told.
+    pub fn told(&self) -> &str
+        ensures { result.now ≡ (desk_of self.now).told }
+    {
+        self.told.as_str()
+    }
+
+    /// Forgets what was to be told: it was.
+    pub fn clear_told(&mut self)
+        ensures { desk_of self.new ≡ record (desk_of self.old) { told = [] } }
+    {
+        self.told.clear();
+    }
+
+    /// These bytes come: each line that they end is taken, and the asks that wait are made again after it, as far as they can. Where
+    /// memory is refused a part of it may be done: the desk is of no use then.
+    pub fn take(&mut self, bytes: &[u8]) -> Result<(), AllocError>
+        ensures { OnOk result (desk_of self.new ≡ on_bytes (desk_of self.old) bytes.now) }
+    {
+        'bytes: for byte in bytes {
+            self.take_byte(*byte)?;
+        }
+        Ok(())
+    }
+
+    #[tactic(auto, unfolding(crate::specs::Desk::on_byte))]
+    fn take_byte(&mut self, byte: u8) -> Result<(), AllocError>
+        ensures { OnOk result (desk_of self.new ≡ on_byte (desk_of self.old) byte) }
+    {
+        if byte != b'\n' {
+            return self.grow(byte);
+        }
+        self.end_line()?;
+        self.line.clear();
+        Ok(())
+    }
+
+    /// One more byte of a line. Of a line that is too long the rest isn't kept.
+    fn grow(&mut self, byte: u8) -> Result<(), AllocError>
+        ensures { OnOk result (desk_of self.new ≡ record (desk_of self.old) { line = grown (desk_of self.old).line byte }) }
+    {
+        if self.line.len() > MAX_LINE_BYTES {
+            return Ok(());
+        }
+        self.line.push(byte)?;
+        Ok(())
+    }
+
+    /// The line that was read is taken.
+    #[tactic(auto, unfolding(crate::specs::Desk::after_line))]
+    fn end_line(&mut self) -> Result<(), AllocError>
+        ensures { OnOk result (desk_of self.new ≡ after_line (desk_of self.old) (desk_of self.old).line) }
+    {
+        if self.line.len() > MAX_LINE_BYTES {
+            self.node.pass_over();
+            return Ok(());
+        }
+        self.take_line()?;
+        self.settle()
+    }
+
+    /// Takes the line, and tells what is told of it.
+    #[tactic(auto, unfolding(crate::specs::Desk::taken))]
+    fn take_line(&mut self) -> Result<(), AllocError>
+        ensures { OnOk result (desk_of self.new ≡ taken (desk_of self.old) (desk_of self.old).line) }
+    {
+        self.show()?;
+        let said = self.node.take(self.line.as_slice())?;
+        push_said(self.alloc, &mut self.told, said)?;
+        Ok(())
+    }
+
+    /// Tells what the line is shown, if it asks for a page.
+    fn show(&mut self) -> Result<(), AllocError>
+        ensures { OnOk result (desk_of self.new ≡ tell (desk_of self.old) (line_text (shown_line (desk_of self.old).node (desk_of self.old).line))) }
+    {
+        match self.node.shown(self.line.as_slice())? {
+            Some(shown) => push_line(&mut self.told, shown.as_str()),
+            None => Ok(()),
+        }
+    }
+
+    /// Makes the asks that wait, as far as they can be made.
+    fn settle(&mut self) -> Result<(), AllocError>
+        ensures { OnOk result (desk_of self.new ≡ settled most_waiting (desk_of self.old)) }
+    {
+        'asks: for _round in 0..MOST_WAITING {
+            let more = self.make_waiting()?;
+            if !more {
+                return Ok(());
+            }
+        }
+        Ok(())
+    }
+
+    /// Makes the oldest ask that can be made, if there is one.
+    #[tactic(auto, using(crate::proofs::DeskLemmas::none_again))]
+    fn make_waiting(&mut self) -> Result<bool, AllocError>
+        ensures more { IfOk result (λ more. more ≡ is_some (said_again (desk_of self.old).node)) }
+        ensures made { OnOk result (desk_of self.new ≡ (if is_some (said_again (desk_of self.old).node) then made_again (desk_of self.old) else desk_of self.old)) }
+    {
+        let Some(said) = self.node.again()? else {
+            return Ok(false);
+        };
+        push_step(self.alloc, &mut self.told, &said)?;
+        Ok(true)
+    }
+}
+
+/// Appends a line and its line feed.
+fn push_line<A: Allocator + Copy>(told: &mut String<A>, line: &str) -> Result<(), AllocError>
+    ensures { OnOk result (string_bytes told.new ≡ string_bytes told.old ++ (line.now ++ 10 ∷ [])) }
+{
+    told.push_str(line)?;
+    told.push_str("\n")
+}
+
+/// Appends what is told of a step: the answer, if a caller is told it, and what the site sent.
+#[tactic(auto, unfolding(crate::specs::Desk::step_text))]
+fn push_step<A: Allocator + Copy>(
+    alloc: A,
+    told: &mut String<A>,
+    said: &Said<A>,
+) -> Result<(), AllocError>
+    ensures { OnOk result (string_bytes told.new ≡ string_bytes told.old ++ step_text (Some (said_of said.now))) }
+{
+    if let Some(line) = said.answer_line(alloc)? {
+        push_line(told, line.as_str())?;
+    }
+    let sent = said.envelopes(alloc)?;
+    told.push_str(sent.as_str())
+}
+
+/// Appends what is told of a step, if one was made.
+#[tactic(auto, unfolding(crate::specs::Desk::step_text))]
+fn push_said<A: Allocator + Copy>(
+    alloc: A,
+    told: &mut String<A>,
+    said: Option<Said<A>>,
+) -> Result<(), AllocError>
+    ensures { OnOk result (string_bytes told.new ≡ string_bytes told.old ++ step_text (option_map said_of said)) }
+{
+    match said {
+        Some(said) => push_step(alloc, told, &said),
+        None => Ok(()),
+    }
+}

@@ -1,0 +1,14 @@
+use shm_site::Input;
+use std::alloc::{Allocator, Global};
+
+/// What a line hands to a site.
+#[derive(Drop)]
+pub(crate) struct Heard<A: Allocator + Copy = Global> {
+    pub(crate) input: Input<A>,
+    /// The clock of the step that sent an envelope; 0 for what a caller asks.
+    pub(crate) source: u64,
+    /// The tag of the caller who asks.
+    pub(crate) tag: Option<String<A>>,
+    /// Whether it is an access that waits for its right.
+    pub(crate) waits: bool,
+}

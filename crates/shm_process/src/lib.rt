@@ -1,0 +1,29 @@
+//! A site as a process, but for its streams: a line comes, and the site makes a step; what it says are lines again.
+//!
+//! All sites and callers share one stream. A line for another site, or that is no line of the stream (`shm_wire`), is passed over. A load
+//! or a store waits for its right, and is made again when it may be there.
+#![tactic(auto)]
+
+mod desk;
+mod heard;
+mod hearing;
+pub mod laws;
+mod lines;
+mod node;
+mod outcome;
+mod replaying;
+mod said;
+mod serving;
+mod stepping;
+mod taking;
+mod telling;
+#[cfg(test)]
+mod tests;
+mod waiting;
+
+pub use desk::Desk;
+pub use node::Node;
+pub use outcome::ProcessFault;
+pub use said::Said;
+pub use serving::serve;
+pub use taking::MOST_WAITING;

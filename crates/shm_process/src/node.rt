@@ -1,0 +1,96 @@
+ghost use Rattle.std.specs.Prelude.{◌≡◌, ◌≤◌};
+
+use shm_place::{PAGES, SiteId, Sites};
+use shm_site::Site;
+use std::alloc::{AllocError, Allocator, Global};
+
+/// A site as a process: it takes line after line, and holds the site, and the asks that wait: at most 64.
+#[derive(Drop)]
+pub struct Node<A: Allocator + Copy = Global> {
+    pub(crate) site: Site<A>,
+    pub(crate) sites: Sites,
+    pub(crate) me: SiteId,
+    pub(crate) clock: u64,
+    pub(crate) steps: u64,
+    pub(crate) taken: u64,
+    pub(crate) passed: u64,
+    pub(crate) caller: Option<String<A>>,
+    pub(crate) waiting: Vec<Vec<u8, A>, A>,
+    pub(crate) alloc: A,
+    ghost all_sites: { site.sites ≡ sites },
+    ghost own_number: { site.me ≡ me },
+    ghost each_step_counts: { steps ≤ clock },
+}
+
+impl<A: Allocator + Copy> Node<A> {
+    ghost use Rattle.std.specs.Prelude.{◌<◌, length, IfOk};
+    ghost use Rattle.shm_process.specs.Node.{new_node};
+    ghost use Rattle.shm_process.specs.NodeOf.{node_of};
+    ghost use Rattle.shm_site.specs.Site.{site_of};
+
+    /// A site of so many at which nothing has happened, where segment 0 has so many pages and is attached, to read and write, as
+    /// attachment 0. Its home is site 0.
+    pub fn new(alloc: A, sites: Sites, me: SiteId, pages: u32) -> Result<Node<A>, AllocError>
+        requires below { me < sites }
+        requires from { 1 ≤ pages }
+        requires to { pages ≤ PAGES }
+        ensures { IfOk result (λ node. node_of node ≡ new_node sites me pages) }
+    {
+        let site = Site::preset(alloc, sites, me, pages)?;
+        Ok(Node {
+            site,
+            sites,
+            me,
+            clock: 0,
+            steps: 0,
+            taken: 0,
+            passed: 0,
+            caller: None,
+            waiting: Vec::new(alloc),
+            alloc,
+        })
+    }
+
+    /// The site as it stands.
+    pub fn site(&self) -> &Site<A>
+        ensures { site_of result.now ≡ (node_of self.now).site }
+    {
+        &self.site
+    }
+
+    /// The clock of the last step, or 0.
+    pub fn clock(&self) -> u64
+        ensures { result ≡ (node_of self.now).clock }
+    {
+        self.clock
+    }
+
+    /// How many steps were made.
+    pub fn steps(&self) -> u64
+        ensures { result ≡ (node_of self.now).steps }
+    {
+        self.steps
+    }
+
+    /// How many lines made a step when they were taken.
+    pub fn taken(&self) -> u64
+        ensures { result ≡ (node_of self.now).taken }
+    {
+        self.taken
+    }
+
+    /// How many lines were passed over: those that made no step, a `show` too.
+    pub fn passed(&self) -> u64
+        ensures { result ≡ (node_of self.now).passed }
+    {
+        self.passed
+    }
+
+    /// How many asks wait.
+    #[tactic(auto, using(crate::proofs::Asks::length_map))]
+    pub fn waiting(&self) -> usize
+        ensures { result ≡ length (node_of self.now).waiting }
+    {
+        self.waiting.len()
+    }
+}

@@ -1,0 +1,93 @@
+//! What callers are told: answers, and what a page holds.
+ghost use Rattle.std.specs.Prelude.{◌≡◌, option_map, string_bytes, IfOk};
+ghost use Rattle.shm_process.specs.NodeOf.{node_of, said_of};
+ghost use Rattle.shm_process.specs.Telling.{answer_line_of, shown_line};
+
+use crate::node::Node;
+use crate::said::Said;
+use shm_debug::AnswerText;
+use shm_model::refusal::FOREIGN;
+use shm_model::{Answer, Shown, State};
+use shm_wire::{Ask, Question, parse_ask};
+use std::alloc::{AllocError, Allocator};
+use std::fmt;
+
+impl<A: Allocator + Copy> Said<A> {
+    /// The line that tells the answer, without a line feed, if somebody is told.
+    pub fn answer_line(&self, alloc: A) -> Result<Option<String<A>>, AllocError>
+        ensures { IfOk result (λ line. option_map string_bytes line ≡ answer_line_of (said_of self.now)) }
+    {
+        let Some(tag) = &self.tag else {
+            return Ok(None);
+        };
+        let site = self.site.0;
+        let tag = tag.as_str();
+        let answer = AnswerText(self.answer);
+        let line = format!(in alloc; "tell {site} {tag} {answer}")?;
+        Ok(Some(line))
+    }
+}
+
+impl<A: Allocator + Copy> Node<A> {
+    /// The line that tells what the site has of a page, without a line feed, where that is what this line asks of it. It makes no step.
+    pub fn shown(&self, line: &[u8]) -> Result<Option<String<A>>, AllocError>
+        ensures { IfOk result (λ told. option_map string_bytes told ≡ shown_line (node_of self.now) line.now) }
+    {
+        let Some(ask) = parse_ask(line) else {
+            return Ok(None);
+        };
+        let Ask { site, tag, asked } = ask;
+        let Question::Show(page) = asked else {
+            return Ok(None);
+        };
+        if site != self.me {
+            return Ok(None);
+        }
+        let site = site.0;
+        let shown = ShownText(self.site.shown(page));
+        let line = format!(in self.alloc; "tell {site} {tag} {shown}")?;
+        Ok(Some(line))
+    }
+}
+
+/// What a site has of a page: its state, and the greatest transaction number that it met.
+#[derive(Clone, Copy)]
+struct ShownText(Option<Shown>);
+
+impl fmt::Display for ShownText {
+    ghost use Rattle.std.specs.Prelude.{Some};
+    ghost use Rattle.shm_process.specs.Showing.{shown_text};
+
+    ghost output = { λ text. Some (shown_text text.0) };
+
+    fn fmt<W: fmt::Write>(&self, f: &mut fmt::Formatter<W>) -> fmt::Result {
+        let Some(shown) = self.0 else {
+            let refused = AnswerText(Answer::Refused(FOREIGN));
+            return write!(f, "{refused}");
+        };
+        let state = StateName(shown.state);
+        let seen = shown.seen;
+        write!(f, "page {state}/{seen}")
+    }
+}
+
+#[derive(Clone, Copy)]
+struct StateName(State);
+
+impl fmt::Display for StateName {
+    ghost use Rattle.std.specs.Prelude.{Some};
+    ghost use Rattle.shm_debug.specs.Page.{state_name};
+
+    ghost output = { λ name. Some (state_name name.0) };
+
+    fn fmt<W: fmt::Write>(&self, f: &mut fmt::Formatter<W>) -> fmt::Result {
+        match self.0 {
+            State::Nil => write!(f, "Nil"),
+            State::Copy => write!(f, "Copy"),
+            State::OwnRead => write!(f, "OwnRead"),
+            State::OwnWrite => write!(f, "OwnWrite"),
+            State::Handed => write!(f, "Handed"),
+            State::Purged => write!(f, "Purged"),
+        }
+    }
+}

@@ -1,0 +1,156 @@
+//! Two nodes that a test carries lines between.
+use crate::{Desk, Node, Said, serve};
+use linked_list_allocator::LocalHeap;
+use shm_model::Answer;
+use shm_place::{SiteId, Sites};
+use std::alloc::{AllocError, Allocator, Global};
+use std::test::Fail;
+
+/// How often a hole is widened at most.
+const TRIES: usize = 1600;
+
+/// A site of 2, where segment 0 has 4 pages and is attached.
+fn new_node<A: Allocator + Copy>(alloc: A, me: u32) -> Result<Node<A>, AllocError> {
+    match Sites::new(2) {
+        Ok(sites) if me < sites.count() => Node::new(alloc, sites, SiteId(me), 4),
+        _ => Err(AllocError),
+    }
+}
+
+/// Whether a caller is told this answer under this tag.
+fn tells<A: Allocator + Copy>(said: &Option<Said<A>>, tag: &str, answer: Answer) -> bool {
+    match said {
+        Some(said) => match &said.tag {
+            Some(told) => told.as_str() == tag && said.answer == answer,
+            None => false,
+        },
+        None => false,
+    }
+}
+
+/// Whether a step was made of which no caller is told.
+fn tells_nobody<A: Allocator + Copy>(said: &Option<Said<A>>) -> bool {
+    match said {
+        Some(said) => said.tag.is_none(),
+        None => false,
+    }
+}
+
+/// The line of the one envelope that was sent, if the node told nobody anything.
+fn sent_line<A: Allocator + Copy>(
+    alloc: A,
+    said: Option<Said<A>>,
+) -> Result<String<A>, AllocError> {
+    match said {
+        Some(said) => said.envelopes(alloc),
+        None => Ok(String::new(alloc)),
+    }
+}
+
+#[test]
+fn a_copy_is_lent(rt: HostRuntime) -> Result<(), Fail> {
+    let alloc = rt.alloc();
+    let mut owner = new_node(alloc, 0)?;
+    let mut reader = new_node(alloc, 1)?;
+    let stored = owner.take(b"ask 0 a store 0 5 7")?;
+    assert!(rt; tells(&stored, "a", Answer::Stored));
+    let fault = reader.take(b"ask 1 b load 0 5")?;
+    assert!(rt; tells_nobody(&fault));
+    assert!(rt; reader.again()?.is_none(), "it waits for what was asked");
+    let ask = sent_line(alloc, fault)?;
+    assert_eq!(rt; ask.as_str(), "env 1 0 1 0 0 ask 0 0 1 read\n");
+    let handed = owner.take(ask.as_str().trim_end().as_bytes())?;
+    let hand = sent_line(alloc, handed)?;
+    assert_eq!(rt; hand.as_str(), "env 0 0 2 1 0 hand 0 0 1 read 1\n");
+    assert!(rt; reader.take(hand.as_str().trim_end().as_bytes())?.is_none());
+    let lent = owner.take(hand.as_str().trim_end().as_bytes())?;
+    let page = sent_line(alloc, lent)?;
+    let taken = reader.take(page.as_str().trim_end().as_bytes())?;
+    let confirm = sent_line(alloc, taken)?;
+    assert_eq!(rt; confirm.as_str(), "env 1 0 4 1 0 confirm 0 0 1\n");
+    let loaded = reader.again()?;
+    assert!(rt; tells(&loaded, "b", Answer::Byte(7)));
+    assert!(rt; reader.again()?.is_none(), "it was answered");
+    assert_eq!(rt;
+        (
+            reader.steps(),
+            reader.clock(),
+            reader.taken(),
+            reader.passed()
+        ),
+        (3, 5, 2, 1)
+    );
+    Ok(())
+}
+
+/// Blocks of 16 bytes that fill a heap; each that is dropped widens the hole at its end.
+fn filled(alloc: Global, heap: &LocalHeap) -> Result<Vec<Vec<u8, &LocalHeap>>, AllocError> {
+    let mut blocks = Vec::new(alloc);
+    for _ in 0..heap.free() / 16 {
+        let block = Vec::with_capacity(heap, 16)?;
+        blocks.push(block)?;
+    }
+    Ok(blocks)
+}
+
+#[test]
+fn each_growth_is_refused_in_turn(rt: HostRuntime) -> Result<(), Fail> {
+    let heap = LocalHeap::new(rt.alloc(), 1 << 16)?;
+    let mut node = new_node(&heap, 1)?;
+    let mut blocks = filled(rt.alloc(), &heap)?;
+    for tries in 0..TRIES {
+        match node.take(b"ask 1 b try-load 0 5") {
+            Ok(said) => {
+                assert!(rt; tries > 1, "the tag and what is sent were refused too");
+                assert!(rt; tells(&said, "b", Answer::Fault));
+                assert_eq!(rt; (node.steps(), node.taken()), (1, 1));
+                drop(said);
+                return Ok(());
+            }
+            Err(_) => assert_eq!(rt; (node.steps(), node.taken(), node.passed()), (0, 0, 0)),
+        }
+        drop(blocks.pop());
+    }
+    Err(Fail::new("no step was made"))
+}
+
+#[test]
+fn an_access_is_answered_when_its_page_comes(rt: HostRuntime) -> Result<(), Fail> {
+    let alloc = rt.alloc();
+    let mut owner = Desk::new(alloc, new_node(alloc, 0)?);
+    let mut reader = Desk::new(alloc, new_node(alloc, 1)?);
+    owner.take(b"ask 0 a store 0 5 7\nnot a line of ours\nask 1 b lo")?;
+    assert_eq!(rt; owner.told(), "tell 0 a stored\n");
+    reader.take(b"ask 1 b load 0 5\nask 1 c show 0 0\n")?;
+    assert_eq!(rt;
+        reader.told(),
+        "env 1 0 1 0 0 ask 0 0 1 read\ntell 1 c page Nil/0\n"
+    );
+    owner.clear_told();
+    owner.take(b"ad 0 5\n")?;
+    owner.take(b"env 1 0 1 0 0 ask 0 0 1 read\nenv 0 0 2 1 0 hand 0 0 1 read 1\n")?;
+    assert_eq!(rt; owner.node().passed(), 2);
+    let lent = String::from_str(alloc, owner.told())?;
+    reader.clear_told();
+    reader.take(lent.as_bytes())?;
+    assert_eq!(rt;
+        reader.told(),
+        "env 1 0 4 1 0 confirm 0 0 1\ntell 1 b byte 7\n"
+    );
+    assert_eq!(rt; reader.node().waiting(), 0);
+    Ok(())
+}
+
+#[test]
+fn lines_are_served_from_a_reader_to_a_writer(rt: HostRuntime) -> Result<(), Fail> {
+    let alloc = rt.alloc();
+    let node = new_node(alloc, 0)?;
+    let mut reader = b"ask 0 a store 0 5 7\nask 0 b load 0 5\nask 0 c load 0 5".as_slice();
+    let mut written = Vec::new(alloc);
+    assert!(rt; serve(alloc, node, &mut reader, &mut written).is_ok());
+    assert_eq!(rt;
+        written.as_slice(),
+        b"tell 0 a stored\ntell 0 b byte 7\n".as_slice()
+    );
+    Ok(())
+}

@@ -1,0 +1,59 @@
+//! The site that a process is to be is one of those that there are.
+ghost use Rattle.std.specs.Prelude.{◌≡◌, true, IfOk, OnOk};
+ghost use Rattle.clap.specs.Kinds.{FailsBy};
+ghost use Rattle.clap.specs.Words.{kind_of};
+ghost use Rattle.clap.specs.declared.error.kind.ErrorKind.TheVariants.{ValueValidation};
+ghost use Rattle.shmdbg.specs.Words as spec;
+
+use crate::words::commands::command;
+use crate::words::task::Task;
+use clap::Error;
+use clap::error::ErrorKind;
+use std::alloc::{AllocError, Global};
+
+/// Finds fault with the task of a site that isn't there.
+pub fn look_for_site(alloc: Global, task: &Task<'_>) -> Result<(), Error>
+    ensures fault { FailsBy (spec.task_fault task.now) result }
+    ensures among { OnOk result (spec.is_among task.now ≡ true) }
+{
+    if is_among(task) {
+        return Ok(());
+    }
+    Err(missing_site_error(alloc, task)?)
+}
+
+fn is_among(task: &Task<'_>) -> bool
+    ensures { result ≡ spec.is_among task.now }
+{
+    match task {
+        Task::Site {
+            sites,
+            me,
+            pages: _,
+        } => me.0 < sites.count(),
+        _ => true,
+    }
+}
+
+/// What is told where the site isn't one of so many.
+fn missing_site_error(alloc: Global, task: &Task<'_>) -> Result<Error, AllocError>
+    ensures { IfOk result (λ error. kind_of error ≡ ValueValidation) }
+{
+    let (me, count) = numbers_of(task);
+    let message = format!(in alloc;
+        "invalid value '{me}' for '--me': sites are numbered from 0, and there are {count}"
+    )?;
+    command(alloc)?.error(ErrorKind::ValueValidation, message.as_str())
+}
+
+/// Which site it is to be, and of how many.
+fn numbers_of(task: &Task<'_>) -> (u32, u32) {
+    match task {
+        Task::Site {
+            sites,
+            me,
+            pages: _,
+        } => (me.0, sites.count()),
+        _ => (0, 0),
+    }
+}
