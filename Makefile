@@ -2,7 +2,7 @@
 
 PROGRAM := crates/shmdbg
 
-.PHONY: replay build pictures examples manners machines refused test wrong-bodies
+.PHONY: replay build pictures examples manners machines bench refused test wrong-bodies
 
 # Replays an example without proving anything: a minute or two on a fresh machine, most of it compiling.
 replay:
@@ -40,6 +40,10 @@ examples:
 # Compares the shells' completions and the manual page with what the program's help names. Needs the program that `make build` leaves.
 manners:
 	@completions/check
+
+# Times a load, a store and a page that is fetched, in nanoseconds. Needs the crates that `make build` leaves built. No part of the gate.
+bench:
+	@bench/run
 
 # Sites as processes, and a network between them that loses, repeats and reorders: some seconds of loads and stores, each load looked at.
 # Needs the program that `make build` leaves, and Python 3.
