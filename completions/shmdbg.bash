@@ -3,8 +3,8 @@
 _shmdbg() {
   local word=${COMP_WORDS[COMP_CWORD]} before=${COMP_WORDS[COMP_CWORD - 1]} offered=
   case $COMP_CWORD:${COMP_WORDS[1]} in
-    1:*) offered='replay run prompt draw site help -h --help -V --version' ;;
-    2:help) offered='replay run prompt draw site help' ;;
+    1:*) offered='replay run prompt draw site audit help -h --help -V --version' ;;
+    2:help) offered='replay run prompt draw site audit help' ;;
     *:replay | *:prompt) offered='-h --help' ;;
     *:run)
       case $before in
@@ -23,7 +23,20 @@ _shmdbg() {
         --sites) offered='1 2 3 4 5 6 7 8 9 10 11 12 13 14 15 16' ;;
         --me) offered='0 1 2 3 4 5 6 7 8 9 10 11 12 13 14 15' ;;
         --preset) ;;
-        *) offered='--sites --me --preset -h --help' ;;
+        --journal)
+          mapfile -t COMPREPLY < <(compgen -f -- "$word")
+          return
+          ;;
+        *) offered='--sites --me --preset --journal -h --help' ;;
+      esac
+      ;;
+    *:audit)
+      case $before in
+        --sites) offered='1 2 3 4 5 6 7 8 9 10 11 12 13 14 15 16' ;;
+        *)
+          mapfile -t COMPREPLY < <(compgen -W '--sites -h --help' -- "$word"; compgen -f -- "$word")
+          return
+          ;;
       esac
       ;;
   esac

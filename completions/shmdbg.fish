@@ -6,6 +6,7 @@ complete -c shmdbg -n __fish_use_subcommand -a run -d 'Run the workload on stand
 complete -c shmdbg -n __fish_use_subcommand -a prompt -d 'Answer each line as it is typed'
 complete -c shmdbg -n __fish_use_subcommand -a draw -d 'Draw the run that the script on standard input leaves'
 complete -c shmdbg -n __fish_use_subcommand -a site -d 'Be one site of a cluster, whose lines come on standard input'
+complete -c shmdbg -n __fish_use_subcommand -a audit -d 'Audit the journals of all sites of a cluster'
 complete -c shmdbg -n __fish_use_subcommand -a help -d 'Print help'
 complete -c shmdbg -n __fish_use_subcommand -s h -l help -d 'Print help'
 complete -c shmdbg -n __fish_use_subcommand -s V -l version -d 'Print the version'
@@ -21,5 +22,9 @@ complete -c shmdbg -n '__fish_seen_subcommand_from draw' -s h -l help -d 'Print 
 complete -c shmdbg -n '__fish_seen_subcommand_from site' -l sites -x -a '(seq 16)' -d 'How many sites, 1 to 16'
 complete -c shmdbg -n '__fish_seen_subcommand_from site' -l me -x -a '(seq 0 15)' -d 'Which site this is, 0 to N-1'
 complete -c shmdbg -n '__fish_seen_subcommand_from site' -l preset -x -d 'How many pages segment 0 has, 1 to 256'
+complete -c shmdbg -n '__fish_seen_subcommand_from site' -l journal -r -F -d "Keep the site's journal in this file, and begin as it says"
 complete -c shmdbg -n '__fish_seen_subcommand_from site' -s h -l help -d 'Print help'
-complete -c shmdbg -n '__fish_seen_subcommand_from help' -a 'replay run prompt draw site help'
+complete -c shmdbg -n '__fish_seen_subcommand_from audit' -F
+complete -c shmdbg -n '__fish_seen_subcommand_from audit' -l sites -x -a '(seq 16)' -d 'How many sites, 1 to 16'
+complete -c shmdbg -n '__fish_seen_subcommand_from audit' -s h -l help -d 'Print help'
+complete -c shmdbg -n '__fish_seen_subcommand_from help' -a 'replay run prompt draw site audit help'

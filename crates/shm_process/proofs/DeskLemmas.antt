@@ -1,11 +1,11 @@
 -- A desk step by step: a byte after the others, an ask after the others. What a desk told before stands before all that it tells after.
-use Rattle.std.proofs.Common.{◌≡◌, ℕ, zero, suc, ◌+◌, ◌-◌, ◌<◌, ◌≤◌, ◌==◌, Bool, true, false, List, [], ◌∷◌, ◌++◌, length, drop, get_or, cond, refl, ap, sym, ◌∙◌, append-nil}
+use Rattle.std.proofs.Common.{◌≡◌, ℕ, zero, suc, ◌+◌, ◌-◌, ◌<◌, ◌≤◌, ◌==◌, Bool, true, false, List, [], ◌∷◌, ◌++◌, length, drop, get_or, cond, refl, ap, ap₂, sym, ◌∙◌, append-nil}
 use Rattle.std.specs.Prelude.{Option, Some, None, is_some, nat_lt, option_and_then, option_map}
 use Rattle.std.proofs.lemmas.List.{append_assoc, drop_all, drop_more}
-use Rattle.shm_process.specs.Desk.{Desk, after_line, grown, made_again, max_line_bytes, line_text, on_byte, on_bytes, settled, step_text, taken}
-use Rattle.shm_process.specs.Node.{Node, Heard, answer_to, heard, says}
+use Rattle.shm_process.specs.Desk.{Desk, after_line, cleared, grown, made_again, max_line_bytes, line_text, on_byte, on_bytes, settled, step_entry, step_text, taken, tell, with_step}
+use Rattle.shm_process.specs.Node.{Node, Heard, Said, answer_to, heard, says}
 use Rattle.shm_process.specs.Telling.{shown_line}
-use Rattle.shm_process.specs.Waiting.{after_again, again_at, again_if, is_open, most_waiting, passed_over, ready, said, said_again, says_at, waiting_at}
+use Rattle.shm_process.specs.Waiting.{after, after_again, again_at, again_if, is_open, most_waiting, passed_over, ready, said, said_again, says_at, waiting_at}
 
 -- ---- loops
 
@@ -61,66 +61,70 @@ rounds_over n d whole over before = sym (ap (λ k. settled k d) over) ∙ before
 
 -- ---- what was told before
 
--- the desk, had it told this text before
-abbrev pub behind : List ℕ → Desk → Desk
-behind text desk = record desk { told = text ++ desk.told }
+-- the desk, had it recorded and told these before
+abbrev pub behind : List ℕ → List ℕ → Desk → Desk
+behind entries text desk = record desk { recorded = entries ++ desk.recorded; told = text ++ desk.told }
 
--- the desk, had it told nothing
-abbrev pub silent : Desk → Desk
-silent desk = record desk { told = [] }
+cond-behind : (b : Bool) (r t : List ℕ) (x after_x y after_y : Desk) → after_x ≡ behind r t x → after_y ≡ behind r t y
+    → cond b after_x after_y ≡ behind r t (cond b x y)
+cond-behind true r t x after_x y after_y p q = p
+cond-behind false r t x after_x y after_y p q = q
 
-cond-behind : (b : Bool) (t : List ℕ) (x after_x y after_y : Desk) → after_x ≡ behind t x → after_y ≡ behind t y → cond b after_x after_y ≡ behind t (cond b x y)
-cond-behind true t x after_x y after_y p q = p
-cond-behind false t x after_x y after_y p q = q
+with_step-behind : (r t : List ℕ) (d : Desk) (said : Option Said) → with_step (behind r t d) said ≡ behind r t (with_step d said)
+with_step-behind r t d said =
+    ap₂ (λ recorded told. record d { recorded = recorded; told = told })
+    (append_assoc r d.recorded (step_entry said)) (append_assoc t d.told (step_text said))
 
-made_again-behind : (t : List ℕ) (d : Desk) → made_again (behind t d) ≡ behind t (made_again d)
-made_again-behind t d = ap (λ told. record (made_again d) { told = told }) (append_assoc t d.told (step_text (said_again d.node)))
+made_again-behind : (r t : List ℕ) (d : Desk) → made_again (behind r t d) ≡ behind r t (made_again d)
+made_again-behind r t d = with_step-behind r t (record d { node = after_again d.node }) (said_again d.node)
 
-settled-behind : (n : ℕ) (t : List ℕ) (d : Desk) → settled n (behind t d) ≡ behind t (settled n d)
+settled-behind : (n : ℕ) (r t : List ℕ) (d : Desk) → settled n (behind r t d) ≡ behind r t (settled n d)
 unfolding settled
-settled-behind zero t d = refl
-settled-behind (suc n) t d =
-    cond-behind (is_some (said_again d.node)) t (settled n (made_again d)) (settled n (made_again (behind t d))) d (behind t d)
-    (ap (settled n) (made_again-behind t d) ∙ settled-behind n t (made_again d)) refl
+settled-behind zero r t d = refl
+settled-behind (suc n) r t d =
+    cond-behind (is_some (said_again d.node)) r t (settled n (made_again d)) (settled n (made_again (behind r t d))) d (behind r t d)
+    (ap (settled n) (made_again-behind r t d) ∙ settled-behind n r t (made_again d)) refl
 
-taken-behind : (t : List ℕ) (d : Desk) (line : List ℕ) → taken (behind t d) line ≡ behind t (taken d line)
+taken-behind : (r t : List ℕ) (d : Desk) (line : List ℕ) → taken (behind r t d) line ≡ behind r t (taken d line)
 unfolding taken
-taken-behind t d line =
-    ap (λ told. record (taken d line) { told = told }) (append_assoc t d.told (line_text (shown_line d.node line) ++ step_text (said d.node line)))
+taken-behind r t d line =
+    let shown = line_text (shown_line d.node line) in
+    ap (λ told. with_step (record d { node = after d.node line; recorded = r ++ d.recorded; told = told }) (said d.node line)) (append_assoc t d.told shown)
+    ∙ with_step-behind r t (record (tell d shown) { node = after d.node line }) (said d.node line)
 
-after_line-behind : (t : List ℕ) (d : Desk) (line : List ℕ) → after_line (behind t d) line ≡ behind t (after_line d line)
+after_line-behind : (r t : List ℕ) (d : Desk) (line : List ℕ) → after_line (behind r t d) line ≡ behind r t (after_line d line)
 unfolding after_line
-after_line-behind t d line =
-    cond-behind (nat_lt max_line_bytes (length line)) t
-    (record d { node = passed_over d.node }) (record (behind t d) { node = passed_over d.node })
-    (settled most_waiting (taken d line)) (settled most_waiting (taken (behind t d) line))
-    refl (ap (settled most_waiting) (taken-behind t d line) ∙ settled-behind most_waiting t (taken d line))
+after_line-behind r t d line =
+    cond-behind (nat_lt max_line_bytes (length line)) r t
+    (record d { node = passed_over d.node }) (record (behind r t d) { node = passed_over d.node })
+    (settled most_waiting (taken d line)) (settled most_waiting (taken (behind r t d) line))
+    refl (ap (settled most_waiting) (taken-behind r t d line) ∙ settled-behind most_waiting r t (taken d line))
 
-on_byte-behind : (t : List ℕ) (d : Desk) (byte : ℕ) → on_byte (behind t d) byte ≡ behind t (on_byte d byte)
+on_byte-behind : (r t : List ℕ) (d : Desk) (byte : ℕ) → on_byte (behind r t d) byte ≡ behind r t (on_byte d byte)
 unfolding on_byte
-on_byte-behind t d byte =
-    cond-behind (byte == 10) t
-    (record (after_line d d.line) { line = [] }) (record (after_line (behind t d) d.line) { line = [] })
-    (record d { line = grown d.line byte }) (record (behind t d) { line = grown d.line byte })
-    (ap (λ (x : Desk). record x { line = [] }) (after_line-behind t d d.line)) refl
+on_byte-behind r t d byte =
+    cond-behind (byte == 10) r t
+    (record (after_line d d.line) { line = [] }) (record (after_line (behind r t d) d.line) { line = [] })
+    (record d { line = grown d.line byte }) (record (behind r t d) { line = grown d.line byte })
+    (ap (λ (x : Desk). record x { line = [] }) (after_line-behind r t d d.line)) refl
 
-on_bytes-behind : (bytes t : List ℕ) (d : Desk) → on_bytes (behind t d) bytes ≡ behind t (on_bytes d bytes)
+on_bytes-behind : (bytes r t : List ℕ) (d : Desk) → on_bytes (behind r t d) bytes ≡ behind r t (on_bytes d bytes)
 unfolding on_bytes
-on_bytes-behind [] t d = refl
-on_bytes-behind (b ∷ bs) t d = ap (λ x. on_bytes x bs) (on_byte-behind t d b) ∙ on_bytes-behind bs t (on_byte d b)
+on_bytes-behind [] r t d = refl
+on_bytes-behind (b ∷ bs) r t d = ap (λ x. on_bytes x bs) (on_byte-behind r t d b) ∙ on_bytes-behind bs r t (on_byte d b)
 
-on_bytes-append : (xs ys : List ℕ) (d : Desk) → on_bytes d (xs ++ ys) ≡ on_bytes (on_bytes d xs) ys
+pub on_bytes-append : (xs ys : List ℕ) (d : Desk) → on_bytes d (xs ++ ys) ≡ on_bytes (on_bytes d xs) ys
 unfolding on_bytes
 on_bytes-append [] ys d = refl
 on_bytes-append (x ∷ xs) ys d = on_bytes-append xs ys (on_byte d x)
 
-apart : (d : Desk) → d ≡ behind d.told (silent d)
-apart d = ap (λ told. record d { told = told }) (sym (append-nil d.told))
+apart : (d : Desk) → d ≡ behind d.recorded d.told (cleared d)
+apart d = ap₂ (λ recorded told. record d { recorded = recorded; told = told }) (sym (append-nil d.recorded)) (sym (append-nil d.told))
 
--- a desk that has told all goes on as one that still holds what it told, less that
-pub gone_on : (first d : Desk) (bytes more : List ℕ) → d ≡ silent (on_bytes first bytes)
-    → on_bytes first (bytes ++ more) ≡ behind (on_bytes first bytes).told (on_bytes d more)
+-- a desk that was cleared goes on as one that still holds what it recorded and told, less that
+pub gone_on : (first d : Desk) (bytes more : List ℕ) → d ≡ cleared (on_bytes first bytes)
+    → on_bytes first (bytes ++ more) ≡ behind (on_bytes first bytes).recorded (on_bytes first bytes).told (on_bytes d more)
 gone_on first d bytes more e =
     let whole = on_bytes first bytes in
-    on_bytes-append bytes more first ∙ ap (λ x. on_bytes x more) (apart whole) ∙ on_bytes-behind more whole.told (silent whole)
-    ∙ ap (λ x. behind whole.told (on_bytes x more)) (sym e)
+    on_bytes-append bytes more first ∙ ap (λ x. on_bytes x more) (apart whole) ∙ on_bytes-behind more whole.recorded whole.told (cleared whole)
+    ∙ ap (λ x. behind whole.recorded whole.told (on_bytes x more)) (sym e)

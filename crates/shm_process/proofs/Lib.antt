@@ -4,4 +4,4 @@ pub mod Ready
 pub mod Replays
 pub mod Asks
 pub mod DeskLemmas
-pub mod ServingLemmas
+pub mod DeskEvents

@@ -6,7 +6,7 @@ use Rattle.shm_wire.specs.Asks.{Ask, read_ask}
 use Rattle.shm_wire.specs.Sent.{Sent, read_envelope}
 use Rattle.shm_process.specs.Node.{Node, Heard, answer_to, heard, heard_in, is_late, next_clock, says, stepped}
 use Rattle.shm_process.specs.Waiting.{after_heard, again_at, again_if, is_open, joins, or_restart, ready, replayed, replayed_heard, restarting, said_restart, after_restart, says_at, waiting_at}
-use Rattle.shm_process.specs.Recorded.{Event, Line, Again, Restarted, Entry, after_event, after_events, entries_of, kept, recorded, replayed_all, said_at}
+use Rattle.shm_process.specs.Recorded.{Event, Line, TooLong, Again, Restarted, Entry, after_event, after_events, entries_of, kept, recorded, replayed_all, said_at}
 
 -- what a line is doesn't hang on the asks that wait, nor on what was counted
 kept-heard_in : (node : Node) (sent : Option Sent) (ask : Option Ask) → heard_in (kept node) sent ask ≡ heard_in node sent ask
@@ -66,6 +66,7 @@ replays node [] = refl
 replays node (Line line ∷ events) =
     line-law node line (entries_of (after_event node (Line line)) events) (kept (after_events (after_event node (Line line)) events))
     (heard node line) refl (replays (after_event node (Line line)) events)
+replays node (TooLong ∷ events) = replays (after_event node TooLong) events
 replays node (Again ∷ events) =
     ready-law node (entries_of (after_event node Again) events) (kept (after_events (after_event node Again) events))
     (ready node) (replays (after_event node Again) events)

@@ -1,17 +1,20 @@
--- What a process tells: its node, what was read of a line, and what callers and other sites are told, all lines so far.
+-- What a process records and tells: its node, what was read of a line, the entries of the steps that it made, and what callers and other
+-- sites are told of them.
 use Rattle.std.specs.Prelude.{ℕ, zero, suc, ◌==◌, List, [], ◌∷◌, ◌++◌, Option, Some, None, if◌then◌else◌, is_some, length, nat_lt}
 use Rattle.shm_process.specs.Lines.{sent_lines}
 use Rattle.shm_process.specs.Node.{Node, Said}
+use Rattle.shm_process.specs.Recorded.{entries_text, recorded}
 use Rattle.shm_process.specs.Telling.{answer_line_of, shown_line}
-use Rattle.shm_process.specs.Waiting.{after, after_again, most_waiting, passed_over, said, said_again}
+use Rattle.shm_process.specs.Waiting.{after, after_again, after_restart, most_waiting, passed_over, said, said_again, said_restart}
 
 pub record Desk : Type 0 where
   pub node : Node
   pub line : List ℕ
+  pub recorded : List ℕ
   pub told : List ℕ
 
 abbrev pub desk_at : Node → Desk
-desk_at node = record { node = node; line = []; told = [] }
+desk_at node = record { node = node; line = []; recorded = []; told = [] }
 
 -- a line and its line feed, if there is one
 abbrev pub line_text : Option (List ℕ) → List ℕ
@@ -23,11 +26,19 @@ unfoldable pub step_text : Option Said → List ℕ
 step_text None = []
 step_text (Some said) = line_text (answer_line_of said) ++ sent_lines said
 
+-- what is recorded of a step
+unfoldable pub step_entry : Option Said → List ℕ
+step_entry said = entries_text (recorded said [])
+
 abbrev pub tell : Desk → List ℕ → Desk
 tell desk text = record desk { told = desk.told ++ text }
 
+-- a step is recorded, if one was made, and told of
+abbrev pub with_step : Desk → Option Said → Desk
+with_step desk said = record desk { recorded = desk.recorded ++ step_entry said; told = desk.told ++ step_text said }
+
 abbrev pub made_again : Desk → Desk
-made_again desk = record desk { node = after_again desk.node; told = desk.told ++ step_text (said_again desk.node) }
+made_again desk = with_step (record desk { node = after_again desk.node }) (said_again desk.node)
 
 -- asks that wait are made as far as they can, at most so many times
 unfoldable pub settled : ℕ → Desk → Desk
@@ -36,10 +47,9 @@ settled (suc n) desk = if is_some (said_again desk.node) then settled n (made_ag
 
 -- a line is taken
 unfoldable pub taken : Desk → List ℕ → Desk
-taken desk line = record desk {
-  node = after desk.node line;
-  told = desk.told ++ (line_text (shown_line desk.node line) ++ step_text (said desk.node line));
-}
+taken desk line =
+    let shown = tell desk (line_text (shown_line desk.node line)) in
+    with_step (record shown { node = after desk.node line }) (said desk.node line)
 
 -- the bytes that a line has at most, less its line feed; a longer one is passed over
 abbrev pub max_line_bytes : ℕ
@@ -61,3 +71,11 @@ on_byte desk byte = if byte == 10 then record (after_line desk desk.line) { line
 unfoldable pub on_bytes : Desk → List ℕ → Desk
 on_bytes desk [] = desk
 on_bytes desk (byte ∷ bytes) = on_bytes (on_byte desk byte) bytes
+
+-- the site restarts: its callers ask again
+unfoldable pub restarted : Desk → Desk
+restarted desk = with_step (record desk { node = after_restart desk.node }) (Some (said_restart desk.node))
+
+-- what was to be recorded and told is forgotten
+abbrev pub cleared : Desk → Desk
+cleared desk = record desk { recorded = []; told = [] }

@@ -8,5 +8,4 @@ pub mod Telling
 pub mod Recorded
 pub mod Desk
 pub mod DeskOf
-pub mod Streams
-pub mod Faults
+pub mod DeskEvents

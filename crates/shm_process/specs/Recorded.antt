@@ -1,21 +1,25 @@
 -- What is recorded of a node's steps, each as its clock and the line that made it; and the node that they lead to again.
-use Rattle.std.specs.Prelude.{ℕ, List, [], ◌∷◌, Option, Some, None, if◌then◌else◌, option_and_then}
+use Rattle.std.specs.Prelude.{ℕ, List, [], ◌∷◌, ◌++◌, codes, Option, Some, None, if◌then◌else◌, option_and_then}
+use Rattle.std.specs.Fmt.{decimal}
 use Rattle.shm_process.specs.Node.{Node, Said, is_late}
-use Rattle.shm_process.specs.Waiting.{after, after_again, after_restart, replayed, said, said_again, said_restart}
+use Rattle.shm_process.specs.Waiting.{after, after_again, after_restart, passed_over, replayed, said, said_again, said_restart}
 
--- a line that is taken, an ask that waits and is made again, and a restart, as long as there is a clock for it
+-- a line that is taken, one that is too long to be, an ask that waits and is made again, and a restart, as long as there is a clock for it
 pub data Event : Type 0 where
   Line : List ℕ → Event
+  TooLong : Event
   Again : Event
   Restarted : Event
 
 abbrev pub after_event : Node → Event → Node
 after_event node (Line line) = after node line
+after_event node TooLong = passed_over node
 after_event node Again = after_again node
 after_event node Restarted = if is_late node 0 then node else after_restart node
 
 abbrev pub said_at : Node → Event → Option Said
 said_at node (Line line) = said node line
+said_at node TooLong = None
 said_at node Again = said_again node
 said_at node Restarted = if is_late node 0 then None else Some (said_restart node)
 
@@ -23,10 +27,22 @@ pub record Entry : Type 0 where
   pub clock : ℕ
   pub line : List ℕ
 
+-- the line that records it
+abbrev pub entry_line : Entry → List ℕ
+entry_line entry = codes "step " ++ (decimal entry.clock ++ 32 ∷ entry.line)
+
+abbrev pub entry_of : Said → Entry
+entry_of said = record { clock = said.clock; line = said.line }
+
 -- each step is recorded
 abbrev pub recorded : Option Said → List Entry → List Entry
 recorded None entries = entries
-recorded (Some said) entries = record { clock = said.clock; line = said.line } ∷ entries
+recorded (Some said) entries = entry_of said ∷ entries
+
+-- the text of these entries, each on a line of its own
+abbrev pub entries_text : List Entry → List ℕ
+entries_text [] = []
+entries_text (entry ∷ entries) = entry_line entry ++ 10 ∷ entries_text entries
 
 abbrev pub entries_of : Node → List Event → List Entry
 entries_of node [] = []

@@ -1,6 +1,7 @@
-//! Bytes that come, and what is told of the lines that they end.
-ghost use Rattle.std.specs.Prelude.{◌≡◌, ◌++◌, ◌∷◌, [], if◌then◌else◌, is_some, option_map, string_bytes, IfOk, OnOk};
-ghost use Rattle.shm_process.specs.Desk.{after_line, desk_at, grown, made_again, on_byte, on_bytes, settled, step_text, taken, tell, line_text};
+//! Bytes that come, and what is recorded and told of the lines that they end.
+ghost use Rattle.std.specs.Prelude.{◌≡◌, ◌<◌, ◌++◌, ◌∷◌, [], if◌then◌else◌, is_some, option_map, string_bytes, IfOk, OnOk};
+ghost use Rattle.shm_model.specs.Basics.{greatest};
+ghost use Rattle.shm_process.specs.Desk.{after_line, cleared, desk_at, grown, made_again, on_byte, on_bytes, restarted, settled, step_entry, step_text, taken, tell, line_text, with_step};
 ghost use Rattle.shm_process.specs.DeskOf.{desk_of};
 ghost use Rattle.shm_process.specs.NodeOf.{node_of, said_of};
 ghost use Rattle.shm_process.specs.Telling.{shown_line};
@@ -14,11 +15,13 @@ use std::alloc::{AllocError, Allocator, Global};
 /// How many bytes a line has at most, less its line feed. A longer one is passed over.
 const MAX_LINE_BYTES: usize = 8192;
 
-/// A node whose lines come as bytes, and what is to be told: answers, and what its site sent.
+/// A node whose lines come as bytes; what is to be recorded: an entry for each step; and what is to be told: answers, and what its site
+/// sent.
 #[derive(Drop)]
 pub struct Desk<A: Allocator + Copy = Global> {
     pub(crate) node: Node<A>,
     pub(crate) line: Vec<u8, A>,
+    pub(crate) recorded: Vec<u8, A>,
     pub(crate) told: String<A>,
     pub(crate) alloc: A,
 }
@@ -31,6 +34,7 @@ impl<A: Allocator + Copy> Desk<A> {
         Desk {
             node,
             line: Vec::new(alloc),
+            recorded: Vec::new(alloc),
             told: String::new(alloc),
             alloc,
         }
@@ -43,6 +47,13 @@ impl<A: Allocator + Copy> Desk<A> {
         &self.node
     }
 
+    /// The entries of the steps that were made, each `step CLOCK LINE` and a line feed. They are to be kept before anything is told.
+    pub fn recorded(&self) -> &[u8]
+        ensures { result.now ≡ (desk_of self.now).recorded }
+    {
+        self.recorded.as_slice()
+    }
+
     /// All that is to be told.
     pub fn told(&self) -> &str
         ensures { result.now ≡ (desk_of self.now).told }
@@ -50,11 +61,30 @@ impl<A: Allocator + Copy> Desk<A> {
         self.told.as_str()
     }
 
-    /// Forgets what was to be told: it was.
-    pub fn clear_told(&mut self)
-        ensures { desk_of self.new ≡ record (desk_of self.old) { told = [] } }
+    /// Forgets what was to be recorded and told: it was.
+    pub fn clear(&mut self)
+        ensures { desk_of self.new ≡ cleared (desk_of self.old) }
     {
+        self.recorded.clear();
         self.told.clear();
+    }
+
+    /// Has this text recorded, behind what is.
+    pub fn record(&mut self, text: &[u8]) -> Result<(), AllocError>
+        ensures { OnOk result (desk_of self.new ≡ record (desk_of self.old) { recorded = (desk_of self.old).recorded ++ text.now }) }
+    {
+        self.recorded.extend_from_slice(text)
+    }
+
+    /// The site's restart, one step. The asks that wait are forgotten: their callers ask again. Where memory is refused the desk is of no
+    /// use any more.
+    #[tactic(auto, unfolding(crate::specs::Desk::restarted))]
+    pub fn restart(&mut self) -> Result<(), AllocError>
+        requires { (desk_of self.old).node.clock < greatest }
+        ensures { OnOk result (desk_of self.new ≡ restarted (desk_of self.old)) }
+    {
+        let said = self.node.restart()?;
+        self.push_step(&said)
     }
 
     /// These bytes come: each line that they end is taken, and the asks that wait are made again after it, as far as they can. Where
@@ -111,8 +141,7 @@ impl<A: Allocator + Copy> Desk<A> {
     {
         self.show()?;
         let said = self.node.take(self.line.as_slice())?;
-        push_said(self.alloc, &mut self.told, said)?;
-        Ok(())
+        self.push_said(said)
     }
 
     /// Tells what the line is shown, if it asks for a page.
@@ -147,8 +176,27 @@ impl<A: Allocator + Copy> Desk<A> {
         let Some(said) = self.node.again()? else {
             return Ok(false);
         };
-        push_step(self.alloc, &mut self.told, &said)?;
+        self.push_step(&said)?;
         Ok(true)
+    }
+
+    /// Records a step, if one was made, and tells what is told of it.
+    #[tactic(auto, unfolding(crate::specs::Desk::step_text, crate::specs::Desk::step_entry))]
+    fn push_said(&mut self, said: Option<Said<A>>) -> Result<(), AllocError>
+        ensures { OnOk result (desk_of self.new ≡ with_step (desk_of self.old) (option_map said_of said)) }
+    {
+        match said {
+            Some(said) => self.push_step(&said),
+            None => Ok(()),
+        }
+    }
+
+    /// Records a step, and tells what is told of it.
+    fn push_step(&mut self, said: &Said<A>) -> Result<(), AllocError>
+        ensures { OnOk result (desk_of self.new ≡ with_step (desk_of self.old) (Some (said_of said.now))) }
+    {
+        push_entry(self.alloc, &mut self.recorded, said)?;
+        push_text(self.alloc, &mut self.told, said)
     }
 }
 
@@ -160,9 +208,26 @@ fn push_line<A: Allocator + Copy>(told: &mut String<A>, line: &str) -> Result<()
     told.push_str("\n")
 }
 
+/// Appends the entry of a step.
+#[tactic(auto, unfolding(crate::specs::Desk::step_entry))]
+fn push_entry<A: Allocator + Copy>(
+    alloc: A,
+    recorded: &mut Vec<u8, A>,
+    said: &Said<A>,
+) -> Result<(), AllocError>
+    ensures { OnOk result (recorded.new.items ≡ recorded.old.items ++ step_entry (Some (said_of said.now))) }
+{
+    let clock = said.clock;
+    let head = format!(in alloc; "step {clock} ")?;
+    recorded.extend_from_slice(head.as_bytes())?;
+    recorded.extend_from_slice(said.line.as_slice())?;
+    recorded.push(b'\n')?;
+    Ok(())
+}
+
 /// Appends what is told of a step: the answer, if a caller is told it, and what the site sent.
 #[tactic(auto, unfolding(crate::specs::Desk::step_text))]
-fn push_step<A: Allocator + Copy>(
+fn push_text<A: Allocator + Copy>(
     alloc: A,
     told: &mut String<A>,
     said: &Said<A>,
@@ -174,19 +239,4 @@ fn push_step<A: Allocator + Copy>(
     }
     let sent = said.envelopes(alloc)?;
     told.push_str(sent.as_str())
-}
-
-/// Appends what is told of a step, if one was made.
-#[tactic(auto, unfolding(crate::specs::Desk::step_text))]
-fn push_said<A: Allocator + Copy>(
-    alloc: A,
-    told: &mut String<A>,
-    said: Option<Said<A>>,
-) -> Result<(), AllocError>
-    ensures { OnOk result (string_bytes told.new ≡ string_bytes told.old ++ step_text (option_map said_of said)) }
-{
-    match said {
-        Some(said) => push_step(alloc, told, &said),
-        None => Ok(()),
-    }
 }

@@ -1,5 +1,7 @@
 //! What holds of the definitions, whatever a node is made to do.
-ghost use Rattle.std.specs.Prelude.{◌≡◌, List, Some};
+ghost use Rattle.std.specs.Prelude.{◌≡◌, List, ℕ, Some};
+ghost use Rattle.shm_process.specs.Desk.{Desk, on_bytes};
+ghost use Rattle.shm_process.specs.DeskEvents.{DidEvents};
 ghost use Rattle.shm_process.specs.Node as spec;
 ghost use Rattle.shm_process.specs.Recorded.{Event, after_events, entries_of, kept, replayed_all};
 
@@ -7,4 +9,10 @@ ghost use Rattle.shm_process.specs.Recorded.{Event, after_events, entries_of, ke
 /// are forgotten, and no line is counted.
 pub fn recorded_steps_lead_to_the_same_site()
     ensures { (node : spec.Node) (events : List Event) → replayed_all (kept node) (entries_of node events) ≡ Some (kept (after_events node events)) }
+{}
+
+/// What a desk records of bytes is the entries of the events that its node had, each of them, in their order.
+#[tactic(auto, using(crate::proofs::DeskEvents::did_events))]
+pub fn a_desk_records_each_step()
+    ensures { (desk : Desk) (bytes : List ℕ) → DidEvents desk (on_bytes desk bytes) }
 {}

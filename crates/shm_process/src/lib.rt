@@ -10,10 +10,8 @@ mod hearing;
 pub mod laws;
 mod lines;
 mod node;
-mod outcome;
 mod replaying;
 mod said;
-mod serving;
 mod stepping;
 mod taking;
 mod telling;
@@ -23,7 +21,5 @@ mod waiting;
 
 pub use desk::Desk;
 pub use node::Node;
-pub use outcome::ProcessFault;
 pub use said::Said;
-pub use serving::serve;
 pub use taking::MOST_WAITING;

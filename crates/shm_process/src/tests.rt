@@ -1,5 +1,5 @@
 //! Two nodes that a test carries lines between.
-use crate::{Desk, Node, Said, serve};
+use crate::{Desk, Node, Said};
 use linked_list_allocator::LocalHeap;
 use shm_model::Answer;
 use shm_place::{SiteId, Sites};
@@ -121,17 +121,25 @@ fn an_access_is_answered_when_its_page_comes(rt: HostRuntime) -> Result<(), Fail
     let mut reader = Desk::new(alloc, new_node(alloc, 1)?);
     owner.take(b"ask 0 a store 0 5 7\nnot a line of ours\nask 1 b lo")?;
     assert_eq!(rt; owner.told(), "tell 0 a stored\n");
+    assert_eq!(rt;
+        owner.recorded(),
+        b"step 1 ask 0 a store 0 5 7\n".as_slice()
+    );
     reader.take(b"ask 1 b load 0 5\nask 1 c show 0 0\n")?;
     assert_eq!(rt;
         reader.told(),
         "env 1 0 1 0 0 ask 0 0 1 read\ntell 1 c page Nil/0\n"
     );
-    owner.clear_told();
+    owner.clear();
     owner.take(b"ad 0 5\n")?;
     owner.take(b"env 1 0 1 0 0 ask 0 0 1 read\nenv 0 0 2 1 0 hand 0 0 1 read 1\n")?;
     assert_eq!(rt; owner.node().passed(), 2);
+    assert_eq!(rt;
+        owner.recorded(),
+        b"step 2 env 1 0 1 0 0 ask 0 0 1 read\nstep 3 env 0 0 2 1 0 hand 0 0 1 read 1\n".as_slice()
+    );
     let lent = String::from_str(alloc, owner.told())?;
-    reader.clear_told();
+    reader.clear();
     reader.take(lent.as_bytes())?;
     assert_eq!(rt;
         reader.told(),
@@ -142,15 +150,19 @@ fn an_access_is_answered_when_its_page_comes(rt: HostRuntime) -> Result<(), Fail
 }
 
 #[test]
-fn lines_are_served_from_a_reader_to_a_writer(rt: HostRuntime) -> Result<(), Fail> {
+fn a_restart_is_recorded_and_asks_that_wait_are_forgotten(rt: HostRuntime) -> Result<(), Fail> {
     let alloc = rt.alloc();
-    let node = new_node(alloc, 0)?;
-    let mut reader = b"ask 0 a store 0 5 7\nask 0 b load 0 5\nask 0 c load 0 5".as_slice();
-    let mut written = Vec::new(alloc);
-    assert!(rt; serve(alloc, node, &mut reader, &mut written).is_ok());
+    let mut desk = Desk::new(alloc, new_node(alloc, 1)?);
+    desk.record(b"first\n")?;
+    desk.take(b"ask 1 b load 0 5\n")?;
+    assert_eq!(rt; desk.node().waiting(), 1);
+    if desk.node().clock() < u64::MAX {
+        desk.restart()?;
+    }
     assert_eq!(rt;
-        written.as_slice(),
-        b"tell 0 a stored\ntell 0 b byte 7\n".as_slice()
+        desk.recorded(),
+        b"first\nstep 1 ask 1 b load 0 5\nstep 2 restart\n".as_slice()
     );
+    assert_eq!(rt; desk.node().waiting(), 0);
     Ok(())
 }

@@ -29,5 +29,6 @@ pub use answer::Answer;
 pub use answers::parse_answer;
 pub use ask::{Ask, Question};
 pub use asks::parse_ask;
+pub use number::parse_wide;
 pub use parse::parse_envelope;
 pub use sent::{Sent, SentLine, Stamp};

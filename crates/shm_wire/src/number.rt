@@ -7,7 +7,7 @@ ghost use Rattle.shm_lines.specs.Words as script;
 ghost use Rattle.shm_wire.specs.Words.{wide_of};
 
 /// The number that a word stands for.
-pub fn wide(word: &[u8]) -> Option<u64>
+pub fn parse_wide(word: &[u8]) -> Option<u64>
     ensures { result ≡ wide_of word.now }
 {
     if !is_plain(word) {

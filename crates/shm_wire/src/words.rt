@@ -13,7 +13,7 @@ pub fn wide(words: Words<'_>) -> Option<(u64, Words<'_>)>
     ensures { result ≡ next_of wide_of words.entry }
 {
     let (word, words) = words.word()?;
-    let value = number::wide(word)?;
+    let value = number::parse_wide(word)?;
     Some((value, words))
 }
 

@@ -2,3 +2,5 @@ mod Asked
 mod Plain
 mod Wrong
 mod Numbers
+mod Streaming
+mod Unbegun

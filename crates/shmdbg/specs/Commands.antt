@@ -20,8 +20,11 @@ abbrev pub summary_rule : Rule
 summary_rule = record (new_rule (codes "summary")) { long = Some (codes "summary"); action = Some SetTrue }
 
 -- with any text
+abbrev pub text_rule : Text → Rule
+text_rule name = record (new_rule name) { long = Some name; action = Some Set; value_names = 1 }
+
 abbrev pub log_rule : Rule
-log_rule = record (new_rule (codes "log")) { long = Some (codes "log"); action = Some Set; value_names = 1 }
+log_rule = text_rule (codes "log")
 
 abbrev pub replay_app : App
 replay_app = new_app (codes "replay")
@@ -44,8 +47,23 @@ me_rule = number_rule (codes "me") (Signed (pos 0) (pos 15))
 abbrev pub preset_rule : Rule
 preset_rule = number_rule (codes "preset") (Signed (pos 1) (pos 256))
 
+abbrev pub journal_rule : Rule
+journal_rule = text_rule (codes "journal")
+
 abbrev pub site_app : App
-site_app = with_rule (with_rule (with_rule (new_app (codes "site")) sites_rule) me_rule) preset_rule
+site_app = with_rule (with_rule (with_rule (with_rule (new_app (codes "site")) sites_rule) me_rule) preset_rule) journal_rule
+
+-- 1 to 16 texts that stand by no option's name
+abbrev pub journals_rule : Rule
+journals_rule = record (new_rule (codes "journals")) {
+  required = true;
+  action = Some Set;
+  range = Some (record { start_inclusive = 1; end_inclusive = 16 });
+  value_names = 1;
+}
+
+abbrev pub audit_app : App
+audit_app = with_rule (with_rule (new_app (codes "audit")) sites_rule) journals_rule
 
 -- a subcommand is required, and `--version` tells the version
 abbrev pub bare_app : App
@@ -54,4 +72,5 @@ bare_app = record { top = record (new_app (codes "shmdbg")).top { subcommand_req
 -- the program with all its subcommands
 abbrev pub app : App
 app =
-    with_subcommand (with_subcommand (with_subcommand (with_subcommand (with_subcommand bare_app replay_app.top) run_app.top) prompt_app.top) draw_app.top) site_app.top
+    with_subcommand (with_subcommand (with_subcommand (with_subcommand (with_subcommand (with_subcommand bare_app replay_app.top) run_app.top) prompt_app.top) draw_app.top) site_app.top)
+    audit_app.top

@@ -1,6 +1,6 @@
 -- Exit statuses, and what each tells of the script on standard input and of the text on standard output.
-use Rattle.std.specs.Prelude.{◌≡◌, ◌⊎◌, ℕ, Bool, true, List, [], IfSome, IsSomeAnd, Option, Some, Result, Ok, Err}
-use Rattle.std.specs.Io.KnownBytes.{Appends, Keeps}
+use Rattle.std.specs.Prelude.{◌≡◌, ◌⊎◌, ℕ, Bool, true, List, [], codes, IfSome, Option, Some, Result, Ok, Err}
+use Rattle.std.specs.Io.KnownBytes.{Appends}
 use Rattle.clap.specs.Words.{Text}
 use Rattle.shm_debug.specs.Script.{Script}
 use Rattle.shm_debug.specs.Replay.{Ends}
@@ -9,9 +9,6 @@ use Rattle.shm_draw.specs.Drawn.{Draws}
 use Rattle.shm_place.specs.declared.page.PageId.{PageId}
 use Rattle.shm_debug.specs.declared.outcome.DebugFault.{DebugFault}
 use Rattle.shm_debug.specs.declared.outcome.DebugFault.TheVariants.{OutOfMemory, BadLine, LineTooLong, TooManyLines, ReadFault, WriteFault}
-use Rattle.shm_process.specs.Node.{Node}
-use Rattle.shm_process.specs.Streams.{Served}
-use Rattle.shm_process.specs.declared.outcome.ProcessFault.{ProcessFault}
 use Rattle.shm_report.specs.Causes.{audit_cause, input_cause, is_after_reading, IsFound, IsRight, IsWrongBy}
 use Rattle.shm_report.specs.Report.{IsToldReport}
 use Rattle.shm_report.specs.declared.report_fault.ReportFault.{ReportFault}
@@ -46,13 +43,17 @@ abbrev pub status_of : Result Summary DebugFault → ℕ
 status_of (Ok summary) = 0
 status_of (Err fault) = fault_status fault
 
--- the program takes the words: clap does, none is too long, and each number is spelled plainly
+-- the program takes the words: clap does, each number is spelled plainly, and the site that is named is one of those that there are
 abbrev pub Takes : List Text → Type 0
 Takes words = fault_in words ≡ []
 
 -- and they ask for the subcommand of this name
 abbrev pub Asks : Text → List Text → Type 0
 Asks name words = Takes words × (asked_for words ≡ Some name)
+
+-- for one of those whose end an audit judges
+abbrev pub AsksForAudit : List Text → Type 0
+AsksForAudit words = Asks (codes "run") words ⊎ Asks (codes "audit") words
 
 -- the script was replayed to an end of this status, and what was then written is what such an end writes
 abbrev pub Replays : Script → ℕ → Option (List ℕ) → Option (List ℕ) → Type 0
@@ -68,30 +69,15 @@ abbrev pub Pictures : Option PageId → Script → ℕ → Option (List ℕ) →
 Pictures page script status old new =
     (end : Result (Unit {0}) DebugFault) × (text : List ℕ) × (status ≡ drawn_status end) × Appends old new text × Draws page script end text
 
--- a workload was run over as many sites as are given, and what was then written is the report of it, with a summary or without
-abbrev pub Reports : Option ℕ → Bool → Option (List ℕ) → Option (List ℕ) → Option (List ℕ) → Type 0
-Reports given summed workload old new =
-    IsSomeAnd given (λ sites. (text : List ℕ) × Appends old new text × IsToldReport summed sites workload text)
+-- a workload was run over so many sites, and what was then written is the report of it, with a summary or without
+abbrev pub Reports : ℕ → Bool → Option (List ℕ) → Option (List ℕ) → Option (List ℕ) → Type 0
+Reports sites summed workload old new = (text : List ℕ) × Appends old new text × IsToldReport summed sites workload text
 
--- A run of a workload failed by a fault of this status. What the fault says of the workload, or of what the sites logged, is so over as
--- many sites as are given.
-pub record Fails (given : Option ℕ) (workload : Option (List ℕ)) (status : ℕ) : Type 0 where
+-- A run of a workload failed by a fault of this status. What the fault says of the workload, or of what the sites logged, is so over so many
+-- sites.
+pub record Fails (sites : ℕ) (workload : Option (List ℕ)) (status : ℕ) : Type 0 where
   pub fault : ReportFault
   pub told : status ≡ run_status fault
-  pub input : IfSome (input_cause fault) (λ cause. IsSomeAnd given (λ sites. IsWrongBy sites workload cause))
-  pub right : is_after_reading fault ≡ true → IsSomeAnd given (λ sites. IsRight sites workload)
-  pub audit : IfSome (audit_cause fault) (λ cause. IsSomeAnd given (λ sites. IsFound sites workload cause))
-
-abbrev pub process_status : Result (Unit {0}) ProcessFault → ℕ
-process_status (Ok _) = 0
-process_status (Err fault) = 3
-
--- the node ended with this status, and what was then read and written is what such an end reads and writes
-abbrev pub Serves : Node → ℕ → Option (List ℕ) → Option (List ℕ) → Option (List ℕ) → Option (List ℕ) → Type 0
-Serves node status remaining left old new =
-    (end : Result (Unit {0}) ProcessFault) × (status ≡ process_status end) × Served node remaining left old new end
-
--- the node that is given did so; or memory was refused while the words were read, and nothing else was read, and nothing was written
-abbrev pub IsServed : Option Node → ℕ → Option (List ℕ) → Option (List ℕ) → Option (List ℕ) → Option (List ℕ) → Type 0
-IsServed given status remaining left old new =
-    ((status ≡ 3) × Keeps remaining left × Keeps old new) ⊎ IsSomeAnd given (λ node. Serves node status remaining left old new)
+  pub input : IfSome (input_cause fault) (IsWrongBy sites workload)
+  pub right : is_after_reading fault ≡ true → IsRight sites workload
+  pub audit : IfSome (audit_cause fault) (IsFound sites workload)

@@ -1,5 +1,5 @@
 -- What the words ask for, as clap reads them, and what is wrong with them.
-use Rattle.std.specs.Prelude.{◌≡◌, ◌≤◌, ◌==◌, ◌&&◌, ℕ, Bool, true, false, not, if◌then◌else◌, List, [], ◌∷◌, length, drop, slice_index, nat_lt, Option, Some, None, codes, option_and_then, option_map}
+use Rattle.std.specs.Prelude.{⊤, ◌≡◌, ◌≤◌, ◌<◌, ◌==◌, ◌&&◌, ℕ, Bool, true, false, not, if◌then◌else◌, List, [], ◌∷◌, length, drop, map, slice_index, nat_lt, IsSomeAnd, Option, Some, None, codes, option_and_then, option_map}
 use Rattle.std.specs.List.{list_all, list_any}
 use Rattle.std.specs.Char.{is_ascii_digit}
 use Rattle.std.specs.Option.{option_map_or}
@@ -11,10 +11,9 @@ use Rattle.clap.specs.Kinds.{or_else}
 use Rattle.clap.specs.declared.error.kind.ErrorKind.TheVariants.{UnknownArgument, ValueValidation}
 use Rattle.shm_place.specs.Limits.{pages as most_pages}
 use Rattle.shm_place.specs.declared.page.PageId.{PageId}
-use Rattle.shm_process.specs.Node.{Node, new_node}
 use Rattle.shmdbg.specs.Commands.{app}
 use Rattle.shmdbg.specs.declared.words.task.Task.{Task}
-use Rattle.shmdbg.specs.declared.words.task.Task.TheVariants.{Replay, Run, Prompt, Draw, Site}
+use Rattle.shmdbg.specs.declared.words.task.Task.TheVariants.{Replay, Run, Prompt, Draw, Site, Audit}
 
 -- the name of the subcommand that the words ask for, where the program takes them; the first word is the program's name
 abbrev pub asked_for : List Text → Option Text
@@ -26,7 +25,8 @@ name_of Replay = codes "replay"
 name_of (Run sites seed summary log) = codes "run"
 name_of Prompt = codes "prompt"
 name_of (Draw page) = codes "draw"
-name_of (Site sites me pages) = codes "site"
+name_of (Site sites me pages journal) = codes "site"
+name_of (Audit sites journals) = codes "audit"
 
 -- ---- what is given for an option
 
@@ -55,39 +55,13 @@ page_named _ = None
 abbrev pub page_at : List Row → Option PageId
 page_at rows = option_and_then page_named (all_of (codes "page") rows)
 
-abbrev pub rows_in : Option (Text × List Row) → List Row
-rows_in None = []
-rows_in (Some named) = named.1
-
--- what stands behind the subcommand, where the program takes the words
-abbrev pub rows_given : List Text → List Row
-rows_given words = rows_in (subcommand_of app words)
-
-abbrev pub number_given : List Text → Text → Option ℕ
-number_given words option = number_at option (rows_given words)
-
-abbrev pub sites_given : List Text → Option ℕ
-sites_given words = number_given words (codes "sites")
-
-abbrev pub me_given : List Text → Option ℕ
-me_given words = number_given words (codes "me")
-
-abbrev pub pages_given : List Text → Option ℕ
-pages_given words = number_given words (codes "preset")
-
--- the node that a process of these words begins with
-abbrev pub node_given : List Text → Option Node
-node_given words = option_and_then (λ sites. option_and_then (λ me. option_map (new_node sites me) (pages_given words)) (me_given words)) (sites_given words)
-
-abbrev pub page_given : List Text → Option PageId
-page_given words = page_at (rows_given words)
-
 -- an option that has no value is there
 abbrev pub is_set_at : Text → List Row → Bool
 is_set_at option rows = option_map_or (λ text. bytes_eq text (codes "true")) (first_of option rows) false
 
-abbrev pub summary_given : List Text → Bool
-summary_given words = is_set_at (codes "summary") (rows_given words)
+-- segment 0 may have so many pages
+abbrev pub HasPages : ℕ → Type 0
+HasPages pages = (1 ≤ pages) × (pages ≤ most_pages)
 
 -- the task has what is written for its options
 abbrev pub HasOptions : List Row → Task → Type 0
@@ -97,14 +71,20 @@ HasOptions rows (Run sites seed summary log) =
     × (first_of (codes "log") rows ≡ option_map (λ folder. folder.now) log)
 HasOptions rows Prompt = Unit {0}
 HasOptions rows (Draw page) = page ≡ page_at rows
-HasOptions rows (Site sites me pages) =
+HasOptions rows (Site sites me pages journal) =
     (number_at (codes "sites") rows ≡ Some sites) × (number_at (codes "me") rows ≡ Some me) × (number_at (codes "preset") rows ≡ Some pages)
-    × (1 ≤ pages) × (pages ≤ most_pages)
+    × HasPages pages × (first_of (codes "journal") rows ≡ option_map (λ file. file.now) journal)
+HasOptions rows (Audit sites journals) =
+    (number_at (codes "sites") rows ≡ Some sites) × (all_of (codes "journals") rows ≡ Some (map (λ file. file.now) journals.items))
 
 -- a subcommand's name, and what stands behind it, ask for the task
 pub record IsAsked (name : Text) (rows : List Row) (task : Task) : Type 0 where
   pub called : name ≡ name_of task
   pub options : HasOptions rows task
+
+-- the words ask for the task, where the program takes them
+abbrev pub AskFor : List Text → Task → Type 0
+AskFor words task = IsSomeAnd (subcommand_of app words) (λ named. IsAsked named.0 named.1 task)
 
 -- ---- what is wrong with the words
 
@@ -123,8 +103,13 @@ has_plain_numbers words = has_plain_rows (option_map (λ named. named.1) (subcom
 
 -- The site that a process is to be is one of those that there are; of other tasks this isn't asked.
 abbrev pub is_among : Task → Bool
-is_among (Site sites me pages) = nat_lt me sites
+is_among (Site sites me pages journal) = nat_lt me sites
 is_among _ = true
+
+-- the same, and segment 0 may have so many pages
+abbrev pub IsOneOfSites : Task → Type 0
+IsOneOfSites (Site sites me pages journal) = (me < sites) × HasPages pages
+IsOneOfSites _ = ⊤
 
 -- so of what is written for the options
 abbrev pub is_below_at : List Row → Bool

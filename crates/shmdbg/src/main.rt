@@ -1,15 +1,22 @@
-//! `shmdbg`: the command line of the debugger: a script is replayed, what is typed is answered, a workload is run on sites in threads.
+//! `shmdbg`: the command line of the debugger: a script is replayed or drawn, what is typed is answered, a workload is run on sites in
+//! threads, a site is a process, journals are audited.
 #![tactic(auto)]
 
+mod auditing;
 mod disk;
+mod journals;
+mod keeping;
 mod logging;
 mod program;
 mod reporting;
+mod serving;
 mod showing;
+mod site_fault;
 mod source;
 mod tell;
 #[cfg(test)]
 mod tests;
+mod unaudited;
 mod words;
 
 use program::run_words;

@@ -1,19 +1,25 @@
-ghost use Rattle.std.specs.Prelude.{◌≡◌, ◌≢◌, ◌≤◌, ◌<◌, ◌⊎◌, ℕ, List, [], ◌∷◌, codes, map, IfSome, Some};
+ghost use Rattle.std.specs.Prelude.{◌≡◌, ◌≢◌, ◌≤◌, ◌<◌, ◌⊎◌, ℕ, List, [], ◌∷◌, codes, is_some, map, true, IfSome};
 ghost use Rattle.shm_debug.specs.Script.{script_of};
-ghost use Rattle.shm_process.specs.Node.{new_node};
-ghost use Rattle.shmdbg.specs.Words.{node_given, page_given, sites_given, summary_given};
-ghost use Rattle.shmdbg.specs.Status.{Asks, Fails, IsServed, Pictures, Replays, Reports, Serves, Takes};
+ghost use Rattle.shmdbg.specs.Around.{streams};
+ghost use Rattle.shmdbg.specs.Begun.{header_at};
+ghost use Rattle.shmdbg.specs.Done.{Does, IsDone, has_audit};
+ghost use Rattle.shmdbg.specs.Served.{site_status, IsSite};
+ghost use Rattle.shmdbg.specs.Status.{AsksForAudit, Fails, Pictures, Replays, Reports, Takes};
+ghost use Rattle.shmdbg.specs.Words.{IsOneOfSites};
 
+use crate::auditing::audit;
 use crate::disk::Disk;
+use crate::keeping::Lock;
 use crate::reporting::{Wanted, tell_run};
+use crate::serving::{be_kept_site, be_site};
 use crate::showing::{script_fault, workload_fault};
+use crate::site_fault::SiteFault;
 use crate::source::Recalls;
 use crate::tell;
 use crate::words::{Task, parse_words};
 use shm_debug::replay;
 use shm_draw::draw;
 use shm_place::{PAGES, PageId, SiteId, Sites};
-use shm_process::{Node, ProcessFault, serve};
 use shm_prompt::prompt;
 use std::convert::AsStr;
 use std::io::{Read, Write};
@@ -22,9 +28,9 @@ use std::sync::Wait;
 use std::thread::Threads;
 
 /// Does what the words ask for, and answers the exit status: 0 done, 1 the script has a fault, 2 the words were refused,
-/// 3 memory, reading or writing failed, or a site's clock ended, or there was no thread, or a box was another site's, 4 a run was not
-/// what an audit accepts, or gave up. At 2 the parser's text goes to `errors`, at 1, 3 and 4 one line; below it stands a wrong line that
-/// the reader recalls.
+/// 3 memory, reading or writing failed, or a site's clock ended, or there was no thread, or a box was another site's, or another process
+/// has the journal, 4 a run gave up, or an audit found a cause. At 2 the parser's text goes to `errors`, at 1, 3 and 4 one line; below it
+/// stands a wrong line that the reader recalls. A journal that is none, or another's, counts as a script with a fault.
 pub fn run_words<
     R: AllocGlobal + Clock + Files + Threads + Wait + Copy + Send + Sync + 'static,
     S: AsStr,
@@ -32,48 +38,77 @@ pub fn run_words<
     O: Write,
     E: Write,
 >(rt: &R, words: &[S], reader: &mut I, out: &mut O, errors: &mut E) -> u8
+where
+    R::File: Lock,
     ensures range { result < 5 }
     ensures asked { result < 2 → Takes (map S.text words.now) }
     ensures taken { Takes (map S.text words.now) → result ≢ 2 }
     ensures plain { (name : List ℕ) → map S.text words.now ≡ name ∷ codes "replay" ∷ [] → result ≢ 2 }
-    ensures replayed { Asks (codes "replay") (map S.text words.now) → IfSome (I.remaining reader.old) (λ bytes.
-        Replays (script_of bytes) result (O.contents out.old) (O.contents out.new)) }
-    ensures reported { Asks (codes "run") (map S.text words.now) → result ≡ 0 →
-        Reports (sites_given (map S.text words.now)) (summary_given (map S.text words.now)) (I.remaining reader.old) (O.contents out.old) (O.contents out.new) }
-    ensures failed { Asks (codes "run") (map S.text words.now) → result ≢ 0 →
-        Fails (sites_given (map S.text words.now)) (I.remaining reader.old) result }
-    ensures prompted { Asks (codes "prompt") (map S.text words.now) → (result ≡ 0) ⊎ (result ≡ 3) }
-    ensures drawn { Asks (codes "draw") (map S.text words.now) → IfSome (I.remaining reader.old) (λ bytes.
-        Pictures (page_given (map S.text words.now)) (script_of bytes) result (O.contents out.old) (O.contents out.new)) }
-    ensures ended { Asks (codes "site") (map S.text words.now) → (result ≡ 0) ⊎ (result ≡ 3) }
-    ensures served { Asks (codes "site") (map S.text words.now) →
-        IsServed (node_given (map S.text words.now)) result (I.remaining reader.old) (I.remaining reader.new) (O.contents out.old) (O.contents out.new) }
-    ensures audit { result ≡ 4 → Asks (codes "run") (map S.text words.now) }
-    ensures quiet { Asks (codes "run") (map S.text words.now) → (result ≡ 1) ⊎ (result ≡ 4) → out.new ≡ out.old }
+    ensures done { Takes (map S.text words.now) → IsDone (map S.text words.now) result
+        (streams (I.remaining reader.old) (O.contents out.old)) (streams (I.remaining reader.new) (O.contents out.new)) }
+    ensures audit { result ≡ 4 → AsksForAudit (map S.text words.now) }
+    ensures quiet { AsksForAudit (map S.text words.now) → (result ≡ 1) ⊎ (result ≡ 4) → out.new ≡ out.old }
     ensures refused { ¬ Takes (map S.text words.now) → (reader.new ≡ reader.old) × (out.new ≡ out.old) }
     ensures nothing_read { result ≡ 2 → reader.new ≡ reader.old }
     ensures nothing_written { result ≡ 2 → out.new ≡ out.old }
 {
     match parse_words(rt.alloc(), words) {
-        Ok(task) => match task {
-            Task::Replay => {}
-            Task::Run {
-                sites,
-                seed,
-                summary,
-                log,
-            } => {
-                let wanted = Wanted { summary, log };
-                return run(rt, sites, seed, &wanted, reader, out, errors);
-            }
-            Task::Prompt => return talk(rt, reader, out, errors),
-            Task::Draw { page } => return picture(rt, page, reader, out, errors),
-            Task::Site { sites, me, pages } => {
-                return site(rt, sites, me, pages, reader, out, errors);
-            }
-        },
-        Err(error) => return tell::refused_words(&error, errors),
+        Ok(task) => carry_out(rt, task, reader, out, errors),
+        Err(error) => tell::refused_words(&error, errors),
     }
+}
+
+/// Does this task, and answers the exit status.
+fn carry_out<
+    R: AllocGlobal + Clock + Files + Threads + Wait + Copy + Send + Sync + 'static,
+    I: Read + Recalls,
+    O: Write,
+    E: Write,
+>(rt: &R, task: Task<'_>, reader: &mut I, out: &mut O, errors: &mut E) -> u8
+where
+    R::File: Lock,
+    requires among { IsOneOfSites task }
+    ensures range { result < 5 }
+    ensures taken { result ≢ 2 }
+    ensures done { Does task.entry result (streams (I.remaining reader.old) (O.contents out.old)) (streams (I.remaining reader.new) (O.contents out.new)) }
+    ensures audit { result ≡ 4 → has_audit task.entry ≡ true }
+    ensures quiet { has_audit task.entry ≡ true → (result ≡ 1) ⊎ (result ≡ 4) → out.new ≡ out.old }
+{
+    match task {
+        Task::Replay => replay_script(rt, reader, out, errors),
+        Task::Run {
+            sites,
+            seed,
+            summary,
+            log,
+        } => {
+            let wanted = Wanted { summary, log };
+            run(rt, sites, seed, &wanted, reader, out, errors)
+        }
+        Task::Prompt => talk(rt, reader, out, errors),
+        Task::Draw { page } => picture(rt, page, reader, out, errors),
+        Task::Site {
+            sites,
+            me,
+            pages,
+            journal,
+        } => site(rt, sites, me, pages, journal, reader, out, errors),
+        Task::Audit { sites, journals } => audit(rt, sites, journals.as_slice(), out, errors),
+    }
+}
+
+/// Replays a script, and answers the exit status.
+fn replay_script<R: AllocGlobal, I: Read + Recalls, O: Write, E: Write>(
+    rt: &R,
+    reader: &mut I,
+    out: &mut O,
+    errors: &mut E,
+) -> u8
+    ensures range { result < 4 }
+    ensures taken { result ≢ 2 }
+    ensures replayed { IfSome (I.remaining reader.old) (λ bytes.
+        Replays (script_of bytes) result (O.contents out.old) (O.contents out.new)) }
+{
     match replay(rt.alloc(), reader, out) {
         Ok(_) => 0,
         Err(fault) => script_fault(fault, reader, errors),
@@ -115,27 +150,45 @@ fn talk<R: AllocGlobal + Files, I: Read, O: Write, E: Write>(
 }
 
 /// Is a site as a process until its lines end, and answers the exit status.
-fn site<R: AllocGlobal, I: Read, O: Write, E: Write>(
+fn site<R: AllocGlobal + Files, I: Read, O: Write, E: Write>(
     rt: &R,
     sites: Sites,
     me: SiteId,
     pages: u32,
+    journal: Option<&str>,
     reader: &mut I,
     out: &mut O,
     errors: &mut E,
 ) -> u8
+where
+    R::File: Lock,
     requires below { me < sites }
     requires from { 1 ≤ pages }
     requires to { pages ≤ PAGES }
-    ensures ended { (result ≡ 0) ⊎ (result ≡ 3) }
-    ensures served { Serves (new_node sites me pages) result (I.remaining reader.old) (I.remaining reader.new) (O.contents out.old) (O.contents out.new) }
+    ensures range { result < 4 }
+    ensures taken { result ≢ 2 }
+    ensures served { IsSite (is_some journal.entry) (header_at sites me pages) result
+        (streams (I.remaining reader.old) (O.contents out.old)) (streams (I.remaining reader.new) (O.contents out.new)) }
 {
-    let Ok(node) = Node::new(rt.alloc(), sites, me, pages) else {
-        return tell::process_fault(ProcessFault::OutOfMemory, errors);
-    };
-    match serve(rt.alloc(), node, reader, out) {
+    match journal {
+        Some(name) => {
+            let ended = be_kept_site(rt, sites, me, pages, name, reader, out);
+            tell_end(ended, errors)
+        }
+        None => {
+            let ended = be_site(rt, sites, me, pages, reader, out);
+            tell_end(ended, errors)
+        }
+    }
+}
+
+/// The exit status of a site's process that ended so; a fault is told.
+fn tell_end<E: Write>(ended: Result<(), SiteFault>, errors: &mut E) -> u8
+    ensures { result ≡ site_status ended }
+{
+    match ended {
         Ok(()) => 0,
-        Err(fault) => tell::process_fault(fault, errors),
+        Err(fault) => tell::site_fault(fault, errors),
     }
 }
 
@@ -157,8 +210,8 @@ fn run<
     ensures range { result < 5 }
     ensures taken { result ≢ 2 }
     ensures reported { result ≡ 0 →
-        Reports (Some sites) wanted.now.summary (I.remaining reader.old) (O.contents out.old) (O.contents out.new) }
-    ensures failed { result ≢ 0 → Fails (Some sites) (I.remaining reader.old) result }
+        Reports sites wanted.now.summary (I.remaining reader.old) (O.contents out.old) (O.contents out.new) }
+    ensures failed { result ≢ 0 → Fails sites (I.remaining reader.old) result }
     ensures quiet { (result ≡ 1) ⊎ (result ≡ 4) → out.new ≡ out.old }
 {
     match tell_run(rt, sites, seed, wanted, reader, out) {

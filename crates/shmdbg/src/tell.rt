@@ -1,15 +1,22 @@
-ghost use Rattle.std.specs.Prelude.{◌≡◌, ◌≢◌, ◌⊎◌};
+ghost use Rattle.std.specs.Prelude.{◌≡◌, ◌≢◌, ◌⊎◌, Err};
 ghost use Rattle.std.specs.IoError.{error_kind};
 ghost use Rattle.std.specs.declared.io.ErrorKind.TheVariants as io_kind;
 ghost use Rattle.clap.specs.Words.{kind_of};
 ghost use Rattle.clap.specs.declared.error.kind.ErrorKind.TheVariants as kind;
+ghost use Rattle.shmdbg.specs.Audited.{unaudited_status};
+ghost use Rattle.shmdbg.specs.Served.{site_status};
 ghost use Rattle.shmdbg.specs.Status.{fault_status, run_status};
 
+use crate::site_fault::SiteFault;
+use crate::unaudited::Unaudited;
 use clap::error::ErrorKind;
+use shm_audit::{JournalFault, JournalsFault};
 use shm_debug::DebugFault;
-use shm_process::ProcessFault;
+use shm_journal::RecoveryFault;
+use shm_place::SiteId;
 use shm_prompt::PromptFault;
 use shm_report::ReportFault;
+use shm_sites::AuditFault;
 use std::io::{self, Write};
 
 /// The exit status where a replay ended by this fault. Its one line goes to `errors`; a failure to write it is passed over.
@@ -32,11 +39,92 @@ pub fn prompt_fault<E: Write>(fault: PromptFault, errors: &mut E) -> u8
 }
 
 /// The exit status where a site's process ended by this fault. Its one line goes to `errors`.
-pub fn process_fault<E: Write>(fault: ProcessFault, errors: &mut E) -> u8
-    ensures { result ≡ 3 }
+pub fn site_fault<E: Write>(fault: SiteFault, errors: &mut E) -> u8
+    ensures { result ≡ site_status (Err fault) }
 {
     let _ = writeln!(errors, "shmdbg: {fault}");
-    3
+    match fault {
+        SiteFault::Unrecovered(RecoveryFault::Foreign | RecoveryFault::BadLine(_)) => 1,
+        _ => 3,
+    }
+}
+
+/// The exit status where journals of these names weren't accepted. Its one line goes to `errors`: with the journal and the line, where there
+/// is one.
+pub fn unaudited<E: Write>(fault: Unaudited, journals: &[&str], errors: &mut E) -> u8
+    ensures { result ≡ unaudited_status fault }
+{
+    let status = status_of(&fault);
+    let _ = write_unaudited(fault, journals, errors);
+    status
+}
+
+fn status_of(fault: &Unaudited) -> u8
+    ensures { result ≡ unaudited_status fault.now }
+{
+    match fault {
+        Unaudited::OutOfMemory | Unaudited::WriteFault | Unaudited::Unopened { .. } => 3,
+        Unaudited::Unread { at: _, fault } => match fault {
+            JournalFault::BadLine(_) => 1,
+            JournalFault::OutOfMemory | JournalFault::ReadFault => 3,
+        },
+        Unaudited::Unaccepted(fault) => match fault {
+            JournalsFault::NotOneSet => 1,
+            JournalsFault::Audit(_) => 4,
+            JournalsFault::OutOfMemory => 3,
+        },
+    }
+}
+
+fn write_unaudited<E: Write>(
+    fault: Unaudited,
+    journals: &[&str],
+    errors: &mut E,
+) -> io::Result<()> {
+    match fault {
+        Unaudited::OutOfMemory => writeln!(errors, "shmdbg: out of memory"),
+        Unaudited::WriteFault => writeln!(errors, "shmdbg: write fault"),
+        Unaudited::Unopened { at } => {
+            let name = name_of(journals, at);
+            writeln!(errors, "shmdbg: {name}: it can't be opened")
+        }
+        Unaudited::Unread { at, fault } => {
+            let name = name_of(journals, at);
+            writeln!(errors, "shmdbg: {name}: {fault}")
+        }
+        Unaudited::Unaccepted(JournalsFault::Audit(cause)) => {
+            write_cause(cause, journals, errors)
+        }
+        Unaudited::Unaccepted(fault) => writeln!(errors, "shmdbg: {fault}"),
+    }
+}
+
+/// The cause, and the line of the journal where it stands: the first line is the header.
+fn write_cause<E: Write>(cause: AuditFault, journals: &[&str], errors: &mut E) -> io::Result<()> {
+    let Some((site, index)) = step_of(cause) else {
+        return writeln!(errors, "shmdbg: audit no: {cause}");
+    };
+    let name = name_of(journals, site.0 as usize);
+    let line = index.saturating_add(2);
+    writeln!(errors, "shmdbg: audit no: {cause}: {name}: line {line}")
+}
+
+/// The site and the index of the step with which a cause was found.
+fn step_of(cause: AuditFault) -> Option<(SiteId, usize)> {
+    match cause {
+        AuditFault::Unsent { site, index }
+        | AuditFault::StampOrder { site, index }
+        | AuditFault::Forged { site, index }
+        | AuditFault::Untold { site, index } => Some((site, index)),
+        AuditFault::OutOfMemory => None,
+    }
+}
+
+fn name_of<'a>(journals: &[&'a str], at: usize) -> &'a str {
+    match journals.get(at) {
+        Some(name) => name,
+        None => "journal",
+    }
 }
 
 /// The exit status where the words were not taken, which may be for want of memory.

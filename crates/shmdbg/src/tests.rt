@@ -1,4 +1,5 @@
 mod failed_runs;
+mod journals;
 mod logs;
 mod prompts;
 mod rows;
@@ -7,6 +8,7 @@ mod sites;
 mod streams;
 mod words;
 
+use crate::keeping::Lock;
 use crate::program::run_words;
 use crate::source::Recalls;
 use std::io::Read;
@@ -33,7 +35,10 @@ struct Ran {
 fn run_over<
     R: AllocGlobal + Clock + Files + Threads + Wait + Copy + Send + Sync + 'static,
     I: Read + Recalls,
->(rt: &R, words: &[&str], reader: &mut I) -> Ran {
+>(rt: &R, words: &[&str], reader: &mut I) -> Ran
+where
+    R::File: Lock,
+{
     let mut out = Vec::new(rt.alloc());
     let mut errors = Vec::new(rt.alloc());
     let status = run_words(rt, words, reader, &mut out, &mut errors);
@@ -48,7 +53,10 @@ fn run_over<
 fn replay_bytes<R: AllocGlobal + Clock + Files + Threads + Wait + Copy + Send + Sync + 'static>(
     rt: &R,
     script: &[u8],
-) -> Ran {
+) -> Ran
+where
+    R::File: Lock,
+{
     let mut reader = script;
     run_over(rt, &["shmdbg", "replay"], &mut reader)
 }

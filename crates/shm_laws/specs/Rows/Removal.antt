@@ -158,9 +158,9 @@ purge_resent =
     ∷ show 0 0 (gone ∷ []) no_book
     ∷ []
 
--- a purge takes the segment's entries, books and requests, and the rest stays
-abbrev pub purge_of_one_segment : List Line
-purge_of_one_segment =
+-- three segments at site 0, each attached at site 1, which asks to read the first; and these lines
+abbrev pub three_segments_and : List Line → List Line
+three_segments_and lines =
     get 0 0 0 0 1 0o666 0 ▸ began 1 ⟫ to 0 call
     ∷ deliver 0 ▸ took ⟫ to 0 reply
     ∷ deliver 1 ▸ replied 1 (id 0)
@@ -180,7 +180,13 @@ purge_of_one_segment =
     ∷ deliver 10 ▸ took ⟫ to 1 reply
     ∷ deliver 11 ▸ attached 3 2 1 rw
     ∷ load 1 0 0 ▸ fault ⟫ to 0 ask
-    ∷ load 1 1 0 ▸ fault ⟫ to 0 ask
+    ∷ lines
+
+-- a purge takes the segment's entries, books and requests, and the rest stays
+abbrev pub purge_of_one_segment : List Line
+purge_of_one_segment =
+    three_segments_and (
+    load 1 1 0 ▸ fault ⟫ to 0 ask
     ∷ load 1 2 0 ▸ fault ⟫ to 0 ask
     ∷ repeat 12 ▸ took ⟫ to 0 hand
     ∷ repeat 13 ▸ took ⟫ to 0 hand
@@ -210,30 +216,13 @@ purge_of_one_segment =
     ∷ tick 0 ▸ took ⟫ to 0 hand & to 0 hand & to 0 call & to 0 purge & to 1 purge
     ∷ show 0 0 (gone ∷ gone ∷ []) no_book
     ∷ []
+    )
 
 -- the books of other segments keep their order
 abbrev pub books_after_a_purge : List Line
 books_after_a_purge =
-    get 0 0 0 0 1 0o666 0 ▸ began 1 ⟫ to 0 call
-    ∷ deliver 0 ▸ took ⟫ to 0 reply
-    ∷ deliver 1 ▸ replied 1 (id 0)
-    ∷ get 0 0 0 2 1 0o666 creat ▸ began 2 ⟫ to 0 call
-    ∷ deliver 2 ▸ took ⟫ to 0 reply
-    ∷ deliver 3 ▸ replied 2 (id 2)
-    ∷ get 0 0 0 4 1 0o666 creat ▸ began 3 ⟫ to 0 call
-    ∷ deliver 4 ▸ took ⟫ to 0 reply
-    ∷ deliver 5 ▸ replied 3 (id 4)
-    ∷ attach 1 0 0 0 rw ▸ began 1 ⟫ to 0 call
-    ∷ deliver 6 ▸ took ⟫ to 1 reply
-    ∷ deliver 7 ▸ attached 1 0 1 rw
-    ∷ attach 1 0 0 2 rw ▸ began 2 ⟫ to 0 call
-    ∷ deliver 8 ▸ took ⟫ to 1 reply
-    ∷ deliver 9 ▸ attached 2 1 1 rw
-    ∷ attach 1 0 0 4 rw ▸ began 3 ⟫ to 0 call
-    ∷ deliver 10 ▸ took ⟫ to 1 reply
-    ∷ deliver 11 ▸ attached 3 2 1 rw
-    ∷ load 1 0 0 ▸ fault ⟫ to 0 ask
-    ∷ repeat 12 ▸ took ⟫ to 0 hand
+    three_segments_and (
+    repeat 12 ▸ took ⟫ to 0 hand
     ∷ store 1 2 0 1 ▸ fault ⟫ to 0 ask
     ∷ restart 1 ▸ took
     ∷ load 1 2 0 ▸ fault ⟫ to 0 ask
@@ -253,3 +242,4 @@ books_after_a_purge =
     ∷ deliver 29 ▸ took ⟫ to 0 purged
     ∷ tick 0 ▸ took ⟫ to 1 hand & to 0 hand & to 0 purge & to 1 purge
     ∷ []
+    )

@@ -1,4 +1,5 @@
 use super::{Ran, expect, run_over};
+use crate::keeping::Lock;
 use std::rt::{Clock, Files};
 use std::sync::Wait;
 use std::test::Fail;
@@ -8,7 +9,10 @@ use std::thread::Threads;
 fn run_bytes<R: AllocGlobal + Clock + Files + Threads + Wait + Copy + Send + Sync + 'static>(
     rt: &R,
     workload: &[u8],
-) -> Ran {
+) -> Ran
+where
+    R::File: Lock,
+{
     let mut reader = workload;
     let words = ["shmdbg", "run", "--sites", "1", "--seed", "4294967295"];
     run_over(rt, &words, &mut reader)

@@ -116,17 +116,44 @@ fn refused_words(rt: HostRuntime) {
 /// What a site's options say, in any order.
 #[test]
 fn numbers_of_a_site(rt: HostRuntime) -> Result<(), Fail> {
-    let cases: [([&str; 3], u32, u32, u32); 3] = [
-        (["--sites=16", "--me=15", "--preset=256"], 16, 15, 256),
-        (["--preset=1", "--sites=1", "--me=0"], 1, 0, 1),
-        (["--me=2", "--preset=4", "--sites=3"], 3, 2, 4),
+    let cases: [(&[&str], u32, u32, u32, Option<&str>); 5] = [
+        (
+            &["--sites=16", "--me=15", "--preset=256"],
+            16,
+            15,
+            256,
+            None,
+        ),
+        (&["--preset=1", "--sites=1", "--me=0"], 1, 0, 1, None),
+        (&["--me=2", "--preset=4", "--sites=3"], 3, 2, 4, None),
+        (
+            &["--journal", "a b", "--sites=2", "--me=1", "--preset=1"],
+            2,
+            1,
+            1,
+            Some("a b"),
+        ),
+        (
+            &["--sites=2", "--me=1", "--preset=1", "--journal=1"],
+            2,
+            1,
+            1,
+            Some("1"),
+        ),
     ];
-    for ([first, second, third], of_sites, me, pages) in cases {
-        let words = ["shmdbg", "site", first, second, third];
-        let task = parse_words(rt.alloc(), &words)?;
+    for (options, of_sites, me, pages, journal) in cases {
+        let mut words = vec![in rt.alloc(); "shmdbg", "site"]?;
+        words.extend_from_slice(options)?;
+        let task = parse_words(rt.alloc(), words.as_slice())?;
         let sites = Sites::new(of_sites)?;
         let me = SiteId(me);
-        assert_eq!(rt; task, Task::Site { sites, me, pages });
+        let asked = Task::Site {
+            sites,
+            me,
+            pages,
+            journal,
+        };
+        assert_eq!(rt; task, asked);
     }
     Ok(())
 }

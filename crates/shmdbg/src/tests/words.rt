@@ -86,6 +86,84 @@ fn numbers_of_a_run(rt: HostRuntime) -> Result<(), Fail> {
     Ok(())
 }
 
+/// Seventeen files of journals.
+const SEVENTEEN: [&str; 17] = [
+    "a", "b", "c", "d", "e", "f", "g", "h", "i", "j", "k", "l", "m", "n", "o", "p", "q",
+];
+
+/// Words of an audit that are refused, and what the parser's text begins with; nothing is read and nothing is written.
+#[test]
+fn refused_audits(rt: HostRuntime) -> Result<(), Fail> {
+    let missing = b"error: the following required arguments".as_slice();
+    let cases: [(&[&str], &[&str], &[u8]); 6] = [
+        (&["--sites", "2"], &[], missing),
+        (&[], &SEVENTEEN[..2], missing),
+        (
+            &["--sites", "0"],
+            &SEVENTEEN[..2],
+            b"error: invalid value '0' for '--sites <N>'",
+        ),
+        (
+            &["--sites", "02"],
+            &SEVENTEEN[..2],
+            b"error: invalid value '02' for '--sites': ",
+        ),
+        (
+            &["--sites", "16"],
+            &SEVENTEEN,
+            b"error: unexpected value 'q' for '<JOURNAL>...' found",
+        ),
+        (
+            &["a", "--sites", "2"],
+            &SEVENTEEN[1..2],
+            b"error: the argument '<JOURNAL>...' cannot be used multiple times",
+        ),
+    ];
+    for (options, journals, text) in cases {
+        let mut words = vec![in rt.alloc(); "shmdbg", "audit"]?;
+        words.extend_from_slice(options)?;
+        words.extend_from_slice(journals)?;
+        let mut reader = b"".as_slice();
+        let ran = run_over(&rt, words.as_slice(), &mut reader);
+        assert_eq!(rt; ran.status, 2);
+        assert!(rt; ran.errors.as_slice().starts_with(text), "{text:?}");
+        assert_eq!(rt; ran.out.as_slice(), b"".as_slice());
+    }
+    Ok(())
+}
+
+/// The number of sites and the journals of an audit that is asked for.
+fn audit_of(task: Task<'_>) -> Result<(Sites, Vec<&str>), Fail> {
+    match task {
+        Task::Audit { sites, journals } => Ok((sites, journals)),
+        _ => Err(Fail::new("an audit is asked for")),
+    }
+}
+
+/// What an audit's words say: the journals in the order in which they stand, before or behind the number of sites.
+#[test]
+fn journals_of_an_audit(rt: HostRuntime) -> Result<(), Fail> {
+    let cases: [(&[&str], u32, &[&str]); 4] = [
+        (&["--sites", "1", "a"], 1, &["a"]),
+        (&["b", "a b", "--sites=2"], 2, &["b", "a b"]),
+        (&["--sites=2", "--", "-b", "--sites"], 2, &["-b", "--sites"]),
+        (&["--sites=16", "b", "a", "b"], 16, &["b", "a", "b"]),
+    ];
+    for (options, of_sites, named) in cases {
+        let mut words = vec![in rt.alloc(); "shmdbg", "audit"]?;
+        words.extend_from_slice(options)?;
+        let (sites, journals) = audit_of(parse_words(rt.alloc(), words.as_slice())?)?;
+        assert_eq!(rt; sites.count(), of_sites);
+        assert_eq!(rt; journals.as_slice(), named);
+    }
+    let mut words = vec![in rt.alloc(); "shmdbg", "audit", "--sites=16"]?;
+    words.extend_from_slice(&SEVENTEEN[..16])?;
+    let (sites, journals) = audit_of(parse_words(rt.alloc(), words.as_slice())?)?;
+    assert_eq!(rt; sites.count(), 16);
+    assert_eq!(rt; journals.as_slice(), &SEVENTEEN[..16]);
+    Ok(())
+}
+
 /// Numbers that clap would take, and that aren't spelled plainly: refused as other words are.
 #[test]
 fn numbers_spelled_otherwise(rt: HostRuntime) {

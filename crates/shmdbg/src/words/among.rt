@@ -30,6 +30,7 @@ fn is_among(task: &Task<'_>) -> bool
             sites,
             me,
             pages: _,
+            journal: _,
         } => me.0 < sites.count(),
         _ => true,
     }
@@ -53,6 +54,7 @@ fn numbers_of(task: &Task<'_>) -> (u32, u32) {
             sites,
             me,
             pages: _,
+            journal: _,
         } => (me.0, sites.count()),
         _ => (0, 0),
     }

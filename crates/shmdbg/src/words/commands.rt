@@ -20,7 +20,8 @@ pub(crate) fn command<'a>(alloc: Global) -> Result<Command<'a>, AllocError>
         .subcommand(run_command(alloc)?)?
         .subcommand(prompt_command(alloc))?
         .subcommand(draw_command(alloc)?)?
-        .subcommand(site_command(alloc)?)
+        .subcommand(site_command(alloc)?)?
+        .subcommand(audit_command(alloc)?)
 }
 
 /// The program without its subcommands.
@@ -84,7 +85,19 @@ fn site_command<'a>(alloc: Global) -> Result<Command<'a>, AllocError>
         .after_help(help::SITE)
         .arg(sites_arg(alloc))?
         .arg(me_arg(alloc))?
-        .arg(preset_arg(alloc))
+        .arg(preset_arg(alloc))?
+        .arg(journal_arg(alloc))
+}
+
+fn audit_command<'a>(alloc: Global) -> Result<Command<'a>, AllocError>
+    ensures app { IfOk result (λ c. app_of c ≡ spec.audit_app) }
+    ensures local { IfOk result (λ c. (out-Command c).has_globals ≡ false) }
+{
+    Command::new(alloc, "audit")
+        .about("Audit the journals of all sites of a cluster")
+        .after_help(help::AUDIT)
+        .arg(sites_arg(alloc))?
+        .arg(journals_arg(alloc))
 }
 
 fn sites_arg<'a>(alloc: Global) -> Arg<'a>
@@ -170,4 +183,27 @@ fn log_arg<'a>(alloc: Global) -> Arg<'a>
         .value_name("DIR")
         .help("Leave each site's log in this folder, which exists")
         .action(ArgAction::Set)
+}
+
+fn journal_arg<'a>(alloc: Global) -> Arg<'a>
+    ensures rule { rule_of result ≡ spec.journal_rule }
+    ensures local { result.global ≡ false }
+{
+    Arg::new(alloc, "journal")
+        .long("journal")
+        .value_name("FILE")
+        .help("Keep the site's journal in this file, and begin as it says")
+        .action(ArgAction::Set)
+}
+
+fn journals_arg<'a>(alloc: Global) -> Arg<'a>
+    ensures rule { rule_of result ≡ spec.journals_rule }
+    ensures local { result.global ≡ false }
+{
+    Arg::new(alloc, "journals")
+        .value_name("JOURNAL")
+        .help("The files that have the journals, in the order of the sites")
+        .required(true)
+        .action(ArgAction::Set)
+        .num_args(1..=16)
 }

@@ -6,7 +6,7 @@ pub const VERSION: &str = "1.0.0";
 /// Of the program: what goes in, what comes out, and the exit statuses.
 pub const PROGRAM: &str = "\
 A script says what each site does and which message arrives; `shmdbg replay`
-answers each line of it. Input comes from standard input alone:
+answers each line of it. Input comes from standard input; journals are files:
 
     $ printf 'sites 2 preset 1\\nload 1 0 0\\ndeliver 0\\n' | shmdbg replay
     1 ready
@@ -18,11 +18,13 @@ workload may, and so on for each command.
 
 Exit status:
   0  done
-  1  the script or workload has a fault; standard error tells its line
+  1  the script, workload or journal has a fault; standard error tells its
+     line, if it has one
   2  these words were refused, or asked for help or the version; nothing was
      read
-  3  memory, reading, writing or a thread failed
-  4  a run gave up, or its audit found a cause";
+  3  memory, reading, writing or a thread failed, or another process has the
+     journal
+  4  a run gave up, or an audit found a cause";
 
 /// Of a replay: the lines of a script.
 pub const REPLAY: &str = "\
@@ -95,8 +97,8 @@ Takes the lines on standard input, one by one, and writes what its site tells:
 envelopes for other sites, and answers to callers. All N sites and their callers
 share one stream of lines, which anything may carry, and may lose, repeat and
 reorder: give each site the lines of all. Segment 0 has P pages of 4096 bytes,
-and each site has it attached as attachment 0. N and P are the same at all sites.
-A caller asks site S under a tag T of its own:
+and each site has it attached as attachment 0. N and P are the same at all
+sites. A caller asks site S under a tag T of its own:
   ask S T load 0 OFFSET        told when the site may read the page
   ask S T store 0 OFFSET BYTE  told when it may write to it
   ask S T tick                 send again what isn't answered
@@ -106,11 +108,38 @@ Somebody has to ask each site to tick now and then, as lines may be lost.
     shmdbg site --sites 1 --me 0 --preset 1
   tell 0 a stored
   tell 0 b byte 7
-There is no journal yet: what the site holds ends with its process. A site must
-not be started again in a cluster that goes on, as it would have forgotten what
-it held.
-Exit status: 0 its input ended, 2 these words were refused, 3 memory, reading or
-writing failed.";
+With --journal the site writes each of its steps to FILE before it tells of it;
+started again with the same words, it goes on from there by a restart: loads and
+stores that waited are asked again. FILE is made where there is none, and one
+process alone may have it. Without a journal a site must not be started again in
+a cluster that goes on, as it would have forgotten what it held.
+  $ printf 'ask 0 a store 0 5 7\\n' |
+    shmdbg site --sites 1 --me 0 --preset 1 --journal site-0.journal
+  tell 0 a stored
+  $ printf 'ask 0 b load 0 5\\n' |
+    shmdbg site --sites 1 --me 0 --preset 1 --journal site-0.journal
+  tell 0 b byte 7
+Exit status: 0 its input ended, 1 FILE is another's journal or no journal,
+2 these words were refused, 3 memory, reading or writing failed, or another
+process has FILE.";
+
+/// Of an audit of journals.
+pub const AUDIT: &str = "\
+Reads the journals that all N sites kept, one file for each site, in the order
+of the sites, and audits the steps that they tell of: it finds one order of them
+all in which each load gives the byte that was stored last, or tells a cause why
+there is none. Standard input isn't read. A file whose name begins with a hyphen
+comes after --, behind the options.
+Output: that the audit is yes, and how many steps, loads and stores, and
+envelopes there were:
+  $ shmdbg audit --sites 2 site-0.journal site-1.journal
+  audit yes
+  steps 12
+  accesses 3
+  envelopes 6
+Exit status: 0 the audit is yes, 1 a file is no journal (standard error tells it
+and the line), or they aren't those of one set of sites, 2 these words were
+refused, 3 memory, reading or writing failed, 4 the audit found a cause.";
 
 /// Of the prompt.
 pub const PROMPT: &str = "\

@@ -1,12 +1,13 @@
 //! What is written for a subcommand's options. Words that were taken have those that are required, in range.
 ghost use Rattle.std.specs.Prelude.{◌≡◌, Some, codes, map, IfSome};
-ghost use Rattle.clap.specs.Words.{found_of, rows_of};
+ghost use Rattle.clap.specs.Words.{all_of, found_of, rows_of};
 ghost use Rattle.shmdbg.specs.Words.{is_set_at, number_at, number_of, page_named, IsAsked};
 
 use crate::words::spelling::is_plain_at;
 use crate::words::task::Task;
 use clap::ArgMatches;
 use shm_place::{PAGES, PageId, SegId, SiteId, Sites};
+use std::alloc::Global;
 
 /// A run's options.
 pub(crate) fn run_task<'a>(found: &ArgMatches<'a>) -> Option<Task<'a>>
@@ -68,7 +69,31 @@ pub(crate) fn site_task<'a>(found: &ArgMatches<'a>) -> Option<Task<'a>>
     if pages < 1 || pages > PAGES {
         return None;
     }
-    Some(Task::Site { sites, me, pages })
+    let journal = found.get_str("journal");
+    Some(Task::Site {
+        sites,
+        me,
+        pages,
+        journal,
+    })
+}
+
+/// An audit's options, and the names of its files.
+pub(crate) fn audit_task<'a>(alloc: Global, found: &ArgMatches<'a>) -> Option<Task<'a>>
+    ensures { IfSome result (λ task. IsAsked (codes "audit") (rows_of (found_of found.now)) task) }
+{
+    let sites = Sites::new(number(found, "sites")?).ok()?;
+    let journals = texts(alloc, found, "journals")?;
+    Some(Task::Audit { sites, journals })
+}
+
+/// The texts that are written for an option, in their order; nothing where memory for the list is refused.
+fn texts<'a>(alloc: Global, found: &ArgMatches<'a>, option: &str) -> Option<Vec<&'a str>>
+    ensures { IfSome result (λ texts. all_of option.now (rows_of (found_of found.now)) ≡ Some (map (λ text. text.now) texts.items)) }
+{
+    let written = found.get_raw(option)?;
+    let texts = Vec::from_slice(alloc, written).ok()?;
+    Some(texts)
 }
 
 /// The page that is written as two numbers.

@@ -5,7 +5,7 @@ ghost use Rattle.shmdbg.specs.Words.{fault_in, is_among, IsAsked};
 
 use crate::words::among::look_for_site;
 use crate::words::commands::command;
-use crate::words::options::{draw_task, run_task, site_task};
+use crate::words::options::{audit_task, draw_task, run_task, site_task};
 use crate::words::spelling::{has_plain_numbers, short_error, spelling_error};
 use crate::words::task::Task;
 use clap::{ArgMatches, Error};
@@ -26,7 +26,7 @@ pub fn parse_words<'a, S: AsStr>(alloc: Global, words: &'a [S]) -> Result<Task<'
         return Err(spelling_error(alloc, &matches)?);
     }
     match matches.subcommand() {
-        Some((name, found)) => match task_of(name, found) {
+        Some((name, found)) => match task_of(alloc, name, found) {
             Some(task) => match look_for_site(alloc, &task) {
                 Ok(()) => Ok(task),
                 Err(error) => Err(error),
@@ -37,8 +37,9 @@ pub fn parse_words<'a, S: AsStr>(alloc: Global, words: &'a [S]) -> Result<Task<'
     }
 }
 
-/// What the words behind a subcommand's name ask for. Words that were taken have all options that are required, in range.
-fn task_of<'a>(name: &str, found: &ArgMatches<'a>) -> Option<Task<'a>>
+/// What the words behind a subcommand's name ask for. Words that were taken have all options that are required, in range; so nothing is
+/// given only where memory for it is refused.
+fn task_of<'a>(alloc: Global, name: &str, found: &ArgMatches<'a>) -> Option<Task<'a>>
     ensures { IfSome result (IsAsked name.now (rows_of (found_of found.now))) }
 {
     if name == "replay" {
@@ -55,6 +56,9 @@ fn task_of<'a>(name: &str, found: &ArgMatches<'a>) -> Option<Task<'a>>
     }
     if name == "site" {
         return site_task(found);
+    }
+    if name == "audit" {
+        return audit_task(alloc, found);
     }
     None
 }

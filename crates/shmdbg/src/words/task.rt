@@ -1,7 +1,7 @@
 use shm_place::{PageId, SiteId, Sites};
 
 /// What the words after the program's name ask for.
-#[derive(Clone, Copy, Debug, PartialEq, Eq)]
+#[derive(Debug, PartialEq, Eq, Drop)]
 pub enum Task<'a> {
     /// Replay the script on standard input.
     Replay,
@@ -19,10 +19,17 @@ pub enum Task<'a> {
     Draw {
         page: Option<PageId>,
     },
-    /// Be this site of so many, where segment 0 has so many pages: take the lines on standard input, and write what is told of them.
+    /// Be this site of so many, where segment 0 has so many pages: take the lines on standard input, and write what is told of them; and
+    /// keep its journal in a file, if one is named.
     Site {
         sites: Sites,
         me: SiteId,
         pages: u32,
+        journal: Option<&'a str>,
+    },
+    /// Audit the journals of so many sites, which are in these files.
+    Audit {
+        sites: Sites,
+        journals: Vec<&'a str>,
     },
 }

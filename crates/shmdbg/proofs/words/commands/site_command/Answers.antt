@@ -2,7 +2,7 @@ use Rattle.std.proofs.Common.{rules, ap₂, codes, ◌≡◌, ◌∙◌, ◌||�
 use Rattle.std.proofs.lemmas.Result.{IfOk-weaker}
 use Rattle.clap.specs.Words.{app_of, new_app, with_rule}
 use Rattle.clap.specs.declared.builder.command.Command.TheViews.{out-Command}
-use Rattle.shmdbg.specs.Commands.{me_rule, sites_rule}
+use Rattle.shmdbg.specs.Commands.{me_rule, preset_rule, sites_rule}
 use Rattle.shmdbg.proofs.words.commands.site_command.Goals as goal
 
 pub returns : goal.returns
@@ -15,7 +15,10 @@ returns c =
     let with_me : app_of c.in_ok-arg-2.field-0 ≡ with_rule (with_rule (new_app (codes "site")) sites_rule) me_rule =
     c.in_ok-arg-2.ensures.shape c.me_arg.ensures.local ∙ ap₂ with_rule with_sites c.me_arg.ensures.rule in
     let no_me : (out-Command c.in_ok-arg-2.field-0).has_globals ≡ false = c.in_ok-arg-2.ensures.globals ∙ ap₂ (λ (x y : Bool). x || y) no_sites c.me_arg.ensures.local in
+    let with_preset : app_of c.in_ok-arg-3.field-0 ≡ with_rule (with_rule (with_rule (new_app (codes "site")) sites_rule) me_rule) preset_rule =
+    c.in_ok-arg-3.ensures.shape c.preset_arg.ensures.local ∙ ap₂ with_rule with_me c.preset_arg.ensures.rule in
+    let no_preset : (out-Command c.in_ok-arg-3.field-0).has_globals ≡ false = c.in_ok-arg-3.ensures.globals ∙ ap₂ (λ (x y : Bool). x || y) no_me c.preset_arg.ensures.local in
     record {
-      app = IfOk-weaker c.arg-3.result _ _ (λ r h. h.shape c.preset_arg.ensures.local ∙ ap₂ with_rule with_me c.preset_arg.ensures.rule) c.arg-3.ensures;
-      local = IfOk-weaker c.arg-3.result _ _ (λ r h. h.globals ∙ ap₂ (λ (x y : Bool). x || y) no_me c.preset_arg.ensures.local) c.arg-3.ensures;
+      app = IfOk-weaker c.arg-4.result _ _ (λ r h. h.shape c.journal_arg.ensures.local ∙ ap₂ with_rule with_preset c.journal_arg.ensures.rule) c.arg-4.ensures;
+      local = IfOk-weaker c.arg-4.result _ _ (λ r h. h.globals ∙ ap₂ (λ (x y : Bool). x || y) no_preset c.journal_arg.ensures.local) c.arg-4.ensures;
     }

@@ -4,10 +4,10 @@ use Rattle.clap.specs.Kinds.{HasKind, Kinds}
 use Rattle.clap.specs.declared.parser.matches.ArgMatches.TheViews.{out-ArgMatches}
 use Rattle.clap.specs.Words.{App, Row, Text, fault_of, found_of, is_simple, is_simple_and_free, rows_of, subcommand_of, subcommand_rows_of}
 use Rattle.clap.proofs.OnLiterals.{clap_on_literals}
-use Rattle.shmdbg.proofs.Asked.{AskFor, fault_asked}
-use Rattle.shmdbg.proofs.Wrong.{badly_spelled, named_so, plainly_spelled, refused_by_clap}
+use Rattle.shmdbg.proofs.Asked.{fault_asked}
+use Rattle.shmdbg.proofs.Wrong.{badly_spelled, named_so, refused_by_clap}
 use Rattle.shmdbg.specs.Commands.{app}
-use Rattle.shmdbg.specs.Words.{fault_in, has_plain_numbers, has_plain_rows, task_fault, IsAsked}
+use Rattle.shmdbg.specs.Words.{fault_in, has_plain_numbers, has_plain_rows, task_fault, AskFor, IsAsked}
 use Rattle.shmdbg.specs.declared.words.task.Task.{Task}
 use Rattle.shmdbg.proofs.words.parsing.parse_words.Goals as goal
 

@@ -1,0 +1,5 @@
+pub mod Bytes
+pub mod Leading
+pub mod Answering
+pub mod Counted
+pub mod Tellings

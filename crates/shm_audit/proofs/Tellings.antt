@@ -1,0 +1,168 @@
+-- What a process says of its steps, and what the log of a box tells that takes them.
+use Rattle.std.proofs.Common.{◌≡◌, ℕ, ◌==◌, ◌||◌, Bool, true, false, List, [], ◌∷◌, ◌++◌, Some, None, cond, refl, ap, sym, subst, ◌∙◌, append-nil, arith, map}
+use Rattle.std.specs.Prelude.{Option, IfSome, codes, option_and_then, option_map, unwrap_or}
+use Rattle.std.proofs.lemmas.Bool.Decides.{nat_tests}
+use Rattle.shm_model.specs.Log.{Logged, Stamp}
+use Rattle.shm_model.specs.declared.asked.Asked.TheVariants as asked
+use Rattle.shm_model.specs.Message.{Input, Deliver, Restart}
+use Rattle.shm_model.specs.Step.{foreign}
+use Rattle.shm_process.specs.Node.{Node, Heard, answer_to, heard, heard_in, input_asked, is_late, new_node, next_clock, says, stepped, under_tag, waits_for}
+use Rattle.shm_process.specs.Recorded.{Entry, Event, Line, TooLong, Again, Restarted, after_event, entries_of, recorded}
+use Rattle.shm_process.specs.Waiting.{after_heard, again_at, again_if, is_open, joins, ready, restarting, said_restart, after_restart, says_at, waiting_at}
+use Rattle.shm_site.specs.Step.{is_foreign}
+use Rattle.shm_sites.specs.Boxes.Box.{Box, after, new_box, taken}
+use Rattle.shm_sites.specs.declared.boxes.box_fault.BoxFault.TheVariants as fault
+use Rattle.shm_wire.specs.Asks.{Ask, read_ask}
+use Rattle.shm_wire.specs.Sent.{Sent, read_envelope}
+use Rattle.shm_wire.specs.declared.ask.Question.{Question}
+use Rattle.shm_wire.specs.declared.ask.Question.TheVariants as question
+use Rattle.shm_audit.specs.Entered.{Handed, at_clock, box_handed, delivered, handed, handed_in, or_restart, unless_refused, unsent}
+use Rattle.shm_audit.specs.Told.{Told, box_after_all, told_at, told_by, told_by_log, told_by_step, told_first}
+
+-- the box of a node's site, which has this log
+abbrev box_at : Node → ℕ → List Logged → Box
+box_at node pages log = record { sites = node.sites; me = node.me; pages = pages; site = node.site; log = log; clock = node.clock }
+
+-- the box takes what a node heard, and tells of its step what the node says
+record Takes (node : Node) (pages : ℕ) (log : List Logged) (line : List ℕ) (h : Heard) (given : Option Handed) : Type 0 where
+  logged : Logged
+  goes : box_handed (next_clock node h.source) (box_at node pages log) given ≡ Some (box_at (stepped node h) pages (log ++ logged ∷ []))
+  tells : told_by_step logged ≡ told_by (says node line h false)
+
+-- ---- one step
+
+same : {A : Type 0} → (a b : A) → Some a ≡ Some b → a ≡ b
+same a b e = ap (λ o. unwrap_or o a) e
+
+same-is : (n : ℕ) → (n == n) ≡ true
+same-is n = grind (arith, nat_tests)
+
+takes : (node : Node) (pages : ℕ) (log : List Logged) (line : List ℕ) (input : Input) (stamp : Stamp) (tag : Option (List ℕ)) (waits : Bool)
+    → is_foreign node.sites node.me input ≡ false → is_late node stamp.at ≡ false
+    → Takes node pages log line (record { input = input; source = stamp.at; tag = tag; waits = waits }) (Some (record { input = input; source = stamp }))
+takes node pages log line input stamp tag waits own early =
+    record {
+      logged = taken (box_at node pages log) input stamp;
+      goes =
+          ap (λ b. option_and_then (at_clock (next_clock node stamp.at)) (unless_refused (cond b (Some fault.Foreign) (cond (is_late node stamp.at) (Some fault.ClockEnd) None)) (after (box_at node pages log) input stamp))) own
+          ∙ ap (λ b. option_and_then (at_clock (next_clock node stamp.at)) (unless_refused (cond b (Some fault.ClockEnd) None) (after (box_at node pages log) input stamp))) early
+          ∙ ap (λ b. cond b (Some (after (box_at node pages log) input stamp)) None) (same-is (next_clock node stamp.at));
+      tells = refl;
+    }
+
+or_cases : (a b : Bool) → (a || b) ≡ false → (a ≡ false) × (b ≡ false)
+or_cases true b h = absurd (cc)
+or_cases false b h = (refl, h)
+
+sent_by : (node : Node) (pages : ℕ) (log : List Logged) (line : List ℕ) (sent : Sent) (h : Heard) (other : Bool)
+    → (foreign node.sites node.me sent.envelope || is_late node sent.source.at) ≡ other
+    → cond other None (Some (record { input = Deliver sent.envelope; source = sent.source.at; tag = None; waits = false })) ≡ Some h
+    → Takes node pages log line h (Some (delivered sent))
+sent_by node pages log line sent h true o e = absurd (cc)
+sent_by node pages log line sent h false o e =
+    let both = or_cases (foreign node.sites node.me sent.envelope) (is_late node sent.source.at) o in
+    let is : record { input = Deliver sent.envelope; source = sent.source.at; tag = None; waits = false } ≡ h = same (record { input = Deliver sent.envelope; source = sent.source.at; tag = None; waits = false }) h e in
+    subst (λ x. Takes node pages log line x (Some (delivered sent))) is (takes node pages log line (Deliver sent.envelope) sent.source None false both.0 both.1)
+
+-- a caller asks for no delivery
+asked_own : (sites me : ℕ) (q : Question) → IfSome (input_asked q) (λ input. is_foreign sites me input ≡ false)
+asked_own sites me (question.Access (asked.Load at offset)) = refl
+asked_own sites me (question.Access (asked.Store at offset byte)) = refl
+asked_own sites me (question.Try (asked.Load at offset)) = refl
+asked_own sites me (question.Try (asked.Store at offset byte)) = refl
+asked_own sites me (question.Begin request) = refl
+asked_own sites me question.Tick = refl
+asked_own sites me (question.Show page) = tt
+
+abbrev no_stamp : Stamp
+no_stamp = record { at = 0; index = 0; place = 0 }
+
+asked_by : (node : Node) (pages : ℕ) (log : List Logged) (line tag : List ℕ) (waits : Bool) (h : Heard) (o : Option Input) (here late : Bool)
+    → IfSome o (λ input. is_foreign node.sites node.me input ≡ false) → is_late node 0 ≡ late
+    → cond here (cond late None (option_map (under_tag tag waits) o)) None ≡ Some h
+    → Takes node pages log line h (or_restart line (cond here (option_map unsent o) None))
+asked_by node pages log line tag waits h o false late own l e = absurd (cc)
+asked_by node pages log line tag waits h o true true own l e = absurd (cc)
+asked_by node pages log line tag waits h None true false own l e = absurd (cc)
+asked_by node pages log line tag waits h (Some input) true false own l e =
+    let is : under_tag tag waits input ≡ h = same (under_tag tag waits input) h e in
+    subst (λ x. Takes node pages log line x (Some (unsent input))) is (takes node pages log line input no_stamp (Some tag) waits own l)
+
+heard_by : (node : Node) (pages : ℕ) (log : List Logged) (line : List ℕ) (h : Heard) (sent : Option Sent) (ask : Option Ask) → heard_in node sent ask ≡ Some h
+    → Takes node pages log line h (handed_in node.me line sent ask)
+heard_by node pages log line h (Some sent) ask e =
+    sent_by node pages log line sent h (foreign node.sites node.me sent.envelope || is_late node sent.source.at) refl e
+heard_by node pages log line h None None e = absurd (cc)
+heard_by node pages log line h None (Some ask) e =
+    asked_by node pages log line ask.tag (waits_for ask.asked) h (input_asked ask.asked) (ask.site == node.me) (is_late node 0)
+    (asked_own node.sites node.me ask.asked) refl e
+
+line_taken : (node : Node) (pages : ℕ) (log : List Logged) (line : List ℕ) (h : Heard) → heard node line ≡ Some h
+    → Takes node pages log line h (handed node.me line)
+line_taken node pages log line h e = heard_by node pages log line h (read_envelope line) (read_ask line) e
+
+-- ---- one step after another
+
+map_more : (log : List Logged) (l : Logged) (rest : List Told) → map told_by_step (log ++ l ∷ []) ++ rest ≡ map told_by_step log ++ (told_by_step l ∷ rest)
+map_more [] l rest = refl
+map_more (x ∷ log) l rest = ap (λ ts. told_by_step x ∷ ts) (map_more log l rest)
+
+abbrev Follows : Box → List Entry → List Logged → List Told → Type 0
+Follows box entries log told = option_map told_by_log (box_after_all box entries) ≡ Some (map told_by_step log ++ told)
+
+one_step : (node : Node) (pages : ℕ) (log : List Logged) (line : List ℕ) (h : Heard) (entries : List Entry) (told : List Told)
+    → (t : Takes node pages log line h (handed node.me line)) → Follows (box_at (stepped node h) pages (log ++ t.logged ∷ [])) entries (log ++ t.logged ∷ []) told
+    → Follows (box_at node pages log) (record { clock = next_clock node h.source; line = line } ∷ entries) log (told_by (says node line h false) ∷ told)
+one_step node pages log line h entries told t rest =
+    ap (λ o. option_map told_by_log (option_and_then (λ next. box_after_all next entries) o)) t.goes
+    ∙ rest
+    ∙ ap Some (map_more log t.logged told ∙ ap (λ x. map told_by_step log ++ (x ∷ told)) t.tells)
+
+line_law : (node : Node) (pages : ℕ) (log : List Logged) (line : List ℕ) (entries : List Entry) (told : List Told) (o : Option Heard) → heard node line ≡ o
+    → ((log : List Logged) → Follows (box_at (after_heard node line o) pages log) entries log told)
+    → Follows (box_at node pages log) (recorded (option_map (λ h. says node line h (joins node h)) o) entries) log
+    (told_first (option_map (λ h. says node line h (joins node h)) o) told)
+line_law node pages log line entries told None e rest = rest log
+line_law node pages log line entries told (Some h) e rest =
+    let t = line_taken node pages log line h e in one_step node pages log line h entries told t (rest (log ++ t.logged ∷ []))
+
+again_law : (node : Node) (pages : ℕ) (log : List Logged) (at : ℕ) (entries : List Entry) (told : List Told) (o : Option Heard) → heard node (waiting_at node at) ≡ o
+    → ((log : List Logged) → Follows (box_at (again_at node at o) pages log) entries log told)
+    → Follows (box_at node pages log) (recorded (option_map (λ h. says node (waiting_at node at) h (is_open (answer_to node h))) o) entries) log
+    (told_first (option_map (λ h. says node (waiting_at node at) h (is_open (answer_to node h))) o) told)
+again_law node pages log at entries told None e rest = rest log
+again_law node pages log at entries told (Some h) e rest =
+    let t = line_taken node pages log (waiting_at node at) h e in
+    one_step node pages log (waiting_at node at) h entries told t (rest (log ++ t.logged ∷ []))
+
+ready_law : (node : Node) (pages : ℕ) (log : List Logged) (entries : List Entry) (told : List Told) (p : Option ℕ)
+    → ((log : List Logged) → Follows (box_at (again_if node p) pages log) entries log told)
+    → Follows (box_at node pages log) (recorded (option_and_then (says_at node) p) entries) log (told_first (option_and_then (says_at node) p) told)
+ready_law node pages log entries told None rest = rest log
+ready_law node pages log entries told (Some at) rest = again_law node pages log at entries told (heard node (waiting_at node at)) refl rest
+
+restart_law : (node : Node) (pages : ℕ) (log : List Logged) (entries : List Entry) (told : List Told) (late : Bool) → is_late node 0 ≡ late
+    → ((log : List Logged) → Follows (box_at (cond late node (after_restart node)) pages log) entries log told)
+    → Follows (box_at node pages log) (recorded (cond late None (Some (said_restart node))) entries) log
+    (told_first (cond late None (Some (said_restart node))) told)
+restart_law node pages log entries told true e rest = rest log
+restart_law node pages log entries told false e rest =
+    let t : Takes node pages log (codes "restart") restarting (handed node.me (codes "restart")) = takes node pages log (codes "restart") Restart no_stamp None false refl e in
+    one_step node pages log (codes "restart") restarting entries told t (rest (log ++ t.logged ∷ []))
+
+follows : (node : Node) (pages : ℕ) (log : List Logged) (events : List Event) → Follows (box_at node pages log) (entries_of node events) log (told_at node events)
+follows node pages log [] = ap Some (sym (append-nil (map told_by_step log)))
+follows node pages log (Line line ∷ events) =
+    line_law node pages log line (entries_of (after_event node (Line line)) events) (told_at (after_event node (Line line)) events) (heard node line) refl
+    (λ log. follows (after_event node (Line line)) pages log events)
+follows node pages log (TooLong ∷ events) = follows (after_event node TooLong) pages log events
+follows node pages log (Again ∷ events) =
+    ready_law node pages log (entries_of (after_event node Again) events) (told_at (after_event node Again) events) (ready node)
+    (λ log. follows (after_event node Again) pages log events)
+follows node pages log (Restarted ∷ events) =
+    restart_law node pages log (entries_of (after_event node Restarted) events) (told_at (after_event node Restarted) events) (is_late node 0) refl
+    (λ log. follows (after_event node Restarted) pages log events)
+
+pub logs_tell : (sites me pages : ℕ) (events : List Event)
+    → option_map told_by_log (box_after_all (new_box sites me pages) (entries_of (new_node sites me pages) events)) ≡ Some (told_at (new_node sites me pages) events)
+logs_tell sites me pages events = follows (new_node sites me pages) pages [] events

@@ -1,0 +1,22 @@
+use Rattle.shm_audit.specs.LinesOf.{left_of}
+use Rattle.shm_audit.proofs.Answering.{first_err, first_ok}
+use Rattle.shm_audit.proofs.Leading.{no_first_line}
+use Rattle.shm_audit.proofs.reading.read_first.Goals as goal
+
+pub returns-in-Ok-true-clause-ok : goal.returns-in-Ok-true-clause-ok
+returns-in-Ok-true-clause-ok g c =
+    let remaining = g.R.Read.remaining in
+    first_ok (left_of c.args.lines.now (remaining c.args.reader.now)) (left_of c.take.new.self (remaining c.take.new.reader)) c.take.new.self.line.items
+    c.line.result.now c.open_box.result (c.in-Ok-true.ensures.whole c.in-Ok-true.field-0-test) c.in-Ok-true.ensures.unended c.line.ensures c.open_box.ensures.ok
+
+pub returns-in-Ok-true-clause-err : goal.returns-in-Ok-true-clause-err
+returns-in-Ok-true-clause-err g c =
+    let remaining = g.R.Read.remaining in
+    first_err (left_of c.args.lines.now (remaining c.args.reader.now)) (left_of c.take.new.self (remaining c.take.new.reader)) c.take.new.self.line.items
+    c.line.result.now c.open_box.result (c.in-Ok-true.ensures.whole c.in-Ok-true.field-0-test) c.in-Ok-true.ensures.unended c.line.ensures c.open_box.ensures.err
+
+pub returns-in-Ok-false-clause-err : goal.returns-in-Ok-false-clause-err
+returns-in-Ok-false-clause-err g c =
+    let remaining = g.R.Read.remaining in
+    no_first_line (left_of c.args.lines.now (remaining c.args.reader.now)) (left_of c.take.new.self (remaining c.take.new.reader)) c.take.new.self.line.items
+    (c.in-Ok-false.ensures.torn c.in-Ok-false.field-0-test) c.in-Ok-false.ensures.unended (c.in-Ok-false.ensures.end c.in-Ok-false.field-0-test).1

@@ -1,0 +1,59 @@
+-- What an entry of a journal hands to its site's box, and the box after it.
+use Rattle.std.specs.Prelude.{ℕ, List, codes, Option, Some, None, ◌==◌, if◌then◌else◌, option_and_then, option_map}
+use Rattle.std.specs.Str.{bytes_eq}
+use Rattle.shm_model.specs.Log.{Stamp}
+use Rattle.shm_model.specs.Message.{Input, Deliver, Restart}
+use Rattle.shm_process.specs.Node.{input_asked}
+use Rattle.shm_process.specs.Recorded.{Entry}
+use Rattle.shm_sites.specs.Boxes.Box.{Box, after, refusal}
+use Rattle.shm_sites.specs.declared.boxes.box_fault.BoxFault.{BoxFault}
+use Rattle.shm_wire.specs.Asks.{Ask, read_ask}
+use Rattle.shm_wire.specs.Sent.{Sent, read_envelope}
+
+-- ---- what a line hands over
+
+-- an input, and where it was sent, if it is an envelope
+pub record Handed : Type 0 where
+  pub input : Input
+  pub source : Stamp
+
+-- what is no envelope was sent nowhere
+abbrev pub unsent : Input → Handed
+unsent input = record { input = input; source = record { at = 0; index = 0; place = 0 } }
+
+abbrev pub delivered : Sent → Handed
+delivered sent = record { input = Deliver sent.envelope; source = sent.source }
+
+-- what a caller asks of this site, unless a page is only shown
+abbrev pub asked_here : ℕ → Ask → Option Handed
+asked_here me ask = if (ask.site == me) then option_map unsent (input_asked ask.asked) else None
+
+abbrev pub or_restart : List ℕ → Option Handed → Option Handed
+or_restart line (Some handed) = Some handed
+or_restart line None = if bytes_eq line (codes "restart") then Some (unsent Restart) else None
+
+abbrev pub handed_in : ℕ → List ℕ → Option Sent → Option Ask → Option Handed
+handed_in me line (Some sent) ask = Some (delivered sent)
+handed_in me line None ask = or_restart line (option_and_then (asked_here me) ask)
+
+-- what the line of an entry hands to this site
+abbrev pub handed : ℕ → List ℕ → Option Handed
+handed me line = handed_in me line (read_envelope line) (read_ask line)
+
+-- ---- the box
+
+abbrev pub at_clock : ℕ → Box → Option Box
+at_clock clock box = if (box.clock == clock) then Some box else None
+
+abbrev pub unless_refused : Option BoxFault → Box → Option Box
+unless_refused (Some fault) box = None
+unless_refused None box = Some box
+
+-- the box after the step that this made under this clock, if it can be its next
+abbrev pub box_handed : ℕ → Box → Option Handed → Option Box
+box_handed clock box None = None
+box_handed clock box (Some h) = option_and_then (at_clock clock) (unless_refused (refusal box h.input h.source) (after box h.input h.source))
+
+-- the box after the step that this entry records, if it can be its next
+abbrev pub box_after : Box → Entry → Option Box
+box_after box entry = box_handed entry.clock box (handed box.me entry.line)

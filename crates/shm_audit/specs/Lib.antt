@@ -1,0 +1,9 @@
+pub mod Faults
+pub mod LinesOf
+pub mod Entered
+pub mod HandedOf
+pub mod Found
+pub mod Leading
+pub mod Counts
+pub mod OneSet
+pub mod Told

@@ -1,0 +1,38 @@
+-- What a site tells of its steps, by its log, and by what its process said of them.
+use Rattle.std.specs.Prelude.{ℕ, List, [], ◌∷◌, Option, Some, None, map, option_and_then}
+use Rattle.shm_model.specs.declared.answer.Answer.{Answer}
+use Rattle.shm_model.specs.Log.{Logged}
+use Rattle.shm_model.specs.Message.{Envelope}
+use Rattle.shm_process.specs.Node.{Node, Said}
+use Rattle.shm_process.specs.Recorded.{Entry, Event, after_event, said_at}
+use Rattle.shm_sites.specs.Boxes.Box.{Box}
+use Rattle.shm_audit.specs.Entered.{box_after}
+
+-- of one step: its stamp, its answer, and the envelopes that it sent
+pub record Told : Type 0 where
+  pub stamp : ℕ
+  pub answer : Answer
+  pub sent : List Envelope
+
+abbrev pub told_by_step : Logged → Told
+told_by_step step = record { stamp = step.stamp; answer = step.answer; sent = step.sent }
+
+abbrev pub told_by_log : Box → List Told
+told_by_log box = map told_by_step box.log
+
+abbrev pub told_by : Said → Told
+told_by said = record { stamp = said.clock; answer = said.answer; sent = said.sent }
+
+abbrev pub told_first : Option Said → List Told → List Told
+told_first None told = told
+told_first (Some said) told = told_by said ∷ told
+
+-- what the node says of the steps that it makes at these events
+abbrev pub told_at : Node → List Event → List Told
+told_at node [] = []
+told_at node (event ∷ events) = told_first (said_at node event) (told_at (after_event node event) events)
+
+-- the box after the steps that these entries record, one after another
+abbrev pub box_after_all : Box → List Entry → Option Box
+box_after_all box [] = Some box
+box_after_all box (entry ∷ entries) = option_and_then (λ next. box_after_all next entries) (box_after box entry)

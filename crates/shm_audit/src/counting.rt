@@ -1,0 +1,70 @@
+//! What is counted of logs.
+ghost use Rattle.std.specs.Prelude.{◌≡◌, ◌+◌, if◌then◌else◌, length, map, IfSome};
+ghost use Rattle.shm_sites.specs.Auditing.Complete.{completes};
+ghost use Rattle.shm_sites.specs.Auditing.Logs.{logs_of};
+ghost use Rattle.shm_sites.specs.Boxes.Logged.{logged_of};
+ghost use Rattle.shm_audit.specs.Counts.{counts_of, with_log};
+
+use crate::counts::Counts;
+use shm_sites::{Answer, SiteLog, Step};
+use std::alloc::Allocator;
+
+/// What is counted in these logs. `None`: a number can't hold a count.
+pub(crate) fn count<A: Allocator + Copy>(logs: &[SiteLog<A>]) -> Option<Counts>
+    ensures { IfSome result (λ counts. counts ≡ counts_of (logs_of logs.now)) }
+{
+    let mut counts = Counts {
+        steps: 0,
+        accesses: 0,
+        envelopes: 0,
+    };
+    'logs: for log in logs {
+        match count_steps(counts, log.steps()) {
+            Some(more) => counts = more,
+            None => return None,
+        }
+    }
+    Some(counts)
+}
+
+/// So much, and what is counted in these steps.
+fn count_steps<A: Allocator + Copy>(before: Counts, steps: &[Step<A>]) -> Option<Counts>
+    ensures { IfSome result (λ counts. counts ≡ with_log before (map logged_of steps.now)) }
+{
+    let mut counts = before;
+    'steps: for step in steps {
+        match count_step(counts, step) {
+            Some(more) => counts = more,
+            None => return None,
+        }
+    }
+    Some(counts)
+}
+
+/// So much, and one step.
+fn count_step<A: Allocator + Copy>(before: Counts, step: &Step<A>) -> Option<Counts>
+    ensures { IfSome result (λ counts. counts ≡ record {
+      steps = before.steps + 1;
+      accesses = before.accesses + (if completes step.now.answer then 1 else 0);
+      envelopes = before.envelopes + length step.now.sent.items;
+    }) }
+{
+    let steps = before.steps.checked_add(1)?;
+    let accesses = before.accesses.checked_add(completed(step.answer))?;
+    let envelopes = before.envelopes.checked_add(step.sent.len() as u64)?;
+    Some(Counts {
+        steps,
+        accesses,
+        envelopes,
+    })
+}
+
+/// 1 for an access that is answered so, if it is completed.
+fn completed(answer: Answer) -> u64
+    ensures { result ≡ (if completes answer then 1 else 0) }
+{
+    match answer {
+        Answer::Byte(_) | Answer::Stored => 1,
+        _ => 0,
+    }
+}

@@ -1,0 +1,52 @@
+//! The entries of a journal.
+ghost use Rattle.std.specs.Prelude.{◌≡◌, ◌⊎◌, None, Some, IfErr, OnOk};
+ghost use Rattle.shm_process.specs.Recorded.{Entry};
+ghost use Rattle.shm_sites.specs.Boxes.SiteBox.{box_of};
+ghost use Rattle.shm_audit.specs.Entered.{box_handed};
+ghost use Rattle.shm_audit.specs.Found.{entered};
+ghost use Rattle.shm_audit.specs.HandedOf.{handed_of};
+ghost use Rattle.shm_audit.specs.declared.journal_fault.JournalFault.TheVariants as fault;
+
+use crate::handed::{Handed, handed_by};
+use crate::journal_fault::JournalFault;
+use shm_journal::parse_entry;
+use shm_sites::{BoxFault, SiteBox};
+use std::alloc::Allocator;
+
+/// The box takes the step that the line of this number records, if it can be its next.
+pub(crate) fn enter<A: Allocator + Copy>(
+    alloc: A,
+    number: u64,
+    site_box: &mut SiteBox<A>,
+    line: &[u8],
+) -> Result<(), JournalFault>
+    ensures ok { OnOk result (entered (box_of site_box.old) line.now ≡ Some (box_of site_box.new)) }
+    ensures err { IfErr result (λ f. (f ≡ fault.OutOfMemory) ⊎ ((f ≡ fault.BadLine number) × (entered (box_of site_box.old) line.now ≡ None))) }
+{
+    let Some((clock, made_by)) = parse_entry(line) else {
+        return Err(JournalFault::BadLine(number));
+    };
+    match handed_by(alloc, site_box.log().site(), made_by) {
+        Ok(Some(handed)) => take(number, site_box, clock, handed),
+        Ok(None) => Err(JournalFault::BadLine(number)),
+        Err(_) => Err(JournalFault::OutOfMemory),
+    }
+}
+
+/// The box takes what is handed to it, if it can be its next step under this clock.
+fn take<A: Allocator + Copy>(
+    number: u64,
+    site_box: &mut SiteBox<A>,
+    clock: u64,
+    handed: Handed<A>,
+) -> Result<(), JournalFault>
+    ensures ok { OnOk result (box_handed clock (box_of site_box.old) (Some (handed_of handed)) ≡ Some (box_of site_box.new)) }
+    ensures err { IfErr result (λ f. (f ≡ fault.OutOfMemory) ⊎ ((f ≡ fault.BadLine number) × (box_handed clock (box_of site_box.old) (Some (handed_of handed)) ≡ None))) }
+{
+    let Handed { input, source } = handed;
+    match site_box.take(input, source) {
+        Ok(_) if site_box.clock() == clock => Ok(()),
+        Err(BoxFault::OutOfMemory) => Err(JournalFault::OutOfMemory),
+        _ => Err(JournalFault::BadLine(number)),
+    }
+}

@@ -1,0 +1,104 @@
+//! What an entry hands to the box of its site.
+ghost use Rattle.std.specs.Prelude.{◌≡◌, IfOk, option_and_then, option_map};
+ghost use Rattle.shm_process.specs.Node.{input_asked};
+ghost use Rattle.shm_site.specs.Step.{input_of};
+ghost use Rattle.shm_wire.specs.Asks.{read_ask};
+ghost use Rattle.shm_wire.specs.SentOf.{sent_of};
+ghost use Rattle.shm_audit.specs.Entered as spec;
+ghost use Rattle.shm_audit.specs.HandedOf.{handed_of};
+
+use shm_place::SiteId;
+use shm_sites::{Input, Stamp};
+use shm_wire::{Question, Sent, parse_ask, parse_envelope};
+use std::alloc::{AllocError, Allocator, Global};
+
+/// An input, and where it was sent.
+#[derive(Drop)]
+pub(crate) struct Handed<A: Allocator + Copy = Global> {
+    pub(crate) input: Input<A>,
+    pub(crate) source: Stamp,
+}
+
+/// What the line of an entry hands to this site. Only a page's bytes take memory.
+pub(crate) fn handed_by<A: Allocator + Copy>(
+    alloc: A,
+    me: SiteId,
+    line: &[u8],
+) -> Result<Option<Handed<A>>, AllocError>
+    ensures { IfOk result (λ handed. option_map handed_of handed ≡ spec.handed me line.now) }
+{
+    match parse_envelope(alloc, line)? {
+        Some(sent) => Ok(Some(delivered(sent))),
+        None => Ok(asked_or_restarted(me, line)),
+    }
+}
+
+fn delivered<A: Allocator + Copy>(sent: Sent<A>) -> Handed<A>
+    ensures { handed_of result ≡ spec.delivered (sent_of sent) }
+{
+    let Sent { source, envelope } = sent;
+    Handed {
+        input: Input::Deliver(envelope),
+        source: Stamp {
+            at: source.clock,
+            index: source.index as usize,
+            place: source.place as usize,
+        },
+    }
+}
+
+/// What a caller asked of this site, or its restart.
+fn asked_or_restarted<A: Allocator + Copy>(me: SiteId, line: &[u8]) -> Option<Handed<A>>
+    ensures { option_map handed_of result ≡ spec.or_restart line.now (option_and_then (spec.asked_here me) (read_ask line.now)) }
+{
+    match asked_here(me, line) {
+        Some(handed) => Some(handed),
+        None => restarted(line),
+    }
+}
+
+fn restarted<A: Allocator + Copy>(line: &[u8]) -> Option<Handed<A>>
+    ensures { option_map handed_of result ≡ spec.or_restart line.now None }
+{
+    if line != b"restart".as_slice() {
+        return None;
+    }
+    Some(unsent(Input::Restart))
+}
+
+fn asked_here<A: Allocator + Copy>(me: SiteId, line: &[u8]) -> Option<Handed<A>>
+    ensures { option_map handed_of result ≡ option_and_then (spec.asked_here me) (read_ask line.now) }
+{
+    let Some(ask) = parse_ask(line) else {
+        return None;
+    };
+    if ask.site != me {
+        return None;
+    }
+    match input_asked(ask.asked) {
+        Some(input) => Some(unsent(input)),
+        None => None,
+    }
+}
+
+/// What a site is made to do; a page is only shown.
+fn input_asked<A: Allocator + Copy>(question: Question) -> Option<Input<A>>
+    ensures { option_map input_of result ≡ input_asked question }
+{
+    match question {
+        Question::Access(asked) | Question::Try(asked) => Some(Input::of(asked)),
+        Question::Begin(request) => Some(Input::Begin(request)),
+        Question::Tick => Some(Input::Tick),
+        Question::Show(_) => None,
+    }
+}
+
+/// What is no envelope.
+fn unsent<A: Allocator + Copy>(input: Input<A>) -> Handed<A>
+    ensures { handed_of result ≡ spec.unsent (input_of input) }
+{
+    Handed {
+        input,
+        source: Stamp::NONE,
+    }
+}

@@ -1,0 +1,22 @@
+//! The audit of sites that ran as processes: the steps that a journal records are made again in a box, and the logs of all sites are judged.
+#![tactic(auto)]
+
+mod counting;
+mod counts;
+mod entering;
+mod handed;
+mod journal_fault;
+mod journals_fault;
+mod judging;
+pub mod laws;
+mod lines;
+mod opening;
+mod reading;
+#[cfg(test)]
+mod tests;
+
+pub use counts::Counts;
+pub use journal_fault::JournalFault;
+pub use journals_fault::JournalsFault;
+pub use judging::audit_journals;
+pub use reading::read_log;

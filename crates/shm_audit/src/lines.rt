@@ -1,0 +1,108 @@
+//! A reader's bytes, a line at a time.
+ghost use Rattle.std.specs.Prelude.{◌≡◌, ◌≤◌, ◌==◌, ◌∷◌, ◌++◌, [], false, true, ℕ, length, Option, List, IfErr, IfNone, IfOk, IfSome, OnOk};
+ghost use Rattle.std.specs.List.{All};
+ghost use Rattle.std.specs.Io.KnownBytes.{Consumes, IsAtEnd, Keeps};
+ghost use Rattle.shm_audit.specs.LinesOf.{is_used_up, left_of, Unended};
+ghost use Rattle.shm_audit.specs.Faults.{IsOther};
+
+use crate::journal_fault::JournalFault;
+use shm_debug::read_up_to;
+use std::alloc::{Allocator, Global};
+use std::io::Read;
+
+/// How many bytes are read at once.
+const CHUNK: usize = 8192;
+
+/// The line that was taken last, and the bytes that were read: those from `at` on aren't taken yet.
+#[derive(Drop)]
+pub(crate) struct Lines<A: Allocator + Copy = Global> {
+    line: Vec<u8, A>,
+    bytes: Vec<u8, A>,
+    at: usize,
+}
+
+impl<A: Allocator + Copy> Lines<A> {
+    /// Nothing was read yet.
+    pub(crate) fn new(alloc: A) -> Lines<A>
+        ensures { (remaining : Option (List ℕ)) → left_of result remaining ≡ remaining }
+    {
+        Lines {
+            line: Vec::new(alloc),
+            bytes: Vec::new(alloc),
+            at: 0,
+        }
+    }
+
+    /// The line that was taken last, without its line feed.
+    pub(crate) fn line(&self) -> &[u8]
+        ensures { result.now ≡ self.now.line.items }
+    {
+        self.line.as_slice()
+    }
+
+    /// Takes the next line. `false`: the bytes ended before it did, and its front is taken.
+    pub(crate) fn take<R: Read>(&mut self, reader: &mut R) -> Result<bool, JournalFault>
+        ensures unended { IfOk result (λ whole. Unended self.new.line.items) }
+        ensures whole { IfOk result (λ whole. whole ≡ true → Consumes (left_of self.old (R.remaining reader.old)) (left_of self.new (R.remaining reader.new)) (self.new.line.items ++ 10 ∷ [])) }
+        ensures torn { IfOk result (λ whole. whole ≡ false → Consumes (left_of self.old (R.remaining reader.old)) (left_of self.new (R.remaining reader.new)) self.new.line.items) }
+        ensures end { IfOk result (λ whole. whole ≡ false → IsAtEnd (R.remaining reader.new) × IsAtEnd (left_of self.new (R.remaining reader.new))) }
+        ensures fault { IfErr result IsOther }
+    {
+        self.line.clear();
+        'bytes: for _ in 0..u64::MAX {
+            match self.take_byte(reader) {
+                Ok(None) => return Ok(false),
+                Ok(Some(b'\n')) => return Ok(true),
+                Ok(Some(byte)) => match self.line.push(byte) {
+                    Ok(()) => {}
+                    Err(_) => return Err(JournalFault::OutOfMemory),
+                },
+                Err(fault) => return Err(fault),
+            }
+        }
+        // No run takes so many bytes.
+        Err(JournalFault::ReadFault)
+    }
+
+    /// Takes the next byte. `None`: there is none.
+    fn take_byte<R: Read>(&mut self, reader: &mut R) -> Result<Option<u8>, JournalFault>
+        ensures some { IfOk result (λ byte. IfSome byte (λ b. Consumes (left_of self.old (R.remaining reader.old)) (left_of self.new (R.remaining reader.new)) (b ∷ []))) }
+        ensures none { IfOk result (λ byte. IfNone byte (Keeps (left_of self.old (R.remaining reader.old)) (left_of self.new (R.remaining reader.new)))) }
+        ensures end { IfOk result (λ byte. IfNone byte (IsAtEnd (R.remaining reader.new) × IsAtEnd (left_of self.new (R.remaining reader.new)))) }
+        ensures line { OnOk result (self.new.line.items ≡ self.old.line.items) }
+        ensures fault { IfErr result IsOther }
+    {
+        match self.fill(reader) {
+            Ok(()) => {}
+            Err(fault) => return Err(fault),
+        }
+        if self.at >= self.bytes.len() {
+            return Ok(None);
+        }
+        let byte = self.bytes[self.at];
+        self.at += 1;
+        Ok(Some(byte))
+    }
+
+    /// Reads more bytes, if all are taken.
+    fn fill<R: Read>(&mut self, reader: &mut R) -> Result<(), JournalFault>
+        ensures kept { OnOk result (Keeps (left_of self.old (R.remaining reader.old)) (left_of self.new (R.remaining reader.new))) }
+        ensures end { OnOk result (is_used_up self.new ≡ true → IsAtEnd (R.remaining reader.new)) }
+        ensures line { OnOk result (self.new.line.items ≡ self.old.line.items) }
+        ensures fault { IfErr result IsOther }
+    {
+        if self.at < self.bytes.len() {
+            return Ok(());
+        }
+        let mut chunk = [0u8; CHUNK];
+        let Ok(count) = read_up_to(reader, &mut chunk, CHUNK) else {
+            return Err(JournalFault::ReadFault);
+        };
+        self.bytes.clear();
+        self.at = 0;
+        match self.bytes.extend_from_slice(&chunk[..count]) {
+            Ok(()) => Ok(()),
+            Err(_) => Err(JournalFault::OutOfMemory),
+        }
+    }
+}

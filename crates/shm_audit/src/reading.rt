@@ -1,0 +1,91 @@
+//! A journal is read: each line is taken as it comes.
+ghost use Rattle.std.specs.Prelude.{◌≡◌, ℕ, IfErr, IfOk, IfSome, OnOk};
+ghost use Rattle.std.specs.Io.KnownBytes.{IsAtEnd};
+ghost use Rattle.shm_sites.specs.Boxes.SiteBox.{box_of};
+ghost use Rattle.shm_audit.specs.Found.{found, found_from, whole_lines, IsFault, Led, Tells};
+ghost use Rattle.shm_audit.specs.LinesOf.{left_of};
+ghost use Rattle.shm_audit.specs.Leading.{Leads};
+
+use crate::entering::enter;
+use crate::journal_fault::JournalFault;
+use crate::lines::Lines;
+use crate::opening::open_box;
+use shm_sites::{SiteBox, SiteLog};
+use std::alloc::Allocator;
+use std::io::Read;
+
+/// The log of the site whose journal this is: its box takes each step that is recorded, one after another. A last line without its line feed
+/// counts for nothing. Memory is needed for the longest line and for the log.
+pub fn read_log<A: Allocator + Copy, R: Read>(
+    alloc: A,
+    reader: &mut R,
+) -> Result<SiteLog<A>, JournalFault>
+    ensures end { OnOk result (IsAtEnd (R.remaining reader.new)) }
+    ensures found { IfSome (R.remaining reader.old) (λ file. Tells (found file) result) }
+{
+    let mut lines = Lines::new(alloc);
+    match read_first(alloc, reader, &mut lines) {
+        Ok(site_box) => read_rest(alloc, reader, lines, site_box),
+        Err(fault) => Err(fault),
+    }
+}
+
+/// The log of the site whose box this is, which takes the steps that the other lines record.
+fn read_rest<A: Allocator + Copy, R: Read>(
+    alloc: A,
+    reader: &mut R,
+    lines: Lines<A>,
+    site_box: SiteBox<A>,
+) -> Result<SiteLog<A>, JournalFault>
+    ensures end { OnOk result (IsAtEnd (R.remaining reader.new)) }
+    ensures tells { IfSome (left_of lines (R.remaining reader.old)) (λ rest. Tells (found_from 2 (box_of site_box) (whole_lines rest)) result) }
+{
+    let mut lines = lines;
+    let mut site_box = site_box;
+    match read_on(alloc, reader, &mut lines, &mut site_box) {
+        Ok(()) => Ok(site_box.into_log()),
+        Err(fault) => Err(fault),
+    }
+}
+
+/// The box of the site that the first line names.
+fn read_first<A: Allocator + Copy, R: Read>(
+    alloc: A,
+    reader: &mut R,
+    lines: &mut Lines<A>,
+) -> Result<SiteBox<A>, JournalFault>
+    ensures ok { IfOk result (λ new. Leads found (left_of lines.old (R.remaining reader.old)) (left_of lines.new (R.remaining reader.new)) 2 (box_of new)) }
+    ensures err { IfErr result (λ fault. IfSome (left_of lines.old (R.remaining reader.old)) (λ file. IsFault (found file) fault)) }
+{
+    match lines.take(reader) {
+        Ok(true) => open_box(alloc, lines.line()),
+        Ok(false) => Err(JournalFault::BadLine(1)),
+        Err(fault) => Err(fault),
+    }
+}
+
+/// The box takes the steps that the other lines record.
+fn read_on<A: Allocator + Copy, R: Read>(
+    alloc: A,
+    reader: &mut R,
+    lines: &mut Lines<A>,
+    site_box: &mut SiteBox<A>,
+) -> Result<(), JournalFault>
+    ensures end { OnOk result (IsAtEnd (R.remaining reader.new)) }
+    ensures ok { OnOk result (IfSome (left_of lines.old (R.remaining reader.old)) (λ rest. found_from 2 (box_of site_box.old) (whole_lines rest) ≡ Led (box_of site_box.new))) }
+    ensures err { IfErr result (λ fault. IfSome (left_of lines.old (R.remaining reader.old)) (λ rest. IsFault (found_from 2 (box_of site_box.old) (whole_lines rest)) fault)) }
+{
+    'lines: for number in 2..u64::MAX {
+        match lines.take(reader) {
+            Ok(true) => {}
+            Ok(false) => return Ok(()),
+            Err(fault) => return Err(fault),
+        }
+        match enter(alloc, number, site_box, lines.line()) {
+            Ok(()) => {}
+            Err(fault) => return Err(fault),
+        }
+    }
+    // No file has so many lines.
+    Err(JournalFault::ReadFault)
+}

@@ -1,0 +1,137 @@
+//! The journals of two sites, and what is said of them.
+use crate::{Counts, JournalFault, JournalsFault, audit_journals, read_log};
+use linked_list_allocator::LocalHeap;
+use shm_place::SiteId;
+use shm_sites::{AuditFault, SiteLog};
+use std::alloc::{AllocError, Allocator};
+use std::test::Fail;
+
+/// Of a site that stores a byte and lends its page.
+fn owner() -> &'static [u8] {
+    b"journal 2 0 4\nstep 1 ask 0 a store 0 5 7\nstep 2 env 1 0 1 0 0 ask 0 0 1 read\nstep 3 env 0 0 2 1 0 hand 0 0 1 read 1\nstep 5 env 1 0 4 1 0 confirm 0 0 1\n"
+}
+
+/// Of the site that the page is lent to: zeros, but for a 7 as byte 5.
+fn reader<A: Allocator + Copy>(alloc: A) -> Result<String<A>, AllocError> {
+    let mut text = String::from_str(
+        alloc,
+        "journal 2 1 4\nstep 1 ask 1 b load 0 5\nstep 4 env 0 1 3 2 0 page 0 0 1 read AAAAAAAH",
+    )?;
+    for _ in 0..1363 {
+        text.push_str("AAAA")?;
+    }
+    text.push_str("AA==\nstep 5 ask 1 b load 0 5\ntorn")?;
+    Ok(text)
+}
+
+/// The log that these bytes lead to.
+fn log_of<A: Allocator + Copy>(alloc: A, bytes: &[u8]) -> Result<SiteLog<A>, JournalFault> {
+    let mut bytes = bytes;
+    read_log(alloc, &mut bytes)
+}
+
+/// Why these bytes lead to no log.
+fn fault_of<A: Allocator + Copy>(alloc: A, bytes: &[u8]) -> Option<JournalFault> {
+    match log_of(alloc, bytes) {
+        Ok(log) => {
+            drop(log);
+            None
+        }
+        Err(fault) => Some(fault),
+    }
+}
+
+/// What an audit says of the logs that these two journals lead to.
+fn audited<A: Allocator + Copy>(
+    alloc: A,
+    one: &[u8],
+    other: &[u8],
+) -> Result<Result<Counts, JournalsFault>, Fail> {
+    let mut logs = Vec::new(alloc);
+    logs.push(log_of(alloc, one)?)?;
+    logs.push(log_of(alloc, other)?)?;
+    Ok(audit_journals(alloc, logs.as_slice()))
+}
+
+/// What is counted in them, if an audit accepts them.
+fn counted<A: Allocator + Copy>(
+    alloc: A,
+    one: &[u8],
+    other: &[u8],
+) -> Result<Option<Counts>, Fail> {
+    match audited(alloc, one, other)? {
+        Ok(counts) => Ok(Some(counts)),
+        Err(JournalsFault::OutOfMemory) => Ok(None),
+        Err(JournalsFault::NotOneSet) => Ok(None),
+        Err(JournalsFault::Audit(AuditFault::OutOfMemory)) => Ok(None),
+        Err(JournalsFault::Audit(_)) => Ok(None),
+    }
+}
+
+#[test]
+fn a_copy_was_lent(rt: HostRuntime) -> Result<(), Fail> {
+    let alloc = rt.alloc();
+    let reader = reader(alloc)?;
+    let counts = Counts {
+        steps: 7,
+        accesses: 2,
+        envelopes: 4,
+    };
+    assert_eq!(rt; counted(alloc, owner(), reader.as_bytes())?, Some(counts));
+    Ok(())
+}
+
+#[test]
+fn a_page_was_never_sent(rt: HostRuntime) -> Result<(), Fail> {
+    let alloc = rt.alloc();
+    let reader = reader(alloc)?;
+    let owner = b"journal 2 0 4\nstep 1 ask 0 a store 0 5 7\n".as_slice();
+    let unsent = AuditFault::Unsent {
+        site: SiteId(1),
+        index: 1,
+    };
+    assert_eq!(rt;
+        audited(alloc, owner, reader.as_bytes())?,
+        Err(JournalsFault::Audit(unsent))
+    );
+    Ok(())
+}
+
+#[test]
+fn other_openings_are_not_one_set(rt: HostRuntime) -> Result<(), Fail> {
+    let alloc = rt.alloc();
+    let one = b"journal 2 0 4\n".as_slice();
+    let other = b"journal 2 1 8\n".as_slice();
+    assert_eq!(rt; audited(alloc, one, other)?, Err(JournalsFault::NotOneSet));
+    Ok(())
+}
+
+#[test]
+fn bad_lines_have_their_numbers(rt: HostRuntime) {
+    let alloc = rt.alloc();
+    assert_eq!(rt;
+        fault_of(alloc, b"".as_slice()),
+        Some(JournalFault::BadLine(1))
+    );
+    assert_eq!(rt;
+        fault_of(alloc, b"journal 2 2 4\n".as_slice()),
+        Some(JournalFault::BadLine(1))
+    );
+    let late = b"journal 2 0 4\nrestart\n".as_slice();
+    assert_eq!(rt; fault_of(alloc, late), Some(JournalFault::BadLine(2)));
+    let early = b"journal 2 0 4\nstep 1 restart\nstep 1 ask 0 a tick\n".as_slice();
+    assert_eq!(rt; fault_of(alloc, early), Some(JournalFault::BadLine(3)));
+}
+
+#[test]
+fn each_growth_is_refused_in_turn(rt: HostRuntime) -> Result<(), Fail> {
+    let reader = reader(rt.alloc())?;
+    for step in 1..4000usize {
+        let heap = LocalHeap::new(rt.alloc(), step * 64)?;
+        match fault_of(&heap, reader.as_bytes()) {
+            None => return Ok(()),
+            Some(fault) => assert_eq!(rt; fault, JournalFault::OutOfMemory),
+        }
+    }
+    Err(Fail::new("no log was made"))
+}

@@ -1,0 +1,7 @@
+pub mod HeaderWords
+pub mod EntryWords
+pub mod ReadingLemmas
+pub mod RecoveryLemmas
+pub mod ActLemmas
+pub mod ServingLemmas
+pub mod CrashLemmas

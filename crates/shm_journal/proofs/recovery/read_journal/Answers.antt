@@ -1,0 +1,51 @@
+use Rattle.std.proofs.Common.{◌<◌, [], Ok, Err, length, take, subst, arith}
+use Rattle.std.specs.Prelude.{OnOk, Result}
+use Rattle.std.proofs.KnownBytes.{Consumes-kept}
+use Rattle.std.specs.Io.KnownBytes.{Consumes}
+use Rattle.shm_journal.specs.ReadingOf.{reading_of}
+use Rattle.shm_journal.proofs.RecoveryLemmas.{all_read, faulty, more_read, none_read}
+use Rattle.shm_journal.proofs.recovery.read_journal.Goals as goal
+
+pub chunks-init : goal.chunks-init
+chunks-init g c = record { read = none_read (g.R.Read.remaining c.args.reader.now) (reading_of c.args.reading); room = omega arith }
+
+pub chunks-preserved : goal.chunks-preserved
+chunks-preserved g c =
+    let remaining = g.R.Read.remaining in
+    record {
+      read = more_read (remaining c.args.reader.now) (remaining c.chunks.reader) (remaining c.read_up_to.new.reader) (reading_of c.args.reading) (reading_of c.chunks.reading)
+          (reading_of c.take.new.self) (take c.in-Ok.count c.read_up_to.new.chunk) c.chunks.invariant.read c.in-Ok.ensures.bytes c.in-Ok-take.ensures.ok;
+      room = omega arith;
+    }
+
+pub returns-then-count-eq0-clause-ends : goal.returns-then-count-eq0-clause-ends
+returns-then-count-eq0-clause-ends g c =
+    let remaining = g.R.Read.remaining in
+    let none : Consumes (remaining c.chunks.reader) (remaining c.read_up_to.new.reader) [] =
+    subst (λ n. Consumes (remaining c.chunks.reader) (remaining c.read_up_to.new.reader) (take n c.read_up_to.new.chunk)) c.if-count-eq0.true c.in-Ok.ensures.bytes in
+    all_read (remaining c.args.reader.now) (remaining c.chunks.reader) (remaining c.read_up_to.new.reader) (reading_of c.args.reading) (reading_of c.chunks.reading)
+    c.finish.result c.chunks.invariant.read none c.finish.ensures
+
+pub returns-in-Err-clause-ends : goal.returns-in-Err-clause-ends
+returns-in-Err-clause-ends g c =
+    let remaining = g.R.Read.remaining in
+    faulty g.row.A.Denot (remaining c.args.reader.now) (remaining c.chunks.reader) (remaining c.read_up_to.new.reader) (reading_of c.args.reading) (reading_of c.chunks.reading)
+    (take c.in-Ok.count c.read_up_to.new.chunk) c.in-Err.fault c.chunks.invariant.read c.in-Ok.ensures.bytes c.in-Err.ensures.err
+
+pub returns-in_default-clause-ends : goal.returns-in_default-clause-ends
+returns-in_default-clause-ends g c =
+    let remaining = g.R.Read.remaining in
+    let read = c.chunks.invariant.read in (
+      read.bytes,
+      Consumes-kept (remaining c.args.reader.now) (remaining c.chunks.reader) (remaining c.read_up_to.new.reader) read.bytes read.read c.in_default.ensures.err,
+      tt,
+    )
+
+on-ok : {A B : Type 0} (r : Result A B) (P : Type 0) → P → OnOk r P
+on-ok (Ok a) P p = p
+on-ok (Err e) P p = tt
+
+pub returns-then-count-eq0-clause-end : goal.returns-then-count-eq0-clause-end
+returns-then-count-eq0-clause-end g c =
+    let wide : 0 < length c.chunks.chunk = omega (arith, c.chunks.invariant.room) in
+    on-ok c.finish.result _ (c.in-Ok.ensures.end (omega arith) wide c.if-count-eq0.true)

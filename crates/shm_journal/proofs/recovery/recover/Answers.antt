@@ -1,0 +1,19 @@
+use Rattle.std.proofs.Common.{◌≡◌, ap₂, subst, ◌∙◌}
+use Rattle.shm_process.specs.NodeOf.{node_of}
+use Rattle.shm_journal.specs.Lines.{Header}
+use Rattle.shm_journal.specs.Reading.{begun}
+use Rattle.shm_journal.specs.ReadingOf.{reading_of}
+use Rattle.shm_journal.proofs.RecoveryLemmas.{Ended, recovers}
+use Rattle.shm_journal.proofs.recovery.recover.Goals as goal
+
+pub returns-clause-found : goal.returns-clause-found
+returns-clause-found g c =
+    let remaining = g.R.Read.remaining in
+    let old = remaining c.args.reader.now in
+    let new = remaining c.read_journal.new.reader in
+    let node = node_of c.in-Ok.node in
+    let header : Header = record { sites = c.args.sites; me = c.args.me; pages = c.args.pages } in
+    let start : reading_of c.new-2.result ≡ begun header node =
+    c.new-2.ensures ∙ ap₂ (λ sites me. begun (record { sites = sites; me = me; pages = c.args.pages }) node) c.count.ensures.value c.me.view_is in
+    recovers header node old new c.read_journal.result c.in-Ok.ensures
+    (subst (λ reading. Ended old new reading c.read_journal.result) start c.read_journal.ensures.ends)

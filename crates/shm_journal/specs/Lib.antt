@@ -1,0 +1,11 @@
+pub mod Lines
+pub mod HeaderOf
+pub mod Found
+pub mod Reading
+pub mod ReadingOf
+pub mod Recovers
+pub mod Faults
+pub mod Acts
+pub mod Publishing
+pub mod DeskFrom
+pub mod Crash

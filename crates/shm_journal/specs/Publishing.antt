@@ -1,0 +1,13 @@
+-- How what a desk holds may fail to be kept and told.
+use Rattle.std.specs.Prelude.{◌≡◌, ◌≢◌, ℕ, List, [], ◌∷◌, ◌++◌, take}
+use Rattle.shm_process.specs.Desk.{Desk}
+use Rattle.shm_journal.specs.Acts.{Append, Around, Did, Tell, keeping}
+use Rattle.shm_journal.specs.declared.process_fault.ProcessFault.{ProcessFault}
+use Rattle.shm_journal.specs.declared.process_fault.ProcessFault.TheVariants.{JournalFault, OutOfMemory, ReadFault, WriteFault}
+
+-- a front of what was recorded is appended, and no more is done; or all is kept, and a front of what was to be told is
+abbrev pub FailsToPublish : Desk → Around → Around → ProcessFault → Type 0
+FailsToPublish desk old new JournalFault = (desk.recorded ≢ []) × ((n : ℕ) × Did old new (Append (take n desk.recorded) ∷ []))
+FailsToPublish desk old new WriteFault = (desk.told ≢ []) × ((n : ℕ) × Did old new (keeping desk.recorded ++ Tell (take n desk.told) ∷ []))
+FailsToPublish desk old new OutOfMemory = ⊥
+FailsToPublish desk old new ReadFault = ⊥

@@ -1,0 +1,27 @@
+//! A site's journal: the lines that made its steps, kept before anything is told of them, and read again at its start; and the process that
+//! keeps it.
+#![tactic(auto)]
+
+mod header;
+mod journal;
+pub mod laws;
+mod opening;
+mod parsing;
+mod process_fault;
+mod reading;
+mod recovered;
+mod recovery;
+mod recovery_fault;
+mod serving;
+#[cfg(test)]
+mod tests;
+
+pub use header::Header;
+pub use journal::{Failed, Journal};
+pub use opening::{OpeningFault, open_desk};
+pub use parsing::{parse_entry, parse_header};
+pub use process_fault::ProcessFault;
+pub use recovered::Recovered;
+pub use recovery::recover;
+pub use recovery_fault::RecoveryFault;
+pub use serving::serve;

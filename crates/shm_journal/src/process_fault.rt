@@ -1,0 +1,33 @@
+use shm_model::refusal::{self, Numbered};
+use thiserror::Error;
+
+/// Why a process ended before its lines did.
+#[derive(Clone, Copy, Debug, PartialEq, Eq, Error)]
+pub enum ProcessFault {
+    /// An allocation was refused.
+    #[error("out of memory")]
+    OutOfMemory,
+    /// The reader answered an error.
+    #[error("read fault")]
+    ReadFault,
+    /// The writer answered an error, or took nothing.
+    #[error("write fault")]
+    WriteFault,
+    /// The journal couldn't be appended to, or not be made durable: its disk may be full. Nothing was told of the steps that it lacks.
+    #[error("journal: write fault")]
+    JournalFault,
+}
+
+impl Numbered for ProcessFault {
+    ghost use Rattle.shm_journal.specs.Faults.{process_fault_number};
+
+    ghost number_of = { process_fault_number };
+
+    fn number(&self) -> u8 {
+        match self {
+            ProcessFault::OutOfMemory => refusal::OUT_OF_MEMORY,
+            ProcessFault::ReadFault => refusal::READ_FAULT,
+            ProcessFault::WriteFault | ProcessFault::JournalFault => refusal::WRITE_FAULT,
+        }
+    }
+}

@@ -1,0 +1,109 @@
+//! A process: what comes is taken, what it recorded is kept, and only then told.
+ghost use Rattle.std.specs.Prelude.{◌≡◌, ◌≢◌, [], ◌∷◌, ℕ, List, Option, take, IfErr, OnErr, OnOk};
+ghost use Rattle.std.specs.Io.KnownBytes.{Appends, IsAtEnd};
+ghost use Rattle.shm_journal.specs.Acts.{Append, Did, GoesOn, Served, Tell, around, keeping, publishing, telling};
+ghost use Rattle.shm_journal.specs.Publishing.{FailsToPublish};
+ghost use Rattle.shm_process.specs.Desk.{cleared};
+ghost use Rattle.shm_process.specs.DeskOf.{desk_of};
+
+use crate::journal::{Failed, Journal};
+use crate::process_fault::ProcessFault;
+use shm_process::Desk;
+use std::alloc::Allocator;
+use std::io::{Read, Write};
+
+/// How many bytes are read at once.
+const CHUNK: usize = 8192;
+
+/// Takes lines until there are no more. First, and after each read, what the desk has recorded is appended to the journal and made durable,
+/// and then what it has to tell is told. A last line without its line feed isn't taken.
+pub fn serve<A: Allocator + Copy, R: Read, W: Write, J: Journal>(
+    desk: Desk<A>,
+    reader: &mut R,
+    writer: &mut W,
+    journal: &mut J,
+) -> Result<(), ProcessFault>
+    ensures end { OnOk result (IsAtEnd (R.remaining reader.new)) }
+    ensures served { Served (desk_of desk) (around (R.remaining reader.old) (W.contents writer.old) (J.acts journal.old))
+        (around (R.remaining reader.new) (W.contents writer.new) (J.acts journal.new)) result }
+{
+    let mut desk = desk;
+    match publish(&mut desk, writer, journal) {
+        Ok(()) => {}
+        Err(fault) => return Err(fault),
+    }
+    let mut chunk = [0u8; CHUNK];
+    'reads: for _ in 0..u64::MAX {
+        let Ok(count) = journal.read(reader, &mut chunk) else {
+            return Err(ProcessFault::ReadFault);
+        };
+        if count == 0 {
+            return Ok(());
+        }
+        match desk.take(&chunk[..count]) {
+            Ok(()) => {}
+            Err(_) => return Err(ProcessFault::OutOfMemory),
+        }
+        match publish(&mut desk, writer, journal) {
+            Ok(()) => {}
+            Err(fault) => return Err(fault),
+        }
+    }
+    // No run reads so often.
+    Err(ProcessFault::ReadFault)
+}
+
+/// Keeps what the desk has recorded, and then tells what it has to tell.
+fn publish<A: Allocator + Copy, W: Write, J: Journal>(
+    desk: &mut Desk<A>,
+    writer: &mut W,
+    journal: &mut J,
+) -> Result<(), ProcessFault>
+    ensures done { (r : Option (List ℕ)) → OnOk result (Did (around r (W.contents writer.old) (J.acts journal.old)) (around r (W.contents writer.new) (J.acts journal.new)) (publishing (desk_of desk.old))) }
+    ensures cleared { OnOk result (desk_of desk.new ≡ cleared (desk_of desk.old)) }
+    ensures fault { (r : Option (List ℕ)) → IfErr result (FailsToPublish (desk_of desk.old) (around r (W.contents writer.old) (J.acts journal.old)) (around r (W.contents writer.new) (J.acts journal.new))) }
+{
+    match keep(desk.recorded(), journal) {
+        Ok(()) => {}
+        Err(_) => return Err(ProcessFault::JournalFault),
+    }
+    match tell(desk.told().as_bytes(), writer, journal) {
+        Ok(()) => {}
+        Err(_) => return Err(ProcessFault::WriteFault),
+    }
+    desk.clear();
+    Ok(())
+}
+
+/// Appends the entries, and makes them durable; nothing is done where there are none.
+fn keep<J: Journal>(entries: &[u8], journal: &mut J) -> Result<(), Failed>
+    ensures done { OnOk result (GoesOn (J.acts journal.old) (J.acts journal.new) (keeping entries.now)) }
+    ensures front { OnErr result ((n : ℕ) × GoesOn (J.acts journal.old) (J.acts journal.new) (Append (take n entries.now) ∷ [])) }
+    ensures some { OnErr result (entries.now ≢ []) }
+{
+    if entries.is_empty() {
+        return Ok(());
+    }
+    match journal.append(entries) {
+        Ok(()) => {}
+        Err(failed) => return Err(failed),
+    }
+    match journal.sync() {
+        Ok(()) => Ok(()),
+        Err(failed) => Err(failed),
+    }
+}
+
+/// Tells the text, if there is one.
+fn tell<W: Write, J: Journal>(text: &[u8], writer: &mut W, journal: &mut J) -> Result<(), Failed>
+    ensures told { OnOk result (Appends (W.contents writer.old) (W.contents writer.new) text.now) }
+    ensures done { OnOk result (GoesOn (J.acts journal.old) (J.acts journal.new) (telling text.now)) }
+    ensures front { OnErr result ((n : ℕ) × Appends (W.contents writer.old) (W.contents writer.new) (take n text.now)
+        × GoesOn (J.acts journal.old) (J.acts journal.new) (Tell (take n text.now) ∷ [])) }
+    ensures some { OnErr result (text.now ≢ []) }
+{
+    if text.is_empty() {
+        return Ok(());
+    }
+    journal.tell(writer, text)
+}

@@ -1,0 +1,193 @@
+//! Journals that were written by hand, and what is found in them.
+use crate::{Header, Recovered, RecoveryFault, parse_entry, parse_header, recover};
+use linked_list_allocator::LocalHeap;
+use shm_model::Answer;
+use shm_place::{SiteId, Sites};
+use std::alloc::{AllocError, Allocator, Global};
+use std::io::{self, ErrorKind, Read};
+use std::test::Fail;
+
+/// A journal of site 0 of 2, where segment 0 has 4 pages.
+const STORES: &[u8] =
+    b"journal 2 0 4\nstep 1 ask 0 a store 0 5 7\nstep 2 ask 0 b store 0 6 9\nstep 3 ask 0 a load 0 5\n";
+
+/// How many bytes its header and its first entry have.
+const HEADER_AND_STORE: u64 = 14 + 27;
+
+/// How often a hole is widened at most.
+const TRIES: usize = 4000;
+
+/// Gives one byte at a time, and then an error.
+#[derive(Drop)]
+struct Broken<'a> {
+    rest: &'a [u8],
+}
+
+impl Read for Broken<'_> {
+    fn read(&mut self, buf: &mut [u8]) -> io::Result<usize> {
+        let Some((first, rest)) = self.rest.split_first() else {
+            return Err(io::Error::from(ErrorKind::Other));
+        };
+        let Some(place) = buf.first_mut() else {
+            return Ok(0);
+        };
+        *place = *first;
+        self.rest = rest;
+        Ok(1)
+    }
+}
+
+/// What site 0 of 2 finds there, where segment 0 has 4 pages.
+fn found<A: Allocator + Copy, R: Read>(
+    alloc: A,
+    reader: &mut R,
+) -> Result<Recovered<A>, RecoveryFault> {
+    match Sites::new(2) {
+        Ok(sites) if 0 < sites.count() => recover(alloc, sites, SiteId(0), 4, reader),
+        _ => Err(RecoveryFault::OutOfMemory),
+    }
+}
+
+/// Whether the journal is refused so.
+fn is_refused<A: Allocator + Copy>(alloc: A, journal: &[u8], fault: RecoveryFault) -> bool {
+    let mut reader = journal;
+    match found(alloc, &mut reader) {
+        Ok(_) => false,
+        Err(e) => e == fault,
+    }
+}
+
+/// How many steps and whole bytes are found, and whether the journal is new.
+fn counts<A: Allocator + Copy>(alloc: A, journal: &[u8]) -> Option<(u64, u64, bool)> {
+    let mut reader = journal;
+    match found(alloc, &mut reader) {
+        Ok(recovered) => Some((recovered.node.steps(), recovered.whole, recovered.is_new)),
+        Err(_) => None,
+    }
+}
+
+#[test]
+fn lines_are_read_as_they_are_spelled(rt: HostRuntime) -> Result<(), Fail> {
+    let header = Header {
+        sites: 2,
+        me: 0,
+        pages: 4,
+    };
+    let line = format!(in rt.alloc(); "{header}")?;
+    assert_eq!(rt; line.as_str(), "journal 2 0 4");
+    assert_eq!(rt; parse_header(line.as_bytes()), Some(header));
+    assert_eq!(rt; parse_header(b"journal 2 0 4 ".as_slice()), None);
+    let entry = parse_entry(b"step 18446744073709551615 a  b".as_slice());
+    assert_eq!(rt; entry, Some((u64::MAX, b"a  b".as_slice())));
+    assert_eq!(rt;
+        parse_entry(b"step 18446744073709551616 a".as_slice()),
+        None
+    );
+    assert_eq!(rt; parse_entry(b"step 1".as_slice()), None);
+    Ok(())
+}
+
+#[test]
+fn recorded_stores_are_loaded_again(rt: HostRuntime) -> Result<(), Fail> {
+    let mut reader = STORES;
+    let Ok(mut recovered) = found(rt.alloc(), &mut reader) else {
+        return Err(Fail::new("the journal was refused"));
+    };
+    assert_eq!(rt; (recovered.node.steps(), recovered.node.clock()), (3, 3));
+    assert_eq!(rt; (recovered.whole, recovered.is_new), (92, false));
+    let said = recovered.node.take(b"ask 0 c load 0 6".as_slice())?;
+    match said {
+        Some(said) => assert_eq!(rt; (said.clock, said.answer), (4, Answer::Byte(9))),
+        None => return Err(Fail::new("no step was made")),
+    }
+    Ok(())
+}
+
+#[test]
+fn a_torn_line_counts_for_nothing(rt: HostRuntime) {
+    let alloc = rt.alloc();
+    let torn = b"journal 2 0 4\nstep 1 ask 0 a store 0 5 7\nstep 2 ask 0 b store 0 6 9".as_slice();
+    assert_eq!(rt; counts(alloc, torn), Some((1, HEADER_AND_STORE, false)));
+    assert_eq!(rt; counts(alloc, b"".as_slice()), Some((0, 0, true)));
+    assert_eq!(rt; counts(alloc, b"journal 2".as_slice()), Some((0, 0, true)));
+    assert_eq!(rt;
+        counts(alloc, b"journal 2 0 4\n".as_slice()),
+        Some((0, 14, false))
+    );
+}
+
+#[test]
+fn another_journal_is_refused(rt: HostRuntime) {
+    let alloc = rt.alloc();
+    assert!(rt; is_refused(alloc, b"journal 2 1 4\n".as_slice(), RecoveryFault::Foreign));
+    assert!(rt;
+        is_refused(
+            alloc,
+            b"journal 2 0 4 \n".as_slice(),
+            RecoveryFault::BadLine(1)
+        )
+    );
+    assert!(rt; is_refused(alloc, b"journal 2 1".as_slice(), RecoveryFault::BadLine(1)));
+    let late = b"journal 2 0 4\nstep 1 ask 0 a store 0 5 7\nstep 3 ask 0 b load 0 5\n".as_slice();
+    assert!(rt; is_refused(alloc, late, RecoveryFault::BadLine(3)));
+    let foreign = b"journal 2 0 4\nstep 1 ask 1 a store 0 5 7\n".as_slice();
+    assert!(rt; is_refused(alloc, foreign, RecoveryFault::BadLine(2)));
+}
+
+#[test]
+fn a_line_of_8219_bytes_is_refused(rt: HostRuntime) -> Result<(), Fail> {
+    let alloc = rt.alloc();
+    let mut journal = Vec::from_slice(alloc, b"journal 2 0 4\n".as_slice())?;
+    for _ in 0..8218 {
+        journal.push(b'a')?;
+    }
+    assert_eq!(rt;
+        counts(alloc, journal.as_slice()),
+        Some((0, 14, false)),
+        "it may be torn"
+    );
+    journal.push(b'a')?;
+    assert!(rt; is_refused(alloc, journal.as_slice(), RecoveryFault::BadLine(2)));
+    Ok(())
+}
+
+#[test]
+fn a_reader_that_fails_is_a_read_fault(rt: HostRuntime) {
+    let mut reader = Broken { rest: STORES };
+    match found(rt.alloc(), &mut reader) {
+        Ok(_) => assert!(rt; false, "the fault was passed over"),
+        Err(fault) => assert_eq!(rt; fault, RecoveryFault::ReadFault),
+    }
+}
+
+/// Blocks of 16 bytes that fill a heap; each that is dropped widens the hole at its end.
+fn filled(alloc: Global, heap: &LocalHeap) -> Result<Vec<Vec<u8, &LocalHeap>>, AllocError> {
+    let mut blocks = Vec::new(alloc);
+    for _ in 0..heap.free() / 16 {
+        let block = Vec::with_capacity(heap, 16)?;
+        blocks.push(block)?;
+    }
+    Ok(blocks)
+}
+
+#[test]
+fn each_allocation_is_refused_in_turn(rt: HostRuntime) -> Result<(), Fail> {
+    let heap = LocalHeap::new(rt.alloc(), 1 << 16)?;
+    let mut blocks = filled(rt.alloc(), &heap)?;
+    for tries in 0..TRIES {
+        let mut reader = STORES;
+        match found(&heap, &mut reader) {
+            Ok(recovered) => {
+                assert!(rt;
+                    tries > 8,
+                    "the site, the line and the header were refused too"
+                );
+                assert_eq!(rt; recovered.node.steps(), 3);
+                return Ok(());
+            }
+            Err(fault) => assert_eq!(rt; fault, RecoveryFault::OutOfMemory),
+        }
+        drop(blocks.pop());
+    }
+    Err(Fail::new("the site was never recovered"))
+}

@@ -1,0 +1,130 @@
+use crate::{Failed, Journal, ProcessFault, serve};
+use shm_debug::{read_up_to, write_whole};
+use shm_place::{SiteId, Sites};
+use shm_process::{Desk, Node};
+use std::alloc::{AllocError, Global};
+use std::io::{Read, Write};
+use std::test::Fail;
+
+/// A journal that notes all that is done through it, in order: `+` and what is appended, `!` where that is made durable, and `>` and what is
+/// told. After so many calls the next one fails.
+#[derive(Drop)]
+struct Rehearsal {
+    done: Vec<u8>,
+    calls: usize,
+}
+
+impl Rehearsal {
+    fn note(&mut self, act: &[u8], text: &[u8]) -> Result<(), Failed> {
+        if self.calls == 0 {
+            return Err(Failed);
+        }
+        self.calls -= 1;
+        if self.done.extend_from_slice(act).is_err() || self.done.extend_from_slice(text).is_err() {
+            return Err(Failed);
+        }
+        Ok(())
+    }
+}
+
+impl Journal for Rehearsal {
+    ghost use Rattle.std.specs.Prelude.{None};
+
+    ghost acts = { λ _. None };
+
+    fn read<R: Read>(&mut self, reader: &mut R, chunk: &mut [u8]) -> Result<usize, Failed> {
+        match self.note(b"", b"") {
+            Ok(()) => {}
+            Err(failed) => return Err(failed),
+        }
+        let most = chunk.len();
+        match read_up_to(reader, chunk, most) {
+            Ok(count) => Ok(count),
+            Err(_) => Err(Failed),
+        }
+    }
+
+    fn append(&mut self, text: &[u8]) -> Result<(), Failed> {
+        self.note(b"+", text)
+    }
+
+    fn sync(&mut self) -> Result<(), Failed> {
+        self.note(b"!", b"")
+    }
+
+    fn tell<W: Write>(&mut self, writer: &mut W, text: &[u8]) -> Result<(), Failed> {
+        match self.note(b">", text) {
+            Ok(()) => {}
+            Err(failed) => return Err(failed),
+        }
+        match write_whole(writer, text) {
+            Ok(()) => Ok(()),
+            Err(_) => Err(Failed),
+        }
+    }
+}
+
+/// A desk of a site alone, where segment 0 has a page.
+fn new_desk(alloc: Global) -> Result<Desk, AllocError> {
+    let Ok(sites) = Sites::new(1) else {
+        return Err(AllocError);
+    };
+    if sites.count() == 0 {
+        return Err(AllocError);
+    }
+    let node = Node::new(alloc, sites, SiteId(0), 1)?;
+    Ok(Desk::new(alloc, node))
+}
+
+const LINES: &[u8] = b"ask 0 a store 0 5 7\nnot a line of ours\nask 0 b load 0 5\nask 0 c load 0 5";
+
+const DONE: &[u8] =
+    b"+step 1 ask 0 a store 0 5 7\nstep 2 ask 0 b load 0 5\n!>tell 0 a stored\ntell 0 b byte 7\n";
+
+#[test]
+fn steps_are_kept_and_then_told(rt: HostRuntime) -> Result<(), Fail> {
+    let alloc = rt.alloc();
+    let mut journal = Rehearsal {
+        done: Vec::new(alloc),
+        calls: 100,
+    };
+    let mut lines = LINES;
+    let mut told = Vec::new(alloc);
+    assert!(rt; serve(new_desk(alloc)?, &mut lines, &mut told, &mut journal).is_ok());
+    assert_eq!(rt; journal.done.as_slice(), DONE);
+    assert_eq!(rt; told.as_slice(), &DONE[54..]);
+    Ok(())
+}
+
+/// The calls are read, append, sync, tell, read. Each fails in turn, and nothing comes behind it.
+#[test]
+fn each_call_fails_in_turn(rt: HostRuntime) -> Result<(), Fail> {
+    let alloc = rt.alloc();
+    let faults: [(ProcessFault, &[u8]); 5] = [
+        (ProcessFault::ReadFault, b""),
+        (ProcessFault::JournalFault, b""),
+        (
+            ProcessFault::JournalFault,
+            b"+step 1 ask 0 a store 0 5 7\nstep 2 ask 0 b load 0 5\n",
+        ),
+        (
+            ProcessFault::WriteFault,
+            b"+step 1 ask 0 a store 0 5 7\nstep 2 ask 0 b load 0 5\n!",
+        ),
+        (ProcessFault::ReadFault, DONE),
+    ];
+    for (calls, (fault, done)) in faults.iter().enumerate() {
+        let mut journal = Rehearsal {
+            done: Vec::new(alloc),
+            calls,
+        };
+        let mut lines = LINES;
+        let mut told = Vec::new(alloc);
+        match serve(new_desk(alloc)?, &mut lines, &mut told, &mut journal) {
+            Ok(()) => return Err(Fail::new("a call failed")),
+            Err(found) => assert!(rt; found == *fault),
+        }
+        assert_eq!(rt; journal.done.as_slice(), *done);
+    }
+    Ok(())
+}

@@ -1,0 +1,18 @@
+use Rattle.std.proofs.Common.{ℕ, List, Ok, Err}
+use Rattle.std.specs.Prelude.{OnOk, Option, Result}
+use Rattle.std.specs.Io.KnownBytes.{Appends}
+use Rattle.std.specs.declared.alloc.Global.{Global}
+use Rattle.shm_audit.specs.declared.counts.Counts.{Counts}
+use Rattle.shm_sites.specs.declared.boxes.site_log.SiteLog.{SiteLog}
+use Rattle.shmdbg.specs.Audited.{IsOfSites, TellsAudit, audit_text}
+use Rattle.shmdbg.proofs.auditing.tell_audit.Goals as goal
+
+tells : {A B : Type 0} (r : Result A B) (sites : ℕ) (old new : Option (List ℕ)) (logs : List (SiteLog Global)) (counts : Counts) → IsOfSites sites logs counts
+    → OnOk r (Appends old new (audit_text counts)) → OnOk r (TellsAudit sites old new)
+tells (Ok x) sites old new logs counts a t = record { logs = logs; counts = counts; accepted = a; told = t }
+tells (Err e) sites old new logs counts a t = tt
+
+pub returns-in-Ok-judge-clause-audited : goal.returns-in-Ok-judge-clause-audited
+returns-in-Ok-judge-clause-audited g c =
+    tells c.tell_counts.result c.args.sites (g.O.Write.contents c.args.out.now) (g.O.Write.contents c.tell_counts.new.out) _ c.in-Ok-judge.counts
+    c.in-Ok-judge.ensures.accepted c.tell_counts.ensures.told

@@ -1,0 +1,71 @@
+-- What is told of journals that an audit accepts, and the cause and the status where it doesn't.
+use Rattle.std.specs.Prelude.{⊤, ◌≡◌, ◌≢◌, ◌⊎◌, ℕ, List, ◌∷◌, ◌++◌, codes, length, Option}
+use Rattle.std.specs.declared.alloc.Global.{Global}
+use Rattle.std.specs.Io.KnownBytes.{Appends}
+use Rattle.shm_audit.specs.Counts.{counts_of, counts_text}
+use Rattle.shm_audit.specs.OneSet.{AreOneRun, IsWhy}
+use Rattle.shm_audit.specs.declared.counts.Counts.{Counts}
+use Rattle.shm_audit.specs.declared.journal_fault.JournalFault.{JournalFault}
+use Rattle.shm_audit.specs.declared.journal_fault.JournalFault.TheVariants as journal
+use Rattle.shm_audit.specs.declared.journals_fault.JournalsFault.{JournalsFault}
+use Rattle.shm_audit.specs.declared.journals_fault.JournalsFault.TheVariants as journals
+use Rattle.shm_sites.specs.Auditing.Logs.{logs_of}
+use Rattle.shm_sites.specs.declared.boxes.site_log.SiteLog.{SiteLog}
+use Rattle.shmdbg.specs.declared.unaudited.Unaudited.{Unaudited}
+use Rattle.shmdbg.specs.declared.unaudited.Unaudited.TheVariants as cause
+
+abbrev pub audit_text : Counts → List ℕ
+audit_text counts = codes "audit yes" ++ (10 ∷ counts_text counts)
+
+-- they are the logs of so many sites, which shared one plain memory, and this is counted of them
+pub record IsOfSites {A : Type 0} (sites : ℕ) (logs : List (SiteLog A)) (counts : Counts) : Type 0 where
+  pub each : length logs ≡ sites
+  pub run : AreOneRun logs
+  pub counted : counts ≡ counts_of (logs_of logs)
+
+-- so many sites had logs of one run, and what is counted of them was written
+pub record TellsAudit (sites : ℕ) (old new : Option (List ℕ)) : Type 0 where
+  pub logs : List (SiteLog Global)
+  pub counts : Counts
+  pub accepted : IsOfSites sites logs counts
+  pub told : Appends old new (audit_text counts)
+
+abbrev pub journal_status : JournalFault → ℕ
+journal_status journal.OutOfMemory = 3
+journal_status journal.ReadFault = 3
+journal_status (journal.BadLine number) = 1
+
+abbrev pub journals_status : JournalsFault → ℕ
+journals_status journals.OutOfMemory = 3
+journals_status journals.NotOneSet = 1
+journals_status (journals.Audit found) = 4
+
+-- a file is no journal, or they are no set; the audit found a cause; or something failed
+abbrev pub unaudited_status : Unaudited → ℕ
+unaudited_status cause.OutOfMemory = 3
+unaudited_status cause.WriteFault = 3
+unaudited_status (cause.Unopened at) = 3
+unaudited_status (cause.Unread at fault) = journal_status fault
+unaudited_status (cause.Unaccepted fault) = journals_status fault
+
+-- why these logs aren't accepted: there isn't one for each of so many sites, or they are no set of logs, or the audit finds this cause. Other
+-- faults say nothing of them.
+abbrev pub IsWhyNot : {A : Type 0} → ℕ → List (SiteLog A) → Unaudited → Type 0
+IsWhyNot sites logs (cause.Unaccepted journals.NotOneSet) = (length logs ≢ sites) ⊎ IsWhy logs journals.NotOneSet
+IsWhyNot sites logs (cause.Unaccepted (journals.Audit found)) = (length logs ≡ sites) × IsWhy logs (journals.Audit found)
+IsWhyNot sites logs _ = ⊤
+
+-- so of the logs of some journals
+abbrev pub IsCauseOf : ℕ → Unaudited → Type 0
+IsCauseOf sites fault = (logs : List (SiteLog Global)) × IsWhyNot sites logs fault
+
+-- a fault that isn't the logs'
+abbrev pub IsUnread : Unaudited → Type 0
+IsUnread (cause.Unaccepted fault) = ⊥
+IsUnread _ = ⊤
+
+-- the journals of so many sites weren't accepted, by a fault of this status
+pub record FailsAudit (sites status : ℕ) : Type 0 where
+  pub fault : Unaudited
+  pub told : status ≡ unaudited_status fault
+  pub why : IsCauseOf sites fault

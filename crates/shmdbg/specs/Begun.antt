@@ -1,0 +1,22 @@
+-- The desk that a site's process begins with.
+use Rattle.std.specs.Prelude.{◌≡◌, ℕ, Bool, false, true, List}
+use Rattle.shm_journal.specs.Found.{Sound, found, is_empty, lines_of}
+use Rattle.shm_journal.specs.Lines.{Header}
+use Rattle.shm_journal.specs.DeskFrom.{desk_from}
+use Rattle.shm_process.specs.Desk.{Desk, desk_at}
+use Rattle.shm_process.specs.Node.{Node, new_node}
+
+-- whose journal it is
+abbrev pub header_at : ℕ → ℕ → ℕ → Header
+header_at sites me pages = record { sites = sites; me = me; pages = pages }
+
+-- it goes on from what its journal's file, of these bytes, leads to
+pub record BeginsKept (header : Header) (file : List ℕ) (desk : Desk) : Type 0 where
+  pub node : Node
+  pub sound : found header file ≡ Sound node
+  pub begun : desk ≡ desk_from header (is_empty (lines_of file).whole) node
+
+-- nothing has happened, where there is no journal
+abbrev pub BeginsWith : Bool → Header → Desk → Type 0
+BeginsWith false header desk = desk ≡ desk_at (new_node header.sites header.me header.pages)
+BeginsWith true header desk = (file : List ℕ) × BeginsKept header file desk

@@ -1,0 +1,43 @@
+-- What is done of a task, by the exit status, with what is on the input and on the output.
+use Rattle.std.specs.Prelude.{◌≡◌, ◌≢◌, ◌⊎◌, ℕ, Bool, false, true, List, [], is_some, length, IfSome}
+use Rattle.clap.specs.Words.{Text}
+use Rattle.shm_debug.specs.Script.{script_of}
+use Rattle.shm_journal.specs.Acts.{Around, Did}
+use Rattle.shmdbg.specs.Audited.{FailsAudit, TellsAudit}
+use Rattle.shmdbg.specs.Begun.{header_at}
+use Rattle.shmdbg.specs.Served.{IsSite}
+use Rattle.shmdbg.specs.Status.{Fails, Pictures, Replays, Reports}
+use Rattle.shmdbg.specs.Words.{AskFor}
+use Rattle.shmdbg.specs.declared.words.task.Task.{Task}
+use Rattle.shmdbg.specs.declared.words.task.Task.TheVariants.{Replay, Run, Prompt, Draw, Site, Audit}
+
+-- a workload was run over so many sites: its report was written, or it failed
+pub record Runs (sites : ℕ) (summed : Bool) (status : ℕ) (old new : Around) : Type 0 where
+  pub reported : status ≡ 0 → Reports sites summed old.remaining old.contents new.contents
+  pub failed : status ≢ 0 → Fails sites old.remaining status
+
+-- so many journals were audited as those of so many sites: there is one for each, and what was counted of them was written; or they weren't
+-- accepted
+pub record Audits (journals sites status : ℕ) (old new : Around) : Type 0 where
+  pub each : status ≡ 0 → journals ≡ sites
+  pub accepted : status ≡ 0 → TellsAudit sites old.contents new.contents
+  pub failed : status ≢ 0 → FailsAudit sites status
+
+-- this was done, to an end of this status
+abbrev pub Does : Task → ℕ → Around → Around → Type 0
+Does Replay status old new = IfSome old.remaining (λ script. Replays (script_of script) status old.contents new.contents)
+Does (Run sites seed summary log) status old new = Runs sites summary status old new
+Does Prompt status old new = (status ≡ 0) ⊎ (status ≡ 3)
+Does (Draw page) status old new = IfSome old.remaining (λ script. Pictures page (script_of script) status old.contents new.contents)
+Does (Site sites me pages journal) status old new = IsSite (is_some journal) (header_at sites me pages) status old new
+Does (Audit sites journals) status old new = Audits (length journals.items) sites status old new
+
+-- an audit judges its end
+abbrev pub has_audit : Task → Bool
+has_audit (Run sites seed summary log) = true
+has_audit (Audit sites journals) = true
+has_audit _ = false
+
+-- What the words ask for was done. Or memory was refused while they were read, and nothing was.
+abbrev pub IsDone : List Text → ℕ → Around → Around → Type 0
+IsDone words status old new = ((task : Task) × AskFor words task × Does task status old new) ⊎ ((status ≡ 3) × Did old new [])

@@ -1,0 +1,92 @@
+//! A site as a process, with a journal or without.
+ghost use Rattle.std.specs.Prelude.{◌≡◌, ◌≤◌, ◌<◌, false, true, IfOk};
+ghost use Rattle.shm_journal.specs.Acts.{around};
+ghost use Rattle.shm_process.specs.Desk.{desk_at};
+ghost use Rattle.shm_process.specs.DeskOf.{desk_of};
+ghost use Rattle.shm_process.specs.Node.{new_node};
+ghost use Rattle.shmdbg.specs.Around.{streams};
+ghost use Rattle.shmdbg.specs.Begun.{header_at};
+ghost use Rattle.shmdbg.specs.Served.{IsServed, ServesFrom};
+
+use crate::journals::{JournalFile, NoJournal};
+use crate::keeping::{Lock, begin_kept, open_journal};
+use crate::site_fault::SiteFault;
+use shm_journal::{Journal, serve};
+use shm_place::{PAGES, SiteId, Sites};
+use shm_process::{Desk, Node};
+use std::alloc::{AllocError, Global};
+use std::io::{Read, Write};
+use std::rt::Files;
+
+/// Is this site until its lines end. Without a journal what it holds ends with it.
+pub(crate) fn be_site<R: AllocGlobal, I: Read, O: Write>(
+    rt: &R,
+    sites: Sites,
+    me: SiteId,
+    pages: u32,
+    reader: &mut I,
+    out: &mut O,
+) -> Result<(), SiteFault>
+    requires below { me < sites }
+    requires from { 1 ≤ pages }
+    requires to { pages ≤ PAGES }
+    ensures { IsServed false (header_at sites me pages) result (streams (I.remaining reader.old) (O.contents out.old)) (streams (I.remaining reader.new) (O.contents out.new)) }
+{
+    let Ok(desk) = begin(rt.alloc(), sites, me, pages) else {
+        return Err(SiteFault::OutOfMemory);
+    };
+    serve_streams(desk, reader, out, &mut NoJournal)
+}
+
+/// Is this site until its lines end, and keeps what it does in the journal of this name.
+pub(crate) fn be_kept_site<R: AllocGlobal + Files, I: Read, O: Write>(
+    rt: &R,
+    sites: Sites,
+    me: SiteId,
+    pages: u32,
+    journal: &str,
+    reader: &mut I,
+    out: &mut O,
+) -> Result<(), SiteFault>
+where
+    R::File: Lock,
+    requires below { me < sites }
+    requires from { 1 ≤ pages }
+    requires to { pages ≤ PAGES }
+    ensures { IsServed true (header_at sites me pages) result (streams (I.remaining reader.old) (O.contents out.old)) (streams (I.remaining reader.new) (O.contents out.new)) }
+{
+    let mut file = match open_journal(rt, journal) {
+        Ok(file) => file,
+        Err(fault) => return Err(fault),
+    };
+    match begin_kept(rt.alloc(), sites, me, pages, &mut file) {
+        Ok(desk) => serve_streams(desk, reader, out, &mut JournalFile { file }),
+        Err(fault) => Err(fault),
+    }
+}
+
+/// The desk of a site at which nothing has happened.
+fn begin(alloc: Global, sites: Sites, me: SiteId, pages: u32) -> Result<Desk, AllocError>
+    requires below { me < sites }
+    requires from { 1 ≤ pages }
+    requires to { pages ≤ PAGES }
+    ensures { IfOk result (λ desk. desk_of desk ≡ desk_at (new_node sites me pages)) }
+{
+    let node = Node::new(alloc, sites, me, pages)?;
+    Ok(Desk::new(alloc, node))
+}
+
+/// Serves the input and the output, and keeps what is recorded.
+fn serve_streams<I: Read, O: Write, J: Journal>(
+    desk: Desk,
+    reader: &mut I,
+    out: &mut O,
+    journal: &mut J,
+) -> Result<(), SiteFault>
+    ensures { ServesFrom (desk_of desk) result (around (I.remaining reader.old) (O.contents out.old) (J.acts journal.old)) (around (I.remaining reader.new) (O.contents out.new) (J.acts journal.new)) }
+{
+    match serve(desk, reader, out, journal) {
+        Ok(()) => Ok(()),
+        Err(fault) => Err(SiteFault::Ended(fault)),
+    }
+}
