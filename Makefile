@@ -1,8 +1,8 @@
-# Everything here needs the command `rt` of the Rattle toolchain, and nothing else but `machines`, which needs Python.
+# Everything here needs the command `rt` of the Rattle toolchain, and nothing else but `machines`, `crashes` and `clients`, which need Python.
 
 PROGRAM := crates/shmdbg
 
-.PHONY: replay build pictures examples manners machines bench refused test wrong-bodies
+.PHONY: replay build pictures examples manners machines crashes clients bench refused test wrong-bodies
 
 # Replays an example without proving anything: a minute or two on a fresh machine, most of it compiling.
 replay:
@@ -46,9 +46,20 @@ bench:
 	@bench/run
 
 # Sites as processes, and a network between them that loses, repeats and reorders: some seconds of loads and stores, each load looked at.
-# Needs the program that `make build` leaves, and Python 3.
+# Then sites over an MQTT broker on this machine's loopback, with callers, crashes and an audit. Needs the program that `make build` leaves,
+# Python 3, a C compiler, and the Debian packages mosquitto and mosquitto-clients, which it names where they are missing.
 machines:
 	@for seed in 1 2 3; do examples/machines/router.py --seed $$seed --seconds 4 --program $(PROGRAM)/out/shmdbg || exit 1; done
+	@examples/machines/broker.py --program $(PROGRAM)/out/shmdbg
+
+# Sites that are killed and started again from their journals, for ten minutes: each byte's history is looked at, and the journals are audited.
+# Needs the program that `make build` leaves, and Python 3.
+crashes:
+	@examples/machines/crashes.py --seconds 600 --program $(PROGRAM)/out/shmdbg
+
+# The libraries of clients/: each call, over a stream that loses. Needs the program that `make build` leaves, Python 3 and a C compiler.
+clients:
+	@clients/try.py --program $(PROGRAM)/out/shmdbg
 
 # Programs that the types alone must refuse, each with the words of its refusal. Within a minute; nothing is proved.
 refused:

@@ -1,0 +1,94 @@
+/* Tries each call of the library at two sites of one process, over a pair of pipes: calls PROGRAM. Ends with status 1 at the first that
+   isn't as expected, and tells its line. */
+#include "leddwyfan.h"
+
+#include <errno.h>
+#include <stdio.h>
+#include <stdlib.h>
+#include <string.h>
+#include <unistd.h>
+
+#define EXPECT(condition) expect(condition, #condition, __LINE__)
+
+/* The call answers -1, with this errno. */
+#define EXPECT_ERROR(number, call) EXPECT((errno = 0, (call) == -1 && errno == (number)))
+
+enum { PAGES = 2, BYTES = 8000 };
+
+static void expect(bool holds, const char *what, int line) {
+    if (holds) return;
+    fprintf(stderr, "calls.c:%d: not so: %s (%s)\n", line, what, strerror(errno));
+    exit(1);
+}
+
+static void try_bytes(struct leddwyfan *one, struct leddwyfan *other) {
+    unsigned char written[BYTES], read[BYTES];
+    for (int place = 0; place < BYTES; place++) written[place] = (unsigned char)(7 * place);
+    EXPECT(shm_write(one, 0, 100, written, BYTES) == 0);
+    EXPECT(shm_read(other, 0, 100, read, BYTES) == 0 && memcmp(read, written, BYTES) == 0);
+    EXPECT_ERROR(EFAULT, shm_read(one, 0, PAGES * 4096, read, 1));
+    EXPECT_ERROR(EFAULT, shm_write(one, 0, SIZE_MAX, written, 1));
+    EXPECT_ERROR(EINVAL, shm_read(one, 63, 0, read, 1));
+}
+
+static int try_get(struct leddwyfan *one, struct leddwyfan *other) {
+    int shmid = shm_get(one, 5, 5000, IPC_CREAT | 0640);
+    EXPECT(shmid >= 0 && shm_get(other, 5, 100, 0) == shmid);
+    EXPECT_ERROR(EEXIST, shm_get(other, 5, 100, IPC_CREAT | IPC_EXCL));
+    EXPECT_ERROR(EINVAL, shm_get(other, 5, 5001, 0));
+    EXPECT_ERROR(ENOENT, shm_get(one, 6, 100, 0));
+    EXPECT_ERROR(EINVAL, shm_get(one, IPC_PRIVATE, 0, IPC_CREAT));
+    return shmid;
+}
+
+static void try_attached(struct leddwyfan *one, struct leddwyfan *other, int shmid) {
+    struct leddwyfan_status status;
+    char byte = 0;
+    int at = shm_at(one, shmid, 0), read_only = shm_at(other, shmid, SHM_RDONLY);
+    EXPECT(at == 1 && read_only == 1);
+    EXPECT(shm_write(one, at, 8191, "z", 1) == 0 && shm_read(other, read_only, 8191, &byte, 1) == 0 && byte == 'z');
+    EXPECT_ERROR(EACCES, shm_write(other, read_only, 0, "x", 1));
+    EXPECT(shm_ctl(one, shmid, IPC_STAT, &status) == 0 && status.size == 5000 && status.attachments == 2 && !status.marked);
+    EXPECT(status.key == 5 && status.mode == 0640 && status.uid == getuid() && status.cgid == getgid());
+    status.mode = 0600;
+    EXPECT(shm_ctl(other, shmid, IPC_SET, &status) == 0 && shm_ctl(one, shmid, IPC_STAT, &status) == 0 && status.mode == 0600);
+    EXPECT(shm_ctl(one, shmid, IPC_RMID, NULL) == 0 && shm_ctl(one, shmid, IPC_STAT, &status) == 0 && status.marked);
+    EXPECT(shm_dt(one, at) == 0 && shm_dt(other, read_only) == 0);
+    EXPECT_ERROR(EINVAL, shm_dt(one, at));
+    EXPECT_ERROR(EIDRM, shm_at(one, shmid, 0));
+    EXPECT_ERROR(EINVAL, shm_at(one, 100000, 0));
+}
+
+/* That there is no such program is told at the start, or where the system tells it by the process's end alone, at the first call. */
+static void try_nothing(const struct leddwyfan_options *options) {
+    char byte;
+    errno = 0;
+    struct leddwyfan *site = leddwyfan_start(options);
+    if (site == NULL) {
+        EXPECT(errno == ENOENT);
+        return;
+    }
+    EXPECT_ERROR(EIO, shm_read(site, 0, 0, &byte, 1));
+    leddwyfan_stop(site);
+}
+
+int main(int argc, char **argv) {
+    int forth[2], back[2];
+    char *program[] = {argc > 1 ? argv[1] : "shmdbg", NULL}, *nothing[] = {"/nowhere/shmdbg", NULL};
+    if (pipe(forth) < 0 || pipe(back) < 0) return 1;
+    struct leddwyfan_options options = {.program = program, .sites = 2, .pages = PAGES, .reader = back[0], .writer = forth[1], .timeout = 60};
+    struct leddwyfan *one = leddwyfan_start(&options);
+    options.me = 1;
+    options.reader = forth[0];
+    options.writer = back[1];
+    struct leddwyfan *other = leddwyfan_start(&options);
+    EXPECT(one != NULL && other != NULL);
+    try_bytes(one, other);
+    try_attached(one, other, try_get(one, other));
+    leddwyfan_stop(one);
+    leddwyfan_stop(other);
+    options.program = nothing;
+    try_nothing(&options);
+    puts("calls in C: as expected");
+    return 0;
+}

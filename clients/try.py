@@ -1,0 +1,225 @@
+#!/usr/bin/env python3
+"""Tries both libraries: each call and its errors, over a stream that loses, repeats and reorders.
+
+    try.py [--program PROGRAM] [--lose P] [--no-journal]
+
+Builds what is in c/ with what finds misuse of memory. With journals it kills the sites' processes under the calls, too. The status is 1 where
+something isn't as expected."""
+import argparse
+import errno
+import os
+import random
+import select
+import signal
+import subprocess
+import sys
+import tempfile
+import threading
+import time
+
+HERE = os.path.dirname(os.path.abspath(__file__))
+sys.path.insert(0, os.path.join(HERE, 'python'))
+
+from leddwyfan import IPC_CREAT, IPC_EXCL, IPC_RMID, IPC_SET, IPC_STAT, SHM_RDONLY, Incoming, Outgoing, Site  # noqa: E402
+
+PAGES = 2
+TIMES = 20
+COUNTER_SECONDS = 400
+
+
+class Stream(threading.Thread):
+    """A stream for so many sites, which loses lines, repeats them and changes their order. `ends` are what the sites read and write."""
+
+    def __init__(self, sites, lose, seed=1):
+        super().__init__(daemon=True)
+        self.lose, self.draw = lose, random.Random(seed)
+        forth, back = [os.pipe() for _ in range(sites)], [os.pipe() for _ in range(sites)]
+        self.ends = [(back[site][0], forth[site][1]) for site in range(sites)]
+        self.incoming = [Incoming(pipe[0]) for pipe in forth]
+        self.outgoing = [Outgoing(pipe[1]) for pipe in back]
+        self.stopping = False
+        self.lost = 0
+        self.start()
+
+    def carry(self, lines):
+        self.draw.shuffle(lines)
+        for line in lines:
+            for outgoing in self.outgoing:
+                if self.draw.random() < self.lose:
+                    self.lost += 1
+                    continue
+                outgoing.push(line)
+                if self.draw.random() < self.lose:
+                    outgoing.push(line)
+
+    def run(self):
+        while not self.stopping:
+            ready = select.select([incoming.descriptor for incoming in self.incoming], [], [], 0.01)[0]
+            lines = []
+            for incoming in self.incoming:
+                if incoming.descriptor in ready:
+                    lines += incoming.read_lines() or []
+            self.carry(lines)
+            for outgoing in self.outgoing:
+                outgoing.write()
+
+    def stop(self):
+        self.stopping = True
+        self.join()
+        for descriptor in [end for ends in self.ends for end in ends] + [one.descriptor for one in self.incoming + self.outgoing]:
+            os.close(descriptor)
+
+
+def expect(condition, text):
+    if not condition:
+        sys.exit(f'try.py: not so: {text}')
+
+
+def expect_error(number, call):
+    try:
+        told = call()
+    except OSError as error:
+        told = error.errno
+    expect(told == number, f'{errno.errorcode[number]} was expected, and {told} came')
+
+
+def start_sites(options, stream, folder, name):
+    sites = len(stream.ends)
+    journals = [None if options.no_journal else os.path.join(folder, f'{name}-{me}') for me in range(sites)]
+    return [Site.start(options.program, sites, me, PAGES, *stream.ends[me], journal=journals[me]) for me in range(sites)]
+
+
+def try_calls(one, other):
+    data = random.Random(1).randbytes(8000)
+    one.shm_write(0, 100, data)
+    expect(other.shm_read(0, 100, 8000) == data, 'what was written is read')
+    shmid = one.shm_get(5, 5000, IPC_CREAT | 0o640)
+    expect(other.shm_get(5, 100) == shmid, 'a key names one segment')
+    expect_error(errno.EEXIST, lambda: other.shm_get(5, 100, IPC_CREAT | IPC_EXCL))
+    expect_error(errno.EINVAL, lambda: other.shm_get(5, 5001))
+    expect_error(errno.ENOENT, lambda: one.shm_get(6, 100))
+    at, read_only = one.shm_at(shmid), other.shm_at(shmid, SHM_RDONLY)
+    one.shm_write(at, 8191, b'z')
+    expect(other.shm_read(read_only, 8191, 1) == b'z', 'the last byte is read')
+    expect_error(errno.EACCES, lambda: other.shm_write(read_only, 0, b'x'))
+    expect_error(errno.EFAULT, lambda: one.shm_read(at, 8192, 1))
+    status = one.shm_ctl(shmid, IPC_STAT)
+    expect((status.key, status.mode, status.size, status.attachments, status.marked) == (5, 0o640, 5000, 2, False), f'{status}')
+    other.shm_ctl(shmid, IPC_SET, uid=status.uid, gid=7, mode=0o600)
+    expect(one.shm_ctl(shmid, IPC_STAT).gid == 7, 'the group is set')
+    one.shm_ctl(shmid, IPC_RMID)
+    expect(one.shm_ctl(shmid, IPC_STAT).marked, 'the segment is marked')
+    one.shm_dt(at)
+    other.shm_dt(read_only)
+    expect_error(errno.EINVAL, lambda: one.shm_dt(at))
+    expect_error(errno.EIDRM, lambda: one.shm_at(shmid))
+
+
+def kill_often(sites, ended, draw):
+    """Kills a site's process now and then. Each site bears 16 of it."""
+    for count in range(8 * len(sites)):
+        if ended.wait(draw.uniform(0.05, 0.3)):
+            return
+        sites[count % len(sites)]._process.kill()
+
+
+def attach_for_good(site, shmid):
+    """Attaches, whatever happened to a call before: EIO says that nobody knows whether it was executed."""
+    for _ in range(TIMES):
+        try:
+            return site.shm_at(shmid)
+        except OSError as error:
+            expect(error.errno == errno.EIO, f'{error}')
+    sys.exit('try.py: an attach fails again and again')
+
+
+def try_kills(sites):
+    """What was written is read, and no segment call is made twice, while processes are killed."""
+    ended = threading.Event()
+    killer = threading.Thread(target=kill_often, args=(sites, ended, random.Random(2)))
+    killer.start()
+    shmid = sites[0].shm_get(0, 4096, IPC_CREAT | 0o600)
+    for count in range(TIMES):
+        writer, reader = sites[count % len(sites)], sites[(count + 1) % len(sites)]
+        data = bytes([count + 1] * 100)
+        writer.shm_write(0, 4090, data)
+        expect(reader.shm_read(0, 4090, 100) == data, f'write {count} is read')
+        at = attach_for_good(writer, shmid)
+        writer.shm_write(at, count, data[:1])
+    ended.set()
+    killer.join()
+
+
+def try_library(options, folder):
+    stream = Stream(2, options.lose)
+    sites = start_sites(options, stream, folder, 'calls')
+    try_calls(*sites)
+    expect_error(errno.EINVAL, lambda: sites[0].shm_at(100000))
+    restarts = 0
+    if not options.no_journal:
+        try_kills(sites)
+        restarts = sum(16 - site._restarts for site in sites)
+    for site in sites:
+        site.stop()
+    stream.stop()
+    print(f'calls in Python: as expected; {stream.lost} lines lost, {restarts} processes killed')
+
+
+def children_of(parent):
+    listed = subprocess.run(['ps', '-A', '-o', 'pid=,ppid='], stdout=subprocess.PIPE, check=True).stdout.decode()
+    pairs = [line.split() for line in listed.splitlines()]
+    return [int(child) for child, of in pairs if int(of) == parent]
+
+
+def kill_children_often(processes, ended, draw):
+    """Kills the sites of these processes now and then."""
+    for count in range(6 * len(processes)):
+        if ended.wait(draw.uniform(0.2, 1)):
+            return
+        for child in children_of(processes[count % len(processes)].pid):
+            os.kill(child, signal.SIGKILL)
+
+
+def try_counters(options, folder):
+    """Three sites share a counter: one in C, one in Python, one in C. With journals the sites are killed meanwhile."""
+    stream = Stream(3, options.lose)
+    counters = [[os.path.join(folder, 'counter')], [os.path.join(HERE, 'python', 'counter.py')], [os.path.join(folder, 'counter')]]
+    processes = []
+    for me, words in enumerate(counters):
+        words += ['-n', '3', '-m', str(me), '-p', options.program, '-t', str(TIMES)]
+        words += [] if options.no_journal else ['-j', os.path.join(folder, f'counter-{me}')]
+        reader, writer = os.dup(stream.ends[me][0]), os.dup(stream.ends[me][1])
+        processes.append(subprocess.Popen(words, stdin=reader, stdout=writer, stderr=subprocess.PIPE))
+        os.close(reader)
+        os.close(writer)
+    ended = threading.Event()
+    killer = threading.Thread(target=kill_children_often, args=(processes, ended, random.Random(3)))
+    if not options.no_journal:
+        killer.start()
+    for process in processes:
+        told = process.communicate(timeout=COUNTER_SECONDS)[1].decode().strip()
+        ended.set()
+        expect(told == f'counter {3 * TIMES}' and process.returncode == 0, f'three times {TIMES} is: {told}')
+    stream.stop()
+    print(f'counters in C and Python: 3 times {TIMES} is {3 * TIMES}; {stream.lost} lines lost')
+
+
+def main():
+    parser = argparse.ArgumentParser()
+    parser.add_argument('--program', default=os.path.join(HERE, '..', 'crates', 'shmdbg', 'out', 'shmdbg'))
+    parser.add_argument('--lose', type=float, default=0.1)
+    parser.add_argument('--no-journal', action='store_true')
+    options = parser.parse_args()
+    begin = time.monotonic()
+    signal.signal(signal.SIGTERM, lambda *_: sys.exit(1))
+    with tempfile.TemporaryDirectory(prefix='clients-') as folder:
+        make = ['make', '-s', '-C', os.path.join(HERE, 'c'), f'BUILD={folder}', 'SANITIZE=-g -O1 -fsanitize=address,undefined']
+        subprocess.run(make, check=True)
+        subprocess.run([os.path.join(folder, 'calls'), options.program], check=True)
+        try_library(options, folder)
+        try_counters(options, folder)
+    print(f'{time.monotonic() - begin:.0f} seconds')
+
+
+if __name__ == '__main__':
+    main()

@@ -1,0 +1,345 @@
+#!/usr/bin/env python3
+"""Sites as processes that are killed, and a network between them that loses, repeats and reorders what they send.
+
+    crashes.py [--program PROGRAM] [--sites N] [--seconds T] [--seed K] [--kills R] [--no-journal]
+
+Makes rounds of some 20 seconds until the time is over. In each, N sites (0: 2 to 5 in turn) are processes `PROGRAM site .. --journal FILE`,
+and R times a second one of them is killed by signal 9; half of the times a piece of a line is left at its journal's end, as a write that was
+torn would leave it. A moment later the site is started again from its journal. What a killed process had written and nobody had read yet is
+lost half of the times. Envelopes are lost, repeated and reordered, and some asks and answers are lost.
+
+Each site has callers, which load bytes that all share and store there; no value is stored twice at a byte. At the end of a round each byte's
+history needs one order of its stores and loads, in which a load gives what was stored last, and which respects time (histories.py); and
+`PROGRAM audit` has to say yes to the journals. The status is 1 where one of these fails, or a site ended by itself.
+
+Without journals sites forget what they held and promised, and this finds it."""
+import argparse
+import os
+import random
+import selectors
+import subprocess
+import sys
+import tempfile
+import time
+
+from histories import Access, violations
+from router import PAGE_BYTES, PAGES, TICK_SECONDS, Site
+
+ROUND_SECONDS = 20
+CALLERS = 2
+PLACES = 6
+STORES = 0.4
+DOWN_SECONDS = 0.2
+GIVE_UP_SECONDS = 1
+AGAIN_SECONDS = 0.02
+END_SECONDS = 20
+COUNTS = ('kills', 'torn', 'loads', 'stores', 'lost', 'repeated', 'violations', 'audits')
+
+
+class Places:
+    """The bytes that callers use now. One whose values have all been stored gives way to another."""
+
+    def __init__(self, draw):
+        self.draw = draw
+        self.opened = 0
+        self.values = {}
+        for _ in range(PLACES):
+            self.open()
+
+    def open(self):
+        page, offset = self.opened % PAGES, self.opened // PAGES
+        self.values[page * PAGE_BYTES + offset] = 0
+        self.opened += 1
+
+    def choose(self):
+        return self.draw.choice(list(self.values))
+
+    def next_value(self, place):
+        self.values[place] += 1
+        value = self.values[place]
+        if value == 255:
+            del self.values[place]
+            self.open()
+        return value
+
+
+class Caller:
+    """A caller of one site, with one access at a time. One that has no answer for long, or whose site was killed, is left as it is: it may
+    have been made, or may still be."""
+
+    def __init__(self, site, number, places, draw):
+        self.name, self.site, self.places, self.draw = f'c{site}.{number}', site, places, draw
+        self.accesses = []
+        self.asked = 0
+        self.begin(time.monotonic())
+
+    def begin(self, now):
+        place = self.places.choose()
+        stores = self.draw.random() < STORES
+        self.access = Access(stores, place, self.places.next_value(place) if stores else None, now)
+        self.accesses.append(self.access)
+        self.tag = None
+        self.ask_at = now
+
+    def question(self, now):
+        """The line that is to be asked, if one is due."""
+        if now > self.access.begin + GIVE_UP_SECONDS:
+            self.begin(now)
+        if self.tag is not None or now < self.ask_at:
+            return None
+        self.asked += 1
+        self.tag = f'{self.name}.{self.asked}'
+        words = ('store 0 {0.place} {0.value}' if self.access.stores else 'load 0 {0.place}').format(self.access)
+        return f'ask {self.site} {self.tag} {words}'.encode()
+
+    def hear(self, tag, words):
+        """An answer. What found too many asks waiting wasn't kept, and is asked again."""
+        if tag != self.tag:
+            return
+        now = time.monotonic()
+        if words[0] in ('fault', 'waiting'):
+            self.tag, self.ask_at = None, now + AGAIN_SECONDS
+            return
+        if words[0] == 'byte':
+            self.access.value = int(words[1])
+        elif words[0] != 'stored':
+            sys.exit(f'{self.access} is answered {words}')
+        self.access.end = now
+        self.begin(now)
+
+
+class Seat:
+    """A site's place in a round: its process, while it has one, and its journal."""
+
+    def __init__(self, words, journal):
+        self.words, self.journal = words, journal
+        self.site = None
+        self.start_at = 0
+
+    def start(self):
+        self.site = Site(self.words)
+
+    def send(self, line):
+        """What is said to a site that is down is lost."""
+        if self.site is not None:
+            self.site.send(line)
+
+    def write(self):
+        """That a process has ended by itself is told by the end of what it writes."""
+        try:
+            if self.site is not None:
+                self.site.write()
+        except BrokenPipeError:
+            self.site.unwritten = b''
+
+    def kill(self):
+        """Kills the process, and gives the whole lines that it had written and nobody had read."""
+        site, self.site = self.site, None
+        site.process.kill()
+        site.process.wait()
+        lines = []
+        while (more := site.read_lines()) is not None:
+            lines += more
+        site.process.stdin.close()
+        site.process.stdout.close()
+        return lines
+
+    def tear(self, draw):
+        """Leaves a piece of a line at the journal's end."""
+        with open(self.journal, 'ab+') as file:
+            file.seek(max(0, file.tell() - 2 * PAGE_BYTES))
+            line = (file.read().splitlines() or [b'journal'])[-1]
+            file.write(line[:draw.randrange(1, len(line) + 1)])
+
+    def stop(self):
+        """Ends the input, passes over what the process still writes, and answers its status."""
+        process, self.site = self.site.process, None
+        try:
+            process.communicate(timeout=END_SECONDS)
+        except subprocess.TimeoutExpired:
+            process.kill()
+            process.communicate()
+        return process.returncode
+
+
+class Round:
+    def __init__(self, options, number, sites, folder):
+        self.options, self.sites = options, sites
+        self.draw = random.Random(f'{options.seed} {number}')
+        self.counts = dict.fromkeys(COUNTS, 0)
+        self.flight = []
+        self.selector = selectors.DefaultSelector()
+        self.seats = [self.seat(site, os.path.join(folder, f'{number}-{site}.journal')) for site in range(sites)]
+        places = Places(self.draw)
+        self.callers = {}
+        for site in range(sites):
+            for caller in range(CALLERS):
+                self.callers[f'c{site}.{caller}'] = Caller(site, caller, places, self.draw)
+        for site in range(sites):
+            self.start(site)
+
+    def seat(self, site, journal):
+        words = [self.options.program, 'site', '--sites', str(self.sites), '--me', str(site), '--preset', str(PAGES)]
+        return Seat(words if self.options.no_journal else words + ['--journal', journal], journal)
+
+    def start(self, site):
+        self.seats[site].start()
+        self.selector.register(self.seats[site].site.process.stdout, selectors.EVENT_READ, site)
+
+    def happens(self, share, count):
+        happens = self.draw.random() < share
+        if count is not None:
+            self.counts[count] += happens
+        return happens
+
+    def take(self, line):
+        """A line that a site wrote: an envelope goes on its way, an answer to its caller."""
+        words = line.decode().split(' ')
+        if words[0] == 'env':
+            self.flight.append((int(words[2]), line))
+        elif words[2].startswith('c') and not self.happens(self.options.lose / 10, 'lost'):
+            self.callers[words[2].rpartition('.')[0]].hear(words[2], words[3:])
+
+    def carry(self):
+        """Hands over some of what is on its way, in any order."""
+        for _ in range(min(len(self.flight), 8)):
+            at = self.draw.randrange(len(self.flight))
+            if self.happens(self.options.repeat, 'repeated'):
+                to, line = self.flight[at]
+            else:
+                to, line = self.flight.pop(at)
+            if not self.happens(self.options.lose, 'lost'):
+                self.seats[to].send(line)
+
+    def ask(self, now):
+        for caller in self.callers.values():
+            line = caller.question(now) if self.seats[caller.site].site is not None else None
+            if line is not None and not self.happens(self.options.lose / 10, 'lost'):
+                self.seats[caller.site].send(line)
+
+    def kill(self, now):
+        """Kills a site, if one is up. Its callers have no answer any more, but one that it had written."""
+        up = [site for site, seat in enumerate(self.seats) if seat.site is not None]
+        if not up:
+            return
+        site = self.draw.choice(up)
+        seat = self.seats[site]
+        self.selector.unregister(seat.site.process.stdout)
+        lines = seat.kill()
+        if self.happens(0.5, None):
+            for line in lines:
+                self.take(line)
+        if not self.options.no_journal and self.happens(0.5, 'torn'):
+            seat.tear(self.draw)
+        for caller in self.callers.values():
+            if caller.site == site:
+                caller.begin(now)
+        seat.start_at = now + self.draw.uniform(0, DOWN_SECONDS)
+        self.counts['kills'] += 1
+
+    def read(self):
+        for key, _ in self.selector.select(0 if self.flight else 0.001):
+            lines = self.seats[key.data].site.read_lines()
+            if lines is None:
+                sys.exit(f'site {key.data} has ended, with status {self.seats[key.data].site.process.wait()}')
+            for line in lines:
+                self.take(line)
+
+    def run(self, seconds):
+        end = time.monotonic() + seconds
+        next_tick, next_kill = 0, time.monotonic() + self.pause()
+        while (now := time.monotonic()) < end:
+            for site, seat in enumerate(self.seats):
+                if seat.site is None and now >= seat.start_at:
+                    self.start(site)
+            self.ask(now)
+            if now >= next_tick:
+                site = self.draw.randrange(self.sites)
+                self.seats[site].send(f'ask {site} tick tick'.encode())
+                next_tick = now + TICK_SECONDS
+            self.carry()
+            for seat in self.seats:
+                seat.write()
+            self.read()
+            if now >= next_kill:
+                self.kill(now)
+                next_kill = now + self.pause()
+
+    def pause(self):
+        return self.draw.expovariate(self.options.kills) if self.options.kills > 0 else float('inf')
+
+    def judge(self):
+        """Stops the sites, and tells what is wrong."""
+        faults = []
+        for site, seat in enumerate(self.seats):
+            status = seat.stop() if seat.site is not None else 0
+            if status != 0:
+                faults.append(f'site {site} ended with status {status}')
+        accesses = [access for caller in self.callers.values() for access in caller.accesses]
+        for access in accesses:
+            if access.end is not None:
+                self.counts['stores' if access.stores else 'loads'] += 1
+        faults += violations(accesses)
+        self.counts['violations'] = len(faults)
+        if not self.options.no_journal:
+            faults += self.audit()
+        return faults
+
+    def audit(self):
+        """The audit's text, where it isn't a yes."""
+        words = [self.options.program, 'audit', '--sites', str(self.sites)] + [seat.journal for seat in self.seats]
+        audit = subprocess.run(words, stdout=subprocess.PIPE, stderr=subprocess.STDOUT, check=False)
+        if audit.returncode == 0 and audit.stdout.startswith(b'audit yes\n'):
+            self.counts['audits'] += 1
+            for seat in self.seats:
+                os.remove(seat.journal)
+            return []
+        return [f'audit {audit.returncode}: {audit.stdout.decode().strip()} (the journals are kept)']
+
+
+def told(counts):
+    return ', '.join(f'{word} {counts[word]}' for word in COUNTS)
+
+
+def run_rounds(options, folder):
+    """Makes rounds until the time is over. Answers whether all was well."""
+    end = time.monotonic() + options.seconds
+    sums = dict.fromkeys(COUNTS, 0)
+    number, faults = 0, []
+    while (left := end - time.monotonic()) > 1 and not faults:
+        sites = options.sites or 2 + number % 4
+        number += 1
+        one = Round(options, number, sites, folder)
+        one.run(min(left, ROUND_SECONDS))
+        faults = one.judge()
+        print(f'round {number}: sites {sites}, {told(one.counts)}', flush=True)
+        sums = {word: sums[word] + one.counts[word] for word in COUNTS}
+    for fault in faults[:10]:
+        print('wrong:', fault)
+    print(f'rounds {number}, {told(sums)}')
+    return not faults and sums['loads'] > 0 and sums['stores'] > 0
+
+
+def main():
+    here = os.path.dirname(os.path.abspath(__file__))
+    parser = argparse.ArgumentParser()
+    parser.add_argument('--program', default=os.path.join(here, '..', '..', 'crates', 'shmdbg', 'out', 'shmdbg'))
+    parser.add_argument('--sites', type=int, default=0, choices=(0, 2, 3, 4, 5))
+    parser.add_argument('--seconds', type=float, default=60)
+    parser.add_argument('--seed', type=int, default=1)
+    parser.add_argument('--kills', type=float, default=2)
+    parser.add_argument('--lose', type=float, default=0.1)
+    parser.add_argument('--repeat', type=float, default=0.1)
+    parser.add_argument('--no-journal', action='store_true')
+    options = parser.parse_args()
+    folder = tempfile.mkdtemp(prefix='crashes-')
+    well = run_rounds(options, folder)
+    if not os.listdir(folder) or options.no_journal:
+        os.rmdir(folder)
+    else:
+        print(f'journals: {folder}')
+    sys.exit(0 if well else 1)
+
+
+if __name__ == '__main__':
+    main()
