@@ -1,32 +1,11 @@
--- Bytes that are read into a buffer, and taken from it.
-use Rattle.std.proofs.Common.{◌≡◌, ℕ, ◌==◌, false, List, [], ◌∷◌, ◌++◌, Some, None, sym, ap, subst, ◌∙◌, arith, append-nil}
-use Rattle.std.specs.Prelude.{Option, IfSome}
-use Rattle.std.specs.Io.KnownBytes.{Consumes, IsAtEnd, Keeps}
+-- A line, byte after byte, and what a reader has left.
+use Rattle.std.proofs.Common.{◌≡◌, ℕ, ◌==◌, false, List, [], ◌∷◌, ◌++◌, sym, ap, subst, ◌∙◌, arith}
+use Rattle.std.specs.Prelude.{Option}
+use Rattle.std.specs.Io.KnownBytes.{Consumes, Keeps}
 use Rattle.std.proofs.KnownBytes.{Consumes-kept, Consumes-trans}
 use Rattle.std.proofs.lemmas.Bool.Decides.{nat_tests}
 use Rattle.std.proofs.lemmas.List.Elements.{All-push}
 use Rattle.shm_audit.specs.LinesOf.{Unended}
-
--- what holds of these bytes, whatever follows, holds of the whole
-pub of_front : (a b : Option (List ℕ)) (bytes : List ℕ) (P : List ℕ → Type 0) → Consumes a b bytes → ((more : List ℕ) → P (bytes ++ more)) → IfSome a P
-of_front None b bytes P taken h = tt
-of_front (Some xs) None bytes P taken h = absurd taken
-of_front (Some xs) (Some ys) bytes P taken h = subst P (sym taken) (h ys)
-
--- what holds of these bytes holds of the whole, where nothing is left
-pub of_all : (a b : Option (List ℕ)) (bytes : List ℕ) (P : List ℕ → Type 0) → Consumes a b bytes → IsAtEnd b → P bytes → IfSome a P
-of_all None b bytes P taken end h = tt
-of_all (Some xs) None bytes P taken end h = absurd taken
-of_all (Some xs) (Some ys) bytes P taken end h = subst P (sym (taken ∙ ap (λ l. bytes ++ l) end ∙ append-nil bytes)) h
-
--- what holds of all that is left holds of the whole, by what was taken
-pub of_left : (a b : Option (List ℕ)) (bytes : List ℕ) (P Q : List ℕ → Type 0) → Consumes a b bytes → ((more : List ℕ) → Q more → P (bytes ++ more)) → IfSome b Q
-    → IfSome a P
-of_left None b bytes P Q taken h q = tt
-of_left (Some xs) None bytes P Q taken h q = absurd taken
-of_left (Some xs) (Some ys) bytes P Q taken h q = subst P (sym taken) (h ys q)
-
--- ---- a line, byte after byte
 
 pub line_grows : (a b c : Option (List ℕ)) (line before now : List ℕ) (byte : ℕ) → Consumes a b line → Consumes b c (byte ∷ []) → before ≡ line → now ≡ before ++ byte ∷ []
     → Consumes a c now

@@ -9,7 +9,7 @@ use Rattle.shm_sites.specs.Boxes.Box.{Box}
 use Rattle.shm_audit.specs.Found.{Found, Led, Bad, entered, found, found_from, found_in, next_found, opened, whole_lines}
 use Rattle.shm_audit.specs.Leading.{Leads}
 use Rattle.shm_audit.specs.LinesOf.{Unended}
-use Rattle.shm_audit.proofs.Bytes.{of_all, of_front, of_left}
+use Rattle.shm_journal.proofs.Fronts.{of_all, of_front, of_left}
 
 -- ---- whole lines
 

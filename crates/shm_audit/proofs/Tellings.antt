@@ -6,9 +6,10 @@ use Rattle.shm_model.specs.Log.{Logged, Stamp}
 use Rattle.shm_model.specs.declared.asked.Asked.TheVariants as asked
 use Rattle.shm_model.specs.Message.{Input, Deliver, Restart}
 use Rattle.shm_model.specs.Step.{foreign}
-use Rattle.shm_process.specs.Node.{Node, Heard, answer_to, heard, heard_in, input_asked, is_late, new_node, next_clock, says, stepped, under_tag, waits_for}
+use Rattle.shm_process.specs.Blocks.{Block}
+use Rattle.shm_process.specs.Node.{Node, Heard, heard, heard_in, input_asked, is_late, new_node, next_clock, says, stepped, under_tag, waits_for}
 use Rattle.shm_process.specs.Recorded.{Entry, Event, Line, TooLong, Again, Restarted, after_event, entries_of, recorded}
-use Rattle.shm_process.specs.Waiting.{after_heard, again_at, again_if, is_open, joins, ready, restarting, said_restart, after_restart, says_at, waiting_at}
+use Rattle.shm_process.specs.Waiting.{after_heard, after_unheard, again_at, again_if, joining, joins, ready, restarting, said_restart, after_restart, says_again, says_at, waiting_at}
 use Rattle.shm_site.specs.Step.{is_foreign}
 use Rattle.shm_sites.specs.Boxes.Box.{Box, after, new_box, taken}
 use Rattle.shm_sites.specs.declared.boxes.box_fault.BoxFault.TheVariants as fault
@@ -70,6 +71,7 @@ asked_own sites me (question.Access (asked.Load at offset)) = refl
 asked_own sites me (question.Access (asked.Store at offset byte)) = refl
 asked_own sites me (question.Try (asked.Load at offset)) = refl
 asked_own sites me (question.Try (asked.Store at offset byte)) = refl
+asked_own sites me (question.Read at offset count) = tt
 asked_own sites me (question.Begin request) = refl
 asked_own sites me question.Tick = refl
 asked_own sites me (question.Show page) = tt
@@ -118,18 +120,24 @@ one_step node pages log line h entries told t rest =
     ∙ rest
     ∙ ap Some (map_more log t.logged told ∙ ap (λ x. map told_by_step log ++ (x ∷ told)) t.tells)
 
+-- a block that joins those that wait, and a line that is passed over, leave the box as it is
+unheard_box : (node : Node) (pages : ℕ) (log : List Logged) (block : Option Block) → box_at (after_unheard node block) pages log ≡ box_at node pages log
+unheard_box node pages log None = refl
+unheard_box node pages log (Some block) = refl
+
 line_law : (node : Node) (pages : ℕ) (log : List Logged) (line : List ℕ) (entries : List Entry) (told : List Told) (o : Option Heard) → heard node line ≡ o
     → ((log : List Logged) → Follows (box_at (after_heard node line o) pages log) entries log told)
     → Follows (box_at node pages log) (recorded (option_map (λ h. says node line h (joins node h)) o) entries) log
     (told_first (option_map (λ h. says node line h (joins node h)) o) told)
-line_law node pages log line entries told None e rest = rest log
+line_law node pages log line entries told None e rest =
+    subst (λ box. Follows box entries log told) (unheard_box node pages log (joining node line)) (rest log)
 line_law node pages log line entries told (Some h) e rest =
     let t = line_taken node pages log line h e in one_step node pages log line h entries told t (rest (log ++ t.logged ∷ []))
 
 again_law : (node : Node) (pages : ℕ) (log : List Logged) (at : ℕ) (entries : List Entry) (told : List Told) (o : Option Heard) → heard node (waiting_at node at) ≡ o
     → ((log : List Logged) → Follows (box_at (again_at node at o) pages log) entries log told)
-    → Follows (box_at node pages log) (recorded (option_map (λ h. says node (waiting_at node at) h (is_open (answer_to node h))) o) entries) log
-    (told_first (option_map (λ h. says node (waiting_at node at) h (is_open (answer_to node h))) o) told)
+    → Follows (box_at node pages log) (recorded (option_map (says_again node at) o) entries) log
+    (told_first (option_map (says_again node at) o) told)
 again_law node pages log at entries told None e rest = rest log
 again_law node pages log at entries told (Some h) e rest =
     let t = line_taken node pages log (waiting_at node at) h e in

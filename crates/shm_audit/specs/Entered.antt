@@ -24,7 +24,7 @@ unsent input = record { input = input; source = record { at = 0; index = 0; plac
 abbrev pub delivered : Sent → Handed
 delivered sent = record { input = Deliver sent.envelope; source = sent.source }
 
--- what a caller asks of this site, unless a page is only shown
+-- what a caller asks of this site, unless it is no step
 abbrev pub asked_here : ℕ → Ask → Option Handed
 asked_here me ask = if (ask.site == me) then option_map unsent (input_asked ask.asked) else None
 

@@ -7,3 +7,4 @@ pub mod Leading
 pub mod Counts
 pub mod OneSet
 pub mod Told
+pub mod Loads

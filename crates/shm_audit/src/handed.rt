@@ -1,6 +1,5 @@
 //! What an entry hands to the box of its site.
 ghost use Rattle.std.specs.Prelude.{◌≡◌, IfOk, option_and_then, option_map};
-ghost use Rattle.shm_process.specs.Node.{input_asked};
 ghost use Rattle.shm_site.specs.Step.{input_of};
 ghost use Rattle.shm_wire.specs.Asks.{read_ask};
 ghost use Rattle.shm_wire.specs.SentOf.{sent_of};
@@ -8,8 +7,9 @@ ghost use Rattle.shm_audit.specs.Entered as spec;
 ghost use Rattle.shm_audit.specs.HandedOf.{handed_of};
 
 use shm_place::SiteId;
+use shm_process::input_asked;
 use shm_sites::{Input, Stamp};
-use shm_wire::{Question, Sent, parse_ask, parse_envelope};
+use shm_wire::{Sent, parse_ask, parse_envelope};
 use std::alloc::{AllocError, Allocator, Global};
 
 /// An input, and where it was sent.
@@ -78,18 +78,6 @@ fn asked_here<A: Allocator + Copy>(me: SiteId, line: &[u8]) -> Option<Handed<A>>
     match input_asked(ask.asked) {
         Some(input) => Some(unsent(input)),
         None => None,
-    }
-}
-
-/// What a site is made to do; a page is only shown.
-fn input_asked<A: Allocator + Copy>(question: Question) -> Option<Input<A>>
-    ensures { option_map input_of result ≡ input_asked question }
-{
-    match question {
-        Question::Access(asked) | Question::Try(asked) => Some(Input::of(asked)),
-        Question::Begin(request) => Some(Input::Begin(request)),
-        Question::Tick => Some(Input::Tick),
-        Question::Show(_) => None,
     }
 }
 

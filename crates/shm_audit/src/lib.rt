@@ -12,8 +12,6 @@ pub mod laws;
 mod lines;
 mod opening;
 mod reading;
-#[cfg(test)]
-mod tests;
 
 pub use counts::Counts;
 pub use journal_fault::JournalFault;

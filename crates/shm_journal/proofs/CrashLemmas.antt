@@ -1,10 +1,10 @@
 -- Where a run tells something, what it tells of is durable.
-use Rattle.std.proofs.Common.{◌≡◌, ◌⊎◌, ℕ, List, [], ◌∷◌, ◌++◌, inl, inr, refl, ap, ap₂, sym, subst, ◌∙◌, append-nil}
+use Rattle.std.proofs.Common.{◌≡◌, ◌⊎◌, ℕ, List, [], ◌∷◌, ◌++◌, inl, inr, refl, ap, sym, subst, ◌∙◌, append-nil}
 use Rattle.std.proofs.lemmas.List.{append_assoc}
 use Rattle.shm_process.proofs.DeskLemmas.{gone_on}
 use Rattle.shm_process.specs.Desk.{Desk, cleared, on_bytes}
 use Rattle.shm_journal.proofs.ActLemmas.{kept-silent, published-told, told_in-append}
-use Rattle.shm_journal.specs.Acts.{Act, Append, Read, Sync, Tell, keeping, publishing, run, serving, telling, told_in}
+use Rattle.shm_journal.specs.Acts.{Act, Append, Read, Sync, Tell, keeping, publishing, serving, telling, told_in}
 use Rattle.shm_journal.specs.Crash.{Disk, IsKept, KeepsBeforeTelling, after_act, after_acts, disk_of}
 
 after_acts-append : (xs ys : List Act) (disk : Disk) → after_acts disk (xs ++ ys) ≡ after_acts (after_acts disk xs) ys

@@ -1,5 +1,5 @@
 -- How what a desk holds may fail to be kept and told.
-use Rattle.std.specs.Prelude.{◌≡◌, ◌≢◌, ℕ, List, [], ◌∷◌, ◌++◌, take}
+use Rattle.std.specs.Prelude.{◌≢◌, ℕ, [], ◌∷◌, ◌++◌, take}
 use Rattle.shm_process.specs.Desk.{Desk}
 use Rattle.shm_journal.specs.Acts.{Append, Around, Did, Tell, keeping}
 use Rattle.shm_journal.specs.declared.process_fault.ProcessFault.{ProcessFault}

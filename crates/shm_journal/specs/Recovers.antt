@@ -1,6 +1,5 @@
--- What was read of a journal, and what is said of it.
-use Rattle.std.specs.Prelude.{◌≡◌, ℕ, List, Option, Result, Ok, Err}
-use Rattle.std.specs.Io.KnownBytes.{Consumes}
+-- What a journal's file says.
+use Rattle.std.specs.Prelude.{◌≡◌, ℕ, List, IfSome, Option, Result, Ok, Err}
 use Rattle.shm_process.specs.NodeOf.{node_of}
 use Rattle.shm_journal.specs.Found.{Sound, Foreign, Bad, bytes_of_lines, found, is_empty, lines_of}
 use Rattle.shm_journal.specs.Lines.{Header}
@@ -19,6 +18,6 @@ Says header bytes (Err fault.ReadFault) = Unit {0}
 Says header bytes (Err fault.Foreign) = found header bytes ≡ Foreign
 Says header bytes (Err (fault.BadLine number)) = found header bytes ≡ Bad number
 
--- these bytes were read, and this is said of them
-abbrev pub Recovers : {A : Type 0} → Header → Option (List ℕ) → Option (List ℕ) → Result (Recovered A) RecoveryFault → Type 0
-Recovers header remaining left result = (bytes : List ℕ) × Consumes remaining left bytes × Says header bytes result
+-- this is said of the whole file that there was to read; where the reader doesn't tell its bytes, of some
+abbrev pub Recovers : {A : Type 0} → Header → Option (List ℕ) → Result (Recovered A) RecoveryFault → Type 0
+Recovers header remaining result = (file : List ℕ) × IfSome remaining (λ known. file ≡ known) × Says header file result

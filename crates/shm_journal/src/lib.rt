@@ -13,8 +13,6 @@ mod recovered;
 mod recovery;
 mod recovery_fault;
 mod serving;
-#[cfg(test)]
-mod tests;
 
 pub use header::Header;
 pub use journal::{Failed, Journal};

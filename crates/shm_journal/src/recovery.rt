@@ -1,6 +1,6 @@
 //! A site from its journal.
-ghost use Rattle.std.specs.Prelude.{◌≡◌, ◌<◌, ◌≤◌, ℕ, List, OnOk};
-ghost use Rattle.std.specs.Io.KnownBytes.{Consumes, IsAtEnd};
+ghost use Rattle.std.specs.Prelude.{◌≡◌, ◌<◌, ◌≤◌, ℕ, List, IfSome, OnOk};
+ghost use Rattle.std.specs.Io.KnownBytes.{IsAtEnd};
 ghost use Rattle.shm_journal.specs.Reading.{Ends, leads_to};
 ghost use Rattle.shm_journal.specs.ReadingOf.{reading_of};
 ghost use Rattle.shm_journal.specs.Recovers.{Recovers};
@@ -31,7 +31,7 @@ pub fn recover<A: Allocator + Copy, R: Read>(
     requires from { 1 ≤ pages }
     requires to { pages ≤ PAGES }
     ensures end { OnOk result (IsAtEnd (R.remaining reader.new)) }
-    ensures found { Recovers (record { sites = sites; me = me; pages = pages }) (R.remaining reader.old) (R.remaining reader.new) result }
+    ensures found { Recovers (record { sites = sites; me = me; pages = pages }) (R.remaining reader.old) result }
 {
     let Ok(node) = Node::new(alloc, sites, me, pages) else {
         return Err(RecoveryFault::OutOfMemory);
@@ -50,7 +50,7 @@ fn read_journal<A: Allocator + Copy, R: Read>(
     reader: &mut R,
 ) -> Result<Recovered<A>, RecoveryFault>
     ensures end { OnOk result (IsAtEnd (R.remaining reader.new)) }
-    ensures ends { (bytes : List ℕ) × Consumes (R.remaining reader.old) (R.remaining reader.new) bytes × Ends (leads_to (reading_of reading) bytes) result }
+    ensures ends { (file : List ℕ) × IfSome (R.remaining reader.old) (λ known. file ≡ known) × Ends (leads_to (reading_of reading) file) result }
 {
     let mut chunk = [0u8; CHUNK];
     'chunks: for _ in 0..u64::MAX {

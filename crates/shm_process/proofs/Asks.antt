@@ -1,7 +1,7 @@
 -- The asks that wait, as the definitions see them.
-use Rattle.std.proofs.Common.{◌≡◌, ℕ, ◌<◌, List, [], ◌∷◌, ◌++◌, suc, length, map, take, drop, get_or, ap, sym, ◌∙◌}
+use Rattle.std.proofs.Common.{◌≡◌, ℕ, ◌<◌, List, [], ◌∷◌, ◌++◌, suc, length, map, take, drop, get_or, set, ap, sym, ◌∙◌}
 use Rattle.std.specs.List.{remove}
-use Rattle.std.proofs.lemmas.List.{get_or-map, length-map, map-append, take-map, drop-map}
+use Rattle.std.proofs.lemmas.List.{get_or-map, length-map, map-append, map-set, take-map, drop-map}
 
 pub map_remove : {X Y : Type 0} (f : X → Y) (xs : List X) (i : ℕ) → map f (remove xs i) ≡ remove (map f xs) i
 map_remove f xs i =
@@ -18,3 +18,6 @@ length_map f xs = length-map xs f
 
 pub map_push : {X Y : Type 0} (f : X → Y) (xs : List X) (x : X) → map f (xs ++ x ∷ []) ≡ map f xs ++ f x ∷ []
 map_push f xs x = map-append f xs (x ∷ [])
+
+pub map_set : {X Y : Type 0} (f : X → Y) (xs : List X) (i : ℕ) (x : X) → map f (set xs i x) ≡ set (map f xs) i (f x)
+map_set f xs i x = map-set f xs i x

@@ -6,7 +6,7 @@ use Rattle.shm_process.specs.Desk.{Desk, after_line, grown, made_again, max_line
 use Rattle.shm_process.specs.DeskEvents.{DidEvents}
 use Rattle.shm_process.specs.Node.{Node, Said}
 use Rattle.shm_process.specs.Recorded.{Again, Entry, Event, Line, TooLong, after_event, after_events, entries_of, entries_text, entry_line, recorded, said_at}
-use Rattle.shm_process.specs.Waiting.{most_waiting, passed_over, said_again}
+use Rattle.shm_process.specs.Waiting.{most_steps, passed_over, said_again}
 
 more-recorded : (said : Option Said) (xs ys : List Entry) → recorded said (xs ++ ys) ≡ recorded said xs ++ ys
 more-recorded None xs ys = refl
@@ -68,8 +68,8 @@ did-too-long d = record { events = TooLong ∷ []; node = refl; recorded = sym (
 did-line : (d : Desk) (line : List ℕ) → DidEvents d (after_line d line)
 unfolding after_line
 did-line d line =
-    did-cond (nat_lt max_line_bytes (length line)) d (record d { node = passed_over d.node }) (settled most_waiting (taken d line))
-    (did-too-long d) (did-both d (taken d line) (settled most_waiting (taken d line)) (did-taken d line) (did-settled most_waiting (taken d line)))
+    did-cond (nat_lt max_line_bytes (length line)) d (record d { node = passed_over d.node }) (settled most_steps (taken d line))
+    (did-too-long d) (did-both d (taken d line) (settled most_steps (taken d line)) (did-taken d line) (did-settled most_steps (taken d line)))
 
 did-byte : (d : Desk) (byte : ℕ) → DidEvents d (on_byte d byte)
 unfolding on_byte

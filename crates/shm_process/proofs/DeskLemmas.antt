@@ -1,11 +1,11 @@
 -- A desk step by step: a byte after the others, an ask after the others. What a desk told before stands before all that it tells after.
-use Rattle.std.proofs.Common.{◌≡◌, ℕ, zero, suc, ◌+◌, ◌-◌, ◌<◌, ◌≤◌, ◌==◌, Bool, true, false, List, [], ◌∷◌, ◌++◌, length, drop, get_or, cond, refl, ap, ap₂, sym, ◌∙◌, append-nil}
+use Rattle.std.proofs.Common.{◌≡◌, ℕ, zero, suc, ◌+◌, ◌<◌, ◌≤◌, ◌==◌, Bool, true, false, List, [], ◌∷◌, ◌++◌, length, drop, get_or, cond, refl, ap, ap₂, sym, ◌∙◌, append-nil}
 use Rattle.std.specs.Prelude.{Option, Some, None, is_some, nat_lt, option_and_then, option_map}
 use Rattle.std.proofs.lemmas.List.{append_assoc, drop_all, drop_more}
 use Rattle.shm_process.specs.Desk.{Desk, after_line, cleared, grown, made_again, max_line_bytes, line_text, on_byte, on_bytes, settled, step_entry, step_text, taken, tell, with_step}
-use Rattle.shm_process.specs.Node.{Node, Heard, Said, answer_to, heard, says}
+use Rattle.shm_process.specs.Node.{Node, Heard, Said, heard}
 use Rattle.shm_process.specs.Telling.{shown_line}
-use Rattle.shm_process.specs.Waiting.{after, after_again, again_at, again_if, is_open, most_waiting, passed_over, ready, said, said_again, says_at, waiting_at}
+use Rattle.shm_process.specs.Waiting.{after, after_again, again_at, again_if, most_steps, passed_over, ready, said, said_again, says_again, says_at, waiting_at}
 
 -- ---- loops
 
@@ -43,7 +43,7 @@ none_made n m d next whole more none step before =
 
 -- where no ask can be made, the node stays as it is
 none_heard : (node : Node) (at : ℕ) (h : Option Heard)
-    → option_map (λ x. says node (waiting_at node at) x (is_open (answer_to node x))) h ≡ None → again_at node at h ≡ node
+    → option_map (says_again node at) h ≡ None → again_at node at h ≡ node
 none_heard node at None e = refl
 none_heard node at (Some h) e = absurd (cc)
 
@@ -97,8 +97,8 @@ unfolding after_line
 after_line-behind r t d line =
     cond-behind (nat_lt max_line_bytes (length line)) r t
     (record d { node = passed_over d.node }) (record (behind r t d) { node = passed_over d.node })
-    (settled most_waiting (taken d line)) (settled most_waiting (taken (behind r t d) line))
-    refl (ap (settled most_waiting) (taken-behind r t d line) ∙ settled-behind most_waiting r t (taken d line))
+    (settled most_steps (taken d line)) (settled most_steps (taken (behind r t d) line))
+    refl (ap (settled most_steps) (taken-behind r t d line) ∙ settled-behind most_steps r t (taken d line))
 
 on_byte-behind : (r t : List ℕ) (d : Desk) (byte : ℕ) → on_byte (behind r t d) byte ≡ behind r t (on_byte d byte)
 unfolding on_byte

@@ -3,5 +3,6 @@ pub mod Still
 pub mod Ready
 pub mod Replays
 pub mod Asks
+pub mod AskedBlock
 pub mod DeskLemmas
 pub mod DeskEvents

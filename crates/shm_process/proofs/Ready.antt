@@ -1,8 +1,9 @@
 -- The oldest ask that can be made: one more that can't is passed over.
-use Rattle.std.proofs.Common.{◌≡◌, ℕ, ◌+◌, ◌<◌, ◌≤◌, Bool, true, false, List, [], ◌∷◌, Option, Some, None, length, map, drop, get_or, cond, ap, sym, subst, ◌∙◌}
+use Rattle.std.proofs.Common.{◌≡◌, ℕ, ◌+◌, ◌<◌, ◌≤◌, Bool, true, false, List, [], Option, Some, None, length, map, drop, get_or, cond, ap, sym, subst, ◌∙◌}
 use Rattle.std.specs.List.{position_from}
 use Rattle.std.specs.Prelude.{IfNone, IfSome, option_and_then}
 use Rattle.std.proofs.lemmas.List.{drop_all, drop_more, length-map}
+use Rattle.shm_process.specs.Blocks.{Access, next_line}
 use Rattle.shm_process.specs.Node.{Node, Said, heard}
 use Rattle.shm_process.specs.Waiting.{after_again, again_at, again_if, can_be_made, ready, said_again, says_at, waiting_at}
 
@@ -20,18 +21,18 @@ found t xs at d whole h here e =
 
 -- the search from this place on finds what the whole search does
 abbrev pub Searched : Node → ℕ → Type 0
-Searched node at = position_from (λ line. can_be_made node (heard node line)) at (drop at node.waiting) ≡ ready node
+Searched node at = position_from (λ ask. can_be_made node (heard node (next_line node.me ask))) at (drop at node.waiting) ≡ ready node
 
 pub searched_past : (node now : Node) (at : ℕ) → now ≡ node → at < length node.waiting
     → can_be_made now (heard now (waiting_at now at)) ≡ false → Searched node at → Searched node (at + 1)
 searched_past node now at same h not_here e =
-    past (λ line. can_be_made node (heard node line)) node.waiting at [] (ready node) h
+    past (λ ask. can_be_made node (heard node (next_line node.me ask))) node.waiting at (Access []) (ready node) h
     (subst (λ n. can_be_made n (heard n (waiting_at n at)) ≡ false) same not_here) e
 
 pub ready_here : (node now : Node) (at : ℕ) → now ≡ node → at < length node.waiting
     → can_be_made now (heard now (waiting_at now at)) ≡ true → Searched node at → ready node ≡ Some at
 ready_here node now at same h here e =
-    found (λ line. can_be_made node (heard node line)) node.waiting at [] (ready node) h
+    found (λ ask. can_be_made node (heard node (next_line node.me ask))) node.waiting at (Access []) (ready node) h
     (subst (λ n. can_be_made n (heard n (waiting_at n at)) ≡ true) same here) e
 
 pub said_here : (node now : Node) (at : ℕ) (said : Option Said) → now ≡ node → ready node ≡ Some at
@@ -45,7 +46,7 @@ after_here node now new at same is e =
 
 pub none_ready : (node : Node) (at : ℕ) → length node.waiting ≤ at → Searched node at → ready node ≡ None
 none_ready node at h e =
-    sym e ∙ ap (position_from (λ line. can_be_made node (heard node line)) at) (drop_all at node.waiting h)
+    sym e ∙ ap (position_from (λ ask. can_be_made node (heard node (next_line node.me ask))) at) (drop_all at node.waiting h)
 
 pub none_said : (node : Node) → ready node ≡ None → None ≡ said_again node
 none_said node is = sym (ap (option_and_then (says_at node)) is)
@@ -54,10 +55,10 @@ pub none_after : (node new : Node) → new ≡ node → ready node ≡ None → 
 none_after node new same is = same ∙ sym (ap (again_if node) is)
 
 -- a place among so many, or past them
-pub within : {X : Type 0} (view : X → List ℕ) (xs : List X) (at end : ℕ) → at < end → end ≡ length xs → at < length (map view xs)
+pub within : {X Y : Type 0} (view : X → Y) (xs : List X) (at end : ℕ) → at < end → end ≡ length xs → at < length (map view xs)
 within view xs at end h e = subst (λ n. at < n) (e ∙ sym (length-map xs view)) h
 
-pub beyond : {X : Type 0} (view : X → List ℕ) (xs : List X) (at end : ℕ) → end ≤ at → end ≡ length xs → length (map view xs) ≤ at
+pub beyond : {X Y : Type 0} (view : X → Y) (xs : List X) (at end : ℕ) → end ≤ at → end ≡ length xs → length (map view xs) ≤ at
 beyond view xs at end h e = subst (λ n. n ≤ at) (e ∙ sym (length-map xs view)) h
 
 -- what holds of an option's value, and where there is none

@@ -4,9 +4,10 @@ use Rattle.std.specs.Prelude.{codes, option_and_then, option_map}
 use Rattle.std.proofs.lemmas.Bool.Decides.{nat_tests}
 use Rattle.shm_wire.specs.Asks.{Ask, read_ask}
 use Rattle.shm_wire.specs.Sent.{Sent, read_envelope}
-use Rattle.shm_process.specs.Node.{Node, Heard, answer_to, heard, heard_in, is_late, next_clock, says, stepped}
-use Rattle.shm_process.specs.Waiting.{after_heard, again_at, again_if, is_open, joins, or_restart, ready, replayed, replayed_heard, restarting, said_restart, after_restart, says_at, waiting_at}
-use Rattle.shm_process.specs.Recorded.{Event, Line, TooLong, Again, Restarted, Entry, after_event, after_events, entries_of, kept, recorded, replayed_all, said_at}
+use Rattle.shm_process.specs.Blocks.{Block}
+use Rattle.shm_process.specs.Node.{Node, Heard, heard, heard_in, is_late, next_clock, says, stepped}
+use Rattle.shm_process.specs.Waiting.{after_heard, after_unheard, again_at, again_if, joining, joins, or_restart, ready, replayed, replayed_heard, restarting, said_restart, after_restart, says_again, says_at, waiting_at}
+use Rattle.shm_process.specs.Recorded.{Event, Line, TooLong, Again, Restarted, Entry, after_event, after_events, entries_of, kept, recorded, replayed_all}
 
 -- what a line is doesn't hang on the asks that wait, nor on what was counted
 kept-heard_in : (node : Node) (sent : Option Sent) (ask : Option Ask) → heard_in (kept node) sent ask ≡ heard_in node sent ask
@@ -31,17 +32,22 @@ one-more : (node : Node) (next : Option Node) (made : Node) (entries : List Entr
     → next ≡ Some made → replayed_all made entries ≡ Some final → option_and_then (λ n. replayed_all n entries) next ≡ Some final
 one-more node next made entries final e h = ap (option_and_then (λ n. replayed_all n entries)) e ∙ h
 
+-- a block that joins those that wait, and a line that is passed over, are no step
+kept-unheard : (node : Node) (block : Option Block) → kept (after_unheard node block) ≡ kept node
+kept-unheard node None = refl
+kept-unheard node (Some block) = refl
+
 line-law : (node : Node) (line : List ℕ) (entries : List Entry) (final : Node) (o : Option Heard) → heard node line ≡ o
     → replayed_all (kept (after_heard node line o)) entries ≡ Some final
     → replayed_all (kept node) (recorded (option_map (λ h. says node line h (joins node h)) o) entries) ≡ Some final
-line-law node line entries final None e r = r
+line-law node line entries final None e r = sym (ap (λ n. replayed_all n entries) (kept-unheard node (joining node line))) ∙ r
 line-law node line entries final (Some h) e r =
     one-more node (replayed (kept node) (next_clock node h.source) line) (kept (stepped node h)) entries final
     (step-replayed node line h (ap (or_restart (kept node) line) (kept-heard node line ∙ e))) r
 
 again-law : (node : Node) (at : ℕ) (entries : List Entry) (final : Node) (o : Option Heard) → heard node (waiting_at node at) ≡ o
     → replayed_all (kept (again_at node at o)) entries ≡ Some final
-    → replayed_all (kept node) (recorded (option_map (λ h. says node (waiting_at node at) h (is_open (answer_to node h))) o) entries) ≡ Some final
+    → replayed_all (kept node) (recorded (option_map (says_again node at) o) entries) ≡ Some final
 again-law node at entries final None e r = r
 again-law node at entries final (Some h) e r =
     one-more node (replayed (kept node) (next_clock node h.source) (waiting_at node at)) (kept (stepped node h)) entries final

@@ -4,15 +4,14 @@ use Rattle.shm_model.specs.declared.answer.Answer.{Answer}
 use Rattle.shm_model.specs.declared.answer.Answer.TheVariants.{Byte, Stored, Fault, Waiting, Refused}
 use Rattle.shm_model.specs.declared.kind.Kind.{Kind}
 use Rattle.shm_model.specs.declared.kind.Kind.TheVariants.{Read, Write}
-use Rattle.shm_model.specs.Access.{Place, ask_for, asked, is_pending, load_at, load_if, right, store_at, store_if, stored_entry}
+use Rattle.shm_model.specs.Access.{Place, ask_for, asked, is_pending, load_if, right, store_if, stored_entry}
 use Rattle.shm_model.specs.Basics.{at_page, greatest}
 use Rattle.shm_model.specs.Entry.{bytes, readable, writable}
 use Rattle.shm_model.specs.Message.{Envelope, Input, Load, Store, Begin, Deliver, Tick, Restart}
 use Rattle.shm_model.specs.Refusal.{numbers_used_up}
 use Rattle.shm_model.specs.Site.{Site, Step, still}
 use Rattle.shm_model.specs.Step.{step}
-use Rattle.shm_process.specs.Access.{is_access}
-use Rattle.shm_process.specs.Waiting.{is_waiting}
+use Rattle.shm_process.specs.Access.{is_access, is_waiting}
 
 IsStill : Step → Site → Type 0
 IsStill s site = is_waiting s.answer ≡ true → s.site ≡ site

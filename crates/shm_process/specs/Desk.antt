@@ -5,7 +5,7 @@ use Rattle.shm_process.specs.Lines.{sent_lines}
 use Rattle.shm_process.specs.Node.{Node, Said}
 use Rattle.shm_process.specs.Recorded.{entries_text, recorded}
 use Rattle.shm_process.specs.Telling.{answer_line_of, shown_line}
-use Rattle.shm_process.specs.Waiting.{after, after_again, after_restart, most_waiting, passed_over, said, said_again, said_restart}
+use Rattle.shm_process.specs.Waiting.{after, after_again, after_restart, most_steps, passed_over, said, said_again, said_restart}
 
 pub record Desk : Type 0 where
   pub node : Node
@@ -58,7 +58,7 @@ max_line_bytes = 8192
 unfoldable pub after_line : Desk → List ℕ → Desk
 after_line desk line =
     if nat_lt max_line_bytes (length line) then record desk { node = passed_over desk.node }
-    else settled most_waiting (taken desk line)
+    else settled most_steps (taken desk line)
 
 -- one more byte of a line; of a line that is too long the rest is not kept
 abbrev pub grown : List ℕ → ℕ → List ℕ

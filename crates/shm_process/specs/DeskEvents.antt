@@ -1,5 +1,5 @@
 -- What a desk did, event by event.
-use Rattle.std.specs.Prelude.{◌≡◌, ℕ, List, ◌++◌}
+use Rattle.std.specs.Prelude.{◌≡◌, List, ◌++◌}
 use Rattle.shm_process.specs.Desk.{Desk}
 use Rattle.shm_process.specs.Recorded.{Event, after_events, entries_of, entries_text}
 

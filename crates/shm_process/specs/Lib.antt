@@ -1,8 +1,10 @@
+pub mod Access
+pub mod Blocks
+pub mod AskOf
 pub mod Node
 pub mod NodeOf
 pub mod Lines
 pub mod Waiting
-pub mod Access
 pub mod Showing
 pub mod Telling
 pub mod Recorded

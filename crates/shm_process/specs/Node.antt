@@ -14,9 +14,10 @@ use Rattle.shm_wire.specs.Asks.{Ask, read_ask}
 use Rattle.shm_wire.specs.Sent.{Sent, read_envelope}
 use Rattle.shm_wire.specs.declared.ask.Question.{Question}
 use Rattle.shm_wire.specs.declared.ask.Question.TheVariants as question
+use Rattle.shm_process.specs.Blocks.{WaitingAsk}
 
 -- how many sites there are, and which one this is; the site as it stands, its clock, and how many steps it made; how many lines made
--- a step, and how many were passed over; the tag of the caller whose segment call is outstanding; and the asks that wait, the oldest first
+-- a step or brought a block, and how many were passed over; the tag of the caller whose segment call is outstanding; and the asks that wait, the oldest first
 pub record Node : Type 0 where
   pub sites : ℕ
   pub me : ℕ
@@ -26,7 +27,7 @@ pub record Node : Type 0 where
   pub taken : ℕ
   pub passed : ℕ
   pub caller : Option (List ℕ)
-  pub waiting : List (List ℕ)
+  pub waiting : List WaitingAsk
 
 -- a node at which nothing has happened
 abbrev pub new_node : ℕ → ℕ → ℕ → Node
@@ -62,10 +63,11 @@ handed node sent =
     if foreign node.sites node.me sent.envelope || is_late node sent.source.at then None
     else Some (record { input = Deliver sent.envelope; source = sent.source.at; tag = None; waits = false })
 
--- what a site is made to do; a page is only shown
+-- what a site is made to do; a page is only shown, and a block is loaded byte by byte
 abbrev pub input_asked : Question → Option Input
 input_asked (question.Access asked) = Some (access_of asked)
 input_asked (question.Try asked) = Some (access_of asked)
+input_asked (question.Read at offset count) = None
 input_asked (question.Begin request) = Some (Begin request)
 input_asked question.Tick = Some Tick
 input_asked (question.Show page) = None
@@ -119,8 +121,8 @@ stepped node heard =
 
 -- ---- what it says
 
--- of one step: which site made it, its clock and its index, the envelopes that the site sent, what it answers, the tag of the caller
--- who is told that; and the line that made it
+-- of one step: which site made it, its clock and its index, the envelopes that the site sent, what it answers, all bytes of the block whose
+-- last load it was, the tag of the caller who is told that; and the line that made it
 pub record Said : Type 0 where
   pub site : ℕ
   pub clock : ℕ
@@ -128,6 +130,7 @@ pub record Said : Type 0 where
   pub sent : List Envelope
   pub tag : Option (List ℕ)
   pub answer : Answer
+  pub block : Option (List ℕ)
   pub line : List ℕ
 
 -- each ask is answered once: a segment call when it is replied to, unless it is refused, and an ask that still waits not yet
@@ -147,5 +150,6 @@ says node line heard stays =
       sent = done.sent;
       tag = tag_told stays heard.tag node.caller done.answer;
       answer = done.answer;
+      block = None;
       line = line;
     }

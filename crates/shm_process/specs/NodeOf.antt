@@ -3,6 +3,7 @@ use Rattle.std.specs.Prelude.{map, option_map, string_bytes}
 use Rattle.shm_parts.specs.Message.{envelope_of}
 use Rattle.shm_site.specs.Site.{site_of}
 use Rattle.shm_site.specs.Step.{input_of}
+use Rattle.shm_process.specs.AskOf.{ask_of}
 use Rattle.shm_process.specs.Node as spec
 use Rattle.shm_process.specs.declared.heard.Heard.{Heard}
 use Rattle.shm_process.specs.declared.node.Node.{Node}
@@ -18,7 +19,7 @@ node_of node = record {
   taken = node.taken;
   passed = node.passed;
   caller = option_map string_bytes node.caller;
-  waiting = map (λ line. line.items) node.waiting.items;
+  waiting = map ask_of node.waiting.items;
 }
 
 abbrev pub heard_of : {A : Type 0} → Heard A → spec.Heard
@@ -32,5 +33,6 @@ said_of said = record {
   sent = map envelope_of said.sent.items;
   tag = option_map string_bytes said.tag;
   answer = said.answer;
+  block = option_map (λ bytes. bytes.items) said.block;
   line = said.line.items;
 }

@@ -1,27 +1,24 @@
--- Accesses that wait for their right, and the steps that a node makes: of a line, of an ask that waits, at a restart, and again from the
+-- Accesses and blocks that wait for their right, and the steps that a node makes: of a line, of an ask that waits, at a restart, and again from the
 -- lines that were recorded.
-use Rattle.std.specs.Prelude.{ℕ, ◌+◌, Bool, true, false, ◌&&◌, not, List, [], ◌∷◌, ◌++◌, codes, Option, Some, None, ◌==◌, if◌then◌else◌, length, nat_lt, option_map, option_and_then, remove, slice_index_or}
+use Rattle.std.specs.Prelude.{ℕ, ◌+◌, ◌*◌, Bool, false, ◌&&◌, not, List, [], ◌∷◌, ◌++◌, codes, Option, Some, None, ◌==◌, if◌then◌else◌, length, nat_lt, option_map, option_and_then}
 use Rattle.std.specs.List.{position_from}
 use Rattle.std.specs.Str.{bytes_eq}
-use Rattle.shm_model.specs.declared.answer.Answer.{Answer}
-use Rattle.shm_model.specs.declared.answer.Answer.TheVariants.{Fault, Waiting}
+use Rattle.shm_place.specs.Limits.{page_bytes}
 use Rattle.shm_model.specs.Basics.{greatest}
 use Rattle.shm_model.specs.Message.{Restart}
+use Rattle.shm_wire.specs.Asks.{Ask, read_ask}
+use Rattle.shm_wire.specs.declared.ask.Question.{Question}
+use Rattle.shm_wire.specs.declared.ask.Question.TheVariants as question
+use Rattle.shm_process.specs.Access.{is_open, is_waiting}
+use Rattle.shm_process.specs.Blocks.{Access, Block, Reads, ask_in, left, next_line, stays, whole}
 use Rattle.shm_process.specs.Node.{Node, Heard, Said, answer_to, heard, is_late, next_clock, says, stepped}
 
 -- so many asks wait at most; one more is answered at once, as one that is only tried
 abbrev pub most_waiting : ℕ
 most_waiting = 64
 
--- the access was neither made nor refused
-abbrev pub is_open : Answer → Bool
-is_open Fault = true
-is_open Waiting = true
-is_open _ = false
-
-abbrev pub is_waiting : Answer → Bool
-is_waiting Waiting = true
-is_waiting _ = false
+abbrev pub has_room : Node → Bool
+has_room node = nat_lt (length node.waiting) most_waiting
 
 -- lines are counted up to the greatest number
 abbrev pub counted : ℕ → ℕ
@@ -30,20 +27,40 @@ counted lines = if lines == greatest then lines else lines + 1
 -- ---- a line
 
 abbrev pub joins : Node → Heard → Bool
-joins node heard = (heard.waits && nat_lt (length node.waiting) most_waiting) && is_open (answer_to node heard)
+joins node heard = (heard.waits && has_room node) && is_open (answer_to node heard)
 
 abbrev pub taken : Node → List ℕ → Heard → Node
 taken node line heard = record (stepped node heard) {
   taken = counted node.taken;
-  waiting = if joins node heard then node.waiting ++ line ∷ [] else node.waiting;
+  waiting = if joins node heard then node.waiting ++ Access line ∷ [] else node.waiting;
 }
 
--- a line that makes no step
+-- the block that a caller asks of this site; there is a clock for its loads
+abbrev pub block_in : List ℕ → Question → Option Block
+block_in tag (question.Read at offset count) = Some (record { tag = tag; at = at; offset = offset; count = count; bytes = [] })
+block_in tag _ = None
+
+abbrev pub block_here : Node → Ask → Option Block
+block_here node ask = if (ask.site == node.me) then (if is_late node 0 then None else block_in ask.tag ask.asked) else None
+
+-- the block that a line brings, if it finds room to wait
+abbrev pub joining : Node → List ℕ → Option Block
+joining node line = if has_room node then option_and_then (block_here node) (read_ask line) else None
+
+abbrev pub joined : Node → Block → Node
+joined node block = record node { taken = counted node.taken; waiting = node.waiting ++ Reads block ∷ [] }
+
+-- a line that is passed over
 abbrev pub passed_over : Node → Node
 passed_over node = record node { passed = counted node.passed }
 
+-- a line that makes no step
+abbrev pub after_unheard : Node → Option Block → Node
+after_unheard node None = passed_over node
+after_unheard node (Some block) = joined node block
+
 abbrev pub after_heard : Node → List ℕ → Option Heard → Node
-after_heard node line None = passed_over node
+after_heard node line None = after_unheard node (joining node line)
 after_heard node line (Some heard) = taken node line heard
 
 -- the node after a line, and what it says for it
@@ -55,22 +72,24 @@ said node line = option_map (λ h. says node line h (joins node h)) (heard node 
 
 -- ---- an ask that waits
 
+-- so many steps the asks that wait make at most, one after another: each byte of each block, and one more for each
+abbrev pub most_steps : ℕ
+most_steps = most_waiting * (page_bytes + 1)
+
 abbrev pub can_be_made : Node → Option Heard → Bool
 can_be_made node None = false
 can_be_made node (Some heard) = heard.waits && not (is_waiting (answer_to node heard))
 
 -- the oldest ask that doesn't only wait for what was asked already
 abbrev pub ready : Node → Option ℕ
-ready node = position_from (λ line. can_be_made node (heard node line)) 0 node.waiting
+ready node = position_from (λ ask. can_be_made node (heard node (next_line node.me ask))) 0 node.waiting
 
 abbrev pub waiting_at : Node → ℕ → List ℕ
-waiting_at node at = slice_index_or node.waiting at []
+waiting_at node at = next_line node.me (ask_in node.waiting at)
 
--- it waits on where its right has to be asked for anew
+-- it waits on where its right has to be asked for anew, and where it is a block of which more is to be loaded
 abbrev pub made_again : Node → ℕ → Heard → Node
-made_again node at heard = record (stepped node heard) {
-  waiting = if is_open (answer_to node heard) then node.waiting else remove node.waiting at;
-}
+made_again node at heard = record (stepped node heard) { waiting = left node.waiting at (answer_to node heard) }
 
 abbrev pub again_at : Node → ℕ → Option Heard → Node
 again_at node at None = node
@@ -83,8 +102,13 @@ again_if node (Some at) = again_at node at (heard node (waiting_at node at))
 abbrev pub after_again : Node → Node
 after_again node = again_if node (ready node)
 
+abbrev pub says_again : Node → ℕ → Heard → Said
+says_again node at heard =
+    let ask = ask_in node.waiting at in
+    record (says node (waiting_at node at) heard (stays ask (answer_to node heard))) { block = whole ask (answer_to node heard) }
+
 abbrev pub says_at : Node → ℕ → Option Said
-says_at node at = option_map (λ h. says node (waiting_at node at) h (is_open (answer_to node h))) (heard node (waiting_at node at))
+says_at node at = option_map (says_again node at) (heard node (waiting_at node at))
 
 abbrev pub said_again : Node → Option Said
 said_again node = option_and_then (says_at node) (ready node)

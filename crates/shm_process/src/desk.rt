@@ -5,11 +5,11 @@ ghost use Rattle.shm_process.specs.Desk.{after_line, cleared, desk_at, grown, ma
 ghost use Rattle.shm_process.specs.DeskOf.{desk_of};
 ghost use Rattle.shm_process.specs.NodeOf.{node_of, said_of};
 ghost use Rattle.shm_process.specs.Telling.{shown_line};
-ghost use Rattle.shm_process.specs.Waiting.{most_waiting, said_again};
+ghost use Rattle.shm_process.specs.Waiting.{most_steps, said_again};
 
 use crate::node::Node;
 use crate::said::Said;
-use crate::taking::MOST_WAITING;
+use crate::taking::MOST_STEPS;
 use std::alloc::{AllocError, Allocator, Global};
 
 /// How many bytes a line has at most, less its line feed. A longer one is passed over.
@@ -156,9 +156,9 @@ impl<A: Allocator + Copy> Desk<A> {
 
     /// Makes the asks that wait, as far as they can be made.
     fn settle(&mut self) -> Result<(), AllocError>
-        ensures { OnOk result (desk_of self.new ≡ settled most_waiting (desk_of self.old)) }
+        ensures { OnOk result (desk_of self.new ≡ settled most_steps (desk_of self.old)) }
     {
-        'asks: for _round in 0..MOST_WAITING {
+        'asks: for _round in 0..MOST_STEPS {
             let more = self.make_waiting()?;
             if !more {
                 return Ok(());

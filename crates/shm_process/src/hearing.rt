@@ -60,7 +60,7 @@ impl<A: Allocator + Copy> Node<A> {
             return Ok(None);
         }
         let waits = waits_for_right(&ask.asked);
-        let Some(input) = input_of_question(ask.asked) else {
+        let Some(input) = input_asked(ask.asked) else {
             return Ok(None);
         };
         let tag = String::from_str(self.alloc, ask.tag)?;
@@ -81,8 +81,8 @@ impl<A: Allocator + Copy> Node<A> {
     }
 }
 
-/// What the site is made to do.
-fn input_of_question<A: Allocator + Copy>(question: Question) -> Option<Input<A>>
+/// What the site is made to do. A page is only shown, and a block is loaded byte by byte.
+pub fn input_asked<A: Allocator + Copy>(question: Question) -> Option<Input<A>>
     ensures input { option_map input_of result ≡ spec.input_asked question }
     ensures access { IfSome result (λ input. spec.waits_for question ≡ true → is_access (input_of input) ≡ true) }
     ensures proper { (sites me : ℕ) → IfSome result (λ input. is_foreign sites me (input_of input) ≡ false) }
@@ -91,7 +91,7 @@ fn input_of_question<A: Allocator + Copy>(question: Question) -> Option<Input<A>
         Question::Access(asked) | Question::Try(asked) => Some(Input::of(asked)),
         Question::Begin(request) => Some(Input::Begin(request)),
         Question::Tick => Some(Input::Tick),
-        Question::Show(_) => None,
+        Question::Show(_) | Question::Read { .. } => None,
     }
 }
 

@@ -4,6 +4,7 @@
 //! or a store waits for its right, and is made again when it may be there.
 #![tactic(auto)]
 
+mod block;
 mod desk;
 mod heard;
 mod hearing;
@@ -15,11 +16,11 @@ mod said;
 mod stepping;
 mod taking;
 mod telling;
-#[cfg(test)]
-mod tests;
 mod waiting;
+mod waiting_ask;
 
 pub use desk::Desk;
+pub use hearing::input_asked;
 pub use node::Node;
 pub use said::Said;
 pub use taking::MOST_WAITING;

@@ -1,5 +1,6 @@
 ghost use Rattle.std.specs.Prelude.{◌≡◌, ◌≤◌};
 
+use crate::waiting_ask::WaitingAsk;
 use shm_place::{PAGES, SiteId, Sites};
 use shm_site::Site;
 use std::alloc::{AllocError, Allocator, Global};
@@ -15,7 +16,7 @@ pub struct Node<A: Allocator + Copy = Global> {
     pub(crate) taken: u64,
     pub(crate) passed: u64,
     pub(crate) caller: Option<String<A>>,
-    pub(crate) waiting: Vec<Vec<u8, A>, A>,
+    pub(crate) waiting: Vec<WaitingAsk<A>, A>,
     pub(crate) alloc: A,
     ghost all_sites: { site.sites ≡ sites },
     ghost own_number: { site.me ≡ me },
@@ -72,14 +73,14 @@ impl<A: Allocator + Copy> Node<A> {
         self.steps
     }
 
-    /// How many lines made a step when they were taken.
+    /// How many lines made a step when they were taken, or brought a block that then waited.
     pub fn taken(&self) -> u64
         ensures { result ≡ (node_of self.now).taken }
     {
         self.taken
     }
 
-    /// How many lines were passed over: those that made no step, a `show` too.
+    /// How many lines were passed over: the others, a `show` too.
     pub fn passed(&self) -> u64
         ensures { result ≡ (node_of self.now).passed }
     {

@@ -37,6 +37,7 @@ impl<A: Allocator + Copy> Node<A> {
             sent,
             tag,
             answer,
+            block: None,
             line,
         })
     }

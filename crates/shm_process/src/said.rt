@@ -18,6 +18,8 @@ pub struct Said<A: Allocator + Copy = Global> {
     pub tag: Option<String<A>>,
     /// What the site answers. For an ask it stands under the ask's tag, but that a segment call is answered when it is replied to.
     pub answer: Answer,
+    /// All bytes of a block, where the step is its last load. They are told in place of the answer.
+    pub block: Option<Vec<u8, A>>,
     /// The line that made the step, without its line feed: what is recorded of it beside the clock.
     pub line: Vec<u8, A>,
 }

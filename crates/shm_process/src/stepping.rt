@@ -1,7 +1,7 @@
 //! Who is told a step's answer, and what an access's answer means for it.
 ghost use Rattle.std.specs.Prelude.{◌≡◌, if◌then◌else◌, None, option_map, string_bytes};
 ghost use Rattle.shm_process.specs.Node.{caller_after, tag_told};
-ghost use Rattle.shm_process.specs.Waiting.{is_open, is_waiting};
+ghost use Rattle.shm_process.specs.Access.{is_open, is_waiting};
 
 use shm_model::Answer;
 use std::alloc::Allocator;

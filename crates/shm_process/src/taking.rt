@@ -1,24 +1,35 @@
 //! What a node does with a line.
-ghost use Rattle.std.specs.Prelude.{◌≡◌, ◌<◌, ◌++◌, ◌∷◌, ◌&&◌, [], false, length, map, max, nat_lt, option_map, IfOk, OnErr, OnOk, if◌then◌else◌, vec_capacity, vec_len};
+ghost use Rattle.std.specs.Prelude.{◌≡◌, ◌<◌, ◌++◌, ◌∷◌, ◌&&◌, [], false, map, max, option_map, IfOk, OnErr, OnOk, if◌then◌else◌, vec_capacity, vec_len};
 ghost use Rattle.shm_model.specs.Basics.{greatest};
+ghost use Rattle.shm_process.specs.Access.{is_open};
+ghost use Rattle.shm_process.specs.AskOf.{ask_of, block_of};
+ghost use Rattle.shm_process.specs.Blocks.{Access};
 ghost use Rattle.shm_process.specs.Node.{next_clock, says};
 ghost use Rattle.shm_process.specs.NodeOf.{heard_of, node_of, said_of};
-ghost use Rattle.shm_process.specs.Waiting.{after, counted, is_open, joins, most_waiting, passed_over, said, taken};
+ghost use Rattle.shm_process.specs.Waiting.{after, after_unheard, counted, has_room, joined, joining, joins, passed_over, said, taken};
 ghost use Rattle.shm_site.specs.Step.{input_of, is_foreign};
 
+use crate::block::Block;
 use crate::heard::Heard;
 use crate::node::Node;
 use crate::said::Said;
 use crate::stepping::{is_open, take_tag};
+use crate::waiting_ask::WaitingAsk;
+use shm_place::PAGE_BYTES;
 use shm_site::{Answer, Made};
+use shm_wire::{Question, parse_ask};
 use std::alloc::{AllocError, Allocator};
 
 /// So many asks wait at most. One more is answered at once, as one that is only tried.
 pub const MOST_WAITING: usize = 64;
 
+/// So many steps the asks that wait make at most, one after another: each byte of each block, and one more for each.
+pub(crate) const MOST_STEPS: usize = MOST_WAITING * (PAGE_BYTES + 1);
+
 impl<A: Allocator + Copy> Node<A> {
-    /// Takes a line, which stands without its line feed, and says what the site's step does; `None`: the line was passed over. A load or
-    /// a store without its right joins those that wait. Where memory is refused the node is as before, and the line may be taken again.
+    /// Takes a line, which stands without its line feed, and says what the site's step does; `None`: it made none. A load or a store without
+    /// its right joins those that wait, and so does a block, unless it finds no room. Where memory is refused the node is as before, and the
+    /// line may be taken again.
     pub fn take(&mut self, line: &[u8]) -> Result<Option<Said<A>>, AllocError>
         ensures said { IfOk result (λ said_now. option_map said_of said_now ≡ said (node_of self.old) line.now) }
         ensures after { OnOk result (node_of self.new ≡ after (node_of self.old) line.now) }
@@ -30,10 +41,56 @@ impl<A: Allocator + Copy> Node<A> {
                 Ok(Some(said))
             }
             None => {
-                self.pass_over();
+                self.take_unheard(line)?;
                 Ok(None)
             }
         }
+    }
+
+    /// Takes a line that makes no step: the block that it brings joins those that wait, or the line is passed over.
+    fn take_unheard(&mut self, line: &[u8]) -> Result<(), AllocError>
+        ensures after { OnOk result (node_of self.new ≡ after_unheard (node_of self.old) (joining (node_of self.old) line.now)) }
+        ensures refused { OnErr result (node_of self.new ≡ node_of self.old) }
+    {
+        match self.joining(line)? {
+            Some(block) => self.join_block(block),
+            None => {
+                self.pass_over();
+                Ok(())
+            }
+        }
+    }
+
+    /// The block that the line brings, if it finds room to wait.
+    fn joining(&self, line: &[u8]) -> Result<Option<Block<A>>, AllocError>
+        ensures { IfOk result (λ block. option_map block_of block ≡ joining (node_of self.now) line.now) }
+    {
+        if !self.has_room() {
+            return Ok(None);
+        }
+        let Some(ask) = parse_ask(line) else {
+            return Ok(None);
+        };
+        if ask.site != self.me || self.is_late(0) {
+            return Ok(None);
+        }
+        let Question::Read { at, offset, length } = ask.asked else {
+            return Ok(None);
+        };
+        let block = Block::new(self.alloc, ask.tag, at, offset, length)?;
+        Ok(Some(block))
+    }
+
+    /// The block joins those that wait.
+    #[tactic(auto, using(crate::proofs::Asks::map_push))]
+    fn join_block(&mut self, block: Block<A>) -> Result<(), AllocError>
+        ensures after { OnOk result (node_of self.new ≡ joined (node_of self.old) (block_of block)) }
+        ensures refused { OnErr result (node_of self.new ≡ node_of self.old) }
+    {
+        self.waiting.reserve(1)?;
+        self.taken = one_more(self.taken);
+        self.waiting.push_reserved(WaitingAsk::Reads(block));
+        Ok(())
     }
 
     /// Passes a line over: it is counted.
@@ -77,16 +134,24 @@ impl<A: Allocator + Copy> Node<A> {
             sent,
             tag,
             answer,
+            block: None,
             line,
         })
     }
 
     /// Whether an ask that waits finds room to.
-    #[tactic(auto, using(crate::proofs::Asks::length_map))]
     fn may_wait(&self, waits: bool) -> bool
-        ensures { result ≡ (waits && nat_lt (length (node_of self.now).waiting) most_waiting) }
+        ensures { result ≡ (waits && has_room (node_of self.now)) }
     {
-        waits && self.waiting.len() < MOST_WAITING
+        waits && self.has_room()
+    }
+
+    /// Whether one more ask may wait.
+    #[tactic(auto, using(crate::proofs::Asks::length_map))]
+    pub(crate) fn has_room(&self) -> bool
+        ensures { result ≡ has_room (node_of self.now) }
+    {
+        self.waiting.len() < MOST_WAITING
     }
 
     /// The clock of the next step.
@@ -107,14 +172,14 @@ fn waits_still(waits: bool, answer: &Answer) -> bool
 
 /// The ask joins those that wait, if it stays.
 #[tactic(auto, using(crate::proofs::Asks::map_push))]
-fn join<A: Allocator + Copy>(waiting: &mut Vec<Vec<u8, A>, A>, line: Vec<u8, A>, stays: bool)
+fn join<A: Allocator + Copy>(waiting: &mut Vec<WaitingAsk<A>, A>, line: Vec<u8, A>, stays: bool)
     requires { vec_len waiting.old < vec_capacity waiting.old }
-    ensures { map (λ line. line.items) waiting.new.items ≡ (if stays then map (λ line. line.items) waiting.old.items ++ line.items ∷ [] else map (λ line. line.items) waiting.old.items) }
+    ensures { map ask_of waiting.new.items ≡ (if stays then map ask_of waiting.old.items ++ Access line.items ∷ [] else map ask_of waiting.old.items) }
 {
     if !stays {
         return;
     }
-    waiting.push_reserved(line);
+    waiting.push_reserved(WaitingAsk::Access(line));
 }
 
 /// One more line.

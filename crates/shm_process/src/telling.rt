@@ -1,14 +1,16 @@
-//! What callers are told: answers, and what a page holds.
+//! What callers are told: answers, blocks, and what a page holds.
 ghost use Rattle.std.specs.Prelude.{◌≡◌, option_map, string_bytes, IfOk};
 ghost use Rattle.shm_process.specs.NodeOf.{node_of, said_of};
-ghost use Rattle.shm_process.specs.Telling.{answer_line_of, shown_line};
+ghost use Rattle.shm_process.specs.Telling.{answer_line_of, crowded_out, shown_for, shown_line};
+ghost use Rattle.shm_wire.specs.declared.ask.Question.TheVariants.{Show};
 
 use crate::node::Node;
 use crate::said::Said;
 use shm_debug::AnswerText;
 use shm_model::refusal::FOREIGN;
 use shm_model::{Answer, Shown, State};
-use shm_wire::{Ask, Question, parse_ask};
+use shm_place::PageId;
+use shm_wire::{Ask, BlockText, Question, parse_ask};
 use std::alloc::{AllocError, Allocator};
 use std::fmt;
 
@@ -22,14 +24,39 @@ impl<A: Allocator + Copy> Said<A> {
         };
         let site = self.site.0;
         let tag = tag.as_str();
-        let answer = AnswerText(self.answer);
-        let line = format!(in alloc; "tell {site} {tag} {answer}")?;
+        let text = ToldText {
+            answer: self.answer,
+            block: &self.block,
+        };
+        let line = format!(in alloc; "tell {site} {tag} {text}")?;
         Ok(Some(line))
     }
 }
 
+/// An answer in the script's words, or the bytes of a block.
+#[derive(Clone, Copy)]
+struct ToldText<'a, A: Allocator + Copy> {
+    answer: Answer,
+    block: &'a Option<Vec<u8, A>>,
+}
+
+impl<'a, A: Allocator + Copy> fmt::Display for ToldText<'a, A> {
+    ghost use Rattle.std.specs.Prelude.{Some, option_map};
+    ghost use Rattle.shm_process.specs.Telling.{text_of};
+
+    ghost output = { λ text. Some (text_of text.answer (option_map (λ bytes. bytes.items) text.block.now)) };
+
+    fn fmt<W: fmt::Write>(&self, f: &mut fmt::Formatter<W>) -> fmt::Result {
+        match self.block {
+            Some(bytes) => write!(f, "{}", BlockText(bytes.as_slice())),
+            None => write!(f, "{}", AnswerText(self.answer)),
+        }
+    }
+}
+
 impl<A: Allocator + Copy> Node<A> {
-    /// The line that tells what the site has of a page, without a line feed, where that is what this line asks of it. It makes no step.
+    /// The line that is told at once of this one, without a line feed: what the site has of a page, where that is asked of it, and that a
+    /// block finds no room to wait. It makes no step.
     pub fn shown(&self, line: &[u8]) -> Result<Option<String<A>>, AllocError>
         ensures { IfOk result (λ told. option_map string_bytes told ≡ shown_line (node_of self.now) line.now) }
     {
@@ -37,15 +64,35 @@ impl<A: Allocator + Copy> Node<A> {
             return Ok(None);
         };
         let Ask { site, tag, asked } = ask;
-        let Question::Show(page) = asked else {
-            return Ok(None);
-        };
         if site != self.me {
             return Ok(None);
         }
-        let site = site.0;
+        match asked {
+            Question::Show(page) => self.show_page(tag, page),
+            Question::Read { .. } => self.crowd_out(tag),
+            _ => Ok(None),
+        }
+    }
+
+    fn show_page(&self, tag: &str, page: PageId) -> Result<Option<String<A>>, AllocError>
+        ensures { IfOk result (λ told. option_map string_bytes told ≡ shown_for (node_of self.now) tag.now (Show page)) }
+    {
+        let site = self.me.0;
         let shown = ShownText(self.site.shown(page));
         let line = format!(in self.alloc; "tell {site} {tag} {shown}")?;
+        Ok(Some(line))
+    }
+
+    /// A block is told that it finds no room to wait.
+    fn crowd_out(&self, tag: &str) -> Result<Option<String<A>>, AllocError>
+        ensures { IfOk result (λ told. option_map string_bytes told ≡ crowded_out (node_of self.now) tag.now) }
+    {
+        if self.has_room() || self.is_late(0) {
+            return Ok(None);
+        }
+        let site = self.me.0;
+        let waiting = AnswerText(Answer::Waiting);
+        let line = format!(in self.alloc; "tell {site} {tag} {waiting}")?;
         Ok(Some(line))
     }
 }

@@ -3,18 +3,22 @@ ghost use Rattle.std.specs.Prelude.{◌≡◌, ◌<◌, false, true, map, max, o
 ghost use Rattle.shm_model.specs.Basics.{greatest};
 ghost use Rattle.shm_model.specs.Step.{step};
 ghost use Rattle.shm_parts.specs.Message.{envelope_of};
-ghost use Rattle.shm_process.specs.Access.{is_access};
-ghost use Rattle.shm_process.specs.Node.{answer_to, heard, says};
+ghost use Rattle.shm_process.specs.Access.{is_access, is_waiting};
+ghost use Rattle.shm_process.specs.AskOf.{ask_of};
+ghost use Rattle.shm_process.specs.Blocks as blocks;
+ghost use Rattle.shm_process.specs.Blocks.{ask_in, left, stays, whole};
+ghost use Rattle.shm_process.specs.Node.{answer_to, heard};
 ghost use Rattle.shm_process.specs.NodeOf.{heard_of, node_of, said_of};
-ghost use Rattle.shm_process.specs.Waiting.{after_again, again_at, can_be_made, is_open, is_waiting, made_again, said_again, says_at, waiting_at};
+ghost use Rattle.shm_process.specs.Waiting.{after_again, again_at, can_be_made, made_again, said_again, says_again, says_at, waiting_at};
 ghost use Rattle.shm_site.specs.Site.{SameSeat, site_of, stepped};
 ghost use Rattle.shm_site.specs.Step.{input_of, is_foreign};
 
 use crate::heard::Heard;
 use crate::node::Node;
 use crate::said::Said;
-use crate::stepping::{is_open, is_waiting, take_tag};
-use shm_site::{Input, Made, Site};
+use crate::stepping::{is_waiting, take_tag};
+use crate::waiting_ask::WaitingAsk;
+use shm_site::{Answer, Input, Made, Site};
 use std::alloc::{AllocError, Allocator};
 
 impl<A: Allocator + Copy> Node<A> {
@@ -58,7 +62,7 @@ impl<A: Allocator + Copy> Node<A> {
         requires { at < vec_len self.now.waiting }
         ensures { IfOk result (λ line. line.items ≡ waiting_at (node_of self.now) at) }
     {
-        Vec::from_slice(self.alloc, self.waiting[at].as_slice())
+        self.waiting[at].next_line(self.alloc, self.me)
     }
 
     /// Makes an access that waits at this place, unless it only waits for what was asked already.
@@ -72,10 +76,11 @@ impl<A: Allocator + Copy> Node<A> {
         requires proper { is_foreign self.old.sites self.old.me (input_of heard.input) ≡ false }
         requires access { is_access (input_of heard.input) ≡ true }
         requires early { max self.old.clock heard.source < greatest }
-        ensures none { IfOk result (λ said. IfNone said ((is_waiting (answer_to (node_of self.old) (heard_of heard)) ≡ true) × (node_of self.new ≡ node_of self.old))) }
+        ensures waits { IfOk result (λ said. IfNone said (is_waiting (answer_to (node_of self.old) (heard_of heard)) ≡ true)) }
+        ensures still { IfOk result (λ said. IfNone said (node_of self.new ≡ node_of self.old)) }
         ensures count { IfOk result (λ said. IfNone said (vec_len self.new.waiting ≡ vec_len self.old.waiting)) }
         ensures can { IfOk result (λ said. IfSome said (λ s. is_waiting (answer_to (node_of self.old) (heard_of heard)) ≡ false)) }
-        ensures said { IfOk result (λ said. IfSome said (λ s. said_of s ≡ says (node_of self.old) line.items (heard_of heard) (is_open (answer_to (node_of self.old) (heard_of heard))))) }
+        ensures said { IfOk result (λ said. IfSome said (λ s. said_of s ≡ record (says_again (node_of self.old) at (heard_of heard)) { line = line.items })) }
         ensures after { IfOk result (λ said. IfSome said (λ s. node_of self.new ≡ made_again (node_of self.old) at (heard_of heard))) }
         ensures refused { OnErr result (node_of self.new ≡ node_of self.old) }
     {
@@ -93,8 +98,8 @@ impl<A: Allocator + Copy> Node<A> {
         }
         self.clock = clock;
         self.steps = index + 1;
-        let stays = is_open(&answer);
-        leave(&mut self.waiting, at, stays);
+        let stays = stays_at(&self.waiting, at, &answer);
+        let block = settle_at(&mut self.waiting, at, stays, &answer);
         let tag = take_tag(stays, tag, &mut self.caller, &answer);
         Ok(Some(Said {
             site: self.me,
@@ -103,6 +108,7 @@ impl<A: Allocator + Copy> Node<A> {
             sent,
             tag,
             answer,
+            block,
             line,
         }))
     }
@@ -122,14 +128,35 @@ fn step_access<A: Allocator + Copy>(
     site.step_spending(input)
 }
 
-/// The ask leaves those that wait, unless it stays.
-#[tactic(auto, using(crate::proofs::Asks::map_remove))]
-fn leave<A: Allocator + Copy>(waiting: &mut Vec<Vec<u8, A>, A>, at: usize, stays: bool)
-    requires { at < vec_len waiting.old }
-    ensures { map (λ line. line.items) waiting.new.items ≡ (if stays then map (λ line. line.items) waiting.old.items else remove (map (λ line. line.items) waiting.old.items) at) }
+/// Whether the ask at this place goes on waiting.
+#[tactic(auto, using(crate::proofs::Asks::map_read))]
+fn stays_at<A: Allocator + Copy>(
+    waiting: &Vec<WaitingAsk<A>, A>,
+    at: usize,
+    answer: &Answer,
+) -> bool
+    requires { at < vec_len waiting.now }
+    ensures { result ≡ stays (ask_in (map ask_of waiting.now.items) at) answer.now }
+{
+    waiting[at].stays(answer)
+}
+
+/// The ask at this place goes on waiting, or leaves those that wait; it has all bytes of a block, if this is the last of them.
+#[tactic(auto, using(crate::proofs::Asks::map_read, crate::proofs::Asks::map_remove, crate::proofs::Asks::map_set))]
+fn settle_at<A: Allocator + Copy>(
+    waiting: &mut Vec<WaitingAsk<A>, A>,
+    at: usize,
+    stays: bool,
+    answer: &Answer,
+) -> Option<Vec<u8, A>>
+    requires at { at < vec_len waiting.old }
+    requires stays { stays ≡ blocks.stays (ask_in (map ask_of waiting.old.items) at) answer.now }
+    ensures left { map ask_of waiting.new.items ≡ left (map ask_of waiting.old.items) at answer.now }
+    ensures whole { option_map (λ bytes. bytes.items) result ≡ whole (ask_in (map ask_of waiting.old.items) at) answer.now }
 {
     if stays {
-        return;
+        waiting[at].go_on(answer);
+        return None;
     }
-    drop(waiting.remove(at));
+    waiting.remove(at).end(answer)
 }

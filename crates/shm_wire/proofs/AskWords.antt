@@ -18,12 +18,12 @@ use Rattle.shm_lines.proofs.StepLemmas.{step, some-is, cond-some}
 use Rattle.shm_lines.specs.Words.{words_of}
 use Rattle.shm_wire.proofs.CallWords.{common-is}
 use Rattle.shm_wire.proofs.MessageWords.{took_page}
-use Rattle.shm_wire.proofs.Reading.{took, ended-is, Reads, Sound, SoundReader, SoundWords, by_verb-is, nothing-is, verb-is}
-use Rattle.shm_wire.specs.Asks.{Ask, IsAsk, IsAsked, IsTag, ask_after, ask_line, ask_of_words, ask_words, asked_of, asked_words, begun_of, detach_of, is_tag, load_of, own, read_ask, show_of, store_of, tag_of, try_load_of, try_store_of}
+use Rattle.shm_wire.proofs.Reading.{took, ended-is, cond-of, Reads, Sound, SoundReader, SoundWords, by_verb-is, nothing-is, verb-is}
+use Rattle.shm_wire.specs.Asks.{Ask, IsAsk, IsAsked, IsTag, ask_after, ask_line, ask_of_words, ask_words, asked_of, asked_words, begun_of, detach_of, is_tag, is_block, load_of, own, read_ask, read_of, show_of, store_of, tag_of, try_load_of, try_store_of}
 use Rattle.shm_wire.specs.Calls.{common_of}
 use Rattle.shm_wire.specs.Words.{by_verb, ended, nothing}
 use Rattle.shm_wire.specs.declared.ask.Question.{Question}
-use Rattle.shm_wire.specs.declared.ask.Question.TheVariants.{Access, Try, Begin, Tick, Show}
+use Rattle.shm_wire.specs.declared.ask.Question.TheVariants.{Access, Try, Read, Begin, Tick, Show}
 
 -- ---- tags
 
@@ -84,6 +84,15 @@ module _ (words : List (List ℕ)) (asked : Question) where
       let e = ended-is (Try (Store a.value o.value b.value)) asked b.others b.gives in
       subst (ReadsAsked (codes "try-store" ∷ words)) e.1 ((a.is, o.is, b.is), ap (λ l. codes "try-store" ∷ l) (onto a.are (onto o.are (onto b.are e.0))))
 
+  read-is : read_of words ≡ Some asked → ReadsAsked (codes "read" ∷ words) asked
+  read-is h =
+      let a = took number words _ asked h in
+      let o = took number a.others _ asked a.gives in
+      let l = took number o.others _ asked o.gives in
+      let c = cond-of (is_block o.value l.value) (ended (Read a.value o.value l.value) l.others) asked l.gives in
+      let e = ended-is (Read a.value o.value l.value) asked l.others c.1 in
+      subst (ReadsAsked (codes "read" ∷ words)) e.1 ((a.is, o.is, l.is, c.0), ap (λ l. codes "read" ∷ l) (onto a.are (onto o.are (onto l.are e.0))))
+
   detach-is : detach_of words ≡ Some asked → ReadsAsked (codes "detach" ∷ words) asked
   detach-is h =
       let a = took number words _ asked h in
@@ -108,7 +117,7 @@ begun-is word words asked h =
     subst (ReadsAsked (word ∷ words)) (some-is (Begin (OpRequest s.value)) asked s.gives) (r.0, r.1)
 
 sound : Sound IsAsked asked_words own
-sound = (load-is, (store-is, (try_load-is, (try_store-is, (detach-is, (tick-is, (show-is, tt)))))))
+sound = (load-is, (store-is, (try_load-is, (try_store-is, (read-is, (detach-is, (tick-is, (show-is, tt))))))))
 
 asked-is : (words : List (List ℕ)) (asked : Question) → asked_of words ≡ Some asked → ReadsAsked words asked
 asked-is words asked h = verb-is IsAsked asked_words (by_verb own begun_of) (by_verb-is IsAsked asked_words own begun_of sound begun-is) words asked h

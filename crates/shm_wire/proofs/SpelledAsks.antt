@@ -17,7 +17,7 @@ use Rattle.shm_wire.proofs.SpelledMessages.{prints_page}
 use Rattle.shm_wire.specs.Asks.{Ask, IsAsk, IsAsked, ask_line, ask_of_words, asked_of, asked_words, read_ask}
 use Rattle.shm_wire.specs.Calls.{call_words}
 use Rattle.shm_wire.specs.declared.ask.Question.{Question}
-use Rattle.shm_wire.specs.declared.ask.Question.TheVariants.{Access, Try, Begin, Tick, Show}
+use Rattle.shm_wire.specs.declared.ask.Question.TheVariants.{Access, Try, Read, Begin, Tick, Show}
 
 begins : Option Op → Option Question
 begins o = o >>= λ op. Some (Begin (OpRequest op))
@@ -47,6 +47,10 @@ asked-spelled (Try (Load at offset)) h = record {
 asked-spelled (Try (Store at offset b)) h = record {
   unparted = (NoBlank-test (codes "try-store") refl, (number.unparted at h.0, (number.unparted offset h.1, (byte.unparted b h.2, tt))));
   back = rw (prints number at (decimal offset ∷ decimal b ∷ []) h.0, prints number offset (decimal b ∷ []) h.1, prints byte b [] h.2) refl;
+}
+asked-spelled (Read at offset count) h = record {
+  unparted = (NoBlank-test (codes "read") refl, (number.unparted at h.0, (number.unparted offset h.1, (number.unparted count h.2, tt))));
+  back = rw (prints number at (decimal offset ∷ decimal count ∷ []) h.0, prints number offset (decimal count ∷ []) h.1, prints number count [] h.2, h.3) refl;
 }
 asked-spelled (Begin (OpRequest op)) h = begun-spelled op h
 asked-spelled (Begin (DetachAt at)) h = record {

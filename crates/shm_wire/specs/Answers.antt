@@ -1,8 +1,10 @@
 -- The line that answers an ask: `tell SITE TAG`, and a text, which may have blanks.
-use Rattle.std.specs.Prelude.{◌≡◌, ℕ, Bool, true, if◌then◌else◌, List, [], ◌∷◌, codes, drop, Option, None, Some}
+use Rattle.std.specs.Prelude.{◌≡◌, ℕ, Bool, true, if◌then◌else◌, List, [], ◌∷◌, ◌++◌, codes, drop, Option, None, Some}
 use Rattle.std.specs.Fmt.{decimal}
 use Rattle.std.specs.Int.{is_in_range}
 use Rattle.std.specs.List.{join_with_byte, list_all}
+use Rattle.base64.specs.Engines.{standard}
+use Rattle.base64.specs.GeneralPurpose.{encode_of}
 use Rattle.shm_lines.specs.Words.{◌>>=◌, words_of, next_word, next_of, next_number, is_end}
 use Rattle.shm_lines.specs.Spelling.{IsNumber}
 use Rattle.shm_wire.specs.Asks.{IsTag, tag_of}
@@ -50,3 +52,9 @@ answer_of_words words = do
 
 abbrev pub read_answer : List ℕ → Option Answer
 read_answer line = answer_of_words (words_of line)
+
+-- ---- the text that answers a block
+
+-- its bytes' base64
+abbrev pub block_text : List ℕ → List ℕ
+block_text bytes = codes "block " ++ encode_of standard bytes

@@ -1,8 +1,9 @@
 -- What a caller asks of a site, under a tag of its own: `ask SITE TAG`, and what a script's line says, less the site.
-use Rattle.std.specs.Prelude.{⊤, ◌≡◌, ℕ, ◌<◌, ◌&&◌, Bool, true, if◌then◌else◌, List, [], ◌∷◌, codes, length, nat_lt, Option, None, Some}
+use Rattle.std.specs.Prelude.{⊤, ◌≡◌, ℕ, ◌+◌, ◌^◌, ◌<◌, ◌&&◌, Bool, true, if◌then◌else◌, List, [], ◌∷◌, codes, length, nat_lt, Option, None, Some}
 use Rattle.std.specs.Char.{is_ascii_graphic}
 use Rattle.std.specs.Fmt.{decimal}
 use Rattle.std.specs.List.{join_with_byte, list_all}
+use Rattle.shm_place.specs.Limits.{page_bytes}
 use Rattle.shm_model.specs.declared.asked.Asked.TheVariants.{Load, Store}
 use Rattle.shm_model.specs.declared.call.Request.TheVariants.{Op as OpRequest, DetachAt}
 use Rattle.shm_model.specs.declared.event.Event.TheVariants as event
@@ -14,7 +15,7 @@ use Rattle.shm_wire.specs.Messages.{IsPageId, next_page}
 use Rattle.shm_wire.specs.Words.{Verbs, by_verb, ended, nothing}
 use Rattle.shm_wire.specs.declared.ask.Ask.{Ask as CodeAsk}
 use Rattle.shm_wire.specs.declared.ask.Question.{Question}
-use Rattle.shm_wire.specs.declared.ask.Question.TheVariants.{Access, Try, Begin, Tick, Show}
+use Rattle.shm_wire.specs.declared.ask.Question.TheVariants.{Access, Try, Read, Begin, Tick, Show}
 
 -- ---- tags
 
@@ -30,11 +31,19 @@ tag_of word = if is_tag word then Some word else None
 
 -- ---- what is asked
 
+-- bytes one after another: at most a page, and each at an offset that there is
+abbrev pub is_block : ℕ → ℕ → Bool
+is_block offset count = nat_lt 0 count && nat_lt count (page_bytes + 1) && nat_lt (offset + count) (2 ^ 32 + 1)
+
+abbrev pub IsBlock : ℕ → ℕ → Type 0
+IsBlock offset count = is_block offset count ≡ true
+
 abbrev pub IsAsked : Question → Type 0
 IsAsked (Access (Load at offset)) = IsNumber at × IsNumber offset
 IsAsked (Access (Store at offset byte)) = IsNumber at × IsNumber offset × (byte < 256)
 IsAsked (Try (Load at offset)) = IsNumber at × IsNumber offset
 IsAsked (Try (Store at offset byte)) = IsNumber at × IsNumber offset × (byte < 256)
+IsAsked (Read at offset count) = IsNumber at × IsNumber offset × IsNumber count × IsBlock offset count
 IsAsked (Begin request) = script.IsRequest request
 IsAsked Tick = ⊤
 IsAsked (Show page) = IsPageId page
@@ -44,6 +53,7 @@ asked_words (Access (Load at offset)) = less_site (script.event_words (event.Loa
 asked_words (Access (Store at offset byte)) = less_site (script.event_words (event.Store 0 at offset byte))
 asked_words (Try (Load at offset)) = codes "try-load" ∷ decimal at ∷ decimal offset ∷ []
 asked_words (Try (Store at offset byte)) = codes "try-store" ∷ decimal at ∷ decimal offset ∷ decimal byte ∷ []
+asked_words (Read at offset count) = codes "read" ∷ decimal at ∷ decimal offset ∷ decimal count ∷ []
 asked_words (Begin request) = less_site (script.request_words 0 request)
 asked_words Tick = less_site (script.event_words (event.Tick 0))
 asked_words (Show page) = codes "show" ∷ decimal page.seg ∷ decimal page.index ∷ []
@@ -78,6 +88,14 @@ try_store_of words = do
   (byte, words) ← next_of byte_of words
   ended (Try (Store at offset byte)) words
 
+-- `read attachment offset length`
+abbrev pub read_of : List (List ℕ) → Option Question
+read_of words = do
+  (at, words) ← next_number words
+  (offset, words) ← next_number words
+  (count, words) ← next_number words
+  if is_block offset count then ended (Read at offset count) words else None
+
 -- `detach attachment`
 abbrev pub detach_of : List (List ℕ) → Option Question
 detach_of words = do
@@ -99,7 +117,7 @@ begun_of verb words = do
 abbrev pub own : Verbs Question
 own =
     (codes "load", load_of) ∷ (codes "store", store_of) ∷ (codes "try-load", try_load_of) ∷ (codes "try-store", try_store_of)
-    ∷ (codes "detach", detach_of) ∷ (codes "tick", ended Tick) ∷ (codes "show", show_of) ∷ []
+    ∷ (codes "read", read_of) ∷ (codes "detach", detach_of) ∷ (codes "tick", ended Tick) ∷ (codes "show", show_of) ∷ []
 
 abbrev pub asked_of : List (List ℕ) → Option Question
 asked_of words = do

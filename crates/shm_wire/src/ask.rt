@@ -11,6 +11,9 @@ pub enum Question {
     Access(Asked),
     /// An access that doesn't wait for its right: it is answered at once.
     Try(Asked),
+    /// So many loads of bytes one after another, from an offset on: 1 to 4,096, the last of them below 2 to the 32. Each waits for its
+    /// right, and they are answered once.
+    Read { at: u32, offset: u32, length: u32 },
     Begin(Request),
     Tick,
     Show(PageId),
@@ -56,6 +59,7 @@ impl fmt::Display for Question {
             Question::Try(Asked::Store { at, offset, byte }) => {
                 write!(f, "try-store {at} {offset} {byte}")
             }
+            Question::Read { at, offset, length } => write!(f, "read {at} {offset} {length}"),
             Question::Begin(Request::Op(op)) => write!(f, "{}", CallWords(*op)),
             Question::Begin(Request::DetachAt(at)) => write!(f, "detach {at}"),
             Question::Tick => write!(f, "tick"),

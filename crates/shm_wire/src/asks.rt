@@ -4,14 +4,14 @@ ghost use Rattle.std.specs.Char.{is_ascii_graphic};
 ghost use Rattle.std.specs.List.{list_all};
 ghost use Rattle.shm_wire.specs.Words.{ended};
 ghost use Rattle.shm_wire.specs.Asks as said;
-ghost use Rattle.shm_wire.specs.Asks.{ask_of, asked_of, begun_of, detach_of, load_of, read_ask, show_of, store_of, tag_of, try_load_of, try_store_of};
+ghost use Rattle.shm_wire.specs.Asks.{ask_of, asked_of, begun_of, detach_of, load_of, read_ask, read_of, show_of, store_of, tag_of, try_load_of, try_store_of};
 
 use crate::ask::{Ask, Question};
 use crate::calls::common;
 use crate::messages::page_id;
 use shm_lines::Words;
 use shm_model::{Asked, Request};
-use shm_place::SiteId;
+use shm_place::{PAGE_BYTES, SiteId};
 use std::str;
 
 /// What this line asks, which stands without its line feed; `None` where it is no ask. It takes no memory.
@@ -76,6 +76,9 @@ fn ask_of_words(words: Words<'_>) -> Option<Question>
     if verb == b"try-store".as_slice() {
         return try_store(words);
     }
+    if verb == b"read".as_slice() {
+        return read(words);
+    }
     if verb == b"detach".as_slice() {
         return detach(words);
     }
@@ -132,6 +135,25 @@ fn try_store(words: Words<'_>) -> Option<Question>
         return None;
     }
     Some(Question::Try(Asked::Store { at, offset, byte }))
+}
+
+fn read(words: Words<'_>) -> Option<Question>
+    ensures { result ≡ read_of words.entry }
+{
+    let (at, words) = words.number()?;
+    let (offset, words) = words.number()?;
+    let (length, words) = words.number()?;
+    if !is_block(offset, length) || !words.is_empty() {
+        return None;
+    }
+    Some(Question::Read { at, offset, length })
+}
+
+/// Whether these are bytes of a block: at most a page, and each at an offset that there is.
+fn is_block(offset: u32, length: u32) -> bool
+    ensures { result ≡ said.is_block offset length }
+{
+    length > 0 && length <= PAGE_BYTES as u32 && u64::from(offset) + u64::from(length) <= 1 << 32
 }
 
 fn detach(words: Words<'_>) -> Option<Question>

@@ -21,11 +21,9 @@ mod replies;
 mod sent;
 mod spelling;
 mod spelling_calls;
-#[cfg(test)]
-mod tests;
 mod words;
 
-pub use answer::Answer;
+pub use answer::{Answer, BlockText};
 pub use answers::parse_answer;
 pub use ask::{Ask, Question};
 pub use asks::parse_ask;

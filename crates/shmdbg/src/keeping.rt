@@ -1,6 +1,5 @@
 //! The file of a site's journal: one process alone has it, and what is torn at its end is cut off.
-ghost use Rattle.std.specs.Prelude.{◌≤◌, ◌<◌, ℕ, List, IfErr, IfOk};
-ghost use Rattle.std.specs.Io.KnownBytes.{Consumes};
+ghost use Rattle.std.specs.Prelude.{◌≡◌, ◌≤◌, ◌<◌, ℕ, List, IfErr, IfOk, IfSome};
 ghost use Rattle.shmdbg.specs.Begun.{BeginsKept, header_at};
 ghost use Rattle.shmdbg.specs.Served.{IsUnbegun};
 ghost use Rattle.shm_process.specs.DeskOf.{desk_of};
@@ -58,8 +57,8 @@ pub(crate) fn begin_kept<F: Read + OpenFile>(
     requires below { me < sites }
     requires from { 1 ≤ pages }
     requires to { pages ≤ PAGES }
-    ensures begun { IfOk result (λ desk. (bytes : List ℕ) × Consumes (F.remaining file.old) (F.remaining file.new) bytes
-        × BeginsKept (header_at sites me pages) bytes (desk_of desk)) }
+    ensures begun { IfOk result (λ desk. (journal : List ℕ) × IfSome (F.remaining file.old) (λ known. journal ≡ known)
+        × BeginsKept (header_at sites me pages) journal (desk_of desk)) }
     ensures unbegun { IfErr result IsUnbegun }
 {
     let found = match recover(alloc, sites, me, pages, file) {

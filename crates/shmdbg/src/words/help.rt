@@ -101,6 +101,7 @@ and each site has it attached as attachment 0. N and P are the same at all
 sites. A caller asks site S under a tag T of its own:
   ask S T load 0 OFFSET        told when the site may read the page
   ask S T store 0 OFFSET BYTE  told when it may write to it
+  ask S T read 0 OFFSET LENGTH told once all are loaded, 4096 bytes at most
   ask S T tick                 send again what isn't answered
 docs/lines.md has all lines. A line that isn't for this site changes nothing.
 Somebody has to ask each site to tick now and then, as lines may be lost.
@@ -109,10 +110,10 @@ Somebody has to ask each site to tick now and then, as lines may be lost.
   tell 0 a stored
   tell 0 b byte 7
 With --journal the site writes each of its steps to FILE before it tells of it;
-started again with the same words, it goes on from there by a restart: loads and
-stores that waited are asked again. FILE is made where there is none, and one
-process alone may have it. Without a journal a site must not be started again in
-a cluster that goes on, as it would have forgotten what it held.
+started again with the same words, it goes on from there by a restart: callers
+ask again for what waited. FILE is made where there is none, and one process
+alone may have it. Without a journal a site must not be started again in a
+cluster that goes on, as it would have forgotten what it held.
   $ printf 'ask 0 a store 0 5 7\\n' |
     shmdbg site --sites 1 --me 0 --preset 1 --journal site-0.journal
   tell 0 a stored

@@ -1,9 +1,8 @@
 use Rattle.std.proofs.Common.{◌<◌, [], Ok, Err, length, take, subst, arith}
 use Rattle.std.specs.Prelude.{OnOk, Result}
-use Rattle.std.proofs.KnownBytes.{Consumes-kept}
 use Rattle.std.specs.Io.KnownBytes.{Consumes}
 use Rattle.shm_journal.specs.ReadingOf.{reading_of}
-use Rattle.shm_journal.proofs.RecoveryLemmas.{all_read, faulty, more_read, none_read}
+use Rattle.shm_journal.proofs.RecoveryLemmas.{all_read, faulty, more_read, none_read, unread}
 use Rattle.shm_journal.proofs.recovery.read_journal.Goals as goal
 
 pub chunks-init : goal.chunks-init
@@ -23,8 +22,9 @@ returns-then-count-eq0-clause-ends g c =
     let remaining = g.R.Read.remaining in
     let none : Consumes (remaining c.chunks.reader) (remaining c.read_up_to.new.reader) [] =
     subst (λ n. Consumes (remaining c.chunks.reader) (remaining c.read_up_to.new.reader) (take n c.read_up_to.new.chunk)) c.if-count-eq0.true c.in-Ok.ensures.bytes in
+    let wide : 0 < length c.chunks.chunk = omega (arith, c.chunks.invariant.room) in
     all_read (remaining c.args.reader.now) (remaining c.chunks.reader) (remaining c.read_up_to.new.reader) (reading_of c.args.reading) (reading_of c.chunks.reading)
-    c.finish.result c.chunks.invariant.read none c.finish.ensures
+    c.finish.result c.chunks.invariant.read none (c.in-Ok.ensures.end (omega arith) wide c.if-count-eq0.true) c.finish.ensures
 
 pub returns-in-Err-clause-ends : goal.returns-in-Err-clause-ends
 returns-in-Err-clause-ends g c =
@@ -33,13 +33,10 @@ returns-in-Err-clause-ends g c =
     (take c.in-Ok.count c.read_up_to.new.chunk) c.in-Err.fault c.chunks.invariant.read c.in-Ok.ensures.bytes c.in-Err.ensures.err
 
 pub returns-in_default-clause-ends : goal.returns-in_default-clause-ends
-returns-in_default-clause-ends g c =
-    let remaining = g.R.Read.remaining in
-    let read = c.chunks.invariant.read in (
-      read.bytes,
-      Consumes-kept (remaining c.args.reader.now) (remaining c.chunks.reader) (remaining c.read_up_to.new.reader) read.bytes read.read c.in_default.ensures.err,
-      tt,
-    )
+returns-in_default-clause-ends g c = unread g.row.A.Denot (g.R.Read.remaining c.args.reader.now) (reading_of c.args.reading)
+
+pub returns-clause-ends : goal.returns-clause-ends
+returns-clause-ends g c = unread g.row.A.Denot (g.R.Read.remaining c.args.reader.now) (reading_of c.args.reading)
 
 on-ok : {A B : Type 0} (r : Result A B) (P : Type 0) → P → OnOk r P
 on-ok (Ok a) P p = p

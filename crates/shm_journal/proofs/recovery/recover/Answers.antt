@@ -3,6 +3,7 @@ use Rattle.shm_process.specs.NodeOf.{node_of}
 use Rattle.shm_journal.specs.Lines.{Header}
 use Rattle.shm_journal.specs.Reading.{begun}
 use Rattle.shm_journal.specs.ReadingOf.{reading_of}
+use Rattle.shm_journal.proofs.Fronts.{any_file}
 use Rattle.shm_journal.proofs.RecoveryLemmas.{Ended, recovers}
 use Rattle.shm_journal.proofs.recovery.recover.Goals as goal
 
@@ -10,10 +11,12 @@ pub returns-clause-found : goal.returns-clause-found
 returns-clause-found g c =
     let remaining = g.R.Read.remaining in
     let old = remaining c.args.reader.now in
-    let new = remaining c.read_journal.new.reader in
     let node = node_of c.in-Ok.node in
     let header : Header = record { sites = c.args.sites; me = c.args.me; pages = c.args.pages } in
     let start : reading_of c.new-2.result ≡ begun header node =
     c.new-2.ensures ∙ ap₂ (λ sites me. begun (record { sites = sites; me = me; pages = c.args.pages }) node) c.count.ensures.value c.me.view_is in
-    recovers header node old new c.read_journal.result c.in-Ok.ensures
-    (subst (λ reading. Ended old new reading c.read_journal.result) start c.read_journal.ensures.ends)
+    recovers header node old c.read_journal.result c.in-Ok.ensures
+    (subst (λ reading. Ended old reading c.read_journal.result) start c.read_journal.ensures.ends)
+
+pub returns-in_default-clause-found : goal.returns-in_default-clause-found
+returns-in_default-clause-found g c = let any = any_file (g.R.Read.remaining c.args.reader.now) in (any.0, any.1, tt)

@@ -1,4 +1,4 @@
-use Rattle.std.proofs.Common.{◌≡◌, ◌<◌, [], ◌∷◌, length, take, refl, subst, arith}
+use Rattle.std.proofs.Common.{◌<◌, [], ◌∷◌, length, take, refl, subst, arith}
 use Rattle.shm_process.specs.DeskOf.{desk_of}
 use Rattle.shm_journal.proofs.ServingLemmas.{begun, did_not_read, did_read, ended, never_published, not_published, out_of_memory, read_failed, went_on}
 use Rattle.shm_journal.specs.Acts.{Did, Read, around}

@@ -1,5 +1,6 @@
-use Rattle.std.proofs.Common.{◌≡◌, ◌∙◌, ◌<◌, ◌≤◌, ℕ, Some, Vec, length, arith}
+use Rattle.std.proofs.Common.{◌≡◌, ◌∙◌, ◌<◌, ◌≤◌, Some, length, arith}
 use Rattle.shm_process.proofs.Ready.{after_here, at_none, at_some, beyond, none_after, none_ready, none_said, ready_here, said_here, searched_past, within}
+use Rattle.shm_process.specs.AskOf.{ask_of}
 use Rattle.shm_process.specs.NodeOf.{node_of, said_of}
 use Rattle.shm_process.specs.Waiting.{ready}
 use Rattle.shm_process.proofs.node.Node.again.Goals as goal
@@ -9,7 +10,7 @@ asks-preserved g c =
     let node = node_of c.args.self.now in
     let items = c.args.self.now.waiting.items in
     let end : c.len-at-end.result ≡ length items = omega (arith, c.args.self.now.waiting.ok.0, c.len-at-end.ensures) in
-    let place : c.asks.at < length node.waiting = within (λ (line : Vec ℕ g.row.A.Denot). line.items) items c.asks.at c.len-at-end.result c.asks-test.true end in
+    let place : c.asks.at < length node.waiting = within ask_of items c.asks.at c.len-at-end.result c.asks-test.true end in
     record {
       same = (at_none _ c.in_ok-said.field-0 c.in_default.is c.in_ok-said.ensures.none).1 ∙ c.asks.invariant.same;
       count = at_none _ c.in_ok-said.field-0 c.in_default.is c.in_ok-said.ensures.count ∙ c.asks.invariant.count;
@@ -24,7 +25,7 @@ returns-in-Some-clause-said g c =
     let same = c.asks.invariant.same in
     let items = c.args.self.now.waiting.items in
     let end : c.len-at-end.result ≡ length items = omega (arith, c.args.self.now.waiting.ok.0, c.len-at-end.ensures) in
-    let place : c.asks.at < length node.waiting = within (λ (line : Vec ℕ g.row.A.Denot). line.items) items c.asks.at c.len-at-end.result c.asks-test.true end in
+    let place : c.asks.at < length node.waiting = within ask_of items c.asks.at c.len-at-end.result c.asks-test.true end in
     let here : ready node ≡ Some c.asks.at = ready_here node now c.asks.at same place (at_some _ c.in_ok-said.field-0 c.in-Some.said c.in-Some.is c.in_ok-said.ensures.can) c.asks.invariant.search in
     said_here node now c.asks.at (Some (said_of c.in-Some.said)) same here (at_some _ c.in_ok-said.field-0 c.in-Some.said c.in-Some.is c.in_ok-said.ensures.said)
 
@@ -35,7 +36,7 @@ returns-in-Some-clause-after g c =
     let same = c.asks.invariant.same in
     let items = c.args.self.now.waiting.items in
     let end : c.len-at-end.result ≡ length items = omega (arith, c.args.self.now.waiting.ok.0, c.len-at-end.ensures) in
-    let place : c.asks.at < length node.waiting = within (λ (line : Vec ℕ g.row.A.Denot). line.items) items c.asks.at c.len-at-end.result c.asks-test.true end in
+    let place : c.asks.at < length node.waiting = within ask_of items c.asks.at c.len-at-end.result c.asks-test.true end in
     let here : ready node ≡ Some c.asks.at = ready_here node now c.asks.at same place (at_some _ c.in_ok-said.field-0 c.in-Some.said c.in-Some.is c.in_ok-said.ensures.can) c.asks.invariant.search in
     after_here node now (node_of c.make_at.new.self) c.asks.at same here (at_some _ c.in_ok-said.field-0 c.in-Some.said c.in-Some.is c.in_ok-said.ensures.after)
 
@@ -44,7 +45,7 @@ returns g c =
     let node = node_of c.args.self.now in
     let items = c.args.self.now.waiting.items in
     let end : c.len-at-end.result ≡ length items = omega (arith, c.args.self.now.waiting.ok.0, c.len-at-end.ensures) in
-    let past : length node.waiting ≤ c.asks.at = beyond (λ (line : Vec ℕ g.row.A.Denot). line.items) items c.asks.at c.len-at-end.result c.asks-test.false end in
+    let past : length node.waiting ≤ c.asks.at = beyond ask_of items c.asks.at c.len-at-end.result c.asks-test.false end in
     let none = none_ready node c.asks.at past c.asks.invariant.search in
     record {
       said = none_said node none;

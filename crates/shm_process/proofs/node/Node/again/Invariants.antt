@@ -1,5 +1,6 @@
 use Rattle.std.proofs.Common.{◌≡◌, drop, vec_len}
 use Rattle.std.specs.List.{position_from}
+use Rattle.shm_process.specs.Blocks.{next_line}
 use Rattle.shm_process.specs.Node.{heard}
 use Rattle.shm_process.specs.NodeOf.{node_of}
 use Rattle.shm_process.specs.Waiting.{can_be_made, ready}
@@ -10,5 +11,5 @@ abbrev pub invariant-asks : goal.invariant-asks
 invariant-asks g l = record {
   same : node_of l.self ≡ node_of l.fn.self;
   count : vec_len l.self.waiting ≡ vec_len l.fn.self.waiting;
-  search : position_from (λ line. can_be_made (node_of l.fn.self) (heard (node_of l.fn.self) line)) l.at (drop l.at (node_of l.fn.self).waiting) ≡ ready (node_of l.fn.self);
+  search : position_from (λ ask. can_be_made (node_of l.fn.self) (heard (node_of l.fn.self) (next_line (node_of l.fn.self).me ask))) l.at (drop l.at (node_of l.fn.self).waiting) ≡ ready (node_of l.fn.self);
 }

@@ -1,9 +1,9 @@
 //! Journals that were written by hand, and what is found in them.
-use crate::{Header, Recovered, RecoveryFault, parse_entry, parse_header, recover};
 use linked_list_allocator::LocalHeap;
+use shm_journal::{Header, Recovered, RecoveryFault, parse_entry, parse_header, recover};
 use shm_model::Answer;
 use shm_place::{SiteId, Sites};
-use std::alloc::{AllocError, Allocator, Global};
+use std::alloc::Allocator;
 use std::io::{self, ErrorKind, Read};
 use std::test::Fail;
 
@@ -13,9 +13,6 @@ const STORES: &[u8] =
 
 /// How many bytes its header and its first entry have.
 const HEADER_AND_STORE: u64 = 14 + 27;
-
-/// How often a hole is widened at most.
-const TRIES: usize = 4000;
 
 /// Gives one byte at a time, and then an error.
 #[derive(Drop)]
@@ -160,34 +157,16 @@ fn a_reader_that_fails_is_a_read_fault(rt: HostRuntime) {
     }
 }
 
-/// Blocks of 16 bytes that fill a heap; each that is dropped widens the hole at its end.
-fn filled(alloc: Global, heap: &LocalHeap) -> Result<Vec<Vec<u8, &LocalHeap>>, AllocError> {
-    let mut blocks = Vec::new(alloc);
-    for _ in 0..heap.free() / 16 {
-        let block = Vec::with_capacity(heap, 16)?;
-        blocks.push(block)?;
-    }
-    Ok(blocks)
-}
-
 #[test]
 fn each_allocation_is_refused_in_turn(rt: HostRuntime) -> Result<(), Fail> {
-    let heap = LocalHeap::new(rt.alloc(), 1 << 16)?;
-    let mut blocks = filled(rt.alloc(), &heap)?;
-    for tries in 0..TRIES {
-        let mut reader = STORES;
-        match found(&heap, &mut reader) {
-            Ok(recovered) => {
-                assert!(rt;
-                    tries > 8,
-                    "the site, the line and the header were refused too"
-                );
-                assert_eq!(rt; recovered.node.steps(), 3);
-                return Ok(());
-            }
-            Err(fault) => assert_eq!(rt; fault, RecoveryFault::OutOfMemory),
+    'sizes: for size in 1..4000usize {
+        let heap = LocalHeap::new(rt.alloc(), size * 16)?;
+        if let Some(counted) = counts(&heap, STORES) {
+            assert!(rt; size > 512, "the site's own two pages were refused too");
+            assert_eq!(rt; counted, (3, 92, false));
+            return Ok(());
         }
-        drop(blocks.pop());
+        assert!(rt; is_refused(&heap, STORES, RecoveryFault::OutOfMemory));
     }
     Err(Fail::new("the site was never recovered"))
 }

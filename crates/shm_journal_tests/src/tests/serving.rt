@@ -1,5 +1,6 @@
-use crate::{Failed, Journal, ProcessFault, serve};
+//! Processes that keep a journal, of which a test holds everything around.
 use shm_debug::{read_up_to, write_whole};
+use shm_journal::{Failed, Journal, ProcessFault, serve};
 use shm_place::{SiteId, Sites};
 use shm_process::{Desk, Node};
 use std::alloc::{AllocError, Global};

@@ -1,11 +1,10 @@
-use crate::{Sent, parse_answer, parse_ask, parse_envelope};
+//! Lines that others spelled, and lines that are none.
 use linked_list_allocator::LocalHeap;
 use shm_parts::{Message, Note};
+use shm_wire::{Sent, parse_answer, parse_ask, parse_envelope};
 use std::alloc::{AllocError, Allocator, Global};
+use std::process::Abort;
 use std::test::Fail;
-
-/// How often a hole is widened at most.
-const TRIES: usize = 1600;
 
 /// One line of each kind of message that brings no page.
 const PLAIN: [&str; 14] = [
@@ -38,11 +37,13 @@ const BAD: [&str; 8] = [
 ];
 
 /// A line of each form that a caller may ask in.
-const ASKS: [&str; 13] = [
+const ASKS: [&str; 15] = [
     "ask 0 a load 0 4096",
     "ask 15 ~!tag~ store 63 4294967295 255",
     "ask 1 t try-load 0 4096",
     "ask 1 t try-store 63 4294967295 255",
+    "ask 1 t read 63 4294967295 1",
+    "ask 1 t read 0 0 4096",
     "ask 1 t get 10 20 5 300 640 -",
     "ask 1 t attach 10 20 1 rw",
     "ask 1 t detach 2",
@@ -54,12 +55,16 @@ const ASKS: [&str; 13] = [
     "ask 1 12345678901234567890123456789012 tick",
 ];
 
-/// No asks: no tag, one of 33 bytes and one with a byte that isn't ASCII, a blank too many, and the words of other lines.
-const NO_ASKS: [&[u8]; 8] = [
+/// No asks: no tag, one of 33 bytes and one with a byte that isn't ASCII, a blank too many, blocks of no byte, of more than a page and with
+/// a byte behind the last offset, and the words of other lines.
+const NO_ASKS: [&[u8]; 11] = [
     b"ask 1 tick",
     b"ask 1 123456789012345678901234567890123 tick",
     b"ask 1 \xc3\xa9 tick",
     b"ask 1 t tick ",
+    b"ask 1 t read 0 0 0",
+    b"ask 1 t read 0 0 4097",
+    b"ask 1 t read 0 4294967295 2",
     b"ask 1 t detach id 2",
     b"ask 1 t restart",
     b"1 t tick",
@@ -178,35 +183,30 @@ fn a_page_is_read_as_others_spell_it(rt: HostRuntime) -> Result<(), Fail> {
     Ok(())
 }
 
-/// Blocks of 16 bytes that fill a heap; each that is dropped widens the hole at its end.
-fn filled(alloc: Global, heap: &LocalHeap) -> Result<Vec<Vec<u8, &LocalHeap>>, AllocError> {
-    let mut blocks = Vec::new(alloc);
-    for _ in 0..heap.free() / 16 {
-        let block = Vec::with_capacity(heap, 16)?;
-        blocks.push(block)?;
+/// Whether the page that comes to write to is read with this heap's memory.
+fn is_read(rt: &impl Abort, heap: &LocalHeap, line: &str) -> Result<bool, Fail> {
+    match parse_envelope(heap, line.as_bytes()) {
+        Ok(Some(sent)) => {
+            assert!(rt; brings_the_page(&sent, "write"));
+            Ok(true)
+        }
+        Ok(None) => Err(Fail::new("refused memory isn't a bad line")),
+        Err(_) => Ok(false),
     }
-    Ok(blocks)
 }
 
 #[test]
 fn each_growth_of_a_page_is_refused_in_turn(rt: HostRuntime) -> Result<(), Fail> {
     let line = page_line(rt.alloc(), "write")?;
-    let heap = LocalHeap::new(rt.alloc(), 1 << 15)?;
-    let mut blocks = filled(rt.alloc(), &heap)?;
-    for tries in 0..TRIES {
-        match parse_envelope(&heap, line.as_bytes()) {
-            Ok(Some(sent)) => {
-                assert!(rt;
-                    tries > 512,
-                    "the page and its bytes as they came were refused too"
-                );
-                assert!(rt; brings_the_page(&sent, "write"));
-                return Ok(());
-            }
-            Ok(None) => return Err(Fail::new("refused memory isn't a bad line")),
-            Err(_) => {}
+    'sizes: for size in 1..2000usize {
+        let heap = LocalHeap::new(rt.alloc(), size * 16)?;
+        if is_read(&rt, &heap, line.as_str())? {
+            assert!(rt;
+                size > 512,
+                "the page and its bytes as they came were refused too"
+            );
+            return Ok(());
         }
-        drop(blocks.pop());
     }
     Err(Fail::new("no page was read"))
 }

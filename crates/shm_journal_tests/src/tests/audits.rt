@@ -1,6 +1,6 @@
 //! The journals of two sites, and what is said of them.
-use crate::{Counts, JournalFault, JournalsFault, audit_journals, read_log};
 use linked_list_allocator::LocalHeap;
+use shm_audit::{Counts, JournalFault, JournalsFault, audit_journals, read_log};
 use shm_place::SiteId;
 use shm_sites::{AuditFault, SiteLog};
 use std::alloc::{AllocError, Allocator};

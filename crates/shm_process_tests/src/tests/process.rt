@@ -1,40 +1,12 @@
 //! Two nodes that a test carries lines between.
-use crate::{Desk, Node, Said};
+use crate::tests::full_heap::{Filling, TRIES, filled};
+use crate::tests::{new_node, tells, tells_nobody};
 use linked_list_allocator::LocalHeap;
 use shm_model::Answer;
-use shm_place::{SiteId, Sites};
-use std::alloc::{AllocError, Allocator, Global};
+use shm_process::{Desk, Node, Said};
+use std::alloc::{AllocError, Allocator};
+use std::process::Abort;
 use std::test::Fail;
-
-/// How often a hole is widened at most.
-const TRIES: usize = 1600;
-
-/// A site of 2, where segment 0 has 4 pages and is attached.
-fn new_node<A: Allocator + Copy>(alloc: A, me: u32) -> Result<Node<A>, AllocError> {
-    match Sites::new(2) {
-        Ok(sites) if me < sites.count() => Node::new(alloc, sites, SiteId(me), 4),
-        _ => Err(AllocError),
-    }
-}
-
-/// Whether a caller is told this answer under this tag.
-fn tells<A: Allocator + Copy>(said: &Option<Said<A>>, tag: &str, answer: Answer) -> bool {
-    match said {
-        Some(said) => match &said.tag {
-            Some(told) => told.as_str() == tag && said.answer == answer,
-            None => false,
-        },
-        None => false,
-    }
-}
-
-/// Whether a step was made of which no caller is told.
-fn tells_nobody<A: Allocator + Copy>(said: &Option<Said<A>>) -> bool {
-    match said {
-        Some(said) => said.tag.is_none(),
-        None => false,
-    }
-}
 
 /// The line of the one envelope that was sent, if the node told nobody anything.
 fn sent_line<A: Allocator + Copy>(
@@ -50,8 +22,8 @@ fn sent_line<A: Allocator + Copy>(
 #[test]
 fn a_copy_is_lent(rt: HostRuntime) -> Result<(), Fail> {
     let alloc = rt.alloc();
-    let mut owner = new_node(alloc, 0)?;
-    let mut reader = new_node(alloc, 1)?;
+    let mut owner = new_node(alloc, 2, 0)?;
+    let mut reader = new_node(alloc, 2, 1)?;
     let stored = owner.take(b"ask 0 a store 0 5 7")?;
     assert!(rt; tells(&stored, "a", Answer::Stored));
     let fault = reader.take(b"ask 1 b load 0 5")?;
@@ -83,42 +55,53 @@ fn a_copy_is_lent(rt: HostRuntime) -> Result<(), Fail> {
     Ok(())
 }
 
-/// Blocks of 16 bytes that fill a heap; each that is dropped widens the hole at its end.
-fn filled(alloc: Global, heap: &LocalHeap) -> Result<Vec<Vec<u8, &LocalHeap>>, AllocError> {
-    let mut blocks = Vec::new(alloc);
-    for _ in 0..heap.free() / 16 {
-        let block = Vec::with_capacity(heap, 16)?;
-        blocks.push(block)?;
+/// Whether the node makes the step of a load that is tried. Where memory is refused it is as before.
+fn tries_load<'a>(rt: &impl Abort, node: &mut Node<&'a LocalHeap>) -> bool {
+    match node.take(b"ask 1 b try-load 0 5") {
+        Ok(said) => {
+            assert!(rt; tells(&said, "b", Answer::Fault));
+            true
+        }
+        Err(_) => {
+            assert_eq!(rt; (node.steps(), node.taken(), node.passed()), (0, 0, 0));
+            false
+        }
     }
-    Ok(blocks)
+}
+
+/// How often the load is refused memory while the hole in a full heap widens.
+fn refusals<'a>(
+    rt: &impl Abort,
+    node: &mut Node<&'a LocalHeap>,
+    filling: &mut Filling<'a>,
+) -> Option<usize> {
+    'tries: for tries in 0..TRIES {
+        if tries_load(rt, node) {
+            return Some(tries);
+        }
+        drop(filling.pop());
+    }
+    None
 }
 
 #[test]
 fn each_growth_is_refused_in_turn(rt: HostRuntime) -> Result<(), Fail> {
     let heap = LocalHeap::new(rt.alloc(), 1 << 16)?;
-    let mut node = new_node(&heap, 1)?;
-    let mut blocks = filled(rt.alloc(), &heap)?;
-    for tries in 0..TRIES {
-        match node.take(b"ask 1 b try-load 0 5") {
-            Ok(said) => {
-                assert!(rt; tries > 1, "the tag and what is sent were refused too");
-                assert!(rt; tells(&said, "b", Answer::Fault));
-                assert_eq!(rt; (node.steps(), node.taken()), (1, 1));
-                drop(said);
-                return Ok(());
-            }
-            Err(_) => assert_eq!(rt; (node.steps(), node.taken(), node.passed()), (0, 0, 0)),
-        }
-        drop(blocks.pop());
-    }
-    Err(Fail::new("no step was made"))
+    let mut node = new_node(&heap, 2, 1)?;
+    let mut filling = filled(rt.alloc(), &heap)?;
+    let Some(tries) = refusals(&rt, &mut node, &mut filling) else {
+        return Err(Fail::new("no step was made"));
+    };
+    assert!(rt; tries > 1, "the tag and what is sent were refused too");
+    assert_eq!(rt; (node.steps(), node.taken()), (1, 1));
+    Ok(())
 }
 
 #[test]
 fn an_access_is_answered_when_its_page_comes(rt: HostRuntime) -> Result<(), Fail> {
     let alloc = rt.alloc();
-    let mut owner = Desk::new(alloc, new_node(alloc, 0)?);
-    let mut reader = Desk::new(alloc, new_node(alloc, 1)?);
+    let mut owner = Desk::new(alloc, new_node(alloc, 2, 0)?);
+    let mut reader = Desk::new(alloc, new_node(alloc, 2, 1)?);
     owner.take(b"ask 0 a store 0 5 7\nnot a line of ours\nask 1 b lo")?;
     assert_eq!(rt; owner.told(), "tell 0 a stored\n");
     assert_eq!(rt;
@@ -152,7 +135,7 @@ fn an_access_is_answered_when_its_page_comes(rt: HostRuntime) -> Result<(), Fail
 #[test]
 fn a_restart_is_recorded_and_asks_that_wait_are_forgotten(rt: HostRuntime) -> Result<(), Fail> {
     let alloc = rt.alloc();
-    let mut desk = Desk::new(alloc, new_node(alloc, 1)?);
+    let mut desk = Desk::new(alloc, new_node(alloc, 2, 1)?);
     desk.record(b"first\n")?;
     desk.take(b"ask 1 b load 0 5\n")?;
     assert_eq!(rt; desk.node().waiting(), 1);

@@ -1,3 +1,0 @@
-//! Journals, and processes that keep them, of which a test holds everything around.
-mod recovering;
-mod serving;

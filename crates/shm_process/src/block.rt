@@ -1,0 +1,98 @@
+ghost use Rattle.std.specs.Prelude.{◌+◌, ◌^◌, ◌<◌, ◌≤◌, vec_capacity, vec_len};
+
+use shm_model::{Answer, Asked};
+use shm_place::SiteId;
+use shm_wire::{Ask, Question};
+use std::alloc::{AllocError, Allocator, Global};
+
+/// A block that a caller asks for: so many loads of bytes one after another. Less than all were made; the bytes have their room.
+#[derive(Drop)]
+pub(crate) struct Block<A: Allocator + Copy = Global> {
+    pub(crate) tag: String<A>,
+    pub(crate) at: u32,
+    pub(crate) offset: u32,
+    pub(crate) length: u32,
+    /// What was loaded so far.
+    pub(crate) bytes: Vec<u8, A>,
+    ghost more_to_load: { vec_len bytes < length },
+    ghost room_for_all: { length ≤ vec_capacity bytes },
+    ghost offsets: { offset + length ≤ 2 ^ 32 },
+}
+
+impl<A: Allocator + Copy> Block<A> {
+    ghost use Rattle.std.specs.Prelude.{◌≡◌, [], false, true, option_map, IfOk};
+    ghost use Rattle.shm_process.specs.AskOf.{block_of};
+    ghost use Rattle.shm_process.specs.Blocks.{bytes_after, goes_on, next_load, whole_after};
+    ghost use Rattle.shm_wire.specs.Asks.{is_block};
+
+    /// A block of which nothing was loaded yet.
+    pub(crate) fn new(
+        alloc: A,
+        tag: &str,
+        at: u32,
+        offset: u32,
+        length: u32,
+    ) -> Result<Block<A>, AllocError>
+        requires { is_block offset length ≡ true }
+        ensures { IfOk result (λ block. block_of block ≡ record { tag = tag.now; at = at; offset = offset; count = length; bytes = [] }) }
+    {
+        let tag = String::from_str(alloc, tag)?;
+        let bytes = Vec::with_capacity(alloc, length as usize)?;
+        Ok(Block {
+            tag,
+            at,
+            offset,
+            length,
+            bytes,
+        })
+    }
+
+    /// The line of its next load.
+    pub(crate) fn next_line(&self, alloc: A, site: SiteId) -> Result<Vec<u8, A>, AllocError>
+        ensures { IfOk result (λ line. line.items ≡ next_load site (block_of self.now)) }
+    {
+        let ask = Ask {
+            site,
+            tag: self.tag.as_str(),
+            asked: Question::Access(Asked::Load {
+                at: self.at,
+                offset: self.offset + self.bytes.len() as u32,
+            }),
+        };
+        let line = format!(in alloc; "{ask}")?;
+        Ok(line.into_bytes())
+    }
+
+    /// Whether it goes on waiting when its load is answered so.
+    pub(crate) fn goes_on(&self, answer: &Answer) -> bool
+        ensures { result ≡ goes_on (block_of self.now) answer.now }
+    {
+        match answer {
+            Answer::Byte(_) => self.bytes.len() + 1 < self.length as usize,
+            Answer::Fault | Answer::Waiting => true,
+            _ => false,
+        }
+    }
+
+    /// It takes the byte that was loaded, if one was.
+    pub(crate) fn take(&mut self, answer: &Answer)
+        requires { goes_on (block_of self.old) answer.now ≡ true }
+        ensures { block_of self.new ≡ record (block_of self.old) { bytes = bytes_after (block_of self.old) answer.now } }
+    {
+        if let Answer::Byte(byte) = answer {
+            self.bytes.push_reserved(*byte);
+        }
+    }
+
+    /// All its bytes, if this is the last of them.
+    pub(crate) fn into_whole(self, answer: &Answer) -> Option<Vec<u8, A>>
+        ensures { option_map (λ bytes. bytes.items) result ≡ whole_after (block_of self) answer.now }
+    {
+        let Answer::Byte(byte) = answer else {
+            return None;
+        };
+        let mut bytes = self.bytes;
+        bytes.push_reserved(*byte);
+        Some(bytes)
+    }
+}

@@ -1,0 +1,35 @@
+mod blocks;
+mod full_heap;
+mod process;
+
+use shm_model::Answer;
+use shm_place::{SiteId, Sites};
+use shm_process::{Node, Said};
+use std::alloc::{AllocError, Allocator};
+
+/// A site of so many, where segment 0 has 4 pages and is attached.
+fn new_node<A: Allocator + Copy>(alloc: A, sites: u32, me: u32) -> Result<Node<A>, AllocError> {
+    match Sites::new(sites) {
+        Ok(sites) if me < sites.count() => Node::new(alloc, sites, SiteId(me), 4),
+        _ => Err(AllocError),
+    }
+}
+
+/// Whether a step was made of which no caller is told.
+fn tells_nobody<A: Allocator + Copy>(said: &Option<Said<A>>) -> bool {
+    match said {
+        Some(said) => said.tag.is_none(),
+        None => false,
+    }
+}
+
+/// Whether a caller is told this answer under this tag.
+fn tells<A: Allocator + Copy>(said: &Option<Said<A>>, tag: &str, answer: Answer) -> bool {
+    match said {
+        Some(said) => match &said.tag {
+            Some(told) => told.as_str() == tag && said.answer == answer,
+            None => false,
+        },
+        None => false,
+    }
+}
