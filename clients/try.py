@@ -20,10 +20,14 @@ import time
 HERE = os.path.dirname(os.path.abspath(__file__))
 sys.path.insert(0, os.path.join(HERE, 'python'))
 
-from leddwyfan import IPC_CREAT, IPC_EXCL, IPC_RMID, IPC_SET, IPC_STAT, SHM_RDONLY, Incoming, Outgoing, Site  # noqa: E402
+from leddwyfan import (IPC_CREAT, IPC_EXCL, IPC_RMID, IPC_SET, IPC_STAT, PAGE_BYTES, SHM_RDONLY,  # noqa: E402
+                       Incoming, Outgoing, Site)
 
 PAGES = 2
 TIMES = 20
+CROWD = 100
+STOPPED_SECONDS = 0.5
+AT_ONCE_SECONDS = 5
 COUNTER_SECONDS = 400
 
 
@@ -89,10 +93,58 @@ def start_sites(options, stream, folder, name):
     return [Site.start(options.program, sites, me, PAGES, *stream.ends[me], journal=journals[me]) for me in range(sites)]
 
 
+def try_blocks(site, data):
+    """These bytes stand at 100; what is read is what stands there, of whatever length, and up to two pages."""
+    memory = bytes(100) + data + bytes(PAGES * PAGE_BYTES - 100 - len(data))
+    ranges = ((4095, 1), (4096, 1), (4095, 2), (4094, 3), (4093, 4), (4090, 11),
+              (200, 1), (201, 2), (202, 3), (203, 4), (0, len(memory)))
+    for offset, length in ranges:
+        expect(site.shm_read(0, offset, length) == memory[offset:offset + length], f'{length} bytes at {offset} are read')
+    expect(site.shm_read(0, 0, 0) == b'' == site.shm_read(63, 0, 0), 'no bytes are read')
+    expect_error(errno.EFAULT, lambda: site.shm_read(0, len(memory), 1))
+    expect_error(errno.EFAULT, lambda: site.shm_read(0, len(memory) - 1, 2))
+    expect_error(errno.EINVAL, lambda: site.shm_read(63, 0, 1))
+    expect_error(errno.EINVAL, lambda: site.shm_read(63, 4090, 20))
+
+
+def try_ends(site):
+    """At the greatest offset a site is asked, and refuses. What goes further no line can ask for, and the library refuses it at once."""
+    last = (1 << 32) - 1
+    expect(site.shm_read(63, last, 0) == b'' and site.shm_write(63, last, b'') is None, 'no bytes are read or written at the end')
+    expect_error(errno.EFAULT, lambda: site.shm_read(0, last, 1))
+    expect_error(errno.EINVAL, lambda: site.shm_read(63, last, 1))
+    expect_error(errno.EINVAL, lambda: site.shm_read(63, last - 1, 2))
+    expect_error(errno.EFAULT, lambda: site.shm_write(0, last, b'x'))
+    expect_error(errno.EINVAL, lambda: site.shm_write(63, last, b'x'))
+    begin = time.monotonic()
+    expect_error(errno.EFAULT, lambda: site.shm_read(63, last, 2))
+    expect_error(errno.EFAULT, lambda: site.shm_read(63, 0, last + 2))
+    expect_error(errno.EFAULT, lambda: site.shm_write(63, last, b'xy'))
+    expect_error(errno.EFAULT, lambda: site.shm_write(0, last, b'xy'))
+    expect_error(errno.EFAULT, lambda: site.shm_read(0, last + 1, 0))
+    expect_error(errno.EFAULT, lambda: site.shm_read(0, last + 1, 1))
+    expect_error(errno.EFAULT, lambda: site.shm_read(0, -1, 1))
+    expect_error(errno.EINVAL, lambda: site.shm_read(0, 0, -1))
+    for number in (-1, last + 1):
+        expect_error(errno.EINVAL, lambda: site.shm_read(number, 0, 1))
+        expect_error(errno.EINVAL, lambda: site.shm_write(number, 0, b'x'))
+        expect_error(errno.EINVAL, lambda: site.shm_get(number, 1, IPC_CREAT))
+        expect_error(errno.EINVAL, lambda: site.shm_get(5, number))
+        expect_error(errno.EINVAL, lambda: site.shm_at(number))
+        expect_error(errno.EINVAL, lambda: site.shm_dt(number))
+        expect_error(errno.EINVAL, lambda: site.shm_ctl(number, IPC_STAT))
+        expect_error(errno.EINVAL, lambda: site.shm_ctl(0, IPC_SET, uid=number))
+        expect_error(errno.EINVAL, lambda: site.shm_ctl(0, IPC_SET, gid=number))
+    expect(time.monotonic() < begin + AT_ONCE_SECONDS, 'what no line can ask for is refused at once')
+
+
 def try_calls(one, other):
     data = random.Random(1).randbytes(8000)
     one.shm_write(0, 100, data)
     expect(other.shm_read(0, 100, 8000) == data, 'what was written is read')
+    try_blocks(one, data)
+    try_blocks(other, data)
+    try_ends(one)
     shmid = one.shm_get(5, 5000, IPC_CREAT | 0o640)
     expect(other.shm_get(5, 100) == shmid, 'a key names one segment')
     expect_error(errno.EEXIST, lambda: other.shm_get(5, 100, IPC_CREAT | IPC_EXCL))
@@ -112,7 +164,30 @@ def try_calls(one, other):
     one.shm_dt(at)
     other.shm_dt(read_only)
     expect_error(errno.EINVAL, lambda: one.shm_dt(at))
+    expect_error(errno.EINVAL, lambda: one.shm_read(at, 0, 1))
     expect_error(errno.EIDRM, lambda: one.shm_at(shmid))
+
+
+def try_crowd(writer, reader):
+    """More loads and blocks at once than may wait at a site, while the owner of their page is stopped: those that find no place are asked
+    again. A byte of a page that is here is read all the same."""
+    writer.shm_write(0, PAGE_BYTES, b'here')
+    expect(reader.shm_read(0, PAGE_BYTES, 4) == b'here', 'a page is here')
+    writer.shm_write(0, 0, b'crowd')
+    told = []
+    lengths = [1 + count % 5 for count in range(CROWD)]
+    threads = [threading.Thread(target=lambda length: told.append(reader.shm_read(0, 0, length)), args=(length,)) for length in lengths]
+    writer._process.send_signal(signal.SIGSTOP)
+    try:
+        for thread in threads:
+            thread.start()
+        time.sleep(STOPPED_SECONDS)
+        expect(reader.shm_read(0, PAGE_BYTES, 1) == b'h', 'a byte whose page is here is read')
+    finally:
+        writer._process.send_signal(signal.SIGCONT)
+    for thread in threads:
+        thread.join()
+    expect(sorted(told) == sorted(b'crowd'[:length] for length in lengths), f'{CROWD} threads read a byte or a block each')
 
 
 def kill_often(sites, ended, draw):
@@ -155,6 +230,7 @@ def try_library(options, folder):
     sites = start_sites(options, stream, folder, 'calls')
     try_calls(*sites)
     expect_error(errno.EINVAL, lambda: sites[0].shm_at(100000))
+    try_crowd(*sites)
     restarts = 0
     if not options.no_journal:
         try_kills(sites)

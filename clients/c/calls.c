@@ -26,9 +26,52 @@ static void try_bytes(struct leddwyfan *one, struct leddwyfan *other) {
     for (int place = 0; place < BYTES; place++) written[place] = (unsigned char)(7 * place);
     EXPECT(shm_write(one, 0, 100, written, BYTES) == 0);
     EXPECT(shm_read(other, 0, 100, read, BYTES) == 0 && memcmp(read, written, BYTES) == 0);
-    EXPECT_ERROR(EFAULT, shm_read(one, 0, PAGES * 4096, read, 1));
     EXPECT_ERROR(EFAULT, shm_write(one, 0, SIZE_MAX, written, 1));
-    EXPECT_ERROR(EINVAL, shm_read(one, 63, 0, read, 1));
+}
+
+/* What is read is what try_bytes wrote, of whatever length, and up to two pages; and nothing behind it. */
+static void try_blocks(struct leddwyfan *site) {
+    unsigned char read[PAGES * 4096], guard = 0xa5;
+    static const int ranges[][2] = {{4095, 1}, {4096, 1}, {4095, 2}, {4094, 3}, {4093, 4}, {4090, 11},
+                                    {200, 1},  {201, 2},  {202, 3},  {203, 4},  {4096, 4000}};
+    for (size_t range = 0; range < sizeof ranges / sizeof *ranges; range++) {
+        int offset = ranges[range][0], length = ranges[range][1];
+        memset(read, guard, sizeof read);
+        EXPECT(shm_read(site, 0, (size_t)offset, read, (size_t)length) == 0 && read[length] == guard);
+        for (int place = 0; place < length; place++) EXPECT(read[place] == (unsigned char)(7 * (offset + place - 100)));
+    }
+    EXPECT(shm_read(site, 0, 0, read, PAGES * 4096) == 0 && read[99] == 0 && read[107] == 49 && read[PAGES * 4096 - 1] == 0);
+    EXPECT(shm_read(site, 0, 0, read, 0) == 0 && shm_read(site, 63, 0, read, 0) == 0);
+    EXPECT_ERROR(EFAULT, shm_read(site, 0, PAGES * 4096, read, 1));
+    EXPECT_ERROR(EFAULT, shm_read(site, 0, PAGES * 4096 - 1, read, 2));
+    EXPECT_ERROR(EFAULT, shm_read(site, 0, SIZE_MAX, read, 1));
+    EXPECT_ERROR(EINVAL, shm_read(site, 63, 0, read, 1));
+    EXPECT_ERROR(EINVAL, shm_read(site, 63, 4090, read, 20));
+    EXPECT_ERROR(EINVAL, shm_read(site, -1, 0, read, 1));
+}
+
+/* At the greatest offset a site is asked, and refuses. What goes further no line can ask for, and the library refuses it. */
+static void try_ends(struct leddwyfan *site) {
+    unsigned char bytes[2] = {0};
+    EXPECT(shm_read(site, 63, UINT32_MAX, bytes, 0) == 0 && shm_write(site, 63, UINT32_MAX, bytes, 0) == 0);
+    EXPECT_ERROR(EFAULT, shm_read(site, 0, UINT32_MAX, bytes, 1));
+    EXPECT_ERROR(EINVAL, shm_read(site, 63, UINT32_MAX, bytes, 1));
+    EXPECT_ERROR(EINVAL, shm_read(site, 63, UINT32_MAX - 1, bytes, 2));
+    EXPECT_ERROR(EFAULT, shm_read(site, 63, UINT32_MAX, bytes, 2));
+    EXPECT_ERROR(EFAULT, shm_write(site, 0, UINT32_MAX, bytes, 1));
+    EXPECT_ERROR(EINVAL, shm_write(site, 63, UINT32_MAX, bytes, 1));
+    EXPECT_ERROR(EFAULT, shm_write(site, 63, UINT32_MAX, bytes, 2));
+#if SIZE_MAX > UINT32_MAX
+    EXPECT_ERROR(EFAULT, shm_read(site, 0, (size_t)UINT32_MAX + 1, bytes, 0));
+    EXPECT_ERROR(EFAULT, shm_read(site, 63, 0, bytes, (size_t)UINT32_MAX + 2));
+#endif
+}
+
+static void try_null(struct leddwyfan *site) {
+    EXPECT(shm_read(site, 0, 0, NULL, 0) == 0 && shm_write(site, 0, 0, NULL, 0) == 0);
+    EXPECT_ERROR(EFAULT, shm_read(site, 0, 0, NULL, 1));
+    EXPECT_ERROR(EFAULT, shm_write(site, 0, 0, NULL, 1));
+    EXPECT_ERROR(EINVAL, shm_write(site, -1, 0, NULL, 1));
 }
 
 static int try_get(struct leddwyfan *one, struct leddwyfan *other) {
@@ -55,6 +98,7 @@ static void try_attached(struct leddwyfan *one, struct leddwyfan *other, int shm
     EXPECT(shm_ctl(one, shmid, IPC_RMID, NULL) == 0 && shm_ctl(one, shmid, IPC_STAT, &status) == 0 && status.marked);
     EXPECT(shm_dt(one, at) == 0 && shm_dt(other, read_only) == 0);
     EXPECT_ERROR(EINVAL, shm_dt(one, at));
+    EXPECT_ERROR(EINVAL, shm_read(one, at, 0, &byte, 1));
     EXPECT_ERROR(EIDRM, shm_at(one, shmid, 0));
     EXPECT_ERROR(EINVAL, shm_at(one, 100000, 0));
 }
@@ -84,6 +128,10 @@ int main(int argc, char **argv) {
     struct leddwyfan *other = leddwyfan_start(&options);
     EXPECT(one != NULL && other != NULL);
     try_bytes(one, other);
+    try_blocks(one);
+    try_blocks(other);
+    try_ends(one);
+    try_null(one);
     try_attached(one, other, try_get(one, other));
     leddwyfan_stop(one);
     leddwyfan_stop(other);

@@ -3,6 +3,7 @@
 #include <errno.h>
 #include <fcntl.h>
 #include <inttypes.h>
+#include <limits.h>
 #include <poll.h>
 #include <pthread.h>
 #include <signal.h>
@@ -26,6 +27,7 @@ enum {
     MOST_AT_ONCE = 512, /* asks of one batch */
     ASK_BYTES = 128,
     ANSWER_BYTES = 192,
+    BLOCK_ANSWER_BYTES = 6 + (PAGE + 2) / 3 * 4 + 1, /* `block `, the base64 of a page, and the end */
     READ_BYTES = 1 << 16,
     MOST_UNWRITTEN = 1 << 22,
     NO_ATTACHMENT = 64, /* attachments are below it */
@@ -45,17 +47,18 @@ struct channel {
 
 struct ask {
     char line[ASK_BYTES];
-    char answer[ANSWER_BYTES];
+    char *answer;
 };
 
-/* Asks that one caller made together. One that begins a segment call must not be said twice; it is doubtful when its site was started again
-   since, so that nobody knows whether it began. */
+/* Asks that one caller made together, and room for their answers. One that begins a segment call must not be said twice; it is doubtful
+   when its site was started again since, so that nobody knows whether it began. */
 struct batch {
     struct batch *next;
     uint64_t number;
-    size_t count, missing;
+    size_t count, missing, answer_bytes;
     bool begins, doubtful;
     struct ask *asks;
+    char *answers;
 };
 
 struct leddwyfan {
@@ -162,7 +165,7 @@ static void wake(struct leddwyfan *site) {
 
 static void answer(struct leddwyfan *site, struct batch *batch, size_t place, const char *words, size_t length) {
     struct ask *ask = &batch->asks[place];
-    if (ask->answer[0] != '\0' || length == 0 || length >= ANSWER_BYTES) return;
+    if (ask->answer[0] != '\0' || length == 0 || length >= batch->answer_bytes) return;
     memcpy(ask->answer, words, length);
     ask->answer[length] = '\0';
     if (--batch->missing == 0) pthread_cond_broadcast(&site->changed);
@@ -298,7 +301,7 @@ static void ask_again(struct leddwyfan *site) {
 }
 
 /* The process has ended. If a signal ended it and there is a journal it is started again. It made durable what it answered, and forgot the
-   accesses that waited: these are asked again. */
+   accesses and blocks that waited: these are asked again. */
 static void start_again(struct leddwyfan *site) {
     int status = end_process(site);
     site->process = 0;
@@ -454,22 +457,26 @@ static void *carry(void *argument) {
 
 /* Asks. */
 
-static struct batch *new_batch(size_t count, bool begins) {
-    struct batch *batch = calloc(1, sizeof *batch);
-    struct ask *asks = calloc(count, sizeof *asks);
-    if (batch == NULL || asks == NULL) {
-        free(batch);
-        free(asks);
-        errno = ENOMEM;
-        return NULL;
-    }
-    *batch = (struct batch){.count = count, .missing = count, .begins = begins, .asks = asks};
-    return batch;
-}
-
 static void free_batch(struct batch *batch) {
+    int number = errno;
+    free(batch->answers);
     free(batch->asks);
     free(batch);
+    errno = number;
+}
+
+static struct batch *new_batch(size_t count, size_t answer_bytes, bool begins) {
+    struct batch *batch = calloc(1, sizeof *batch);
+    if (batch == NULL) return NULL;
+    *batch = (struct batch){.count = count, .missing = count, .answer_bytes = answer_bytes, .begins = begins};
+    batch->asks = calloc(count, sizeof *batch->asks);
+    if (batch->asks != NULL) batch->answers = calloc(count, answer_bytes);
+    if (batch->answers == NULL) {
+        free_batch(batch);
+        return NULL;
+    }
+    for (size_t place = 0; place < count; place++) batch->asks[place].answer = batch->answers + place * answer_bytes;
+    return batch;
 }
 
 /* Puts the batch among those that wait, and says its asks, each of which has its question in its line. */
@@ -531,7 +538,7 @@ static int64_t deadline_of(const struct leddwyfan *site) {
 static int ask_call(struct leddwyfan *site, const char *question, char reply[ANSWER_BYTES]) {
     int64_t deadline = deadline_of(site);
     for (;;) {
-        struct batch *batch = new_batch(1, true);
+        struct batch *batch = new_batch(1, ANSWER_BYTES, true);
         if (batch == NULL) return -1;
         memcpy(batch->asks[0].line, question, strlen(question));
         int result = exchange(site, batch, deadline);
@@ -612,7 +619,7 @@ int shm_ctl(struct leddwyfan *site, int shmid, int command, struct leddwyfan_sta
 
 /* Loads and stores. */
 
-/* Some bytes of one page. `from` is NULL for loads, and `into` for stores. */
+/* Some bytes of one page. `from` is NULL where they are read, and `into` where they are stored. */
 struct piece {
     int at;
     size_t offset, length;
@@ -620,17 +627,14 @@ struct piece {
     unsigned char *into;
 };
 
-/* Takes the answers of a batch, whose places in the piece these are. Those that found 64 asks waiting at the site weren't kept there, and are
-   put at the front; the answer is how many these are. */
-static int take_answers(const struct batch *batch, const struct piece *piece, uint16_t *places) {
+/* Takes the answers of a batch of stores, whose places in the piece these are. Those that found 64 asks waiting at the site weren't kept
+   there, and are put at the front; the answer is how many these are. */
+static int take_answers(const struct batch *batch, uint16_t *places) {
     int turned_away = 0;
     for (size_t index = 0; index < batch->count; index++) {
         const char *words = batch->asks[index].answer;
-        uint16_t place = places[index];
-        if (strncmp(words, "byte ", 5) == 0 && piece->into != NULL) {
-            piece->into[place] = (unsigned char)strtoul(words + 5, NULL, 10);
-        } else if (strcmp(words, "fault") == 0 || strcmp(words, "waiting") == 0) {
-            places[turned_away++] = place;
+        if (strcmp(words, "fault") == 0 || strcmp(words, "waiting") == 0) {
+            places[turned_away++] = places[index];
         } else if (strncmp(words, "refused ", 8) == 0) {
             return refused(strtol(words + 8, NULL, 10));
         } else if (strcmp(words, "stored") != 0) {
@@ -640,34 +644,29 @@ static int take_answers(const struct batch *batch, const struct piece *piece, ui
     return turned_away;
 }
 
-/* Asks for the accesses at these places of the piece. */
-static int access_places(struct leddwyfan *site, const struct piece *piece, uint16_t *places, size_t count, int64_t deadline) {
-    struct batch *batch = new_batch(count, false);
+/* Asks for the stores at these places of the piece. */
+static int store_places(struct leddwyfan *site, const struct piece *piece, uint16_t *places, size_t count, int64_t deadline) {
+    struct batch *batch = new_batch(count, ANSWER_BYTES, false);
     if (batch == NULL) return -1;
     for (size_t index = 0; index < count; index++) {
         size_t place = places[index];
-        char *line = batch->asks[index].line;
-        if (piece->from == NULL) {
-            snprintf(line, ASK_BYTES, "load %d %zu", piece->at, piece->offset + place);
-        } else {
-            snprintf(line, ASK_BYTES, "store %d %zu %d", piece->at, piece->offset + place, piece->from[place]);
-        }
+        snprintf(batch->asks[index].line, ASK_BYTES, "store %d %zu %d", piece->at, piece->offset + place, piece->from[place]);
     }
     int result = exchange(site, batch, deadline);
-    if (result == 0) result = take_answers(batch, piece, places);
+    if (result == 0) result = take_answers(batch, places);
     free_batch(batch);
     return result;
 }
 
-/* The first access brings the page here, then the others are asked in one go. */
-static int access_piece(struct leddwyfan *site, const struct piece *piece) {
+/* The first store brings the page here, then the others are asked in one go. */
+static int store_piece(struct leddwyfan *site, const struct piece *piece) {
     uint16_t places[PAGE];
     size_t left = piece->length, most = 1;
     int64_t deadline = deadline_of(site);
     for (size_t place = 0; place < left; place++) places[place] = (uint16_t)place;
     while (left > 0) {
         size_t asked = left < most ? left : most;
-        int result = access_places(site, piece, places, asked, deadline);
+        int result = store_places(site, piece, places, asked, deadline);
         if (result < 0) return -1;
         size_t turned_away = (size_t)result;
         memmove(places + turned_away, places + asked, (left - asked) * sizeof *places);
@@ -678,15 +677,82 @@ static int access_piece(struct leddwyfan *site, const struct piece *piece) {
     return 0;
 }
 
-/* Makes the accesses page by page. */
+/* The six bits that a letter of base64 says, or -1. */
+static int bits_of(char letter) {
+    static const char letters[] = "ABCDEFGHIJKLMNOPQRSTUVWXYZabcdefghijklmnopqrstuvwxyz0123456789+/";
+    const char *found = letter == '\0' ? NULL : strchr(letters, letter);
+    return found == NULL ? -1 : (int)(found - letters);
+}
+
+/* Whether the text is the base64 of so many bytes, which are then put there; where it isn't, some may be. */
+static bool decode(const char *text, unsigned char *into, size_t length) {
+    if (strlen(text) != (length + 2) / 3 * 4) return false;
+    for (; length > 0; text += 4) {
+        size_t count = length < 3 ? length : 3;
+        uint32_t bits = 0;
+        for (size_t place = 0; place < 4; place++) {
+            int more = place <= count ? bits_of(text[place]) : text[place] == '=' ? 0 : -1;
+            if (more < 0) return false;
+            bits = bits << 6 | (uint32_t)more;
+        }
+        if ((bits & (0xffffffu >> 8 * count)) != 0) return false;
+        for (size_t place = 0; place < count; place++) *into++ = (unsigned char)(bits >> (16 - 8 * place));
+        length -= count;
+    }
+    return true;
+}
+
+/* Whether the text is the number of a byte, as a site spells it. The byte is then put there. */
+static bool read_byte(const char *text, unsigned char *into) {
+    size_t digits = strspn(text, "0123456789");
+    if (digits < 1 || digits > 3 || text[digits] != '\0' || (digits > 1 && text[0] == '0')) return false;
+    long number = strtol(text, NULL, 10);
+    if (number > UCHAR_MAX) return false;
+    *into = (unsigned char)number;
+    return true;
+}
+
+/* Takes the answer of a load, or of a block. Where it found 64 asks waiting at the site it wasn't kept there, and the answer is 1. */
+static int take_block(const char *words, const struct piece *piece) {
+    if (piece->length == 1 && strncmp(words, "byte ", 5) == 0 && read_byte(words + 5, piece->into)) return 0;
+    if (piece->length > 1 && strncmp(words, "block ", 6) == 0 && decode(words + 6, piece->into, piece->length)) return 0;
+    if (strcmp(words, "waiting") == 0 || strcmp(words, "fault") == 0) return 1;
+    if (strncmp(words, "refused ", 8) == 0) return refused(strtol(words + 8, NULL, 10));
+    return failed(EIO);
+}
+
+/* Reads the piece as one block, and one byte as a load: where its page is here a load needs no place among the asks that wait, and a block
+   does. */
+static int read_piece(struct leddwyfan *site, const struct piece *piece) {
+    int64_t deadline = deadline_of(site);
+    for (;;) {
+        struct batch *batch = new_batch(1, BLOCK_ANSWER_BYTES, false);
+        if (batch == NULL) return -1;
+        char *line = batch->asks[0].line;
+        if (piece->length == 1) {
+            snprintf(line, ASK_BYTES, "load %d %zu", piece->at, piece->offset);
+        } else {
+            snprintf(line, ASK_BYTES, "read %d %zu %zu", piece->at, piece->offset, piece->length);
+        }
+        int result = exchange(site, batch, deadline);
+        if (result == 0) result = take_block(batch->asks[0].answer, piece);
+        free_batch(batch);
+        if (result <= 0) return result;
+        pause_for(TICK);
+    }
+}
+
+/* Reads or stores page by page. What no line can ask for is refused at once: all offsets are below 2^32. */
 static int access_all(struct leddwyfan *site, struct piece piece) {
+    const uint64_t offsets = (uint64_t)1 << 32;
     size_t left = piece.length;
     if (piece.at < 0) return failed(EINVAL);
-    if (piece.offset > UINT32_MAX || left > UINT32_MAX - piece.offset) return failed(EFAULT);
+    if ((uint64_t)piece.offset >= offsets || left > offsets - piece.offset) return failed(EFAULT);
+    if (left > 0 && piece.from == NULL && piece.into == NULL) return failed(EFAULT);
     while (left > 0) {
         size_t of_page = PAGE - piece.offset % PAGE;
         piece.length = left < of_page ? left : of_page;
-        if (access_piece(site, &piece) < 0) return -1;
+        if ((piece.from == NULL ? read_piece(site, &piece) : store_piece(site, &piece)) < 0) return -1;
         left -= piece.length;
         piece.offset += piece.length;
         if (piece.from != NULL) piece.from += piece.length;

@@ -30,7 +30,7 @@ struct leddwyfan_options {
     int reader;           /* what others say comes from here: set not to block, and never closed */
     int writer;           /* what goes out goes here: the same */
     const char *journal;  /* the journal's file, or NULL */
-    unsigned timeout;     /* how many seconds a call waits at most before it fails with ETIMEDOUT; 0: for good */
+    unsigned timeout;     /* how many seconds a call waits at most, for each page anew, before it fails with ETIMEDOUT; 0: for good */
 };
 
 /* What IPC_STAT tells of a segment, and of which IPC_SET takes uid, gid and mode. A marked one is destroyed once nobody is attached. */
@@ -54,7 +54,8 @@ int shm_at(struct leddwyfan *site, int shmid, int flags);
 int shm_dt(struct leddwyfan *site, int at);
 int shm_ctl(struct leddwyfan *site, int shmid, int command, struct leddwyfan_status *status);
 
-/* So many loads or stores of single bytes, in no promised order. Of one that fails some may have been made. */
+/* So many loads or stores of single bytes, in no promised order. Of one that fails some may have been made. What a read loads of one page
+   is asked for as one block, and a single byte as a load. */
 int shm_read(struct leddwyfan *site, int at, size_t offset, void *bytes, size_t length);
 int shm_write(struct leddwyfan *site, int at, size_t offset, const void *bytes, size_t length);
 

@@ -13,7 +13,9 @@ this site goes to the process, and what the process says to others goes to the s
 shmctl(2); one that is refused raises OSError with the system's errno. Threads may share a Site. clients/README.md says what is promised.
 
 Needs Python 3.9 and nothing else."""
+import base64
 import errno
+import operator
 import os
 import secrets
 import select
@@ -39,6 +41,7 @@ MOST_AT_ONCE = 512
 MOST_UNWRITTEN = 1 << 22
 LONGEST_LINE = 1 << 16
 NO_ATTACHMENT = 64
+NUMBERS = 1 << 32  # attachments, segments, keys, users, sizes and offsets are below it
 
 ERRORS = {
     1: errno.EACCES, 2: errno.EEXIST, 3: errno.EIDRM, 4: errno.EINVAL, 5: errno.ENOENT, 6: errno.ENOSPC, 7: errno.EPERM,
@@ -141,7 +144,8 @@ class Ask:
 
 
 class Site:
-    """A site and its process. `timeout` is how many seconds a call waits at most before it raises ETIMEDOUT; None waits for good."""
+    """A site and its process. `timeout` is how many seconds a call waits at most, for each page anew, before it raises ETIMEDOUT; None
+    waits for good."""
 
     @classmethod
     def start(cls, program, sites, me, pages, reader, writer, journal=None, **options):
@@ -180,6 +184,7 @@ class Site:
         self.me, self.timeout = me, timeout
         self.uid = os.getuid() if uid is None else uid
         self.gid = os.getgid() if gid is None else gid
+        check_numbers(self.uid, self.gid)
         self._words, self._carriers = words, carriers
         self._restarts = restarts if journaled else 0
         self._from_stream, self._to_stream = Incoming(descriptor_of(reader)), Outgoing(descriptor_of(writer))
@@ -199,19 +204,23 @@ class Site:
 
     def shm_get(self, key, size, flags=0):
         """The identifier of the segment with this key, as shmget(2). `flags` are IPC_CREAT, IPC_EXCL and nine bits of a mode."""
+        check_numbers(key, size)
         letters = ('c' if flags & IPC_CREAT else '') + ('x' if flags & IPC_EXCL else '')
         return int(self._call(f'get {self.uid} {self.gid} {key} {size} {flags & 0o777:03o} {letters or "-"}')[1])
 
     def shm_at(self, shmid, flags=0):
         """Attaches the segment, and gives the attachment's number, as shmat(2). `flags` is SHM_RDONLY or 0."""
+        check_numbers(shmid)
         return int(self._call(f'attach {self.uid} {self.gid} {shmid} {"ro" if flags & SHM_RDONLY else "rw"}')[1])
 
     def shm_dt(self, at):
         """Detaches, as shmdt(2)."""
+        check_numbers(at)
         self._call(f'detach {at}')
 
     def shm_ctl(self, shmid, command, uid=0, gid=0, mode=0):
         """As shmctl(2): IPC_STAT gives a Status, IPC_SET sets this owner and mode, IPC_RMID removes."""
+        check_numbers(shmid, uid, gid)
         named = f'{self.uid} {self.gid} {shmid}'
         if command == IPC_STAT:
             return status_of(self._call(f'stat {named}'))
@@ -224,14 +233,20 @@ class Site:
         return None
 
     def shm_read(self, at, offset, length):
-        """So many bytes from this offset: a load of each, in no promised order."""
+        """So many bytes from this offset: a load of each, in no promised order. What lies in one page is asked for as one block, and one
+        byte as a load: where its page is here a load needs no place among the asks that wait, and a block does."""
+        check_places(at, offset, length)
         data = bytearray()
         for places in page_by_page(offset, length):
-            data += bytes(int(answer[1]) for answer in self._access([f'load {at} {place}' for place in places]))
+            first, count = places.start, len(places)
+            question = f'load {at} {first}' if count == 1 else f'read {at} {first} {count}'
+            data += block_of(self._access([question])[0], count)
         return bytes(data)
 
     def shm_write(self, at, offset, data):
         """Stores each of these bytes from this offset, in no promised order."""
+        data = bytes(memoryview(data))
+        check_places(at, offset, len(data))
         for places in page_by_page(offset, len(data)):
             self._access([f'store {at} {place} {data[place - offset]}' for place in places])
 
@@ -258,8 +273,8 @@ class Site:
     # Asks and answers.
 
     def _access(self, questions):
-        """Makes accesses of one page. The first brings the page here, then the rest is asked in one go. What found 64 asks waiting at the
-        site wasn't kept there, and is asked again."""
+        """Makes accesses of one page, or reads a block of it. The first brings the page here, then the rest is asked in one go. What found
+        64 asks waiting at the site wasn't kept there, and is asked again."""
         deadline = self._deadline()
         answers = [None] * len(questions)
         left = list(range(len(questions)))
@@ -457,7 +472,7 @@ class Site:
 
     def _start_again(self):
         """The process has ended. If a signal ended it and there is a journal it is started again. It made durable what it answered, and
-        forgot the accesses that waited: these are asked again."""
+        forgot the accesses and blocks that waited: these are asked again."""
         ended = self._process
         end_process(ended)
         if ended.returncode >= 0 or self._restarts == 0:
@@ -483,6 +498,21 @@ class Site:
         self._changed.notify_all()
 
 
+def check_numbers(*numbers):
+    """Refuses at once what no line can name."""
+    if not all(0 <= operator.index(number) < NUMBERS for number in numbers):
+        raise failure(errno.EINVAL)
+
+
+def check_places(at, offset, length):
+    """Refuses at once what no line can ask for: there is no such attachment, or no segment has such offsets."""
+    check_numbers(at)
+    if length < 0:
+        raise failure(errno.EINVAL)
+    if not 0 <= offset < NUMBERS or length > NUMBERS - offset:
+        raise failure(errno.EFAULT)
+
+
 def page_by_page(offset, length):
     """The offsets from this one, in ranges of which none crosses into another page."""
     end = offset + length
@@ -490,6 +520,19 @@ def page_by_page(offset, length):
         page_end = min(end, (offset // PAGE_BYTES + 1) * PAGE_BYTES)
         yield range(offset, page_end)
         offset = page_end
+
+
+def block_of(answer, length):
+    """The one byte of `byte N`, or the bytes of `block BASE64`, which are so many. Each has one spelling."""
+    try:
+        _, text = answer
+        data = bytes([int(text)]) if length == 1 else base64.b64decode(text, validate=True)
+    except ValueError:
+        data = b''
+    spelled = ['byte', *map(str, data)] if length == 1 else ['block', base64.b64encode(data).decode()]
+    if len(data) != length or answer != spelled:
+        raise failure(errno.EIO)
+    return data
 
 
 def status_of(reply):

@@ -8,12 +8,14 @@ and R times a second one of them is killed by signal 9; half of the times a piec
 torn would leave it. A moment later the site is started again from its journal. What a killed process had written and nobody had read yet is
 lost half of the times. Envelopes are lost, repeated and reordered, and some asks and answers are lost.
 
-Each site has callers, which load bytes that all share and store there; no value is stored twice at a byte. At the end of a round each byte's
-history needs one order of its stores and loads, in which a load gives what was stored last, and which respects time (histories.py); and
-`PROGRAM audit` has to say yes to the journals. The status is 1 where one of these fails, or a site ended by itself.
+Each site has callers, which load bytes that all share and store there; no value is stored twice at a byte. Now and then they read a block, of
+which each byte counts as a load between the block's ask and its answer. At the end of a round each byte's history needs one order of its
+stores and loads, in which a load gives what was stored last, and which respects time (histories.py); and `PROGRAM audit` has to say yes to
+the journals. The status is 1 where one of these fails, or a site ended by itself.
 
 Without journals sites forget what they held and promised, and this finds it."""
 import argparse
+import base64
 import os
 import random
 import selectors
@@ -21,19 +23,22 @@ import subprocess
 import sys
 import tempfile
 import time
+from dataclasses import dataclass
 
-from histories import Access, violations
+from histories import Access, loads_of, violations
 from router import PAGE_BYTES, PAGES, TICK_SECONDS, Site
 
 ROUND_SECONDS = 20
 CALLERS = 2
 PLACES = 6
+BLOCKS = 0.1
+LONGEST_BLOCK = 64
 STORES = 0.4
 DOWN_SECONDS = 0.2
 GIVE_UP_SECONDS = 1
 AGAIN_SECONDS = 0.02
 END_SECONDS = 20
-COUNTS = ('kills', 'torn', 'loads', 'stores', 'lost', 'repeated', 'violations', 'audits')
+COUNTS = ('kills', 'torn', 'loads', 'stores', 'blocks', 'lost', 'repeated', 'violations', 'audits')
 
 
 class Places:
@@ -47,12 +52,19 @@ class Places:
             self.open()
 
     def open(self):
-        page, offset = self.opened % PAGES, self.opened // PAGES
+        """One more: on each page in turn, and there near its beginning and near its end."""
+        page, number = self.opened % PAGES, self.opened // PAGES
+        offset = number // 2 if number % 2 == 0 else PAGE_BYTES - 1 - number // 2
         self.values[page * PAGE_BYTES + offset] = 0
         self.opened += 1
 
     def choose(self):
         return self.draw.choice(list(self.values))
+
+    def choose_block(self, length):
+        """Where a block of so many bytes begins, in which one of these lies."""
+        first = self.choose() - self.draw.randrange(length)
+        return min(max(first, 0), PAGES * PAGE_BYTES - length)
 
     def next_value(self, place):
         self.values[place] += 1
@@ -63,23 +75,42 @@ class Places:
         return value
 
 
+@dataclass
+class Block:
+    """So many bytes from this place, which are read in one go."""
+    place: int
+    length: int
+    begin: float
+
+
 class Caller:
-    """A caller of one site, with one access at a time. One that has no answer for long, or whose site was killed, is left as it is: it may
-    have been made, or may still be."""
+    """A caller of one site, with one access or block at a time. One that has no answer for long, or whose site was killed, is left as it is:
+    it may have been made, or may still be."""
 
     def __init__(self, site, number, places, draw):
         self.name, self.site, self.places, self.draw = f'c{site}.{number}', site, places, draw
         self.accesses = []
+        self.done = dict(loads=0, stores=0, blocks=0)
         self.asked = 0
         self.begin(time.monotonic())
 
     def begin(self, now):
+        self.tag = None
+        self.ask_at = now
+        if self.draw.random() < BLOCKS:
+            length = self.draw.randrange(1, LONGEST_BLOCK + 1)
+            self.access = Block(self.places.choose_block(length), length, now)
+            return
         place = self.places.choose()
         stores = self.draw.random() < STORES
         self.access = Access(stores, place, self.places.next_value(place) if stores else None, now)
         self.accesses.append(self.access)
-        self.tag = None
-        self.ask_at = now
+
+    def words(self):
+        """What is asked."""
+        if isinstance(self.access, Block):
+            return f'read 0 {self.access.place} {self.access.length}'
+        return ('store 0 {0.place} {0.value}' if self.access.stores else 'load 0 {0.place}').format(self.access)
 
     def question(self, now):
         """The line that is to be asked, if one is due."""
@@ -89,8 +120,7 @@ class Caller:
             return None
         self.asked += 1
         self.tag = f'{self.name}.{self.asked}'
-        words = ('store 0 {0.place} {0.value}' if self.access.stores else 'load 0 {0.place}').format(self.access)
-        return f'ask {self.site} {self.tag} {words}'.encode()
+        return f'ask {self.site} {self.tag} {self.words()}'.encode()
 
     def hear(self, tag, words):
         """An answer. What found too many asks waiting wasn't kept, and is asked again."""
@@ -100,12 +130,26 @@ class Caller:
         if words[0] in ('fault', 'waiting'):
             self.tag, self.ask_at = None, now + AGAIN_SECONDS
             return
-        if words[0] == 'byte':
-            self.access.value = int(words[1])
-        elif words[0] != 'stored':
+        if not self.take(words, now):
             sys.exit(f'{self.access} is answered {words}')
-        self.access.end = now
         self.begin(now)
+
+    def take(self, words, now):
+        """Takes an answer. False: it is none to what was asked."""
+        if isinstance(self.access, Block):
+            data = base64.b64decode(words[1], validate=True) if words[0] == 'block' else b''
+            if len(data) != self.access.length:
+                return False
+            self.accesses += loads_of(self.access.place, data, self.access.begin, now)
+            self.done['blocks'] += 1
+            return True
+        if words[0] != ('stored' if self.access.stores else 'byte'):
+            return False
+        if not self.access.stores:
+            self.access.value = int(words[1])
+        self.access.end = now
+        self.done['stores' if self.access.stores else 'loads'] += 1
+        return True
 
 
 class Seat:
@@ -275,11 +319,10 @@ class Round:
             status = seat.stop() if seat.site is not None else 0
             if status != 0:
                 faults.append(f'site {site} ended with status {status}')
-        accesses = [access for caller in self.callers.values() for access in caller.accesses]
-        for access in accesses:
-            if access.end is not None:
-                self.counts['stores' if access.stores else 'loads'] += 1
-        faults += violations(accesses)
+        for caller in self.callers.values():
+            for word, count in caller.done.items():
+                self.counts[word] += count
+        faults += violations([access for caller in self.callers.values() for access in caller.accesses])
         self.counts['violations'] = len(faults)
         if not self.options.no_journal:
             faults += self.audit()
@@ -317,7 +360,7 @@ def run_rounds(options, folder):
     for fault in faults[:10]:
         print('wrong:', fault)
     print(f'rounds {number}, {told(sums)}')
-    return not faults and sums['loads'] > 0 and sums['stores'] > 0
+    return not faults and all(sums[word] > 0 for word in ('loads', 'stores', 'blocks'))
 
 
 def main():

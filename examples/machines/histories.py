@@ -21,6 +21,11 @@ class Access:
     end: Optional[float] = None
 
 
+def loads_of(place, data, begin, end):
+    """The loads of a block, which begins at this place: each of its bytes was loaded at some time between its ask and its answer."""
+    return [Access(False, place + at, value, begin, end) for at, value in enumerate(data)]
+
+
 @dataclass
 class Span:
     value: int

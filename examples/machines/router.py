@@ -7,10 +7,12 @@ Starts N processes `PROGRAM site --sites N --me K --preset 2`, with two pipes ea
 envelopes some are lost, some go out again later, and all of them in any order; some asks and answers are lost. Each site has a caller,
 which alone stores to two places of its own, on pages that all share, and loads those of all. Each load has to give what was stored last to
 its place: the last store that was answered before the load was asked, or one that was asked since and before the load was answered. The
-last line says how much was done; the status is 1 where a load gave something else, or where a caller had no answer for a long time.
+same holds of each byte of the blocks that are read now and then; where nobody stores it is 0. The last line says how much was done; the
+status is 1 where a load or a block gave something else, or where a caller had no answer for a long time.
 
 PROGRAM may be more words than one, and {} in it is the site's number: --program 'ssh host-{} shmdbg'."""
 import argparse
+import base64
 import os
 import random
 import selectors
@@ -21,6 +23,10 @@ import time
 
 PAGES = 2
 PAGE_BYTES = 4096
+BLOCKS = 0.15
+LONGEST_BLOCK = 64
+STORES = 0.4
+ANSWERS = dict(loads='byte', stores='stored', blocks='block')
 TICK_SECONDS = 0.02
 ASK_AGAIN_SECONDS = 0.5
 GIVE_UP_SECONDS = 30
@@ -75,16 +81,20 @@ class Caller:
         self.site, self.own, self.places, self.draw = site, own, places, draw
         self.asked = 0
         self.tags = set()
-        self.done = dict(loads=0, stores=0, again=0)
+        self.done = dict(loads=0, stores=0, blocks=0, again=0)
         self.wrong = []
         self.choose()
 
     def choose(self):
-        self.stores = self.draw.random() < 0.4
-        self.place = self.draw.choice(self.own if self.stores else self.places)
-        if self.stores:
+        """What comes next: a store, a load or a block, of so many bytes from `at`."""
+        drawn = self.draw.random()
+        self.kind = 'blocks' if drawn < BLOCKS else 'stores' if drawn < BLOCKS + STORES else 'loads'
+        self.length = self.draw.randrange(1, LONGEST_BLOCK + 1) if self.kind == 'blocks' else 1
+        self.place = self.draw.choice(self.own if self.kind == 'stores' else self.places)
+        self.at = min(max(self.place.at - self.draw.randrange(self.length), 0), PAGES * PAGE_BYTES - self.length)
+        if self.kind == 'stores':
             self.place.values.append(self.draw.randrange(256))
-        self.least = self.place.answered
+        self.least = {place.at: place.answered for place in self.places}
         self.since = time.monotonic()
         self.tags.clear()
         self.last_asked = None
@@ -98,24 +108,34 @@ class Caller:
         self.asked += 1
         tag = f'c{self.site}.{self.asked}'
         self.tags.add(tag)
-        if self.stores:
-            return f'ask {self.site} {tag} store 0 {self.place.at} {self.place.values[-1]}'.encode()
-        return f'ask {self.site} {tag} load 0 {self.place.at}'.encode()
+        words = {
+            'stores': f'store 0 {self.at} {self.place.values[-1]}',
+            'loads': f'load 0 {self.at}',
+            'blocks': f'read 0 {self.at} {self.length}',
+        }
+        return f'ask {self.site} {tag} {words[self.kind]}'.encode()
 
     def hear(self, tag, words):
         """An answer. One under a tag of an earlier ask is passed over."""
         if tag not in self.tags:
             return
-        if self.stores and words == ['stored']:
+        if words[0] != ANSWERS[self.kind]:
+            self.wrong.append((self.site, self.at, words))
+        elif self.kind == 'stores':
             self.place.answered = len(self.place.values) - 1
-            self.done['stores'] += 1
-        elif not self.stores and words[:1] == ['byte']:
-            if int(words[1]) not in self.place.values[self.least:]:
-                self.wrong.append((self.site, self.place.at, int(words[1]), self.place.values[self.least:]))
-            self.done['loads'] += 1
         else:
-            self.wrong.append((self.site, self.place.at, words))
+            self.judge(bytes([int(words[1])]) if self.kind == 'loads' else base64.b64decode(words[1], validate=True))
+        self.done[self.kind] += 1
         self.choose()
+
+    def judge(self, data):
+        """Looks at each byte that was loaded from `at` on."""
+        if len(data) != self.length:
+            self.wrong.append((self.site, self.at, f'{len(data)} bytes in place of {self.length}'))
+        values = {place.at: place.values[self.least[place.at]:] for place in self.places}
+        for at, value in enumerate(data, self.at):
+            if value not in values.get(at, [0]):
+                self.wrong.append((self.site, at, value, values.get(at, [0])))
 
 
 class Router:
@@ -168,7 +188,7 @@ class Router:
             if line is not None and not self.loses():
                 self.sites[caller.site].send(line)
             if now > caller.since + GIVE_UP_SECONDS:
-                caller.wrong.append((caller.site, caller.place.at, 'no answer'))
+                caller.wrong.append((caller.site, caller.at, 'no answer'))
 
     def tick(self, site):
         self.sites[site].send(f'ask {site} tick tick'.encode())
@@ -215,7 +235,7 @@ def main():
     router.stop()
     for wrong in router.wrong():
         print('wrong:', *wrong)
-    done = {word: sum(caller.done[word] for caller in router.callers) for word in ('loads', 'stores', 'again')}
+    done = {word: sum(caller.done[word] for caller in router.callers) for word in ('loads', 'stores', 'blocks', 'again')}
     print(', '.join(f'{word} {count}' for word, count in {**done, **router.counts}.items()))
     sys.exit(1 if router.wrong() or not done['loads'] or not done['stores'] else 0)
 
