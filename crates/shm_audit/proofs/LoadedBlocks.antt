@@ -1,5 +1,5 @@
 -- What a block that waits has so far was loaded by steps that its site's process made.
-use Rattle.std.proofs.Common.{◌≡◌, ◌⊎◌, inl, inr, ℕ, suc, ◌+◌, ◌<◌, ◌≤◌, ◌==◌, Bool, true, false, List, [], ◌∷◌, ◌++◌, Some, None, length, set, take, drop, cond, refl, ap, sym, subst, ◌∙◌, append-nil, append_assoc, arith}
+use Rattle.std.proofs.Common.{◌≡◌, ◌⊎◌, inl, inr, ℕ, suc, ◌+◌, ◌<◌, ◌≤◌, ◌==◌, Bool, true, false, List, [], ◌∷◌, ◌++◌, Some, None, length, set, take, drop, map, cond, refl, ap, sym, subst, ◌∙◌, append-nil, append_assoc, arith}
 use Rattle.std.specs.Prelude.{Option, ◌^◌, nat_lt, option_and_then, option_map}
 use Rattle.std.specs.List.{All, remove}
 use Rattle.std.proofs.lemmas.Bool.{cases_lt}
@@ -14,12 +14,21 @@ use Rattle.shm_wire.proofs.AskWords.{ask-is_spelled}
 use Rattle.shm_wire.specs.Asks.{Ask, IsAsked, IsTag, is_block, read_ask}
 use Rattle.shm_wire.specs.declared.ask.Question.{Question}
 use Rattle.shm_wire.specs.declared.ask.Question.TheVariants as question
-use Rattle.shm_process.specs.Blocks.{Access, Block, Reads, WaitingAsk, after_answer, ask_in, left, next_line, stays}
+use Rattle.shm_process.specs.Blocks.{Access, Block, Reads, WaitingAsk, after_answer, ask_in, waiting_after, next_line, waits_on}
 use Rattle.shm_process.specs.Node.{Node, Heard, Said, answer_to, heard, is_late, says}
 use Rattle.shm_process.specs.Recorded.{Event, Line, TooLong, Again, Restarted, after_event, after_events, said_at}
 use Rattle.shm_process.specs.Waiting.{after_heard, after_restart, after_unheard, again_at, again_if, block_here, block_in, has_room, joins, ready, said_restart, says_again, says_at, waiting_at}
 use Rattle.shm_audit.proofs.Among.{among-more, among-push, load_made, loads-push}
-use Rattle.shm_audit.specs.Loads.{Among, Made, loads, made_at, made_by, made_first}
+use Rattle.shm_audit.specs.Loads.{Among, Made, loads, made_at, made_by}
+use Rattle.shm_audit.specs.Told.{all_said, said_first}
+
+abbrev made_first : Option Said → List Made → List Made
+made_first None steps = steps
+made_first (Some said) steps = made_by said ∷ steps
+
+made-more : (said : Option Said) (all : List Said) → map made_by (said_first said all) ≡ made_first said (map made_by all)
+made-more None all = refl
+made-more (Some said) all = refl
 
 -- ---- asks that wait
 
@@ -65,7 +74,7 @@ more-to-load bytes byte count on = subst (λ n. n < count) (sym (length-append b
 abbrev pub step_of : ℕ → WaitingAsk → Answer → Made
 step_of me ask answer = record { line = next_line me ask; answer = answer }
 
-after-loaded : (me : ℕ) (steps : List Made) (ask : WaitingAsk) (answer : Answer) → HasLoaded me steps ask → stays ask answer ≡ true
+after-loaded : (me : ℕ) (steps : List Made) (ask : WaitingAsk) (answer : Answer) → HasLoaded me steps ask → waits_on ask answer ≡ true
     → HasLoaded me (steps ++ step_of me ask answer ∷ []) (after_answer ask answer)
 after-loaded me steps (Access line) answer h on = tt
 after-loaded me steps (Reads block) (Byte byte) h on =
@@ -83,18 +92,18 @@ cond-all : (me : ℕ) (steps : List Made) (b : Bool) (xs ys : List WaitingAsk) �
 cond-all me steps true xs ys p q = p
 cond-all me steps false xs ys p q = q
 
-left-case : (me : ℕ) (steps : List Made) (ask : WaitingAsk) (answer : Answer) (b : Bool) (xs ys : List WaitingAsk) → stays ask answer ≡ b
-    → (stays ask answer ≡ true → AllLoaded me steps xs) → AllLoaded me steps ys → AllLoaded me steps (cond b xs ys)
+left-case : (me : ℕ) (steps : List Made) (ask : WaitingAsk) (answer : Answer) (b : Bool) (xs ys : List WaitingAsk) → waits_on ask answer ≡ b
+    → (waits_on ask answer ≡ true → AllLoaded me steps xs) → AllLoaded me steps ys → AllLoaded me steps (cond b xs ys)
 left-case me steps ask answer true xs ys e p q = p e
 left-case me steps ask answer false xs ys e p q = q
 
 left-loaded : (me : ℕ) (steps : List Made) (waiting : List WaitingAsk) (at : ℕ) (answer : Answer) → AllLoaded me steps waiting
-    → AllLoaded me (steps ++ step_of me (ask_in waiting at) answer ∷ []) (left waiting at answer)
+    → AllLoaded me (steps ++ step_of me (ask_in waiting at) answer ∷ []) (waiting_after waiting at answer)
 left-loaded me steps waiting at answer h =
     let ask = ask_in waiting at in
     let now = steps ++ step_of me ask answer ∷ [] in
     let all : AllLoaded me now waiting = all-more me steps (step_of me ask answer ∷ []) waiting h in
-    left-case me now ask answer (stays ask answer) (set waiting at (after_answer ask answer)) (remove waiting at) refl
+    left-case me now ask answer (waits_on ask answer) (set waiting at (after_answer ask answer)) (remove waiting at) refl
     (λ on. All-set (HasLoaded me now) waiting at (after_answer ask answer) (after-loaded me steps ask answer (ask-loaded me steps waiting at h) on) all)
     (All-append (HasLoaded me now) (take at waiting) (drop (suc at) waiting) (All-take (HasLoaded me now) at waiting all) (All-drop (HasLoaded me now) (suc at) waiting all))
 
@@ -167,7 +176,7 @@ again-holds me steps node at None h = holds-same me steps node node refl refl h
 again-holds me steps node at (Some x) h =
     record {
       own = h.own;
-      all = subst (λ m. AllLoaded me (steps ++ step_of m (ask_in node.waiting at) (answer_to node x) ∷ []) (left node.waiting at (answer_to node x)))
+      all = subst (λ m. AllLoaded me (steps ++ step_of m (ask_in node.waiting at) (answer_to node x) ∷ []) (waiting_after node.waiting at (answer_to node x)))
           (sym h.own) (left-loaded me steps node.waiting at (answer_to node x) h.all);
     }
 
@@ -200,13 +209,16 @@ events-hold me [] steps node h = holds-same me steps node node refl refl h
 events-hold me (event ∷ events) steps node h =
     let first = made_first (said_at node event) [] in
     let rest = made_at (after_event node event) events in
-    let whole : (steps ++ first) ++ rest ≡ steps ++ made_first (said_at node event) rest =
-    append_assoc steps first rest ∙ ap (λ l. steps ++ l) (sym (first-both (said_at node event) [] rest)) in
+    let whole : (steps ++ first) ++ rest ≡ steps ++ made_at node (event ∷ events) =
+    append_assoc steps first rest
+    ∙ ap (λ l. steps ++ l) (sym (first-both (said_at node event) [] rest) ∙ sym (made-more (said_at node event) (all_said (after_event node event) events))) in
     subst (λ s. Holds me s (after_events (after_event node event) events)) whole
     (events-hold me events (steps ++ first) (after_event node event) (event-holds me steps node event h))
 
 pub made-both : (xs ys : List Event) (node : Node) → made_at node (xs ++ ys) ≡ made_at node xs ++ made_at (after_events node xs) ys
 made-both [] ys node = refl
 made-both (x ∷ xs) ys node =
-    ap (made_first (said_at node x)) (made-both xs ys (after_event node x))
+    made-more (said_at node x) (all_said (after_event node x) (xs ++ ys))
+    ∙ ap (made_first (said_at node x)) (made-both xs ys (after_event node x))
     ∙ first-both (said_at node x) (made_at (after_event node x) xs) (made_at (after_events (after_event node x) xs) ys)
+    ∙ ap (λ l. l ++ made_at (after_events (after_event node x) xs) ys) (sym (made-more (said_at node x) (all_said (after_event node x) xs)))

@@ -7,8 +7,8 @@ use Rattle.shm_model.specs.declared.asked.Asked.TheVariants as asked
 use Rattle.shm_model.specs.Message.{Input, Deliver, Restart}
 use Rattle.shm_model.specs.Step.{foreign}
 use Rattle.shm_process.specs.Blocks.{Block}
-use Rattle.shm_process.specs.Node.{Node, Heard, heard, heard_in, input_asked, is_late, new_node, next_clock, says, stepped, under_tag, waits_for}
-use Rattle.shm_process.specs.Recorded.{Entry, Event, Line, TooLong, Again, Restarted, after_event, entries_of, recorded}
+use Rattle.shm_process.specs.Node.{Node, Heard, Said, heard, heard_in, input_asked, is_late, new_node, next_clock, says, stepped, under_tag, waits_for}
+use Rattle.shm_process.specs.Recorded.{Entry, Event, Line, TooLong, Again, Restarted, after_event, entries_of, recorded, said_at}
 use Rattle.shm_process.specs.Waiting.{after_heard, after_unheard, again_at, again_if, joining, joins, ready, restarting, said_restart, after_restart, says_again, says_at, waiting_at}
 use Rattle.shm_site.specs.Step.{is_foreign}
 use Rattle.shm_sites.specs.Boxes.Box.{Box, after, new_box, taken}
@@ -18,7 +18,7 @@ use Rattle.shm_wire.specs.Sent.{Sent, read_envelope}
 use Rattle.shm_wire.specs.declared.ask.Question.{Question}
 use Rattle.shm_wire.specs.declared.ask.Question.TheVariants as question
 use Rattle.shm_audit.specs.Entered.{Handed, at_clock, box_handed, delivered, handed, handed_in, or_restart, unless_refused, unsent}
-use Rattle.shm_audit.specs.Told.{Told, box_after_all, told_at, told_by, told_by_log, told_by_step, told_first}
+use Rattle.shm_audit.specs.Told.{Told, box_after_all, told_at, told_by, told_by_log, told_by_step, all_said, said_first}
 
 -- the box of a node's site, which has this log
 abbrev box_at : Node → ℕ → List Logged → Box
@@ -112,6 +112,14 @@ map_more (x ∷ log) l rest = ap (λ ts. told_by_step x ∷ ts) (map_more log l 
 abbrev Follows : Box → List Entry → List Logged → List Told → Type 0
 Follows box entries log told = option_map told_by_log (box_after_all box entries) ≡ Some (map told_by_step log ++ told)
 
+abbrev told_first : Option Said → List Told → List Told
+told_first None told = told
+told_first (Some said) told = told_by said ∷ told
+
+told_more : (said : Option Said) (all : List Said) → map told_by (said_first said all) ≡ told_first said (map told_by all)
+told_more None all = refl
+told_more (Some said) all = refl
+
 one_step : (node : Node) (pages : ℕ) (log : List Logged) (line : List ℕ) (h : Heard) (entries : List Entry) (told : List Told)
     → (t : Takes node pages log line h (handed node.me line)) → Follows (box_at (stepped node h) pages (log ++ t.logged ∷ [])) entries (log ++ t.logged ∷ []) told
     → Follows (box_at node pages log) (record { clock = next_clock node h.source; line = line } ∷ entries) log (told_by (says node line h false) ∷ told)
@@ -161,15 +169,18 @@ restart_law node pages log entries told false e rest =
 follows : (node : Node) (pages : ℕ) (log : List Logged) (events : List Event) → Follows (box_at node pages log) (entries_of node events) log (told_at node events)
 follows node pages log [] = ap Some (sym (append-nil (map told_by_step log)))
 follows node pages log (Line line ∷ events) =
-    line_law node pages log line (entries_of (after_event node (Line line)) events) (told_at (after_event node (Line line)) events) (heard node line) refl
-    (λ log. follows (after_event node (Line line)) pages log events)
+    subst (Follows (box_at node pages log) (entries_of node (Line line ∷ events)) log) (sym (told_more (said_at node (Line line)) (all_said (after_event node (Line line)) events)))
+    (line_law node pages log line (entries_of (after_event node (Line line)) events) (told_at (after_event node (Line line)) events) (heard node line) refl
+    (λ log. follows (after_event node (Line line)) pages log events))
 follows node pages log (TooLong ∷ events) = follows (after_event node TooLong) pages log events
 follows node pages log (Again ∷ events) =
-    ready_law node pages log (entries_of (after_event node Again) events) (told_at (after_event node Again) events) (ready node)
-    (λ log. follows (after_event node Again) pages log events)
+    subst (Follows (box_at node pages log) (entries_of node (Again ∷ events)) log) (sym (told_more (said_at node Again) (all_said (after_event node Again) events)))
+    (ready_law node pages log (entries_of (after_event node Again) events) (told_at (after_event node Again) events) (ready node)
+    (λ log. follows (after_event node Again) pages log events))
 follows node pages log (Restarted ∷ events) =
-    restart_law node pages log (entries_of (after_event node Restarted) events) (told_at (after_event node Restarted) events) (is_late node 0) refl
-    (λ log. follows (after_event node Restarted) pages log events)
+    subst (Follows (box_at node pages log) (entries_of node (Restarted ∷ events)) log) (sym (told_more (said_at node Restarted) (all_said (after_event node Restarted) events)))
+    (restart_law node pages log (entries_of (after_event node Restarted) events) (told_at (after_event node Restarted) events) (is_late node 0) refl
+    (λ log. follows (after_event node Restarted) pages log events))
 
 pub logs_tell : (sites me pages : ℕ) (events : List Event)
     → option_map told_by_log (box_after_all (new_box sites me pages) (entries_of (new_node sites me pages) events)) ≡ Some (told_at (new_node sites me pages) events)

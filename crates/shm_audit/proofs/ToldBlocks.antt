@@ -1,5 +1,5 @@
 -- What a block is told with was loaded by steps that its site's process made, under the tag that is told.
-use Rattle.std.proofs.Common.{◌≡◌, ℕ, ◌+◌, ◌<◌, ◌≤◌, ◌==◌, Bool, true, false, List, [], ◌∷◌, ◌++◌, Some, None, length, cond, refl, ap, sym, subst, ◌∙◌, arith}
+use Rattle.std.proofs.Common.{◌≡◌, ℕ, ◌+◌, ◌<◌, ◌≤◌, ◌==◌, Bool, true, false, List, [], ◌∷◌, ◌++◌, Some, None, length, map, cond, refl, ap, sym, subst, ◌∙◌, arith}
 use Rattle.std.specs.Prelude.{Option, ◌^◌, option_and_then, option_map}
 use Rattle.std.proofs.lemmas.List.Elements.{All-nil}
 use Rattle.shm_model.specs.declared.answer.Answer.{Answer}
@@ -11,11 +11,12 @@ use Rattle.shm_wire.proofs.SpelledAsks.{ask-is_read}
 use Rattle.shm_wire.specs.Asks.{Ask, IsAsk, ask_line, read_ask}
 use Rattle.shm_wire.specs.Sent.{read_envelope}
 use Rattle.shm_wire.specs.declared.ask.Question.TheVariants as question
-use Rattle.shm_process.specs.Blocks.{Access, Block, Reads, WaitingAsk, ask_in, goes_on, next_line, stays, whole, whole_after}
+use Rattle.shm_process.specs.Blocks.{Access, Block, Reads, WaitingAsk, ask_in, goes_on, next_line, waits_on, all_bytes, whole_after}
 use Rattle.shm_process.specs.Node.{Node, Heard, Said, answer_to, asked_here, heard, heard_in, input_asked, is_late, new_node, says, tag_told, under_tag}
 use Rattle.shm_process.specs.Recorded.{Event, Line, TooLong, Again, Restarted, after_events, said_at}
 use Rattle.shm_process.specs.Waiting.{joins, ready, said_restart, says_again, says_at, waiting_at}
-use Rattle.shm_audit.specs.Loads.{Among, Loaded, Made, loads, made_at, made_by, made_first}
+use Rattle.shm_audit.specs.Loads.{Among, Loaded, Made, loads, made_at, made_by}
+use Rattle.shm_audit.specs.Told.{said_first}
 use Rattle.shm_audit.proofs.LoadedBlocks.{CanLoad, HasLoaded, Holds, ask-loaded, block-loads, events-hold, made-both, step_of}
 
 offset-is : (offset count n : ℕ) → offset + count ≤ 2 ^ 32 → n < count → offset + n < 2 ^ 32
@@ -28,10 +29,12 @@ some-is a b h = cc
 abbrev ToldLoads : ℕ → Option (List ℕ) → List ℕ → List Made → Type 0
 ToldLoads me told bytes steps = (tag : List ℕ) × (told ≡ Some tag) × Loaded me tag bytes steps
 
-told-by-answer : (me : ℕ) (steps : List Made) (block : Block) (answer : Answer) (asked caller : Option (List ℕ)) (bytes : List ℕ)
+told-by-byte : (me : ℕ) (steps : List Made) (block : Block) (byte : ℕ) (asked caller : Option (List ℕ)) (bytes : List ℕ) (on : Bool)
     → HasLoaded me steps (Reads block) → asked ≡ Some block.tag
-    → whole_after block answer ≡ Some bytes → ToldLoads me (tag_told false asked caller answer) bytes (steps ++ step_of me (Reads block) answer ∷ [])
-told-by-answer me steps block (Byte byte) asked caller bytes h tag e =
+    → cond on None (Some (block.bytes ++ byte ∷ [])) ≡ Some bytes
+    → ToldLoads me (tag_told on asked caller (Byte byte)) bytes (steps ++ step_of me (Reads block) (Byte byte) ∷ [])
+told-by-byte me steps block byte asked caller bytes true h tag e = absurd (cc)
+told-by-byte me steps block byte asked caller bytes false h tag e =
     let same : block.bytes ++ byte ∷ [] ≡ bytes = some-is (block.bytes ++ byte ∷ []) bytes e in (
       block.tag,
       tag,
@@ -41,6 +44,12 @@ told-by-answer me steps block (Byte byte) asked caller bytes h tag e =
         subst (λ l. Among (loads me block.tag block.at block.offset l) (steps ++ step_of me (Reads block) (Byte byte) ∷ [])) same (block-loads me steps block byte h),
       ),
     )
+
+told-by-answer : (me : ℕ) (steps : List Made) (block : Block) (answer : Answer) (asked caller : Option (List ℕ)) (bytes : List ℕ)
+    → HasLoaded me steps (Reads block) → asked ≡ Some block.tag
+    → whole_after block answer ≡ Some bytes → ToldLoads me (tag_told (goes_on block answer) asked caller answer) bytes (steps ++ step_of me (Reads block) answer ∷ [])
+told-by-answer me steps block (Byte byte) asked caller bytes h tag e =
+    told-by-byte me steps block byte asked caller bytes (goes_on block (Byte byte)) h tag e
 told-by-answer me steps block Stored asked caller bytes h tag e = absurd (cc)
 told-by-answer me steps block Fault asked caller bytes h tag e = absurd (cc)
 told-by-answer me steps block Waiting asked caller bytes h tag e = absurd (cc)
@@ -49,12 +58,6 @@ told-by-answer me steps block (Replied number reply attachment) asked caller byt
 told-by-answer me steps block Took asked caller bytes h tag e = absurd (cc)
 told-by-answer me steps block Dropped asked caller bytes h tag e = absurd (cc)
 told-by-answer me steps block (Refused refusal) asked caller bytes h tag e = absurd (cc)
-
-told-by-block : (me : ℕ) (steps : List Made) (block : Block) (answer : Answer) (asked caller : Option (List ℕ)) (bytes : List ℕ) (on : Bool)
-    → HasLoaded me steps (Reads block) → asked ≡ Some block.tag
-    → cond on None (whole_after block answer) ≡ Some bytes → ToldLoads me (tag_told on asked caller answer) bytes (steps ++ step_of me (Reads block) answer ∷ [])
-told-by-block me steps block answer asked caller bytes true h tag e = absurd (cc)
-told-by-block me steps block answer asked caller bytes false h tag e = told-by-answer me steps block answer asked caller bytes h tag e
 
 -- the tag of a load is its caller's
 tag-is : (node : Node) (tag : List ℕ) (at offset : ℕ) (h : Heard) (here late : Bool)
@@ -77,10 +80,10 @@ heard-tag me node block h can e =
 
 told-by-ask : (me : ℕ) (steps : List Made) (node : Node) (ask : WaitingAsk) (answer : Answer) (caller : Option (List ℕ)) (bytes : List ℕ) (h : Heard)
     → HasLoaded me steps ask → heard node (next_line me ask) ≡ Some h
-    → whole ask answer ≡ Some bytes → ToldLoads me (tag_told (stays ask answer) h.tag caller answer) bytes (steps ++ step_of me ask answer ∷ [])
+    → all_bytes ask answer ≡ Some bytes → ToldLoads me (tag_told (waits_on ask answer) h.tag caller answer) bytes (steps ++ step_of me ask answer ∷ [])
 told-by-ask me steps node (Access line) answer caller bytes h has e w = absurd (cc)
 told-by-ask me steps node (Reads block) answer caller bytes h has e w =
-    told-by-block me steps block answer h.tag caller bytes (goes_on block answer) has (heard-tag me node block h has.1 e) w
+    told-by-answer me steps block answer h.tag caller bytes has (heard-tag me node block h has.1 e) w
 
 -- if a step is made, and told with a block, its bytes are what its loads were answered
 abbrev SaysLoaded : ℕ → List Made → Option Said → Type 0
@@ -97,7 +100,7 @@ told-again me steps node at None h e = tt
 told-again me steps node at (Some x) h e = λ bytes w.
     let ask = ask_in node.waiting at in
     let answer = answer_to node x in
-    subst (λ m. ToldLoads me (tag_told (stays ask answer) x.tag node.caller answer) bytes (steps ++ step_of m ask answer ∷ [])) (sym h.own)
+    subst (λ m. ToldLoads me (tag_told (waits_on ask answer) x.tag node.caller answer) bytes (steps ++ step_of m ask answer ∷ [])) (sym h.own)
     (told-by-ask me steps node ask answer node.caller bytes x (ask-loaded me steps node.waiting at h.all)
     (subst (λ m. heard node (next_line m ask) ≡ Some x) h.own e) w)
 
@@ -125,5 +128,5 @@ block_is_loaded sites me pages events event said bytes told has =
     let h = events-hold me events [] first begun in
     let says_so : SaysLoaded me (made_at first events) (Some said) = subst (SaysLoaded me (made_at first events)) told (told-at me (made_at first events) now event h) in
     let whole : made_at first (events ++ event ∷ []) ≡ made_at first events ++ made_by said ∷ [] =
-    made-both events (event ∷ []) first ∙ ap (λ o. made_at first events ++ made_first o []) told in
+    made-both events (event ∷ []) first ∙ ap (λ o. made_at first events ++ map made_by (said_first o [])) told in
     subst (λ steps. (tag : List ℕ) × (said.tag ≡ Some tag) × Loaded me tag bytes steps) (sym whole) (says_so bytes has)

@@ -1,12 +1,13 @@
 -- The steps of a site's process, each by the line that made it and what the site answered; and the loads of a block among them.
-use Rattle.std.specs.Prelude.{⊤, ◌≡◌, ◌⊎◌, ℕ, ◌+◌, List, [], ◌∷◌, Option, Some, None}
+use Rattle.std.specs.Prelude.{⊤, ◌≡◌, ◌⊎◌, ℕ, ◌+◌, List, [], ◌∷◌, map}
 use Rattle.shm_model.specs.declared.answer.Answer.{Answer}
 use Rattle.shm_model.specs.declared.answer.Answer.TheVariants.{Byte}
 use Rattle.shm_model.specs.declared.asked.Asked.TheVariants.{Load}
 use Rattle.shm_wire.specs.Asks.{ask_line}
 use Rattle.shm_wire.specs.declared.ask.Question.TheVariants.{Access}
 use Rattle.shm_process.specs.Node.{Node, Said}
-use Rattle.shm_process.specs.Recorded.{Event, after_event, said_at}
+use Rattle.shm_process.specs.Recorded.{Event}
+use Rattle.shm_audit.specs.Told.{all_said}
 
 pub record Made : Type 0 where
   pub line : List ℕ
@@ -15,14 +16,9 @@ pub record Made : Type 0 where
 abbrev pub made_by : Said → Made
 made_by said = record { line = said.line; answer = said.answer }
 
-abbrev pub made_first : Option Said → List Made → List Made
-made_first None steps = steps
-made_first (Some said) steps = made_by said ∷ steps
-
 -- the steps that a node makes at these events, one after another
 abbrev pub made_at : Node → List Event → List Made
-made_at node [] = []
-made_at node (event ∷ events) = made_first (said_at node event) (made_at (after_event node event) events)
+made_at node events = map made_by (all_said node events)
 
 -- the loads of these bytes by a caller of this site: under one tag, through one attachment, one after another from an offset on
 abbrev pub loads : ℕ → List ℕ → ℕ → ℕ → List ℕ → List Made

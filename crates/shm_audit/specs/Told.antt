@@ -23,14 +23,17 @@ told_by_log box = map told_by_step box.log
 abbrev pub told_by : Said → Told
 told_by said = record { stamp = said.clock; answer = said.answer; sent = said.sent }
 
-abbrev pub told_first : Option Said → List Told → List Told
-told_first None told = told
-told_first (Some said) told = told_by said ∷ told
+abbrev pub said_first : Option Said → List Said → List Said
+said_first None all = all
+said_first (Some said) all = said ∷ all
 
--- what the node says of the steps that it makes at these events
+-- what the node says of the steps that it makes at these events, one after another
+abbrev pub all_said : Node → List Event → List Said
+all_said node [] = []
+all_said node (event ∷ events) = said_first (said_at node event) (all_said (after_event node event) events)
+
 abbrev pub told_at : Node → List Event → List Told
-told_at node [] = []
-told_at node (event ∷ events) = told_first (said_at node event) (told_at (after_event node event) events)
+told_at node events = map told_by (all_said node events)
 
 -- the box after the steps that these entries record, one after another
 abbrev pub box_after_all : Box → List Entry → Option Box

@@ -1,5 +1,5 @@
 -- What a site finds in the file of its journal. A line stands before its line feed; what stands behind the last line feed is torn: a crash
--- cut it short, and it counts for nothing.
+-- cut it short, and it counts for nothing, unless it is too long for a line, or stands alone and is no front of the header.
 use Rattle.std.specs.Prelude.{ℕ, ◌+◌, ◌==◌, Bool, true, false, List, [], ◌∷◌, ◌++◌, Option, Some, None, if◌then◌else◌, length, nat_lt, take}
 use Rattle.std.specs.Str.{bytes_eq}
 use Rattle.shm_process.specs.Node.{Node, new_node}

@@ -7,17 +7,17 @@ use Rattle.shm_journal.specs.declared.recovery_fault.RecoveryFault.{RecoveryFaul
 use Rattle.shm_journal.specs.declared.recovery_fault.RecoveryFault.TheVariants as fault
 use Rattle.shm_journal.specs.declared.recovered.Recovered.{Recovered}
 
--- the site of this header finds this in these bytes; where memory is missing or reading fails, nothing is said of them
+-- what the site of this header finds in this file is what the result says; where memory is missing or reading fails, nothing is said
 abbrev pub Says : {A : Type 0} → Header → List ℕ → Result (Recovered A) RecoveryFault → Type 0
-Says header bytes (Ok recovered) =
-    (found header bytes ≡ Sound (node_of recovered.node))
-    × (recovered.whole ≡ bytes_of_lines (lines_of bytes).whole)
-    × (recovered.is_new ≡ is_empty (lines_of bytes).whole)
-Says header bytes (Err fault.OutOfMemory) = Unit {0}
-Says header bytes (Err fault.ReadFault) = Unit {0}
-Says header bytes (Err fault.Foreign) = found header bytes ≡ Foreign
-Says header bytes (Err (fault.BadLine number)) = found header bytes ≡ Bad number
+Says header file (Ok recovered) =
+    (found header file ≡ Sound (node_of recovered.node))
+    × (recovered.whole ≡ bytes_of_lines (lines_of file).whole)
+    × (recovered.is_new ≡ is_empty (lines_of file).whole)
+Says header file (Err fault.OutOfMemory) = Unit {0}
+Says header file (Err fault.ReadFault) = Unit {0}
+Says header file (Err fault.Foreign) = found header file ≡ Foreign
+Says header file (Err (fault.BadLine number)) = found header file ≡ Bad number
 
--- this is said of the whole file that there was to read; where the reader doesn't tell its bytes, of some
+-- there is a file of which the result says what is found: what was left to be read, where the reader tells its bytes
 abbrev pub Recovers : {A : Type 0} → Header → Option (List ℕ) → Result (Recovered A) RecoveryFault → Type 0
 Recovers header remaining result = (file : List ℕ) × IfSome remaining (λ known. file ≡ known) × Says header file result

@@ -18,8 +18,9 @@ use std::io::Read;
 /// How many bytes are read at once.
 const CHUNK: usize = 8192;
 
-/// The site after the steps that its journal records, which is read to its end; of so many sites, where segment 0 began with so many pages.
-/// What stands behind the last line feed is torn, and counts for nothing. No more than a line of the journal is held at once.
+/// The site after the steps that its journal records; of so many sites, where segment 0 began with so many pages. Where it is recovered the
+/// journal was read to its end. What stands behind the last line feed is torn: it counts for nothing, unless it is too long for a line, or
+/// stands alone and is no front of the header. No more than a line of the journal is held at once.
 pub fn recover<A: Allocator + Copy, R: Read>(
     alloc: A,
     sites: Sites,

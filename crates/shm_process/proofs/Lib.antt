@@ -4,5 +4,6 @@ pub mod Ready
 pub mod Replays
 pub mod Asks
 pub mod AskedBlock
+pub mod Few
 pub mod DeskLemmas
 pub mod DeskEvents

@@ -1,5 +1,5 @@
--- Asks that wait: an access, and a block. A block is so many loads of bytes one after another, each a step of its own, and is answered once:
--- when the last of them is made, or one is refused.
+-- Asks that wait: an access, and a block. A block is so many loads of bytes one after another, each a step of its own. It is answered
+-- once: when the last of them is made, or one is refused.
 use Rattle.std.specs.Prelude.{ℕ, ◌+◌, Bool, List, [], ◌∷◌, ◌++◌, Option, Some, None, if◌then◌else◌, length, nat_lt, remove, slice_index_or, slice_set}
 use Rattle.shm_model.specs.declared.answer.Answer.{Answer}
 use Rattle.shm_model.specs.declared.answer.Answer.TheVariants.{Byte}
@@ -32,32 +32,34 @@ next_line me (Reads block) = next_load me block
 
 -- ---- what becomes of an ask when its step is answered
 
--- a block goes on until its last byte is loaded
+-- a block goes on until its last byte is loaded, or a load is refused
 abbrev pub goes_on : Block → Answer → Bool
 goes_on block (Byte byte) = nat_lt (length block.bytes + 1) block.count
 goes_on block answer = is_open answer
 
+-- what is loaded of it then
 abbrev pub bytes_after : Block → Answer → List ℕ
 bytes_after block (Byte byte) = block.bytes ++ byte ∷ []
 bytes_after block answer = block.bytes
 
--- all bytes of a block, if they were loaded
+-- all its bytes, if this answer gives the last
 abbrev pub whole_after : Block → Answer → Option (List ℕ)
-whole_after block (Byte byte) = Some (block.bytes ++ byte ∷ [])
+whole_after block (Byte byte) = if goes_on block (Byte byte) then None else Some (bytes_after block (Byte byte))
 whole_after block answer = None
 
-abbrev pub stays : WaitingAsk → Answer → Bool
-stays (Access line) answer = is_open answer
-stays (Reads block) answer = goes_on block answer
+-- the ask isn't answered yet
+abbrev pub waits_on : WaitingAsk → Answer → Bool
+waits_on (Access line) answer = is_open answer
+waits_on (Reads block) answer = goes_on block answer
 
 abbrev pub after_answer : WaitingAsk → Answer → WaitingAsk
 after_answer (Access line) answer = Access line
 after_answer (Reads block) answer = Reads (record block { bytes = bytes_after block answer })
 
--- what a block that doesn't go on is answered with
-abbrev pub whole : WaitingAsk → Answer → Option (List ℕ)
-whole (Access line) answer = None
-whole (Reads block) answer = if goes_on block answer then None else whole_after block answer
+-- all bytes of a block that ends so; an access has none, nor has a block that is refused
+abbrev pub all_bytes : WaitingAsk → Answer → Option (List ℕ)
+all_bytes (Access line) answer = None
+all_bytes (Reads block) answer = whole_after block answer
 
 -- ---- all that wait
 
@@ -65,6 +67,6 @@ abbrev pub ask_in : List WaitingAsk → ℕ → WaitingAsk
 ask_in waiting at = slice_index_or waiting at (Access [])
 
 -- the asks that wait once the one at this place was answered so
-abbrev pub left : List WaitingAsk → ℕ → Answer → List WaitingAsk
-left waiting at answer =
-    if stays (ask_in waiting at) answer then slice_set waiting at (after_answer (ask_in waiting at) answer) else remove waiting at
+abbrev pub waiting_after : List WaitingAsk → ℕ → Answer → List WaitingAsk
+waiting_after waiting at answer =
+    if waits_on (ask_in waiting at) answer then slice_set waiting at (after_answer (ask_in waiting at) answer) else remove waiting at

@@ -40,7 +40,7 @@ with_step desk said = record desk { recorded = desk.recorded ++ step_entry said;
 abbrev pub made_again : Desk → Desk
 made_again desk = with_step (record desk { node = after_again desk.node }) (said_again desk.node)
 
--- asks that wait are made as far as they can, at most so many times
+-- steps of asks that wait are made, as long as one can be, and at most so many
 unfoldable pub settled : ℕ → Desk → Desk
 settled zero desk = desk
 settled (suc n) desk = if is_some (said_again desk.node) then settled n (made_again desk) else desk

@@ -1,6 +1,6 @@
 -- A site as a process. Lines come on one stream, which all sites and callers share; each that is for this site makes one step of it, and
 -- the others are passed over. A step's clock is above those of the steps before it, and above that of the step which sent what it is
--- handed (Lamport 1978: logical clocks).
+-- handed.
 use Rattle.std.specs.Prelude.{ℕ, ◌+◌, Bool, true, false, ◌||◌, List, [], Option, Some, None, ◌==◌, if◌then◌else◌, max, option_map, option_and_then}
 use Rattle.shm_model.specs.declared.answer.Answer.{Answer}
 use Rattle.shm_model.specs.declared.answer.Answer.TheVariants.{Began, Replied}
@@ -17,7 +17,8 @@ use Rattle.shm_wire.specs.declared.ask.Question.TheVariants as question
 use Rattle.shm_process.specs.Blocks.{WaitingAsk}
 
 -- how many sites there are, and which one this is; the site as it stands, its clock, and how many steps it made; how many lines made
--- a step or brought a block, and how many were passed over; the tag of the caller whose segment call is outstanding; and the asks that wait, the oldest first
+-- a step or brought a block that found room, and how many were passed over; the tag of the caller whose segment call is outstanding;
+-- and the asks that wait, the oldest first
 pub record Node : Type 0 where
   pub sites : ℕ
   pub me : ℕ

@@ -1,4 +1,4 @@
--- Accesses and blocks that wait for their right, and the steps that a node makes: of a line, of an ask that waits, at a restart, and again from the
+-- Asks that wait for their right, and the steps that a node makes: of a line, of an ask that waits, at a restart, and again from the
 -- lines that were recorded.
 use Rattle.std.specs.Prelude.{ℕ, ◌+◌, ◌*◌, Bool, false, ◌&&◌, not, List, [], ◌∷◌, ◌++◌, codes, Option, Some, None, ◌==◌, if◌then◌else◌, length, nat_lt, option_map, option_and_then}
 use Rattle.std.specs.List.{position_from}
@@ -10,10 +10,10 @@ use Rattle.shm_wire.specs.Asks.{Ask, read_ask}
 use Rattle.shm_wire.specs.declared.ask.Question.{Question}
 use Rattle.shm_wire.specs.declared.ask.Question.TheVariants as question
 use Rattle.shm_process.specs.Access.{is_open, is_waiting}
-use Rattle.shm_process.specs.Blocks.{Access, Block, Reads, ask_in, left, next_line, stays, whole}
+use Rattle.shm_process.specs.Blocks.{Access, Block, Reads, all_bytes, ask_in, next_line, waiting_after, waits_on}
 use Rattle.shm_process.specs.Node.{Node, Heard, Said, answer_to, heard, is_late, next_clock, says, stepped}
 
--- so many asks wait at most; one more is answered at once, as one that is only tried
+-- so many asks wait at most; a further access is answered at once, as one that is only tried, and a further block isn't tried
 abbrev pub most_waiting : ℕ
 most_waiting = 64
 
@@ -35,11 +35,11 @@ taken node line heard = record (stepped node heard) {
   waiting = if joins node heard then node.waiting ++ Access line ∷ [] else node.waiting;
 }
 
--- the block that a caller asks of this site; there is a clock for its loads
 abbrev pub block_in : List ℕ → Question → Option Block
 block_in tag (question.Read at offset count) = Some (record { tag = tag; at = at; offset = offset; count = count; bytes = [] })
 block_in tag _ = None
 
+-- the block that a caller asks of this site, while there is a clock for a step
 abbrev pub block_here : Node → Ask → Option Block
 block_here node ask = if (ask.site == node.me) then (if is_late node 0 then None else block_in ask.tag ask.asked) else None
 
@@ -72,7 +72,7 @@ said node line = option_map (λ h. says node line h (joins node h)) (heard node 
 
 -- ---- an ask that waits
 
--- so many steps the asks that wait make at most, one after another: each byte of each block, and one more for each
+-- so many steps are made at most of the asks that wait, after one line: for each ask a page's bytes, and one step more that asks for a right
 abbrev pub most_steps : ℕ
 most_steps = most_waiting * (page_bytes + 1)
 
@@ -89,7 +89,7 @@ waiting_at node at = next_line node.me (ask_in node.waiting at)
 
 -- it waits on where its right has to be asked for anew, and where it is a block of which more is to be loaded
 abbrev pub made_again : Node → ℕ → Heard → Node
-made_again node at heard = record (stepped node heard) { waiting = left node.waiting at (answer_to node heard) }
+made_again node at heard = record (stepped node heard) { waiting = waiting_after node.waiting at (answer_to node heard) }
 
 abbrev pub again_at : Node → ℕ → Option Heard → Node
 again_at node at None = node
@@ -105,7 +105,7 @@ after_again node = again_if node (ready node)
 abbrev pub says_again : Node → ℕ → Heard → Said
 says_again node at heard =
     let ask = ask_in node.waiting at in
-    record (says node (waiting_at node at) heard (stays ask (answer_to node heard))) { block = whole ask (answer_to node heard) }
+    record (says node (waiting_at node at) heard (waits_on ask (answer_to node heard))) { block = all_bytes ask (answer_to node heard) }
 
 abbrev pub says_at : Node → ℕ → Option Said
 says_at node at = option_map (says_again node at) (heard node (waiting_at node at))

@@ -5,7 +5,8 @@ use shm_place::SiteId;
 use shm_wire::{Ask, Question};
 use std::alloc::{AllocError, Allocator, Global};
 
-/// A block that a caller asks for: so many loads of bytes one after another. Less than all were made; the bytes have their room.
+/// A block that a caller asks for: so many loads of bytes one after another. Not all of them are made yet, and there is room for all their
+/// bytes.
 #[derive(Drop)]
 pub(crate) struct Block<A: Allocator + Copy = Global> {
     pub(crate) tag: String<A>,
@@ -86,6 +87,7 @@ impl<A: Allocator + Copy> Block<A> {
 
     /// All its bytes, if this is the last of them.
     pub(crate) fn into_whole(self, answer: &Answer) -> Option<Vec<u8, A>>
+        requires { goes_on (block_of self) answer.now ≡ false }
         ensures { option_map (λ bytes. bytes.items) result ≡ whole_after (block_of self) answer.now }
     {
         let Answer::Byte(byte) = answer else {

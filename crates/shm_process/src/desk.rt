@@ -144,7 +144,7 @@ impl<A: Allocator + Copy> Desk<A> {
         self.push_said(said)
     }
 
-    /// Tells what the line is shown, if it asks for a page.
+    /// Tells what is told of the line at once: of a page, or that a block finds no room.
     fn show(&mut self) -> Result<(), AllocError>
         ensures { OnOk result (desk_of self.new ≡ tell (desk_of self.old) (line_text (shown_line (desk_of self.old).node (desk_of self.old).line))) }
     {
@@ -154,7 +154,7 @@ impl<A: Allocator + Copy> Desk<A> {
         }
     }
 
-    /// Makes the asks that wait, as far as they can be made.
+    /// Makes steps of the asks that wait, as long as one can be made, and at most `MOST_STEPS`.
     fn settle(&mut self) -> Result<(), AllocError>
         ensures { OnOk result (desk_of self.new ≡ settled most_steps (desk_of self.old)) }
     {

@@ -1,9 +1,10 @@
 //! What holds of the definitions, whatever a node is made to do.
-ghost use Rattle.std.specs.Prelude.{◌≡◌, List, ℕ, Some};
+ghost use Rattle.std.specs.Prelude.{◌≡◌, ◌≤◌, List, ℕ, Some, length};
 ghost use Rattle.shm_process.specs.Desk.{Desk, on_bytes};
 ghost use Rattle.shm_process.specs.DeskEvents.{DidEvents};
 ghost use Rattle.shm_process.specs.Node as spec;
 ghost use Rattle.shm_process.specs.Recorded.{Event, after_events, entries_of, kept, replayed_all};
+ghost use Rattle.shm_process.specs.Waiting.{most_waiting};
 
 /// The recorded steps, replayed one by one, lead to the same site, clock, count of steps and outstanding caller; only the asks that wait
 /// are forgotten, and no line is counted.
@@ -15,4 +16,10 @@ pub fn recorded_steps_lead_to_the_same_site()
 #[tactic(auto, using(crate::proofs::DeskEvents::did_events))]
 pub fn a_desk_records_each_step()
     ensures { (desk : Desk) (bytes : List ℕ) → DidEvents desk (on_bytes desk bytes) }
+{}
+
+/// At most 64 asks wait at a node, whatever happened to it.
+#[tactic(auto, using(crate::proofs::Few::few_wait))]
+pub fn few_asks_wait()
+    ensures { (sites me pages : ℕ) (events : List Event) → length (after_events (spec.new_node sites me pages) events).waiting ≤ most_waiting }
 {}

@@ -73,14 +73,14 @@ impl<A: Allocator + Copy> Node<A> {
         self.steps
     }
 
-    /// How many lines made a step when they were taken, or brought a block that then waited.
+    /// How many lines made a step when they were taken, or brought a block that found room.
     pub fn taken(&self) -> u64
         ensures { result ≡ (node_of self.now).taken }
     {
         self.taken
     }
 
-    /// How many lines were passed over: the others, a `show` too.
+    /// How many lines were passed over: the others; a `show`, and a block that found no room, too, though they are answered.
     pub fn passed(&self) -> u64
         ensures { result ≡ (node_of self.now).passed }
     {

@@ -20,6 +20,7 @@ pub struct Said<A: Allocator + Copy = Global> {
     pub answer: Answer,
     /// All bytes of a block, where the step is its last load. They are told in place of the answer.
     pub block: Option<Vec<u8, A>>,
-    /// The line that made the step, without its line feed: what is recorded of it beside the clock.
+    /// The line that made the step, without its line feed: what is recorded of it beside the clock. Of a block's load it is the line that would
+    /// ask for that load alone.
     pub line: Vec<u8, A>,
 }

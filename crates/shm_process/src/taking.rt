@@ -20,10 +20,12 @@ use shm_site::{Answer, Made};
 use shm_wire::{Question, parse_ask};
 use std::alloc::{AllocError, Allocator};
 
-/// So many asks wait at most. One more is answered at once, as one that is only tried.
+/// So many asks wait at most. A further access is answered at once, as one that is only tried; a further block is answered `waiting`, and
+/// isn't tried.
 pub const MOST_WAITING: usize = 64;
 
-/// So many steps the asks that wait make at most, one after another: each byte of each block, and one more for each.
+/// So many steps are made at most of the asks that wait, after one line: for each ask a page's bytes, and one step more that asks for a
+/// right.
 pub(crate) const MOST_STEPS: usize = MOST_WAITING * (PAGE_BYTES + 1);
 
 impl<A: Allocator + Copy> Node<A> {

@@ -5,8 +5,7 @@ ghost use Rattle.shm_model.specs.Step.{step};
 ghost use Rattle.shm_parts.specs.Message.{envelope_of};
 ghost use Rattle.shm_process.specs.Access.{is_access, is_waiting};
 ghost use Rattle.shm_process.specs.AskOf.{ask_of};
-ghost use Rattle.shm_process.specs.Blocks as blocks;
-ghost use Rattle.shm_process.specs.Blocks.{ask_in, left, stays, whole};
+ghost use Rattle.shm_process.specs.Blocks.{all_bytes, ask_in, waiting_after, waits_on};
 ghost use Rattle.shm_process.specs.Node.{answer_to, heard};
 ghost use Rattle.shm_process.specs.NodeOf.{heard_of, node_of, said_of};
 ghost use Rattle.shm_process.specs.Waiting.{after_again, again_at, can_be_made, made_again, said_again, says_again, says_at, waiting_at};
@@ -22,7 +21,8 @@ use shm_site::{Answer, Input, Made, Site};
 use std::alloc::{AllocError, Allocator};
 
 impl<A: Allocator + Copy> Node<A> {
-    /// Makes the oldest ask that waits and can be made or refused now, or has to ask for its right anew: one step. `None`: there is none.
+    /// Makes one step of the oldest ask that waits and can be made or refused now, or has to ask for its right anew: the access, or a block's
+    /// next load. `None`: there is none.
     /// Whoever takes lines calls this after each, until there is none. Where memory is refused the node is as before.
     pub fn again(&mut self) -> Result<Option<Said<A>>, AllocError>
         ensures said { IfOk result (λ said_now. option_map said_of said_now ≡ said_again (node_of self.old)) }
@@ -98,8 +98,8 @@ impl<A: Allocator + Copy> Node<A> {
         }
         self.clock = clock;
         self.steps = index + 1;
-        let stays = stays_at(&self.waiting, at, &answer);
-        let block = settle_at(&mut self.waiting, at, stays, &answer);
+        let stays = waits_on_at(&self.waiting, at, &answer);
+        let block = go_on_or_end(&mut self.waiting, at, stays, &answer);
         let tag = take_tag(stays, tag, &mut self.caller, &answer);
         Ok(Some(Said {
             site: self.me,
@@ -130,29 +130,29 @@ fn step_access<A: Allocator + Copy>(
 
 /// Whether the ask at this place goes on waiting.
 #[tactic(auto, using(crate::proofs::Asks::map_read))]
-fn stays_at<A: Allocator + Copy>(
+fn waits_on_at<A: Allocator + Copy>(
     waiting: &Vec<WaitingAsk<A>, A>,
     at: usize,
     answer: &Answer,
 ) -> bool
     requires { at < vec_len waiting.now }
-    ensures { result ≡ stays (ask_in (map ask_of waiting.now.items) at) answer.now }
+    ensures { result ≡ waits_on (ask_in (map ask_of waiting.now.items) at) answer.now }
 {
-    waiting[at].stays(answer)
+    waiting[at].waits_on(answer)
 }
 
 /// The ask at this place goes on waiting, or leaves those that wait; it has all bytes of a block, if this is the last of them.
 #[tactic(auto, using(crate::proofs::Asks::map_read, crate::proofs::Asks::map_remove, crate::proofs::Asks::map_set))]
-fn settle_at<A: Allocator + Copy>(
+fn go_on_or_end<A: Allocator + Copy>(
     waiting: &mut Vec<WaitingAsk<A>, A>,
     at: usize,
     stays: bool,
     answer: &Answer,
 ) -> Option<Vec<u8, A>>
     requires at { at < vec_len waiting.old }
-    requires stays { stays ≡ blocks.stays (ask_in (map ask_of waiting.old.items) at) answer.now }
-    ensures left { map ask_of waiting.new.items ≡ left (map ask_of waiting.old.items) at answer.now }
-    ensures whole { option_map (λ bytes. bytes.items) result ≡ whole (ask_in (map ask_of waiting.old.items) at) answer.now }
+    requires stays { stays ≡ waits_on (ask_in (map ask_of waiting.old.items) at) answer.now }
+    ensures after { map ask_of waiting.new.items ≡ waiting_after (map ask_of waiting.old.items) at answer.now }
+    ensures whole { option_map (λ bytes. bytes.items) result ≡ all_bytes (ask_in (map ask_of waiting.old.items) at) answer.now }
 {
     if stays {
         waiting[at].go_on(answer);

@@ -1,4 +1,5 @@
--- What a caller asks of a site, under a tag of its own: `ask SITE TAG`, and what a script's line says, less the site.
+-- What a caller asks of a site, under a tag of its own: `ask SITE TAG`, and what a script's line says, less the site; or, in words that no
+-- script has, an access that is tried once (`try-load`, `try-store`), or a block that is read.
 use Rattle.std.specs.Prelude.{⊤, ◌≡◌, ℕ, ◌+◌, ◌^◌, ◌<◌, ◌&&◌, Bool, true, if◌then◌else◌, List, [], ◌∷◌, codes, length, nat_lt, Option, None, Some}
 use Rattle.std.specs.Char.{is_ascii_graphic}
 use Rattle.std.specs.Fmt.{decimal}
