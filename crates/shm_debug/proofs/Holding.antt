@@ -1,29 +1,28 @@
 -- Checkpoints that hold: for fewer events and for more, and those that a ring keeps.
-use Rattle.std.proofs.Common.{◌≡◌, ℕ, ◌+◌, ◌-◌, ◌<◌, ◌≤◌, zero, suc, Bool, true, List, [], ◌∷◌, ◌++◌, Option, None, Some, IfSome, length, length-append, take, drop, get_or, slice_get, nat_le, refl, sym, ap, ◌∙◌, subst, arith}
+use Rattle.std.proofs.Common.{◌≡◌, ℕ, ◌-◌, ◌<◌, ◌≤◌, zero, suc, Bool, true, List, [], ◌∷◌, ◌++◌, Option, None, Some, IfSome, length, length-append, take, get_or, slice_get, nat_le, refl, sym, ap, ◌∙◌, subst, arith}
 use Rattle.std.proofs.lemmas.Bool.Decides.{nat_tests}
 use Rattle.std.proofs.lemmas.List.{get_or-take, length-take-le}
-use Rattle.std.proofs.lemmas.List.Elements.{All-drop, All-nil, All-push, All-take}
+use Rattle.std.proofs.lemmas.List.Elements.{All-drop, All-push}
 use Rattle.std.proofs.lemmas.List.Folds.{length-prefix_len}
 use Rattle.std.proofs.lemmas.List.Sums.{prefix_len-le-length, prefix_len_passes}
 use Rattle.std.proofs.lemmas.Option.{get_or_from_slice_get, slice_get_within}
 use Rattle.std.specs.List.{All, prefix_len, take_while}
 use Rattle.std.specs.Option.{option_copied}
-use Rattle.circular_buffer.specs.Buffer.{keep_last, last_item}
+use Rattle.circular_buffer.specs.Buffer.{keep_last}
 use denote.Ref.{Bor}
 use Rattle.shm_model.specs.declared.event.Event.{Event}
 use Rattle.shm_world.specs.World.{StandsFor}
-use Rattle.shm_world.specs.declared.world.World.{World}
 use Rattle.shm_debug.specs.Checkpoints.{Holds}
 use Rattle.shm_debug.specs.Standing.{Standing, first_events, standing, world_of}
 use Rattle.shm_debug.specs.declared.checkpoint.Checkpoint.{Checkpoint}
 
-take-take : {X : Type 0} (k n : ℕ) (xs : List X) → k ≤ n → take k (take n xs) ≡ take k xs
+pub take-take : {X : Type 0} (k n : ℕ) (xs : List X) → k ≤ n → take k (take n xs) ≡ take k xs
 take-take zero n xs h = refl
 take-take (suc k) zero xs h = absurd (omega arith)
 take-take (suc k) (suc n) [] h = refl
 take-take (suc k) (suc n) (x ∷ xs) h = ap (λ l. x ∷ l) (take-take k n xs (omega arith))
 
-take-front : {X : Type 0} (k : ℕ) (xs ys : List X) → k ≤ length xs → take k (xs ++ ys) ≡ take k xs
+pub take-front : {X : Type 0} (k : ℕ) (xs ys : List X) → k ≤ length xs → take k (xs ++ ys) ≡ take k xs
 take-front zero xs ys h = refl
 take-front (suc k) [] ys h = absurd (omega arith)
 take-front (suc k) (x ∷ xs) ys h = ap (λ l. x ∷ l) (take-front k xs ys (omega arith))

@@ -7,6 +7,7 @@ pub mod ReplayLemmas
 pub mod ToldLemmas
 pub mod Holding
 pub mod Going
+pub mod Undoing
 pub mod Booked
 pub mod Listing
 pub mod Paged

@@ -14,7 +14,7 @@ use Rattle.shm_debug.specs.Replay.{Ends}
 use Rattle.shm_debug.specs.Said.{next, said, said_to_event, standing_after}
 use Rattle.shm_debug.specs.Script.{Script}
 use Rattle.shm_debug.specs.Output.{text_from, text_of}
-use Rattle.shm_debug.specs.Told.{IsOutput, IsOutputLine, IsWholeOutput, SaysLast, ToldLast}
+use Rattle.shm_debug.specs.Told.{IsOutput, IsWholeOutput, SaysLast, ToldLast}
 use Rattle.shm_debug.specs.declared.outcome.Summary.{Summary}
 use Rattle.shm_debug.specs.declared.outcome.DebugFault.{DebugFault}
 use Rattle.shm_debug.specs.declared.outcome.DebugFault.TheVariants.{OutOfMemory, BadLine, LineTooLong, TooManyLines, ReadFault, WriteFault}

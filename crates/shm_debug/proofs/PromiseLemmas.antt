@@ -1,11 +1,11 @@
 -- The lines of a script are lines, and what they lead to begins as a world may.
-use Rattle.std.proofs.Common.{◌≡◌, ℕ, Bool, true, false, List, [], ◌∷◌, ◌&&◌, ◌==◌, ◌+◌, length, nat_lt, nat_le, take, All, Option, None, Some, Result, Ok, Err, cond, refl, sym}
+use Rattle.std.proofs.Common.{◌≡◌, ℕ, Bool, true, false, List, [], ◌∷◌, ◌&&◌, ◌==◌, ◌+◌, length, nat_lt, nat_le, take, All, Option, None, Some, Result, Ok, Err, cond, refl}
 use Rattle.std.proofs.lemmas.List.Elements.{All-cons, All-nil, All-head, All-tail, All-take}
 use Rattle.shm_model.specs.declared.event.Event.{Event}
 use Rattle.shm_model.specs.Opening.{opening_with}
 use Rattle.shm_model.specs.World.{IsOpening, Opening}
 use Rattle.shm_lines.specs.Line.{line_of, may_stand, sites_line}
-use Rattle.shm_lines.specs.Spelling.{IsLine, spelling}
+use Rattle.shm_lines.specs.Spelling.{IsLine}
 use Rattle.shm_lines.specs.declared.line.Line.{Line}
 use Rattle.shm_lines.specs.declared.line.Line.TheVariants.{Sites, Event as EventLine, Show, Back}
 use Rattle.shm_debug.specs.Standing.{Standing, without_last}

@@ -1,5 +1,5 @@
 -- What has been read, told and written while a script is replayed.
-use Rattle.std.proofs.Common.{◌≡◌, ℕ, Bool, true, false, ◌+◌, ◌≤◌, ◌<◌, List, [], ◌∷◌, ◌++◌, length, take, drop, take-append-drop, Option, None, Some, IfSome, Result, Ok, Err, refl, sym, ap, ap₂, zero-add, subst, ◌∙◌, arith, append_assoc, append-nil, length-append}
+use Rattle.std.proofs.Common.{◌≡◌, ℕ, true, false, ◌+◌, ◌≤◌, List, [], ◌++◌, length, take, drop, take-append-drop, Option, None, Some, IfSome, Result, Ok, Err, refl, sym, ap, ap₂, zero-add, subst, ◌∙◌, arith, append_assoc, append-nil, length-append}
 use Rattle.std.proofs.Math.Seq.{take-append_seam}
 use Rattle.std.specs.Io.KnownBytes.{Appends, Consumes, Keeps, IsAtEnd}
 use Rattle.std.proofs.KnownBytes.{Consumes-nil, Consumes-trans, Consumes-kept, Consumes-whole, Appends-kept, Appends-nil, Appends-trans}
@@ -7,7 +7,7 @@ use Rattle.shm_debug.specs.Limits.{max_bytes}
 use Rattle.shm_debug.specs.Script.{Script, after, broken, whole, script_of}
 use Rattle.shm_debug.specs.Output.{text_of, text_from}
 use Rattle.shm_debug.specs.Said.{standing_after}
-use Rattle.shm_debug.specs.Reading.{Moment, start, reach, rest_of, Onward, WritesLines, Begins, Breaks, Stops, Plays, Fails, Ended}
+use Rattle.shm_debug.specs.Reading.{Moment, start, reach, rest_of, WritesLines, Stops, Plays, Fails, Ended}
 use Rattle.shm_debug.specs.Replay.{summary_at, Ends, Pauses, Gathers, IsTextOfFirst, IsFrontOfText, IsFaultOf, is_write_fault, PausesAllRead, TellsAllRead}
 use Rattle.shm_lines.specs.declared.line.Line.{Line}
 use Rattle.shm_debug.specs.declared.outcome.Summary.{Summary}

@@ -1,5 +1,5 @@
 -- Checkpoints: worlds as they were after the first so many of the standing events, kept for going back.
-use Rattle.std.specs.Prelude.{ℕ, ◌≤◌, length}
+use Rattle.std.specs.Prelude.{◌≤◌, length}
 use Rattle.std.specs.List.{All}
 use Rattle.shm_world.specs.World.{StandsFor}
 use Rattle.shm_debug.specs.Standing.{Standing, first_events, world_of}

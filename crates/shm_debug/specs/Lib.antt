@@ -12,5 +12,6 @@ pub mod Checkpoints
 pub mod Standing
 pub mod BackFaults
 pub mod Text
+pub mod Undos
 pub mod Page
 pub mod Tell

@@ -1,5 +1,5 @@
 -- Scripts: from bytes to lines. A line ends with a line feed; what stands after the last line feed is no line.
-use Rattle.std.specs.Prelude.{ℕ, ◌+◌, ◌==◌, ◌&&◌, Bool, if◌then◌else◌, List, [], ◌∷◌, ◌++◌, length, nat_lt, Option, None, Some, Result, Ok, Err}
+use Rattle.std.specs.Prelude.{ℕ, ◌+◌, ◌==◌, ◌&&◌, if◌then◌else◌, List, [], ◌∷◌, ◌++◌, length, nat_lt, Option, None, Some, Result, Ok, Err}
 use Rattle.std.specs.List.{slice_split}
 use Rattle.shm_lines.specs.Line.{line_of, may_stand}
 use Rattle.shm_lines.specs.declared.line.Line.{Line}

@@ -11,19 +11,61 @@ use shm_world::{Answer, Event, World};
 use std::alloc::{AllocError, Allocator};
 
 impl<A: Allocator + Copy> Session<A> {
-    /// One more event, which stands from then on. Where memory is refused nothing changes. A load or store that has the right takes
-    /// memory for the list of the events alone, and so does a restart or a loss.
+    /// One more event, which stands from then on. Before it is refused for memory, all that is kept for going back is given up, which
+    /// may be had without; else nothing changes then. A load or store that has the right needs memory for the list of the events
+    /// alone, and so does a restart or a loss.
     pub fn apply(&mut self, event: Event) -> Result<Answer, AllocError>
         ensures answered { IfOk result (λ answer. answer ≡ (model.next (world_of self.old) event).done.answer) }
         ensures ok { OnOk result (self.new ≡ with_event self.old event) }
         ensures err { OnErr result (self.new ≡ self.old) }
     {
-        step_and_keep(&mut self.world, &mut self.events, &event)
+        if let Ok(answer) = self.make(&event) {
+            return Ok(answer);
+        }
+        self.give_up_copies();
+        self.make(&event)
+    }
+
+    /// The event, with what memory there is.
+    fn make(&mut self, event: &Event) -> Result<Answer, AllocError>
+        ensures answered { IfOk result (λ answer. answer ≡ (model.next (world_of self.old) event.now).done.answer) }
+        ensures ok { OnOk result (self.new ≡ with_event self.old event.now) }
+        ensures err { OnErr result (self.new ≡ self.old) }
+    {
+        if self.undos.wanted() {
+            return self.make_and_keep(event);
+        }
+        let answer = step_and_push(&mut self.world, &mut self.events, event)?;
+        self.undos.miss();
+        Ok(answer)
+    }
+
+    /// The same, and what takes it back is kept, if there is memory.
+    fn make_and_keep(&mut self, event: &Event) -> Result<Answer, AllocError>
+        ensures answered { IfOk result (λ answer. answer ≡ (model.next (world_of self.old) event.now).done.answer) }
+        ensures ok { OnOk result (self.new ≡ with_event self.old event.now) }
+        ensures err { OnErr result (self.new ≡ self.old) }
+    {
+        let undo = self.world.undo_for(event);
+        let answer = step_and_push(&mut self.world, &mut self.events, event)?;
+        match undo {
+            Ok(undo) => self.undos.keep(undo),
+            Err(_) => self.undos.miss(),
+        }
+        Ok(answer)
+    }
+
+    /// Nothing is kept for going back any more.
+    fn give_up_copies(&mut self)
+        ensures { self.new ≡ self.old }
+    {
+        self.checkpoints.clear();
+        self.undos.clear();
     }
 }
 
 /// What the world answers to the event, which joins the others.
-fn step_and_keep<A: Allocator + Copy>(
+fn step_and_push<A: Allocator + Copy>(
     world: &mut World<A>,
     events: &mut Vec<Event, A>,
     event: &Event,

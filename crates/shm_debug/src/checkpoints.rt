@@ -40,6 +40,13 @@ impl<A: Allocator + Copy> Checkpoints<A> {
         self.ring.push_back(checkpoint);
     }
 
+    /// Gives all checkpoints up.
+    pub(crate) fn clear(&mut self)
+        ensures { (s : Standing) → AllHold s self.new }
+    {
+        self.ring.clear();
+    }
+
     /// Drops the checkpoints that stand past the first `count` events.
     pub(crate) fn drop_past(&mut self, count: u64)
         ensures { (s : Standing) → count ≤ length s.events → AllHold s self.old → AllHold (first_events count s) self.new }

@@ -1,16 +1,19 @@
-//! Going back: the last events are taken off, and the rest runs again from the latest checkpoint.
-ghost use Rattle.std.specs.Prelude.{◌≡◌, ◌≤◌, ◌<◌, ◌↔◌, List, IfOk, IsErrOf, OnErr, OnOk, length};
+//! Going back: the last events are taken back one by one where what they changed was kept; else the rest runs again from the latest
+//! checkpoint.
+ghost use Rattle.std.specs.Prelude.{◌≡◌, ◌≤◌, ◌<◌, ◌↔◌, ◌++◌, [], ◌∷◌, true, false, List, IfOk, IsErrOf, OnErr, OnOk, length};
 ghost use Rattle.shm_model.specs.Opening.{opening_of};
 ghost use Rattle.shm_model.specs.World as model;
 ghost use Rattle.shm_model.specs.declared.event.Event.{Event};
 ghost use Rattle.shm_debug.specs.Checkpoints.{AllHold, Holds};
 ghost use Rattle.shm_debug.specs.Standing.{Standing, first_events, standing, without_last, world_of};
+ghost use Rattle.shm_debug.specs.Undos.{AllLeadBack};
 ghost use Rattle.shm_world.specs.World.{StandsFor};
 
 use crate::back_fault::BackFault;
 use crate::checkpoint::Checkpoint;
 use crate::checkpoints::Checkpoints;
 use crate::session::Session;
+use crate::undos::Undos;
 use shm_model::Opening;
 use shm_world::{Event, World};
 use std::alloc::{AllocError, Allocator};
@@ -36,18 +39,83 @@ impl<A: Allocator + Copy> Session<A> {
         if count == 0 {
             return Ok(stood as u64);
         }
+        self.undos.note_back();
         let left = stood - count;
-        self.checkpoints.drop_past(left as u64);
-        let events = &self.events[..left];
-        match world_after(self.alloc, self.opening, &mut self.checkpoints, events) {
+        if self.take_back(count) {
+            return Ok(left as u64);
+        }
+        match self.run_again(left) {
+            Ok(()) => Ok(left as u64),
             Err(_) => Err(BackFault::OutOfMemory),
-            Ok(world) => {
-                self.world = world;
-                self.events.truncate(left);
-                Ok(left as u64)
-            }
         }
     }
+
+    /// Takes the last `count` events back one by one, and tells whether it did: where less is kept of them, or memory is refused, all stays.
+    fn take_back(&mut self, count: usize) -> bool
+        requires { count ≤ length self.old.events }
+        ensures back { result ≡ true → self.new ≡ without_last self.old count }
+        ensures same { result ≡ false → self.new ≡ self.old }
+    {
+        let left = self.events.len() - count;
+        let events = self.events.as_slice();
+        if !take_back(
+            &mut self.world,
+            &mut self.undos,
+            self.opening,
+            events,
+            count,
+        ) {
+            return false;
+        }
+        self.checkpoints.drop_past(left as u64);
+        self.events.truncate(left);
+        true
+    }
+
+    /// Leaves the first `left` events, which run again.
+    fn run_again(&mut self, left: usize) -> Result<(), AllocError>
+        requires { left ≤ length self.old.events }
+        ensures ok { OnOk result (self.new ≡ first_events left self.old) }
+        ensures err { OnErr result (self.new ≡ self.old) }
+    {
+        self.checkpoints.drop_past(left as u64);
+        let events = &self.events[..left];
+        let world = world_after(self.alloc, self.opening, &mut self.checkpoints, events)?;
+        self.world = world;
+        self.undos.clear();
+        self.events.truncate(left);
+        Ok(())
+    }
+}
+
+/// Takes the last `count` of the events back one by one, and tells whether it did. Where less is kept of them, or memory is refused, all
+/// stays.
+fn take_back<A: Allocator + Copy>(
+    world: &mut World<A>,
+    undos: &mut Undos<A>,
+    opening: Opening,
+    events: &[Event],
+    count: usize,
+) -> bool
+    requires stands { StandsFor world.old (world_of (standing (opening_of opening) events.now)) }
+    requires lead { AllLeadBack (standing (opening_of opening) events.now) undos.old }
+    requires within { count ≤ length events.now }
+    ensures back { result ≡ true → StandsFor world.new (world_of (without_last (standing (opening_of opening) events.now) count)) × AllLeadBack (without_last (standing (opening_of opening) events.now) count) undos.new }
+    ensures same { result ≡ false → StandsFor world.new (world_of (standing (opening_of opening) events.now)) × AllLeadBack (standing (opening_of opening) events.now) undos.new }
+{
+    if undos.len() < count {
+        return false;
+    }
+    let Ok(()) = world.make_room(count) else {
+        return false;
+    };
+    'undos: for _back in 0..count {
+        match undos.pop() {
+            Some(undo) => world.take_back(undo),
+            None => unreachable!(),
+        }
+    }
+    true
 }
 
 /// The world after these events. What it passes on the way is kept.
@@ -103,10 +171,29 @@ fn run_on<A: Allocator + Copy>(
     ensures kept { (o : model.Opening) → StandsFor world.old (world_of (first_events from (standing o events.now))) → AllHold (standing o events.now) checkpoints.old → AllHold (standing o events.now) checkpoints.new }
 {
     'events: for index in from..events.len() {
-        world.step(events[index])?;
+        step_on(world, &events[index], checkpoints)?;
         keep(world, index + 1, events.len(), checkpoints);
     }
     Ok(())
+}
+
+/// One event. Before it is refused for memory, the checkpoints are given up.
+fn step_on<A: Allocator + Copy>(
+    world: &mut World<A>,
+    event: &Event,
+    checkpoints: &mut Checkpoints<A>,
+) -> Result<(), AllocError>
+    ensures led { (o : model.Opening) (before : List Event) → StandsFor world.old (model.run o before).world → OnOk result (StandsFor world.new (model.run o (before ++ event.now ∷ [])).world) }
+    ensures kept { (s : Standing) → AllHold s checkpoints.old → AllHold s checkpoints.new }
+{
+    match world.step(*event) {
+        Ok(_) => Ok(()),
+        Err(_) => {
+            checkpoints.clear();
+            world.step(*event)?;
+            Ok(())
+        }
+    }
 }
 
 /// Keeps a copy of the world after `count` events on the way to `last`, where it is one of the checkpoints that are kept: counted from the

@@ -17,6 +17,7 @@ mod session;
 mod showing;
 mod telling;
 mod turns;
+mod undos;
 
 pub use back_fault::BackFault;
 pub use outcome::{DebugFault, Summary};

@@ -5,19 +5,21 @@ ghost use Rattle.shm_debug.specs.Standing.{standing, world_of};
 ghost use Rattle.shm_world.specs.World.{StandsFor};
 
 use crate::checkpoints::Checkpoints;
+use crate::undos::Undos;
 use shm_model::Opening;
 use shm_world::{Event, World};
 use std::alloc::{AllocError, Allocator, Global};
 use std::marker::Model;
 
 /// What stands of a run: how its world began, and the events that weren't taken back. Beside them it keeps the world that they lead to,
-/// and checkpoints for going back.
+/// and for going back checkpoints, and what undoes the last events.
 #[derive(Drop)]
 pub struct Session<A: Allocator + Copy = Global> {
     pub(crate) opening: Opening,
     pub(crate) events: Vec<Event, A>,
     pub(crate) world: World<A>,
     pub(crate) checkpoints: Checkpoints<A>,
+    pub(crate) undos: Undos<A>,
     pub(crate) alloc: A,
 }
 
@@ -26,13 +28,14 @@ impl<A: Allocator + Copy> Model for Session<A> {
     ghost use Rattle.shm_model.specs.World.{IsOpening};
     ghost use Rattle.shm_debug.specs.Checkpoints.{AllHold};
     ghost use Rattle.shm_debug.specs.Standing.{Standing, standing, world_of};
+    ghost use Rattle.shm_debug.specs.Undos.{AllLeadBack};
     ghost use Rattle.shm_world.specs.World.{StandsFor};
 
     ghost Value = { Standing };
 
     ghost view = { λ s. standing (opening_of s.opening) s.events.items };
 
-    ghost invariant = { λ s. StandsFor s.world (world_of (standing (opening_of s.opening) s.events.items)) × AllHold (standing (opening_of s.opening) s.events.items) s.checkpoints × IsOpening (opening_of s.opening) };
+    ghost invariant = { λ s. StandsFor s.world (world_of (standing (opening_of s.opening) s.events.items)) × AllHold (standing (opening_of s.opening) s.events.items) s.checkpoints × AllLeadBack (standing (opening_of s.opening) s.events.items) s.undos × IsOpening (opening_of s.opening) };
 }
 
 impl<A: Allocator + Copy> Session<A> {
@@ -44,11 +47,13 @@ impl<A: Allocator + Copy> Session<A> {
     {
         let world = World::begin(alloc, &opening)?;
         let checkpoints = Checkpoints::new(alloc)?;
+        let undos = Undos::new(alloc)?;
         Ok(Session {
             opening,
             events: Vec::new(alloc),
             world,
             checkpoints,
+            undos,
             alloc,
         })
     }

@@ -19,10 +19,10 @@ use Rattle.shm_world.specs.Steps.{Went}
 use Rattle.shm_world.specs.World.{StandsFor}
 use Rattle.shm_world.specs.declared.world.World.{World}
 use Rattle.shm_world.proofs.NetworkLemmas.{at-there}
-use Rattle.shm_world.proofs.Steps.{answered, still_stands}
+use Rattle.shm_world.proofs.Steps.{still_stands}
 
 -- what is on its way was sent
-live_sent : {X : Type 0} (b : Bool) (xs : List X) (k : ℕ) (e : X) → (if b then None else slice_get xs k) ≡ Some e → k < length xs
+pub live_sent : {X : Type 0} (b : Bool) (xs : List X) (k : ℕ) (e : X) → (if b then None else slice_get xs k) ≡ Some e → k < length xs
 live_sent true xs k e h = absurd (none-some e h)
 live_sent false xs k e h = ⊎_elim (λ (low : k < length xs). low) (λ (past : length xs ≤ k). absurd (none-some e (sym (slice_get_past xs k past) ∙ h))) (cases_lt k (length xs))
 

@@ -4,3 +4,4 @@ pub mod NetworkLemmas
 pub mod Runs
 pub mod Seats
 pub mod Steps
+pub mod Undoing

@@ -70,6 +70,13 @@ seated-set count xs i old new seats there same = λ s x e. ⊎_elim
     (ap (λ (y : Site _). y.sites) (sym h.1) ∙ same.0 ∙ was.0, ap (λ (y : Site _). y.me) (sym h.1) ∙ same.1 ∙ was.1 ∙ sym h.0))
     (at-set xs i new x s e)
 
+-- and so does one that is put in its place, and sits there
+pub seated-put : {A : Type 0} (count : ℕ) (xs : List (Site A)) (i : ℕ) (new : Site A) → Seated count xs → new.sites ≡ count → new.me ≡ i → Seated count (slice_set xs i new)
+seated-put count xs i new seats all own = λ s x e. ⊎_elim
+    (λ (h : slice_get xs s ≡ Some x). seats s x h)
+    (λ (h : (s ≡ i) × (new ≡ x)). (ap (λ (y : Site _). y.sites) (sym h.1) ∙ all, ap (λ (y : Site _). y.me) (sym h.1) ∙ own ∙ sym h.0))
+    (at-set xs i new x s e)
+
 -- a site keeps its seat, whether its step is made or not
 pub seat-kept : {A O E : Type 0} (posted : O → O → List (Envelope A) → Type 0) (old new : Site A) (before after : O) (r : Result Answer E) (step : Step)
     → IfOk r (λ answer. StepsTo posted old new before after answer step) → OnErr r (Unchanged posted old new before after) → SameSeat old new

@@ -5,4 +5,5 @@ pub mod Stopped
 pub mod Seats
 pub mod Showing
 pub mod Steps
+pub mod Undo
 pub mod World

@@ -1,5 +1,5 @@
 -- The envelopes that are on their way, against all that were ever sent and those that are gone.
-use Rattle.std.specs.Prelude.{◌≡◌, ◌==◌, ◌-◌, ◌≤◌, ℕ, Bool, true, false, List, ◌++◌, Option, Some, None, if◌then◌else◌, is_some, length, map, nat_le, slice_get}
+use Rattle.std.specs.Prelude.{◌≡◌, ◌==◌, ◌-◌, ◌≤◌, ◌&&◌, ℕ, Bool, true, false, List, ◌++◌, Option, Some, None, if◌then◌else◌, is_some, length, map, nat_le, nat_lt, slice_get}
 use Rattle.std.specs.Map.{lookup}
 use Rattle.indexmap.specs.IndexMap.{spare}
 use Rattle.shm_model.specs.Basics.{greatest}
@@ -23,6 +23,10 @@ place_of network k = lookup (λ j. k == j) network.places.entries
 -- the envelope of this number, if it is on its way
 abbrev pub on_way : {A : Type 0} → Network A → ℕ → Option model.Envelope
 on_way network k = in_place (place_of network k)
+
+-- the same, but for those that were sent from this number on
+abbrev pub sent_before : {A : Type 0} → ℕ → Network A → ℕ → Option model.Envelope
+sent_before first network k = if nat_le first k && nat_lt k network.sent then None else on_way network k
 
 -- there is a place for this number
 abbrev pub has_place : {A : Type 0} → Network A → ℕ → Bool

@@ -10,9 +10,12 @@ mod running;
 mod showing;
 mod start;
 mod stepping;
+mod taking_back;
+mod undo;
 mod world;
 
 pub use network::Network;
 pub use shm_model::{Access, Answer, Event, Shown};
 pub use shm_site::BookView;
+pub use undo::Undo;
 pub use world::World;

@@ -1,5 +1,5 @@
 //! What is done with the sites, each at its number.
-ghost use Rattle.std.specs.Prelude.{◌≡◌, length, [], false, true, ◌<◌, Some, map, slice_get, IfErr, IfOk, IfSome, IsOk, OnErr};
+ghost use Rattle.std.specs.Prelude.{◌≡◌, length, [], false, true, ◌<◌, Some, map, slice_get, slice_set, IfErr, IfOk, IfSome, IsOk, OnErr};
 ghost use Rattle.shm_world.specs.Seats.{Seated};
 ghost use Rattle.std.specs.List.{range_with_len};
 ghost use Rattle.std.specs.Option.{option_copied};
@@ -26,7 +26,9 @@ pub struct Members<A: Allocator + Copy = Global> {
 }
 
 impl<A: Allocator + Copy> Members<A> {
+    ghost use Rattle.shm_site.specs.Site.{site_of};
     ghost use Rattle.shm_world.specs.Members.{members_of, seen_by, Made};
+    ghost use Rattle.shm_world.specs.Undo.{Fits, kept_site};
     ghost use Rattle.shm_model.specs.Opening.{opening_of};
 
     /// All sites as they begin.
@@ -69,6 +71,30 @@ impl<A: Allocator + Copy> Members<A> {
         ensures count { self.new.count ≡ self.old.count }
     {
         self.sites[site.0 as usize].step(input, outbox)
+    }
+
+    /// A copy of the site of this number, beside the number, if there is one.
+    pub(crate) fn copy_of(&self, site: SiteId) -> Result<Option<(SiteId, Site<A>)>, AllocError>
+        ensures site { IfOk result (λ copy. kept_site copy ≡ slice_get (members_of self.now) site) }
+        ensures number { IfOk result (λ copy. IfSome copy (λ kept. kept.0 ≡ site)) }
+        ensures fits { IfOk result (Fits self.now.count) }
+    {
+        match self.get(site) {
+            Some(found) => Ok(Some((site, found.copy()?))),
+            None => Ok(None),
+        }
+    }
+
+    /// Puts a site in its seat, which is that of the number beside it, in the place of the one that sits there.
+    pub(crate) fn put(&mut self, kept: (SiteId, Site<A>))
+        requires below { kept.0 < self.old.count }
+        requires sites { kept.1.sites ≡ self.old.count }
+        requires own { kept.1.me ≡ kept.0 }
+        ensures sites { members_of self.new ≡ slice_set (members_of self.old) kept.0 (site_of kept.1) }
+        ensures count { self.new.count ≡ self.old.count }
+    {
+        let (at, site) = kept;
+        self.sites[at.0 as usize] = site;
     }
 
     /// Equal sites.

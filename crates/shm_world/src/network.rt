@@ -1,7 +1,7 @@
 //! The network between sites: the envelopes that are on their way, each under its number. It loses, repeats and reorders as it is told.
 //!
 //! Each call but `copy` takes constant time for an envelope, however many were sent.
-ghost use Rattle.std.specs.Prelude.{◌≡◌, ℕ, ◌+◌, ◌<◌, ◌≤◌, Bool, false, true, [], List, length, slice_get, Some, is_some, IfNone, IfOk, IfSome};
+ghost use Rattle.std.specs.Prelude.{◌≡◌, ℕ, ◌+◌, ◌<◌, ◌≤◌, Bool, false, true, [], List, length, slice_get, Some, is_some, IfNone, IfOk, IfSome, OnOk};
 ghost use Rattle.indexmap.specs.IndexMap.{spare};
 ghost use Rattle.std.specs.Option.{option_copied};
 ghost use Rattle.shm_model.specs.Basics.{at};
@@ -22,7 +22,8 @@ pub struct Network<A: Allocator + Copy = Global> {
 }
 
 impl<A: Allocator + Copy> Network<A> {
-    ghost use Rattle.shm_world.specs.Network.{envelope_at, has_place, on_way, Carries};
+    ghost use Rattle.shm_world.specs.Network.{envelope_at, has_place, on_way, sent_before, Carries};
+    ghost use Rattle.shm_world.specs.Undo.{with_envelope};
 
     /// Nothing was sent.
     pub fn new(alloc: A) -> Network<A>
@@ -84,6 +85,39 @@ impl<A: Allocator + Copy> Network<A> {
         match self.places.swap_remove(&number) {
             Some(place) => place.is_some(),
             None => false,
+        }
+    }
+
+    /// Makes room for so many envelopes to be put back on their way. What is carried stays.
+    pub(crate) fn make_room(&mut self, count: usize) -> Result<(), AllocError>
+        ensures room { OnOk result (count ≤ spare self.new.places) }
+        ensures same { (sent : List model.Envelope) (gone : ℕ → Bool) → Carries self.old sent gone → Carries self.new sent gone }
+    {
+        self.places.reserve(count)
+    }
+
+    /// Goes back to when so many had been sent, and puts the envelope on its way again that was taken off it, for which there is room.
+    pub(crate) fn go_back(&mut self, sent: u64, taken: Option<(u64, Envelope<A>)>)
+        requires { 0 < spare self.old.places }
+        ensures live { (k : ℕ) → on_way self.new k ≡ with_envelope taken (sent_before sent self.old) k }
+        ensures sent { self.new.sent ≡ sent }
+        ensures room { spare self.old.places ≤ spare self.new.places + 1 }
+    {
+        self.forget_from(sent);
+        self.sent = sent;
+        if let Some((number, envelope)) = taken {
+            self.put(number, Some(envelope));
+        }
+    }
+
+    /// Forgets the envelopes from this number on.
+    fn forget_from(&mut self, first: u64)
+        ensures forgets { (k : ℕ) → on_way self.new k ≡ sent_before first self.old k }
+        ensures sent { self.new.sent ≡ self.old.sent }
+        ensures room { spare self.old.places ≤ spare self.new.places }
+    {
+        'numbers: for number in first..self.sent {
+            self.places.swap_remove(&number);
         }
     }
 

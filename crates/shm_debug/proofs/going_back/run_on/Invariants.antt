@@ -1,4 +1,3 @@
-use Rattle.std.proofs.Common.{take}
 use Rattle.shm_model.specs.World as model
 use Rattle.shm_world.specs.World.{StandsFor}
 use Rattle.shm_debug.specs.Checkpoints.{AllHold}

@@ -1,9 +1,18 @@
-use Rattle.std.proofs.Common.{◌+◌, ◌≤◌, ℕ, [], None, length, length-take, take, sym, subst, arith}
+use Rattle.std.proofs.Common.{◌+◌, ◌≤◌, ℕ, [], None, length, length-take, take, refl, sym, subst, arith}
 use Rattle.std.specs.Io.KnownBytes.{Consumes}
 use Rattle.shm_debug.specs.Limits.{max_bytes}
-use Rattle.shm_debug.specs.Reading.{reach, Plays}
-use Rattle.shm_debug.proofs.ReplayLemmas.{SoFar, SoFar-played, SoFar-written, within}
+use Rattle.shm_debug.specs.Reading.{reach, start, Plays}
+use Rattle.shm_debug.proofs.ReplayLemmas.{SoFar, SoFar-none, SoFar-played, SoFar-written, within}
 use Rattle.shm_draw.proofs.script.read_script.Goals as goal
+
+pub chunks-init : goal.chunks-init
+chunks-init g c =
+    let remaining = g.R.Read.remaining c.args.reader.now in (
+      subst (SoFar remaining remaining None None c.in-Ok.told) (sym c.in-Ok-new.ensures)
+          (subst (λ told. SoFar remaining remaining None None told start) (sym c.in-Ok.ensures) (SoFar-none remaining None)),
+      refl,
+      c.in-Ok.ensures,
+    )
 
 pub returns-then-count-eq0-clause-limit : goal.returns-then-count-eq0-clause-limit
 returns-then-count-eq0-clause-limit g c =

@@ -12,7 +12,7 @@ use std::process::Abort;
 use std::test::Fail;
 
 /// How many bytes of memory a session has here.
-const HEAP: usize = 1 << 16;
+const HEAP: usize = 1 << 17;
 
 /// How often a hole is widened: for the world and two copies of it.
 const HOLES: usize = 1200;

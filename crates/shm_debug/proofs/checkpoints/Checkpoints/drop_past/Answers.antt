@@ -1,4 +1,4 @@
-use Rattle.std.proofs.Common.{ap, subst, sym, ◌∙◌}
+use Rattle.std.proofs.Common.{ap, subst, sym}
 use Rattle.std.specs.List.{All}
 use Rattle.shm_debug.specs.Checkpoints.{Holds}
 use Rattle.shm_debug.specs.Standing.{first_events}

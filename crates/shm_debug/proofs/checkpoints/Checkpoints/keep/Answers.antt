@@ -1,6 +1,5 @@
-use Rattle.std.proofs.Common.{ap, subst, sym, ◌≡◌, ◌++◌, [], ◌∷◌}
+use Rattle.std.proofs.Common.{ap, subst, sym}
 use Rattle.std.specs.List.{All}
-use Rattle.circular_buffer.specs.Buffer.{keep_last}
 use Rattle.shm_debug.specs.Checkpoints.{Holds}
 use Rattle.shm_debug.proofs.Holding.{all-kept}
 use Rattle.shm_debug.proofs.checkpoints.Checkpoints.keep.Goals as goal

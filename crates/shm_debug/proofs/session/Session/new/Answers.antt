@@ -8,7 +8,8 @@ use Rattle.shm_debug.proofs.session.Session.new.Goals as goal
 pub invariant_of-result : goal.invariant_of-result
 invariant_of-result g c =
     let o = opening_of c.args.opening in (
-      subst (λ (xs : List Event). StandsFor {A = g.row.A.Denot} c.in_ok-world.world (world_of (standing o xs))) (sym c.new-2.ensures.items) c.in_ok-world.ensures,
-      c.in_ok-checkpoints.ensures (standing o c.new-2.result.items),
+      subst (λ (xs : List Event). StandsFor {A = g.row.A.Denot} c.in_ok-world.world (world_of (standing o xs))) (sym c.new-3.ensures.items) c.in_ok-world.ensures,
+      c.in_ok-checkpoints.ensures (standing o c.new-3.result.items),
+      c.in_ok-undos.ensures (standing o c.new-3.result.items),
       c.requires.opening,
     )

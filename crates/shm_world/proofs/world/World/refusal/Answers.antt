@@ -1,4 +1,4 @@
-use Rattle.std.proofs.Common.{◌≡◌, ◌∙◌, ◌<◌, ap, length, slice_get, arith}
+use Rattle.std.proofs.Common.{◌∙◌, ap, slice_get, arith}
 use Rattle.shm_world.proofs.Steps.{found, no_number, no_site, unfound}
 use Rattle.shm_site.specs.Site.{site_of}
 use Rattle.shm_world.proofs.world.World.refusal.Goals as goal

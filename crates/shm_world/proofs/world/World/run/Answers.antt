@@ -1,8 +1,8 @@
-use Rattle.std.proofs.Common.{◌++◌, arith, subst, sym, ◌∙◌}
+use Rattle.std.proofs.Common.{◌++◌, arith, subst, sym}
 use Rattle.shm_model.specs.World as model
-use Rattle.shm_world.specs.World.{after, StandsFor}
+use Rattle.shm_world.specs.World.{StandsFor}
 use Rattle.shm_world.proofs.Loads.{each-gives-last, stopped-after}
-use Rattle.shm_world.proofs.Runs.{Ran, ran-all, ran-more, ran-none, ran-some, run-then}
+use Rattle.shm_world.proofs.Runs.{ran-all, ran-more, ran-none, ran-some, run-then}
 use Rattle.shm_world.proofs.world.World.run.Goals as goal
 
 pub events-init : goal.events-init

@@ -1,4 +1,3 @@
-use Rattle.std.proofs.Common.{◌≡◌}
 use Rattle.shm_world.proofs.world.World.sent.Goals as goal
 
 pub returns : goal.returns
