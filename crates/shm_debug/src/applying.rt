@@ -14,6 +14,7 @@ impl<A: Allocator + Copy> Session<A> {
     /// One more event, which stands from then on. Before it is refused for memory, all that is kept for going back is given up, which
     /// may be had without; else nothing changes then. A load or store that has the right needs memory for the list of the events
     /// alone, and so does a restart or a loss.
+    #[inline(always)]
     pub fn apply(&mut self, event: Event) -> Result<Answer, AllocError>
         ensures answered { IfOk result (λ answer. answer ≡ (model.next (world_of self.old) event).done.answer) }
         ensures ok { OnOk result (self.new ≡ with_event self.old event) }
@@ -27,6 +28,7 @@ impl<A: Allocator + Copy> Session<A> {
     }
 
     /// The event, with what memory there is.
+    #[inline(always)]
     fn make(&mut self, event: &Event) -> Result<Answer, AllocError>
         ensures answered { IfOk result (λ answer. answer ≡ (model.next (world_of self.old) event.now).done.answer) }
         ensures ok { OnOk result (self.new ≡ with_event self.old event.now) }
@@ -65,6 +67,7 @@ impl<A: Allocator + Copy> Session<A> {
 }
 
 /// What the world answers to the event, which joins the others.
+#[inline(always)]
 fn step_and_push<A: Allocator + Copy>(
     world: &mut World<A>,
     events: &mut Vec<Event, A>,

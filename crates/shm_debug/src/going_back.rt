@@ -58,7 +58,7 @@ impl<A: Allocator + Copy> Session<A> {
     {
         let left = self.events.len() - count;
         let events = self.events.as_slice();
-        if !take_back(
+        if !undo_last(
             &mut self.world,
             &mut self.undos,
             self.opening,
@@ -90,7 +90,7 @@ impl<A: Allocator + Copy> Session<A> {
 
 /// Takes the last `count` of the events back one by one, and tells whether it did. Where less is kept of them, or memory is refused, all
 /// stays.
-fn take_back<A: Allocator + Copy>(
+fn undo_last<A: Allocator + Copy>(
     world: &mut World<A>,
     undos: &mut Undos<A>,
     opening: Opening,

@@ -74,6 +74,7 @@ fn turn<A: Allocator + Copy>(
 }
 
 /// An event happens.
+#[inline(always)]
 fn happen<A: Allocator + Copy>(
     session: &mut Session<A>,
     number: u64,

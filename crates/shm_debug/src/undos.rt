@@ -12,7 +12,7 @@ use std::alloc::{AllocError, Allocator, Global};
 /// Of how many events it is kept at most: of the last ones.
 const KEPT: usize = 16;
 
-/// Two times of going back are near each other where no more events than these were made between them.
+/// Two times of going back are near each other where fewer events than these were made between them.
 const NEAR: u32 = 8;
 
 /// What is kept of the last events, the oldest first. It takes time to keep it, so it is done only while going back is likely: near the

@@ -21,10 +21,10 @@ digit_at w i h lt = go (cases_Bool (is_ascii_digit (get_or w i 0)))
     go (inl e) = digit_range (get_or w i 0) e
     go (inr e) = let none = list_all_at is_ascii_digit w i 0 lt e in cc
 
-pub value_step : (w : List ℕ) (i v : ℕ) → list_all is_ascii_digit w ≡ true → i < length w → v ≡ digits_value 10 (take i w)
+pub value_step : (w : List ℕ) (i v : ℕ) → is_ascii_digit (get_or w i 0) ≡ true → i < length w → v ≡ digits_value 10 (take i w)
     → v * 10 + (get_or w i 0 - 48) ≡ digits_value 10 (take (i + 1) w)
 value_step w i v h lt e =
-    let d = digit_value_digit (get_or w i 0) (digit_at w i h lt) in
+    let d = digit_value_digit (get_or w i 0) (digit_range (get_or w i 0) h) in
     omega (arith, digits_value_more 10 w i lt, d)
 
 -- digits of which a front is too great are too great

@@ -16,6 +16,7 @@ use std::alloc::{AllocError, Allocator};
 impl<A: Allocator + Copy> World<A> {
     /// Hands the envelope of this number over; it is gone then, even where its site can't have been sent it. Where memory is refused it
     /// is on its way as before.
+    #[inline(always)]
     pub(crate) fn deliver(&mut self, number: u64) -> Result<Answer, AllocError>
         ensures step { (w : model.World) → StandsFor self.old w → IfOk result (λ answer. Went self.new (model.deliver (model.live w number) w number) answer) }
         ensures refused { (w : model.World) → StandsFor self.old w → OnErr result (StandsFor self.new w) }

@@ -3,10 +3,11 @@ ghost use Rattle.std.specs.Prelude.{◌≡◌, length, [], false, true, ◌<◌,
 ghost use Rattle.shm_world.specs.Seats.{Seated};
 ghost use Rattle.std.specs.List.{range_with_len};
 ghost use Rattle.std.specs.Option.{option_copied};
+ghost use Rattle.shm_model.specs.Access as access;
 ghost use Rattle.shm_model.specs.Site as model;
 ghost use Rattle.shm_model.specs.Step.{step};
 ghost use Rattle.shm_model.specs.World.{IsOpening, opened_site};
-ghost use Rattle.shm_site.specs.Step.{envelope_if, fault_of, handed_in, input_of, is_foreign, may_grow};
+ghost use Rattle.shm_site.specs.Step.{envelope_if, fault_of, handed_in, input_of, is_fault, is_foreign, may_grow};
 ghost use Rattle.shm_site.specs.declared.step_error.StepFault.TheVariants as fault;
 
 use crate::start::begin;
@@ -55,6 +56,7 @@ impl<A: Allocator + Copy> Members<A> {
     }
 
     /// A site's step. Where it isn't made, the sites are as before and an envelope that was handed in comes back.
+    #[inline(always)]
     pub(crate) fn step<O: Outbox<Envelope<A>>>(
         &mut self,
         site: SiteId,
@@ -71,6 +73,43 @@ impl<A: Allocator + Copy> Members<A> {
         ensures count { self.new.count ≡ self.old.count }
     {
         self.sites[site.0 as usize].step(input, outbox)
+    }
+
+    /// A site's load. Where memory is refused the sites are as before.
+    #[inline(always)]
+    pub(crate) fn load<O: Outbox<Envelope<A>>>(
+        &mut self,
+        site: SiteId,
+        at: u32,
+        offset: u32,
+        outbox: &mut O,
+    ) -> Result<Answer, AllocError>
+        requires { site < self.old.count }
+        ensures step { IfOk result (λ answer. (x : model.Site) → slice_get (members_of self.old) site ≡ Some x → Made O.posted self.old self.new site outbox.old outbox.new answer (access.load self.old.count site at offset x)) }
+        ensures refused { OnErr result ((members_of self.new ≡ members_of self.old) × O.posted outbox.old outbox.new []) }
+        ensures memory { OnErr result ((x : model.Site) → slice_get (members_of self.old) site ≡ Some x → is_fault (access.load self.old.count site at offset x).answer ≡ true) }
+        ensures count { self.new.count ≡ self.old.count }
+    {
+        self.sites[site.0 as usize].load(at, offset, outbox)
+    }
+
+    /// A site's store. Where memory is refused the sites are as before.
+    #[inline(always)]
+    pub(crate) fn store<O: Outbox<Envelope<A>>>(
+        &mut self,
+        site: SiteId,
+        at: u32,
+        offset: u32,
+        byte: u8,
+        outbox: &mut O,
+    ) -> Result<Answer, AllocError>
+        requires { site < self.old.count }
+        ensures step { IfOk result (λ answer. (x : model.Site) → slice_get (members_of self.old) site ≡ Some x → Made O.posted self.old self.new site outbox.old outbox.new answer (access.store self.old.count site at offset byte x)) }
+        ensures refused { OnErr result ((members_of self.new ≡ members_of self.old) × O.posted outbox.old outbox.new []) }
+        ensures memory { OnErr result ((x : model.Site) → slice_get (members_of self.old) site ≡ Some x → is_fault (access.store self.old.count site at offset byte x).answer ≡ true) }
+        ensures count { self.new.count ≡ self.old.count }
+    {
+        self.sites[site.0 as usize].store(at, offset, byte, outbox)
     }
 
     /// A copy of the site of this number, beside the number, if there is one.

@@ -19,6 +19,7 @@ impl<A: Allocator + Copy> World<A> {
     ///
     /// The headline: for every list of events that leads from an opening to the world as it was, what is promised holds of that list
     /// followed by this event, and a byte that this event gives was stored last to its place by the list.
+    #[inline(always)]
     pub fn step(&mut self, event: Event) -> Result<Answer, AllocError>
         ensures next { (w : model.World) → StandsFor self.old w → IfOk result (λ answer. Went self.new (model.next w event) answer) }
         ensures refused { (w : model.World) → StandsFor self.old w → OnErr result (StandsFor self.new w) }
@@ -54,19 +55,20 @@ impl<A: Allocator + Copy> World<A> {
     }
 
     /// One event, without the promise.
+    #[inline(always)]
     fn apply(&mut self, event: &Event) -> Result<Answer, AllocError>
         ensures next { (w : model.World) → StandsFor self.old w → IfOk result (λ answer. Went self.new (model.next w event.now) answer) }
         ensures refused { (w : model.World) → StandsFor self.old w → OnErr result (StandsFor self.new w) }
         ensures memory { (w : model.World) → StandsFor self.old w → OnErr result (may_grow event.now (model.next w event.now).done.answer ≡ true) }
     {
         match *event {
-            Event::Load { site, at, offset } => self.act(site, Input::Load { at, offset }),
+            Event::Load { site, at, offset } => self.load(site, at, offset),
             Event::Store {
                 site,
                 at,
                 offset,
                 byte,
-            } => self.act(site, Input::Store { at, offset, byte }),
+            } => self.store(site, at, offset, byte),
             Event::Begin { site, request } => self.act(site, Input::Begin(request)),
             Event::Tick { site } => self.act(site, Input::Tick),
             Event::Restart { site } => self.act(site, Input::Restart),

@@ -4,7 +4,7 @@ ghost use Rattle.shm_model.specs.Basics.{max_sent};
 ghost use Rattle.shm_model.specs.Message as input;
 ghost use Rattle.shm_model.specs.World as model;
 ghost use Rattle.shm_parts.specs.Message.{envelope_of};
-ghost use Rattle.shm_site.specs.Step.{envelope_if, handed_in, input_of, is_refused};
+ghost use Rattle.shm_site.specs.Step.{envelope_if, handed_in, input_of, is_fault, is_refused};
 ghost use Rattle.shm_world.specs.Network.{has_place};
 ghost use Rattle.shm_world.specs.Steps.{Went};
 ghost use Rattle.shm_world.specs.World.{StandsFor, input_may_grow};
@@ -18,7 +18,41 @@ use shm_site::{Input, StepFault};
 use std::alloc::{AllocError, Allocator};
 
 impl<A: Allocator + Copy> World<A> {
+    /// A load at a site, if there is one and envelopes have numbers left. Where memory is refused nothing changes.
+    #[inline(always)]
+    pub(crate) fn load(&mut self, site: SiteId, at: u32, offset: u32) -> Result<Answer, AllocError>
+        ensures step { (w : model.World) → StandsFor self.old w → IfOk result (λ answer. Went self.new (model.step_at w site (input.Load at offset)) answer) }
+        ensures refused { (w : model.World) → StandsFor self.old w → OnErr result (StandsFor self.new w) }
+        ensures memory { (w : model.World) → StandsFor self.old w → OnErr result (is_fault (model.step_at w site (input.Load at offset)).done.answer ≡ true) }
+    {
+        if let Some(answer) = self.refusal(site) {
+            return Ok(answer);
+        }
+        self.members.load(site, at, offset, &mut self.network)
+    }
+
+    /// A store at a site, if there is one and envelopes have numbers left. Where memory is refused nothing changes.
+    #[inline(always)]
+    pub(crate) fn store(
+        &mut self,
+        site: SiteId,
+        at: u32,
+        offset: u32,
+        byte: u8,
+    ) -> Result<Answer, AllocError>
+        ensures step { (w : model.World) → StandsFor self.old w → IfOk result (λ answer. Went self.new (model.step_at w site (input.Store at offset byte)) answer) }
+        ensures refused { (w : model.World) → StandsFor self.old w → OnErr result (StandsFor self.new w) }
+        ensures memory { (w : model.World) → StandsFor self.old w → OnErr result (is_fault (model.step_at w site (input.Store at offset byte)).done.answer ≡ true) }
+    {
+        if let Some(answer) = self.refusal(site) {
+            return Ok(answer);
+        }
+        self.members
+            .store(site, at, offset, byte, &mut self.network)
+    }
+
     /// Steps a site at an input that hands no envelope over. Where memory is refused nothing changes.
+    #[inline(always)]
     pub(crate) fn act(&mut self, site: SiteId, input: Input<A>) -> Result<Answer, AllocError>
         ensures step { (w : model.World) → StandsFor self.old w → IfOk result (λ answer. Went self.new (model.step_at w site (input_of input)) answer) }
         ensures refused { (w : model.World) → StandsFor self.old w → OnErr result (StandsFor self.new w) }
@@ -28,6 +62,7 @@ impl<A: Allocator + Copy> World<A> {
     }
 
     /// Hands the envelope to its site. Where memory is refused it comes back, and nothing changes.
+    #[inline(always)]
     pub(crate) fn hand(&mut self, envelope: Envelope<A>) -> Result<Answer, Envelope<A>>
         ensures step { (w : model.World) → StandsFor self.old w → IfOk result (λ answer. Went self.new (model.step_at w (envelope_of envelope).to (input.Deliver (envelope_of envelope))) answer) }
         ensures back { IfErr result (λ back. envelope_of back ≡ envelope_of envelope) }
@@ -44,6 +79,7 @@ impl<A: Allocator + Copy> World<A> {
 
     /// Steps a site, if there is one and envelopes have numbers left. Where memory is refused nothing changes, and an envelope that was
     /// handed in comes back.
+    #[inline(always)]
     fn step_site(&mut self, site: SiteId, input: Input<A>) -> Result<Answer, Option<Envelope<A>>>
         ensures step { (w : model.World) → StandsFor self.old w → IfOk result (λ answer. Went self.new (model.step_at w site (input_of input)) answer) }
         ensures back { IfErr result (λ back. envelope_if back ≡ handed_in (input_of input)) }
@@ -64,6 +100,7 @@ impl<A: Allocator + Copy> World<A> {
     }
 
     /// Why no site is stepped, if none is: there is no such site, or envelopes have no numbers left.
+    #[inline(always)]
     pub(crate) fn refusal(&self, site: SiteId) -> Option<Answer>
         ensures refused { IfSome result (λ answer. (w : model.World) (i : input.Input) → StandsFor self.now w → model.step_at w site i ≡ model.unstepped w site answer) }
         ensures site { IfNone result (site < self.now.members.count) }

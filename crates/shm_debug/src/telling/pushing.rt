@@ -1,11 +1,11 @@
-//! What most lines are made of, appended without a formatter: numbers, and answers of one word.
-ghost use Rattle.std.specs.Prelude.{◌≡◌, ◌++◌, OnOk, codes, string_bytes};
+//! What lines are made of, appended without a formatter: numbers, answers, and replies to segment calls.
+ghost use Rattle.std.specs.Prelude.{◌≡◌, ◌++◌, OnOk, string_bytes};
 ghost use Rattle.std.specs.Fmt.{decimal};
-ghost use Rattle.shm_debug.specs.Text.{answer_text};
+ghost use Rattle.shm_debug.specs.Text.{answer_text, reply_text};
 
-use crate::telling::answer_text::AnswerText;
+use crate::telling::reply_text::ReplyText;
 use itoa::Buffer;
-use shm_model::Answer;
+use shm_model::{Answer, Reply};
 use std::alloc::{AllocError, Allocator};
 
 /// Appends a number in decimal digits.
@@ -19,6 +19,18 @@ pub(crate) fn push_number<A: Allocator + Copy>(
     out.push_str(buffer.format(number))
 }
 
+/// Appends a name, which ends with its blank, and a number behind it.
+fn push_named<A: Allocator + Copy>(
+    out: &mut String<A>,
+    name: &str,
+    number: u64,
+) -> Result<(), AllocError>
+    ensures { OnOk result (string_bytes out.new ≡ string_bytes out.old ++ (name.now ++ decimal number)) }
+{
+    out.push_str(name)?;
+    push_number(out, number)
+}
+
 /// Appends an answer. Where memory is refused a part of it may stand.
 pub(crate) fn push_answer<A: Allocator + Copy>(
     out: &mut String<A>,
@@ -27,23 +39,41 @@ pub(crate) fn push_answer<A: Allocator + Copy>(
     ensures { OnOk result (string_bytes out.new ≡ string_bytes out.old ++ answer_text answer.now) }
 {
     match answer {
-        Answer::Byte(byte) => push_byte(out, *byte),
+        Answer::Byte(byte) => push_named(out, "byte ", *byte as u64),
         Answer::Stored => out.push_str("stored"),
         Answer::Fault => out.push_str("fault"),
         Answer::Waiting => out.push_str("waiting"),
+        Answer::Began(number) => push_named(out, "began ", *number),
         Answer::Took => out.push_str("took"),
         Answer::Dropped => out.push_str("dropped"),
-        rare => {
-            let rare = AnswerText(*rare);
-            write!(out, "{rare}")
+        Answer::Replied {
+            number,
+            reply,
+            attachment,
+        } => {
+            push_named(out, "replied ", *number)?;
+            out.push_str(" ")?;
+            push_reply(out, *reply, *attachment)
         }
+        Answer::Refused(number) => push_named(out, "refused ", *number as u64),
     }
 }
 
-/// Appends what a load answers.
-fn push_byte<A: Allocator + Copy>(out: &mut String<A>, byte: u8) -> Result<(), AllocError>
-    ensures { OnOk result (string_bytes out.new ≡ string_bytes out.old ++ (codes "byte " ++ decimal byte)) }
+/// Appends a reply to a segment call, and the number of the attachment that it made.
+fn push_reply<A: Allocator + Copy>(
+    out: &mut String<A>,
+    reply: Reply,
+    attachment: Option<u32>,
+) -> Result<(), AllocError>
+    ensures { OnOk result (string_bytes out.new ≡ string_bytes out.old ++ reply_text reply attachment) }
 {
-    out.push_str("byte ")?;
-    push_number(out, byte as u64)
+    match (reply, attachment) {
+        (Reply::Id(id), _) => push_named(out, "id ", id.0 as u64),
+        (Reply::Attached(_), Some(number)) => push_named(out, "attached ", number as u64),
+        (Reply::Ok, _) => out.push_str("ok"),
+        (reply, attachment) => {
+            let rare = ReplyText { reply, attachment };
+            write!(out, "{rare}")
+        }
+    }
 }

@@ -15,10 +15,10 @@ invariant_of-self-2 g c =
     let left = length items - c.args.count in
     let same : c.truncate.new.self.items ≡ take left items = c.truncate.ensures.items ∙ ap (λ n. take n items) (omega (arith, c.len.ensures, within)) in
     let listed : take (length c.as_slice-events.result.now - c.args.count) c.as_slice-events.result.now ≡ take left items = ap (λ xs. take (length xs - c.args.count) xs) c.as_slice-events.ensures.value in
-    let back = c.if-not-take_back.ensures.back refl in (
-      subst (λ (xs : List Event). StandsFor {A = g.row.A.Denot} c.take_back.new.world (world_of (standing o xs))) (listed ∙ sym same) back.0,
+    let back = c.if-not-undo_last.ensures.back refl in (
+      subst (λ (xs : List Event). StandsFor {A = g.row.A.Denot} c.undo_last.new.world (world_of (standing o xs))) (listed ∙ sym same) back.0,
       subst (λ (xs : List Event). AllHold {A = g.row.A.Denot} (standing o xs) c.drop_past.new.self) (ap (λ n. take n items) (omega (arith, c.len.ensures, within)) ∙ sym same)
           (c.drop_past.ensures (standing o items) (omega (arith, c.len.ensures, within)) c.self.invariant.1),
-      subst (λ (xs : List Event). AllLeadBack {A = g.row.A.Denot} (standing o xs) c.take_back.new.undos) (listed ∙ sym same) back.1,
+      subst (λ (xs : List Event). AllLeadBack {A = g.row.A.Denot} (standing o xs) c.undo_last.new.undos) (listed ∙ sym same) back.1,
       c.self.invariant.3,
     )

@@ -4,7 +4,7 @@ use Rattle.shm_world.specs.Undo.{room_in}
 use Rattle.shm_world.specs.World.{StandsFor}
 use Rattle.shm_debug.specs.Standing.{standing, without_last, world_of}
 use Rattle.shm_debug.specs.Undos.{AllLeadBack}
-use Rattle.shm_debug.proofs.going_back.take_back.Given as goal
+use Rattle.shm_debug.proofs.going_back.undo_last.Given as goal
 
 -- the world stands before so many of the last events, and there is room, and enough kept, to go on
 abbrev pub invariant-undos : goal.invariant-undos

@@ -4,7 +4,7 @@ use Rattle.shm_world.specs.World.{StandsFor}
 use Rattle.shm_debug.specs.Standing.{Standing, standing, without_last, world_of}
 use Rattle.shm_debug.specs.Undos.{AllLeadBack}
 use Rattle.shm_debug.proofs.Undoing.{without-none}
-use Rattle.shm_debug.proofs.going_back.take_back.Goals as goal
+use Rattle.shm_debug.proofs.going_back.undo_last.Goals as goal
 
 pub undos-init : goal.undos-init
 undos-init g c =
