@@ -1,12 +1,10 @@
 -- The pages that are listed and marked fit the books, after a change of both.
-use Rattle.std.proofs.Common.{◌≡◌, ◌==◌, ◌&&◌, ◌<◌, ◌≤◌, ◌+◌, ℕ, Bool, true, false, cond, not, nat_lt, if◌then◌else◌, List, [], ◌∷◌, filter, map, Option, Some, None, is_some, refl, sym, ap, ◌∙◌, arith}
+use Rattle.std.proofs.Common.{◌≡◌, ◌==◌, ◌&&◌, ◌≤◌, ◌+◌, ℕ, Bool, true, false, cond, not, nat_lt, if◌then◌else◌, List, [], ◌∷◌, filter, map, Option, Some, None, is_some, refl, sym, ap, ◌∙◌}
 use Rattle.std.proofs.Math.Path.{fun_ext}
-use Rattle.std.proofs.lemmas.Bool.{false≢true}
-use Rattle.std.proofs.lemmas.Bool.Decides.{nat_tests}
+use Rattle.std.proofs.lemmas.Bool.{false≢true, true≢false}
 use Rattle.std.specs.List.{AllByRecursion, list_any}
 use Rattle.std.specs.Map.{keys_of, lookup}
 use Rattle.shm_place.specs.declared.page.PageId.{PageId}
-use Rattle.shm_place.specs.Limits as limit
 use Rattle.shm_place.specs.Page.{same_page}
 use Rattle.shm_manager.specs.Book.{book_of}
 use Rattle.shm_manager.specs.declared.book.Book.{Book}
@@ -16,10 +14,11 @@ use Rattle.shm_model.specs.Transfer.{without_page}
 use Rattle.shm_parts.specs.Booked.{IsBooked, book_or, runs_at}
 use Rattle.shm_parts.specs.Bookings.{is_listed, is_marked, listed_of}
 use Rattle.shm_parts.specs.Books.{viewed}
+use Rattle.shm_parts.specs.Places.{is_past, place_of}
 use Rattle.shm_parts.specs.declared.bookings.Bookings.{Bookings}
 use Rattle.shm_parts.proofs.BookSteps.{as_books, forgotten_books, forgotten_keys, list_any-keys, page-same, same_books, same_keys}
-use Rattle.shm_parts.proofs.GoneLemmas.{gone_below, gone-more, gone-none}
-use Rattle.shm_parts.proofs.ListLemmas.{all-map, filter-agree, filter-twice}
+use Rattle.shm_parts.proofs.GoneLemmas.{gone_below, gone-more, gone-none, gone-past}
+use Rattle.shm_parts.proofs.ListLemmas.{all-map, all-values, filter-agree, filter-twice}
 use Rattle.shm_parts.proofs.PlaceLemmas.{any_placed, listed_within}
 
 pub settled_off : (a b c : Bool) → b ≡ c → c ≡ true → (a && not b) ≡ false
@@ -101,29 +100,36 @@ kept-more id index now next old so_far taken =
     ∙ filter-twice (λ (p : PageId). not (gone_below id index p)) (λ (p : PageId). not (same_page page p)) (λ (p : PageId). not (gone_below id (index + 1) p)) old
     (λ p. ap not (gone-more id index p) ∙ either_not (same_page page p) (gone_below id index p))
 
-kept_all : (id index : ℕ) (p : PageId) → limit.pages ≤ index → p.index < limit.pages → not (gone_below id index p) ≡ not (id == p.seg)
-kept_all id index p all small = grind (arith, nat_tests)
+kept_all : (id index : ℕ) (p : PageId) → ((id == p.seg) ≡ true → gone_below id index p ≡ true) → not (gone_below id index p) ≡ not (id == p.seg)
+kept_all id index p all = by (id == p.seg) refl
+  where
+    by : (b : Bool) → (id == p.seg) ≡ b → not (gone_below id index p) ≡ not b
+    by true own = ap not (all own)
+    by false other = ap (λ b. not (b && nat_lt p.index index)) other
 
-pub kept-all : (id index : ℕ) (pages : List PageId) → limit.pages ≤ index → AllByRecursion (λ p. p.index < limit.pages) pages → kept_below id index pages ≡ without_segment id pages
-kept-all id index pages all small =
-    filter-agree (λ (p : PageId). not (gone_below id index p)) (λ (p : PageId). not (id == p.seg)) pages
-    (all-map (λ (p : PageId). p.index < limit.pages) (λ (p : PageId). not (gone_below id index p) ≡ not (id == p.seg)) pages (λ p below. kept_all id index p all below) small)
+-- the last index is at or behind the end, past which no page of the segment has a book
+module _ {A B : Type 0} (old : List (PageId × Book A)) (was : Bookings B) (id end index : ℕ) (all : end ≤ index) (is : IsBooked old was)
+    (past : (q : PageId) → is_past id end q ≡ true → lookup (same_page q) old ≡ None) where
+  below : (q : PageId) (b : Bool) → gone_below id index q ≡ b → (id == q.seg) ≡ true → is_some (lookup (same_page q) old) ≡ true → gone_below id index q ≡ true
+  below q true e own there = e
+  below q false e own there =
+      let small = listed_within was.places.entries was.pages.entries was.marked.entries was.next q was.placed (is.listed q ∙ there) in
+      absurd (false≢true (sym (ap is_some (past q (gone-past id end index q all own small e))) ∙ there))
 
-module _ {A B : Type 0} where
-  -- all pages of the segment that may have a book are below the last index
-  pub gone_end : (old now : List (PageId × Book A)) (was : Bookings B) (id index : ℕ) (rest : model.Book) → limit.pages ≤ index → IsBooked old was
+  pub kept-all : kept_below id index (listed_of was) ≡ without_segment id (listed_of was)
+  kept-all =
+      filter-agree (λ (p : PageId). not (gone_below id index p)) (λ (p : PageId). not (id == p.seg)) (listed_of was)
+      (all-values (λ (p : PageId). not (gone_below id index p) ≡ not (id == p.seg)) was.pages.entries
+      (all-map (λ (e : ℕ × PageId). place_of was.places.entries e.1 ≡ Some e.0) (λ (e : ℕ × PageId). not (gone_below id index e.1) ≡ not (id == e.1.seg)) was.pages.entries
+      (λ e own. kept_all id index e.1 (λ same. below e.1 (gone_below id index e.1) refl same (sym (is.listed e.1) ∙ ap is_some own))) was.placed.own))
+
+  pub gone_end : (now : List (PageId × Book A)) (rest : model.Book)
       → ((q : PageId) → lookup (same_page q) now ≡ cond (gone_below id index q) None (lookup (same_page q) old)) → as_books rest now ≡ of_segment id rest (as_books rest old)
-  gone_end old now was id index rest all is gone = fun_ext (λ q.
-      ap (book_or rest) (gone q) ∙ by q (id == q.seg) (nat_lt q.index index) refl (lookup (same_page q) old) refl)
+  gone_end now rest gone = fun_ext (λ q. ap (book_or rest) (gone q) ∙ by q (id == q.seg) (gone_below id index q) refl refl (lookup (same_page q) old) refl)
     where
-      beyond : (q : PageId) → nat_lt q.index index ≡ false → q.index < limit.pages → ⊥
-      beyond q past small = grind (arith, nat_tests)
-
-      absent : (q : PageId) (o : Option (Book A)) → nat_lt q.index index ≡ false → lookup (same_page q) old ≡ o → book_or rest o ≡ rest
-      absent q None past found = refl
-      absent q (Some b) past found = absurd (beyond q past (listed_within was.places.entries was.pages.entries was.marked.entries was.next q was.placed (is.listed q ∙ ap is_some found)))
-
-      by : (q : PageId) (a b : Bool) → nat_lt q.index index ≡ b → (o : Option (Book A)) → lookup (same_page q) old ≡ o → book_or rest (cond (a && b) None o) ≡ (if a then rest else book_or rest o)
-      by q false b past o found = refl
-      by q true true past o found = refl
-      by q true false past o found = absent q o past found
+      by : (q : PageId) (a b : Bool) → (id == q.seg) ≡ a → gone_below id index q ≡ b → (o : Option (Book A)) → lookup (same_page q) old ≡ o → book_or rest (cond b None o) ≡ (if a then rest else book_or rest o)
+      by q true true own gone o found = refl
+      by q true false own kept None found = refl
+      by q true false own kept (Some b) found = absurd (true≢false (sym (below q false kept own (ap is_some found)) ∙ kept))
+      by q false false other kept o found = refl
+      by q false true other gone o found = absurd (false≢true (sym (ap (λ b. b && nat_lt q.index index) other) ∙ gone))

@@ -6,6 +6,7 @@ pub mod ListLemmas
 pub mod PlaceLemmas
 pub mod NextLemmas
 pub mod GoneLemmas
+pub mod EndLemmas
 pub mod BookedLemmas
 pub mod EntryLemmas
 pub mod OrderedPagesLemmas

@@ -14,10 +14,10 @@ use crate::book_map::{copy_all, forget_all};
 use crate::book_row::{ask_in, cleared_in, confirm_in, runs};
 use crate::bookings::Bookings;
 use crate::outcome::Outcome;
-use crate::page_map::put;
+use crate::page_map::{end_of, put};
 use indexmap::IndexMap;
 use shm_manager::{Book, Kind};
-use shm_place::{PAGES, PageId, SegId, SiteId};
+use shm_place::{PageId, SegId, SiteId};
 use std::alloc::{AllocError, Allocator, Global};
 use std::hash::{BuildHasherDefault, FoldHasher};
 
@@ -147,7 +147,8 @@ impl<A: Allocator + Copy> Books<A> {
         ensures books { (me : ℕ) → books_of me self.new ≡ of_segment id (model.untouched_book me) (books_of me self.old) }
         ensures booked { booked_of self.new ≡ without_segment id (booked_of self.old) }
     {
-        'pages: for index in 0..PAGES {
+        let end = end_of(&self.map, id);
+        'pages: for index in 0..end {
             self.remove(PageId { seg: id, index });
         }
     }

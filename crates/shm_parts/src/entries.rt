@@ -2,7 +2,7 @@
 ghost use Rattle.std.specs.Prelude.{◌≡◌, ℕ, ◌+◌, ◌<◌, ◌≤◌, ◌==◌, true, false, if◌then◌else◌, None, Some, option_copied, IfOk, IfErr, OnOk, OnErr};
 ghost use Rattle.shm_place.specs.declared.page.PageId.{PageId as Page};
 ghost use Rattle.indexmap.specs.IndexMap.{get as get_at, index_of_by, insert_entry, spare};
-ghost use Rattle.shm_place.specs.Limits.{page_bytes};
+ghost use Rattle.shm_place.specs.Limits.{page_bytes, pages};
 ghost use Rattle.shm_place.specs.Page.{same_page};
 ghost use Rattle.shm_model.specs.Access.{stored_entry};
 ghost use Rattle.shm_model.specs.Entry as model;
@@ -12,10 +12,11 @@ ghost use Rattle.shm_page.specs.Out.{out_of};
 
 use crate::change::Change;
 use crate::message::Note;
+use crate::page_map::end_of;
 use crate::slot::{forget_in, opened, store_in, turn_in};
 use indexmap::IndexMap;
 use shm_page::{Entry, Out};
-use shm_place::{PAGES, PageId, SegId, SiteId, Sites};
+use shm_place::{PageId, SegId, SiteId, Sites};
 use std::alloc::{AllocError, Allocator, Global};
 use std::hash::{BuildHasherDefault, FoldHasher};
 
@@ -137,10 +138,11 @@ impl<A: Allocator + Copy> Entries<A> {
 
     /// Drops what is stored of a segment's pages.
     pub fn remove_segment(&mut self, id: SegId)
-        ensures gone { (index : ℕ) → index < PAGES → stored_at self.new (record { seg = id; index = index }) ≡ None }
+        ensures gone { (index : ℕ) → index < pages → stored_at self.new (record { seg = id; index = index }) ≡ None }
         ensures others { (page : Page) → (id == page.seg) ≡ false → stored_at self.new page ≡ stored_at self.old page }
     {
-        for index in 0..PAGES {
+        let end = end_of(&self.map, id);
+        for index in 0..end {
             self.map.swap_remove(&PageId { seg: id, index });
         }
     }

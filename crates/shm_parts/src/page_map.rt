@@ -1,5 +1,5 @@
 //! Maps from pages, and maps of pages by places.
-ghost use Rattle.std.specs.Prelude.{◌≡◌, ◌<◌, ◌≤◌, ℕ, true, cond, None, Some, is_some, IfNone, IfSome, OnErr, OnOk};
+ghost use Rattle.std.specs.Prelude.{◌≡◌, ◌<◌, ◌≤◌, ◌==◌, ℕ, true, false, cond, None, Some, is_some, IfNone, IfSome, OnErr, OnOk};
 ghost use Rattle.std.specs.BTreeMap as tree;
 ghost use Rattle.std.specs.List.Sorted.{IsStrictlySortedBy};
 ghost use Rattle.std.specs.Map.{keys_of, lookup};
@@ -7,10 +7,10 @@ ghost use Rattle.std.specs.Ordering.{nat_cmp};
 ghost use Rattle.indexmap.specs.IndexMap.{spare};
 ghost use Rattle.shm_place.specs.declared.page.PageId.{PageId as Page};
 ghost use Rattle.shm_place.specs.Page.{same_page};
-ghost use Rattle.shm_parts.specs.Places.{is_behind, page_at};
+ghost use Rattle.shm_parts.specs.Places.{is_behind, is_past, page_at};
 
 use indexmap::IndexMap;
-use shm_place::PageId;
+use shm_place::{PAGES, PageId, SegId};
 use std::alloc::{AllocError, Allocator};
 use std::collections::BTreeMap;
 use std::hash::{BuildHasherDefault, FoldHasher};
@@ -26,6 +26,40 @@ pub(crate) fn put<V: Drop, A: Allocator + Copy>(
     ensures { (other : Page) → lookup (same_page other) map.new.entries ≡ cond (same_page page other) (Some value) (lookup (same_page other) map.old.entries) }
 {
     let _ = map.insert(page, value);
+}
+
+/// The index behind the last of the segment's pages that the map has, or 0; `PAGES` where the map is so large that a look at each of its
+/// pages is the longer way than one at each that the segment may have.
+pub(crate) fn end_of<V: Drop, A: Allocator>(
+    map: &IndexMap<PageId, V, BuildHasherDefault<FoldHasher>, A>,
+    id: SegId,
+) -> u32
+    ensures { (page : Page) → is_past id result page ≡ true → lookup (same_page page) map.now.entries ≡ None }
+{
+    let count = map.len();
+    if count >= PAGES as usize {
+        return PAGES;
+    }
+    let mut end = 0;
+    'places: for place in 0..count {
+        let Some((page, _)) = map.get_index(place) else {
+            return PAGES;
+        };
+        end = end_with(end, id, *page);
+    }
+    end
+}
+
+/// The end, moved behind this page if it is one of the segment's and past the end.
+fn end_with(end: u32, id: SegId, page: PageId) -> u32
+    ensures more { (other : Page) → is_past id end other ≡ false → is_past id result other ≡ false }
+    ensures page { is_past id result page ≡ false }
+{
+    if page.seg == id && end <= page.index && page.index < PAGES {
+        page.index + 1
+    } else {
+        end
+    }
 }
 
 /// Puts a page at a place.

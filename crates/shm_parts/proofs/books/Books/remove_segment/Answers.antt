@@ -1,13 +1,10 @@
-use Rattle.std.proofs.Common.{◌∙◌, ◌<◌}
+use Rattle.std.proofs.Common.{◌∙◌, arith}
 use Rattle.std.specs.Map.{lookup}
-use Rattle.shm_place.specs.declared.page.PageId.{PageId}
-use Rattle.shm_place.specs.Limits as limit
 use Rattle.shm_place.specs.Page.{same_page}
 use Rattle.shm_model.specs.Book as model
 use Rattle.shm_parts.specs.Books.{booked_of}
 use Rattle.shm_parts.proofs.BookedLemmas.{gone_end, kept-all, kept-more, kept-none}
 use Rattle.shm_parts.proofs.GoneLemmas.{gone_start, gone_step}
-use Rattle.shm_parts.proofs.ListLemmas.{all-values}
 use Rattle.shm_parts.proofs.books.Books.remove_segment.Goals as goal
 
 pub pages-init : goal.pages-init
@@ -24,10 +21,9 @@ pages-preserved g c =
 pub returns-clause-books : goal.returns-clause-books
 returns-clause-books g c = λ me.
     let old = c.args.self.now in
-    gone_end old.map.entries c.pages.self.map.entries old.bookings c.args.id c.pages.index (model.untouched_book me) c.pages-test.false old.booked c.pages.invariant.books
+    gone_end old.map.entries old.bookings c.args.id c.end_of-end.result c.pages.index (omega (arith, c.pages-test.false)) old.booked c.end_of-end.ensures c.pages.self.map.entries (model.untouched_book me) c.pages.invariant.books
 
 pub returns-clause-booked : goal.returns-clause-booked
 returns-clause-booked g c =
     let old = c.args.self.now in
-    c.pages.invariant.booked ∙ kept-all c.args.id c.pages.index (booked_of old) c.pages-test.false
-    (all-values (λ (p : PageId). p.index < limit.pages) old.bookings.pages.entries old.bookings.placed.within)
+    c.pages.invariant.booked ∙ kept-all old.map.entries old.bookings c.args.id c.end_of-end.result c.pages.index (omega (arith, c.pages-test.false)) old.booked c.end_of-end.ensures
