@@ -32,7 +32,7 @@ pub enum ReportFault {
     /// The system gave no thread.
     #[error("no thread")]
     NoThread,
-    /// The line's access was tried as often as it is, and its site still waits for the page.
+    /// The line's access was waited for to its last turn, and its site still waits for the page.
     #[error("line {0}: gave up")]
     GaveUp(u64),
     /// A site's clock has no further stamp.

@@ -1,4 +1,4 @@
-//! Loads and stores at one site, and how often an access is tried.
+//! Loads and stores at one site, and how long an access is waited for.
 ghost use Rattle.std.specs.Prelude.{◌≡◌, IfOk};
 ghost use Rattle.shm_model.specs.Message.{Load, Store};
 ghost use Rattle.shm_model.specs.Receipt.{access_of};
@@ -15,7 +15,7 @@ use std::alloc::{Allocator, Global};
 use std::sync::Wait;
 use std::thread;
 
-/// How often an access is tried.
+/// How many turns an access has.
 const TURNS: u32 = 1_000_000;
 
 /// After so many turns each site is told to send again what may be lost.
@@ -58,8 +58,9 @@ impl<'a, A: Allocator + Copy> Client<'a, A> {
         self.step(rt, Asked::Store { at, offset, byte })
     }
 
-    /// Loads until the site has the right to, or answers that the load is wrong. After every 64th turn all sites are told of a tick,
-    /// since a message may be lost. `GaveUp` comes after a million turns.
+    /// Loads until the site has the right to, or answers that the load is wrong. It asks again where the site has made a step since. After
+    /// every 64th turn each site that has nothing else to hear is told of a tick, since a message may be lost. `GaveUp` comes after a
+    /// million turns.
     pub fn load<R: Wait>(&self, rt: &R, at: u32, offset: u32) -> Result<Receipt, ClientFault>
         ensures tells { IfOk result (TellsOf self.now.site (Load at offset)) }
         ensures served { IfOk result IsServed }
@@ -86,20 +87,33 @@ impl<'a, A: Allocator + Copy> Client<'a, A> {
         ensures tells { IfOk result (TellsOf self.now.site (access_of asked)) }
         ensures served { IfOk result IsServed }
     {
+        let mut last = None;
         'turns: for turn in 1..=TURNS {
-            match self.step(rt, asked) {
-                Ok(receipt) if !waits(receipt.answer()) => return Ok(receipt),
-                Ok(_) => self.pause(rt, turn),
-                Err(fault) => return Err(fault),
+            if self.has_news(rt, last) {
+                let receipt = self.step(rt, asked)?;
+                if !waits(receipt.answer()) {
+                    return Ok(receipt);
+                }
+                last = Some(receipt.index());
             }
+            self.pause(rt, turn);
         }
         Err(ClientFault::GaveUp)
+    }
+
+    /// Whether the site has made a step behind this one, or none is given: else it would only answer as it did.
+    fn has_news<R: Wait>(&self, rt: &R, last: Option<usize>) -> bool {
+        let Some(last) = last else {
+            return true;
+        };
+        let held = self.post.site.lock(rt);
+        held.log().len().saturating_sub(1) > last
     }
 
     /// Lets other threads run. A tick that was refused is passed over: there will be more.
     fn pause<R: Wait>(&self, rt: &R, turn: u32) {
         if turn % TURNS_OF_A_TICK == 0 {
-            let _ = self.shared.tick_all(rt);
+            self.shared.tick_idle(rt);
         }
         thread::yield_now();
     }

@@ -5,7 +5,7 @@ use shm_model::refusal::{self, Numbered};
 pub enum ClientFault {
     /// Memory was refused.
     OutOfMemory,
-    /// The access was tried as often as it is, and the site still waits for the page.
+    /// All turns have gone by, and the site still waits for the page.
     GaveUp,
     /// The site's clock has no further stamp.
     ClockEnd,

@@ -57,4 +57,14 @@ impl<A: Allocator + Copy> Shared<A> {
         }
         if refused { Err(AllocError) } else { Ok(()) }
     }
+
+    /// Puts a tick into the channel of each site that has nothing else to hear: what a site has still to hear may be what one waits
+    /// for, and ticks upon ticks would only have it sent again. A tick that finds no memory is passed over.
+    pub(crate) fn tick_idle<R: Wait>(&self, rt: &R) {
+        'sites: for post in &self.posts {
+            if post.mail.is_empty() {
+                let _ = post.mail.send(rt, Mail::Tick);
+            }
+        }
+    }
 }

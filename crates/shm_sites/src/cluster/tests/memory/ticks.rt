@@ -1,7 +1,9 @@
-//! Ticks for which a channel has no memory.
+//! Ticks for which a channel has no memory, and those of a client that waits.
 use super::{HEAP, Still, filled_but, opened_in};
+use crate::ClientFault;
 use crate::cluster::mail::Mail;
 use linked_list_allocator::LocalHeap;
+use shm_place::SiteId;
 use std::alloc::{AllocError, Global};
 use std::sync::Wait;
 use std::test::Fail;
@@ -74,4 +76,32 @@ fn ticks(still: &Still<'_>) -> Ticks {
         *ticks = desk.mail.len();
     }
     ticks
+}
+
+/// An offset in page 1, which site 1 manages.
+const THERE: u32 = 4096;
+
+/// Nobody hears what is sent. A client that waits until it gives up has made one step, and each channel has one message: site 1's the Ask,
+/// the others' a tick.
+#[test]
+fn one_who_waits_fills_neither_log_nor_channels(rt: HostRuntime) -> Result<(), Fail> {
+    let heap = LocalHeap::new(rt.alloc(), HEAP)?;
+    let still = opened_in(&heap, 3)?;
+    let waited = waited(&rt, &still);
+    drop(still);
+    let (fault, steps, ticks) = waited?;
+    assert_eq!(rt; fault, Some(ClientFault::GaveUp));
+    assert_eq!(rt; steps, 1);
+    assert_eq!(rt; ticks, [1, 1, 1]);
+    Ok(())
+}
+
+/// What a load of page 1 at site 0 fails with, how many steps site 0 has made then, and how many messages each channel has.
+fn waited<R: Wait>(rt: &R, still: &Still<'_>) -> Result<(Option<ClientFault>, usize, Ticks), Fail> {
+    let Ok(client) = still.cluster.client(SiteId(0)) else {
+        return Err(Fail::new("no site 0"));
+    };
+    let fault = client.load(rt, 0, THERE).err();
+    let held = client.post.site.lock(rt);
+    Ok((fault, held.log().len(), ticks(still)))
 }
