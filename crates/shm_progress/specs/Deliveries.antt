@@ -1,6 +1,6 @@
 -- Deliveries end, in whatever order. An envelope that is handed over causes few others, and so do those; only a transaction that starts
 -- causes more, and it serves a request that was not served before. So a number falls with each delivery, and it bounds how many there can
--- be: that a loop ends where a number falls is from Floyd 1967, "Assigning meanings to programs". The numbers are the profile's own.
+-- be: that a loop ends where a number falls is from Floyd 1967, "Assigning meanings to programs". The numbers are this repository's own.
 use Rattle.std.specs.Prelude.{◌≡◌, ℕ, ◌+◌, ◌*◌, Bool, false, List, [], ◌∷◌, ◌++◌, map, Option, Some, None, ◌&&◌, not, nat_lt, if◌then◌else◌, is_some, IsTrue, slice_get, sum_by, count_by}
 use Rattle.shm_place.specs.declared.page.PageId.{PageId}
 use Rattle.shm_model.specs.declared.event.Event.{Event}

@@ -1,4 +1,4 @@
--- What is on its way while nothing is lost: the profile's own.
+-- What is on its way while nothing is lost: this repository's own.
 use Rattle.std.specs.Prelude.{◌≡◌, ℕ, Bool, true, false, List, [], ◌∷◌, ◌++◌, Some}
 use Rattle.shm_model.specs.declared.event.Event.{Event}
 use Rattle.shm_model.specs.declared.event.Event.TheVariants.{Lose, Tick}

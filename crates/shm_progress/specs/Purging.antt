@@ -1,4 +1,4 @@
--- What was destroyed is purged: the profile's own.
+-- What was destroyed is purged: this repository's own.
 use Rattle.std.specs.Prelude.{◌≡◌, ℕ, true, ◌⊎◌, Some, slice_get}
 use Rattle.shm_model.specs.Message.{Envelope, Purged}
 use Rattle.shm_model.specs.SegmentCalls.{purge_envelope}

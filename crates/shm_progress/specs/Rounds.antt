@@ -1,4 +1,4 @@
--- Rounds: every site ticks, and what is on its way is handed over until nothing is. The profile's own.
+-- Rounds: every site ticks, and what is on its way is handed over until nothing is. This repository's own.
 use Rattle.std.specs.Prelude.{◌≡◌, ℕ, ◌<◌, ◌⊎◌, Bool, true, false, List, [], ◌∷◌, ◌++◌, Some, None, Contains, slice_get}
 use Rattle.shm_place.specs.declared.page.PageId.{PageId}
 use Rattle.shm_model.specs.declared.event.Event.{Event}

@@ -1,4 +1,4 @@
--- Schedules: events with what a network and restarts do to them, and then two rounds. The profile's own.
+-- Schedules: events with what a network and restarts do to them, and then two rounds. This repository's own.
 use Rattle.std.specs.Prelude.{◌≡◌, ℕ, Bool, true, false, ◌&&◌, ◌||◌, not, ◌==◌, List, ◌++◌, is_some, length, count_by, sum_by}
 use Rattle.std.specs.List.{list_all, list_any, range_with_len}
 use Rattle.shm_model.specs.declared.event.Event.{Event}

@@ -1,4 +1,4 @@
--- What was begun is served: the profile's own.
+-- What was begun is served: this repository's own.
 use Rattle.std.specs.Prelude.{◌≡◌, ℕ, ◌⊎◌, Some, slice_get}
 use Rattle.shm_model.specs.declared.call.Reply.{Reply}
 use Rattle.shm_model.specs.Calls.{Outstanding, op_home}

@@ -54,9 +54,9 @@ pub fn faults_are_served()
         → FaultsServed o earlier (first ++ second) }
 {}
 
-/// Nothing stops a site for good: whatever all sites did, and whatever was lost, from each world there are further events, ticks and
-/// deliveries alone, after which no request is pending; and each that was pending gained its right in them, or its site has purged the
-/// segment. No more envelopes are sent than a world counts.
+/// Nothing stops a site for good: whatever all sites did, and whatever was lost, from each world there are further events, with no loss,
+/// restart, load or store among them, after which no request is pending; and each that was pending gained its right in them, or its site
+/// has purged the segment. No more envelopes are sent than a world counts.
 pub fn nothing_stops_a_site_for_good()
     ensures { (o : Opening) (events : List Event) → IsOpening o → ServedLater o events }
 {}

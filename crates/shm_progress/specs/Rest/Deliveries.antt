@@ -1,4 +1,4 @@
--- What is handed over, the oldest first: the profile's own.
+-- What is handed over, the oldest first: this repository's own.
 use Rattle.std.specs.Prelude.{◌≡◌, ℕ, ◌<◌, ◌≤◌, IsTrue, List, [], ◌∷◌, None, is_some, length, map}
 use Rattle.shm_model.specs.declared.event.Event.TheVariants.{Deliver}
 use Rattle.shm_model.specs.World as model

@@ -1,4 +1,4 @@
--- A round that is made: the profile's own.
+-- A round that is made: this repository's own.
 use Rattle.std.specs.Prelude.{◌≡◌, ℕ, ◌<◌, ◌⊎◌, false, List, ◌++◌, map}
 use Rattle.std.specs.List.{range_with_len}
 use Rattle.shm_model.specs.declared.event.Event.{Event}
