@@ -1,4 +1,4 @@
-# Everything here needs the command `rt` of the Rattle toolchain, and nothing else but `machines`, `crashes` and `clients`, which need Python.
+# Everything here needs the command `rt` of the Rattle toolchain, and nothing else but `machines`, `crashes` and `clients`, which need Python, and the first and the last a C compiler.
 
 PROGRAM := crates/shmdbg
 
@@ -65,7 +65,7 @@ clients:
 refused:
 	@refused/try
 
-# The gate: tries the programs that must not compile, proves every crate from nothing, and runs every test, every program and every edit
+# The gate: tries the programs that must not compile, proves every crate (from nothing where this machine hasn't proved it before), and runs every test, every program and every edit
 # that must fail.
 test: refused
 	rt ci 2>&1
