@@ -1,4 +1,5 @@
-# Everything here needs the command `rt` of the Rattle toolchain, and nothing else but `machines`, `crashes` and `clients`, which need Python, and the first and the last a C compiler.
+# Everything here needs the command `rt` of the Rattle toolchain, and nothing else but `machines`, `crashes` and `clients`, which need Python;
+# the first and the last need a C compiler too, and the first mosquitto.
 
 PROGRAM := crates/shmdbg
 
