@@ -1,15 +1,11 @@
 -- Which calls on a table destroy the segment that they name.
-use Rattle.std.proofs.Common.{◌≡◌, ◌∙◌, sym, ℕ, ◌+◌, ◌<◌, Bool, true, false, not, ◌&&◌, ◌==◌, if◌then◌else◌, List, [], ◌∷◌, Option, Some, None, IfSome, IfNone, ap, refl, arith, ⊎_elim}
-use Rattle.std.proofs.lemmas.Bool.{cases_Bool, cases_eq, eq-eqb, ne_eqb, lt-ltb, false≢true}
+use Rattle.std.proofs.Common.{◌≡◌, ◌∙◌, sym, ℕ, ◌+◌, Bool, true, false, not, ◌&&◌, ◌==◌, if◌then◌else◌, List, [], ◌∷◌, Option, Some, None, ap, refl, arith, ⊎_elim}
+use Rattle.std.proofs.lemmas.Bool.{cases_Bool, cases_eq, eq-eqb, ne_eqb}
 use Rattle.std.proofs.lemmas.Option.{same_Some, none-some}
 use Rattle.shm_model.specs.Basics.{greatest}
 use Rattle.shm_model.specs.Permission.{Segment, destroyed, may_attach, is_owner}
 use Rattle.shm_model.specs.Kernel.{Called, with_id, replaced, is_destroyed, destroyed_in, on_live, attach, set}
 use Rattle.shm_model.specs.declared.call.Cred.{Cred}
-use Rattle.shm_model.specs.declared.call.Errno.TheVariants.{Eidrm}
-use Rattle.shm_model.specs.declared.call.Reply.{Reply}
-use Rattle.shm_model.specs.declared.call.Reply.TheVariants.{Ok as OkReply, Refused}
-use Rattle.shm_keys.specs.Purge.{missing_after}
 use Rattle.shm_keys.proofs.Segments.{with_id_replaced}
 
 both_no : (id : ℕ) (b : Bool) → ◌≡◌ {A = Option ℕ} (if b && not b then Some id else None) None
@@ -67,31 +63,3 @@ set_keeps cred id uid gid mode s g found alive =
     (λ (owner : not (is_owner cred g) ≡ false).
     rw owner (replaced_alive id s g (record g { uid = uid; gid = gid; mode = mode }) found (found_id id s g found) alive))
     (cases_Bool (not (is_owner cred g)))
-
-abbrev is_done : Reply → Bool
-is_done OkReply = true
-is_done _ = false
-
--- a call that was done found its segment alive
-pub done_alive : (id : ℕ) (s after : List Segment) (f : Segment → Called) (o : Option Segment) → on_live o f s ≡ record { reply = OkReply; segments = after } → is_destroyed o ≡ false
-done_alive id s after f None e = refl
-done_alive id s after f (Some g) e =
-    ⊎_elim (λ (gone : destroyed g ≡ true).
-    let refused : ◌≡◌ {A = Called} (record { reply = Refused Eidrm; segments = s }) (record { reply = OkReply; segments = after }) = rw gone at e in
-    absurd (false≢true (ap (λ (c : Called). is_done c.reply) refused)))
-    (λ (alive : destroyed g ≡ false). alive)
-    (cases_Bool (destroyed g))
-
--- what a done call destroyed is what the sites have yet to purge
-pub ended : (id sites : ℕ) (s after : List Segment) (gone : Option ℕ) (missing later : ℕ → ℕ → Bool) → is_destroyed (with_id id s) ≡ false
-    → IfSome gone (λ other. (other ≡ id) × (is_destroyed (with_id id after) ≡ true)) → IfNone gone ((site : ℕ) → later id site ≡ false)
-    → ((other site : ℕ) → later other site ≡ missing_after (destroyed_in (Some id) s after) sites missing other site) → 0 < sites
-    → destroyed_in (Some id) s after ≡ gone
-ended id sites s after (Some other) missing later alive went stays moves some =
-    rw (went.1, alive) (ap Some (sym went.0))
-ended id sites s after None missing later alive went stays moves some =
-    ⊎_elim (λ (dead : is_destroyed (with_id id after) ≡ true).
-    let all : missing_after (destroyed_in (Some id) s after) sites missing id 0 ≡ true = rw (dead, alive, eq-eqb id id refl) (lt-ltb 0 sites some) in
-    absurd (false≢true (sym (stays 0) ∙ moves id 0 ∙ all)))
-    (λ (lives : is_destroyed (with_id id after) ≡ false). rw lives refl)
-    (cases_Bool (is_destroyed (with_id id after)))

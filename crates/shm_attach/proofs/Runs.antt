@@ -1,5 +1,5 @@
 -- One call on a table, and the step of the site that serves it.
-use Rattle.std.proofs.Common.{◌≡◌, ◌∙◌, sym, ℕ, ◌<◌, Bool, true, false, cond, ◌==◌, List, Option, Some, None, IfSome, IfNone, ap, refl, arith}
+use Rattle.std.proofs.Common.{◌≡◌, ◌∙◌, sym, ℕ, Bool, true, false, cond, ◌==◌, List, Option, Some, None, IfSome, ap, refl}
 use Rattle.std.proofs.Math.Path.{fun_ext}
 use Rattle.shm_place.specs.Home.{home_of_id}
 use Rattle.shm_model.specs.declared.answer.Answer.TheVariants.{Took}
@@ -11,7 +11,7 @@ use Rattle.shm_model.specs.declared.call.Reply.TheVariants.{Ok as OkReply}
 use Rattle.shm_model.specs.declared.mode.Mode.{Mode}
 use Rattle.shm_model.specs.Basics.{at}
 use Rattle.shm_model.specs.Calls.{Kept, Freshness, Fresh, freshness, op_home}
-use Rattle.shm_model.specs.Kernel.{Called, attach, call, destroyed_by, destroyed_in, is_destroyed, named_by, set, with_id}
+use Rattle.shm_model.specs.Kernel.{Called, attach, call, destroyed_by, destroyed_in, named_by, set, with_id}
 use Rattle.shm_model.specs.Permission.{Segment}
 use Rattle.shm_model.specs.Site.{Step, Site}
 use Rattle.shm_model.specs.SegmentCalls.{executed, on_call, on_call_as, with_missing}
@@ -20,7 +20,7 @@ use Rattle.shm_keys.specs.Purge.{missing_after}
 use Rattle.shm_keys.specs.Table.{Table, missing_of}
 use Rattle.shm_attach.specs.Home.{Home, IsRun, kept_of, kept_reply, sent_for, with_home}
 use Rattle.shm_attach.specs.declared.done.Done.{Done}
-use Rattle.shm_attach.proofs.Destroyed.{attach_keeps, ended, on_live_keeps, set_keeps}
+use Rattle.shm_attach.proofs.Destroyed.{attach_keeps, on_live_keeps, set_keeps}
 
 -- what a call names is where the call goes
 pub named_home : (sites from home : ℕ) (op : Op) → op_home sites from op ≡ home → IfSome (named_by op) (λ id. home_of_id sites id ≡ home)
@@ -54,26 +54,17 @@ set_run cred id uid gid mode before after reply called rest =
     told_run (Set cred id uid gid mode) before after reply called (ap (λ (t : List Segment). destroyed_in (Some id) s t) later ∙ on_live_keeps id s (λ g. set cred id uid gid mode g s) (with_id id s) refl (λ g found alive. set_keeps cred id uid gid mode s g found alive)) rest
 
 -- a call that was done, and may have destroyed the segment
-pub done_run : (op : Op) (id : ℕ) (before after : Table) (done : Done) → named_by op ≡ Some id → is_destroyed (with_id id before.segments) ≡ false
-    → call before.sites before.home op before.segments ≡ record { reply = OkReply; segments = after.segments } → done.reply ≡ OkReply
-    → IfSome done.destroyed (λ other. (other ≡ id) × (is_destroyed (with_id id after.segments) ≡ true)) → IfNone done.destroyed ((site : ℕ) → missing_of after id site ≡ false)
+pub done_run : (op : Op) (before after : Table) (ended : Option ℕ)
+    → call before.sites before.home op before.segments ≡ record { reply = OkReply; segments = after.segments } → destroyed_by op before.segments after.segments ≡ ended
     → ((other site : ℕ) → missing_of after other site ≡ missing_after (destroyed_by op before.segments after.segments) before.sites (missing_of before) other site)
-    → after ≡ record before { segments = after.segments; missing = after.missing } → 0 < after.sites → IsRun op before after done
-done_run op id before after done named alive called reply gone stays moves rest some =
-    let s = before.segments in
-    let t = after.segments in
-    let same_sites : after.sites ≡ before.sites = ap (λ (b : Table). b.sites) rest in
-    let by_id : destroyed_by op s t ≡ destroyed_in (Some id) s t = ap (λ (o : Option ℕ). destroyed_in o s t) named in
-    let some_sites : 0 < before.sites = omega (arith, some, same_sites) in
-    let destroyed_is : destroyed_by op s t ≡ done.destroyed =
-    by_id ∙ ended id before.sites s t done.destroyed (missing_of before) (missing_of after) alive gone stays (λ other site. moves other site ∙ ap (λ (d : Option ℕ). missing_after d before.sites (missing_of before) other site) by_id) some_sites in
-    record {
-      called = called ∙ ap (λ (r : Reply). record { reply = r; segments = t }) (sym reply);
-      destroyed = destroyed_is;
-      missing = λ other site. moves other site ∙ ap (λ (d : Option ℕ). missing_after d before.sites (missing_of before) other site) destroyed_is;
-      home = ap (λ (b : Table). b.home) rest;
-      sites = same_sites;
-    }
+    → after ≡ record before { segments = after.segments; missing = after.missing } → IsRun op before after (record { reply = OkReply; destroyed = ended })
+done_run op before after ended called destroyed moves rest = record {
+  called = called;
+  destroyed = destroyed;
+  missing = λ other site. moves other site ∙ ap (λ (d : Option ℕ). missing_after d before.sites (missing_of before) other site) destroyed;
+  home = ap (λ (b : Table). b.home) rest;
+  sites = ap (λ (b : Table). b.sites) rest;
+}
 
 through : (b : Bool) (x y : Option (ℕ × Reply)) → kept_reply (cond b x y) ≡ cond b (kept_reply x) (kept_reply y)
 through true x y = refl

@@ -4,11 +4,12 @@ use Rattle.shm_model.specs.declared.answer.Answer.{Answer}
 use Rattle.shm_model.specs.declared.answer.Answer.TheVariants.{Took, Dropped}
 use Rattle.shm_model.specs.declared.call.Op.{Op}
 use Rattle.shm_model.specs.declared.call.Reply.{Reply}
+use Rattle.shm_model.specs.declared.call.Reply.TheVariants.{Id}
 use Rattle.shm_model.specs.Calls.{Kept, Freshness, Fresh, Again, Old}
-use Rattle.shm_model.specs.Kernel.{call, destroyed_by}
+use Rattle.shm_model.specs.Kernel.{call, destroyed_by, next_id}
 use Rattle.shm_model.specs.Message.{Envelope}
 use Rattle.shm_model.specs.Site.{Site}
-use Rattle.shm_model.specs.SegmentCalls.{purges, reply_envelope}
+use Rattle.shm_model.specs.SegmentCalls.{on_call, purges, reply_envelope}
 use Rattle.shm_number.specs.Kept.{kept_at}
 use Rattle.shm_keys.specs.Table.{Table, missing_of}
 use Rattle.shm_keys.specs.Purge.{missing_after}
@@ -52,3 +53,13 @@ pub record IsRun (op : Op) (before after : Table) (done : Done) : Type 0 where
   pub missing : (id site : ℕ) → missing_of after id site ≡ missing_after done.destroyed before.sites (missing_of before) id site
   pub home : after.home ≡ before.home
   pub sites : after.sites ≡ before.sites
+
+-- the call would be answered by the identifier of a new segment
+abbrev pub MakesSegment : Op → Table → Type 0
+MakesSegment op table = (call table.sites table.home op table.segments).reply ≡ Id (next_id table.sites table.home table.segments)
+
+-- the home served the call, and the site that it belongs to made the step
+abbrev pub Serves : ℕ → ℕ → Op → Home → Home → Option Done → Type 0
+Serves from number op before after done =
+    (site : Site) → on_call before.table.sites before.table.home from number op (with_home before site)
+    ≡ record { site = with_home after site; answer = answered done; sent = sent_for before.table.sites before.table.home from number done }

@@ -100,14 +100,14 @@ impl Attachments {
         Some(attachment.id)
     }
 
-    /// Takes the attachment away; its segment is the answer. None: nothing was attached there, and nothing changes.
-    pub fn take(&mut self, number: u32) -> Option<SegId>
-        ensures segment { result ≡ segment_of (attachments_of self.old number) }
-        ensures after { attachments_of self.new ≡ at (attachments_of self.old) number None }
+    /// Removes what is attached at the number, if anything.
+    pub fn remove(&mut self, number: u32)
+        ensures { attachments_of self.new ≡ at (attachments_of self.old) number None }
     {
-        let attachment = self.at(number)?;
-        self.slots[number as usize] = None;
-        Some(attachment.id)
+        let index = number as usize;
+        if index < self.slots.len() {
+            self.slots[index] = None;
+        }
     }
 
     /// Whether some attachment names the segment.

@@ -1,10 +1,9 @@
-ghost use Rattle.std.specs.Prelude.{◌≡◌, None, ℕ};
+ghost use Rattle.std.specs.Prelude.{◌≡◌, None, Some};
 ghost use Rattle.shm_model.specs.Calls.{fits, is_size};
 ghost use Rattle.shm_model.specs.Site.{Site};
 ghost use Rattle.shm_model.specs.SegmentCalls.{on_reply_to};
-ghost use Rattle.shm_attach.specs.CallBook.{answer_of, begin_call, begun_as, begun_with, counted, ended_by, ended_with, next_number, number_after, outstanding_of, with_calls};
+ghost use Rattle.shm_attach.specs.CallBook.{answered_by, begun_as, counted, number_after, outstanding_of};
 
-use crate::fault::BeginFault;
 use shm_model::{Op, Reply};
 use shm_place::MAX_SEGMENT_BYTES;
 use std::marker::Model;
@@ -29,51 +28,36 @@ impl CallBook {
     pub fn new() -> CallBook
         ensures { result ≡ record { begun = 0; outstanding = None } }
     {
-        CallBook::after(0)
-    }
-
-    /// The book after so many calls, which have all ended.
-    pub fn after(begun: u64) -> CallBook
-        ensures { result ≡ record { begun = begun; outstanding = None } }
-    {
         CallBook {
-            begun,
+            begun: 0,
             outstanding: None,
         }
     }
 
-    /// Notes a call as outstanding, under the next number.
-    pub fn begin(&mut self, op: Op) -> Result<u64, BeginFault>
-        ensures number { result ≡ next_number self.old }
-        ensures book { self.new ≡ begun_with result op self.old }
-        ensures answer { (sites me : ℕ) → (site : Site) → (begin_call sites me op (with_calls self.old site)).answer ≡ answer_of result }
-        ensures site { (sites me : ℕ) → (site : Site) → (begin_call sites me op (with_calls self.old site)).site ≡ with_calls self.new site }
-    {
-        if self.outstanding.is_some() {
-            return Err(BeginFault::Busy);
-        }
-        self.begin_next(op).ok_or(BeginFault::UsedUp)
-    }
-
-    /// The same where no call is outstanding. None: the greatest number was given, and nothing changes.
-    pub fn begin_next(&mut self, op: Op) -> Option<u64>
-        requires { self.old.outstanding ≡ None }
-        ensures number { result ≡ number_after self.old.begun }
-        ensures book { self.new ≡ begun_as result op self.old }
+    /// The number that the next call gets. None: the greatest number was given.
+    pub fn next_number(&self) -> Option<u64>
+        ensures { result ≡ number_after self.now.begun }
     {
         if self.begun == u64::MAX {
             return None;
         }
-        self.begun += 1;
-        self.outstanding = Some((self.begun, op));
-        Some(self.begun)
+        Some(self.begun + 1)
     }
 
-    /// The call that this reply ends. None: it ends no call, and changes nothing.
-    pub fn reply(&mut self, number: u64, reply: &Reply) -> Option<Op>
-        ensures call { result ≡ ended_by number reply.now self.old.outstanding }
-        ensures book { self.new ≡ ended_with result self.old }
-        ensures step { (site : Site) → on_reply_to self.old.outstanding number reply.now site ≡ counted result number reply.now site }
+    /// Notes a call as outstanding, under the next number.
+    pub fn begin(&mut self, number: u64, op: Op)
+        requires idle { self.old.outstanding ≡ None }
+        requires next { number_after self.old.begun ≡ Some number }
+        ensures { self.new ≡ begun_as number op }
+    {
+        self.begun = number;
+        self.outstanding = Some((number, op));
+    }
+
+    /// The call that this reply counts for: that of its number, where the reply has its form.
+    pub fn answered_by(&self, number: u64, reply: &Reply) -> Option<Op>
+        ensures call { result ≡ answered_by number reply.now self.now.outstanding }
+        ensures step { (site : Site) → on_reply_to self.now.outstanding number reply.now site ≡ counted result number reply.now site }
     {
         let Some((outstanding, op)) = self.outstanding else {
             return None;
@@ -84,8 +68,14 @@ impl CallBook {
         if !fits(&op, reply) {
             return None;
         }
-        self.outstanding = None;
         Some(op)
+    }
+
+    /// The call has ended: no reply is waited for any longer.
+    pub fn end(&mut self)
+        ensures { self.new ≡ record self.old { outstanding = None } }
+    {
+        self.outstanding = None;
     }
 
     /// The call whose reply is waited for, and its number.
@@ -93,13 +83,6 @@ impl CallBook {
         ensures { outstanding_of result ≡ self.now.outstanding }
     {
         self.outstanding
-    }
-
-    /// How many calls have begun.
-    pub fn calls(&self) -> u64
-        ensures { result ≡ self.now.begun }
-    {
-        self.begun
     }
 
     /// The same calls.

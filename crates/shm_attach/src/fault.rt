@@ -1,27 +1,6 @@
-ghost use Rattle.shm_attach.specs.CallBook.{fault_number};
 ghost use Rattle.shm_attach.specs.Right.{denied_number};
 
 use shm_model::refusal::{self, Numbered};
-
-/// Why a segment call didn't begin.
-#[derive(Clone, Copy, Debug, PartialEq, Eq)]
-pub enum BeginFault {
-    /// A call is outstanding; a site has one at a time.
-    Busy,
-    /// The greatest call number was given.
-    UsedUp,
-}
-
-impl Numbered for BeginFault {
-    ghost number_of = { fault_number };
-
-    fn number(&self) -> u8 {
-        match self {
-            BeginFault::Busy => refusal::BUSY,
-            BeginFault::UsedUp => refusal::NUMBERS_USED_UP,
-        }
-    }
-}
 
 /// Why a load or store goes nowhere.
 #[derive(Clone, Copy, Debug, PartialEq, Eq)]

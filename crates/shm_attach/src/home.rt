@@ -1,9 +1,5 @@
 ghost use Rattle.std.specs.Prelude.{◌≡◌, ℕ, ◌<◌, ◌≤◌, ◌==◌, ◌&&◌, not, true, false, IfOk, IfSome, IsSomeAnd, OnErr};
 ghost use Rattle.shm_model.specs.Calls.{Fresh, freshness, op_home};
-ghost use Rattle.shm_model.specs.Kernel.{call, next_id};
-ghost use Rattle.shm_model.specs.declared.call.Reply.TheVariants.{Id};
-ghost use Rattle.shm_model.specs.Site.{Site};
-ghost use Rattle.shm_model.specs.SegmentCalls.{on_call};
 
 use crate::done::Done;
 use crate::recall::{Recall, recall_of};
@@ -34,7 +30,7 @@ impl<A: Allocator + Copy> Home<A> {
     ghost use Rattle.shm_keys.specs.Purge.{is_above};
     ghost use Rattle.shm_place.specs.SiteSet.{has, has_none};
     ghost use Rattle.shm_keys.specs.Table.{IsNumbered, is_purged_from, missing_of};
-    ghost use Rattle.shm_attach.specs.Home.{answered, kept_of, sent_for, with_home};
+    ghost use Rattle.shm_attach.specs.Home.{MakesSegment, Serves, kept_of};
 
     /// The home that keeps this table, before any call came.
     pub fn new(table: SegTable<A>) -> Home<A>
@@ -58,12 +54,12 @@ impl<A: Allocator + Copy> Home<A> {
     pub fn serve(&mut self, from: SiteId, number: u64, op: Op) -> Result<Option<Done>, AllocError>
         requires site { from < 16 }
         requires home { op_home self.old.table.sites from op ≡ self.old.table.home }
-        ensures step { IfOk result (λ done. (site : Site) → on_call self.old.table.sites self.old.table.home from number op (with_home self.old site) ≡ record { site = with_home self.new site; answer = answered done; sent = sent_for self.old.table.sites self.old.table.home from number done }) }
+        ensures step { IfOk result (λ done. Serves from number op self.old self.new done) }
         ensures home { self.new.table.home ≡ self.old.table.home }
         ensures sites { self.new.table.sites ≡ self.old.table.sites }
         ensures refused { OnErr result (self.new ≡ self.old) }
         ensures fresh { OnErr result (Fresh ≡ freshness (kept_of self.old.kept from) number) }
-        ensures memory { OnErr result ((call self.old.table.sites self.old.table.home op self.old.table.segments).reply ≡ Id (next_id self.old.table.sites self.old.table.home self.old.table.segments)) }
+        ensures memory { OnErr result (MakesSegment op self.old.table) }
     {
         match recall_of(&self.kept, from, number) {
             Recall::Old => Ok(None),
@@ -79,11 +75,11 @@ impl<A: Allocator + Copy> Home<A> {
         requires site { from < 16 }
         requires home { op_home self.old.table.sites from op ≡ self.old.table.home }
         requires fresh { Fresh ≡ freshness (kept_of self.old.kept from) number }
-        ensures step { IfOk result (λ done. (site : Site) → on_call self.old.table.sites self.old.table.home from number op (with_home self.old site) ≡ record { site = with_home self.new site; answer = answered done; sent = sent_for self.old.table.sites self.old.table.home from number done }) }
+        ensures step { IfOk result (λ done. Serves from number op self.old self.new done) }
         ensures home { self.new.table.home ≡ self.old.table.home }
         ensures sites { self.new.table.sites ≡ self.old.table.sites }
         ensures refused { OnErr result (self.new ≡ self.old) }
-        ensures memory { OnErr result ((call self.old.table.sites self.old.table.home op self.old.table.segments).reply ≡ Id (next_id self.old.table.sites self.old.table.home self.old.table.segments)) }
+        ensures memory { OnErr result (MakesSegment op self.old.table) }
     {
         match execute(&mut self.table, op) {
             Err(error) => Err(error),

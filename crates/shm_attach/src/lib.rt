@@ -15,6 +15,6 @@ pub use access::right;
 pub use attachments::{Attachments, MAX_ATTACHMENTS};
 pub use call_book::CallBook;
 pub use done::Done;
-pub use fault::{BeginFault, Denied};
+pub use fault::Denied;
 pub use home::Home;
 pub use shm_model::{Attached, Op, Reply};

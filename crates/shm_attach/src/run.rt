@@ -1,11 +1,9 @@
 //! One call on a home's table, with what it destroys.
-ghost use Rattle.std.specs.Prelude.{◌≡◌, ℕ, ◌<◌, IfOk, IfSome, IfNone, OnErr, false, true};
-ghost use Rattle.shm_model.specs.Kernel.{call, named_by, next_id};
+ghost use Rattle.std.specs.Prelude.{◌≡◌, IfOk, IfSome, OnErr};
+ghost use Rattle.shm_model.specs.Kernel.{named_by};
 ghost use Rattle.shm_model.specs.declared.call.Op.TheVariants.{Get as GetOp, Attach as AttachOp, Detach as DetachOp, Remove as RemoveOp, Set as SetOp, Stat as StatOp};
-ghost use Rattle.shm_model.specs.declared.call.Reply.TheVariants.{Id, Ok as OkReply};
 ghost use Rattle.shm_place.specs.Home.{home_of_id};
-ghost use Rattle.shm_keys.specs.Table.{is_purged_from, missing_of};
-ghost use Rattle.shm_attach.specs.Home.{IsRun};
+ghost use Rattle.shm_attach.specs.Home.{IsRun, MakesSegment};
 
 use crate::done::Done;
 use shm_keys::{GetFault, SegTable};
@@ -21,7 +19,7 @@ pub(crate) fn execute<A: Allocator + Copy>(
     requires { IfSome (named_by op) (λ id. home_of_id table.old.sites id ≡ table.old.home) }
     ensures run { IfOk result (λ done. IsRun op table.old table.new done) }
     ensures refused { OnErr result (table.new ≡ table.old) }
-    ensures memory { OnErr result ((call table.old.sites table.old.home op table.old.segments).reply ≡ Id (next_id table.old.sites table.old.home table.old.segments)) }
+    ensures memory { OnErr result (MakesSegment op table.old) }
 {
     match op {
         Op::Get {
@@ -55,7 +53,7 @@ fn get<A: Allocator + Copy>(
 ) -> Result<Done, AllocError>
     ensures run { IfOk result (λ done. IsRun (GetOp cred key size mode flags) table.old table.new done) }
     ensures refused { OnErr result (table.new ≡ table.old) }
-    ensures memory { OnErr result ((call table.old.sites table.old.home (GetOp cred key size mode flags) table.old.segments).reply ≡ Id (next_id table.old.sites table.old.home table.old.segments)) }
+    ensures memory { OnErr result (MakesSegment (GetOp cred key size mode flags) table.old) }
 {
     match table.get(cred, key, size, mode, flags) {
         Ok(id) => Ok(reply_alone(Reply::Id(id))),
@@ -79,7 +77,10 @@ fn detach<A: Allocator + Copy>(table: &mut SegTable<A>, id: SegId) -> Done
     ensures { IsRun (DetachOp id) table.old table.new result }
 {
     match table.detach(id) {
-        Ok(()) => done(table, id),
+        Ok(destroyed) => Done {
+            reply: Reply::Ok,
+            destroyed,
+        },
         Err(errno) => reply_alone(Reply::Refused(errno)),
     }
 }
@@ -89,7 +90,10 @@ fn remove<A: Allocator + Copy>(table: &mut SegTable<A>, cred: Cred, id: SegId) -
     ensures { IsRun (RemoveOp cred id) table.old table.new result }
 {
     match table.remove(cred, id) {
-        Ok(()) => done(table, id),
+        Ok(destroyed) => Done {
+            reply: Reply::Ok,
+            destroyed,
+        },
         Err(errno) => reply_alone(Reply::Refused(errno)),
     }
 }
@@ -129,34 +133,4 @@ fn reply_alone(reply: Reply) -> Done
         reply,
         destroyed: None,
     }
-}
-
-/// The reply to a call that was done, and may have destroyed the segment.
-fn done<A: Allocator + Copy>(table: &SegTable<A>, id: SegId) -> Done
-    ensures reply { result.reply ≡ OkReply }
-    ensures gone { IfSome result.destroyed (λ other. (other ≡ id) × (is_purged_from table.now.segments id ≡ true)) }
-    ensures stays { IfNone result.destroyed ((site : ℕ) → missing_of table.now id site ≡ false) }
-    ensures sites { 0 < table.now.sites }
-{
-    Done {
-        reply: Reply::Ok,
-        destroyed: to_purge(table, id),
-    }
-}
-
-/// The segment, where some site has yet to purge it.
-fn to_purge<A: Allocator + Copy>(table: &SegTable<A>, id: SegId) -> Option<SegId>
-    ensures gone { IfSome result (λ other. (other ≡ id) × (is_purged_from table.now.segments id ≡ true)) }
-    ensures stays { IfNone result ((site : ℕ) → missing_of table.now id site ≡ false) }
-    ensures sites { 0 < table.now.sites }
-{
-    let after = match id.0.checked_sub(1) {
-        None => None,
-        Some(before) => Some(SegId(before)),
-    };
-    let (first, _sites) = table.next_purge(after)?;
-    if first == id {
-        return Some(id);
-    }
-    None
 }

@@ -1,9 +1,8 @@
-ghost use Rattle.std.specs.Prelude.{◌≡◌, ℕ, OnErr};
+ghost use Rattle.std.specs.Prelude.{◌≡◌, IfOk, OnErr};
 ghost use Rattle.shm_place.specs.Home.{home_of_id};
-ghost use Rattle.shm_model.specs.Kernel.{call, destroyed_by};
+ghost use Rattle.shm_model.specs.Kernel.{destroyed_by};
 ghost use Rattle.shm_model.specs.declared.call.Op.TheVariants.{Attach, Detach, Remove, Set, Stat as StatOp};
-ghost use Rattle.shm_keys.specs.Answer.{attach_reply, done_reply, stat_reply};
-ghost use Rattle.shm_keys.specs.Purge.{missing_after};
+ghost use Rattle.shm_keys.specs.Answer.{Answers, Purges, attach_reply, done_reply, stat_reply};
 
 use crate::table::SegTable;
 use shm_model::{Attached, Cred, Errno, Mode, Stat};
@@ -11,12 +10,10 @@ use shm_place::{Key, SegId};
 use std::alloc::Allocator;
 
 impl<A: Allocator + Copy> SegTable<A> {
-    ghost use Rattle.shm_keys.specs.Table.{missing_of};
-
     /// `shmat(2)`: EINVAL, EIDRM, EACCES; ENOSPC where no further attachment can be counted.
     pub fn attach(&mut self, cred: Cred, id: SegId, ro: bool) -> Result<Attached, Errno>
         requires { home_of_id self.old.sites id ≡ self.old.home }
-        ensures answer { call self.old.sites self.old.home (Attach cred id ro) self.old.segments ≡ record { reply = attach_reply result; segments = self.new.segments } }
+        ensures answer { Answers (Attach cred id ro) (attach_reply result) self.old self.new }
         ensures rest { self.new ≡ record self.old { segments = self.new.segments } }
         ensures unchanged { OnErr result (self.new ≡ self.old) }
     {
@@ -36,11 +33,13 @@ impl<A: Allocator + Copy> SegTable<A> {
         })
     }
 
-    /// `shmdt(2)`: EINVAL, also where nobody is attached, and EIDRM. A marked segment goes with the last attachment.
-    pub fn detach(&mut self, id: SegId) -> Result<(), Errno>
+    /// `shmdt(2)`: EINVAL, also where nobody is attached, and EIDRM. A marked segment goes with the last attachment: it is the
+    /// answer then.
+    pub fn detach(&mut self, id: SegId) -> Result<Option<SegId>, Errno>
         requires { home_of_id self.old.sites id ≡ self.old.home }
-        ensures answer { call self.old.sites self.old.home (Detach id) self.old.segments ≡ record { reply = done_reply result; segments = self.new.segments } }
-        ensures missing { (other site : ℕ) → missing_of self.new other site ≡ missing_after (destroyed_by (Detach id) self.old.segments self.new.segments) self.old.sites (missing_of self.old) other site }
+        ensures answer { Answers (Detach id) (done_reply result) self.old self.new }
+        ensures destroyed { IfOk result (λ gone. destroyed_by (Detach id) self.old.segments self.new.segments ≡ gone) }
+        ensures missing { Purges (Detach id) self.old self.new }
         ensures rest { self.new ≡ record self.old { segments = self.new.segments; missing = self.new.missing } }
         ensures unchanged { OnErr result (self.new ≡ self.old) }
     {
@@ -50,15 +49,16 @@ impl<A: Allocator + Copy> SegTable<A> {
         }
         let mut after = before;
         after.nattch -= 1;
-        self.replace(before, after);
-        Ok(())
+        Ok(self.replace(before, after))
     }
 
-    /// `IPC_RMID` of `shmctl(2)`: EINVAL, EIDRM, EPERM. The key is free at once; the segment goes once nobody is attached.
-    pub fn remove(&mut self, cred: Cred, id: SegId) -> Result<(), Errno>
+    /// `IPC_RMID` of `shmctl(2)`: EINVAL, EIDRM, EPERM. The key is free at once; the segment goes once nobody is
+    /// attached: if at once, it is the answer.
+    pub fn remove(&mut self, cred: Cred, id: SegId) -> Result<Option<SegId>, Errno>
         requires { home_of_id self.old.sites id ≡ self.old.home }
-        ensures answer { call self.old.sites self.old.home (Remove cred id) self.old.segments ≡ record { reply = done_reply result; segments = self.new.segments } }
-        ensures missing { (other site : ℕ) → missing_of self.new other site ≡ missing_after (destroyed_by (Remove cred id) self.old.segments self.new.segments) self.old.sites (missing_of self.old) other site }
+        ensures answer { Answers (Remove cred id) (done_reply result) self.old self.new }
+        ensures destroyed { IfOk result (λ gone. destroyed_by (Remove cred id) self.old.segments self.new.segments ≡ gone) }
+        ensures missing { Purges (Remove cred id) self.old self.new }
         ensures rest { self.new ≡ record self.old { segments = self.new.segments; missing = self.new.missing } }
         ensures unchanged { OnErr result (self.new ≡ self.old) }
     {
@@ -69,8 +69,7 @@ impl<A: Allocator + Copy> SegTable<A> {
         let mut after = before;
         after.key = Key(0);
         after.marked = true;
-        self.replace(before, after);
-        Ok(())
+        Ok(self.replace(before, after))
     }
 
     /// `IPC_SET` of `shmctl(2)`: EINVAL, EIDRM, EPERM. Whoever made the segment stays its creator.
@@ -83,7 +82,7 @@ impl<A: Allocator + Copy> SegTable<A> {
         mode: Mode,
     ) -> Result<(), Errno>
         requires { home_of_id self.old.sites id ≡ self.old.home }
-        ensures answer { call self.old.sites self.old.home (Set cred id uid gid mode) self.old.segments ≡ record { reply = done_reply result; segments = self.new.segments } }
+        ensures answer { Answers (Set cred id uid gid mode) (done_reply result) self.old self.new }
         ensures rest { self.new ≡ record self.old { segments = self.new.segments } }
         ensures unchanged { OnErr result (self.new ≡ self.old) }
     {
@@ -102,7 +101,7 @@ impl<A: Allocator + Copy> SegTable<A> {
     /// `IPC_STAT` of `shmctl(2)`: EINVAL, EIDRM, EACCES.
     pub fn stat(&self, cred: Cred, id: SegId) -> Result<Stat, Errno>
         requires { home_of_id self.now.sites id ≡ self.now.home }
-        ensures { call self.now.sites self.now.home (StatOp cred id) self.now.segments ≡ record { reply = stat_reply result; segments = self.now.segments } }
+        ensures { Answers (StatOp cred id) (stat_reply result) self.now self.now }
     {
         let segment = self.live(id)?;
         if !segment.may_stat(cred) {

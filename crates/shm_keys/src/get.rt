@@ -88,7 +88,8 @@ impl<A: Allocator + Copy> SegTable<A> {
         mode: Mode,
         flags: GetFlags,
     ) -> Result<SegId, GetFault>
-        ensures answer { IsGetAnswer result (next_id self.old.sites self.old.home self.old.segments) (call self.old.sites self.old.home (Get cred key size mode flags) self.old.segments) self.new.segments }
+        ensures answer { IsGetAnswer result (next_id self.old.sites self.old.home self.old.segments)
+            (call self.old.sites self.old.home (Get cred key size mode flags) self.old.segments) self.new.segments }
         ensures rest { self.new ≡ record self.old { segments = self.new.segments } }
         ensures unchanged { OnErr result (self.new ≡ self.old) }
     {
@@ -120,7 +121,8 @@ impl<A: Allocator + Copy> SegTable<A> {
     /// Makes a segment: EINVAL for a size of 0 or above the greatest, ENOSPC where the home may have no more.
     fn make(&mut self, cred: Cred, key: Key, size: u32, mode: Mode) -> Result<SegId, GetFault>
         requires { key ≢ 0 → with_key key self.old.segments ≡ None }
-        ensures answer { IsGetAnswer result (next_id self.old.sites self.old.home self.old.segments) (make self.old.sites self.old.home cred key size mode self.old.segments) self.new.segments }
+        ensures answer { IsGetAnswer result (next_id self.old.sites self.old.home self.old.segments)
+            (make self.old.sites self.old.home cred key size mode self.old.segments) self.new.segments }
         ensures rest { self.new ≡ record self.old { segments = self.new.segments } }
         ensures unchanged { OnErr result (self.new ≡ self.old) }
     {
@@ -177,7 +179,8 @@ impl Segment {
 
     /// The key has a segment: EEXIST, EINVAL where it is smaller than asked, and only then EACCES.
     fn get(&self, cred: Cred, size: u32, mode: Mode, flags: GetFlags) -> Result<SegId, GetFault>
-        ensures { (fresh : ℕ) (segments : List Record) → IsGetAnswer result fresh (get_present self.now (has_creat flags.0 && has_excl flags.0) cred size mode segments) segments }
+        ensures { (fresh : ℕ) (segments : List Record) → IsGetAnswer result fresh
+            (get_present self.now (has_creat flags.0 && has_excl flags.0) cred size mode segments) segments }
     {
         if creates_only(flags) {
             return Err(GetFault::Refused(Errno::Eexist));

@@ -29,7 +29,8 @@ pub(crate) fn begin<A: Allocator>(purges: &mut Vec<Purge, A>, id: SegId, sites: 
     requires absent { (k : ℕ) (d : Record) → k < length purges.old.items → (slice_index_or purges.old.items k d).id ≡ id → ⊥ }
     requires some_sites { 0 < sites }
     requires room { vec_len purges.old < vec_capacity purges.old }
-    ensures missing { (other site : ℕ) → missing_in purges.new.items other site ≡ (missing_in purges.old.items other site || ((other == id) && nat_lt site sites)) }
+    ensures missing { (other site : ℕ) → missing_in purges.new.items other site
+        ≡ (missing_in purges.old.items other site || ((other == id) && nat_lt site sites)) }
     ensures rising { IsRising purges.new.items }
     ensures all_missing { AllMissing purges.new.items }
     ensures pass { (test : ℕ → Bool) → AllPass test purges.old.items → test id ≡ true → AllPass test purges.new.items }

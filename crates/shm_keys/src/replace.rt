@@ -11,7 +11,7 @@ use crate::purge::{Purge, begin};
 use crate::segment::Segment;
 use crate::table::{SegTable, place_of};
 use indexmap::IndexMap;
-use shm_place::{Key, Sites};
+use shm_place::{Key, SegId, Sites};
 use std::alloc::Allocator;
 use std::hash::{BuildHasherDefault, FoldHasher};
 
@@ -28,19 +28,25 @@ fn free_key<A: Allocator + Copy>(
     }
 }
 
-/// A live segment's record comes anew: destroyed thereby, it is live no longer, and all sites have yet to purge it.
-fn settle<A: Allocator>(live: &mut usize, purges: &mut Vec<Purge, A>, after: &Segment, sites: Sites)
+/// A live segment's record comes anew. Some: it is destroyed thereby, so that it is live no longer and all sites have yet to purge it.
+fn settle<A: Allocator>(
+    live: &mut usize,
+    purges: &mut Vec<Purge, A>,
+    after: &Segment,
+    sites: Sites,
+) -> Option<SegId>
     requires one { 0 < live.old }
     requires some_sites { 0 < sites }
     requires room { vec_len purges.old < vec_capacity purges.old }
     requires rising { IsRising purges.old.items }
     requires all_missing { AllMissing purges.old.items }
     requires absent { (k : ℕ) (d : Record) → k < length purges.old.items → (slice_index_or purges.old.items k d).id ≡ after.now.id → ⊥ }
+    ensures gone { result ≡ (if destroyed after.now then Some after.now.id else None) }
     ensures live { live.new + (if destroyed after.now then 1 else 0) ≡ live.old }
     ensures places { live.new + vec_len purges.new ≡ live.old + vec_len purges.old }
     ensures capacity { vec_capacity purges.new ≡ vec_capacity purges.old }
     ensures unmoved { OnFalse (destroyed after.now) (purges.new.items ≡ purges.old.items) }
-    ensures missing { (id site : ℕ) → missing_in purges.new.items id site ≡ missing_after (if destroyed after.now then Some after.now.id else None) sites (missing_in purges.old.items) id site }
+    ensures missing { (id site : ℕ) → missing_in purges.new.items id site ≡ missing_after result sites (missing_in purges.old.items) id site }
     ensures rising { IsRising purges.new.items }
     ensures all_missing { AllMissing purges.new.items }
     ensures pass { (test : ℕ → Bool) → AllPass test purges.old.items → (destroyed after.now ≡ true → test after.now.id ≡ true) → AllPass test purges.new.items }
@@ -48,24 +54,28 @@ fn settle<A: Allocator>(live: &mut usize, purges: &mut Vec<Purge, A>, after: &Se
     if after.is_destroyed() {
         *live -= 1;
         begin(purges, after.id, sites);
+        return Some(after.id);
     }
+    None
 }
 
 impl<A: Allocator + Copy> SegTable<A> {
     ghost use Rattle.shm_keys.specs.Table.{IsLive, missing_of};
 
-    /// Puts a live segment's record anew. Where it is destroyed thereby, all sites have yet to purge it.
-    pub(crate) fn replace(&mut self, before: Segment, after: Segment)
+    /// Puts a live segment's record anew. The segment, where it is destroyed thereby: all sites have yet to purge it.
+    pub(crate) fn replace(&mut self, before: Segment, after: Segment) -> Option<SegId>
         requires home { home_of_id self.old.sites after.id ≡ self.old.home }
         requires live { IsLive self.old.segments after.id before }
         requires key { (after.key ≡ before.key) ⊎ (after.key ≡ 0) }
         ensures table { self.new ≡ record self.old { segments = replaced after.id after self.old.segments; missing = self.new.missing } }
+        ensures gone { destroyed_in (Some after.id) self.old.segments self.new.segments ≡ result }
         ensures unmoved { OnFalse (destroyed after) (self.new.missing ≡ self.old.missing) }
-        ensures missing { (id site : ℕ) → missing_of self.new id site ≡ missing_after (destroyed_in (Some after.id) self.old.segments self.new.segments) self.old.sites (missing_of self.old) id site }
+        ensures missing { (id site : ℕ) → missing_of self.new id site ≡ missing_after result self.old.sites (missing_of self.old) id site }
     {
         let place = place_of(self.sites, after.id);
         free_key(&mut self.keys, before.key, after.key);
-        settle(&mut self.live, &mut self.purges, &after, self.sites);
+        let gone = settle(&mut self.live, &mut self.purges, &after, self.sites);
         self.segments[place] = after;
+        gone
     }
 }

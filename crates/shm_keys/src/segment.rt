@@ -26,9 +26,31 @@ impl Model for Segment {
 
     ghost Value = { Record };
 
-    ghost view = { λ g. record { id = g.id; key = g.key; uid = g.uid; gid = g.gid; cuid = g.cuid; cgid = g.cgid; mode = g.mode; size = g.size; nattch = g.nattch; marked = g.marked } };
+    ghost view = { λ g. record {
+      id = g.id;
+      key = g.key;
+      uid = g.uid;
+      gid = g.gid;
+      cuid = g.cuid;
+      cgid = g.cgid;
+      mode = g.mode;
+      size = g.size;
+      nattch = g.nattch;
+      marked = g.marked;
+    } };
 
-    ghost inverse = { λ g. record { id = g.id; key = g.key; uid = g.uid; gid = g.gid; cuid = g.cuid; cgid = g.cgid; mode = g.mode; size = g.size; nattch = g.nattch; marked = g.marked } };
+    ghost inverse = { λ g. record {
+      id = g.id;
+      key = g.key;
+      uid = g.uid;
+      gid = g.gid;
+      cuid = g.cuid;
+      cgid = g.cgid;
+      mode = g.mode;
+      size = g.size;
+      nattch = g.nattch;
+      marked = g.marked;
+    } };
 }
 
 impl Segment {
@@ -59,7 +81,17 @@ impl Segment {
 
     /// What `stat` tells of it.
     pub fn stat(&self) -> Stat
-        ensures { result ≡ record { key = self.now.key; uid = self.now.uid; gid = self.now.gid; cuid = self.now.cuid; cgid = self.now.cgid; mode = self.now.mode; size = self.now.size; nattch = self.now.nattch; marked = self.now.marked } }
+        ensures { result ≡ record {
+          key = self.now.key;
+          uid = self.now.uid;
+          gid = self.now.gid;
+          cuid = self.now.cuid;
+          cgid = self.now.cgid;
+          mode = self.now.mode;
+          size = self.now.size;
+          nattch = self.now.nattch;
+          marked = self.now.marked;
+        } }
     {
         Stat {
             key: self.key,

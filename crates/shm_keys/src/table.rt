@@ -76,7 +76,8 @@ impl<A: Allocator + Copy> SegTable<A> {
     pub(crate) fn live(&self, id: SegId) -> Result<Segment, Errno>
         requires { home_of_id self.now.sites id ≡ self.now.home }
         ensures live { IfOk result (λ g. IsLive self.now.segments id g) }
-        ensures refused { IfErr result (λ errno. (call : Record → Called) → on_live (with_id id self.now.segments) call self.now.segments ≡ refuse errno self.now.segments) }
+        ensures refused { IfErr result (λ errno. (call : Record → Called)
+            → on_live (with_id id self.now.segments) call self.now.segments ≡ refuse errno self.now.segments) }
     {
         let place = place_of(self.sites, id);
         if place >= self.segments.len() {

@@ -48,3 +48,8 @@ asked_row_of (Err _) after = model.UsedUp
 abbrev pub is_used_up : model.Outcome → Bool
 is_used_up model.UsedUp = true
 is_used_up _ = false
+
+-- the message changed the book
+abbrev pub is_taken : model.Outcome → Bool
+is_taken (model.Taken _ _) = true
+is_taken _ = false

@@ -1,9 +1,9 @@
 //! What a manager does at each message, and what it sends again at a tick.
-ghost use Rattle.std.specs.Prelude.{◌≡◌, ◌<◌, map, IfOk, IfNone, OnErr};
+ghost use Rattle.std.specs.Prelude.{◌≡◌, ◌<◌, ◌&&◌, is_none, map, IfOk, IfNone, OnErr};
 ghost use Rattle.shm_number.specs.Served.{served_of};
 ghost use Rattle.shm_model.specs.Book as model;
 ghost use Rattle.shm_model.specs.declared.kind.Kind.{Kind};
-ghost use Rattle.shm_manager.specs.Book.{book_of, run_of, row_of, asked_row_of, is_used_up};
+ghost use Rattle.shm_manager.specs.Book.{book_of, run_of, row_of, asked_row_of, is_taken, is_used_up};
 
 use crate::ask::Ask;
 use crate::book::Book;
@@ -20,6 +20,14 @@ impl<A: Allocator> Book<A> {
         ensures { (kind : Kind) → result ≡ is_used_up (model.on_ask from request kind (book_of self.now)) }
     {
         self.number == u64::MAX && self.running.is_none() && self.served.fresh(from, request)
+    }
+
+    /// Whether the request would start a transaction.
+    pub fn starts(&self, from: SiteId, request: u64) -> bool
+        requires { from < 16 }
+        ensures { (kind : Kind) → result ≡ (is_none (book_of self.now).running && is_taken (model.on_ask from request kind (book_of self.now))) }
+    {
+        self.number < u64::MAX && self.running.is_none() && self.served.fresh(from, request)
     }
 
     /// A request for a right. None: it was served, or waits already, or there is no room to wait.
@@ -70,7 +78,7 @@ impl<A: Allocator> Book<A> {
         self.number += 1;
         self.running = Some((kind, from));
         self.cleared = SiteSet::empty();
-        self.served.take(from, request);
+        self.served.note(from, request);
         self.orders_for(kind, from)
     }
 

@@ -41,13 +41,6 @@ impl Counter {
         Counter { last: 0 }
     }
 
-    /// A counter that gave `last` just now.
-    pub fn after(last: u64) -> Counter
-        ensures { result ≡ last }
-    {
-        Counter { last }
-    }
-
     /// The number after the last one.
     pub fn next(&mut self) -> Result<u64, UsedUp>
         ensures number { result ≡ (if nat_lt self.old u64.MAX then Ok (self.old + 1) else Err (record {})) }

@@ -1,10 +1,10 @@
 ghost use Rattle.std.specs.Prelude.{◌≡◌, ◌<◌, nat_lt};
-ghost use Rattle.shm_number.specs.Served.{served_of, taken};
+ghost use Rattle.shm_number.specs.Served.{noted, served_of};
 
 use shm_place::SiteId;
 use std::marker::Model;
 
-/// The greatest request number taken of each site; 0 where none was. An older request that comes late, or again, is known by it.
+/// The greatest request number served of each site; 0 where none was. An older request that comes late, or again, is known by it.
 #[derive(Drop)]
 pub struct Served {
     greatest: [u64; 16],
@@ -23,14 +23,14 @@ impl Model for Served {
 }
 
 impl Served {
-    /// Nothing was taken of any site.
+    /// Nothing was served of any site.
     pub fn new() -> Served
         ensures { served_of result ≡ (λ _. 0) }
     {
         Served { greatest: [0; 16] }
     }
 
-    /// Whether the number is above all that were taken of the site.
+    /// Whether the number is above all that were served of the site.
     pub fn fresh(&self, site: SiteId, number: u64) -> bool
         requires { site < 16 }
         ensures { result ≡ nat_lt (served_of self.now site) number }
@@ -38,10 +38,10 @@ impl Served {
         self.greatest[site.0 as usize] < number
     }
 
-    /// Takes the number of the site. One that isn't fresh changes nothing.
-    pub fn take(&mut self, site: SiteId, number: u64)
+    /// Notes the site's number as served. One that isn't fresh changes nothing.
+    pub fn note(&mut self, site: SiteId, number: u64)
         requires { site < 16 }
-        ensures { served_of self.new ≡ taken (served_of self.old) site number }
+        ensures { served_of self.new ≡ noted (served_of self.old) site number }
     {
         let index = site.0 as usize;
         self.greatest[index] = self.greatest[index].max(number);

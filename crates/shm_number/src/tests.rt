@@ -1,15 +1,14 @@
-use crate::{Asked, Counter, KeptReply, Served, UsedUp};
+use crate::{Asked, Counter, KeptReply, Served};
 use shm_place::SiteId;
 
 #[test]
-fn the_last_number_is_the_greatest(rt: HostRuntime) {
-    let mut counter = Counter::after(u64::MAX - 1);
+fn numbers_are_given_in_turn(rt: HostRuntime) {
+    let mut counter = Counter::new();
+    assert_eq!(rt; counter.next(), Ok(1));
     let mut copy = counter.copy();
-    assert_eq!(rt; counter.next(), Ok(u64::MAX));
-    assert_eq!(rt; counter.next(), Err(UsedUp));
-    assert_eq!(rt; counter.next(), Err(UsedUp));
-    assert_eq!(rt; copy.next(), Ok(u64::MAX));
-    assert_eq!(rt; Counter::new().next(), Ok(1));
+    assert_eq!(rt; counter.next(), Ok(2));
+    assert_eq!(rt; counter.next(), Ok(3));
+    assert_eq!(rt; copy.next(), Ok(2));
 }
 
 #[test]
@@ -17,8 +16,8 @@ fn only_a_greater_number_is_fresh(rt: HostRuntime) {
     let mut served = Served::new();
     assert!(rt; served.fresh(SiteId(15), 1));
     assert!(rt; !served.fresh(SiteId(15), 0));
-    served.take(SiteId(15), 5);
-    served.take(SiteId(15), 3);
+    served.note(SiteId(15), 5);
+    served.note(SiteId(15), 3);
     let copy = served.copy();
     for (number, fresh) in [(3, false), (5, false), (6, true), (u64::MAX, true)] {
         assert_eq!(rt; served.fresh(SiteId(15), number), fresh, "at {number}");

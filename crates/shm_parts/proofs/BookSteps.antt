@@ -1,5 +1,5 @@
 -- A map of books, as the definitions see it, after a change of one book or of all; and the step that a row of a book's table is.
-use Rattle.std.proofs.Common.{◌≡◌, ◌==◌, ◌||◌, ◌<◌, ◌≤◌, ℕ, nat_le, zero, suc, Bool, true, false, cond, if◌then◌else◌, List, [], ◌∷◌, ◌++◌, length, map, Option, Some, None, is_some, option_map, unwrap_or, slice_get, refl, sym, ap, ap₂, subst, ◌∙◌, true≢false, append_assoc, append-nil, add-one, ◌+◌, arith}
+use Rattle.std.proofs.Common.{◌≡◌, ◌==◌, ◌||◌, ◌<◌, ◌≤◌, ℕ, nat_le, zero, suc, Bool, true, false, cond, if◌then◌else◌, List, [], ◌∷◌, ◌++◌, length, map, Option, Some, None, is_some, option_map, unwrap_or, slice_get, Result, Ok, Err, OnErr, refl, sym, ap, ap₂, subst, ◌∙◌, true≢false, append_assoc, append-nil, add-one, ◌+◌, arith}
 use Rattle.std.proofs.Math.Path.{fun_ext}
 use Rattle.std.proofs.lemmas.Bool.{and_parts}
 use Rattle.std.proofs.lemmas.Bool.Decides.{nat_tests}
@@ -285,3 +285,17 @@ module _ {A : Type 0} where
 
   pub forget_end : (n : ℕ) (es all : List (PageId × Book A)) → viewed es ≡ forgotten n (viewed all) → length all ≤ n → viewed es ≡ map (λ e. (e.0, model.without_volatile e.1)) (viewed all)
   forget_end n es all h long = h ∙ forgotten-all n (viewed all) (subst (λ (k : ℕ). k ≤ n) (sym (length-viewed all)) long)
+
+-- the book of a page that was written back as it was
+pub put_back : {A : Type 0} (rest : model.Book) (old new : List (PageId × Book A)) (page : PageId) (b : Book A) → lookup (same_page page) old ≡ Some b
+    → ((q : PageId) → lookup (same_page q) new ≡ cond (same_page page q) (Some b) (lookup (same_page q) old)) → ◌≡◌ {A = PageId → model.Book} (λ q. book_or rest (lookup (same_page q) new)) (λ q. book_or rest (lookup (same_page q) old))
+put_back rest old new page b found put = fun_ext (λ q. ap (book_or rest) (put q ∙ by q (same_page page q) refl))
+  where
+    by : (q : PageId) (same : Bool) → same_page page q ≡ same → cond same (Some b) (lookup (same_page q) old) ≡ lookup (same_page q) old
+    by q true same = sym found ∙ ap (λ (p : PageId). lookup (same_page p) old) (page-same page q same)
+    by q false same = refl
+
+-- what holds anyway holds where there is an error
+pub where_refused : {T E P : Type 0} (r : Result T E) → P → OnErr r P
+where_refused (Ok _) p = tt
+where_refused (Err _) p = p

@@ -1,10 +1,11 @@
 -- The index behind all pages of a segment, found as one goes over a map.
-use Rattle.std.proofs.Common.{◌≡◌, ◌+◌, ℕ, zero, suc, Bool, true, false, List, [], ◌∷◌, take, slice_get, Option, Some, None, is_some, if◌then◌else◌, refl, sym, ap, subst, ◌∙◌, true≢false, arith}
+use Rattle.std.proofs.Common.{◌≡◌, ◌+◌, ℕ, zero, suc, Bool, true, false, List, [], ◌∷◌, take, slice_get, Some, None, is_some, if◌then◌else◌, refl, sym, ap, subst, ◌∙◌, true≢false, arith}
+use Rattle.std.proofs.lemmas.Option.{same_Some}
 use Rattle.std.specs.List.{AllByRecursion}
 use Rattle.std.specs.Map.{lookup}
 use Rattle.shm_place.specs.declared.page.PageId.{PageId}
 use Rattle.shm_place.specs.Page.{same_page}
-use Rattle.shm_parts.specs.Places.{is_past}
+use Rattle.shm_parts.specs.Ends.{is_past}
 use Rattle.shm_parts.proofs.EntryLemmas.{page-same}
 use Rattle.shm_parts.proofs.ListLemmas.{all-map}
 
@@ -15,17 +16,10 @@ NonePast id end es = AllByRecursion (λ e. is_past id end e.0 ≡ false) es
 one_more : (i : ℕ) → suc i ≡ i + 1
 one_more i = omega (arith)
 
-same_head : {Y : Type 0} (x y : Y) → Some x ≡ Some y → x ≡ y
-same_head x y e = ap (this x) e
-  where
-    this : {Y : Type 0} → Y → Option Y → Y
-    this d None = d
-    this d (Some z) = z
-
 module _ {X : Type 0} (id : ℕ) where
   next_past : (end : ℕ) (es : List (PageId × X)) (i : ℕ) (e : PageId × X) → slice_get es i ≡ Some e → is_past id end e.0 ≡ false → NonePast id end (take i es) → NonePast id end (take (suc i) es)
   next_past end [] i e at own so_far = absurd (true≢false (sym (ap is_some at)))
-  next_past end (x ∷ xs) zero e at own so_far = (ap (λ (y : PageId × X). is_past id end y.0) (same_head x e at) ∙ own, so_far)
+  next_past end (x ∷ xs) zero e at own so_far = (ap (λ (y : PageId × X). is_past id end y.0) (same_Some x e at) ∙ own, so_far)
   next_past end (x ∷ xs) (suc i) e at own so_far = (so_far.0, next_past end xs i e at own so_far.1)
 
   pub past_more : (end next : ℕ) (es : List (PageId × X)) (i : ℕ) (e : PageId × X) → slice_get es i ≡ Some e → ((p : PageId) → is_past id end p ≡ false → is_past id next p ≡ false) → is_past id next e.0 ≡ false

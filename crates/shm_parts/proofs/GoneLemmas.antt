@@ -4,7 +4,7 @@ use Rattle.std.proofs.lemmas.Bool.Decides.{nat_tests}
 use Rattle.shm_place.specs.declared.page.PageId.{PageId}
 use Rattle.shm_place.specs.Limits as limit
 use Rattle.shm_place.specs.Page.{same_page}
-use Rattle.shm_parts.specs.Places.{is_past}
+use Rattle.shm_parts.specs.Ends.{is_past}
 
 -- a page of the segment with an index below this one
 abbrev pub gone_below : ℕ → ℕ → PageId → Bool

@@ -3,6 +3,7 @@ pub mod Outbox
 pub mod Frames
 pub mod Pendings
 pub mod Purged
+pub mod Ends
 pub mod Places
 pub mod Bookings
 pub mod Booked

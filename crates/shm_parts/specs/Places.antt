@@ -1,5 +1,5 @@
 -- Pages at places that rise as the pages come: each page at one place, and some of the places marked.
-use Rattle.std.specs.Prelude.{◌≡◌, ℕ, ◌<◌, ◌==◌, ◌&&◌, Bool, true, false, List, filter, Option, Some, None, is_some, nat_le, nat_lt}
+use Rattle.std.specs.Prelude.{◌≡◌, ℕ, ◌<◌, Bool, true, false, List, filter, Option, Some, None, is_some, nat_lt}
 use Rattle.std.specs.BTreeMap.{is_at}
 use Rattle.std.specs.List.{AllByRecursion}
 use Rattle.std.specs.List.Sorted.{IsStrictlySortedBy}
@@ -14,10 +14,6 @@ page_at pages place = lookup (is_at (nat_cmp place)) pages
 
 abbrev pub place_of : List (PageId × ℕ) → PageId → Option ℕ
 place_of places page = lookup (same_page page) places
-
--- a page of the segment from an index on, as far as segments have pages
-abbrev pub is_past : ℕ → ℕ → PageId → Bool
-is_past id end page = (id == page.seg) && nat_le end page.index && nat_lt page.index limit.pages
 
 -- a place comes behind another, or behind none
 abbrev pub is_behind : Option ℕ → ℕ → Bool

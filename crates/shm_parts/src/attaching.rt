@@ -3,7 +3,7 @@ ghost use Rattle.std.specs.Prelude.{◌≡◌, ℕ, ◌<◌, None, false, true, 
 ghost use Rattle.shm_place.specs.declared.page.PageId.{PageId as Page};
 ghost use Rattle.shm_model.specs.Basics.{at};
 ghost use Rattle.shm_model.specs.Site.{Site, least_free, untouched};
-ghost use Rattle.shm_attach.specs.Attachments.{attachments_of, put_at, segment_of, with_attachments};
+ghost use Rattle.shm_attach.specs.Attachments.{attachments_of, put_at, with_attachments};
 ghost use Rattle.shm_parts.specs.Entries.{entries_of, is_stored};
 ghost use Rattle.shm_parts.specs.Holdings.{with_holdings};
 ghost use Rattle.shm_parts.specs.Purged.{purged_of};
@@ -26,7 +26,10 @@ impl<A: Allocator + Copy> Holdings<A> {
     ) -> Result<Option<u32>, AllocError>
         requires { purged_of self.old.purged id ≡ false }
         ensures number { IfOk result (λ number. number ≡ least_free (attachments_of self.old.attachments)) }
-        ensures after { IfOk result (λ number. (site : Site) → with_holdings sites me self.new site ≡ with_attachments (put_at number (record { id = id; size = size; ro = ro }) (attachments_of self.old.attachments)) (with_holdings sites me self.old site)) }
+        ensures after { IfOk result (λ number. (site : Site)
+            → with_holdings sites me self.new site
+            ≡ with_attachments (put_at number (record { id = id; size = size; ro = ro }) (attachments_of self.old.attachments))
+            (with_holdings sites me self.old site)) }
         ensures refused { OnErr result ((site : Site) → with_holdings sites me self.new site ≡ with_holdings sites me self.old site) }
     {
         let pages = (rounded(size) / PAGE_BYTES as u64) as u32;
@@ -41,12 +44,12 @@ impl<A: Allocator + Copy> Holdings<A> {
         }
     }
 
-    /// Takes the attachment away; its segment is the answer. None: nothing was attached there, and nothing changes.
-    pub fn detach(&mut self, number: u32) -> Option<SegId>
-        ensures segment { result ≡ segment_of (attachments_of self.old.attachments number) }
-        ensures after { (sites me : ℕ) → (site : Site) → with_holdings sites me self.new site ≡ with_attachments (at (attachments_of self.old.attachments) number None) (with_holdings sites me self.old site) }
+    /// Removes what is attached at the number, if anything.
+    pub fn detach(&mut self, number: u32)
+        ensures { (sites me : ℕ) → (site : Site) → with_holdings sites me self.new site
+            ≡ with_attachments (at (attachments_of self.old.attachments) number None) (with_holdings sites me self.old site) }
     {
-        self.attachments.take(number)
+        self.attachments.remove(number);
     }
 
     /// Whether no attachment number is free.

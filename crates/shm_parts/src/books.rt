@@ -1,5 +1,5 @@
 //! What a manager's books do at each message, at a restart and at a purge.
-ghost use Rattle.std.specs.Prelude.{◌≡◌, ℕ, ◌<◌, ◌==◌, cond, true, [], None, option_copied, is_some, IfNone, IfOk, IfSome, OnErr};
+ghost use Rattle.std.specs.Prelude.{◌≡◌, ℕ, ◌<◌, ◌==◌, cond, [], None, option_copied, IfNone, IfOk, IfSome, OnErr};
 ghost use Rattle.shm_parts.specs.Booked.{IsBooked};
 ghost use Rattle.std.specs.Map.{lookup};
 ghost use Rattle.shm_place.specs.declared.page.PageId.{PageId as Page};
@@ -30,7 +30,6 @@ pub struct Books<A: Allocator + Copy = Global> {
 }
 
 impl<A: Allocator + Copy> Books<A> {
-    ghost use Rattle.shm_parts.specs.Bookings.{is_marked};
     ghost use Rattle.shm_parts.specs.Books.{book_or, booked_after, booked_of, booked_step, books_of, with_books, AllIdle, IsNextRunning};
 
     /// No page was asked for.
@@ -56,17 +55,16 @@ impl<A: Allocator + Copy> Books<A> {
         kind: Kind,
     ) -> Result<Outcome, AllocError>
         requires { from < 16 }
-        ensures step { IfOk result (λ outcome. (site : Site) → to_book me page (model.on_ask from request kind (books_of me self.old page)) (with_books me self.old site) ≡ booked_step me page outcome (with_books me self.new site)) }
+        ensures step { IfOk result (λ outcome. (site : Site)
+            → to_book me page (model.on_ask from request kind (books_of me self.old page)) (with_books me self.old site)
+            ≡ booked_step me page outcome (with_books me self.new site)) }
         ensures refused { OnErr result (((me : ℕ) → books_of me self.new ≡ books_of me self.old) × (booked_of self.new ≡ booked_of self.old)) }
     {
-        if self.map.contains_key(&page) {
-            self.bookings.mark(&page)?;
-            return Ok(self.again(page, from, request, kind));
-        }
-        if request == 0 {
-            return Ok(Outcome::Ignored);
-        }
-        self.first(alloc, me, page, from, request, kind)
+        let Some(book) = self.map.get_mut(&page) else {
+            return self.first(alloc, me, page, from, request, kind);
+        };
+        self.bookings.mark_if(&page, book.starts(from, request))?;
+        Ok(ask_in(book, from, request, kind))
     }
 
     /// The page's first request.
@@ -80,39 +78,28 @@ impl<A: Allocator + Copy> Books<A> {
         kind: Kind,
     ) -> Result<Outcome, AllocError>
         requires site { from < 16 }
-        requires fresh { 0 < request }
         requires absent { lookup (same_page page) self.old.map.entries ≡ None }
-        ensures step { IfOk result (λ outcome. (site : Site) → to_book me page (model.on_ask from request kind (books_of me self.old page)) (with_books me self.old site) ≡ booked_step me page outcome (with_books me self.new site)) }
+        ensures step { IfOk result (λ outcome. (site : Site)
+            → to_book me page (model.on_ask from request kind (books_of me self.old page)) (with_books me self.old site)
+            ≡ booked_step me page outcome (with_books me self.new site)) }
         ensures refused { OnErr result ((self.new.map.entries ≡ self.old.map.entries) × (booked_of self.new ≡ booked_of self.old)) }
     {
+        if request == 0 {
+            return Ok(Outcome::Ignored);
+        }
+        self.map.reserve(1)?;
         let mut book = Book::new(alloc, me)?;
         let outcome = ask_in(&mut book, from, request, kind);
-        self.map.reserve(1)?;
         self.bookings.add(&page)?;
         put(&mut self.map, page, book);
         Ok(outcome)
     }
 
-    /// A further request. The page is marked, since it may start a transaction.
-    fn again(&mut self, page: PageId, from: SiteId, request: u64, kind: Kind) -> Outcome
-        requires site { from < 16 }
-        requires there { is_some (lookup (same_page page) self.old.map.entries) ≡ true }
-        requires marked { is_marked self.old.bookings page ≡ true }
-        ensures { (me : ℕ) (site : Site) → to_book me page (model.on_ask from request kind (books_of me self.old page)) (with_books me self.old site) ≡ booked_step me page result (with_books me self.new site) }
-    {
-        let Some(book) = self.map.get_mut(&page) else {
-            unreachable!()
-        };
-        let outcome = ask_in(book, from, request, kind);
-        let runs = runs(book);
-        self.bookings.settle(&page, runs);
-        outcome
-    }
-
     /// A site has given up its copy of the page.
     pub fn cleared(&mut self, page: PageId, from: SiteId, number: u64) -> Outcome
         requires { from < 16 }
-        ensures { (me : ℕ) (site : Site) → to_book me page (model.on_cleared from number (books_of me self.old page)) (with_books me self.old site) ≡ booked_step me page result (with_books me self.new site) }
+        ensures { (me : ℕ) (site : Site) → to_book me page (model.on_cleared from number (books_of me self.old page)) (with_books me self.old site)
+            ≡ booked_step me page result (with_books me self.new site) }
     {
         match self.map.get_mut(&page) {
             None => Outcome::Ignored,
@@ -123,7 +110,8 @@ impl<A: Allocator + Copy> Books<A> {
     /// A site has what it asked for.
     pub fn confirm(&mut self, page: PageId, from: SiteId, number: u64) -> Outcome
         requires { from < 16 }
-        ensures { (me : ℕ) (site : Site) → to_book me page (model.on_confirm from number (books_of me self.old page)) (with_books me self.old site) ≡ booked_step me page result (with_books me self.new site) }
+        ensures { (me : ℕ) (site : Site) → to_book me page (model.on_confirm from number (books_of me self.old page)) (with_books me self.old site)
+            ≡ booked_step me page result (with_books me self.new site) }
     {
         let Some(book) = self.map.get_mut(&page) else {
             return Outcome::Ignored;
@@ -155,7 +143,8 @@ impl<A: Allocator + Copy> Books<A> {
 
     /// Drops the page's book.
     fn remove(&mut self, page: PageId)
-        ensures books { (other : Page) → lookup (same_page other) self.new.map.entries ≡ cond (same_page page other) None (lookup (same_page other) self.old.map.entries) }
+        ensures books { (other : Page) → lookup (same_page other) self.new.map.entries
+            ≡ cond (same_page page other) None (lookup (same_page other) self.old.map.entries) }
         ensures booked { booked_of self.new ≡ without_page page (booked_of self.old) }
     {
         let _ = self.map.swap_remove(&page);

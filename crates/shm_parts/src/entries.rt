@@ -1,7 +1,7 @@
 //! What is done with the entries that a site has stored.
 ghost use Rattle.std.specs.Prelude.{◌≡◌, ℕ, ◌+◌, ◌<◌, ◌≤◌, ◌==◌, true, false, if◌then◌else◌, None, Some, option_copied, IfOk, IfErr, OnOk, OnErr};
 ghost use Rattle.shm_place.specs.declared.page.PageId.{PageId as Page};
-ghost use Rattle.indexmap.specs.IndexMap.{get as get_at, index_of_by, insert_entry, spare};
+ghost use Rattle.indexmap.specs.IndexMap.{index_of_by};
 ghost use Rattle.shm_place.specs.Limits.{page_bytes, pages};
 ghost use Rattle.shm_place.specs.Page.{same_page};
 ghost use Rattle.shm_model.specs.Access.{stored_entry};
@@ -12,8 +12,8 @@ ghost use Rattle.shm_page.specs.Out.{out_of};
 
 use crate::change::Change;
 use crate::message::Note;
-use crate::page_map::end_of;
-use crate::slot::{forget_in, opened, store_in, turn_in};
+use crate::page_map::{end_of, put};
+use crate::slot::{forget_in, open, store_in, turn_in};
 use indexmap::IndexMap;
 use shm_page::{Entry, Out};
 use shm_place::{PageId, SegId, SiteId, Sites};
@@ -85,8 +85,8 @@ impl<A: Allocator + Copy> Entries<A> {
             return Ok(());
         }
         self.map.reserve(1)?;
-        let entry = opened(alloc, sites, me, page)?;
-        add(&mut self.map, page, entry);
+        let entry = open(alloc, sites, me, page)?;
+        put(&mut self.map, page, entry);
         Ok(())
     }
 
@@ -95,7 +95,9 @@ impl<A: Allocator + Copy> Entries<A> {
         requires stored { is_stored self.old page ≡ true }
         requires within { within < page_bytes }
         ensures writable { (rest : Page → model.Entry) → result ≡ model.writable (entries_of rest self.old page) }
-        ensures after { (rest : Page → model.Entry) → entries_of rest self.new ≡ (if result then at_page (entries_of rest self.old) page (stored_entry within byte (entries_of rest self.old page)) else entries_of rest self.old) }
+        ensures after { (rest : Page → model.Entry) → entries_of rest self.new
+            ≡ (if result then at_page (entries_of rest self.old) page (stored_entry within byte (entries_of rest self.old page))
+            else entries_of rest self.old) }
         ensures same { is_stored self.new ≡ is_stored self.old }
     {
         let Some(entry) = self.map.get_mut(&page) else {
@@ -112,9 +114,11 @@ impl<A: Allocator + Copy> Entries<A> {
         note: Note<A>,
     ) -> Result<(Out<A>, Change), Note<A>>
         requires stored { is_stored self.old page ≡ true }
-        ensures after { OnOk result ((rest : Page → model.Entry) → entries_of rest self.new ≡ at_page (entries_of rest self.old) page (row me (note_of note) (entries_of rest self.old page)).0) }
+        ensures after { OnOk result ((rest : Page → model.Entry)
+            → entries_of rest self.new ≡ at_page (entries_of rest self.old) page (row me (note_of note) (entries_of rest self.old page)).0) }
         ensures out { IfOk result (λ r. (rest : Page → model.Entry) → out_of r.0 ≡ (row me (note_of note) (entries_of rest self.old page)).1) }
-        ensures change { IfOk result (λ r. (rest : Page → model.Entry) → r.1 ≡ change_of (entries_of rest self.old page) (row me (note_of note) (entries_of rest self.old page)).0) }
+        ensures change { IfOk result (λ r. (rest : Page → model.Entry)
+            → r.1 ≡ change_of (entries_of rest self.old page) (row me (note_of note) (entries_of rest self.old page)).0) }
         ensures same { is_stored self.new ≡ is_stored self.old }
         ensures back { IfErr result (λ back. note_of back ≡ note_of note) }
         ensures refused { OnErr result ((rest : Page → model.Entry) → entries_of rest self.new ≡ entries_of rest self.old) }
@@ -128,7 +132,8 @@ impl<A: Allocator + Copy> Entries<A> {
     /// Gives the page's bytes up; what it met stays met.
     pub fn forget(&mut self, page: PageId)
         requires { is_stored self.old page ≡ true }
-        ensures after { (rest : Page → model.Entry) → entries_of rest self.new ≡ at_page (entries_of rest self.old) page (model.forget (entries_of rest self.old page)) }
+        ensures after { (rest : Page → model.Entry) → entries_of rest self.new
+            ≡ at_page (entries_of rest self.old) page (model.forget (entries_of rest self.old page)) }
         ensures same { is_stored self.new ≡ is_stored self.old }
     {
         if let Some(entry) = self.map.get_mut(&page) {
@@ -159,22 +164,8 @@ impl<A: Allocator + Copy> Entries<A> {
                 return Err(AllocError);
             };
             let entry = entry.copy()?;
-            add(&mut map, *page, entry);
+            put(&mut map, *page, entry);
         }
         Ok(Entries { map })
     }
-}
-
-/// Puts a value at a page, for which there is room.
-fn add<V: Drop, A: Allocator + Copy>(
-    map: &mut IndexMap<PageId, V, BuildHasherDefault<FoldHasher>, A>,
-    page: PageId,
-    value: V,
-)
-    requires { 0 < spare map.old }
-    ensures entries { map.new.entries ≡ insert_entry same_page map.old.entries page value }
-    ensures values { (other : Page) → get_at same_page map.new other ≡ (if same_page page other then Some value else get_at same_page map.old other) }
-    ensures room { spare map.old ≤ spare map.new + 1 }
-{
-    let _ = map.insert(page, value);
 }

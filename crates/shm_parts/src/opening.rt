@@ -19,7 +19,8 @@ use std::alloc::{AllocError, Allocator};
 impl<A: Allocator + Copy> Holdings<A> {
     /// Nothing is attached, purged or counted, and every page is untouched.
     pub fn new(alloc: A) -> Holdings<A>
-        ensures { (sites me : ℕ) → (site : Site) → with_holdings sites me result site ≡ record site { entries = untouched sites me; attachments = λ _. None; purged = λ _. false; frames = None } }
+        ensures { (sites me : ℕ) → (site : Site) → with_holdings sites me result site
+            ≡ record site { entries = untouched sites me; attachments = λ _. None; purged = λ _. false; frames = None } }
     {
         Holdings::empty(alloc, None)
     }
@@ -35,7 +36,13 @@ impl<A: Allocator + Copy> Holdings<A> {
     ) -> Result<Holdings<A>, AllocError>
         requires from { 1 ≤ pages }
         requires to { pages ≤ PAGES }
-        ensures { IfOk result (λ held. (site : Site) → with_holdings sites me held site ≡ record site { entries = untouched sites me; attachments = at (λ _. None) 0 (Some (preset_attachment pages)); purged = λ _. false; frames = option_map framed limit }) }
+        ensures { IfOk result (λ held. (site : Site) → with_holdings sites me held site
+            ≡ record site {
+              entries = untouched sites me;
+              attachments = at (λ _. None) 0 (Some (preset_attachment pages));
+              purged = λ _. false;
+              frames = option_map framed limit;
+            }) }
     {
         let mut held = Holdings::empty(alloc, limit);
         let bytes = PAGE_BYTES as u32 * pages;
@@ -45,7 +52,8 @@ impl<A: Allocator + Copy> Holdings<A> {
 
     /// Nothing is held, and `limit` says how many copies there may be, if that is limited.
     fn empty(alloc: A, limit: Option<u32>) -> Holdings<A>
-        ensures held { (sites me : ℕ) → (site : Site) → with_holdings sites me result site ≡ record site { entries = untouched sites me; attachments = λ _. None; purged = λ _. false; frames = option_map framed limit } }
+        ensures held { (sites me : ℕ) → (site : Site) → with_holdings sites me result site
+            ≡ record site { entries = untouched sites me; attachments = λ _. None; purged = λ _. false; frames = option_map framed limit } }
         ensures purged { purged_of result.purged ≡ (λ _. false) }
         ensures attachments { attachments_of result.attachments ≡ (λ _. None) }
     {

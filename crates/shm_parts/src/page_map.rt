@@ -1,13 +1,14 @@
 //! Maps from pages, and maps of pages by places.
-ghost use Rattle.std.specs.Prelude.{◌≡◌, ◌<◌, ◌≤◌, ◌==◌, ℕ, true, false, cond, None, Some, is_some, IfNone, IfSome, OnErr, OnOk};
+ghost use Rattle.std.specs.Prelude.{◌≡◌, ◌+◌, ◌<◌, ◌≤◌, ◌==◌, ℕ, true, false, cond, None, Some, is_some, IfNone, IfSome, OnErr, OnOk};
 ghost use Rattle.std.specs.BTreeMap as tree;
 ghost use Rattle.std.specs.List.Sorted.{IsStrictlySortedBy};
 ghost use Rattle.std.specs.Map.{keys_of, lookup};
 ghost use Rattle.std.specs.Ordering.{nat_cmp};
-ghost use Rattle.indexmap.specs.IndexMap.{spare};
+ghost use Rattle.indexmap.specs.IndexMap.{insert_entry, spare};
 ghost use Rattle.shm_place.specs.declared.page.PageId.{PageId as Page};
 ghost use Rattle.shm_place.specs.Page.{same_page};
-ghost use Rattle.shm_parts.specs.Places.{is_behind, is_past, page_at};
+ghost use Rattle.shm_parts.specs.Ends.{is_past};
+ghost use Rattle.shm_parts.specs.Places.{is_behind, page_at};
 
 use indexmap::IndexMap;
 use shm_place::{PAGES, PageId, SegId};
@@ -23,7 +24,10 @@ pub(crate) fn put<V: Drop, A: Allocator + Copy>(
     value: V,
 )
     requires { 0 < spare map.old }
-    ensures { (other : Page) → lookup (same_page other) map.new.entries ≡ cond (same_page page other) (Some value) (lookup (same_page other) map.old.entries) }
+    ensures entries { map.new.entries ≡ insert_entry same_page map.old.entries page value }
+    ensures values { (other : Page) → lookup (same_page other) map.new.entries
+        ≡ cond (same_page page other) (Some value) (lookup (same_page other) map.old.entries) }
+    ensures room { spare map.old ≤ spare map.new + 1 }
 {
     let _ = map.insert(page, value);
 }
@@ -69,7 +73,8 @@ pub(crate) fn put_at<A: Allocator + Copy>(
     page: PageId,
 ) -> Result<(), AllocError>
     ensures entries { OnOk result (pages.new.entries ≡ tree.insert_entry nat_cmp pages.old.entries place page) }
-    ensures pages { OnOk result ((other : ℕ) → page_at pages.new.entries other ≡ cond (tree.is_at (nat_cmp place) other) (Some page) (page_at pages.old.entries other)) }
+    ensures pages { OnOk result ((other : ℕ) → page_at pages.new.entries other
+        ≡ cond (tree.is_at (nat_cmp place) other) (Some page) (page_at pages.old.entries other)) }
     ensures rising { IsStrictlySortedBy nat_cmp (keys_of pages.new.entries) }
     ensures refused { OnErr result (pages.new.entries ≡ pages.old.entries) }
 {

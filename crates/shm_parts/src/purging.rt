@@ -24,7 +24,13 @@ impl<A: Allocator + Copy> Holdings<A> {
     /// Gives up what is held of a destroyed segment, and notes it as purged, unless an attachment names it. Tells whether it did.
     pub fn purge(&mut self, id: SegId) -> Result<bool, AllocError>
         ensures unnamed { IfOk result (λ done. (site : Site) → done ≡ not (is_attached (with_attachments (attachments_of self.old.attachments) site) id)) }
-        ensures after { IfOk result (λ done. (sites me : ℕ) → (site : Site) → with_holdings sites me self.new site ≡ (if done then record (with_holdings sites me self.old site) { entries = of_segment id (Nil 0) (held_entries sites me self.old); frames = frames_without id (held_frames self.old.frames); purged = at (purged_of self.old.purged) id true } else with_holdings sites me self.old site)) }
+        ensures after { IfOk result (λ done. (sites me : ℕ) → (site : Site) → with_holdings sites me self.new site
+            ≡ (if done then record (with_holdings sites me self.old site) {
+              entries = of_segment id (Nil 0) (held_entries sites me self.old);
+              frames = frames_without id (held_frames self.old.frames);
+              purged = at (purged_of self.old.purged) id true;
+            }
+            else with_holdings sites me self.old site)) }
         ensures refused { OnErr result ((sites me : ℕ) → (site : Site) → with_holdings sites me self.new site ≡ with_holdings sites me self.old site) }
     {
         if self.attachments.names(id) {

@@ -19,7 +19,8 @@ impl<A: Allocator + Copy> Holdings<A> {
     /// A load through an attachment. It takes no memory.
     #[inline(always)]
     pub fn load(&self, at: u32, offset: u32) -> Result<Loaded, Denied>
-        ensures { (sites me : ℕ) → (site : Site) → load sites me at offset (with_holdings sites me self.now site) ≡ loaded_step sites me result (with_holdings sites me self.now site) }
+        ensures { (sites me : ℕ) → (site : Site) → load sites me at offset (with_holdings sites me self.now site)
+            ≡ loaded_step sites me result (with_holdings sites me self.now site) }
     {
         match right(&self.attachments, at, offset, false) {
             Ok((page, within)) => {
@@ -32,7 +33,8 @@ impl<A: Allocator + Copy> Holdings<A> {
 
     /// A store through an attachment. It takes no memory.
     pub fn store(&mut self, at: u32, offset: u32, byte: u8) -> Result<Kept, Denied>
-        ensures { (sites me : ℕ) → (site : Site) → store sites me at offset byte (with_holdings sites me self.old site) ≡ kept_step sites me result (with_holdings sites me self.new site) }
+        ensures { (sites me : ℕ) → (site : Site) → store sites me at offset byte (with_holdings sites me self.old site)
+            ≡ kept_step sites me result (with_holdings sites me self.new site) }
     {
         match right(&self.attachments, at, offset, true) {
             Ok((page, within)) => Ok(self.store_at(&page, within, byte)),
@@ -45,7 +47,8 @@ impl<A: Allocator + Copy> Holdings<A> {
         requires within { within < page_bytes }
         requires stored { is_stored self.now.entries page.now ≡ true }
         requires alive { purged_of self.now.purged page.now.seg ≡ false }
-        ensures { (sites me : ℕ) → (site : Site) → load_at sites me (record { page = page.now; within = within }) (with_holdings sites me self.now site) ≡ loaded_step sites me (Ok result) (with_holdings sites me self.now site) }
+        ensures { (sites me : ℕ) → (site : Site) → load_at sites me (record { page = page.now; within = within }) (with_holdings sites me self.now site)
+            ≡ loaded_step sites me (Ok result) (with_holdings sites me self.now site) }
     {
         match self.entries.get_near(place, *page) {
             Some(entry) => read(entry, page, within),
@@ -57,7 +60,8 @@ impl<A: Allocator + Copy> Holdings<A> {
         requires within { within < page_bytes }
         requires stored { is_stored self.old.entries page.now ≡ true }
         requires alive { purged_of self.old.purged page.now.seg ≡ false }
-        ensures { (sites me : ℕ) → (site : Site) → store_at sites me (record { page = page.now; within = within }) byte (with_holdings sites me self.old site) ≡ kept_step sites me (Ok result) (with_holdings sites me self.new site) }
+        ensures { (sites me : ℕ) → (site : Site) → store_at sites me (record { page = page.now; within = within }) byte (with_holdings sites me self.old site)
+            ≡ kept_step sites me (Ok result) (with_holdings sites me self.new site) }
     {
         if self.entries.store(*page, within, byte) {
             return Kept::Stored;

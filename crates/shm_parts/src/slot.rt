@@ -20,7 +20,7 @@ use std::alloc::{AllocError, Allocator};
 use std::mem;
 
 /// The entry of a page before anything happened.
-pub(crate) fn opened<A: Allocator + Copy>(
+pub(crate) fn open<A: Allocator + Copy>(
     alloc: A,
     sites: Sites,
     me: SiteId,

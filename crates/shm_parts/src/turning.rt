@@ -28,7 +28,9 @@ impl<A: Allocator + Copy> Holdings<A> {
         note: Note<A>,
     ) -> Result<(Out<A>, Change), Note<A>>
         requires { purged_of self.old.purged page.seg ≡ false }
-        ensures step { IfOk result (λ r. (site : Site) → to_entry sites me page (row me (note_of note) (held_entries sites me self.old page)) (with_holdings sites me self.old site) ≡ turned_step sites me page (out_of r.0) r.1 (with_holdings sites me self.new) site) }
+        ensures step { IfOk result (λ r. (site : Site)
+            → to_entry sites me page (row me (note_of note) (held_entries sites me self.old page)) (with_holdings sites me self.old site)
+            ≡ turned_step sites me page (out_of r.0) r.1 (with_holdings sites me self.new) site) }
         ensures back { IfErr result (λ back. note_of back ≡ note_of note) }
         ensures refused { OnErr result ((site : Site) → with_holdings sites me self.new site ≡ with_holdings sites me self.old site) }
     {
@@ -59,7 +61,9 @@ impl<A: Allocator + Copy> Holdings<A> {
         requires alive { purged_of self.old.purged page.now.seg ≡ false }
         requires stored { is_stored self.old.entries page.now ≡ true }
         requires room { has_space page.now self.old.frames }
-        ensures step { IfOk result (λ r. (sites : ℕ) → (site : Site) → to_entry sites me page.now (row me (note_of note) (held_entries sites me self.old page.now)) (with_holdings sites me self.old site) ≡ turned_step sites me page.now (out_of r.0) r.1 (with_holdings sites me self.new) site) }
+        ensures step { IfOk result (λ r. (sites : ℕ) → (site : Site)
+            → to_entry sites me page.now (row me (note_of note) (held_entries sites me self.old page.now)) (with_holdings sites me self.old site)
+            ≡ turned_step sites me page.now (out_of r.0) r.1 (with_holdings sites me self.new) site) }
         ensures back { IfErr result (λ back. note_of back ≡ note_of note) }
         ensures refused { OnErr result ((sites : ℕ) → (site : Site) → with_holdings sites me self.new site ≡ with_holdings sites me self.old site) }
     {

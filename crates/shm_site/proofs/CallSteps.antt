@@ -43,7 +43,7 @@ abbrev called_step : (me number to : ℕ) (op : Op) (calls : Calls) (site : Site
 called_step me number to op calls site = record { site = with_calls calls site; answer = Began number; sent = record { from = me; to = to; message = Call number op } ∷ [] }
 
 call_begins : (b : Bool) (sites me number to : ℕ) (op : Op) (old calls : Calls) (site : Site)
-    → Some number ≡ (if b then None else Some (old.begun + 1)) → calls ≡ begun_as (Some number) op old → to ≡ op_home sites me op
+    → Some number ≡ (if b then None else Some (old.begun + 1)) → calls ≡ begun_as number op → to ≡ op_home sites me op
     → (if b then still (Refused numbers_used_up) (with_calls old site) else call_begun sites me op (with_calls old site)) ≡ called_step me number to op calls site
 call_begins true sites me number to op old calls site n made home = cc
 call_begins false sites me number to op old calls site n made home =
@@ -51,7 +51,7 @@ call_begins false sites me number to op old calls site n made home =
     rw made (rw home (rw is refl))
 
 pub call_made : (sites me number to : ℕ) (op : Op) (old calls : Calls) (site : Site)
-    → Some number ≡ number_after old.begun → calls ≡ begun_as (Some number) op old → to ≡ op_home sites me op
+    → Some number ≡ number_after old.begun → calls ≡ begun_as number op → to ≡ op_home sites me op
     → numbered (with_calls old site) (call_begun sites me op (with_calls old site)) ≡ record { site = with_calls calls site; answer = Began number; sent = record { from = me; to = to; message = Call number op } ∷ [] }
 call_made sites me number to op old calls site n made home = call_begins (old.begun == greatest) sites me number to op old calls site n made home
 

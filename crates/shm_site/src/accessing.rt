@@ -21,7 +21,8 @@ impl<A: Allocator + Copy> Site<A> {
         offset: u32,
         outbox: &mut O,
     ) -> Result<Answer, AllocError>
-        ensures step { IfOk result (λ answer. StepsTo O.posted self.old self.new outbox.old outbox.new answer (model.load self.old.sites self.old.me at offset (site_of self.old))) }
+        ensures step { IfOk result (λ answer. StepsTo O.posted self.old self.new outbox.old outbox.new answer
+            (model.load self.old.sites self.old.me at offset (site_of self.old))) }
         ensures refused { OnErr result (Unchanged O.posted self.old self.new outbox.old outbox.new) }
         ensures memory { OnErr result ((model.load self.old.sites self.old.me at offset (site_of self.old)).answer ≡ answer.Fault) }
     {
@@ -40,7 +41,8 @@ impl<A: Allocator + Copy> Site<A> {
         byte: u8,
         outbox: &mut O,
     ) -> Result<Answer, AllocError>
-        ensures step { IfOk result (λ answer. StepsTo O.posted self.old self.new outbox.old outbox.new answer (model.store self.old.sites self.old.me at offset byte (site_of self.old))) }
+        ensures step { IfOk result (λ answer. StepsTo O.posted self.old self.new outbox.old outbox.new answer
+            (model.store self.old.sites self.old.me at offset byte (site_of self.old))) }
         ensures refused { OnErr result (Unchanged O.posted self.old self.new outbox.old outbox.new) }
         ensures memory { OnErr result ((model.store self.old.sites self.old.me at offset byte (site_of self.old)).answer ≡ answer.Fault) }
     {
@@ -60,7 +62,8 @@ impl<A: Allocator + Copy> Site<A> {
         page: &PageId,
         outbox: &mut O,
     ) -> Result<Answer, AllocError>
-        ensures step { IfOk result (λ answer. StepsTo O.posted self.old self.new outbox.old outbox.new answer (model.ask_for self.old.sites self.old.me kind page.now (site_of self.old))) }
+        ensures step { IfOk result (λ answer. StepsTo O.posted self.old self.new outbox.old outbox.new answer
+            (model.ask_for self.old.sites self.old.me kind page.now (site_of self.old))) }
         ensures refused { OnErr result (Unchanged O.posted self.old self.new outbox.old outbox.new) }
         ensures memory { OnErr result ((model.ask_for self.old.sites self.old.me kind page.now (site_of self.old)).answer ≡ answer.Fault) }
     {

@@ -10,7 +10,6 @@ ghost use Rattle.shm_site.specs.Step.{is_refused};
 
 use crate::homing::op_home;
 use crate::site::Site;
-use shm_attach::CallBook;
 use shm_model::refusal::{BUSY, NO_ATTACHMENT, NUMBERS_USED_UP, TOO_MANY_ATTACHMENTS};
 use shm_model::{Answer, Attached, Op, Reply, Request};
 use shm_parts::{Envelope, Message, Outbox};
@@ -24,7 +23,8 @@ impl<A: Allocator + Copy> Site<A> {
         request: Request,
         outbox: &mut O,
     ) -> Result<Answer, AllocError>
-        ensures step { IfOk result (λ answer. StepsTo O.posted self.old self.new outbox.old outbox.new answer (model.begin self.old.sites self.old.me request (site_of self.old))) }
+        ensures step { IfOk result (λ answer. StepsTo O.posted self.old self.new outbox.old outbox.new answer
+            (model.begin self.old.sites self.old.me request (site_of self.old))) }
         ensures memory { OnErr result (is_refused (model.begin self.old.sites self.old.me request (site_of self.old)).answer ≡ false) }
         ensures refused { OnErr result (Unchanged O.posted self.old self.new outbox.old outbox.new) }
     {
@@ -43,7 +43,8 @@ impl<A: Allocator + Copy> Site<A> {
         outbox: &mut O,
     ) -> Result<Answer, AllocError>
         requires { self.old.calls.outstanding ≡ None }
-        ensures step { IfOk result (λ answer. StepsTo O.posted self.old self.new outbox.old outbox.new answer (model.begin_op self.old.sites self.old.me op (site_of self.old))) }
+        ensures step { IfOk result (λ answer. StepsTo O.posted self.old self.new outbox.old outbox.new answer
+            (model.begin_op self.old.sites self.old.me op (site_of self.old))) }
         ensures memory { OnErr result (is_refused (model.begin_op self.old.sites self.old.me op (site_of self.old)).answer ≡ false) }
         ensures refused { OnErr result (Unchanged O.posted self.old self.new outbox.old outbox.new) }
     {
@@ -65,8 +66,10 @@ impl<A: Allocator + Copy> Site<A> {
         outbox: &mut O,
     ) -> Result<Answer, AllocError>
         requires { self.old.calls.outstanding ≡ None }
-        ensures step { IfOk result (λ answer. StepsTo O.posted self.old self.new outbox.old outbox.new answer (model.begin_detach self.old.sites self.old.me number ((site_of self.old).attachments number) (site_of self.old))) }
-        ensures memory { OnErr result (is_refused (model.begin_detach self.old.sites self.old.me number ((site_of self.old).attachments number) (site_of self.old)).answer ≡ false) }
+        ensures step { IfOk result (λ answer. StepsTo O.posted self.old self.new outbox.old outbox.new answer
+            (model.begin_detach self.old.sites self.old.me number ((site_of self.old).attachments number) (site_of self.old))) }
+        ensures memory { OnErr result (is_refused (model.begin_detach self.old.sites self.old.me number ((site_of self.old).attachments number)
+            (site_of self.old)).answer ≡ false) }
         ensures refused { OnErr result (Unchanged O.posted self.old self.new outbox.old outbox.new) }
     {
         let Some(id) = self.holdings.segment(number) else {
@@ -84,17 +87,17 @@ impl<A: Allocator + Copy> Site<A> {
     /// Notes the call as outstanding and sends it to its home, where a number is left for it.
     fn call<O: Outbox<Envelope<A>>>(&mut self, op: Op, outbox: &mut O) -> Result<Answer, AllocError>
         requires { self.old.calls.outstanding ≡ None }
-        ensures step { IfOk result (λ answer. StepsTo O.posted self.old self.new outbox.old outbox.new answer (model.numbered (site_of self.old) (model.call_begun self.old.sites self.old.me op (site_of self.old)))) }
+        ensures step { IfOk result (λ answer. StepsTo O.posted self.old self.new outbox.old outbox.new answer
+            (model.numbered (site_of self.old) (model.call_begun self.old.sites self.old.me op (site_of self.old)))) }
         ensures memory { OnErr result ((step : Step) → model.numbered (site_of self.old) step ≡ step) }
         ensures refused { OnErr result (Unchanged O.posted self.old self.new outbox.old outbox.new) }
         ensures holdings { self.new.holdings ≡ self.old.holdings }
     {
-        let mut calls = self.calls.copy();
-        let Some(number) = calls.begin_next(op) else {
+        let Some(number) = self.calls.next_number() else {
             return Ok(Answer::Refused(NUMBERS_USED_UP));
         };
         outbox.reserve(1)?;
-        self.calls = calls;
+        self.calls.begin(number, op);
         outbox.push(Envelope {
             from: self.me,
             to: op_home(self.sites, self.me, &op),
@@ -109,8 +112,8 @@ impl<A: Allocator + Copy> Site<A> {
         ensures refused { OnErr result (site_of self.new ≡ site_of self.old) }
         ensures seat { SameSeat self.old self.new }
     {
-        // asked of a copy: an attach that finds no place leaves its call outstanding
-        let Some(op) = self.calls.copy().reply(number, &reply) else {
+        // an attach that finds no place leaves its call outstanding: the call is only named here, and ends below
+        let Some(op) = self.calls.answered_by(number, &reply) else {
             return Ok(Answer::Dropped);
         };
         self.end_counted_call(number, op, reply)
@@ -135,7 +138,8 @@ impl<A: Allocator + Copy> Site<A> {
         id: SegId,
         reply: Reply,
     ) -> Result<Answer, AllocError>
-        ensures step { IfOk result (λ answer. (cred : Cred) (ro : Bool) → model.reply_counts number (Attach cred id ro) reply (site_of self.old) ≡ stepped self.new answer []) }
+        ensures step { IfOk result (λ answer. (cred : Cred) (ro : Bool)
+            → model.reply_counts number (Attach cred id ro) reply (site_of self.old) ≡ stepped self.new answer []) }
         ensures refused { OnErr result (site_of self.new ≡ site_of self.old) }
         ensures seat { SameSeat self.old self.new }
     {
@@ -147,7 +151,8 @@ impl<A: Allocator + Copy> Site<A> {
 
     /// The reply to an attach, which is given the least free number. A segment that was purged here isn't attached.
     fn attach(&mut self, number: u64, id: SegId, attached: Attached) -> Result<Answer, AllocError>
-        ensures step { IfOk result (λ answer. model.attached number id (AttachedReply attached) (record { id = id; size = attached.size; ro = attached.ro }) (site_of self.old) ≡ stepped self.new answer []) }
+        ensures step { IfOk result (λ answer. model.attached number id (AttachedReply attached) (record { id = id; size = attached.size; ro = attached.ro })
+            (site_of self.old) ≡ stepped self.new answer []) }
         ensures refused { OnErr result (site_of self.new ≡ site_of self.old) }
         ensures seat { SameSeat self.old self.new }
     {
@@ -168,7 +173,7 @@ impl<A: Allocator + Copy> Site<A> {
         ensures step { model.replied number reply attachment (site_of self.old) ≡ stepped self.new result [] }
         ensures seat { SameSeat self.old self.new }
     {
-        self.calls = CallBook::after(self.calls.calls());
+        self.calls.end();
         Answer::Replied {
             number,
             reply,

@@ -1,17 +1,15 @@
 //! What a site does with an envelope that is handed to it: one case for each kind of message, and of a note.
-ghost use Rattle.std.specs.Prelude.{◌≡◌, ◌<◌, Some, true, false, IsOk, IfOk, IfErr, OnErr};
+ghost use Rattle.std.specs.Prelude.{◌≡◌, ◌<◌, true, false, IfOk, IfErr, OnErr};
 ghost use Rattle.shm_model.specs.Message.{Of};
 ghost use Rattle.shm_model.specs.Step.{deliver, foreign, is_proper, on_message};
 ghost use Rattle.shm_model.specs.Transfer.{on_note, on_note_of};
 ghost use Rattle.shm_parts.specs.Message.{envelope_of, message_of, note_of};
 ghost use Rattle.shm_parts.specs.Purged.{purged_of};
 ghost use Rattle.shm_site.specs.Site.{StepsTo, Unchanged, site_of};
-ghost use Rattle.shm_site.specs.Step.{envelope_if, fault_of, is_refused};
-ghost use Rattle.shm_site.specs.declared.step_error.StepFault.TheVariants as fault;
+ghost use Rattle.shm_site.specs.Step.{is_refused};
 
 use crate::foreign::is_foreign;
 use crate::site::Site;
-use crate::step_error::{StepError, StepFault};
 use shm_model::Answer;
 use shm_parts::{Envelope, Message, Note, Outbox};
 use shm_place::{PageId, SiteId};
@@ -25,34 +23,25 @@ impl<A: Allocator + Copy> Site<A> {
         is_foreign(self.sites, self.me, envelope)
     }
 
-    /// Takes an envelope that the network hands over.
+    /// Takes an envelope that can be for this site. Where memory is refused it comes back.
     pub(crate) fn deliver<O: Outbox<Envelope<A>>>(
         &mut self,
         envelope: Envelope<A>,
         outbox: &mut O,
-    ) -> Result<Answer, StepError<A>>
-        ensures step { IfOk result (λ answer. StepsTo O.posted self.old self.new outbox.old outbox.new answer (deliver self.old.sites self.old.me (envelope_of envelope) (site_of self.old))) }
-        ensures taken { IsOk result → foreign self.old.sites self.old.me (envelope_of envelope) ≡ false }
-        ensures fault { IfErr result (λ e. e.fault ≡ fault_of (foreign self.old.sites self.old.me (envelope_of envelope))) }
-        ensures memory { IfErr result (λ e. e.fault ≡ fault.OutOfMemory → is_refused (deliver self.old.sites self.old.me (envelope_of envelope) (site_of self.old)).answer ≡ false) }
-        ensures back { IfErr result (λ e. envelope_if e.envelope ≡ Some (envelope_of envelope)) }
+    ) -> Result<Answer, Envelope<A>>
+        requires { foreign self.old.sites self.old.me (envelope_of envelope) ≡ false }
+        ensures step { IfOk result (λ answer. StepsTo O.posted self.old self.new outbox.old outbox.new answer
+            (deliver self.old.sites self.old.me (envelope_of envelope) (site_of self.old))) }
+        ensures memory { OnErr result (is_refused (deliver self.old.sites self.old.me (envelope_of envelope) (site_of self.old)).answer ≡ false) }
+        ensures back { IfErr result (λ back. envelope_of back ≡ envelope_of envelope) }
         ensures refused { OnErr result (Unchanged O.posted self.old self.new outbox.old outbox.new) }
     {
         // Reading it tells the proof its limits.
         let _count = self.sites.count();
-        if self.foreign(&envelope) {
-            return Err(StepError {
-                fault: StepFault::Foreign,
-                envelope: Some(envelope),
-            });
-        }
         let Envelope { from, to, message } = envelope;
         match self.on_message(from, message, outbox) {
             Ok(answer) => Ok(answer),
-            Err(message) => Err(StepError {
-                fault: StepFault::OutOfMemory,
-                envelope: Some(Envelope { from, to, message }),
-            }),
+            Err(message) => Err(Envelope { from, to, message }),
         }
     }
 
@@ -65,7 +54,8 @@ impl<A: Allocator + Copy> Site<A> {
     ) -> Result<Answer, Message<A>>
         requires from { from < 16 }
         requires proper { is_proper self.old.sites self.old.me from (message_of message) ≡ true }
-        ensures step { IfOk result (λ answer. StepsTo O.posted self.old self.new outbox.old outbox.new answer (on_message self.old.sites self.old.me from (message_of message) (site_of self.old))) }
+        ensures step { IfOk result (λ answer. StepsTo O.posted self.old self.new outbox.old outbox.new answer
+            (on_message self.old.sites self.old.me from (message_of message) (site_of self.old))) }
         ensures memory { OnErr result (is_refused (on_message self.old.sites self.old.me from (message_of message) (site_of self.old)).answer ≡ false) }
         ensures back { IfErr result (λ back. message_of back ≡ message_of message) }
         ensures refused { OnErr result (Unchanged O.posted self.old self.new outbox.old outbox.new) }
@@ -104,7 +94,8 @@ impl<A: Allocator + Copy> Site<A> {
         outbox: &mut O,
     ) -> Result<Answer, Message<A>>
         requires { from < 16 }
-        ensures step { IfOk result (λ answer. StepsTo O.posted self.old self.new outbox.old outbox.new answer (on_note_of self.old.sites self.old.me from page.now (note_of note) (site_of self.old))) }
+        ensures step { IfOk result (λ answer. StepsTo O.posted self.old self.new outbox.old outbox.new answer
+            (on_note_of self.old.sites self.old.me from page.now (note_of note) (site_of self.old))) }
         ensures memory { OnErr result (is_refused (on_note_of self.old.sites self.old.me from page.now (note_of note) (site_of self.old)).answer ≡ false) }
         ensures back { IfErr result (λ back. message_of back ≡ Of page.now (note_of note)) }
         ensures refused { OnErr result (Unchanged O.posted self.old self.new outbox.old outbox.new) }
@@ -128,7 +119,8 @@ impl<A: Allocator + Copy> Site<A> {
     ) -> Result<Answer, Note<A>>
         requires from { from < 16 }
         requires alive { purged_of self.old.holdings.purged page.now.seg ≡ false }
-        ensures step { IfOk result (λ answer. StepsTo O.posted self.old self.new outbox.old outbox.new answer (on_note self.old.sites self.old.me from page.now (note_of note) (site_of self.old))) }
+        ensures step { IfOk result (λ answer. StepsTo O.posted self.old self.new outbox.old outbox.new answer
+            (on_note self.old.sites self.old.me from page.now (note_of note) (site_of self.old))) }
         ensures memory { OnErr result (is_refused (on_note self.old.sites self.old.me from page.now (note_of note) (site_of self.old)).answer ≡ false) }
         ensures back { IfErr result (λ back. note_of back ≡ note_of note) }
         ensures refused { OnErr result (Unchanged O.posted self.old self.new outbox.old outbox.new) }

@@ -23,7 +23,8 @@ pub struct Made<A: Allocator + Copy = Global> {
 impl<A: Allocator + Copy> Site<A> {
     /// Makes one step as [`Site::step`] does, and lists what is sent.
     pub fn step_listed(&mut self, input: Input<A>) -> Result<Made<A>, StepError<A>>
-        ensures step { IfOk result (λ made. step self.old.sites self.old.me (site_of self.old) (input_of input) ≡ stepped self.new made.answer (map envelope_of made.sent.items)) }
+        ensures step { IfOk result (λ made. step self.old.sites self.old.me (site_of self.old) (input_of input)
+            ≡ stepped self.new made.answer (map envelope_of made.sent.items)) }
         ensures taken { IsOk result → is_foreign self.old.sites self.old.me (input_of input) ≡ false }
         ensures fault { IfErr result (λ e. e.fault ≡ fault_of (is_foreign self.old.sites self.old.me (input_of input))) }
         ensures memory { IfErr result (λ e. e.fault ≡ fault.OutOfMemory → may_grow self.old.sites self.old.me (site_of self.old) (input_of input) ≡ true) }
@@ -38,24 +39,25 @@ impl<A: Allocator + Copy> Site<A> {
         }
     }
 
-    /// Makes one step as [`Site::step_listed`] does, for whoever has no use for an input that comes back: where the step isn't made the
-    /// input is spent, and a foreign envelope is told as memory that was refused.
+    /// Makes one step of an input that the site doesn't refuse, and lists what is sent. Where memory is refused the input is spent.
     pub fn step_spending(&mut self, input: Input<A>) -> Result<Made<A>, AllocError>
-        ensures step { IfOk result (λ made. step self.old.sites self.old.me (site_of self.old) (input_of input) ≡ stepped self.new made.answer (map envelope_of made.sent.items)) }
-        ensures taken { IsOk result → is_foreign self.old.sites self.old.me (input_of input) ≡ false }
-        ensures memory { OnErr result (is_foreign self.old.sites self.old.me (input_of input) ≡ false → may_grow self.old.sites self.old.me (site_of self.old) (input_of input) ≡ true) }
+        requires { is_foreign self.old.sites self.old.me (input_of input) ≡ false }
+        ensures step { IfOk result (λ made. step self.old.sites self.old.me (site_of self.old) (input_of input)
+            ≡ stepped self.new made.answer (map envelope_of made.sent.items)) }
+        ensures memory { OnErr result (may_grow self.old.sites self.old.me (site_of self.old) (input_of input) ≡ true) }
         ensures refused { OnErr result (site_of self.new ≡ site_of self.old) }
         ensures seat { SameSeat self.old self.new }
     {
-        match self.step_listed(input) {
-            Ok(made) => Ok(made),
-            Err(error) => Err(spend(error)),
+        let mut sent = Vec::new(self.alloc);
+        match self.step_proper(input, &mut sent) {
+            Ok(answer) => Ok(Made { answer, sent }),
+            Err(envelope) => Err(spend(envelope)),
         }
     }
 }
 
 /// The envelope that came back is given up.
-fn spend<A: Allocator + Copy>(error: StepError<A>) -> AllocError {
-    drop(error);
+fn spend<A: Allocator + Copy>(envelope: Option<Envelope<A>>) -> AllocError {
+    drop(envelope);
     AllocError
 }

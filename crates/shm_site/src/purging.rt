@@ -16,7 +16,8 @@ impl<A: Allocator + Copy> Site<A> {
         id: SegId,
         outbox: &mut O,
     ) -> Result<Answer, AllocError>
-        ensures step { IfOk result (λ answer. StepsTo O.posted self.old self.new outbox.old outbox.new answer (on_purge self.old.sites self.old.me id (site_of self.old))) }
+        ensures step { IfOk result (λ answer. StepsTo O.posted self.old self.new outbox.old outbox.new answer
+            (on_purge self.old.sites self.old.me id (site_of self.old))) }
         ensures refused { OnErr result (Unchanged O.posted self.old self.new outbox.old outbox.new) }
     {
         outbox.reserve(1)?;

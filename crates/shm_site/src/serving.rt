@@ -27,7 +27,8 @@ impl<A: Allocator + Copy> Site<A> {
     ) -> Result<Answer, AllocError>
         requires site { from < 16 }
         requires home { op_home self.old.sites from op ≡ self.old.me }
-        ensures step { IfOk result (λ answer. StepsTo O.posted self.old self.new outbox.old outbox.new answer (on_call self.old.sites self.old.me from number op (site_of self.old))) }
+        ensures step { IfOk result (λ answer. StepsTo O.posted self.old self.new outbox.old outbox.new answer
+            (on_call self.old.sites self.old.me from number op (site_of self.old))) }
         ensures refused { OnErr result (Unchanged O.posted self.old self.new outbox.old outbox.new) }
     {
         outbox.reserve(MOST_FOR_A_CALL)?;

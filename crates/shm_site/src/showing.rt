@@ -36,7 +36,8 @@ impl<A: Allocator + Copy> Site<A> {
 
     /// The page's state at the site, and the greatest transaction number that it met there. None: no segment can have the page.
     pub fn shown(&self, page: PageId) -> Option<Shown>
-        ensures { result ≡ (if in_limits self.now.sites page then Some (shown_of ((site_of self.now).purged page.seg) ((site_of self.now).entries page)) else None) }
+        ensures { result ≡ (if in_limits self.now.sites page then Some
+            (shown_of ((site_of self.now).purged page.seg) ((site_of self.now).entries page)) else None) }
     {
         let page = &page;
         if !in_limits(self.sites, *page) {
@@ -48,7 +49,8 @@ impl<A: Allocator + Copy> Site<A> {
     /// The page's book, at its manager. None: this site isn't the page's manager, or has purged its segment, or no segment can have
     /// the page.
     pub fn book(&self, page: PageId) -> Option<BookView>
-        ensures found { is_some result ≡ (in_limits self.now.sites page && (manager_of self.now.sites page == self.now.me) && not ((site_of self.now).purged page.seg)) }
+        ensures found { is_some result ≡ (in_limits self.now.sites page && (manager_of self.now.sites page == self.now.me)
+            && not ((site_of self.now).purged page.seg)) }
         ensures book { IfSome result (λ view. Shows view ((site_of self.now).books page)) }
     {
         let page = &page;

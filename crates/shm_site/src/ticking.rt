@@ -38,7 +38,8 @@ impl<A: Allocator + Copy> Site<A> {
     /// Sends again, in this order: the pending requests, what the running transactions ask for, the outstanding call, the purges. All
     /// is listed first; then room is made for just so much. Where memory is refused nothing is sent.
     pub(crate) fn tick<O: Outbox<Envelope<A>>>(&self, outbox: &mut O) -> Result<Answer, AllocError>
-        ensures step { IfOk result (λ answer. StepsTo O.posted self.now self.now outbox.old outbox.new answer (model.tick self.now.sites self.now.me (site_of self.now))) }
+        ensures step { IfOk result (λ answer. StepsTo O.posted self.now self.now outbox.old outbox.new answer
+            (model.tick self.now.sites self.now.me (site_of self.now))) }
         ensures refused { OnErr result (O.posted outbox.old outbox.new []) }
     {
         let again = self.list_again()?;
@@ -61,7 +62,8 @@ impl<A: Allocator + Copy> Site<A> {
 
     /// The pending requests.
     fn ask_again(&self, list: &mut Vec<Envelope<A>, A>) -> Result<(), AllocError>
-        ensures { OnOk result (map envelope_of list.new.items ≡ map envelope_of list.old.items ++ map (model.ask_again self.now.sites self.now.me) (pendings_of self.now.pending)) }
+        ensures { OnOk result (map envelope_of list.new.items
+            ≡ map envelope_of list.old.items ++ map (model.ask_again self.now.sites self.now.me) (pendings_of self.now.pending)) }
     {
         'requests: for (page, pending) in self.pending.iter() {
             let (request, kind) = *pending;
@@ -72,7 +74,8 @@ impl<A: Allocator + Copy> Site<A> {
 
     /// What the running transactions ask for.
     fn order_again(&self, list: &mut Vec<Envelope<A>, A>) -> Result<(), AllocError>
-        ensures { OnOk result (map envelope_of list.new.items ≡ map envelope_of list.old.items ++ flat_map (model.orders_again self.now.me (site_of self.now)) (booked_of self.now.books)) }
+        ensures { OnOk result (map envelope_of list.new.items
+            ≡ map envelope_of list.old.items ++ flat_map (model.orders_again self.now.me (site_of self.now)) (booked_of self.now.books)) }
     {
         let mut last = None;
         'pages: while let Some((place, page, book)) = self.books.running_after(last) {
@@ -89,7 +92,8 @@ impl<A: Allocator + Copy> Site<A> {
         book: &Book<A>,
         list: &mut Vec<Envelope<A>, A>,
     ) -> Result<(), AllocError>
-        ensures { OnOk result (map envelope_of list.new.items ≡ map envelope_of list.old.items ++ transfer.order_envelopes self.now.me page.now (book_of book.now) (orders (book_of book.now))) }
+        ensures { OnOk result (map envelope_of list.new.items
+            ≡ map envelope_of list.old.items ++ transfer.order_envelopes self.now.me page.now (book_of book.now) (orders (book_of book.now))) }
     {
         let orders = book.resend();
         'orders: for order in orders.as_slice() {
@@ -100,7 +104,8 @@ impl<A: Allocator + Copy> Site<A> {
 
     /// The outstanding call.
     fn call_again(&self, list: &mut Vec<Envelope<A>, A>) -> Result<(), AllocError>
-        ensures { OnOk result (map envelope_of list.new.items ≡ map envelope_of list.old.items ++ model.call_again self.now.sites self.now.me self.now.calls.outstanding) }
+        ensures { OnOk result (map envelope_of list.new.items
+            ≡ map envelope_of list.old.items ++ model.call_again self.now.sites self.now.me self.now.calls.outstanding) }
     {
         match self.calls.outstanding() {
             None => Ok(()),
@@ -118,7 +123,8 @@ impl<A: Allocator + Copy> Site<A> {
 
     /// The purges of this home's destroyed segments.
     fn purge_again(&self, list: &mut Vec<Envelope<A>, A>) -> Result<(), AllocError>
-        ensures { OnOk result (map envelope_of list.new.items ≡ map envelope_of list.old.items ++ flat_map (model.purges_again self.now.sites self.now.me (site_of self.now)) self.now.home.table.segments) }
+        ensures { OnOk result (map envelope_of list.new.items
+            ≡ map envelope_of list.old.items ++ flat_map (model.purges_again self.now.sites self.now.me (site_of self.now)) self.now.home.table.segments) }
     {
         let mut last = None;
         'segments: while let Some((id, missing)) = self.home.next_purge(last) {
@@ -134,7 +140,8 @@ impl<A: Allocator + Copy> Site<A> {
         missing: SiteSet,
         list: &mut Vec<Envelope<A>, A>,
     ) -> Result<(), AllocError>
-        ensures { OnOk result (map envelope_of list.new.items ≡ map envelope_of list.old.items ++ map (purge_envelope self.now.me id) (filter (has missing) (range_with_len 0 self.now.sites))) }
+        ensures { OnOk result (map envelope_of list.new.items
+            ≡ map envelope_of list.old.items ++ map (purge_envelope self.now.me id) (filter (has missing) (range_with_len 0 self.now.sites))) }
     {
         'sites: for site in 0..self.sites.count() {
             let to = SiteId(site);

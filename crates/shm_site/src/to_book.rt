@@ -18,7 +18,7 @@ use shm_place::{PageId, SiteId};
 use std::alloc::{AllocError, Allocator};
 
 impl<A: Allocator + Copy> Site<A> {
-    /// A site asks for a right to the page. An Ask for which no number is left is refused before memory is needed.
+    /// A site asks for a right to the page. Where memory is refused, an Ask for which no number is left is refused for that all the same.
     pub(crate) fn on_ask<O: Outbox<Envelope<A>>>(
         &mut self,
         page: PageId,
@@ -28,13 +28,35 @@ impl<A: Allocator + Copy> Site<A> {
         outbox: &mut O,
     ) -> Result<Answer, AllocError>
         requires { from < 16 }
-        ensures step { IfOk result (λ answer. StepsTo O.posted self.old self.new outbox.old outbox.new answer (to_book self.old.me page (book.on_ask from request kind ((site_of self.old).books page)) (site_of self.old))) }
-        ensures memory { OnErr result (is_refused (to_book self.old.me page (book.on_ask from request kind ((site_of self.old).books page)) (site_of self.old)).answer ≡ false) }
+        ensures step { IfOk result (λ answer. StepsTo O.posted self.old self.new outbox.old outbox.new answer
+            (to_book self.old.me page (book.on_ask from request kind ((site_of self.old).books page)) (site_of self.old))) }
+        ensures memory { OnErr result (is_refused (to_book self.old.me page (book.on_ask from request kind ((site_of self.old).books page))
+            (site_of self.old)).answer ≡ false) }
         ensures refused { OnErr result (Unchanged O.posted self.old self.new outbox.old outbox.new) }
     {
-        if self.lacks_number(&page, from, request) {
-            return Ok(Answer::Refused(NUMBERS_USED_UP));
+        match self.ask_book(page, from, request, kind, outbox) {
+            Ok(answer) => Ok(answer),
+            Err(_) if self.lacks_number(&page, from, request) => {
+                Ok(Answer::Refused(NUMBERS_USED_UP))
+            }
+            Err(error) => Err(error),
         }
+    }
+
+    /// The same, with what memory there is.
+    fn ask_book<O: Outbox<Envelope<A>>>(
+        &mut self,
+        page: PageId,
+        from: SiteId,
+        request: u64,
+        kind: Kind,
+        outbox: &mut O,
+    ) -> Result<Answer, AllocError>
+        requires { from < 16 }
+        ensures step { IfOk result (λ answer. StepsTo O.posted self.old self.new outbox.old outbox.new answer
+            (to_book self.old.me page (book.on_ask from request kind ((site_of self.old).books page)) (site_of self.old))) }
+        ensures refused { OnErr result (Unchanged O.posted self.old self.new outbox.old outbox.new) }
+    {
         outbox.reserve(MOST_ORDERS)?;
         let page = &page;
         let outcome = self
@@ -63,7 +85,8 @@ impl<A: Allocator + Copy> Site<A> {
         outbox: &mut O,
     ) -> Result<Answer, AllocError>
         requires { from < 16 }
-        ensures step { IfOk result (λ answer. StepsTo O.posted self.old self.new outbox.old outbox.new answer (to_book self.old.me page (book.on_cleared from number ((site_of self.old).books page)) (site_of self.old))) }
+        ensures step { IfOk result (λ answer. StepsTo O.posted self.old self.new outbox.old outbox.new answer
+            (to_book self.old.me page (book.on_cleared from number ((site_of self.old).books page)) (site_of self.old))) }
         ensures refused { OnErr result (Unchanged O.posted self.old self.new outbox.old outbox.new) }
     {
         outbox.reserve(MOST_ORDERS)?;
@@ -81,7 +104,8 @@ impl<A: Allocator + Copy> Site<A> {
         outbox: &mut O,
     ) -> Result<Answer, AllocError>
         requires { from < 16 }
-        ensures step { IfOk result (λ answer. StepsTo O.posted self.old self.new outbox.old outbox.new answer (to_book self.old.me page (book.on_confirm from number ((site_of self.old).books page)) (site_of self.old))) }
+        ensures step { IfOk result (λ answer. StepsTo O.posted self.old self.new outbox.old outbox.new answer
+            (to_book self.old.me page (book.on_confirm from number ((site_of self.old).books page)) (site_of self.old))) }
         ensures refused { OnErr result (Unchanged O.posted self.old self.new outbox.old outbox.new) }
     {
         outbox.reserve(MOST_ORDERS)?;

@@ -26,7 +26,8 @@ impl<A: Allocator + Copy> Site<A> {
         outbox: &mut O,
     ) -> Result<Answer, Note<A>>
         requires alive { purged_of self.old.holdings.purged page.seg ≡ false }
-        ensures step { IfOk result (λ answer. StepsTo O.posted self.old self.new outbox.old outbox.new answer (to_entry self.old.sites self.old.me page (row self.old.me (note_of note) ((site_of self.old).entries page)) (site_of self.old))) }
+        ensures step { IfOk result (λ answer. StepsTo O.posted self.old self.new outbox.old outbox.new answer
+            (to_entry self.old.sites self.old.me page (row self.old.me (note_of note) ((site_of self.old).entries page)) (site_of self.old))) }
         ensures back { IfErr result (λ back. note_of back ≡ note_of note) }
         ensures refused { OnErr result (Unchanged O.posted self.old self.new outbox.old outbox.new) }
     {
@@ -50,7 +51,8 @@ impl<A: Allocator + Copy> Site<A> {
         outbox: &mut O,
     ) -> Answer
         requires { 0 < O.room outbox.old }
-        ensures { StepsTo O.posted self.old self.new outbox.old outbox.new result (turned_step self.old.sites self.old.me page.now (out_of out) change (λ site. site) (site_of self.old)) }
+        ensures { StepsTo O.posted self.old self.new outbox.old outbox.new result
+            (turned_step self.old.sites self.old.me page.now (out_of out) change (λ site. site) (site_of self.old)) }
     {
         let Some(envelope) = envelope_out(self.sites, self.me, page, out) else {
             return Answer::Dropped;

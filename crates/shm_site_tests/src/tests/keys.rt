@@ -50,11 +50,11 @@ impl<A: Allocator + Copy> Lone<A> {
         self.table.attach(cred, SegId(id), ro)
     }
 
-    fn detach(&mut self, id: u32) -> Result<(), Errno> {
+    fn detach(&mut self, id: u32) -> Result<Option<SegId>, Errno> {
         self.table.detach(SegId(id))
     }
 
-    fn remove(&mut self, cred: Cred, id: u32) -> Result<(), Errno> {
+    fn remove(&mut self, cred: Cred, id: u32) -> Result<Option<SegId>, Errno> {
         self.table.remove(cred, SegId(id))
     }
 
@@ -93,4 +93,13 @@ fn expect_made(rt: &impl Abort, answer: Result<u32, GetFault>, expected: Result<
 /// Stops the test where a call answers otherwise.
 fn expect_answer(rt: &impl Abort, answer: Result<(), Errno>, expected: Result<(), Errno>) {
     assert_eq!(rt; answer, expected);
+}
+
+/// Stops the test where a detach or a remove was answered otherwise, or another segment is gone by it.
+fn expect_gone(
+    rt: &impl Abort,
+    answer: Result<Option<SegId>, Errno>,
+    gone: Result<Option<SegId>, Errno>,
+) {
+    assert_eq!(rt; answer, gone);
 }

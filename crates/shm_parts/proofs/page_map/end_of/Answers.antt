@@ -1,4 +1,4 @@
-use Rattle.std.proofs.Common.{◌≡◌, List, sym, subst, arith}
+use Rattle.std.proofs.Common.{List, sym, subst, arith}
 use Rattle.std.proofs.lemmas.List.{take_all}
 use Rattle.shm_parts.proofs.EndLemmas.{NonePast, none_past, past_more}
 use Rattle.shm_parts.proofs.page_map.end_of.Goals as goal

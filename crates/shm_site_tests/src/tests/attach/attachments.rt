@@ -34,9 +34,10 @@ fn sixty_four_stand_under_rising_numbers(rt: HostRuntime) {
 fn the_least_free_number_is_given_again(rt: HostRuntime) {
     let mut attachments = sixty_four();
     expect_number(&rt, attachments.put(SegId(7), 1, false), None);
-    expect_segment(&rt, attachments.take(5), Some(SegId(105)));
-    expect_segment(&rt, attachments.take(5), None);
-    expect_segment(&rt, attachments.take(3), Some(SegId(103)));
+    for number in [5, 5, 3, 64] {
+        attachments.remove(number);
+        expect_segment(&rt, attachments.segment(number), None);
+    }
     let copy = attachments.copy();
     expect_number(&rt, attachments.put(SegId(7), 1, false), Some(3));
     expect(&rt, attachments.names(SegId(7)));

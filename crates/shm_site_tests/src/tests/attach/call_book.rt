@@ -1,5 +1,4 @@
-use crate::tests::expect;
-use shm_attach::{Attached, BeginFault, CallBook, Op, Reply};
+use shm_attach::{Attached, CallBook, Op, Reply};
 use shm_model::Cred;
 use shm_place::SegId;
 use std::process::Abort;
@@ -17,18 +16,14 @@ fn a_detach() -> Op {
     Op::Detach { id: SegId(4) }
 }
 
-/// Stops the test where a call was begun otherwise.
-fn expect_begun(
-    rt: &impl Abort,
-    begun: Result<u64, BeginFault>,
-    expected: Result<u64, BeginFault>,
-) {
-    assert_eq!(rt; begun, expected);
+/// Stops the test where another number follows.
+fn expect_next(rt: &impl Abort, next: Option<u64>, expected: Option<u64>) {
+    assert_eq!(rt; next, expected);
 }
 
-/// Stops the test where a reply ended another call.
-fn expect_ended(rt: &impl Abort, ended: Option<Op>, expected: Option<Op>) {
-    assert_eq!(rt; ended, expected);
+/// Stops the test where a reply counts for another call.
+fn expect_answered(rt: &impl Abort, answered: Option<Op>, expected: Option<Op>) {
+    assert_eq!(rt; answered, expected);
 }
 
 /// Stops the test where another call is outstanding.
@@ -39,37 +34,30 @@ fn expect_outstanding(rt: &impl Abort, call: Option<(u64, Op)>, expected: Option
 #[test]
 fn a_call_ends_once(rt: HostRuntime) {
     let mut book = CallBook::new();
-    expect_begun(&rt, book.begin(a_detach()), Ok(1));
-    expect_begun(&rt, book.begin(a_detach()), Err(BeginFault::Busy));
-    expect_ended(&rt, book.reply(2, &Reply::Ok), None);
+    expect_next(&rt, book.next_number(), Some(1));
+    book.begin(1, a_detach());
+    expect_next(&rt, book.next_number(), Some(2));
+    expect_answered(&rt, book.answered_by(2, &Reply::Ok), None);
     expect_outstanding(&rt, book.copy().outstanding(), Some((1, a_detach())));
-    expect_ended(&rt, book.reply(1, &Reply::Ok), Some(a_detach()));
-    expect_ended(&rt, book.reply(1, &Reply::Ok), None);
+    expect_answered(&rt, book.answered_by(1, &Reply::Ok), Some(a_detach()));
+    book.end();
+    expect_answered(&rt, book.answered_by(1, &Reply::Ok), None);
     expect_outstanding(&rt, book.outstanding(), None);
-    expect(&rt, book.calls() == 1);
+    expect_next(&rt, book.next_number(), Some(2));
 }
 
 #[test]
 fn a_reply_of_another_form_is_ignored(rt: HostRuntime) {
     let mut book = CallBook::new();
-    expect_begun(&rt, book.begin(an_attach()), Ok(1));
-    expect_ended(&rt, book.reply(1, &Reply::Ok), None);
+    book.begin(1, an_attach());
+    expect_answered(&rt, book.answered_by(1, &Reply::Ok), None);
     for size in [0, 1_048_577] {
         let reply = Reply::Attached(Attached { size, ro: true });
-        expect_ended(&rt, book.reply(1, &reply), None);
+        expect_answered(&rt, book.answered_by(1, &reply), None);
     }
     let reply = Reply::Attached(Attached {
         size: 1_048_576,
         ro: true,
     });
-    expect_ended(&rt, book.reply(1, &reply), Some(an_attach()));
-}
-
-#[test]
-fn no_number_comes_after_the_greatest(rt: HostRuntime) {
-    let mut book = CallBook::after(u64::MAX);
-    let refused = book.begin(an_attach());
-    expect_begun(&rt, refused, Err(BeginFault::UsedUp));
-    expect(&rt, book.calls() == u64::MAX);
-    expect_outstanding(&rt, book.outstanding(), None);
+    expect_answered(&rt, book.answered_by(1, &reply), Some(an_attach()));
 }

@@ -1,4 +1,4 @@
-use super::{expect_answer, expect_made, make_lone};
+use super::{expect_answer, expect_gone, expect_made, make_lone};
 use crate::tests::expect;
 use shm_keys::{Cred, Errno, GetFlags, Mode, SegTable};
 use shm_place::{Key, SegId, SiteId, Sites};
@@ -16,16 +16,16 @@ fn a_home_has_so_many_at_a_time(rt: HostRuntime) -> Result<(), Fail> {
     expect_made(&rt, table.get(ROOT, 0, 1, 0o600, 0), Err(Errno::Enospc));
     expect_made(&rt, table.get(ROOT, 0, 0, 0o600, 0), Err(Errno::Einval));
     expect_made(&rt, table.get(ROOT, 9, 1, 0o600, 0), Err(Errno::Enoent));
-    expect_answer(&rt, table.remove(ROOT, 0), Ok(()));
+    expect_gone(&rt, table.remove(ROOT, 0), Ok(Some(SegId(0))));
     expect_made(&rt, table.get(ROOT, 0, 1, 0o600, 0), Ok(64));
     expect_answer(&rt, table.stat(ROOT, 0).map(|_| ()), Err(Errno::Eidrm));
     expect_answer(&rt, table.stat(ROOT, 70).map(|_| ()), Err(Errno::Einval));
-    expect_answer(&rt, table.detach(1), Err(Errno::Einval));
+    expect_gone(&rt, table.detach(1), Err(Errno::Einval));
     expect(&rt, table.attach(ROOT, 1, false).is_ok());
-    expect_answer(&rt, table.remove(ROOT, 1), Ok(()));
-    expect_answer(&rt, table.remove(ROOT, 1), Ok(()));
+    expect_gone(&rt, table.remove(ROOT, 1), Ok(None));
+    expect_gone(&rt, table.remove(ROOT, 1), Ok(None));
     expect_made(&rt, table.get(ROOT, 0, 1, 0o600, 0), Err(Errno::Enospc));
-    expect_answer(&rt, table.detach(1), Ok(()));
+    expect_gone(&rt, table.detach(1), Ok(Some(SegId(1))));
     expect_made(&rt, table.get(ROOT, 0, 1, 0o600, 0), Ok(65));
     Ok(())
 }
@@ -49,7 +49,7 @@ fn a_home_makes_so_many_ever(rt: HostRuntime) -> Result<(), Fail> {
     let mut table = make_lone(rt.alloc(), sites);
     for id in 0..65_536 {
         expect_made(&rt, table.get(ROOT, 7, 1, 0o600, 0o1000), Ok(id));
-        expect_answer(&rt, table.remove(ROOT, id), Ok(()));
+        expect_gone(&rt, table.remove(ROOT, id), Ok(Some(SegId(id))));
     }
     expect_made(
         &rt,

@@ -1,4 +1,4 @@
-use super::{expect_answer, expect_made, make_lone};
+use super::{expect_gone, expect_made, make_lone};
 use crate::tests::expect;
 use shm_keys::{Cred, GetFlags, Mode, SegTable};
 use shm_place::{Key, SegId, SiteId, Sites};
@@ -14,8 +14,8 @@ fn purges_come_by_rising_identifier(rt: HostRuntime) -> Result<(), Fail> {
         expect_made(&rt, table.get(ROOT, 0, 1, 0o600, 0), Ok(id));
     }
     expect(&rt, table.next_purge(None).is_none());
-    expect_answer(&rt, table.remove(ROOT, 2), Ok(()));
-    expect_answer(&rt, table.remove(ROOT, 0), Ok(()));
+    expect_gone(&rt, table.remove(ROOT, 2), Ok(Some(SegId(2))));
+    expect_gone(&rt, table.remove(ROOT, 0), Ok(Some(SegId(0))));
     for (after, expected) in [
         (None, Some(0)),
         (Some(0), Some(2)),
@@ -41,7 +41,7 @@ fn each_site_purges_for_itself(rt: HostRuntime) -> Result<(), Fail> {
     let mut table = SegTable::new(rt.alloc(), home, sites);
     let made = table.get(ROOT, Key(0), 1, Mode::OWNER_READ_WRITE, GetFlags(0));
     assert_eq!(rt; made, Ok(SegId(0)));
-    expect_answer(&rt, table.remove(ROOT, SegId(0)), Ok(()));
+    expect_gone(&rt, table.remove(ROOT, SegId(0)), Ok(Some(SegId(0))));
     expect(&rt, table.on_purged(SegId(0), SiteId(1)));
     let copy = table.copy()?;
     expect(&rt, table.on_purged(SegId(0), SiteId(0)));

@@ -1,9 +1,9 @@
-use super::{expect_answer, expect_made, make_lone};
+use super::{expect_answer, expect_gone, expect_made, make_lone};
 use crate::tests::expect;
 use crate::tests::full_heap::filled;
 use linked_list_allocator::LocalHeap;
 use shm_keys::{Cred, GetFault};
-use shm_place::Sites;
+use shm_place::{SegId, Sites};
 use std::test::Fail;
 
 const ROOT: Cred = Cred { uid: 0, gid: 0 };
@@ -22,7 +22,7 @@ fn a_get_is_refused_until_there_is_room(rt: HostRuntime) -> Result<(), Fail> {
         if answer != Err(GetFault::OutOfMemory) {
             assert!(rt; tries > 2);
             expect_made(&rt, answer, Ok(0));
-            expect_answer(&rt, table.remove(ROOT, 0), Ok(()));
+            expect_gone(&rt, table.remove(ROOT, 0), Ok(Some(SegId(0))));
             return Ok(());
         }
         expect(&rt, table.stat(ROOT, 0).is_err());
@@ -42,8 +42,8 @@ fn what_was_made_goes_on_without_memory(rt: HostRuntime) -> Result<(), Fail> {
     expect_made(&rt, table.get(ROOT, 5, 1, 0o600, 0o1000), Ok(0));
     expect(&rt, table.attach(ROOT, 0, false).is_ok());
     expect_answer(&rt, table.set(ROOT, 0, 1, 1, 0o600), Ok(()));
-    expect_answer(&rt, table.remove(ROOT, 0), Ok(()));
-    expect_answer(&rt, table.detach(0), Ok(()));
+    expect_gone(&rt, table.remove(ROOT, 0), Ok(None));
+    expect_gone(&rt, table.detach(0), Ok(Some(SegId(0))));
     expect(&rt, table.next_purge(None).is_some());
     expect(&rt, table.purged(0));
     Ok(())

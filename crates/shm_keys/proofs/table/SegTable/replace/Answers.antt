@@ -2,14 +2,13 @@ use Rattle.std.proofs.Common.{◌≡◌, ◌/◌, ◌<◌, ◌+◌, ℕ, Option,
 use Rattle.indexmap.specs.IndexMap.{get}
 use Rattle.shm_model.specs.Permission.{Segment, destroyed}
 use Rattle.shm_model.specs.Kernel.{replaced, destroyed_in}
-use Rattle.shm_keys.specs.Purge.{missing_in, missing_after}
 use Rattle.shm_keys.specs.Table.{IsLive}
 use Rattle.shm_keys.proofs.Segments.{freed, live_place, replaced_is}
 use Rattle.shm_keys.proofs.Changes.{some_live, table-set, destroyed_once}
 use Rattle.shm_keys.proofs.table.SegTable.replace.Goals as goal
 
-pub settle-requires-clause-one : goal.settle-requires-clause-one
-settle-requires-clause-one g c =
+pub settle-gone-requires-clause-one : goal.settle-gone-requires-clause-one
+settle-gone-requires-clause-one g c =
     let items = c.self.inside.segments.items in
     let at_home = rw (← c.self.view_is) at c.requires.home in
     let lives : IsLive items c.args.after.id c.args.before = rw (← c.self.view_is) at c.requires.live in
@@ -19,9 +18,9 @@ settle-requires-clause-one g c =
     let counted = c.self.invariant.counted in
     omega (arith, some, counted)
 
-pub settle-requires-clause-room : goal.settle-requires-clause-room
-settle-requires-clause-room g c =
-    let one = settle-requires-clause-one g c in
+pub settle-gone-requires-clause-room : goal.settle-gone-requires-clause-room
+settle-gone-requires-clause-room g c =
+    let one = settle-gone-requires-clause-one g c in
     let roomy = c.self.invariant.roomy in
     omega (arith, one, roomy)
 
@@ -47,9 +46,9 @@ invariant_of-self g c =
     let after_is : c.after.inside.key ≡ c.args.after.key = ap (λ (g : Segment). g.key) c.after.view_is in
     let places : ℕ → Option ℕ = get nat_eq c.self.inside.keys in
     let gone = λ (key : ℕ). c.free_key.ensures key ∙ ap (λ n. freed n c.after.inside.key places key) before_is ∙ ap (λ n. freed c.args.before.key n places key) after_is in
-    let e = c.settle.ensures in
-    let lengths : c.settle.new.live + length c.settle.new.purges.items ≡ c.self.inside.live + length c.self.inside.purges.items = let p = e.places in omega (arith, p) in
-    let kept = table-set c.self.inside.home c.self.inside.sites items places (get nat_eq c.free_key.new.keys) c.self.inside.live c.settle.new.live c.self.inside.purges.items c.settle.new.purges.items _ c.args.before c.args.after
+    let e = c.settle-gone.ensures in
+    let lengths : c.settle-gone.new.live + length c.settle-gone.new.purges.items ≡ c.self.inside.live + length c.self.inside.purges.items = let p = e.places in omega (arith, p) in
+    let kept = table-set c.self.inside.home c.self.inside.sites items places (get nat_eq c.free_key.new.keys) c.self.inside.live c.settle-gone.new.live c.self.inside.purges.items c.settle-gone.new.purges.items _ c.args.before c.args.after
     c.self.invariant at_home lives c.requires.key gone e.live lengths e.rising e.all_missing e.pass in
     rw (place_is, e.capacity) kept
 
@@ -63,8 +62,8 @@ returns-clause-table g c =
     let place_is : c.place_of-place.result ≡ c.args.after.id / c.self.inside.sites = c.place_of-place.ensures ∙ ap (λ n. n / c.self.inside.sites) id_is in
     rw (← c.self.view_is, replaced_is c.self.inside.home c.self.inside.sites items c.args.after.id c.args.after c.self.invariant.numbered at_home here.0, place_is) refl
 
-pub returns-clause-missing : goal.returns-clause-missing
-returns-clause-missing g c = λ id site.
+pub returns-clause-gone : goal.returns-clause-gone
+returns-clause-gone g c =
     let items = c.self.inside.segments.items in
     let at_home = rw (← c.self.view_is) at c.requires.home in
     let lives : IsLive items c.args.after.id c.args.before = rw (← c.self.view_is) at c.requires.live in
@@ -75,6 +74,7 @@ returns-clause-missing g c = λ id site.
     rw place_is (sym (replaced_is c.self.inside.home c.self.inside.sites items c.args.after.id c.args.after c.self.invariant.numbered at_home here.0)) in
     let once : destroyed_in (Some c.args.after.id) items (set items c.place_of-place.result c.args.after) ≡ (if destroyed c.args.after then Some c.args.after.id else None) =
     ap (λ s. destroyed_in (Some c.args.after.id) items s) put ∙ destroyed_once items c.args.before c.args.after lives in
-    let old = missing_in c.self.inside.purges.items in
-    let settled : missing_in c.settle.new.purges.items id site ≡ missing_after (if destroyed c.args.after then Some c.args.after.id else None) c.self.inside.sites old id site = c.settle.ensures.missing id site in
-    rw (← c.self.view_is) (settled ∙ ap (λ o. missing_after o c.self.inside.sites old id site) (sym once))
+    rw (← c.self.view_is) (once ∙ sym c.settle-gone.ensures.gone)
+
+pub returns-clause-missing : goal.returns-clause-missing
+returns-clause-missing g c = λ id site. rw (← c.self.view_is) (c.settle-gone.ensures.missing id site)

@@ -15,7 +15,7 @@ invariant_of-self-2 g c =
     record {
       placed = placed_more old.places.entries c.put.new.map.entries old.pages.entries c.put_at.new.pages.entries old.marked.entries old.next c.in-Some.next c.args.page.now old.placed
           absent (grind (arith, nat_tests, above))
-          (λ q. c.put.ensures q ∙ ap (λ es. cond (same_page c.args.page.now q) (Some old.next) (lookup (same_page q) es)) c.in_ok-reserve.ensures.entries)
+          (λ q. c.put.ensures.values q ∙ ap (λ es. cond (same_page c.args.page.now q) (Some old.next) (lookup (same_page q) es)) c.in_ok-reserve.ensures.entries)
           c.in_ok-put_at.ensures.entries c.in_ok-put_at.ensures.rising (grind (arith, nat_tests, more));
     }
 

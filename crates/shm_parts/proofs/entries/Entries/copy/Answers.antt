@@ -6,8 +6,8 @@ use Rattle.shm_parts.specs.Entries.{entry_or}
 use Rattle.shm_parts.proofs.EntryLemmas.{entry-next}
 use Rattle.shm_parts.proofs.entries.Entries.copy.Goals as goal
 
-pub add-requires : goal.add-requires
-add-requires g c = omega (arith, c.loop-index.invariant.room, c.loop-index-test.true, c.len-count.ensures.len)
+pub put-requires : goal.put-requires
+put-requires g c = omega (arith, c.loop-index.invariant.room, c.loop-index-test.true, c.len-count.ensures.len)
 
 pub loop-index-preserved : goal.loop-index-preserved
 loop-index-preserved g c =
@@ -17,8 +17,8 @@ loop-index-preserved g c =
     let same : v ≡ c.in-Some.entry.now = c.in_ok-entry.ensures in
     let at : slice_get es c.loop-index.index ≡ Some (k, v) = sym c.in-Some.ensures.entry ∙ ap (λ e. Some (k, e)) (sym same) in
     record {
-      copied = c.add.ensures.entries ∙ entry-next c.loop-index.map es c.loop-index.index k v c.loop-index.invariant.unique at c.loop-index.invariant.copied;
-      room = omega (arith, c.loop-index.invariant.room, c.add.ensures.room);
+      copied = c.put.ensures.entries ∙ entry-next c.loop-index.map es c.loop-index.index k v c.loop-index.invariant.unique at c.loop-index.invariant.copied;
+      room = omega (arith, c.loop-index.invariant.room, c.put.ensures.room);
       unique = c.loop-index.invariant.unique;
     }
 
