@@ -8,3 +8,4 @@ pub mod StepLemmas
 pub mod WordLemmas
 mod Lines
 pub mod AnswerLemmas
+pub mod FrontLemmas

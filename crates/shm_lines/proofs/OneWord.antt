@@ -1,5 +1,5 @@
 -- What a single word stands for, and how that is spelled: each reader of words beside its printer.
-use Rattle.std.proofs.Common.{◌≡◌, ℕ, zero, suc, ◌+◌, ◌*◌, ◌/◌, ◌%◌, ◌<◌, ◌==◌, ◌&&◌, Bool, true, false, List, [], ◌∷◌, ◌++◌, length, Option, None, Some, cond, nat_lt, refl, sym, ap, ap₂, subst, ◌∙◌, arith}
+use Rattle.std.proofs.Common.{◌≡◌, ℕ, zero, suc, ◌+◌, ◌*◌, ◌/◌, ◌%◌, ◌<◌, ◌==◌, ◌&&◌, Bool, true, false, List, [], ◌∷◌, ◌++◌, length, None, Some, cond, nat_lt, refl, sym, ap, ap₂, subst, ◌∙◌, arith}
 use Rattle.std.specs.Prelude.{codes, ⊤}
 use Rattle.std.specs.List.{list_all}
 use Rattle.std.specs.Char.{is_digit, digit_value}
@@ -11,20 +11,11 @@ use Rattle.std.proofs.lemmas.Fmt.{decimal_digit}
 use Rattle.std.proofs.lemmas.List.Elements.{All-nil, All-cons}
 use Rattle.std.proofs.lemmas.Slice.Eq.{bytes_eq-Decides}
 use Rattle.shm_model.specs.declared.mode.GetFlags.{GetFlags}
-use Rattle.shm_lines.proofs.NumberWords.{number_of-is, number_of-decimal, NoBlank-decimal}
+use Rattle.shm_lines.proofs.NumberWords.{IsPrinter, number}
 use Rattle.shm_lines.proofs.StepLemmas.{step, step-is, some-is, cond-some, and-parts, lt-true, lt-test, NoBlank, NoBlank-test}
 use Rattle.shm_lines.specs.Words.{number_of, byte_of, mode_of, flags_of, access_of}
 use Rattle.shm_model.specs.Mode.{mode_word}
-use Rattle.shm_lines.specs.Spelling.{IsNumber, IsMode, IsFlags, flags_word, access_word}
-
--- what is read is printed so, and what is printed so is read
-pub record IsPrinter {A : Type 0} (read : List ℕ → Option A) (Is : A → Type 0) (print : A → List ℕ) : Type 0 where
-  pub reads : (word : List ℕ) (x : A) → read word ≡ Some x → (word ≡ print x) × Is x
-  pub prints : (x : A) → Is x → read (print x) ≡ Some x
-  pub unparted : (x : A) → Is x → NoBlank (print x)
-
-pub number : IsPrinter number_of IsNumber decimal
-number = record { reads = number_of-is; prints = number_of-decimal; unparted = NoBlank-decimal }
+use Rattle.shm_lines.specs.Spelling.{IsMode, IsFlags, flags_word, access_word}
 
 -- ---- bytes
 
@@ -35,16 +26,16 @@ byte_of-is : (word : List ℕ) (n : ℕ) → byte_of word ≡ Some n → (word �
 byte_of-is word n h =
     let s = step (number_of word) (λ m. cond (nat_lt m 256) (Some m) None) n h in
     let c = cond-some (nat_lt s.value 256) s.value n s.gives in
-    let w = number_of-is word s.value s.gave in
+    let w = number.reads word s.value s.gave in
     (w.0 ∙ ap decimal c.1, subst IsByte c.1 (lt-true s.value 256 c.0))
 
 byte_of-decimal : (n : ℕ) → IsByte n → byte_of (decimal n) ≡ Some n
 byte_of-decimal n h =
-    step-is (number_of (decimal n)) (λ m. cond (nat_lt m 256) (Some m) None) n (number_of-decimal n (omega arith))
+    step-is (number_of (decimal n)) (λ m. cond (nat_lt m 256) (Some m) None) n (number.prints n (omega arith))
     ∙ ap (λ b. cond b (Some n) None) (lt-test n 256 h)
 
 pub byte : IsPrinter byte_of IsByte decimal
-byte = record { reads = byte_of-is; prints = byte_of-decimal; unparted = λ n h. NoBlank-decimal n (omega arith) }
+byte = record { reads = byte_of-is; prints = byte_of-decimal; unparted = λ n h. number.unparted n (omega arith) }
 
 -- ---- modes
 

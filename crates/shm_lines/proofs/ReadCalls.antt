@@ -8,7 +8,8 @@ use Rattle.std.proofs.lemmas.Slice.Eq.{bytes_eq-Decides}
 use Rattle.shm_model.specs.declared.call.Op.TheVariants.{Get, Attach, Remove, Set, Stat}
 use Rattle.shm_model.specs.declared.call.Request.TheVariants.{DetachAt}
 use Rattle.shm_model.specs.declared.event.Event.TheVariants.{Begin}
-use Rattle.shm_lines.proofs.OneWord.{number, mode, flags, access}
+use Rattle.shm_lines.proofs.NumberWords.{number}
+use Rattle.shm_lines.proofs.OneWord.{mode, flags, access}
 use Rattle.shm_lines.proofs.ReadLemmas.{Reads, onto, onto2, took, took_cred, closed-is, sites-is, load-is, store-is, deliver-is, repeat-is, lose-is, tick-is, restart-is, show-is, back-is}
 use Rattle.shm_lines.specs.Words.{words_of}
 use Rattle.shm_lines.specs.Line.{Verb, by_verb, verbs, call, get_of, attach_of, detach_of, remove_of, set_of, stat_of, line_of, line_of_words}

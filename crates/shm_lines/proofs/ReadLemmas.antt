@@ -10,7 +10,8 @@ use Rattle.shm_place.specs.Limits.{max_frames, pages}
 use Rattle.shm_model.specs.Book.{max_sites}
 use Rattle.shm_model.specs.declared.call.Cred.{Cred}
 use Rattle.shm_model.specs.declared.event.Event.TheVariants.{Load, Store, Tick, Restart, Deliver, Repeat, Lose}
-use Rattle.shm_lines.proofs.OneWord.{IsPrinter, number, byte}
+use Rattle.shm_lines.proofs.NumberWords.{IsPrinter, number}
+use Rattle.shm_lines.proofs.OneWord.{byte}
 use Rattle.shm_lines.proofs.StepLemmas.{step, some-is, cond-some, and-parts}
 use Rattle.shm_lines.specs.Words.{◌>>=◌, next_word, next_of, next_number, next_cred, next_named, is_from_1_to, is_end}
 use Rattle.shm_lines.specs.Line.{closed, sites_line, sites_of, preset_of, frames_of, load_of, store_of, deliver_of, repeat_of, lose_of, tick_of, restart_of, show_of, back_of}

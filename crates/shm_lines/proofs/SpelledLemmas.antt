@@ -13,7 +13,8 @@ use Rattle.shm_model.specs.declared.call.Op.TheVariants.{Get, Attach, Detach, Re
 use Rattle.shm_model.specs.declared.call.Request.TheVariants.{Op as OpRequest, DetachAt}
 use Rattle.shm_model.specs.declared.event.Event.{Event}
 use Rattle.shm_model.specs.declared.event.Event.TheVariants.{Load, Store, Begin, Tick, Restart, Deliver, Repeat, Lose}
-use Rattle.shm_lines.proofs.OneWord.{IsPrinter, number, byte, mode, flags, access}
+use Rattle.shm_lines.proofs.NumberWords.{IsPrinter, number}
+use Rattle.shm_lines.proofs.OneWord.{byte, mode, flags, access}
 use Rattle.shm_lines.proofs.StepLemmas.{step-is, NoBlanks, NoBlank-test, has_none, words_of-join}
 use Rattle.shm_lines.specs.Words.{next_of, next_number, next_cred, is_from_1_to}
 use Rattle.shm_lines.specs.Line.{line_of, line_of_words, sites_line, call}

@@ -1,6 +1,6 @@
 -- The words of a line, which one blank parts, and what single words stand for. A number is decimal, with no sign and no leading zero; a
 -- mode has exactly three octal digits.
-use Rattle.std.specs.Prelude.{ℕ, ◌+◌, ◌^◌, ◌==◌, ◌&&◌, Bool, true, false, not, if◌then◌else◌, List, [], ◌∷◌, length, codes, slice_index, nat_lt, Option, None, Some, option_and_then}
+use Rattle.std.specs.Prelude.{ℕ, ◌+◌, ◌^◌, ◌<◌, ◌==◌, ◌&&◌, Bool, true, false, not, if◌then◌else◌, List, [], ◌∷◌, length, codes, slice_index, nat_lt, Option, None, Some, option_and_then}
 use Rattle.std.specs.List.{slice_split, list_all}
 use Rattle.std.specs.Char.{is_ascii_digit, is_digit}
 use Rattle.std.specs.Str.{bytes_eq}
@@ -25,8 +25,18 @@ is_end (word ∷ words) = false
 abbrev pub is_plain : List ℕ → Bool
 is_plain word = nat_lt 0 (length word) && not (nat_lt 1 (length word) && (slice_index word 0 == 48)) && list_all is_ascii_digit word
 
+abbrev pub number_below : ℕ → List ℕ → Option ℕ
+number_below most word = if is_plain word then (if nat_lt (digits_value 10 word) most then Some (digits_value 10 word) else None) else None
+
 abbrev pub number_of : List ℕ → Option ℕ
-number_of word = if is_plain word then (if nat_lt (digits_value 10 word) (2 ^ 32) then Some (digits_value 10 word) else None) else None
+number_of = number_below (2 ^ 32)
+
+-- the numbers of transactions and calls, and clocks
+abbrev pub IsWide : ℕ → Type 0
+IsWide n = n < 2 ^ 64
+
+abbrev pub wide_of : List ℕ → Option ℕ
+wide_of = number_below (2 ^ 64)
 
 abbrev pub byte_of : List ℕ → Option ℕ
 byte_of word = do

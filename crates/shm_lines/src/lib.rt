@@ -24,6 +24,7 @@ pub use hints::{
     write_hint,
 };
 pub use line::Line;
+pub use number::wide_number;
 pub use options::{AccessWord, FlagsWord};
 pub use parse::{BadLine, parse_line};
 pub use words::{Words, split_at};

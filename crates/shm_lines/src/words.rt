@@ -7,7 +7,7 @@ ghost use Rattle.shm_lines.specs.Words.{words_of, byte_of, mode_of, flags_of, ac
 
 use crate::line::Line;
 use crate::mode::{access, flags, mode};
-use crate::number::{byte, number};
+use crate::number::{front_number, number};
 use shm_model::{Cred, GetFlags, Mode};
 use std::marker::Model;
 
@@ -49,6 +49,11 @@ impl<'a> Words<'a> {
     pub fn number(self) -> Option<(u32, Words<'a>)>
         ensures { result ≡ next_number self.entry }
     {
+        if let Some(line) = self.rest
+            && let Some((value, rest)) = front_number(line)
+        {
+            return Some((value, Words { rest }));
+        }
         let (word, words) = self.word()?;
         let value = number(word)?;
         Some((value, words))
@@ -58,9 +63,11 @@ impl<'a> Words<'a> {
     pub fn byte(self) -> Option<(u8, Words<'a>)>
         ensures { result ≡ next_of byte_of self.entry }
     {
-        let (word, words) = self.word()?;
-        let value = byte(word)?;
-        Some((value, words))
+        let (value, words) = self.number()?;
+        if value > 255 {
+            return None;
+        }
+        Some((value as u8, words))
     }
 
     /// The next word as a mode, and those after it.
@@ -122,7 +129,8 @@ impl<'a> Words<'a> {
 
 /// What stands before the first separator, and what stands after it if there is one.
 pub fn split_at(bytes: &[u8], separator: u8) -> (&[u8], Option<&[u8]>)
-    ensures parts { slice_split (λ byte. byte == separator) bytes.now ≡ result.0.now ∷ option_map_or (λ rest. slice_split (λ byte. byte == separator) rest.now) result.1 [] }
+    ensures parts { slice_split (λ byte. byte == separator) bytes.now
+        ≡ result.0.now ∷ option_map_or (λ rest. slice_split (λ byte. byte == separator) rest.now) result.1 [] }
     ensures shorter { IfSome result.1 (λ rest. length rest.now < length bytes.now) }
 {
     for (at, byte) in bytes.iter().enumerate() {

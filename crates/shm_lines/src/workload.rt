@@ -48,7 +48,8 @@ fn further_lines<A: Allocator>(
 ) -> Result<Workload<A>, WorkloadFault>
     requires { size ≤ PAGES }
     ensures size { IfOk result (λ workload. workload.pages ≡ size) }
-    ensures ok { IfOk result (λ workload. with_size size (accesses_on sites size 2 (parts_of bytes.now)) ≡ Ok (record { size = workload.pages; accesses = workload.accesses.items })) }
+    ensures ok { IfOk result (λ workload. with_size size (accesses_on sites size 2 (parts_of bytes.now))
+        ≡ Ok (record { size = workload.pages; accesses = workload.accesses.items })) }
     ensures err { IfErr result (λ fault. (fault ≡ cause.OutOfMemory) ⊎ (accesses_on sites size 2 (parts_of bytes.now) ≡ Err fault)) }
 {
     let mut accesses = Vec::new(alloc);

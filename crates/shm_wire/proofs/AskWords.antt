@@ -12,7 +12,8 @@ use Rattle.std.proofs.lemmas.Str.{IsUtf8-from_ascii}
 use Rattle.std.proofs.lemmas.Str.Ascii.{IsAscii-from_all}
 use Rattle.shm_model.specs.declared.asked.Asked.TheVariants.{Load, Store}
 use Rattle.shm_model.specs.declared.call.Request.TheVariants.{Op as OpRequest, DetachAt}
-use Rattle.shm_lines.proofs.OneWord.{IsPrinter, number, byte}
+use Rattle.shm_lines.proofs.NumberWords.{IsPrinter, number}
+use Rattle.shm_lines.proofs.OneWord.{byte}
 use Rattle.shm_lines.proofs.ReadLemmas.{onto, onto2}
 use Rattle.shm_lines.proofs.StepLemmas.{step, some-is, cond-some}
 use Rattle.shm_lines.specs.Words.{words_of}

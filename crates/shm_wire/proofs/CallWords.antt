@@ -6,7 +6,8 @@ use Rattle.std.specs.Str.{bytes_eq}
 use Rattle.std.proofs.lemmas.Slice.Eq.{bytes_eq-Decides}
 use Rattle.shm_model.specs.declared.call.Op.{Op}
 use Rattle.shm_model.specs.declared.call.Op.TheVariants.{Get, Attach, Detach, Remove, Set, Stat}
-use Rattle.shm_lines.proofs.OneWord.{number, mode, flags, access}
+use Rattle.shm_lines.proofs.NumberWords.{number}
+use Rattle.shm_lines.proofs.OneWord.{mode, flags, access}
 use Rattle.shm_lines.proofs.ReadLemmas.{onto, onto2}
 use Rattle.shm_lines.proofs.StepLemmas.{NoBlank-test}
 use Rattle.shm_lines.specs.Words.{◌>>=◌, next_word}

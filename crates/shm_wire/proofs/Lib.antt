@@ -1,4 +1,3 @@
-pub mod WideWords
 pub mod NameWords
 pub mod Reading
 pub mod CallWords

@@ -5,7 +5,7 @@ use Rattle.std.specs.Fmt.{decimal}
 use Rattle.shm_place.specs.declared.page.PageId.{PageId}
 use Rattle.shm_model.specs.Entry.{Ask, Clear, Cleared, Hand, Page, Confirm}
 use Rattle.shm_model.specs.Message.{Message, Of, Call, Replies, Purge, Purged}
-use Rattle.shm_lines.proofs.OneWord.{number}
+use Rattle.shm_lines.proofs.NumberWords.{number, wide}
 use Rattle.shm_lines.proofs.ReadLemmas.{onto, onto2}
 use Rattle.shm_lines.proofs.StepLemmas.{step, some-is, lt-true}
 use Rattle.shm_lines.specs.Words.{◌>>=◌}
@@ -14,7 +14,6 @@ use Rattle.shm_wire.proofs.NameWords.{kind}
 use Rattle.shm_wire.proofs.PageWords.{page}
 use Rattle.shm_wire.proofs.Reading.{took, ended-is, cond-of, Reads, Sound, SoundReader, by_verb-is, nothing-is, verb-is}
 use Rattle.shm_wire.proofs.ReplyWords.{reply-is}
-use Rattle.shm_wire.proofs.WideWords.{wide}
 use Rattle.shm_wire.specs.Calls.{call_of}
 use Rattle.shm_wire.specs.Messages.{IsPageId, IsMessage, message_words, next_page, ask_of, numbered_of, hand_of, page_of, called_of, replied_of, of_segment, plain, plain_of, message_of}
 use Rattle.shm_wire.specs.Replies.{reply_of}

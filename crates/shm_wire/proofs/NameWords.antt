@@ -7,7 +7,7 @@ use Rattle.shm_model.specs.declared.call.Errno.{Errno}
 use Rattle.shm_model.specs.declared.call.Errno.TheVariants.{Eacces, Eexist, Eidrm, Einval, Enoent, Enospc, Eperm}
 use Rattle.shm_model.specs.declared.kind.Kind.{Kind}
 use Rattle.shm_model.specs.declared.kind.Kind.TheVariants.{Read, Write}
-use Rattle.shm_lines.proofs.OneWord.{IsPrinter}
+use Rattle.shm_lines.proofs.NumberWords.{IsPrinter}
 use Rattle.shm_lines.proofs.StepLemmas.{some-is, NoBlank, NoBlank-test}
 use Rattle.shm_wire.specs.Words.{Names, by_name, kinds, kind_of, kind_word, standings, standing_of, standing_word, errnos, errno_of, errno_word}
 

@@ -16,7 +16,7 @@ use Rattle.base64.specs.GeneralPurpose.{IsBytes, decode_of}
 use Rattle.base64.specs.Rfc4648.{encode_group, encode_symbols}
 use Rattle.base64.proofs.EngineFacts.{decode_of-encode_of}
 use Rattle.shm_place.specs.Limits.{page_bytes}
-use Rattle.shm_lines.proofs.OneWord.{IsPrinter}
+use Rattle.shm_lines.proofs.NumberWords.{IsPrinter}
 use Rattle.shm_lines.proofs.StepLemmas.{NoBlank, NoBlank-test, cond-some, lt-true, lt-test}
 use Rattle.shm_wire.specs.PageWord.{IsPage, page_word, spells, decoded, bytes_of}
 

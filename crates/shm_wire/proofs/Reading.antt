@@ -5,7 +5,7 @@ use Rattle.std.specs.Fmt.{decimal}
 use Rattle.std.specs.Str.{bytes_eq}
 use Rattle.std.proofs.lemmas.Slice.Eq.{bytes_eq-Decides}
 use Rattle.shm_model.specs.declared.call.Cred.{Cred}
-use Rattle.shm_lines.proofs.OneWord.{IsPrinter, number}
+use Rattle.shm_lines.proofs.NumberWords.{IsPrinter, number}
 use Rattle.shm_lines.proofs.ReadLemmas.{onto, next_of-is}
 use Rattle.shm_lines.proofs.StepLemmas.{step, step-is, some-is, cond-some, NoBlanks}
 use Rattle.shm_lines.specs.Words.{◌>>=◌, next_word, next_of, next_cred, is_end}

@@ -5,14 +5,14 @@ use Rattle.std.specs.Fmt.{decimal}
 use Rattle.shm_model.specs.declared.call.Reply.{Reply}
 use Rattle.shm_model.specs.declared.call.Stat.{Stat as StatOf}
 use Rattle.shm_model.specs.declared.call.Reply.TheVariants.{Id, Attached, Ok, Stat, Refused}
-use Rattle.shm_lines.proofs.OneWord.{number, mode, access}
+use Rattle.shm_lines.proofs.NumberWords.{number, wide}
+use Rattle.shm_lines.proofs.OneWord.{mode, access}
 use Rattle.shm_lines.proofs.ReadLemmas.{onto}
 use Rattle.shm_lines.proofs.StepLemmas.{NoBlank-test}
 use Rattle.shm_model.specs.Mode.{mode_word}
 use Rattle.shm_lines.specs.Spelling.{access_word}
 use Rattle.shm_wire.proofs.NameWords.{errno, standing}
 use Rattle.shm_wire.proofs.Reading.{took, ended-is, prints, Reads, Sound, Spelled, by_verb-is, nothing-is, verb-is}
-use Rattle.shm_wire.proofs.WideWords.{wide}
 use Rattle.shm_wire.specs.Replies.{IsReply, reply_words, replies, reply_of, id_of, attached_of, stat_of, refused_of}
 use Rattle.shm_wire.specs.Words.{by_verb, ended, nothing, standing_word}
 

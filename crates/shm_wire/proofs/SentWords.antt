@@ -5,14 +5,13 @@ use Rattle.std.specs.Fmt.{decimal}
 use Rattle.std.specs.List.{join_with_byte}
 use Rattle.std.proofs.lemmas.List.Splits.{join_with_byte-slice_split}
 use Rattle.shm_model.specs.Log.{Stamp}
-use Rattle.shm_lines.proofs.OneWord.{number}
+use Rattle.shm_lines.proofs.NumberWords.{number, wide}
 use Rattle.shm_lines.proofs.ReadLemmas.{onto}
 use Rattle.shm_lines.proofs.StepLemmas.{step, some-is, NoBlanks, NoBlank-test, words_of-join}
 use Rattle.shm_lines.specs.Words.{◌>>=◌, words_of}
 use Rattle.shm_wire.proofs.MessageWords.{message-is}
 use Rattle.shm_wire.proofs.Reading.{took, prints, Reads, SoundWords, by_verb-is, nothing-is, verb-is}
 use Rattle.shm_wire.proofs.SpelledMessages.{message-spelled}
-use Rattle.shm_wire.proofs.WideWords.{wide}
 use Rattle.shm_wire.specs.Messages.{message_of, message_words}
 use Rattle.shm_wire.specs.Sent.{Sent, IsSent, IsStamp, envelope_line, envelope_words, next_stamp, read_envelope, read_words, sent_of}
 use Rattle.shm_wire.specs.Words.{by_verb, nothing}

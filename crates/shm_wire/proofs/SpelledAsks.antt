@@ -6,7 +6,8 @@ use Rattle.shm_model.specs.declared.asked.Asked.TheVariants.{Load, Store}
 use Rattle.shm_model.specs.declared.call.Op.{Op}
 use Rattle.shm_model.specs.declared.call.Op.TheVariants.{Get, Attach, Detach, Remove, Set, Stat}
 use Rattle.shm_model.specs.declared.call.Request.TheVariants.{Op as OpRequest, DetachAt}
-use Rattle.shm_lines.proofs.OneWord.{number, byte}
+use Rattle.shm_lines.proofs.NumberWords.{number}
+use Rattle.shm_lines.proofs.OneWord.{byte}
 use Rattle.shm_lines.proofs.StepLemmas.{NoBlanks, NoBlank-test, words_of-join}
 use Rattle.shm_lines.specs.Spelling as script
 use Rattle.shm_lines.specs.Words.{◌>>=◌}

@@ -4,10 +4,10 @@ use Rattle.std.specs.Fmt.{decimal}
 use Rattle.shm_model.specs.declared.call.Reply.{Reply}
 use Rattle.shm_model.specs.declared.call.Stat.{Stat as StatOf}
 use Rattle.shm_model.specs.declared.call.Reply.TheVariants.{Id, Attached, Ok, Stat, Refused}
-use Rattle.shm_lines.specs.Words.{◌>>=◌, mode_of, access_of, next_word, next_of, next_number}
+use Rattle.shm_lines.specs.Words.{◌>>=◌, mode_of, access_of, next_word, next_of, next_number, IsWide, wide_of}
 use Rattle.shm_model.specs.Mode.{mode_word}
 use Rattle.shm_lines.specs.Spelling.{IsNumber, IsMode, access_word}
-use Rattle.shm_wire.specs.Words.{IsWide, Verbs, by_verb, ended, errno_of, errno_word, nothing, standing_of, standing_word, wide_of}
+use Rattle.shm_wire.specs.Words.{Verbs, by_verb, ended, errno_of, errno_word, nothing, standing_of, standing_word}
 
 abbrev pub IsReply : Reply → Type 0
 IsReply (Id id) = IsNumber id

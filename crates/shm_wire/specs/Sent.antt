@@ -4,10 +4,10 @@ use Rattle.std.specs.Fmt.{decimal}
 use Rattle.std.specs.List.{join_with_byte}
 use Rattle.shm_model.specs.Log.{Stamp}
 use Rattle.shm_model.specs.Message.{Envelope}
-use Rattle.shm_lines.specs.Words.{◌>>=◌, words_of, next_word, next_of, next_number}
+use Rattle.shm_lines.specs.Words.{◌>>=◌, words_of, next_word, next_of, next_number, IsWide, wide_of}
 use Rattle.shm_lines.specs.Spelling.{IsNumber}
 use Rattle.shm_wire.specs.Messages.{IsMessage, message_of, message_words}
-use Rattle.shm_wire.specs.Words.{IsWide, by_verb, nothing, wide_of}
+use Rattle.shm_wire.specs.Words.{by_verb, nothing}
 
 -- an envelope, and where it was sent
 pub record Sent : Type 0 where

@@ -1,22 +1,11 @@
--- What single words stand for, beside those that a script has: numbers below 2 to the 64, and names from a table.
-use Rattle.std.specs.Prelude.{ℕ, ◌^◌, ◌<◌, Bool, true, false, if◌then◌else◌, List, [], ◌∷◌, codes, nat_lt, Option, None, Some}
+-- What single words stand for, beside those that a script has: names from a table.
+use Rattle.std.specs.Prelude.{ℕ, Bool, true, false, if◌then◌else◌, List, [], ◌∷◌, codes, Option, None, Some}
 use Rattle.std.specs.Str.{bytes_eq}
-use Rattle.std.specs.Str.Parse.{digits_value}
 use Rattle.shm_model.specs.declared.call.Errno.{Errno}
 use Rattle.shm_model.specs.declared.call.Errno.TheVariants.{Eacces, Eexist, Eidrm, Einval, Enoent, Enospc, Eperm}
 use Rattle.shm_model.specs.declared.kind.Kind.{Kind}
 use Rattle.shm_model.specs.declared.kind.Kind.TheVariants.{Read, Write}
-use Rattle.shm_lines.specs.Words.{is_plain, is_end}
-
--- ---- numbers
-
-abbrev pub IsWide : ℕ → Type 0
-IsWide n = n < 2 ^ 64
-
-abbrev pub wide_of : List ℕ → Option ℕ
-wide_of word = if is_plain word then (if nat_lt (digits_value 10 word) (2 ^ 64) then Some (digits_value 10 word) else None) else None
-
--- ---- names
+use Rattle.shm_lines.specs.Words.{is_end}
 
 -- names, and what each stands for
 abbrev pub Names : Type 0 → Type 0

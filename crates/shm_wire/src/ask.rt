@@ -4,15 +4,15 @@ use shm_model::{Asked, Request};
 use shm_place::{PageId, SiteId};
 use std::fmt;
 
-/// What a caller may ask of a site: each event that a site can be made to have, and what it holds of a page.
+/// What a caller may ask of a site: each event that a site can be made to have, a block of loads, and what it holds of a page.
 #[derive(Clone, Copy, Debug, PartialEq, Eq)]
 pub enum Question {
     /// It waits for its right.
     Access(Asked),
     /// An access that doesn't wait for its right: it is answered at once.
     Try(Asked),
-    /// So many loads of bytes one after another, from an offset on: 1 to 4,096, the last of them below 2 to the 32. Each waits for its
-    /// right, and they are answered once.
+    /// `length` loads of a byte each, at `offset` and the offsets behind it: 1 to 4,096 of them, the last offset below 2 to the 32. Each
+    /// load waits for its right; they are answered once.
     Read { at: u32, offset: u32, length: u32 },
     Begin(Request),
     Tick,

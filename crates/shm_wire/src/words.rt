@@ -1,11 +1,10 @@
 //! The next words of a line, where a script has no such words.
 ghost use Rattle.std.specs.Prelude.{◌≡◌};
-ghost use Rattle.shm_lines.specs.Words.{next_of};
+ghost use Rattle.shm_lines.specs.Words.{next_of, wide_of};
 ghost use Rattle.shm_wire.specs.Words as said;
-ghost use Rattle.shm_wire.specs.Words.{wide_of, kind_of, standing_of, errno_of};
+ghost use Rattle.shm_wire.specs.Words.{kind_of, standing_of, errno_of};
 
-use crate::number;
-use shm_lines::Words;
+use shm_lines::{Words, wide_number};
 use shm_model::{Errno, Kind};
 
 /// The next word as a number below 2 to the 64, and those after it.
@@ -13,7 +12,7 @@ pub fn wide(words: Words<'_>) -> Option<(u64, Words<'_>)>
     ensures { result ≡ next_of wide_of words.entry }
 {
     let (word, words) = words.word()?;
-    let value = number::parse_wide(word)?;
+    let value = wide_number(word)?;
     Some((value, words))
 }
 

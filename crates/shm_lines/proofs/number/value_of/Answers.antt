@@ -26,6 +26,6 @@ returns-then-value c =
     let i = c.digits.byte-index in
     let is : is_ascii_digit (get_or word i 0) ≡ true = sym c.if-not-is_ascii_digit.ensures.value in
     let step = value_step word i c.digits.value is c.digits-test.true c.digits.invariant.0 in
-    let beyond : 4294967296 ≤ digits_value 10 (take (i + 1) word) = omega arith in
-    sym (ap (λ b. cond (list_all is_ascii_digit word) (cond b (Some (digits_value 10 word)) None) None) (value_beyond word (i + 1) 4294967296 beyond)
+    let beyond : 18446744073709551616 ≤ digits_value 10 (take (i + 1) word) = omega arith in
+    sym (ap (λ b. cond (list_all is_ascii_digit word) (cond b (Some (digits_value 10 word)) None) None) (value_beyond word (i + 1) 18446744073709551616 beyond)
     ∙ either-way (list_all is_ascii_digit word) None)
