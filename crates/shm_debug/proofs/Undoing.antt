@@ -1,11 +1,10 @@
 -- What is kept of the last events leads back over them: with one more, with one less, and as many of them as a ring keeps.
-use Rattle.std.proofs.Common.{◌≡◌, ℕ, ◌+◌, ◌-◌, ◌≤◌, zero, suc, List, [], ◌∷◌, ◌++◌, Option, None, Some, IfSome, length, length-append, take, drop, reverse, refl, sym, ap, ◌∙◌, subst, arith}
+use Rattle.std.proofs.Common.{◌≡◌, ℕ, ◌+◌, ◌-◌, ◌≤◌, zero, suc, List, [], ◌∷◌, ◌++◌, Option, None, Some, IfSome, length, length-append, take, drop, reverse, sym, ap, ◌∙◌, subst, arith}
 use Rattle.std.proofs.lemmas.Grind.{take_at_read}
 use Rattle.std.proofs.lemmas.List.{length-take-le, reverse-append, take_all}
 use Rattle.std.proofs.lemmas.Option.{get_or_from_slice_get, slice_get_within}
 use Rattle.circular_buffer.specs.Buffer.{keep_last, last_item}
 use Rattle.shm_model.specs.declared.event.Event.{Event}
-use Rattle.shm_model.specs.World as model
 use Rattle.shm_world.specs.Undo.{LeadsBack}
 use Rattle.shm_world.specs.declared.undo.Undo.{Undo}
 use Rattle.shm_debug.specs.Standing.{Standing, standing, with_event, without_last, world_of}
@@ -50,14 +49,6 @@ without-more s n h =
     let m = length s.events - n in
     let len : length (take m s.events) ≡ m = length-take-le m s.events (omega arith) in
     ap (standing s.opening) (take-take (length (take m s.events) - 1) m s.events (omega (arith, len)) ∙ ap (λ k. take k s.events) (omega (arith, len, h)))
-
--- the world after one event more
-pub world-with : (s : Standing) (e : Event) → world_of (with_event s e) ≡ (model.next (world_of s) e).world
-world-with s e = on (model.begun s.opening) s.events
-  where
-    on : (r : model.Run) (es : List Event) → (model.run_on r (es ++ e ∷ [])).world ≡ (model.next (model.run_on r es).world e).world
-    on r [] = refl
-    on r (x ∷ es) = on (model.extended r (model.next r.world x)) es
 
 last-gone : (s : Standing) (e : Event) → without_last (with_event s e) 1 ≡ s
 last-gone s e =

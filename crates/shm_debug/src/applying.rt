@@ -11,9 +11,9 @@ use shm_world::{Answer, Event, World};
 use std::alloc::{AllocError, Allocator};
 
 impl<A: Allocator + Copy> Session<A> {
-    /// One more event, which stands from then on. Before it is refused for memory, all that is kept for going back is given up, which
-    /// may be had without; else nothing changes then. A load or store that has the right needs memory for the list of the events
-    /// alone, and so does a restart or a loss.
+    /// One more event, which stands from then on. Where memory is refused, all that is kept for going back is dropped, and the event is
+    /// tried once more with nothing kept of it; what stands is then as it was. A load or store that has the right needs memory for the
+    /// list of the events alone, and so does a restart or a loss.
     #[inline(always)]
     pub fn apply(&mut self, event: Event) -> Result<Answer, AllocError>
         ensures answered { IfOk result (λ answer. answer ≡ (model.next (world_of self.old) event).done.answer) }
@@ -24,10 +24,10 @@ impl<A: Allocator + Copy> Session<A> {
             return Ok(answer);
         }
         self.give_up_copies();
-        self.make(&event)
+        self.make_unkept(&event)
     }
 
-    /// The event, with what memory there is.
+    /// The event; what takes it back is kept where that is wanted.
     #[inline(always)]
     fn make(&mut self, event: &Event) -> Result<Answer, AllocError>
         ensures answered { IfOk result (λ answer. answer ≡ (model.next (world_of self.old) event.now).done.answer) }
@@ -35,14 +35,25 @@ impl<A: Allocator + Copy> Session<A> {
         ensures err { OnErr result (self.new ≡ self.old) }
     {
         if self.undos.wanted() {
-            return self.make_and_keep(event);
+            self.make_and_keep(event)
+        } else {
+            self.make_unkept(event)
         }
+    }
+
+    /// The event, of which nothing is kept.
+    #[inline(always)]
+    fn make_unkept(&mut self, event: &Event) -> Result<Answer, AllocError>
+        ensures answered { IfOk result (λ answer. answer ≡ (model.next (world_of self.old) event.now).done.answer) }
+        ensures ok { OnOk result (self.new ≡ with_event self.old event.now) }
+        ensures err { OnErr result (self.new ≡ self.old) }
+    {
         let answer = step_and_push(&mut self.world, &mut self.events, event)?;
         self.undos.miss();
         Ok(answer)
     }
 
-    /// The same, and what takes it back is kept, if there is memory.
+    /// The event, and what takes it back is kept, if there is memory.
     fn make_and_keep(&mut self, event: &Event) -> Result<Answer, AllocError>
         ensures answered { IfOk result (λ answer. answer ≡ (model.next (world_of self.old) event.now).done.answer) }
         ensures ok { OnOk result (self.new ≡ with_event self.old event.now) }
@@ -74,11 +85,13 @@ fn step_and_push<A: Allocator + Copy>(
     event: &Event,
 ) -> Result<Answer, AllocError>
     ensures answered { (w : model.World) → StandsFor world.old w → IfOk result (λ answer. answer ≡ (model.next w event.now).done.answer) }
-    ensures led { (o : model.Opening) (before : List Event) → StandsFor world.old (model.run o before).world → OnOk result (StandsFor world.new (model.run o (before ++ event.now ∷ [])).world) }
+    ensures led { (o : model.Opening) (before : List Event) → StandsFor world.old (model.run o before).world
+        → OnOk result (StandsFor world.new (model.run o (before ++ event.now ∷ [])).world) }
     ensures joined { OnOk result (events.new.items ≡ events.old.items ++ event.now ∷ []) }
     ensures refused { (w : model.World) → StandsFor world.old w → OnErr result (StandsFor world.new w) }
     ensures same { OnErr result (events.new.items ≡ events.old.items) }
-    ensures memory { (w : model.World) → StandsFor world.old w → vec_len events.old < vec_capacity events.old → OnErr result (may_grow event.now (model.next w event.now).done.answer ≡ true) }
+    ensures memory { (w : model.World) → StandsFor world.old w → vec_len events.old < vec_capacity events.old
+        → OnErr result (may_grow event.now (model.next w event.now).done.answer ≡ true) }
 {
     events.reserve(1)?;
     let answer = world.step(*event)?;

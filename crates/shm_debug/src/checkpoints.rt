@@ -9,7 +9,7 @@ use circular_buffer::HeapCircularBuffer;
 use std::alloc::{AllocError, Allocator, Global};
 
 /// How many checkpoints are kept: the latest ones.
-pub(crate) const KEPT: usize = 16;
+const MOST_CHECKPOINTS: usize = 16;
 
 /// The checkpoints, the oldest first.
 #[derive(Drop)]
@@ -22,7 +22,7 @@ impl<A: Allocator + Copy> Checkpoints<A> {
     pub(crate) fn new(alloc: A) -> Result<Checkpoints<A>, AllocError>
         ensures { (s : Standing) → IfOk result (λ checkpoints. AllHold s checkpoints) }
     {
-        let ring = HeapCircularBuffer::with_capacity(alloc, KEPT)?;
+        let ring = HeapCircularBuffer::with_capacity(alloc, MOST_CHECKPOINTS)?;
         Ok(Checkpoints { ring })
     }
 

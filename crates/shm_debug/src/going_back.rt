@@ -1,6 +1,6 @@
 //! Going back: the last events are taken back one by one where what they changed was kept; else the rest runs again from the latest
 //! checkpoint.
-ghost use Rattle.std.specs.Prelude.{◌≡◌, ◌≤◌, ◌<◌, ◌↔◌, ◌++◌, [], ◌∷◌, true, false, List, IfOk, IsErrOf, OnErr, OnOk, length};
+ghost use Rattle.std.specs.Prelude.{◌≡◌, ◌≤◌, ◌<◌, ◌↔◌, ◌++◌, [], ◌∷◌, true, false, List, IfOk, IsErrOf, IsOk, OnErr, OnOk, length};
 ghost use Rattle.shm_model.specs.Opening.{opening_of};
 ghost use Rattle.shm_model.specs.World as model;
 ghost use Rattle.shm_model.specs.declared.event.Event.{Event};
@@ -23,11 +23,12 @@ const STRIDE: usize = 64;
 
 impl<A: Allocator + Copy> Session<A> {
     /// Takes the last `count` events back, and answers how many stand. Where memory is refused, or fewer events stand, what
-    /// stands stays as it was; only checkpoints may be given up. To take none back takes no memory.
+    /// stands stays as it was; only what is kept for going back may be given up.
     pub fn back(&mut self, count: u32) -> Result<u64, BackFault>
         ensures enough { OnOk result (count ≤ length self.old.events) }
         ensures left { IfOk result (λ left. left ≡ length self.new.events) }
         ensures ok { OnOk result (self.new ≡ without_last self.old count) }
+        ensures none { count ≡ 0 → IsOk result }
         ensures past { IsErrOf result BackFault.PastBeginning ↔ (length self.old.events < count) }
         ensures err { OnErr result (self.new ≡ self.old) }
     {
@@ -41,13 +42,10 @@ impl<A: Allocator + Copy> Session<A> {
         }
         self.undos.note_back();
         let left = stood - count;
-        if self.take_back(count) {
-            return Ok(left as u64);
+        if !self.take_back(count) && self.run_again(left).is_err() {
+            return Err(BackFault::OutOfMemory);
         }
-        match self.run_again(left) {
-            Ok(()) => Ok(left as u64),
-            Err(_) => Err(BackFault::OutOfMemory),
-        }
+        Ok(left as u64)
     }
 
     /// Takes the last `count` events back one by one, and tells whether it did: where less is kept of them, or memory is refused, all stays.
@@ -78,11 +76,11 @@ impl<A: Allocator + Copy> Session<A> {
         ensures ok { OnOk result (self.new ≡ first_events left self.old) }
         ensures err { OnErr result (self.new ≡ self.old) }
     {
+        self.undos.clear();
         self.checkpoints.drop_past(left as u64);
         let events = &self.events[..left];
         let world = world_after(self.alloc, self.opening, &mut self.checkpoints, events)?;
         self.world = world;
-        self.undos.clear();
         self.events.truncate(left);
         Ok(())
     }
@@ -100,8 +98,10 @@ fn undo_last<A: Allocator + Copy>(
     requires stands { StandsFor world.old (world_of (standing (opening_of opening) events.now)) }
     requires lead { AllLeadBack (standing (opening_of opening) events.now) undos.old }
     requires within { count ≤ length events.now }
-    ensures back { result ≡ true → StandsFor world.new (world_of (without_last (standing (opening_of opening) events.now) count)) × AllLeadBack (without_last (standing (opening_of opening) events.now) count) undos.new }
-    ensures same { result ≡ false → StandsFor world.new (world_of (standing (opening_of opening) events.now)) × AllLeadBack (standing (opening_of opening) events.now) undos.new }
+    ensures back { result ≡ true → StandsFor world.new (world_of (without_last (standing (opening_of opening) events.now) count))
+        × AllLeadBack (without_last (standing (opening_of opening) events.now) count) undos.new }
+    ensures same { result ≡ false → StandsFor world.new (world_of (standing (opening_of opening) events.now))
+        × AllLeadBack (standing (opening_of opening) events.now) undos.new }
 {
     if undos.len() < count {
         return false;
@@ -142,7 +142,8 @@ fn nearest<A: Allocator + Copy>(
     checkpoints: &Checkpoints<A>,
 ) -> Result<Checkpoint<A>, AllocError>
     requires { model.IsOpening (opening_of opening) }
-    ensures { (events : List Event) → AllHold (standing (opening_of opening) events) checkpoints.now → IfOk result (Holds (standing (opening_of opening) events)) }
+    ensures { (events : List Event) → AllHold (standing (opening_of opening) events) checkpoints.now
+        → IfOk result (Holds (standing (opening_of opening) events)) }
 {
     match checkpoints.latest() {
         Some(checkpoint) => {
@@ -167,8 +168,10 @@ fn run_on<A: Allocator + Copy>(
     checkpoints: &mut Checkpoints<A>,
 ) -> Result<(), AllocError>
     requires { from ≤ length events.now }
-    ensures world { (o : model.Opening) → StandsFor world.old (world_of (first_events from (standing o events.now))) → OnOk result (StandsFor world.new (world_of (standing o events.now))) }
-    ensures kept { (o : model.Opening) → StandsFor world.old (world_of (first_events from (standing o events.now))) → AllHold (standing o events.now) checkpoints.old → AllHold (standing o events.now) checkpoints.new }
+    ensures world { (o : model.Opening) → StandsFor world.old (world_of (first_events from (standing o events.now)))
+        → OnOk result (StandsFor world.new (world_of (standing o events.now))) }
+    ensures kept { (o : model.Opening) → StandsFor world.old (world_of (first_events from (standing o events.now)))
+        → AllHold (standing o events.now) checkpoints.old → AllHold (standing o events.now) checkpoints.new }
 {
     'events: for index in from..events.len() {
         step_on(world, &events[index], checkpoints)?;
@@ -183,7 +186,8 @@ fn step_on<A: Allocator + Copy>(
     event: &Event,
     checkpoints: &mut Checkpoints<A>,
 ) -> Result<(), AllocError>
-    ensures led { (o : model.Opening) (before : List Event) → StandsFor world.old (model.run o before).world → OnOk result (StandsFor world.new (model.run o (before ++ event.now ∷ [])).world) }
+    ensures led { (o : model.Opening) (before : List Event) → StandsFor world.old (model.run o before).world
+        → OnOk result (StandsFor world.new (model.run o (before ++ event.now ∷ [])).world) }
     ensures kept { (s : Standing) → AllHold s checkpoints.old → AllHold s checkpoints.new }
 {
     match world.step(*event) {
@@ -205,7 +209,8 @@ fn keep<A: Allocator + Copy>(
     checkpoints: &mut Checkpoints<A>,
 )
     requires { count ≤ last }
-    ensures { (s : Standing) → count ≤ length s.events → StandsFor world.now (world_of (first_events count s)) → AllHold s checkpoints.old → AllHold s checkpoints.new }
+    ensures { (s : Standing) → count ≤ length s.events → StandsFor world.now (world_of (first_events count s)) → AllHold s checkpoints.old
+        → AllHold s checkpoints.new }
 {
     let from_the_last = (last - count) / STRIDE + 1;
     if count % STRIDE != 0 || !from_the_last.is_power_of_two() {

@@ -35,7 +35,9 @@ impl<A: Allocator + Copy> Model for Session<A> {
 
     ghost view = { λ s. standing (opening_of s.opening) s.events.items };
 
-    ghost invariant = { λ s. StandsFor s.world (world_of (standing (opening_of s.opening) s.events.items)) × AllHold (standing (opening_of s.opening) s.events.items) s.checkpoints × AllLeadBack (standing (opening_of s.opening) s.events.items) s.undos × IsOpening (opening_of s.opening) };
+    ghost invariant = { λ s. StandsFor s.world (world_of (standing (opening_of s.opening) s.events.items))
+        × AllHold (standing (opening_of s.opening) s.events.items) s.checkpoints × AllLeadBack (standing (opening_of s.opening) s.events.items) s.undos
+        × IsOpening (opening_of s.opening) };
 }
 
 impl<A: Allocator + Copy> Session<A> {

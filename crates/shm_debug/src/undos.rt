@@ -10,7 +10,7 @@ use shm_world::Undo;
 use std::alloc::{AllocError, Allocator, Global};
 
 /// Of how many events it is kept at most: of the last ones.
-const KEPT: usize = 16;
+const MOST_UNDOS: usize = 16;
 
 /// Two times of going back are near each other where fewer events than these were made between them.
 const NEAR: u32 = 8;
@@ -29,7 +29,7 @@ impl<A: Allocator + Copy> Undos<A> {
     pub(crate) fn new(alloc: A) -> Result<Undos<A>, AllocError>
         ensures { (s : Standing) → IfOk result (AllLeadBack s) }
     {
-        let ring = HeapCircularBuffer::with_capacity(alloc, KEPT)?;
+        let ring = HeapCircularBuffer::with_capacity(alloc, MOST_UNDOS)?;
         Ok(Undos {
             ring,
             near: 0,
@@ -53,7 +53,8 @@ impl<A: Allocator + Copy> Undos<A> {
 
     /// This is kept of an event that was made. The oldest goes where there is too much.
     pub(crate) fn keep(&mut self, undo: Undo<A>)
-        ensures { (s : Standing) (event : Event) → AllLeadBack s self.old → LeadsBack undo (world_of (with_event s event)) (world_of s) → AllLeadBack (with_event s event) self.new }
+        ensures { (s : Standing) (event : Event) → AllLeadBack s self.old → LeadsBack undo (world_of (with_event s event)) (world_of s)
+            → AllLeadBack (with_event s event) self.new }
     {
         self.near = self.near.saturating_sub(1);
         self.ring.push_back(undo);
@@ -70,7 +71,8 @@ impl<A: Allocator + Copy> Undos<A> {
     /// What is kept of the last event, which is to be taken back.
     pub(crate) fn pop(&mut self) -> Option<Undo<A>>
         ensures some { 0 < length self.old.ring.items → IsSome result }
-        ensures leads { (s : Standing) → AllLeadBack s self.old → IfSome result (λ undo. LeadsBack undo (world_of s) (world_of (without_last s 1)) × AllLeadBack (without_last s 1) self.new) }
+        ensures leads { (s : Standing) → AllLeadBack s self.old
+            → IfSome result (λ undo. LeadsBack undo (world_of s) (world_of (without_last s 1)) × AllLeadBack (without_last s 1) self.new) }
         ensures len { length self.new.ring.items ≡ length self.old.ring.items - 1 }
     {
         self.ring.pop_back()

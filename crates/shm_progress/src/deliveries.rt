@@ -15,7 +15,8 @@ pub fn each_delivery_counts()
 /// Deliveries end: from every world that some events lead to, envelopes that are each on their way when their turn comes are at most so
 /// many, in whatever order they are handed over; and after so many nothing is on its way.
 pub fn deliveries_end()
-    ensures rest { (o : Opening) (events : List Event) (envelopes : List ℕ) → AreOnTheirWay (run o events).world envelopes → deliveries_left (run o events).world ≤ length envelopes
+    ensures rest { (o : Opening) (events : List Event) (envelopes : List ℕ) → AreOnTheirWay (run o events).world envelopes
+        → deliveries_left (run o events).world ≤ length envelopes
         → IsAtRest (run o (events ++ map event.Deliver envelopes)).world }
     ensures most { (o : Opening) (events : List Event) (envelopes : List ℕ) → AreOnTheirWay (run o events).world envelopes
         → length envelopes ≤ deliveries_left (run o events).world }

@@ -16,6 +16,7 @@ pub fn purges_go_on()
 
 /// Purges end: if nothing is on its way any more then, all sites have answered.
 pub fn purges_end()
-    ensures { (o : Opening) (earlier later : List Event) (home id site : ℕ) (x : Site) → IsOpening o → NothingLost later → is_full (world_since o earlier home later) ≡ false
+    ensures { (o : Opening) (earlier later : List Event) (home id site : ℕ) (x : Site) → IsOpening o → NothingLost later
+        → is_full (world_since o earlier home later) ≡ false
         → IsAtRest (world_since o earlier home later) → slice_get (world_since o earlier home later).sites home ≡ Some x → x.missing id site ≡ false }
 {}

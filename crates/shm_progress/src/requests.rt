@@ -22,11 +22,13 @@ pub fn requests_go_on()
 /// Requests end: if nothing is on its way any more then, each of them was taken up, or it was turned away or no number was left, or the
 /// segment is being purged.
 pub fn requests_end()
-    ensures { (o : Opening) (earlier later : List Event) (site manager : ℕ) (x : Site) (p : Pending) → IsOpening o → NothingLost later → NotRestarted manager later
+    ensures { (o : Opening) (earlier later : List Event) (site manager : ℕ) (x : Site) (p : Pending) → IsOpening o → NothingLost later
+        → NotRestarted manager later
         → is_full (run o ((earlier ++ (Tick site ∷ [])) ++ later)).world ≡ false → IsAtRest (run o ((earlier ++ (Tick site ∷ [])) ++ later)).world
         → slice_get (run o ((earlier ++ (Tick site ∷ [])) ++ later)).world.sites site ≡ Some x → Contains x.pending p → manager_of (sites_of o) p.page ≡ manager
         → IsTakenUpAt (run o ((earlier ++ (Tick site ∷ [])) ++ later)).world manager site p
-        ⊎ (TookNone o (earlier ++ (Tick site ∷ [])) later manager site p ⊎ IsPurgedSomewhere (run o ((earlier ++ (Tick site ∷ [])) ++ later)).world p.page.seg) }
+        ⊎ (TookNone o (earlier ++ (Tick site ∷ [])) later manager site p
+        ⊎ IsPurgedSomewhere (run o ((earlier ++ (Tick site ∷ [])) ++ later)).world p.page.seg) }
 {}
 
 /// Started requests are served: in every world that some events lead to, whatever was lost, repeated or restarted before, a request that

@@ -17,7 +17,8 @@ pub fn rounds_exist()
 /// ticks and after which nothing is on its way, leave no call outstanding and no purge unanswered; whatever else is among them, restarts
 /// too. No more envelopes were sent than a world counts.
 pub fn rounds_settle_calls_and_purges()
-    ensures { (o : Opening) (earlier later : List Event) → IsOpening o → NothingLost later → AllTick (sites_of o) later → is_full (run o (earlier ++ later)).world ≡ false
+    ensures { (o : Opening) (earlier later : List Event) → IsOpening o → NothingLost later → AllTick (sites_of o) later
+        → is_full (run o (earlier ++ later)).world ≡ false
         → IsAtRest (run o (earlier ++ later)).world → Settled (run o (earlier ++ later)).world }
 {}
 

@@ -16,6 +16,7 @@ pub fn calls_go_on()
 
 /// Calls end: if nothing is on its way any more then, the site has no call outstanding.
 pub fn calls_end()
-    ensures { (o : Opening) (earlier later : List Event) (site : ℕ) (x : Site) → IsOpening o → NothingLost later → is_full (world_since o earlier site later) ≡ false
+    ensures { (o : Opening) (earlier later : List Event) (site : ℕ) (x : Site) → IsOpening o → NothingLost later
+        → is_full (world_since o earlier site later) ≡ false
         → IsAtRest (world_since o earlier site later) → slice_get (world_since o earlier site later).sites site ≡ Some x → x.outstanding ≡ None }
 {}

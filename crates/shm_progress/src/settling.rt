@@ -29,9 +29,12 @@ pub fn settle<A: Allocator + Copy>(world: &mut World<A>, budget: u64) -> Result<
     ensures within { IfOk result (λ settled. settled.deliveries ≤ budget) }
     ensures rest { (w u : model.World) → StandsFor world.old w → StandsFor world.new u → IfOk result (λ settled. IsTrue settled.at_rest ↔ IsAtRest u) }
     ensures spent { IfOk result (λ settled. settled.at_rest ≡ false → settled.deliveries ≡ budget) }
-    ensures enough { (o : model.Opening) (before : List Event) → StandsFor world.old (model.run o before).world → deliveries_left (model.run o (before ++ ticks (model.sites_of o))).world ≤ budget → IfOk result (λ settled. IsTrue settled.at_rest) }
-    ensures settles { (o : model.Opening) (before : List Event) → model.IsOpening o → StandsFor world.old (model.run o before).world → IfOk result (λ settled. IsTrue settled.at_rest → Settles world.new o before) }
-    ensures serves { (o : model.Opening) (before round : List Event) → model.IsOpening o → IsRound o before round → StandsFor world.old (model.run o (before ++ round)).world → IfOk result (λ settled. IsTrue settled.at_rest → ServesAll world.new o before round) }
+    ensures enough { (o : model.Opening) (before : List Event) → StandsFor world.old (model.run o before).world
+        → deliveries_left (model.run o (before ++ ticks (model.sites_of o))).world ≤ budget → IfOk result (λ settled. IsTrue settled.at_rest) }
+    ensures settles { (o : model.Opening) (before : List Event) → model.IsOpening o → StandsFor world.old (model.run o before).world
+        → IfOk result (λ settled. IsTrue settled.at_rest → Settles world.new o before) }
+    ensures serves { (o : model.Opening) (before round : List Event) → model.IsOpening o → IsRound o before round
+        → StandsFor world.old (model.run o (before ++ round)).world → IfOk result (λ settled. IsTrue settled.at_rest → ServesAll world.new o before round) }
     ensures part { (w : model.World) → StandsFor world.old w → OnErr result (StoppedInRound world.new w budget) }
 {
     tick_all(world)?;

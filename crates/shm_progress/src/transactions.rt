@@ -20,6 +20,7 @@ pub fn transactions_go_on()
 /// Transactions end: if nothing is on its way any more then, none runs at the manager, but of a segment that is being purged.
 pub fn transactions_end()
     ensures { (o : Opening) (earlier later : List Event) (manager : ℕ) (x : Site) (page : PageId) → IsOpening o → NothingLost later → NotRestarted manager later
-        → is_full (world_since o earlier manager later) ≡ false → IsAtRest (world_since o earlier manager later) → slice_get (world_since o earlier manager later).sites manager ≡ Some x
+        → is_full (world_since o earlier manager later) ≡ false → IsAtRest (world_since o earlier manager later)
+        → slice_get (world_since o earlier manager later).sites manager ≡ Some x
         → ((x.books page).running ≡ None) ⊎ IsPurgedSomewhere (world_since o earlier manager later) page.seg }
 {}

@@ -1,7 +1,6 @@
 -- What becomes of an envelope that was on its way.
 use Rattle.std.proofs.Common.{◌≡◌, ◌∙◌, ℕ, ◌<◌, ◌≤◌, Bool, true, false, List, Option, Some, None, is_some, ⊎_elim, ap, arith, if◌then◌else◌, length, refl, slice_get, subst, sym}
 use Rattle.std.proofs.lemmas.Bool.{cases_lt}
-use Rattle.std.proofs.lemmas.Bool.Decides.{nat_tests}
 use Rattle.std.proofs.lemmas.Option.{none-some, slice_get_past}
 use Rattle.shm_model.specs.declared.answer.Answer.{Answer}
 use Rattle.shm_model.specs.declared.answer.Answer.TheVariants.{Took, Refused}
@@ -12,13 +11,13 @@ use Rattle.shm_model.specs.Refusal.{no_such_message, numbers_used_up}
 use Rattle.shm_model.specs.Site as model
 use Rattle.shm_model.specs.Step.{step}
 use Rattle.shm_model.specs.World as world
+use Rattle.shm_laws.proofs.Call.Steps.{at-here, at-there}
 use Rattle.shm_world.specs.Network.{on_way, Carries}
 use Rattle.shm_site.specs.Step.{is_refused}
 use Rattle.shm_world.specs.Members.{members_of}
 use Rattle.shm_world.specs.Steps.{Went}
 use Rattle.shm_world.specs.World.{StandsFor}
 use Rattle.shm_world.specs.declared.world.World.{World}
-use Rattle.shm_world.proofs.NetworkLemmas.{at-there}
 use Rattle.shm_world.proofs.Steps.{still_stands}
 
 -- what is on its way was sent
@@ -33,11 +32,8 @@ taken old new w k e live stands count sites carries = record {
   count = stands.count ∙ sym count;
   sites = stands.sites ∙ sym sites;
   carries = carries;
-  unsent = λ j h. let low = live_sent (w.gone k) w.sent k e live in let rest = stands.unsent j h in elsewhere w.gone k j (omega arith) ∙ rest;
+  unsent = λ j h. let low = live_sent (w.gone k) w.sent k e live in at-there w.gone k true j (λ same. omega (arith, same, low, h)) ∙ stands.unsent j h;
 }
-  where
-    elsewhere : (f : ℕ → Bool) (k j : ℕ) → k < j → at f k true j ≡ f j
-    elsewhere f k j h = grind (arith, nat_tests)
 
 -- an envelope that is on its way is lost
 pub lost : {A : Type 0} (old new : World A) (w : world.World) (k : ℕ) (found : Option Envelope) → found ≡ world.live w k → is_some found ≡ true → StandsFor old w
@@ -79,7 +75,7 @@ pub delivered : {A : Type 0} (handed new : World A) (w : world.World) (k : ℕ) 
     → Went new (world.deliver (world.live w k) w k) answer
 delivered handed new w k e answer was live went count sites is missing =
     let next = world.step_at (world.without w k) e.to (Deliver e) in
-    let gone : next.world.gone k ≡ true = gone_still (slice_get w.sites e.to) (world.without w k) e.to (Deliver e) k (at-there w.gone k k true refl) in
+    let gone : next.world.gone k ≡ true = gone_still (slice_get w.sites e.to) (world.without w k) e.to (Deliver e) k (at-here w.gone k true k refl) in
     let none : on_way handed.network k ≡ None = went.stands.carries.live k ∙ none_live (next.world.gone k) (slice_get next.world.sent k) gone in
     subst (λ (m : Option Envelope). Went new (world.deliver m w k) answer) live (record {
       stands = still_stands handed new next.world went.stands count sites (missing (is ∙ ap is_some none) next.world.sent next.world.gone went.stands.carries);

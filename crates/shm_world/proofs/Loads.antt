@@ -2,6 +2,7 @@
 use Rattle.std.proofs.Common.{◌≡◌, ◌∙◌, ℕ, ◌+◌, ◌≤◌, Bool, true, false, List, [], ◌∷◌, ◌++◌, Option, Some, None, Result, Ok, Err, OnErr, ap, if◌then◌else◌, length, refl, slice_get, subst, suc, sym, take, zero}
 use Rattle.std.proofs.lemmas.Option.{same_Some}
 use Rattle.shm_laws.proofs.Log.Lists.{slice_get-append_right}
+use Rattle.shm_laws.proofs.Run.GoesOn.{run_on-append}
 use Rattle.shm_model.specs.declared.answer.Answer.{Answer}
 use Rattle.shm_model.specs.declared.answer.Answer.TheVariants.{Byte, Refused}
 use Rattle.shm_model.specs.declared.event.Event.{Event}
@@ -48,15 +49,11 @@ gives-next o before _ _ h is = tt
 
 -- ---- runs that go on by one event
 
-run_on-last : (r : model.Run) (before : List Event) (e : Event) → model.run_on r (before ++ e ∷ []) ≡ model.extended (model.run_on r before) (model.next (model.run_on r before).world e)
-run_on-last r [] e = refl
-run_on-last r (x ∷ before) e = run_on-last (model.extended r (model.next r.world x)) before e
-
 -- the answer to an event is that of the last store where it gives a byte
 pub gives-last : (o : model.Opening) (before : List Event) (e : Event) (answer : Answer) → Promised o (before ++ e ∷ [])
     → answer ≡ (model.next (model.run o before).world e).done.answer → GivesLast o before e answer
 gives-last o before e answer promised is =
-    let legal = subst (λ (r : model.Run). Legal o r.account) (run_on-last (model.begun o) before e) promised.legal in
+    let legal = subst (λ (r : model.Run). Legal o r.account) (run_on-append (model.begun o) before (e ∷ [])) promised.legal in
     gives-next o before e answer legal.0 is
 
 -- ---- runs that go on by a list of events

@@ -7,6 +7,7 @@ use Rattle.std.proofs.lemmas.List.{drop_all}
 use Rattle.std.proofs.lemmas.Option.{same_Some, none-some}
 use Rattle.shm_model.specs.Basics.{at}
 use Rattle.shm_model.specs.Message as model
+use Rattle.shm_laws.proofs.Call.Steps.{at-here, at-there}
 use Rattle.shm_world.specs.Network.{envelope_at, in_place, on_way, Carries}
 use Rattle.shm_world.specs.declared.network.Network.{Network}
 use Rattle.shm_parts.specs.declared.message.Envelope.{Envelope}
@@ -19,12 +20,6 @@ drop-at (y ∷ xs) zero (suc m) x more h =
     ap (λ z. z ∷ xs) (same_Some y x h) ∙ ap (λ i. x ∷ drop i xs) (sym none)
 drop-at (y ∷ xs) (suc n) zero x more h = absurd (omega arith)
 drop-at (y ∷ xs) (suc n) (suc m) x more h = drop-at xs n m x (omega arith) h
-
-pub at-there : {X : Type 0} (f : ℕ → X) (k j : ℕ) (x : X) → k ≡ j → at f k x j ≡ x
-at-there f k j x same = grind (arith, nat_tests)
-
-at-elsewhere : {X : Type 0} (f : ℕ → X) (k j : ℕ) (x : X) → (k ≡ j → ⊥) → at f k x j ≡ f j
-at-elsewhere f k j x other = grind (arith, nat_tests)
 
 pub if_none : {X P : Type 0} (r : Option X) → (r ≡ None → P) → IfNone r P
 if_none None f = f refl
@@ -46,6 +41,9 @@ pub place_gone : {A : Type 0} (b : Bool) (r : Option (Option (Envelope A))) → 
 place_gone true r = refl
 place_gone false r = refl
 
+pub no_place : {X : Type 0} (n : ℕ) (r : Option X) → is_some (cond (n == n) None r) ≡ false
+no_place n r = let same : (n == n) ≡ true = grind (arith, nat_tests) in ap (λ b. is_some (cond b None r)) same
+
 pub empty_place : {A : Type 0} (b : Bool) (place : Option (Envelope A)) → b ≡ is_some place → b ≡ false → envelope_at place ≡ None
 empty_place b None is not_so = refl
 empty_place b (Some e) is not_so = absurd (cc)
@@ -56,8 +54,8 @@ pub unlost : {A : Type 0} (old new : Network A) (sent : List model.Envelope) (go
 unlost old new sent gone number none count puts had = record {
   count = count ∙ had.count;
   live = λ k. ⊎_elim
-      (λ (same : number ≡ k). puts k ∙ at-there (on_way old) number k None same ∙ sym none ∙ ap (on_way old) same ∙ had.live k)
-      (λ (other : number ≡ k → ⊥). puts k ∙ at-elsewhere (on_way old) number k None other ∙ had.live k)
+      (λ (same : number ≡ k). puts k ∙ at-here (on_way old) number None k same ∙ sym none ∙ ap (on_way old) same ∙ had.live k)
+      (λ (other : number ≡ k → ⊥). puts k ∙ at-there (on_way old) number None k other ∙ had.live k)
       (cases_eq number k);
 }
 

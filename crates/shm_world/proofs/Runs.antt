@@ -1,12 +1,14 @@
 -- What a list of events makes of a world, event by event; and that a run of two lists is the one list after the other.
-use Rattle.std.proofs.Common.{◌≡◌, ℕ, ◌+◌, ◌<◌, ◌≤◌, List, [], ◌∷◌, ◌++◌, Result, Ok, Err, length, take, get_or, refl, sym, ap, ◌∙◌, subst, append_assoc}
+use Rattle.std.proofs.Common.{◌≡◌, ℕ, ◌+◌, ◌<◌, ◌≤◌, true, List, [], ◌∷◌, ◌++◌, Some, Result, Ok, Err, length, length-append, take, get_or, refl, suc, sym, ap, ◌∙◌, subst, append_assoc, arith}
 use Rattle.std.specs.Prelude.{OnErr}
-use Rattle.std.proofs.lemmas.List.{append-nil, take_all, take_more}
+use Rattle.std.proofs.lemmas.List.{append-nil, length-take-le, take_all, take_more}
+use Rattle.std.proofs.lemmas.Option.{slice_get-get_or}
 use Rattle.shm_model.specs.declared.answer.Answer.{Answer}
 use Rattle.shm_model.specs.declared.event.Event.{Event}
 use Rattle.shm_model.specs.World as model
+use Rattle.shm_laws.proofs.Run.GoesOn.{run_on-append}
 use Rattle.shm_world.specs.Steps.{Went}
-use Rattle.shm_world.specs.World.{after, answers, AnsweredSome, StandsFor}
+use Rattle.shm_world.specs.World.{after, answers, may_grow, AnsweredSome, StandsFor, StopsAtGrowth}
 use Rattle.shm_world.specs.declared.world.World.{World}
 
 -- the world stands after these events, and their answers joined those told before
@@ -51,15 +53,28 @@ pub ran-some : {A X E : Type 0} (result : Result X E) (old new : World A) (told 
 ran-some (Ok x) old new told out w events i within ran stands = tt
 ran-some (Err e) old new told out w events i within ran stands = record { count = i; within = within; stands = stands; answered = ran.answered }
 
+length-answers : (w : model.World) (events : List Event) → length (answers w events) ≡ length events
+length-answers w [] = refl
+length-answers w (e ∷ events) = ap suc (length-answers (model.next w e).world events)
+
+-- a run stops at an event at which memory may be missing
+pub stops-here : {A : Type 0} (old : World A) (told out : List Answer) (w : model.World) (events : List Event) (i : ℕ) (e : Event) → i < length events → e ≡ get_or events i e
+    → Ran old told out w (take i events) → may_grow e (model.next (after w (take i events)) e).done.answer ≡ true → StopsAtGrowth told out w events
+stops-here old told out w events i e below here ran grows = record {
+  count = i;
+  event = e;
+  joined = ap length ran.answered
+      ∙ length-append told (answers w (take i events))
+      ∙ ap (λ n. length told + n) (length-answers w (take i events) ∙ length-take-le i events (omega (arith, below)));
+  next = slice_get-get_or events i e below ∙ ap (λ x. Some x) (sym here);
+  grows = grows;
+}
+
 -- runs
 run_on-after : (r : model.Run) (events : List Event) → (model.run_on r events).world ≡ after r.world events
 run_on-after r [] = refl
 run_on-after r (e ∷ events) = run_on-after (model.extended r (model.next r.world e)) events
 
-run_on-then : (r : model.Run) (before events : List Event) → (model.run_on r (before ++ events)).world ≡ after (model.run_on r before).world events
-run_on-then r [] events = run_on-after r events
-run_on-then r (e ∷ before) events = run_on-then (model.extended r (model.next r.world e)) before events
-
 -- a run goes on from where the first events left it
 pub run-then : (o : model.Opening) (before events : List Event) → (model.run o (before ++ events)).world ≡ after (model.run o before).world events
-run-then o before events = run_on-then (model.begun o) before events
+run-then o before events = ap (λ (r : model.Run). r.world) (run_on-append (model.begun o) before events) ∙ run_on-after (model.run o before) events

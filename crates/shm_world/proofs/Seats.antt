@@ -1,5 +1,5 @@
 -- Sites in their seats: one more, one changed, and what the definitions see of them.
-use Rattle.std.proofs.Common.{◌≡◌, ℕ, ◌+◌, ◌⊎◌, inl, inr, ⊎_elim, zero, suc, List, [], ◌∷◌, ◌++◌, length, map, Option, None, Some, IfSome, Result, Ok, Err, IfErr, IfOk, OnErr, slice_get, slice_set, take, option_map, refl, sym, ap, ap₂, ◌∙◌, subst}
+use Rattle.std.proofs.Common.{◌≡◌, ℕ, ◌+◌, ◌⊎◌, inl, inr, ⊎_elim, zero, suc, List, [], ◌∷◌, ◌++◌, length, map, Option, None, Some, IfSome, Result, Ok, Err, IfOk, OnErr, slice_get, slice_set, take, option_map, refl, sym, ap, ap₂, ◌∙◌, subst}
 use Rattle.std.proofs.lemmas.Grind.{take_at_read}
 use Rattle.std.proofs.lemmas.List.{map-append, map-set}
 use Rattle.std.proofs.lemmas.Option.{get_or_from_slice_get, none-some, same_Some, slice_get-map, slice_get_past, slice_get_read, slice_get_within}
@@ -16,6 +16,7 @@ use Rattle.shm_site.specs.declared.site.Site.{Site}
 use Rattle.shm_world.specs.declared.members.Members.{Members}
 use Rattle.shm_world.specs.Members.{members_of, seen_by, Made}
 use Rattle.shm_world.specs.Seats.{Seated}
+use Rattle.shm_world.proofs.Steps.{set_same}
 
 -- ---- lists
 
@@ -32,11 +33,6 @@ at-set (z ∷ xs) zero y x (suc k) e = inl e
 at-set (z ∷ xs) (suc i) y x zero e = inl e
 at-set (z ∷ xs) (suc i) y x (suc k) e = ⊎_elim inl (λ h. inr (ap suc h.0, h.1)) (at-set xs i y x k e)
 
-set-same : {X : Type 0} (xs : List X) (i : ℕ) (x : X) → slice_get xs i ≡ Some x → slice_set xs i x ≡ xs
-set-same [] i x e = refl
-set-same (z ∷ xs) zero x e = ap (λ y. y ∷ xs) (sym (same_Some z x e))
-set-same (z ∷ xs) (suc i) x e = ap (λ ys. z ∷ ys) (set-same xs i x e)
-
 take-more : {X : Type 0} (xs : List X) (k : ℕ) (x : X) → slice_get xs k ≡ Some x → take (k + 1) xs ≡ take k xs ++ x ∷ []
 take-more xs k x e = (take_at_read xs k x (slice_get_within xs k x e)).1 ∙ ap (λ y. take k xs ++ y ∷ []) (get_or_from_slice_get xs k x x e)
 
@@ -44,10 +40,6 @@ take-more xs k x e = (take_at_read xs k x (slice_get_within xs k x e)).1 ∙ ap 
 pub lent : {X : Type 0} (xs : List X) (i : ℕ) (r : Option (Bor X)) → IsItemAt xs i r → option_copied r ≡ slice_get xs i
 lent xs i None h = sym (slice_get_past xs i h.3)
 lent xs i (Some x) h = sym (slice_get_read xs (length xs) i x.now refl h.3.0 h.1)
-
-pub if_err-weaker : {X Y : Type 0} (r : Result X Y) (P Q : Y → Type 0) → ((y : Y) → P y → Q y) → IfErr r P → IfErr r Q
-if_err-weaker (Ok x) P Q f h = tt
-if_err-weaker (Err y) P Q f h = f y h
 
 -- ---- seats
 
@@ -114,7 +106,7 @@ seen-next xs ys all site next n so_far more there is =
 -- a site that is seen as before changes nothing
 pub seen-same : {A : Type 0} (xs : List (Site A)) (i : ℕ) (old new : Site A) → slice_get xs i ≡ Some old → site_of new ≡ site_of old → map site_of (slice_set xs i new) ≡ map site_of xs
 seen-same xs i old new there same =
-    map-set site_of xs i new ∙ ap (slice_set (map site_of xs) i) same ∙ set-same (map site_of xs) i (site_of old) (slice_get-map site_of xs i ∙ ap (option_map site_of) there)
+    map-set site_of xs i new ∙ ap (slice_set (map site_of xs) i) same ∙ set_same (map site_of xs) i (site_of old) (slice_get-map site_of xs i ∙ ap (option_map site_of) there)
 
 -- what is said of a site by its own number, and how many it knows of, holds at its seat
 pub in-seat : {A : Type 0} (old : Members A) (i s : ℕ) (was : Site A) → i ≡ s → slice_get old.sites.items i ≡ Some was → (P : ℕ → ℕ → Type 0) → P was.sites was.me → P old.count s

@@ -1,5 +1,5 @@
 -- Steps of the world, as its code makes them.
-use Rattle.std.proofs.Common.{◌≡◌, ◌∙◌, ℕ, ◌<◌, ◌≤◌, Bool, true, false, List, [], ◌∷◌, ◌++◌, Some, None, ap, append-nil, arith, length, length-append, map, nat_lt, not, refl, slice_get, slice_set, subst, suc, sym, zero}
+use Rattle.std.proofs.Common.{◌≡◌, ◌∙◌, ℕ, ◌<◌, ◌≤◌, Bool, true, false, List, [], ◌∷◌, ◌++◌, Some, None, ap, append-nil, arith, length, length-append, map, nat_lt, refl, slice_get, slice_set, subst, suc, sym, zero}
 use Rattle.std.proofs.lemmas.Bool.{cond-true, cond-false}
 use Rattle.std.proofs.lemmas.Bool.Decides.{nat_tests}
 use Rattle.std.proofs.lemmas.Option.{same_Some}
@@ -115,10 +115,6 @@ was_foreign false e = absurd (cc)
 pub turned_away : {A : Type 0} (new : World A) (w : world.World) (s : ℕ) (x : model.Site) (i : Input) → StandsFor new w → slice_get w.sites s ≡ Some x → length w.sent ≤ max_sent
     → is_foreign w.count s i ≡ true → Went new (world.step_at w s i) (Refused foreign_message)
 turned_away new w s x i stands there few is = still_there new w s x i (Refused foreign_message) stands there few (foreign_still w.count s i x is)
-
-pub not_so : (b : Bool) → not b ≡ true → b ≡ false
-not_so true h = absurd (cc)
-not_so false h = refl
 
 -- memory may be missing where a step may need some
 pub grows : (sites me : ℕ) (x : model.Site) (i : Input) → may_grow sites me x i ≡ true → input_may_grow i (step sites me x i).answer ≡ true

@@ -3,7 +3,6 @@ use Rattle.std.proofs.Common.{◌≡◌, ◌∙◌, ℕ, ◌<◌, ◌≤◌, ◌
 use Rattle.std.proofs.lemmas.Bool.{cases_eq, cases_lt}
 use Rattle.std.proofs.lemmas.Bool.Decides.{nat_tests}
 use Rattle.std.proofs.lemmas.Option.{slice_get_past}
-use Rattle.shm_model.specs.Basics.{at}
 use Rattle.shm_model.specs.Message.{Input, Tick}
 use Rattle.shm_model.specs.Message as message
 use Rattle.shm_model.specs.Refusal.{numbers_used_up}
@@ -12,13 +11,17 @@ use Rattle.shm_model.specs.Site as model
 use Rattle.shm_model.specs.Site.{Step}
 use Rattle.shm_model.specs.Step.{step}
 use Rattle.shm_model.specs.World.{World, is_full, live, step_at, step_site, stepped, unstepped, without}
-use Rattle.shm_parts.specs.Message.{envelope_of}
+use Rattle.shm_parts.specs.Message.{envelope_of, holds_page, message_of}
 use Rattle.shm_parts.specs.declared.message.Envelope.{Envelope}
+use Rattle.shm_parts.specs.declared.message.Message.{Message}
+use Rattle.shm_parts.specs.declared.message.Message.TheVariants as message-of
+use Rattle.shm_parts.specs.declared.message.Note.TheVariants as note
 use Rattle.shm_site.specs.Site.{site_of}
 use Rattle.shm_site.specs.declared.site.Site.{Site}
+use Rattle.shm_laws.proofs.Call.Steps.{at-here, at-there}
 use Rattle.shm_world.specs.Members.{members_of}
 use Rattle.shm_world.specs.Network.{on_way, sent_before}
-use Rattle.shm_world.specs.Undo.{Fits, LeadsBack, kept_site, with_envelope, with_site}
+use Rattle.shm_world.specs.Undo.{Fits, LeadsBack, has_page, kept_site, with_envelope, with_site}
 use Rattle.shm_world.specs.World.{StandsFor}
 use Rattle.shm_world.specs.declared.undo.Undo.{Undo}
 use Rattle.shm_world.specs.declared.world.World.{World as Running}
@@ -129,12 +132,6 @@ back-tick undo w s back =
     let o = slice_get w.sites s in
     back (step_at w s Tick).world (sym (count-at o w s Tick)) (still-at o w s refl) (λ k h. sym (live-at o w s Tick k h))
 
-at-here : {X : Type 0} (f : ℕ → X) (n k : ℕ) (x : X) → n ≡ k → x ≡ at f n x k
-at-here f n k x same = grind (arith, nat_tests)
-
-at-other : {X : Type 0} (f : ℕ → X) (n k : ℕ) (x : X) → (n ≡ k → ⊥) → f k ≡ at f n x k
-at-other f n k x other = grind (arith, nat_tests)
-
 -- and over the same where an envelope goes off its way too
 pub back-taken : {A : Type 0} (undo : Undo A) (after w : World) (number : ℕ) (e : Envelope A) → undo.taken ≡ None → live w number ≡ Some (envelope_of e)
     → ((k : ℕ) → length w.sent ≤ k → w.gone k ≡ false) → LeadsBack undo after (without w number)
@@ -145,16 +142,30 @@ back-taken undo after w number e none here unsent back = record {
   fits = back.fits;
   sent = back.sent;
   live = λ k h. ⊎_elim
-      (λ (same : number ≡ k). ap (live w) (sym same) ∙ here ∙ at-here (live after) number k (Some (envelope_of e)) same)
+      (λ (same : number ≡ k). ap (live w) (sym same) ∙ here ∙ sym (at-here (live after) number (Some (envelope_of e)) k same))
       (λ (other : number ≡ k → ⊥).
-      ap (λ b. if b then None else slice_get w.sent k) (at-other w.gone number k true other)
+      ap (λ b. if b then None else slice_get w.sent k) (sym (at-there w.gone number true k other))
       ∙ back.live k h
       ∙ ap (λ t. with_envelope t (live after) k) none
-      ∙ at-other (live after) number k (Some (envelope_of e)) other)
+      ∙ sym (at-there (live after) number (Some (envelope_of e)) k other))
       (cases_eq number k);
   taken = let low = live_sent (w.gone number) w.sent number (envelope_of e) here in omega (arith, low, back.sent);
   unsent = unsent;
 }
+
+-- only a page's bytes may take memory
+pub page-is : {A : Type 0} (m : Message A) → holds_page m ≡ has_page (message_of m)
+page-is (message-of.Of page (note.Ask request kind)) = refl
+page-is (message-of.Of page (note.Clear number)) = refl
+page-is (message-of.Of page (note.Cleared number)) = refl
+page-is (message-of.Of page (note.Hand number kind to)) = refl
+page-is (message-of.Of page (note.Read given)) = refl
+page-is (message-of.Of page (note.Write given)) = refl
+page-is (message-of.Of page (note.Confirm number)) = refl
+page-is (message-of.Call number op) = refl
+page-is (message-of.Reply number reply) = refl
+page-is (message-of.Purge id) = refl
+page-is (message-of.Purged id) = refl
 
 -- an envelope that is on its way was sent
 pub low-number : (w : World) (number : ℕ) (e : message.Envelope) → live w number ≡ Some e → number < length w.sent
@@ -163,7 +174,7 @@ low-number w number e here = live_sent (w.gone number) w.sent number e here
 pub unsent-without : (w : World) (number : ℕ) (e : message.Envelope) → live w number ≡ Some e → ((k : ℕ) → length w.sent ≤ k → w.gone k ≡ false)
     → (k : ℕ) → length w.sent ≤ k → (without w number).gone k ≡ false
 unsent-without w number e here unsent k h =
-    let low = low-number w number e here in sym (at-other w.gone number k true (λ same. omega (arith, same, low, h))) ∙ unsent k h
+    let low = low-number w number e here in at-there w.gone number true k (λ same. omega (arith, same, low, h)) ∙ unsent k h
 
 -- ---- going back
 
@@ -173,7 +184,7 @@ same-envelope (Some t) f g k h = ap (λ o. if t.0 == k then Some (envelope_of t.
 
 past-envelope : {A : Type 0} (taken : Option (ℕ × Envelope A)) (f : ℕ → Option message.Envelope) (sent k : ℕ) → IfSome taken (λ t. t.0 < sent) → sent ≤ k → with_envelope taken f k ≡ f k
 past-envelope None f sent k low h = refl
-past-envelope (Some t) f sent k low h = sym (at-other f t.0 k (Some (envelope_of t.1)) (λ same. omega (arith, same, low, h)))
+past-envelope (Some t) f sent k low h = at-there f t.0 (Some (envelope_of t.1)) k (λ same. omega (arith, same, low, h))
 
 early : {X : Type 0} (first sent k : ℕ) (x : Option X) → k < first → (if nat_le first k && nat_lt k sent then None else x) ≡ x
 early first sent k x h = grind (arith, nat_tests)

@@ -1,7 +1,10 @@
 -- What is kept of a world before an event, so that the event can be taken back.
-use Rattle.std.specs.Prelude.{◌≡◌, ℕ, ◌<◌, ◌≤◌, false, List, Option, Some, None, IfSome, length, slice_set}
+use Rattle.std.specs.Prelude.{◌≡◌, ℕ, ◌<◌, ◌≤◌, ◌||◌, Bool, false, true, List, Option, Some, None, IfSome, is_some, length, slice_get, slice_set}
 use Rattle.indexmap.specs.IndexMap.{spare}
 use Rattle.shm_model.specs.Basics.{at}
+use Rattle.shm_model.specs.Entry as entry
+use Rattle.shm_model.specs.declared.event.Event.{Event}
+use Rattle.shm_model.specs.declared.event.Event.TheVariants as event
 use Rattle.shm_model.specs.Message as message
 use Rattle.shm_model.specs.Site as model
 use Rattle.shm_model.specs.World.{World, live}
@@ -43,3 +46,39 @@ pub record LeadsBack {A : Type 0} (undo : Undo A) (after before : World) : Type 
 -- how many more envelopes have room
 abbrev pub room_in : {A : Type 0} → Running A → ℕ
 room_in world = spare world.network.places
+
+-- ---- what may need memory
+
+abbrev pub has_site : World → ℕ → Bool
+has_site w s = is_some (slice_get w.sites s)
+
+-- there is an envelope, and a site that it goes to
+abbrev pub has_receiver : World → Option message.Envelope → Bool
+has_receiver w None = false
+has_receiver w (Some e) = has_site w e.to
+
+abbrev pub is_page : entry.Note → Bool
+is_page (entry.Page _ _ _) = true
+is_page _ = false
+
+-- the message has a page's bytes
+abbrev pub has_page : message.Message → Bool
+has_page (message.Of _ note) = is_page note
+has_page _ = false
+
+-- there is an envelope, and it has a page's bytes
+abbrev pub brings_page : Option message.Envelope → Bool
+brings_page None = false
+brings_page (Some e) = has_page e.message
+
+-- Whether memory may be missing for what is kept of an event: for a copy of the site that it steps, if there is one, or of a page's bytes
+-- that go off their way; never for a tick.
+abbrev pub undo_may_grow : World → Event → Bool
+undo_may_grow w (event.Load s _ _) = has_site w s
+undo_may_grow w (event.Store s _ _ _) = has_site w s
+undo_may_grow w (event.Begin s _) = has_site w s
+undo_may_grow w (event.Tick _) = false
+undo_may_grow w (event.Restart s) = has_site w s
+undo_may_grow w (event.Deliver k) = has_receiver w (live w k) || brings_page (live w k)
+undo_may_grow w (event.Repeat k) = has_receiver w (live w k)
+undo_may_grow w (event.Lose k) = brings_page (live w k)

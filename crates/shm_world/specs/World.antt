@@ -1,5 +1,5 @@
 -- A world of the code against one of the definitions; and what a list of events makes of a world.
-use Rattle.std.specs.Prelude.{◌≡◌, ℕ, ◌≤◌, Bool, false, not, List, [], ◌∷◌, ◌++◌, length, take}
+use Rattle.std.specs.Prelude.{◌≡◌, ℕ, ◌+◌, ◌≤◌, Bool, false, true, not, List, [], ◌∷◌, ◌++◌, Some, length, slice_get, take}
 use Rattle.shm_model.specs.declared.answer.Answer.{Answer}
 use Rattle.shm_model.specs.declared.event.Event.{Event}
 use Rattle.shm_model.specs.declared.event.Event.TheVariants as event
@@ -51,3 +51,11 @@ pub record AnsweredSome {A : Type 0} (new : World A) (told out : List Answer) (w
   pub within : count ≤ length events
   pub stands : StandsFor new (after w (take count events))
   pub answered : out ≡ told ++ answers w (take count events)
+
+-- the answers that joined are those of the first so many events, and memory may be missing at the next one
+pub record StopsAtGrowth (told out : List Answer) (w : model.World) (events : List Event) : Type 0 where
+  pub count : ℕ
+  pub event : Event
+  pub joined : length out ≡ length told + count
+  pub next : slice_get events count ≡ Some event
+  pub grows : may_grow event (model.next (after w (take count events)) event).done.answer ≡ true

@@ -20,7 +20,8 @@ impl<A: Allocator + Copy> World<A> {
     pub(crate) fn deliver(&mut self, number: u64) -> Result<Answer, AllocError>
         ensures step { (w : model.World) → StandsFor self.old w → IfOk result (λ answer. Went self.new (model.deliver (model.live w number) w number) answer) }
         ensures refused { (w : model.World) → StandsFor self.old w → OnErr result (StandsFor self.new w) }
-        ensures memory { (w : model.World) → StandsFor self.old w → OnErr result (is_refused (model.deliver (model.live w number) w number).done.answer ≡ false) }
+        ensures memory { (w : model.World) → StandsFor self.old w
+            → OnErr result (is_refused (model.deliver (model.live w number) w number).done.answer ≡ false) }
     {
         let Some(envelope) = self.network.take_out(number) else {
             return Ok(Answer::Refused(NO_SUCH_MESSAGE));
@@ -55,8 +56,10 @@ impl<A: Allocator + Copy> World<A> {
     /// What the repeat of an envelope answers for whose bytes memory was refused: it may be refused anyway.
     fn answer_without_copy(&self, envelope: &Envelope<A>) -> Result<Answer, AllocError>
         requires { holds_page envelope.now.message ≡ true }
-        ensures step { (w : model.World) → StandsFor self.now w → IfOk result (λ answer. Went self.now (model.step_at w (envelope_of envelope.now).to (input.Deliver (envelope_of envelope.now))) answer) }
-        ensures memory { (w : model.World) → StandsFor self.now w → OnErr result (is_refused (model.step_at w (envelope_of envelope.now).to (input.Deliver (envelope_of envelope.now))).done.answer ≡ false) }
+        ensures step { (w : model.World) → StandsFor self.now w
+            → IfOk result (λ answer. Went self.now (model.step_at w (envelope_of envelope.now).to (input.Deliver (envelope_of envelope.now))) answer) }
+        ensures memory { (w : model.World) → StandsFor self.now w
+            → OnErr result (is_refused (model.step_at w (envelope_of envelope.now).to (input.Deliver (envelope_of envelope.now))).done.answer ≡ false) }
     {
         if let Some(answer) = self.refusal(envelope.to) {
             return Ok(answer);

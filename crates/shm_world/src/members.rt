@@ -1,5 +1,5 @@
 //! What is done with the sites, each at its number.
-ghost use Rattle.std.specs.Prelude.{◌≡◌, length, [], false, true, ◌<◌, Some, map, slice_get, slice_set, IfErr, IfOk, IfSome, IsOk, OnErr};
+ghost use Rattle.std.specs.Prelude.{◌≡◌, length, [], false, true, ◌<◌, Some, is_some, map, slice_get, slice_set, IfErr, IfOk, IfSome, IsOk, OnErr};
 ghost use Rattle.shm_world.specs.Seats.{Seated};
 ghost use Rattle.std.specs.List.{range_with_len};
 ghost use Rattle.std.specs.Option.{option_copied};
@@ -64,10 +64,12 @@ impl<A: Allocator + Copy> Members<A> {
         outbox: &mut O,
     ) -> Result<Answer, StepError<A>>
         requires { site < self.old.count }
-        ensures step { IfOk result (λ answer. (x : model.Site) → slice_get (members_of self.old) site ≡ Some x → Made O.posted self.old self.new site outbox.old outbox.new answer (step self.old.count site x (input_of input))) }
+        ensures step { IfOk result (λ answer. (x : model.Site) → slice_get (members_of self.old) site ≡ Some x
+            → Made O.posted self.old self.new site outbox.old outbox.new answer (step self.old.count site x (input_of input))) }
         ensures taken { IsOk result → is_foreign self.old.count site (input_of input) ≡ false }
         ensures fault { IfErr result (λ e. e.fault ≡ fault_of (is_foreign self.old.count site (input_of input))) }
-        ensures memory { IfErr result (λ e. e.fault ≡ fault.OutOfMemory → (x : model.Site) → slice_get (members_of self.old) site ≡ Some x → may_grow self.old.count site x (input_of input) ≡ true) }
+        ensures memory { IfErr result (λ e. e.fault ≡ fault.OutOfMemory → (x : model.Site) → slice_get (members_of self.old) site ≡ Some x
+            → may_grow self.old.count site x (input_of input) ≡ true) }
         ensures back { IfErr result (λ e. envelope_if e.envelope ≡ handed_in (input_of input)) }
         ensures refused { OnErr result ((members_of self.new ≡ members_of self.old) × O.posted outbox.old outbox.new []) }
         ensures count { self.new.count ≡ self.old.count }
@@ -85,9 +87,11 @@ impl<A: Allocator + Copy> Members<A> {
         outbox: &mut O,
     ) -> Result<Answer, AllocError>
         requires { site < self.old.count }
-        ensures step { IfOk result (λ answer. (x : model.Site) → slice_get (members_of self.old) site ≡ Some x → Made O.posted self.old self.new site outbox.old outbox.new answer (access.load self.old.count site at offset x)) }
+        ensures step { IfOk result (λ answer. (x : model.Site) → slice_get (members_of self.old) site ≡ Some x
+            → Made O.posted self.old self.new site outbox.old outbox.new answer (access.load self.old.count site at offset x)) }
         ensures refused { OnErr result ((members_of self.new ≡ members_of self.old) × O.posted outbox.old outbox.new []) }
-        ensures memory { OnErr result ((x : model.Site) → slice_get (members_of self.old) site ≡ Some x → is_fault (access.load self.old.count site at offset x).answer ≡ true) }
+        ensures memory { OnErr result ((x : model.Site) → slice_get (members_of self.old) site ≡ Some x
+            → is_fault (access.load self.old.count site at offset x).answer ≡ true) }
         ensures count { self.new.count ≡ self.old.count }
     {
         self.sites[site.0 as usize].load(at, offset, outbox)
@@ -104,9 +108,11 @@ impl<A: Allocator + Copy> Members<A> {
         outbox: &mut O,
     ) -> Result<Answer, AllocError>
         requires { site < self.old.count }
-        ensures step { IfOk result (λ answer. (x : model.Site) → slice_get (members_of self.old) site ≡ Some x → Made O.posted self.old self.new site outbox.old outbox.new answer (access.store self.old.count site at offset byte x)) }
+        ensures step { IfOk result (λ answer. (x : model.Site) → slice_get (members_of self.old) site ≡ Some x
+            → Made O.posted self.old self.new site outbox.old outbox.new answer (access.store self.old.count site at offset byte x)) }
         ensures refused { OnErr result ((members_of self.new ≡ members_of self.old) × O.posted outbox.old outbox.new []) }
-        ensures memory { OnErr result ((x : model.Site) → slice_get (members_of self.old) site ≡ Some x → is_fault (access.store self.old.count site at offset byte x).answer ≡ true) }
+        ensures memory { OnErr result ((x : model.Site) → slice_get (members_of self.old) site ≡ Some x
+            → is_fault (access.store self.old.count site at offset byte x).answer ≡ true) }
         ensures count { self.new.count ≡ self.old.count }
     {
         self.sites[site.0 as usize].store(at, offset, byte, outbox)
@@ -117,6 +123,7 @@ impl<A: Allocator + Copy> Members<A> {
         ensures site { IfOk result (λ copy. kept_site copy ≡ slice_get (members_of self.now) site) }
         ensures number { IfOk result (λ copy. IfSome copy (λ kept. kept.0 ≡ site)) }
         ensures fits { IfOk result (Fits self.now.count) }
+        ensures memory { OnErr result (is_some (slice_get (members_of self.now) site) ≡ true) }
     {
         match self.get(site) {
             Some(found) => Ok(Some((site, found.copy()?))),

@@ -1,7 +1,7 @@
 //! The network between sites: the envelopes that are on their way, each under its number. It loses, repeats and reorders as it is told.
 //!
 //! Each call but `copy` takes constant time for an envelope, however many were sent.
-ghost use Rattle.std.specs.Prelude.{◌≡◌, ℕ, ◌+◌, ◌<◌, ◌≤◌, Bool, false, true, [], List, length, slice_get, Some, is_some, IfNone, IfOk, IfSome, OnOk};
+ghost use Rattle.std.specs.Prelude.{◌≡◌, ℕ, ◌+◌, ◌<◌, ◌≤◌, Bool, false, true, [], List, length, slice_get, Some, is_some, IfNone, IfOk, IfSome, IsOk, OnOk};
 ghost use Rattle.indexmap.specs.IndexMap.{spare};
 ghost use Rattle.std.specs.Option.{option_copied};
 ghost use Rattle.shm_model.specs.Basics.{at};
@@ -69,7 +69,8 @@ impl<A: Allocator + Copy> Network<A> {
     /// Puts back what was taken out of its place.
     pub fn put_back(&mut self, number: u64, envelope: Envelope<A>)
         requires { has_place self.old number ≡ true }
-        ensures { (sent : List model.Envelope) (gone : ℕ → Bool) → Carries self.old sent (at gone number true) → gone number ≡ false → slice_get sent number ≡ Some (envelope_of envelope) → Carries self.new sent gone }
+        ensures { (sent : List model.Envelope) (gone : ℕ → Bool) → Carries self.old sent (at gone number true) → gone number ≡ false
+            → slice_get sent number ≡ Some (envelope_of envelope) → Carries self.new sent gone }
     {
         if let Some(place) = self.places.get_mut(&number) {
             *place = Some(envelope);
@@ -80,6 +81,7 @@ impl<A: Allocator + Copy> Network<A> {
     pub fn lose(&mut self, number: u64) -> bool
         ensures was { result ≡ is_some (on_way self.old number) }
         ensures after { (sent : List model.Envelope) (gone : ℕ → Bool) → Carries self.old sent gone → Carries self.new sent (at gone number true) }
+        ensures place { has_place self.new number ≡ false }
         ensures missing { result ≡ false → (sent : List model.Envelope) (gone : ℕ → Bool) → Carries self.old sent gone → Carries self.new sent gone }
     {
         match self.places.swap_remove(&number) {
@@ -91,6 +93,8 @@ impl<A: Allocator + Copy> Network<A> {
     /// Makes room for so many envelopes to be put back on their way. What is carried stays.
     pub(crate) fn make_room(&mut self, count: usize) -> Result<(), AllocError>
         ensures room { OnOk result (count ≤ spare self.new.places) }
+        ensures succeeds { count ≤ spare self.old.places → IsOk result }
+        ensures kept { spare self.old.places ≤ spare self.new.places }
         ensures same { (sent : List model.Envelope) (gone : ℕ → Bool) → Carries self.old sent gone → Carries self.new sent gone }
     {
         self.places.reserve(count)

@@ -69,8 +69,10 @@ impl<A: Allocator + Copy> World<A> {
 
     /// The page's book, at its manager. None: there is no such page, or its manager has purged its segment.
     pub fn book(&self, page: PageId) -> Option<BookView>
-        ensures found { (w : model.World) → StandsFor self.now w → is_some result ≡ (in_limits w.count page && keeps_book (slice_get w.sites (manager_of w.count page)) page) }
-        ensures book { (w : model.World) (x : site.Site) → StandsFor self.now w → slice_get w.sites (manager_of w.count page) ≡ Some x → IfSome result (λ view. Shows view (x.books page)) }
+        ensures found { (w : model.World) → StandsFor self.now w
+            → is_some result ≡ (in_limits w.count page && keeps_book (slice_get w.sites (manager_of w.count page)) page) }
+        ensures book { (w : model.World) (x : site.Site) → StandsFor self.now w → slice_get w.sites (manager_of w.count page) ≡ Some x
+            → IfSome result (λ view. Shows view (x.books page)) }
     {
         let page = &page;
         let manager = manager_of(self.members.count, *page);

@@ -40,9 +40,11 @@ impl<A: Allocator + Copy> World<A> {
         offset: u32,
         byte: u8,
     ) -> Result<Answer, AllocError>
-        ensures step { (w : model.World) → StandsFor self.old w → IfOk result (λ answer. Went self.new (model.step_at w site (input.Store at offset byte)) answer) }
+        ensures step { (w : model.World) → StandsFor self.old w
+            → IfOk result (λ answer. Went self.new (model.step_at w site (input.Store at offset byte)) answer) }
         ensures refused { (w : model.World) → StandsFor self.old w → OnErr result (StandsFor self.new w) }
-        ensures memory { (w : model.World) → StandsFor self.old w → OnErr result (is_fault (model.step_at w site (input.Store at offset byte)).done.answer ≡ true) }
+        ensures memory { (w : model.World) → StandsFor self.old w
+            → OnErr result (is_fault (model.step_at w site (input.Store at offset byte)).done.answer ≡ true) }
     {
         if let Some(answer) = self.refusal(site) {
             return Ok(answer);
@@ -56,7 +58,8 @@ impl<A: Allocator + Copy> World<A> {
     pub(crate) fn act(&mut self, site: SiteId, input: Input<A>) -> Result<Answer, AllocError>
         ensures step { (w : model.World) → StandsFor self.old w → IfOk result (λ answer. Went self.new (model.step_at w site (input_of input)) answer) }
         ensures refused { (w : model.World) → StandsFor self.old w → OnErr result (StandsFor self.new w) }
-        ensures memory { (w : model.World) → StandsFor self.old w → OnErr result (input_may_grow (input_of input) (model.step_at w site (input_of input)).done.answer ≡ true) }
+        ensures memory { (w : model.World) → StandsFor self.old w
+            → OnErr result (input_may_grow (input_of input) (model.step_at w site (input_of input)).done.answer ≡ true) }
     {
         self.step_site(site, input).map_err(|_| AllocError)
     }
@@ -64,10 +67,12 @@ impl<A: Allocator + Copy> World<A> {
     /// Hands the envelope to its site. Where memory is refused it comes back, and nothing changes.
     #[inline(always)]
     pub(crate) fn hand(&mut self, envelope: Envelope<A>) -> Result<Answer, Envelope<A>>
-        ensures step { (w : model.World) → StandsFor self.old w → IfOk result (λ answer. Went self.new (model.step_at w (envelope_of envelope).to (input.Deliver (envelope_of envelope))) answer) }
+        ensures step { (w : model.World) → StandsFor self.old w
+            → IfOk result (λ answer. Went self.new (model.step_at w (envelope_of envelope).to (input.Deliver (envelope_of envelope))) answer) }
         ensures back { IfErr result (λ back. envelope_of back ≡ envelope_of envelope) }
         ensures refused { (w : model.World) → StandsFor self.old w → OnErr result (StandsFor self.new w) }
-        ensures memory { (w : model.World) → StandsFor self.old w → OnErr result (is_refused (model.step_at w (envelope_of envelope).to (input.Deliver (envelope_of envelope))).done.answer ≡ false) }
+        ensures memory { (w : model.World) → StandsFor self.old w
+            → OnErr result (is_refused (model.step_at w (envelope_of envelope).to (input.Deliver (envelope_of envelope))).done.answer ≡ false) }
         ensures places { OnErr result ((k : ℕ) → has_place self.old.network k ≡ true → has_place self.new.network k ≡ true) }
     {
         match self.step_site(envelope.to, Input::Deliver(envelope)) {
@@ -84,7 +89,8 @@ impl<A: Allocator + Copy> World<A> {
         ensures step { (w : model.World) → StandsFor self.old w → IfOk result (λ answer. Went self.new (model.step_at w site (input_of input)) answer) }
         ensures back { IfErr result (λ back. envelope_if back ≡ handed_in (input_of input)) }
         ensures refused { (w : model.World) → StandsFor self.old w → OnErr result (StandsFor self.new w) }
-        ensures memory { (w : model.World) → StandsFor self.old w → OnErr result (input_may_grow (input_of input) (model.step_at w site (input_of input)).done.answer ≡ true) }
+        ensures memory { (w : model.World) → StandsFor self.old w
+            → OnErr result (input_may_grow (input_of input) (model.step_at w site (input_of input)).done.answer ≡ true) }
         ensures places { OnErr result ((k : ℕ) → has_place self.old.network k ≡ true → has_place self.new.network k ≡ true) }
     {
         if let Some(answer) = self.refusal(site) {
@@ -102,7 +108,8 @@ impl<A: Allocator + Copy> World<A> {
     /// Why no site is stepped, if none is: there is no such site, or envelopes have no numbers left.
     #[inline(always)]
     pub(crate) fn refusal(&self, site: SiteId) -> Option<Answer>
-        ensures refused { IfSome result (λ answer. (w : model.World) (i : input.Input) → StandsFor self.now w → model.step_at w site i ≡ model.unstepped w site answer) }
+        ensures refused { IfSome result (λ answer. (w : model.World) (i : input.Input) → StandsFor self.now w
+            → model.step_at w site i ≡ model.unstepped w site answer) }
         ensures site { IfNone result (site < self.now.members.count) }
         ensures numbers { IfNone result (self.now.network.sent ≤ max_sent) }
         ensures refuses { IfSome result (λ answer. is_refused answer ≡ true) }

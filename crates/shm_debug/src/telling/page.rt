@@ -91,7 +91,9 @@ fn tell_manager<A: Allocator>(
     shown: Option<Shown>,
     book: Option<BookView>,
 ) -> Result<(), AllocError>
-    ensures { (o : Option Site) → shown ≡ shown_at o page → is_some book ≡ keeps_book o page → ((x : Site) → o ≡ Some x → IfSome book (λ view. Shows view (x.books page))) → OnOk result (string_bytes out.new ≡ string_bytes out.old ++ manager_text o page) }
+    ensures { (o : Option Site) → shown ≡ shown_at o page → is_some book ≡ keeps_book o page
+        → ((x : Site) → o ≡ Some x → IfSome book (λ view. Shows view (x.books page)))
+        → OnOk result (string_bytes out.new ≡ string_bytes out.old ++ manager_text o page) }
 {
     let _place = &page;
     if shown.is_none() {

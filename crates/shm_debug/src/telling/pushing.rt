@@ -1,4 +1,5 @@
-//! What lines are made of, appended without a formatter: numbers, answers, and replies to segment calls.
+//! What lines are made of. Numbers, answers and the common replies are appended without a formatter, which takes longer; a reply to
+//! `stat`, and a refused call, by their `Display`.
 ghost use Rattle.std.specs.Prelude.{◌≡◌, ◌++◌, OnOk, string_bytes};
 ghost use Rattle.std.specs.Fmt.{decimal};
 ghost use Rattle.shm_debug.specs.Text.{answer_text, reply_text};
@@ -72,8 +73,8 @@ fn push_reply<A: Allocator + Copy>(
         (Reply::Attached(_), Some(number)) => push_named(out, "attached ", number as u64),
         (Reply::Ok, _) => out.push_str("ok"),
         (reply, attachment) => {
-            let rare = ReplyText { reply, attachment };
-            write!(out, "{rare}")
+            let text = ReplyText { reply, attachment };
+            write!(out, "{text}")
         }
     }
 }

@@ -108,7 +108,8 @@ pub(crate) fn write_answer<A: Allocator + Copy>(
     world: &World<A>,
     first: u64,
 ) -> Result<(), AllocError>
-    ensures { (w : model.World) → StandsFor world.now w → OnOk result (string_bytes out.new ≡ string_bytes out.old ++ line_text line (event_text answer.now w first)) }
+    ensures { (w : model.World) → StandsFor world.now w → OnOk result
+        (string_bytes out.new ≡ string_bytes out.old ++ line_text line (event_text answer.now w first)) }
 {
     push_number(out, line)?;
     out.push_str(" ")?;

@@ -36,7 +36,8 @@ pub fn deliver_all<A: Allocator + Copy>(
     ensures within { IfOk result (λ settled. settled.deliveries ≤ budget) }
     ensures rest { (w u : model.World) → StandsFor world.old w → StandsFor world.new u → IfOk result (λ settled. IsTrue settled.at_rest ↔ IsAtRest u) }
     ensures spent { IfOk result (λ settled. settled.at_rest ≡ false → settled.deliveries ≡ budget) }
-    ensures enough { (o : model.Opening) (before : List Event) → StandsFor world.old (model.run o before).world → deliveries_left (model.run o before).world ≤ budget → IfOk result (λ settled. IsTrue settled.at_rest) }
+    ensures enough { (o : model.Opening) (before : List Event) → StandsFor world.old (model.run o before).world
+        → deliveries_left (model.run o before).world ≤ budget → IfOk result (λ settled. IsTrue settled.at_rest) }
     ensures part { (w : model.World) → StandsFor world.old w → OnErr result (HandedSome world.new w budget) }
 {
     let mut from = 0;

@@ -1,10 +1,10 @@
 use Rattle.std.proofs.Common.{◌≡◌, false, true, IfErr, IsOk, length, refl, arith}
 use Rattle.std.proofs.lemmas.Option.{slice_get_read}
-use Rattle.std.proofs.lemmas.Result.{IfOk-weaker, on_err_weaker}
+use Rattle.std.proofs.lemmas.Result.{IfErr-weaker, IfOk-weaker, on_err_weaker}
 use Rattle.shm_model.specs.Step.{step}
 use Rattle.shm_site.specs.Site.{site_of}
 use Rattle.shm_site.specs.Step.{fault_of, input_of, is_foreign, may_grow}
-use Rattle.shm_world.proofs.Seats.{if_err-weaker, in-seat, made-there, seat-kept, seated-set, seen-in-seat, seen-same}
+use Rattle.shm_world.proofs.Seats.{in-seat, made-there, seat-kept, seated-set, seen-in-seat, seen-same}
 use Rattle.shm_world.proofs.members.Members.step.Goals as goal
 
 pub invariant_of-self-clause-seats : goal.invariant_of-self-clause-seats
@@ -44,7 +44,7 @@ returns-clause-memory g c =
     let is : c.site.inside.0 ≡ c.args.site = omega arith in
     let sites = c.args.self.now.sites.items in
     let there = slice_get_read sites (length sites) c.site.inside.0 c.index_mut.result.now refl (omega arith) c.index_mut.ensures.value in
-    if_err-weaker c.step.result _ _
+    IfErr-weaker c.step.result _ _
     (λ e grows out. seen-in-seat c.args.self.now c.site.inside.0 c.args.site c.index_mut.result.now is there (λ n m x. may_grow n m x (input_of c.args.input) ≡ true) (grows out))
     c.step.ensures.memory
 

@@ -1,8 +1,9 @@
 use Rattle.std.proofs.Common.{◌++◌, arith, subst, sym}
 use Rattle.shm_model.specs.World as model
+use Rattle.shm_site.proofs.Steps.{on_err}
 use Rattle.shm_world.specs.World.{StandsFor}
 use Rattle.shm_world.proofs.Loads.{each-gives-last, stopped-after}
-use Rattle.shm_world.proofs.Runs.{ran-all, ran-more, ran-none, ran-some, run-then}
+use Rattle.shm_world.proofs.Runs.{ran-all, ran-more, ran-none, ran-some, run-then, stops-here}
 use Rattle.shm_world.proofs.world.World.run.Goals as goal
 
 pub events-init : goal.events-init
@@ -16,6 +17,13 @@ returns-in_err-answer-clause-part g c = λ w stands.
     let ran = c.events.invariant.ran w stands in
     ran-some c.from_residual-in_err-answer.result _ _ _ _ w c.args.events.now c.events.event-index c.events.auto.event-index-end ran
     (c.in_err-answer.ensures.refused _ ran.stands)
+
+pub returns-in_err-answer-clause-memory : goal.returns-in_err-answer-clause-memory
+returns-in_err-answer-clause-memory g c = λ w stands room.
+    let ran = c.events.invariant.ran w stands in
+    on_err c.from_residual-in_err-answer.result
+    (stops-here c.events.self c.args.out.now.items c.events.out.items w c.args.events.now c.events.event-index c.event-item.result c.events-test.true c.event-item.is ran
+    (c.in_err-answer.ensures.memory _ ran.stands))
 
 pub returns-in_err-answer-clause-last : goal.returns-in_err-answer-clause-last
 returns-in_err-answer-clause-last g c = λ o before opening stands.

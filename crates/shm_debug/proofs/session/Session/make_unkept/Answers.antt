@@ -2,7 +2,7 @@ use Rattle.shm_model.specs.Opening.{opening_of}
 use Rattle.shm_model.specs.World as model
 use Rattle.shm_debug.specs.Standing.{standing}
 use Rattle.shm_debug.proofs.Going.{joined}
-use Rattle.shm_debug.proofs.session.Session.make.Goals as goal
+use Rattle.shm_debug.proofs.session.Session.make_unkept.Goals as goal
 
 pub invariant_of-self-2 : goal.invariant_of-self-2
 invariant_of-self-2 g c =
