@@ -29,7 +29,7 @@ where
     };
     let cluster = match Cluster::start(rt, alloc, sites, 1, SEED, OpenGate) {
         Ok(cluster) => cluster,
-        Err(fault) => bail!("no cluster: {fault:?}"),
+        Err(fault) => bail!("no cluster: {fault}"),
     };
     let counted = count_all(rt, alloc, sites, cluster.clients());
     let loaded = load_all(rt, alloc, sites, cluster.clients());
@@ -50,7 +50,7 @@ where
 fn receipts(told: Told) -> Result<Vec<Receipt>> {
     match told {
         Ok(receipts) => Ok(receipts),
-        Err(fault) => bail!("a caller ended: {fault:?}"),
+        Err(fault) => bail!("a caller ended: {fault}"),
     }
 }
 

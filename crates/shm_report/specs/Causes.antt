@@ -1,5 +1,5 @@
 -- Why nothing was reported, where the workload is wrong or an audit found a cause.
-use Rattle.std.specs.Prelude.{◌≡◌, ℕ, ◌+◌, Bool, true, false, List, length, min, IfSome, Err, Ok, Option, None, Some, Vec}
+use Rattle.std.specs.Prelude.{◌≡◌, ◌≤◌, ℕ, ◌+◌, Bool, true, false, List, length, min, IfSome, Err, Ok, Option, None, Some, Vec}
 use Rattle.std.specs.declared.alloc.Global.{Global}
 use Rattle.shm_sites.specs.Auditing.Callers.{callers_of}
 use Rattle.shm_sites.specs.Auditing.Complete.{IsFirstCauseOfAll}
@@ -63,6 +63,36 @@ fault_of_run (run.Call call) = fault_of_access call.place call.fault
 fault_of_run run.OutOfMemory = report.OutOfMemory
 fault_of_run run.Logs = report.Logs
 
+-- the line of the access that was given up
+abbrev pub given_up : ReportFault → Option ℕ
+given_up (report.GaveUp number) = Some number
+given_up (report.BadLine number) = None
+given_up (report.LineTooLong number) = None
+given_up report.TooManyLines = None
+given_up report.OutOfMemory = None
+given_up report.ReadFault = None
+given_up report.WriteFault = None
+given_up report.NoThread = None
+given_up report.ClockEnd = None
+given_up report.Foreign = None
+given_up report.Logs = None
+given_up (report.Audit cause) = None
+
+-- The writing of a report ends so: by memory, by the writer, or since a line has no receipt, as it has in a run that an audit accepted.
+abbrev pub ends_writing : ReportFault → Bool
+ends_writing report.OutOfMemory = true
+ends_writing report.WriteFault = true
+ends_writing report.Logs = true
+ends_writing (report.BadLine number) = false
+ends_writing (report.LineTooLong number) = false
+ends_writing report.TooManyLines = false
+ends_writing report.ReadFault = false
+ends_writing report.NoThread = false
+ends_writing (report.GaveUp number) = false
+ends_writing report.ClockEnd = false
+ends_writing report.Foreign = false
+ends_writing (report.Audit cause) = false
+
 -- neither the workload nor an audit is to blame
 pub record IsOther (fault : ReportFault) : Type 0 where
   pub input : input_cause fault ≡ None
@@ -86,6 +116,14 @@ is_after_reading (report.Audit cause) = true
 -- these bytes, where they are known, are a workload for so many sites
 abbrev pub IsRight : ℕ → Option (List ℕ) → Type 0
 IsRight sites known = IfSome known (λ bytes. (whole : Whole) × (workload_of sites bytes ≡ Ok whole))
+
+-- an access of so many stands on this line; the first is that of line 2
+abbrev pub IsLineOf : ℕ → ℕ → Type 0
+IsLineOf count line = (2 ≤ line) × (line ≤ count + 1)
+
+-- so of the workload that these bytes have, where they are known
+abbrev pub IsLineIn : ℕ → Option (List ℕ) → ℕ → Type 0
+IsLineIn sites known line = IfSome known (λ bytes. (whole : Whole) × (workload_of sites bytes ≡ Ok whole) × IsLineOf (length whole.accesses) line)
 
 -- these bytes, where they are known, are no workload for so many sites, for this cause
 abbrev pub IsWrongBy : ℕ → Option (List ℕ) → WorkloadFault → Type 0

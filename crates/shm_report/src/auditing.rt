@@ -5,7 +5,7 @@ ghost use Rattle.shm_sites.specs.Auditing.Callers.{callers_of};
 ghost use Rattle.shm_sites.specs.Auditing.Complete.{AllTold, IsFirstCauseOfAll};
 ghost use Rattle.shm_sites.specs.Auditing.Logs.{logs_of, AreLogsOf};
 ghost use Rattle.shm_model.specs.World.{Preset};
-ghost use Rattle.shm_report.specs.Causes.{audit_cause, input_cause};
+ghost use Rattle.shm_report.specs.Causes.{audit_cause, given_up, input_cause};
 ghost use Rattle.shm_report.specs.declared.report_fault.ReportFault.TheVariants as cause;
 
 use crate::Ran;
@@ -27,6 +27,7 @@ pub(crate) fn order_steps(
     ensures complete { IsOk result → AllTold (logs_of ran.now.logs.items) (callers_of ran.now.callers.items) }
     ensures cause { IfErr result (λ fault. IfSome (audit_cause fault) (IsFirstCauseOfAll (logs_of ran.now.logs.items) (callers_of ran.now.callers.items))) }
     ensures input { IfErr result (λ fault. input_cause fault ≡ None) }
+    ensures line { IfErr result (λ fault. given_up fault ≡ None) }
     ensures unwritten { IfErr result (λ fault. fault ≢ cause.WriteFault) }
 {
     match audit_complete(

@@ -1,7 +1,11 @@
 //! A site's log as text: a line for each step.
-ghost use Rattle.std.specs.Prelude.{◌≡◌, ◌++◌, Some, map, IfOk, OnOk, string_bytes};
+ghost use Rattle.std.specs.Prelude.{◌≡◌, ◌++◌, Some, map, IfErr, IfOk, OnOk, string_bytes};
 ghost use Rattle.shm_sites.specs.Boxes.Logged.{logged_of, stamp_of};
 ghost use Rattle.shm_sites.specs.Boxes.SiteLog.{steps_of};
+ghost use Rattle.shm_lines.specs.Spelling.{spelling};
+ghost use Rattle.shm_lines.specs.declared.line.Line.TheVariants as line;
+ghost use Rattle.shm_model.specs.Log.{Stamp as Source};
+ghost use Rattle.shm_model.specs.Message.{Deliver};
 ghost use Rattle.shm_parts.specs.Message.{envelope_of};
 ghost use Rattle.shm_report.specs.LogText as spec;
 ghost use Rattle.shm_site.specs.Step.{input_of};
@@ -77,36 +81,9 @@ impl fmt::Display for Handed<'_> {
     ghost output = { λ handed. Some (spec.handed_text handed.site (stamp_of handed.source) (input_of handed.input.now)) };
 
     fn fmt<W: fmt::Write>(&self, f: &mut fmt::Formatter<W>) -> fmt::Result {
-        let site = self.site;
-        match self.input {
-            Input::Load { at, offset } => write!(
-                f,
-                "{}",
-                Line::Event(Event::Load {
-                    site,
-                    at: *at,
-                    offset: *offset
-                })
-            ),
-            Input::Store { at, offset, byte } => write!(
-                f,
-                "{}",
-                Line::Event(Event::Store {
-                    site,
-                    at: *at,
-                    offset: *offset,
-                    byte: *byte
-                })
-            ),
-            Input::Begin(request) => write!(
-                f,
-                "{}",
-                Line::Event(Event::Begin {
-                    site,
-                    request: *request
-                })
-            ),
-            Input::Deliver(envelope) => {
+        match own_event(self.site, self.input) {
+            Ok(event) => write!(f, "{}", Line::Event(event)),
+            Err(envelope) => {
                 let source = shm_wire::Stamp {
                     clock: self.source.at,
                     index: self.source.index as u64,
@@ -114,8 +91,33 @@ impl fmt::Display for Handed<'_> {
                 };
                 write!(f, "{}", SentLine { source, envelope })
             }
-            Input::Tick => write!(f, "{}", Line::Event(Event::Tick { site })),
-            Input::Restart => write!(f, "{}", Line::Event(Event::Restart { site })),
         }
+    }
+}
+
+/// The event of an input of the site's own; else the envelope that brought it.
+fn own_event(site: SiteId, input: &Input) -> Result<Event, &Envelope>
+    ensures own { IfOk result (λ event. (source : Source) → spec.handed_text site source (input_of input.now) ≡ spelling (line.Event event)) }
+    ensures brought { IfErr result (λ envelope. input_of input.now ≡ Deliver (envelope_of envelope.now)) }
+{
+    match input {
+        Input::Load { at, offset } => Ok(Event::Load {
+            site,
+            at: *at,
+            offset: *offset,
+        }),
+        Input::Store { at, offset, byte } => Ok(Event::Store {
+            site,
+            at: *at,
+            offset: *offset,
+            byte: *byte,
+        }),
+        Input::Begin(request) => Ok(Event::Begin {
+            site,
+            request: *request,
+        }),
+        Input::Deliver(envelope) => Err(envelope),
+        Input::Tick => Ok(Event::Tick { site }),
+        Input::Restart => Ok(Event::Restart { site }),
     }
 }

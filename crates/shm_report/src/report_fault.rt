@@ -8,7 +8,7 @@ use shm_lines::WorkloadFault;
 use shm_sites::{AuditFault, ClientFault, StartFault};
 use thiserror::Error;
 
-/// Why nothing was reported. Lines count from 1.
+/// Why there is no whole report: at `WriteFault` a front of it was written, else nothing. Lines count from 1.
 #[derive(Clone, Copy, Debug, PartialEq, Eq, Error)]
 pub enum ReportFault {
     /// An allocation was refused.
@@ -50,7 +50,7 @@ pub enum ReportFault {
 }
 
 impl ReportFault {
-    ghost use Rattle.shm_report.specs.Causes.{audit_cause, fault_of_run, input_cause, is_after_reading, IsOther};
+    ghost use Rattle.shm_report.specs.Causes.{audit_cause, fault_of_run, given_up, input_cause, is_after_reading, IsOther};
 
     /// Why there is no workload.
     pub(crate) fn of_workload(fault: WorkloadFault) -> ReportFault
@@ -93,6 +93,7 @@ impl ReportFault {
         ensures memory { fault ≡ audit.OutOfMemory → audit_cause result ≡ None }
         ensures cause { fault ≢ audit.OutOfMemory → audit_cause result ≡ Some fault }
         ensures input { input_cause result ≡ None }
+        ensures line { given_up result ≡ None }
         ensures unwritten { result ≢ cause.WriteFault }
     {
         match fault {

@@ -5,7 +5,7 @@ ghost use Rattle.shm_sites.specs.Auditing.Logs.{logs_of, AreLogsOf};
 ghost use Rattle.shm_report.specs.Audited.{IsAccepted};
 ghost use Rattle.shm_report.specs.Callers.{AllServed};
 ghost use Rattle.shm_lines.specs.Workload.{workload_of};
-ghost use Rattle.shm_report.specs.Causes.{audit_cause, input_cause, is_after_reading, IsFound, IsFoundIn, IsRight, IsWrongBy};
+ghost use Rattle.shm_report.specs.Causes.{audit_cause, given_up, input_cause, is_after_reading, IsFound, IsFoundIn, IsLineIn, IsRight, IsWrongBy};
 ghost use Rattle.shm_report.specs.Report.{whole_of, IsCutShort, IsReport};
 ghost use Rattle.shm_report.specs.declared.report_fault.ReportFault.TheVariants as cause;
 
@@ -40,6 +40,7 @@ pub fn report<R: Threads + Wait + Copy + Send + Sync + 'static, I: Read, O: Writ
         × IsCutShort (O.contents writer.old) (O.contents writer.new) text × IsReport sites (I.remaining reader.old) text) }
     ensures input { IfErr result (λ fault. IfSome (input_cause fault) (IsWrongBy sites (I.remaining reader.old))) }
     ensures right { IfErr result (λ fault. is_after_reading fault ≡ true → IsRight sites (I.remaining reader.old)) }
+    ensures line { IfErr result (λ fault. IfSome (given_up fault) (IsLineIn sites (I.remaining reader.old))) }
     ensures audit { IfErr result (λ fault. IfSome (audit_cause fault) (IsFound sites (I.remaining reader.old))) }
 {
     match run_audited(rt, alloc, sites, seed, reader) {
@@ -62,6 +63,7 @@ pub fn run_audited<R: Threads + Wait + Copy + Send + Sync + 'static, I: Read>(
     ensures unwritten { IfErr result (λ fault. fault ≢ cause.WriteFault) }
     ensures input { IfErr result (λ fault. IfSome (input_cause fault) (IsWrongBy sites (I.remaining reader.old))) }
     ensures right { IfErr result (λ fault. is_after_reading fault ≡ true → IsRight sites (I.remaining reader.old)) }
+    ensures line { IfErr result (λ fault. IfSome (given_up fault) (IsLineIn sites (I.remaining reader.old))) }
     ensures audit { IfErr result (λ fault. IfSome (audit_cause fault) (IsFound sites (I.remaining reader.old))) }
 {
     let workload = match read_workload(alloc, sites, reader) {
@@ -112,6 +114,7 @@ fn audit_run(
     ensures same { IfOk result (λ run. (run.sites ≡ sites) × (run.workload ≡ workload)) }
     ensures unwritten { IfErr result (λ fault. fault ≢ cause.WriteFault) }
     ensures input { IfErr result (λ fault. input_cause fault ≡ None) }
+    ensures line { IfErr result (λ fault. given_up fault ≡ None) }
     ensures audit { IfErr result (λ fault. IfSome (audit_cause fault) (IsFoundIn sites (whole_of workload) (logs_of ran.logs.items) ran.callers.items)) }
 {
     match order_steps(alloc, sites, workload.pages, &ran) {

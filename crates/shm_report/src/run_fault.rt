@@ -1,24 +1,31 @@
 use shm_model::refusal::{self, Numbered};
 use shm_sites::{ClientFault, StartFault};
+use thiserror::Error;
 
 /// Why an access of a workload was not made.
-#[derive(Clone, Copy, Debug, PartialEq, Eq)]
+#[derive(Clone, Copy, Debug, PartialEq, Eq, Error)]
+#[error("access {place}: {fault}")]
 pub struct CallFault {
     /// The number of the access among all of them, from 0.
     pub place: usize,
+    /// Why its client gave no receipt.
     pub fault: ClientFault,
 }
 
 /// Why a workload did not run to its end.
-#[derive(Clone, Copy, Debug, PartialEq, Eq)]
+#[derive(Clone, Copy, Debug, PartialEq, Eq, Error)]
 pub enum RunFault {
     /// The sites or their callers could not begin.
+    #[error("{0}")]
     Start(StartFault),
     /// Of the accesses that were not made, the first in the order of the lines.
+    #[error("{0}")]
     Call(CallFault),
     /// Memory was refused when the logs were to be taken back.
+    #[error("out of memory")]
     OutOfMemory,
     /// The logs that were given back aren't those of so many sites, each its site's.
+    #[error("other logs")]
     Logs,
 }
 

@@ -1,8 +1,8 @@
 //! What is told of an audited run.
-ghost use Rattle.std.specs.Prelude.{◌≡◌, ◌⊎◌, ◌++◌, ℕ, List, Some, IfErr, IfOk, OnOk, string_bytes};
+ghost use Rattle.std.specs.Prelude.{◌≡◌, ◌⊎◌, ◌++◌, ℕ, List, Some, true, IfErr, IfOk, OnOk, string_bytes};
 ghost use Rattle.std.specs.Io.KnownBytes.{Appends};
 ghost use Rattle.shm_report.specs.Audited.{counts_of_run, IsReportOfRun};
-ghost use Rattle.shm_report.specs.Causes.{IsOther};
+ghost use Rattle.shm_report.specs.Causes.{ends_writing, IsOther};
 ghost use Rattle.shm_report.specs.Counts.{summary_text, time_text};
 ghost use Rattle.shm_report.specs.Report.{IsCutShort};
 ghost use Rattle.shm_report.specs.declared.report_fault.ReportFault.TheVariants as cause;
@@ -50,6 +50,7 @@ impl Audited {
     ) -> Result<(), ReportFault>
         ensures quiet { IfErr result (λ fault. (fault ≡ cause.WriteFault) ⊎ (writer.new ≡ writer.old)) }
         ensures other { IfErr result IsOther }
+        ensures ending { IfErr result (λ fault. ends_writing fault ≡ true) }
         ensures told { OnOk result ((lines : List ℕ) × Appends (O.contents writer.old) (O.contents writer.new) (lines ++ more.now)
             × IsReportOfRun self.now lines) }
         ensures cut { IfErr result (λ fault. fault ≡ cause.WriteFault → (lines : List ℕ)

@@ -1,8 +1,8 @@
 //! The text of a report.
-ghost use Rattle.std.specs.Prelude.{◌≡◌, ◌≢◌, ◌+◌, ◌++◌, ◌<◌, length, slice_index, slice_set, IfErr, IfOk, IfSome, IsSome, OnErr, OnOk};
+ghost use Rattle.std.specs.Prelude.{◌≡◌, ◌≢◌, ◌+◌, ◌++◌, ◌<◌, length, slice_index, slice_set, true, IfErr, IfOk, IfSome, IsSome, OnErr, OnOk};
 ghost use Rattle.std.specs.Io.KnownBytes.{Appends};
 ghost use Rattle.shm_report.specs.Callers.{AllServed};
-ghost use Rattle.shm_report.specs.Causes.{IsOther};
+ghost use Rattle.shm_report.specs.Causes.{ends_writing, IsOther};
 ghost use Rattle.shm_report.specs.Report.{audit_yes, IsCutShort, HasReceipt, TellsLines, TellsReceipt};
 ghost use Rattle.shm_report.specs.declared.report_fault.ReportFault.TheVariants as cause;
 
@@ -26,6 +26,7 @@ pub(crate) fn answer_lines(
 ) -> Result<Text, ReportFault>
     ensures lines { IfOk result (λ text. AllServed (length callers.now) accesses.now callers.now → TellsLines accesses.now callers.now text) }
     ensures fault { IfErr result IsOther }
+    ensures ending { IfErr result (λ fault. ends_writing fault ≡ true) }
     ensures unwritten { IfErr result (λ fault. fault ≢ cause.WriteFault) }
 {
     let Ok(mut text) = Text::new(alloc, 0, 0) else {
@@ -55,6 +56,7 @@ fn tell(
     callers: &[Vec<Receipt>],
 ) -> Result<(), ReportFault>
     ensures fault { IfErr result IsOther }
+    ensures ending { IfErr result (λ fault. ends_writing fault ≡ true) }
     ensures unwritten { IfErr result (λ fault. fault ≢ cause.WriteFault) }
     ensures known { OnOk result (access.now.site < length told_of.old) }
     ensures told { OnOk result (TellsReceipt callers.now access.now.site (slice_index told_of.old access.now.site) number text.old text.new) }

@@ -42,20 +42,25 @@ pub struct Cluster<A: Allocator + Copy = Global> {
 }
 
 impl<A: Allocator + Copy> Cluster<A> {
-    ghost use Rattle.std.specs.Prelude.{◌≡◌, ◌<◌, ◌↔◌, IfOk, IsOk, vec_len};
+    ghost use Rattle.std.specs.Prelude.{◌≡◌, ◌<◌, ◌↔◌, Some, IfOk, IsOk, vec_len};
+    ghost use Rattle.std.specs.Arc.{arc_value};
+    ghost use Rattle.std.specs.Slice.{IsItemAt};
     ghost use Rattle.shm_sites.specs.Cluster.Sites.{sites_of};
 
     /// A client of this site. It fails where no site has the number.
     pub fn client(&self, site: SiteId) -> Result<Client<'_, A>, NoSuchSite>
         ensures known { IsOk result ↔ site < sites_of self.now }
         ensures site { IfOk result (λ client. client.site ≡ site) }
+        ensures own { IfOk result (λ client. IsItemAt (arc_value self.now.shared).posts.items site (Some client.post)) }
+        ensures shared { IfOk result (λ client. client.shared.now ≡ arc_value self.now.shared) }
     {
         self.clients().client(site)
     }
 
     /// The clients of all sites.
     pub fn clients(&self) -> Clients<'_, A>
-        ensures { vec_len result.shared.now.posts ≡ sites_of self.now }
+        ensures sites { vec_len result.shared.now.posts ≡ sites_of self.now }
+        ensures shared { result.shared.now ≡ arc_value self.now.shared }
     {
         Clients {
             shared: &self.shared,

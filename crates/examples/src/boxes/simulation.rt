@@ -80,7 +80,8 @@ impl Simulation {
 
     /// Puts the steps of all boxes into one order. In it memory is one plain memory, and what was told of loads and stores holds.
     pub fn audit(self) -> Result<Vec<Event>>
-        ensures { IfOk result (λ events. IsAudited (Preset self.sites 1) (logs_of (map (λ held. held.log) self.boxes.items)) (receipts_of self.receipts.items ∷ []) events.items) }
+        ensures { IfOk result (λ events. IsAudited (Preset self.sites 1) (logs_of (map (λ held. held.log) self.boxes.items))
+            (receipts_of self.receipts.items ∷ []) events.items) }
     {
         let (alloc, sites) = (self.alloc, self.sites);
         let logs: Vec<SiteLog> = self

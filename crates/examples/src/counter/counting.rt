@@ -5,6 +5,7 @@ use std::alloc::{AllocError, Global};
 use std::sync::Wait;
 use std::thread;
 use std::thread::Threads;
+use thiserror::Error;
 
 /// How often each caller adds 1.
 const TIMES: u32 = 50;
@@ -13,15 +14,19 @@ const TIMES: u32 = 50;
 pub type Told = Result<Vec<Receipt>, CallerFault>;
 
 /// Why a caller ended early.
-#[derive(Clone, Copy, Debug, PartialEq, Eq)]
+#[derive(Clone, Copy, Debug, PartialEq, Eq, Error)]
 pub enum CallerFault {
     /// The cluster has no such site.
+    #[error("no site {}", .0.0)]
     NoSuchSite(SiteId),
     /// The site answered a load with no byte.
+    #[error("no byte: {0:?}")]
     NoByte(Answer),
     /// There was no memory for another receipt.
+    #[error("out of memory")]
     OutOfMemory,
     /// The client gave no receipt.
+    #[error("{0}")]
     Client(ClientFault),
 }
 

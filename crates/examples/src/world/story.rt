@@ -35,8 +35,10 @@ impl Story {
     /// Where a list of events led to the world as it was, that list followed by this event leads to the world as it is now; and a byte
     /// that is answered was stored last to its place by that list.
     pub fn tell<W: Write>(&mut self, out: &mut W, said: &str, event: Event) -> Result<Answer>
-        ensures led { (o : model.Opening) (before : List Event) → StandsFor self.old.world (model.run o before).world → OnOk result (StandsFor self.new.world (model.run o (before ++ event ∷ [])).world) }
-        ensures last { (o : model.Opening) (before : List Event) → model.IsOpening o → StandsFor self.old.world (model.run o before).world → IfOk result (λ answer. GivesLast o before event answer) }
+        ensures led { (o : model.Opening) (before : List Event) → StandsFor self.old.world (model.run o before).world
+            → OnOk result (StandsFor self.new.world (model.run o (before ++ event ∷ [])).world) }
+        ensures last { (o : model.Opening) (before : List Event) → model.IsOpening o → StandsFor self.old.world (model.run o before).world
+            → IfOk result (λ answer. GivesLast o before event answer) }
     {
         // What is sent from now on has this number, or a later one.
         let first = self.world.sent();

@@ -179,7 +179,8 @@ fn order_events<A: Allocator + Copy>(
     requires logs { AreLogsOf sites pages logs.now }
     requires sound { AllSound (logs_of logs.now) }
     ensures fault { IfErr result (λ f. f ≡ fault.OutOfMemory) }
-    ensures sound { IfOk result (λ events. (callers : List (List model.Receipt)) → ReceiptsHold (logs_of logs.now) callers → IsAudited (Preset sites pages) (logs_of logs.now) callers events.items) }
+    ensures sound { IfOk result (λ events. (callers : List (List model.Receipt)) → ReceiptsHold (logs_of logs.now) callers
+        → IsAudited (Preset sites pages) (logs_of logs.now) callers events.items) }
 {
     let _count = sites.count();
     matching_logs_fit(sites, pages, logs);

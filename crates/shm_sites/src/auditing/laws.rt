@@ -22,20 +22,24 @@ pub fn matching_logs_fit<A: Allocator + Copy>(sites: Sites, pages: u32, logs: &[
 
 /// Logs and receipts have at most one first cause.
 pub fn first_causes_are_one()
-    ensures { (logs : List (List Logged)) (callers : List (List Receipt)) (one other : AuditFault) → IsFirstCause logs callers one → IsFirstCause logs callers other → one ≡ other }
+    ensures { (logs : List (List Logged)) (callers : List (List Receipt)) (one other : AuditFault) → IsFirstCause logs callers one
+        → IsFirstCause logs callers other → one ≡ other }
 {}
 
 /// What an audit answers with events has no cause.
 pub fn what_is_audited_has_no_cause()
-    ensures { (o : Opening) (logs : List (List Logged)) (callers : List (List Receipt)) (events : List Event) (cause : AuditFault) → IsAudited o logs callers events → ¬ IsFirstCause logs callers cause }
+    ensures { (o : Opening) (logs : List (List Logged)) (callers : List (List Receipt)) (events : List Event) (cause : AuditFault)
+        → IsAudited o logs callers events → ¬ IsFirstCause logs callers cause }
 {}
 
 /// Logs, and receipts that claim to be all, have at most one first cause.
 pub fn first_causes_of_all_are_one()
-    ensures { (logs : List (List Logged)) (callers : List (List Receipt)) (one other : AuditFault) → IsFirstCauseOfAll logs callers one → IsFirstCauseOfAll logs callers other → one ≡ other }
+    ensures { (logs : List (List Logged)) (callers : List (List Receipt)) (one other : AuditFault) → IsFirstCauseOfAll logs callers one
+        → IsFirstCauseOfAll logs callers other → one ≡ other }
 {}
 
 /// What a complete audit answers with events has no such cause.
 pub fn what_is_audited_whole_has_no_cause()
-    ensures { (o : Opening) (logs : List (List Logged)) (callers : List (List Receipt)) (events : List Event) (cause : AuditFault) → IsAudited o logs callers events → AllTold logs callers → ¬ IsFirstCauseOfAll logs callers cause }
+    ensures { (o : Opening) (logs : List (List Logged)) (callers : List (List Receipt)) (events : List Event) (cause : AuditFault)
+        → IsAudited o logs callers events → AllTold logs callers → ¬ IsFirstCauseOfAll logs callers cause }
 {}

@@ -1,13 +1,17 @@
 use shm_model::refusal::{self, Numbered};
+use thiserror::Error;
 
 /// Why a box took no input.
-#[derive(Clone, Copy, Debug, PartialEq, Eq)]
+#[derive(Clone, Copy, Debug, PartialEq, Eq, Error)]
 pub enum BoxFault {
     /// The envelope can't be for this site.
+    #[error("foreign envelope")]
     Foreign,
     /// There is no stamp above the box's clock, or above the sender's step.
+    #[error("clock end")]
     ClockEnd,
     /// Memory was refused.
+    #[error("out of memory")]
     OutOfMemory,
 }
 

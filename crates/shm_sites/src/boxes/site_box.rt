@@ -15,7 +15,6 @@ pub struct SiteBox<A: Allocator + Copy = Global> {
     pub(crate) site: Site<A>,
     pub(crate) log: SiteLog<A>,
     pub(crate) clock: u64,
-    pub(crate) alloc: A,
     ghost all_sites: { site.sites ≡ log.sites },
     ghost own_log: { site.me ≡ log.me },
     ghost stands: { site_of site ≡ left_by_log log },
@@ -40,7 +39,6 @@ impl<A: Allocator + Copy> SiteBox<A> {
             site,
             log: SiteLog::new(alloc, sites, me, pages),
             clock: 0,
-            alloc,
         })
     }
 

@@ -6,11 +6,13 @@ use std::alloc::{Allocator, Global};
 /// One step of a site, as its log has it.
 #[derive(Drop)]
 pub struct Step<A: Allocator + Copy = Global> {
+    /// What the site was given.
     pub input: Input<A>,
     /// Above those of the site's steps before it, and above that of the step which sent what was handed over.
     pub stamp: u64,
     /// Where the envelope that was handed over was sent.
     pub source: Stamp,
+    /// What the site answered.
     pub answer: Answer,
     /// What the step sent, the first envelope first.
     pub sent: Vec<Envelope<A>, A>,

@@ -41,7 +41,8 @@ fn with<A: Allocator + Copy>(
     posted: Posted<A>,
     fate: Fate,
 ) -> Result<Vec<Posted<A>, A>, AllocError>
-    ensures { (before : List Sent) → IfOk on (λ on. all_sent on.items ≡ before) → IfOk result (λ more. all_sent more.items ≡ before ++ by_fate fate (sent_of posted)) }
+    ensures { (before : List Sent) → IfOk on (λ on. all_sent on.items ≡ before)
+        → IfOk result (λ more. all_sent more.items ≡ before ++ by_fate fate (sent_of posted)) }
 {
     let Ok(mut all) = on else {
         return Err(AllocError);

@@ -1,8 +1,9 @@
 //! Loads and stores at one site, and how long an access is waited for.
-ghost use Rattle.std.specs.Prelude.{◌≡◌, IfOk};
+ghost use Rattle.std.specs.Prelude.{◌≡◌, ◌≢◌, IfErr, IfOk};
 ghost use Rattle.shm_model.specs.Message.{Load, Store};
 ghost use Rattle.shm_model.specs.Receipt.{access_of};
 ghost use Rattle.shm_sites.specs.Cluster.Client.{waits as is_waiting, IsServed, TellsOf};
+ghost use Rattle.shm_sites.specs.declared.cluster.client_fault.ClientFault.TheVariants as cause;
 
 use crate::boxes::{Asked, Receipt};
 use crate::cluster::access::access;
@@ -18,7 +19,7 @@ use std::thread;
 /// How many turns an access has.
 const TURNS: u32 = 1_000_000;
 
-/// After so many turns each site is told to send again what may be lost.
+/// After so many turns in which its site made no step, a client has each site told to send again what may be lost.
 const TURNS_OF_A_TICK: u32 = 64;
 
 /// Loads and stores at one site, in the caller's thread and through the attachment of the number `at`; number 0 is there from the start.
@@ -40,7 +41,8 @@ impl<'a, A: Allocator + Copy> Client<'a, A> {
 
     /// One load. The site may answer that it has no right to the page; it has then asked for it.
     pub fn try_load<R: Wait>(&self, rt: &R, at: u32, offset: u32) -> Result<Receipt, ClientFault>
-        ensures { IfOk result (TellsOf self.now.site (Load at offset)) }
+        ensures tells { IfOk result (TellsOf self.now.site (Load at offset)) }
+        ensures fault { IfErr result (λ fault. fault ≢ cause.GaveUp) }
     {
         self.step(rt, Asked::Load { at, offset })
     }
@@ -53,14 +55,15 @@ impl<'a, A: Allocator + Copy> Client<'a, A> {
         offset: u32,
         byte: u8,
     ) -> Result<Receipt, ClientFault>
-        ensures { IfOk result (TellsOf self.now.site (Store at offset byte)) }
+        ensures tells { IfOk result (TellsOf self.now.site (Store at offset byte)) }
+        ensures fault { IfErr result (λ fault. fault ≢ cause.GaveUp) }
     {
         self.step(rt, Asked::Store { at, offset, byte })
     }
 
     /// Loads until the site has the right to, or answers that the load is wrong. It asks again where the site has made a step since. After
-    /// every 64th turn each site that has nothing else to hear is told of a tick, since a message may be lost. `GaveUp` comes after a
-    /// million turns.
+    /// every 64th turn without such a step each site that has nothing else to hear is told of a tick, since a message may be lost.
+    /// `GaveUp` comes after a million turns.
     pub fn load<R: Wait>(&self, rt: &R, at: u32, offset: u32) -> Result<Receipt, ClientFault>
         ensures tells { IfOk result (TellsOf self.now.site (Load at offset)) }
         ensures served { IfOk result IsServed }
@@ -88,31 +91,39 @@ impl<'a, A: Allocator + Copy> Client<'a, A> {
         ensures served { IfOk result IsServed }
     {
         let mut last = None;
-        'turns: for turn in 1..=TURNS {
+        let mut quiet: u32 = 0;
+        'turns: for _ in 0..TURNS {
             if self.has_news(rt, last) {
                 let receipt = self.step(rt, asked)?;
                 if !waits(receipt.answer()) {
                     return Ok(receipt);
                 }
                 last = Some(receipt.index());
+                quiet = 0;
             }
-            self.pause(rt, turn);
+            quiet = quiet.saturating_add(1);
+            self.pause(rt, quiet);
         }
         Err(ClientFault::GaveUp)
     }
 
-    /// Whether the site has made a step behind this one, or none is given: else it would only answer as it did.
+    /// Whether the site has made a step behind this one that is no access, or none is given: else it would only answer as it did.
     fn has_news<R: Wait>(&self, rt: &R, last: Option<usize>) -> bool {
         let Some(last) = last else {
             return true;
         };
         let held = self.post.site.lock(rt);
-        held.log().len().saturating_sub(1) > last
+        let steps = held.log().steps();
+        steps
+            .iter()
+            .skip(last)
+            .any(|step| step.input.access().is_none())
     }
 
-    /// Lets other threads run. A tick that was refused is passed over: there will be more.
-    fn pause<R: Wait>(&self, rt: &R, turn: u32) {
-        if turn % TURNS_OF_A_TICK == 0 {
+    /// Lets other threads run, after so many turns in which the site made no step. A tick that was refused is passed over: there will be
+    /// more.
+    fn pause<R: Wait>(&self, rt: &R, quiet: u32) {
+        if quiet % TURNS_OF_A_TICK == 0 {
             self.shared.tick_idle(rt);
         }
         thread::yield_now();
@@ -120,7 +131,8 @@ impl<'a, A: Allocator + Copy> Client<'a, A> {
 
     /// One step under the site's lock, which is let go before anything is sent. Where memory is refused for what it sent, nothing is.
     fn step<R: Wait>(&self, rt: &R, asked: Asked) -> Result<Receipt, ClientFault>
-        ensures { IfOk result (TellsOf self.now.site (access_of asked)) }
+        ensures tells { IfOk result (TellsOf self.now.site (access_of asked)) }
+        ensures fault { IfErr result (λ fault. fault ≢ cause.GaveUp) }
     {
         let mut held = self.post.site.lock(rt);
         match access(&mut held, self.site, asked) {

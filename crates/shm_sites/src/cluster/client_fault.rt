@@ -1,15 +1,20 @@
 use shm_model::refusal::{self, Numbered};
+use thiserror::Error;
 
 /// Why a client gave no receipt.
-#[derive(Clone, Copy, Debug, PartialEq, Eq)]
+#[derive(Clone, Copy, Debug, PartialEq, Eq, Error)]
 pub enum ClientFault {
     /// Memory was refused.
+    #[error("out of memory")]
     OutOfMemory,
     /// All turns have gone by, and the site still waits for the page.
+    #[error("gave up")]
     GaveUp,
     /// The site's clock has no further stamp.
+    #[error("clock end")]
     ClockEnd,
     /// The box under the lock is another site's: no cluster that `start` made has one.
+    #[error("foreign box")]
     Foreign,
 }
 

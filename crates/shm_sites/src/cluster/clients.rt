@@ -10,15 +10,18 @@ pub struct Clients<'a, A: Allocator + Copy = Global> {
 }
 
 impl<'a, A: Allocator + Copy> Clients<'a, A> {
-    ghost use Rattle.std.specs.Prelude.{◌≡◌, ◌<◌, ◌↔◌, IfOk, IsOk, vec_len};
+    ghost use Rattle.std.specs.Prelude.{◌≡◌, ◌<◌, ◌↔◌, Some, IfOk, IsOk, vec_len};
+    ghost use Rattle.std.specs.Slice.{IsItemAt};
 
     /// A client of this site. It fails where no site has the number.
     pub fn client(&self, site: SiteId) -> Result<Client<'a, A>, NoSuchSite>
         ensures known { IsOk result ↔ site < vec_len self.now.shared.now.posts }
         ensures site { IfOk result (λ client. client.site ≡ site) }
+        ensures own { IfOk result (λ client. IsItemAt self.now.shared.now.posts.items site (Some client.post)) }
+        ensures shared { IfOk result (λ client. client.shared ≡ self.now.shared) }
     {
         let shared = self.shared;
-        match shared.posts.get(site.0 as usize) {
+        match shared.post_of(site) {
             Some(post) => Ok(Client { shared, post, site }),
             None => Err(NoSuchSite),
         }

@@ -13,7 +13,7 @@ impl<A: Allocator + Copy> Posted<A> {
     ghost use Rattle.std.specs.Prelude.{◌≡◌, IfOk};
     ghost use Rattle.shm_parts.specs.Message.{envelope_of};
 
-    /// An equal envelope that was sent there.
+    /// An equal envelope, which was sent at `source`.
     pub(crate) fn of(envelope: &Envelope<A>, source: Stamp) -> Result<Posted<A>, AllocError>
         ensures { IfOk result (λ copy. (envelope_of copy.envelope ≡ envelope_of envelope.now) × (copy.source ≡ source)) }
     {

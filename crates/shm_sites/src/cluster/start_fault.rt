@@ -1,11 +1,14 @@
 use shm_model::refusal::{self, Numbered};
+use thiserror::Error;
 
-/// Why no cluster was started. The threads that had been started have ended.
-#[derive(Clone, Copy, Debug, PartialEq, Eq)]
+/// Why no cluster was started. The threads that had been started have ended; one that memory was refused for telling ends with the program.
+#[derive(Clone, Copy, Debug, PartialEq, Eq, Error)]
 pub enum StartFault {
     /// Memory was refused.
+    #[error("out of memory")]
     OutOfMemory,
     /// The system gave no thread.
+    #[error("no thread")]
     NoThread,
 }
 

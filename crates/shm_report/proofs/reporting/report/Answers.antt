@@ -3,6 +3,7 @@ use Rattle.std.proofs.Common.{append-nil, subst}
 use Rattle.std.specs.Io.KnownBytes.{Appends}
 use Rattle.shm_report.specs.Causes.{audit_cause, input_cause}
 use Rattle.shm_report.specs.Report.{IsCutShort}
+use Rattle.shm_report.proofs.Causes.{ending_none}
 use Rattle.shm_report.proofs.Reports.{if_err, of_none, on_ok, right_of_run, unsummed, IsRunOf}
 use Rattle.shm_report.proofs.reporting.report.Goals as goal
 
@@ -39,3 +40,6 @@ returns-in-Ok-clause-input g c = if_err c.write.result (λ fault other. of_none 
 
 pub returns-in-Ok-clause-audit : goal.returns-in-Ok-clause-audit
 returns-in-Ok-clause-audit g c = if_err c.write.result (λ fault other. of_none (audit_cause fault) _ other.audit) c.write.ensures.other
+
+pub returns-in-Ok-clause-line : goal.returns-in-Ok-clause-line
+returns-in-Ok-clause-line g c = if_err c.write.result (λ fault ending. ending_none fault _ ending) c.write.ensures.ending
