@@ -65,13 +65,18 @@ one_more says before left now number box next line l taken h e = record {
       ∙ ap (λ (o : Option Box). next_found number o (λ next. found_from (number + 1) next (whole_lines more))) e;
 }
 
+-- and of one that can't be next
+pub bad_entry : (says : List ℕ → Found) (before left : Option (List ℕ)) (number : ℕ) (box : Box) (line more : List ℕ) → (l : Leads says before left number box) → Unended line
+    → entered box line ≡ None → says ((l.bytes ++ (line ++ 10 ∷ [])) ++ more) ≡ Bad number
+bad_entry says before left number box line more l h e =
+    further says before left number box line more l h
+    ∙ ap (λ (o : Option Box). next_found number o (λ next. found_from (number + 1) next (whole_lines more))) e
+
 pub bad_line : (says : List ℕ → Found) (before left now : Option (List ℕ)) (number : ℕ) (box : Box) (line : List ℕ) → Leads says before left number box
     → Consumes left now (line ++ 10 ∷ []) → Unended line → entered box line ≡ None → IfSome before (λ file. says file ≡ Bad number)
 bad_line says before left now number box line l taken h e =
     of_front before now (l.bytes ++ (line ++ 10 ∷ [])) (λ file. says file ≡ Bad number) (Consumes-trans before left now l.bytes (line ++ 10 ∷ []) l.taken taken)
-    (λ more.
-    further says before left number box line more l h
-    ∙ ap (λ (o : Option Box). next_found number o (λ next. found_from (number + 1) next (whole_lines more))) e)
+    (λ more. bad_entry says before left number box line more l h e)
 
 pub ended : (says : List ℕ → Found) (before left now : Option (List ℕ)) (number : ℕ) (box : Box) (torn : List ℕ) → Leads says before left number box
     → Consumes left now torn → Unended torn → IsAtEnd now → IfSome before (λ file. says file ≡ Led box)
@@ -92,13 +97,14 @@ first_line before left box line taken h e = record {
       ∙ ap (λ (o : Option Box). next_found 1 o (λ box. found_from 2 box (whole_lines more))) e;
 }
 
+pub bad_first : (line more : List ℕ) → Unended line → opened line ≡ None → found ((line ++ 10 ∷ []) ++ more) ≡ Bad 1
+bad_first line more h e =
+    ap found_in (line_first line more h) ∙ ap (λ (o : Option Box). next_found 1 o (λ box. found_from 2 box (whole_lines more))) e
+
 pub bad_first_line : (before left : Option (List ℕ)) (line : List ℕ) → Consumes before left (line ++ 10 ∷ []) → Unended line → opened line ≡ None
     → IfSome before (λ file. found file ≡ Bad 1)
 bad_first_line before left line taken h e =
-    of_front before left (line ++ 10 ∷ []) (λ file. found file ≡ Bad 1) taken
-    (λ more.
-    ap found_in (line_first line more h)
-    ∙ ap (λ (o : Option Box). next_found 1 o (λ box. found_from 2 box (whole_lines more))) e)
+    of_front before left (line ++ 10 ∷ []) (λ file. found file ≡ Bad 1) taken (λ more. bad_first line more h e)
 
 pub no_first_line : (before left : Option (List ℕ)) (torn : List ℕ) → Consumes before left torn → Unended torn → IsAtEnd left
     → IfSome before (λ file. found file ≡ Bad 1)

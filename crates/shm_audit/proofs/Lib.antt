@@ -1,8 +1,10 @@
 pub mod Bytes
 pub mod Leading
+pub mod ReadBytes
 pub mod Answering
 pub mod Counted
 pub mod Tellings
 pub mod Among
+pub mod Since
 pub mod LoadedBlocks
 pub mod ToldBlocks

@@ -1,6 +1,8 @@
--- What a block is told with was loaded by steps that its site's process made, under the tag that is told.
-use Rattle.std.proofs.Common.{◌≡◌, ℕ, ◌+◌, ◌<◌, ◌≤◌, ◌==◌, Bool, true, false, List, [], ◌∷◌, ◌++◌, Some, None, length, map, cond, refl, ap, sym, subst, ◌∙◌, arith}
-use Rattle.std.specs.Prelude.{Option, ◌^◌, option_and_then, option_map}
+-- What a block is told with was loaded since it was asked for, by steps that its site's process made, under the tag that is told.
+use Rattle.std.proofs.Common.{◌≡◌, ℕ, ◌+◌, ◌<◌, ◌≤◌, ◌==◌, Bool, true, false, List, [], ◌∷◌, ◌++◌, Some, None, length, cond, refl, ap, sym, subst, ◌∙◌, arith}
+use Rattle.std.specs.Prelude.{Option, ◌^◌, nat_lt, option_and_then, option_map}
+use Rattle.std.proofs.lemmas.Bool.Decides.{nat_tests}
+use Rattle.std.proofs.lemmas.List.{length-append}
 use Rattle.std.proofs.lemmas.List.Elements.{All-nil}
 use Rattle.shm_model.specs.declared.answer.Answer.{Answer}
 use Rattle.shm_model.specs.declared.answer.Answer.TheVariants.{Byte, Stored, Fault, Waiting, Began, Replied, Took, Dropped, Refused}
@@ -11,13 +13,14 @@ use Rattle.shm_wire.proofs.SpelledAsks.{ask-is_read}
 use Rattle.shm_wire.specs.Asks.{Ask, IsAsk, ask_line, read_ask}
 use Rattle.shm_wire.specs.Sent.{read_envelope}
 use Rattle.shm_wire.specs.declared.ask.Question.TheVariants as question
-use Rattle.shm_process.specs.Blocks.{Access, Block, Reads, WaitingAsk, ask_in, goes_on, next_line, waits_on, all_bytes, whole_after}
+use Rattle.shm_process.specs.Blocks.{Block, whole_after, goes_on as block_goes_on}
+use Rattle.shm_process.specs.WaitingAsks.{Access, Reads, WaitingAsk, all_bytes, ask_in, goes_on, next_line}
 use Rattle.shm_process.specs.Node.{Node, Heard, Said, answer_to, asked_here, heard, heard_in, input_asked, is_late, new_node, says, tag_told, under_tag}
 use Rattle.shm_process.specs.Recorded.{Event, Line, TooLong, Again, Restarted, after_events, said_at}
 use Rattle.shm_process.specs.Waiting.{joins, ready, said_restart, says_again, says_at, waiting_at}
-use Rattle.shm_audit.specs.Loads.{Among, Loaded, Made, loads, made_at, made_by}
-use Rattle.shm_audit.specs.Told.{said_first}
-use Rattle.shm_audit.proofs.LoadedBlocks.{CanLoad, HasLoaded, Holds, ask-loaded, block-loads, events-hold, made-both, step_of}
+use Rattle.shm_audit.specs.Loads.{IsLoadedBlock, MadeSince, loads, made_by}
+use Rattle.shm_audit.proofs.Among.{loads-push}
+use Rattle.shm_audit.proofs.LoadedBlocks.{CanLoad, HasLoaded, Holds, ask-loaded, events-hold, step_of}
 
 offset-is : (offset count n : ℕ) → offset + count ≤ 2 ^ 32 → n < count → offset + n < 2 ^ 32
 offset-is offset count n whole here = omega (arith, whole, here)
@@ -25,39 +28,44 @@ offset-is offset count n whole here = omega (arith, whole, here)
 some-is : {A : Type 0} (a b : A) → Some a ≡ Some b → a ≡ b
 some-is a b h = cc
 
--- under the tag that is told, these bytes are what the loads of one block were answered
-abbrev ToldLoads : ℕ → Option (List ℕ) → List ℕ → List Made → Type 0
-ToldLoads me told bytes steps = (tag : List ℕ) × (told ≡ Some tag) × Loaded me tag bytes steps
+-- a block whose last byte this is has as many as were asked for
+count-is : (n count : ℕ) → nat_lt (n + 1) count ≡ false → n < count → count ≡ n + 1
+count-is n count last more = grind (arith, nat_tests)
 
-told-by-byte : (me : ℕ) (steps : List Made) (block : Block) (byte : ℕ) (asked caller : Option (List ℕ)) (bytes : List ℕ) (on : Bool)
-    → HasLoaded me steps (Reads block) → asked ≡ Some block.tag
+told-by-byte : (me : ℕ) (first : Node) (events : List Event) (block : Block) (byte : ℕ) (asked caller : Option (List ℕ)) (bytes : List ℕ) (on : Bool)
+    → HasLoaded me first events (Reads block) → nat_lt (length block.bytes + 1) block.count ≡ on → asked ≡ Some block.tag
     → cond on None (Some (block.bytes ++ byte ∷ [])) ≡ Some bytes
-    → ToldLoads me (tag_told on asked caller (Byte byte)) bytes (steps ++ step_of me (Reads block) (Byte byte) ∷ [])
-told-by-byte me steps block byte asked caller bytes true h tag e = absurd (cc)
-told-by-byte me steps block byte asked caller bytes false h tag e =
-    let same : block.bytes ++ byte ∷ [] ≡ bytes = some-is (block.bytes ++ byte ∷ []) bytes e in (
-      block.tag,
-      tag,
-      (
-        block.at,
-        block.offset,
-        subst (λ l. Among (loads me block.tag block.at block.offset l) (steps ++ step_of me (Reads block) (Byte byte) ∷ [])) same (block-loads me steps block byte h),
-      ),
-    )
+    → IsLoadedBlock me first events (tag_told on asked caller (Byte byte)) (step_of me (Reads block) (Byte byte)) bytes
+told-by-byte me first events block byte asked caller bytes true h last tag e = absurd (cc)
+told-by-byte me first events block byte asked caller bytes false h last tag e =
+    let same : block.bytes ++ byte ∷ [] ≡ bytes = some-is (block.bytes ++ byte ∷ []) bytes e in
+    let others = loads me block.tag block.at block.offset block.bytes in
+    let count : block.count ≡ length bytes =
+    count-is (length block.bytes) block.count last h.1.4 ∙ sym (length-append block.bytes (byte ∷ [])) ∙ ap length same in
+    record {
+      tag = block.tag;
+      at = block.at;
+      offset = block.offset;
+      others = others;
+      is_told = tag;
+      loaded = sym (ap (loads me block.tag block.at block.offset) same) ∙ loads-push me block.tag block.at block.offset block.bytes byte;
+      since = subst (λ n. MadeSince first events (record { site = me; tag = block.tag; asked = question.Read block.at block.offset n }) others) count h.0;
+    }
 
-told-by-answer : (me : ℕ) (steps : List Made) (block : Block) (answer : Answer) (asked caller : Option (List ℕ)) (bytes : List ℕ)
-    → HasLoaded me steps (Reads block) → asked ≡ Some block.tag
-    → whole_after block answer ≡ Some bytes → ToldLoads me (tag_told (goes_on block answer) asked caller answer) bytes (steps ++ step_of me (Reads block) answer ∷ [])
-told-by-answer me steps block (Byte byte) asked caller bytes h tag e =
-    told-by-byte me steps block byte asked caller bytes (goes_on block (Byte byte)) h tag e
-told-by-answer me steps block Stored asked caller bytes h tag e = absurd (cc)
-told-by-answer me steps block Fault asked caller bytes h tag e = absurd (cc)
-told-by-answer me steps block Waiting asked caller bytes h tag e = absurd (cc)
-told-by-answer me steps block (Began number) asked caller bytes h tag e = absurd (cc)
-told-by-answer me steps block (Replied number reply attachment) asked caller bytes h tag e = absurd (cc)
-told-by-answer me steps block Took asked caller bytes h tag e = absurd (cc)
-told-by-answer me steps block Dropped asked caller bytes h tag e = absurd (cc)
-told-by-answer me steps block (Refused refusal) asked caller bytes h tag e = absurd (cc)
+told-by-answer : (me : ℕ) (first : Node) (events : List Event) (block : Block) (answer : Answer) (asked caller : Option (List ℕ)) (bytes : List ℕ)
+    → HasLoaded me first events (Reads block) → asked ≡ Some block.tag
+    → whole_after block answer ≡ Some bytes
+    → IsLoadedBlock me first events (tag_told (block_goes_on block answer) asked caller answer) (step_of me (Reads block) answer) bytes
+told-by-answer me first events block (Byte byte) asked caller bytes h tag e =
+    told-by-byte me first events block byte asked caller bytes (block_goes_on block (Byte byte)) h refl tag e
+told-by-answer me first events block Stored asked caller bytes h tag e = absurd (cc)
+told-by-answer me first events block Fault asked caller bytes h tag e = absurd (cc)
+told-by-answer me first events block Waiting asked caller bytes h tag e = absurd (cc)
+told-by-answer me first events block (Began number) asked caller bytes h tag e = absurd (cc)
+told-by-answer me first events block (Replied number reply attachment) asked caller bytes h tag e = absurd (cc)
+told-by-answer me first events block Took asked caller bytes h tag e = absurd (cc)
+told-by-answer me first events block Dropped asked caller bytes h tag e = absurd (cc)
+told-by-answer me first events block (Refused refusal) asked caller bytes h tag e = absurd (cc)
 
 -- the tag of a load is its caller's
 tag-is : (node : Node) (tag : List ℕ) (at offset : ℕ) (h : Heard) (here late : Bool)
@@ -78,55 +86,55 @@ heard-tag me node block h can e =
     ap (λ o. heard_in node o (read_ask (ask_line ask))) alone ∙ ap (heard_in node None) read in
     tag-is node block.tag block.at offset h (me == node.me) (is_late node 0) (sym here ∙ e)
 
-told-by-ask : (me : ℕ) (steps : List Made) (node : Node) (ask : WaitingAsk) (answer : Answer) (caller : Option (List ℕ)) (bytes : List ℕ) (h : Heard)
-    → HasLoaded me steps ask → heard node (next_line me ask) ≡ Some h
-    → all_bytes ask answer ≡ Some bytes → ToldLoads me (tag_told (waits_on ask answer) h.tag caller answer) bytes (steps ++ step_of me ask answer ∷ [])
-told-by-ask me steps node (Access line) answer caller bytes h has e w = absurd (cc)
-told-by-ask me steps node (Reads block) answer caller bytes h has e w =
-    told-by-answer me steps block answer h.tag caller bytes has (heard-tag me node block h has.1 e) w
+told-by-ask : (me : ℕ) (first : Node) (events : List Event) (node : Node) (ask : WaitingAsk) (answer : Answer) (caller : Option (List ℕ)) (bytes : List ℕ) (h : Heard)
+    → HasLoaded me first events ask → heard node (next_line me ask) ≡ Some h
+    → all_bytes ask answer ≡ Some bytes → IsLoadedBlock me first events (tag_told (goes_on ask answer) h.tag caller answer) (step_of me ask answer) bytes
+told-by-ask me first events node (Access line) answer caller bytes h has e w = absurd (cc)
+told-by-ask me first events node (Reads block) answer caller bytes h has e w =
+    told-by-answer me first events block answer h.tag caller bytes has (heard-tag me node block h has.1 e) w
 
 -- if a step is made, and told with a block, its bytes are what its loads were answered
-abbrev SaysLoaded : ℕ → List Made → Option Said → Type 0
-SaysLoaded me steps None = Unit {0}
-SaysLoaded me steps (Some said) = (bytes : List ℕ) → said.block ≡ Some bytes → ToldLoads me said.tag bytes (steps ++ made_by said ∷ [])
+abbrev SaysLoaded : ℕ → Node → List Event → Option Said → Type 0
+SaysLoaded me first events None = Unit {0}
+SaysLoaded me first events (Some said) = (bytes : List ℕ) → said.block ≡ Some bytes → IsLoadedBlock me first events said.tag (made_by said) bytes
 
-told-by-line : (me : ℕ) (steps : List Made) (node : Node) (line : List ℕ) (o : Option Heard) → SaysLoaded me steps (option_map (λ x. says node line x (joins node x)) o)
-told-by-line me steps node line None = tt
-told-by-line me steps node line (Some x) = λ bytes e. absurd (cc)
+told-by-line : (me : ℕ) (first : Node) (events : List Event) (node : Node) (line : List ℕ) (o : Option Heard)
+    → SaysLoaded me first events (option_map (λ x. says node line x (joins node x)) o)
+told-by-line me first events node line None = tt
+told-by-line me first events node line (Some x) = λ bytes e. absurd (cc)
 
-told-again : (me : ℕ) (steps : List Made) (node : Node) (at : ℕ) (o : Option Heard) → Holds me steps node → heard node (waiting_at node at) ≡ o
-    → SaysLoaded me steps (option_map (says_again node at) o)
-told-again me steps node at None h e = tt
-told-again me steps node at (Some x) h e = λ bytes w.
+told-again : (me : ℕ) (first : Node) (events : List Event) (node : Node) (at : ℕ) (o : Option Heard) → Holds me first events node
+    → heard node (waiting_at node at) ≡ o → SaysLoaded me first events (option_map (says_again node at) o)
+told-again me first events node at None h e = tt
+told-again me first events node at (Some x) h e = λ bytes w.
     let ask = ask_in node.waiting at in
     let answer = answer_to node x in
-    subst (λ m. ToldLoads me (tag_told (waits_on ask answer) x.tag node.caller answer) bytes (steps ++ step_of m ask answer ∷ [])) (sym h.own)
-    (told-by-ask me steps node ask answer node.caller bytes x (ask-loaded me steps node.waiting at h.all)
+    subst (λ m. IsLoadedBlock me first events (tag_told (goes_on ask answer) x.tag node.caller answer) (step_of m ask answer) bytes) (sym h.own)
+    (told-by-ask me first events node ask answer node.caller bytes x (ask-loaded me first events node.waiting at h.all)
     (subst (λ m. heard node (next_line m ask) ≡ Some x) h.own e) w)
 
-told-ready : (me : ℕ) (steps : List Made) (node : Node) (p : Option ℕ) → Holds me steps node → SaysLoaded me steps (option_and_then (says_at node) p)
-told-ready me steps node None h = tt
-told-ready me steps node (Some at) h = told-again me steps node at (heard node (waiting_at node at)) h refl
+told-ready : (me : ℕ) (first : Node) (events : List Event) (node : Node) (p : Option ℕ) → Holds me first events node
+    → SaysLoaded me first events (option_and_then (says_at node) p)
+told-ready me first events node None h = tt
+told-ready me first events node (Some at) h = told-again me first events node at (heard node (waiting_at node at)) h refl
 
-told-restart : (me : ℕ) (steps : List Made) (node : Node) (late : Bool) → SaysLoaded me steps (cond late None (Some (said_restart node)))
-told-restart me steps node true = tt
-told-restart me steps node false = λ bytes e. absurd (cc)
+told-restart : (me : ℕ) (first : Node) (events : List Event) (node : Node) (late : Bool) → SaysLoaded me first events (cond late None (Some (said_restart node)))
+told-restart me first events node true = tt
+told-restart me first events node false = λ bytes e. absurd (cc)
 
-told-at : (me : ℕ) (steps : List Made) (node : Node) (event : Event) → Holds me steps node → SaysLoaded me steps (said_at node event)
-told-at me steps node (Line line) h = told-by-line me steps node line (heard node line)
-told-at me steps node TooLong h = tt
-told-at me steps node Again h = told-ready me steps node (ready node) h
-told-at me steps node Restarted h = told-restart me steps node (is_late node 0)
+told-at : (me : ℕ) (first : Node) (events : List Event) (node : Node) (event : Event) → Holds me first events node → SaysLoaded me first events (said_at node event)
+told-at me first events node (Line line) h = told-by-line me first events node line (heard node line)
+told-at me first events node TooLong h = tt
+told-at me first events node Again h = told-ready me first events node (ready node) h
+told-at me first events node Restarted h = told-restart me first events node (is_late node 0)
 
 pub block_is_loaded : (sites me pages : ℕ) (events : List Event) (event : Event) (said : Said) (bytes : List ℕ)
     → said_at (after_events (new_node sites me pages) events) event ≡ Some said → said.block ≡ Some bytes
-    → (tag : List ℕ) × (said.tag ≡ Some tag) × Loaded me tag bytes (made_at (new_node sites me pages) (events ++ event ∷ []))
+    → IsLoadedBlock me (new_node sites me pages) events said.tag (made_by said) bytes
 block_is_loaded sites me pages events event said bytes told has =
     let first = new_node sites me pages in
     let now = after_events first events in
-    let begun : Holds me [] first = record { own = refl; all = All-nil (HasLoaded me []) } in
-    let h = events-hold me events [] first begun in
-    let says_so : SaysLoaded me (made_at first events) (Some said) = subst (SaysLoaded me (made_at first events)) told (told-at me (made_at first events) now event h) in
-    let whole : made_at first (events ++ event ∷ []) ≡ made_at first events ++ made_by said ∷ [] =
-    made-both events (event ∷ []) first ∙ ap (λ o. made_at first events ++ map made_by (said_first o [])) told in
-    subst (λ steps. (tag : List ℕ) × (said.tag ≡ Some tag) × Loaded me tag bytes steps) (sym whole) (says_so bytes has)
+    let begun : Holds me first [] first = record { own = refl; here = refl; all = All-nil (HasLoaded me first []) } in
+    let h : Holds me first events now = events-hold me first [] events first begun in
+    let says_so : SaysLoaded me first events (Some said) = subst (SaysLoaded me first events) told (told-at me first events now event h) in
+    says_so bytes has

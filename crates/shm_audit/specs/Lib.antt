@@ -4,6 +4,7 @@ pub mod Entered
 pub mod HandedOf
 pub mod Found
 pub mod Leading
+pub mod ReadUpTo
 pub mod Counts
 pub mod OneSet
 pub mod Told

@@ -1,12 +1,13 @@
 -- The steps of a site's process, each by the line that made it and what the site answered; and the loads of a block among them.
-use Rattle.std.specs.Prelude.{⊤, ◌≡◌, ◌⊎◌, ℕ, ◌+◌, List, [], ◌∷◌, map}
+use Rattle.std.specs.Prelude.{⊤, ◌≡◌, ◌⊎◌, ℕ, ◌+◌, true, List, [], ◌∷◌, ◌++◌, length, map, Option, Some}
 use Rattle.shm_model.specs.declared.answer.Answer.{Answer}
 use Rattle.shm_model.specs.declared.answer.Answer.TheVariants.{Byte}
 use Rattle.shm_model.specs.declared.asked.Asked.TheVariants.{Load}
-use Rattle.shm_wire.specs.Asks.{ask_line}
-use Rattle.shm_wire.specs.declared.ask.Question.TheVariants.{Access}
+use Rattle.shm_wire.specs.Asks.{Ask, ask_line, read_ask}
+use Rattle.shm_wire.specs.declared.ask.Question.TheVariants.{Access, Read}
 use Rattle.shm_process.specs.Node.{Node, Said}
-use Rattle.shm_process.specs.Recorded.{Event}
+use Rattle.shm_process.specs.Recorded.{Event, Line, after_events}
+use Rattle.shm_process.specs.Waiting.{has_room}
 use Rattle.shm_audit.specs.Told.{all_said}
 
 pub record Made : Type 0 where
@@ -33,6 +34,23 @@ Among [] steps = ⊤
 Among (x ∷ xs) [] = ⊥
 Among (x ∷ xs) (step ∷ steps) = ((x ≡ step) × Among xs steps) ⊎ Among (x ∷ xs) steps
 
--- these bytes are what the loads of one block of this tag were answered, which stand among these steps
-abbrev pub Loaded : ℕ → List ℕ → List ℕ → List Made → Type 0
-Loaded me tag bytes steps = (at : ℕ) × (offset : ℕ) × Among (loads me tag at offset bytes) steps
+-- Among these events a line asked this of the process, and found room to wait; and these steps stand among those that it made since.
+pub record MadeSince (first : Node) (events : List Event) (ask : Ask) (steps : List Made) : Type 0 where
+  pub before : List Event
+  pub line : List ℕ
+  pub since : List Event
+  pub are : events ≡ before ++ Line line ∷ since
+  pub room : has_room (after_events first before) ≡ true
+  pub asked : read_ask line ≡ Some ask
+  pub made : Among steps (made_at (after_events first (before ++ Line line ∷ [])) since)
+
+-- A block of these bytes, told of this step after these events: a caller of this site asked, under the tag that is told, for as many bytes,
+-- through one attachment and from one offset on. Since then each was loaded at its own place, one after another, the last by this step.
+pub record IsLoadedBlock (me : ℕ) (first : Node) (events : List Event) (told : Option (List ℕ)) (step : Made) (bytes : List ℕ) : Type 0 where
+  pub tag : List ℕ
+  pub at : ℕ
+  pub offset : ℕ
+  pub others : List Made
+  pub is_told : told ≡ Some tag
+  pub loaded : loads me tag at offset bytes ≡ others ++ step ∷ []
+  pub since : MadeSince first events (record { site = me; tag = tag; asked = Read at offset (length bytes) }) others

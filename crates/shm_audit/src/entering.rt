@@ -41,7 +41,8 @@ fn take<A: Allocator + Copy>(
     handed: Handed<A>,
 ) -> Result<(), JournalFault>
     ensures ok { OnOk result (box_handed clock (box_of site_box.old) (Some (handed_of handed)) ≡ Some (box_of site_box.new)) }
-    ensures err { IfErr result (λ f. (f ≡ fault.OutOfMemory) ⊎ ((f ≡ fault.BadLine number) × (box_handed clock (box_of site_box.old) (Some (handed_of handed)) ≡ None))) }
+    ensures err { IfErr result (λ f. (f ≡ fault.OutOfMemory)
+        ⊎ ((f ≡ fault.BadLine number) × (box_handed clock (box_of site_box.old) (Some (handed_of handed)) ≡ None))) }
 {
     let Handed { input, source } = handed;
     match site_box.take(input, source) {

@@ -1,9 +1,5 @@
 //! A reader's bytes, a line at a time.
-ghost use Rattle.std.specs.Prelude.{◌≡◌, ◌≤◌, ◌==◌, ◌∷◌, ◌++◌, [], false, true, ℕ, length, Option, List, IfErr, IfNone, IfOk, IfSome, OnOk};
-ghost use Rattle.std.specs.List.{All};
-ghost use Rattle.std.specs.Io.KnownBytes.{Consumes, IsAtEnd, Keeps};
-ghost use Rattle.shm_audit.specs.LinesOf.{is_used_up, left_of, Unended};
-ghost use Rattle.shm_audit.specs.Faults.{IsOther};
+ghost use Rattle.std.specs.Prelude.{◌≤◌, length};
 
 use crate::journal_fault::JournalFault;
 use shm_debug::read_up_to;
@@ -19,9 +15,17 @@ pub(crate) struct Lines<A: Allocator + Copy = Global> {
     line: Vec<u8, A>,
     bytes: Vec<u8, A>,
     at: usize,
+    ghost once: { length bytes.items ≤ 8192 },
 }
 
 impl<A: Allocator + Copy> Lines<A> {
+    ghost use Rattle.std.specs.Prelude.{◌≡◌, ◌≤◌, ◌==◌, ◌∷◌, ◌++◌, [], false, true, ℕ, length, Option, List, IfErr, IfNone, IfOk, IfSome, OnErr, OnOk};
+    ghost use Rattle.std.specs.List.{All};
+    ghost use Rattle.std.specs.Io.KnownBytes.{Consumes, IsAtEnd, Keeps};
+    ghost use Rattle.shm_audit.specs.LinesOf.{is_used_up, left_of, Unended};
+    ghost use Rattle.shm_audit.specs.Faults.{IsOther};
+    ghost use Rattle.shm_audit.specs.ReadUpTo.{ReadsOn};
+
     /// Nothing was read yet.
     pub(crate) fn new(alloc: A) -> Lines<A>
         ensures { (remaining : Option (List ℕ)) → left_of result remaining ≡ remaining }
@@ -43,10 +47,13 @@ impl<A: Allocator + Copy> Lines<A> {
     /// Takes the next line. `false`: the bytes ended before it did, and its front is taken.
     pub(crate) fn take<R: Read>(&mut self, reader: &mut R) -> Result<bool, JournalFault>
         ensures unended { IfOk result (λ whole. Unended self.new.line.items) }
-        ensures whole { IfOk result (λ whole. whole ≡ true → Consumes (left_of self.old (R.remaining reader.old)) (left_of self.new (R.remaining reader.new)) (self.new.line.items ++ 10 ∷ [])) }
-        ensures torn { IfOk result (λ whole. whole ≡ false → Consumes (left_of self.old (R.remaining reader.old)) (left_of self.new (R.remaining reader.new)) self.new.line.items) }
+        ensures whole { IfOk result (λ whole. whole ≡ true → Consumes (left_of self.old (R.remaining reader.old)) (left_of self.new (R.remaining reader.new))
+            (self.new.line.items ++ 10 ∷ [])) }
+        ensures torn { IfOk result (λ whole. whole ≡ false → Consumes (left_of self.old (R.remaining reader.old))
+            (left_of self.new (R.remaining reader.new)) self.new.line.items) }
         ensures end { IfOk result (λ whole. whole ≡ false → IsAtEnd (R.remaining reader.new) × IsAtEnd (left_of self.new (R.remaining reader.new))) }
         ensures fault { IfErr result IsOther }
+        ensures front { OnErr result (ReadsOn (left_of self.old (R.remaining reader.old)) (R.remaining reader.new)) }
     {
         self.line.clear();
         'bytes: for _ in 0..u64::MAX {
@@ -66,11 +73,13 @@ impl<A: Allocator + Copy> Lines<A> {
 
     /// Takes the next byte. `None`: there is none.
     fn take_byte<R: Read>(&mut self, reader: &mut R) -> Result<Option<u8>, JournalFault>
-        ensures some { IfOk result (λ byte. IfSome byte (λ b. Consumes (left_of self.old (R.remaining reader.old)) (left_of self.new (R.remaining reader.new)) (b ∷ []))) }
+        ensures some { IfOk result (λ byte. IfSome byte (λ b. Consumes (left_of self.old (R.remaining reader.old)) (left_of self.new (R.remaining reader.new))
+            (b ∷ []))) }
         ensures none { IfOk result (λ byte. IfNone byte (Keeps (left_of self.old (R.remaining reader.old)) (left_of self.new (R.remaining reader.new)))) }
         ensures end { IfOk result (λ byte. IfNone byte (IsAtEnd (R.remaining reader.new) × IsAtEnd (left_of self.new (R.remaining reader.new)))) }
         ensures line { OnOk result (self.new.line.items ≡ self.old.line.items) }
         ensures fault { IfErr result IsOther }
+        ensures front { OnErr result (ReadsOn (left_of self.old (R.remaining reader.old)) (R.remaining reader.new)) }
     {
         match self.fill(reader) {
             Ok(()) => {}
@@ -90,6 +99,7 @@ impl<A: Allocator + Copy> Lines<A> {
         ensures end { OnOk result (is_used_up self.new ≡ true → IsAtEnd (R.remaining reader.new)) }
         ensures line { OnOk result (self.new.line.items ≡ self.old.line.items) }
         ensures fault { IfErr result IsOther }
+        ensures front { OnErr result (ReadsOn (left_of self.old (R.remaining reader.old)) (R.remaining reader.new)) }
     {
         if self.at < self.bytes.len() {
             return Ok(());

@@ -5,6 +5,8 @@ ghost use Rattle.shm_sites.specs.Boxes.SiteBox.{box_of};
 ghost use Rattle.shm_audit.specs.Found.{found, found_from, whole_lines, IsFault, Led, Tells};
 ghost use Rattle.shm_audit.specs.LinesOf.{left_of};
 ghost use Rattle.shm_audit.specs.Leading.{Leads};
+ghost use Rattle.shm_audit.specs.ReadUpTo.{ReadsToLine, ReadsUpTo};
+ghost use Rattle.shm_journal.specs.Recovers.{ReadsAll};
 
 use crate::entering::enter;
 use crate::journal_fault::JournalFault;
@@ -15,12 +17,15 @@ use std::alloc::Allocator;
 use std::io::Read;
 
 /// The log of the site whose journal this is: its box takes each step that is recorded, one after another. A last line without its line feed
-/// counts for nothing. Memory is needed for the longest line and for the log.
+/// counts for nothing. Memory is needed for the longest line and for the log. After a fault the reader stands a little behind the line that is
+/// wrong.
 pub fn read_log<A: Allocator + Copy, R: Read>(
     alloc: A,
     reader: &mut R,
 ) -> Result<SiteLog<A>, JournalFault>
     ensures end { OnOk result (IsAtEnd (R.remaining reader.new)) }
+    ensures all { OnOk result (ReadsAll (R.remaining reader.old) (R.remaining reader.new)) }
+    ensures left { IfErr result (ReadsUpTo (R.remaining reader.old) (R.remaining reader.new)) }
     ensures found { IfSome (R.remaining reader.old) (λ file. Tells (found file) result) }
 {
     let mut lines = Lines::new(alloc);
@@ -38,6 +43,9 @@ fn read_rest<A: Allocator + Copy, R: Read>(
     site_box: SiteBox<A>,
 ) -> Result<SiteLog<A>, JournalFault>
     ensures end { OnOk result (IsAtEnd (R.remaining reader.new)) }
+    ensures all { OnOk result (ReadsAll (left_of lines (R.remaining reader.old)) (R.remaining reader.new)) }
+    ensures left { IfErr result (ReadsToLine (λ rest. found_from 2 (box_of site_box) (whole_lines rest)) (left_of lines (R.remaining reader.old))
+        (R.remaining reader.new)) }
     ensures tells { IfSome (left_of lines (R.remaining reader.old)) (λ rest. Tells (found_from 2 (box_of site_box) (whole_lines rest)) result) }
 {
     let mut lines = lines;
@@ -55,6 +63,7 @@ fn read_first<A: Allocator + Copy, R: Read>(
     lines: &mut Lines<A>,
 ) -> Result<SiteBox<A>, JournalFault>
     ensures ok { IfOk result (λ new. Leads found (left_of lines.old (R.remaining reader.old)) (left_of lines.new (R.remaining reader.new)) 2 (box_of new)) }
+    ensures left { IfErr result (ReadsUpTo (left_of lines.old (R.remaining reader.old)) (R.remaining reader.new)) }
     ensures err { IfErr result (λ fault. IfSome (left_of lines.old (R.remaining reader.old)) (λ file. IsFault (found file) fault)) }
 {
     match lines.take(reader) {
@@ -72,8 +81,13 @@ fn read_on<A: Allocator + Copy, R: Read>(
     site_box: &mut SiteBox<A>,
 ) -> Result<(), JournalFault>
     ensures end { OnOk result (IsAtEnd (R.remaining reader.new)) }
-    ensures ok { OnOk result (IfSome (left_of lines.old (R.remaining reader.old)) (λ rest. found_from 2 (box_of site_box.old) (whole_lines rest) ≡ Led (box_of site_box.new))) }
-    ensures err { IfErr result (λ fault. IfSome (left_of lines.old (R.remaining reader.old)) (λ rest. IsFault (found_from 2 (box_of site_box.old) (whole_lines rest)) fault)) }
+    ensures all { OnOk result (ReadsAll (left_of lines.old (R.remaining reader.old)) (R.remaining reader.new)) }
+    ensures left { IfErr result (ReadsToLine (λ rest. found_from 2 (box_of site_box.old) (whole_lines rest)) (left_of lines.old (R.remaining reader.old))
+        (R.remaining reader.new)) }
+    ensures ok { OnOk result (IfSome (left_of lines.old (R.remaining reader.old))
+        (λ rest. found_from 2 (box_of site_box.old) (whole_lines rest) ≡ Led (box_of site_box.new))) }
+    ensures err { IfErr result (λ fault. IfSome (left_of lines.old (R.remaining reader.old))
+        (λ rest. IsFault (found_from 2 (box_of site_box.old) (whole_lines rest)) fault)) }
 {
     'lines: for number in 2..u64::MAX {
         match lines.take(reader) {

@@ -4,12 +4,11 @@ use Rattle.std.specs.Prelude.{codes}
 use Rattle.std.specs.Fmt.{decimal}
 use Rattle.std.specs.List.{join_with_byte}
 use Rattle.std.proofs.lemmas.List.Splits.{join_with_byte-slice_split, length-slice_split, slice_split_at}
+use Rattle.shm_lines.proofs.NumberWords.{wide}
 use Rattle.shm_lines.proofs.ReadLemmas.{onto}
 use Rattle.shm_lines.proofs.StepLemmas.{NoBlank-test, some-is}
-use Rattle.shm_lines.specs.Words.{is_end, words_of}
+use Rattle.shm_lines.specs.Words.{is_end, words_of, IsWide, wide_of}
 use Rattle.shm_wire.proofs.Reading.{took, took_verb}
-use Rattle.shm_wire.proofs.WideWords.{wide}
-use Rattle.shm_wire.specs.Words.{IsWide, wide_of}
 use Rattle.shm_process.specs.Recorded.{Entry, entry_line}
 use Rattle.shm_journal.specs.Lines.{entry_after, read_entry}
 

@@ -4,7 +4,7 @@ use Rattle.std.specs.Prelude.{codes}
 use Rattle.std.specs.Fmt.{decimal}
 use Rattle.std.specs.List.{join_with_byte}
 use Rattle.std.proofs.lemmas.List.Splits.{join_with_byte-slice_split}
-use Rattle.shm_lines.proofs.OneWord.{number}
+use Rattle.shm_lines.proofs.NumberWords.{number}
 use Rattle.shm_lines.proofs.ReadLemmas.{onto}
 use Rattle.shm_lines.proofs.StepLemmas.{NoBlanks, NoBlank-test, words_of-join}
 use Rattle.shm_lines.specs.Words.{words_of}

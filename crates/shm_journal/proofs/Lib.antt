@@ -2,6 +2,7 @@ pub mod HeaderWords
 pub mod EntryWords
 pub mod ReadingLemmas
 pub mod Fronts
+pub mod SoundLemmas
 pub mod RecoveryLemmas
 pub mod ActLemmas
 pub mod ServingLemmas

@@ -31,7 +31,7 @@ some-is n h = grind (arith, nat_tests)
 long-test : (n : ℕ) → 8218 < n → nat_lt 8218 n ≡ true
 long-test n h = grind (arith, nat_tests)
 
-short-test : (n : ℕ) → n ≤ 8218 → nat_lt 8218 n ≡ false
+pub short-test : (n : ℕ) → n ≤ 8218 → nat_lt 8218 n ≡ false
 short-test n h = grind (arith, nat_tests)
 
 test-long : (n : ℕ) → nat_lt 8218 n ≡ true → 8218 < n

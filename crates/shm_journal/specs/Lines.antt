@@ -4,8 +4,8 @@ use Rattle.std.specs.Prelude.{ℕ, List, [], ◌∷◌, codes, Option, Some, Non
 use Rattle.std.specs.Fmt.{decimal}
 use Rattle.std.specs.List.{join_with_byte}
 use Rattle.shm_lines.specs.Spelling.{IsNumber}
-use Rattle.shm_lines.specs.Words.{◌>>=◌, is_end, next_number, next_of, next_word, words_of}
-use Rattle.shm_wire.specs.Words.{by_verb, ended, nothing, wide_of}
+use Rattle.shm_lines.specs.Words.{◌>>=◌, is_end, next_number, next_of, next_word, words_of, wide_of}
+use Rattle.shm_wire.specs.Words.{by_verb, ended, nothing}
 use Rattle.shm_process.specs.Recorded.{Entry}
 
 -- how many sites there are, which one's journal it is, and how many pages segment 0 began with

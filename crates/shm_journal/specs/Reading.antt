@@ -1,10 +1,12 @@
 -- A journal of which a part was read, and what the rest of it leads to.
-use Rattle.std.specs.Prelude.{◌≡◌, ℕ, ◌+◌, ◌==◌, ◌&&◌, Bool, List, [], ◌++◌, Option, Some, None, Result, Ok, Err, if◌then◌else◌}
+use Rattle.std.specs.Prelude.{◌≡◌, ◌⊎◌, ◌≤◌, ℕ, ◌+◌, ◌==◌, ◌&&◌, Bool, List, [], ◌++◌, Option, Some, None, Result, Ok, Err, if◌then◌else◌, length}
+use Rattle.std.specs.Io.KnownBytes.{Consumes, IsAtEnd}
 use Rattle.std.specs.Str.{bytes_eq}
 use Rattle.shm_process.specs.Node.{Node}
 use Rattle.shm_process.specs.NodeOf.{node_of}
-use Rattle.shm_journal.specs.Found.{Found, Sound, Foreign, Bad, Lines, bytes_of_lines, found_from, found_in, is_empty, lines_behind, replayed_entry}
+use Rattle.shm_journal.specs.Found.{Found, Sound, Foreign, Bad, Lines, bytes_of_lines, found_from, found_in, is_empty, lines_behind, max_journal_line, replayed_entry}
 use Rattle.shm_journal.specs.Lines.{Header, header_line, read_entry}
+use Rattle.shm_journal.specs.Recovers.{most_at_once}
 use Rattle.shm_journal.specs.declared.recovery_fault.RecoveryFault.{RecoveryFault}
 use Rattle.shm_journal.specs.declared.recovery_fault.RecoveryFault.TheVariants as fault
 use Rattle.shm_journal.specs.declared.recovered.Recovered.{Recovered}
@@ -67,3 +69,18 @@ FaultsIn fault old bytes = (rest : List ℕ) → Faults fault (leads_to old (byt
 abbrev pub Ends : {A : Type 0} → Finding → Result (Recovered A) RecoveryFault → Type 0
 Ends finding (Ok recovered) = finding ≡ record { found = Sound (node_of recovered.node); whole = recovered.whole; is_new = recovered.is_new }
 Ends finding (Err fault) = Faults fault finding.found
+
+-- whatever follows these bytes, the fault says what is found; or it does, as nothing is left that could follow
+abbrev pub IsKnownFrom : Reading → List ℕ → Option (List ℕ) → RecoveryFault → Type 0
+IsKnownFrom first bytes left fault = FaultsIn fault first bytes ⊎ (IsAtEnd left × Faults fault (leads_to first bytes).found)
+
+-- what was read from here on where this fault is answered: the reading went on, and met the fault at its last read
+pub record BreaksOff (first : Reading) (old new : Option (List ℕ)) (fault : RecoveryFault) : Type 0 where
+  pub before : List ℕ
+  pub last : List ℕ
+  pub now : Reading
+  pub taken : Consumes old new (before ++ last)
+  pub onward : LeadsOn first now before
+  pub short : length now.line ≤ max_journal_line
+  pub once : length last ≤ most_at_once
+  pub known : IsKnownFrom first (before ++ last) new fault

@@ -4,7 +4,7 @@ ghost use Rattle.shm_journal.specs.Crash.{KeepsBeforeTelling};
 ghost use Rattle.shm_journal.specs.Lines.{Header, IsHeader, header_line, read_entry, read_header};
 ghost use Rattle.shm_process.specs.Desk.{Desk};
 ghost use Rattle.shm_process.specs.Recorded.{Entry, entry_line};
-ghost use Rattle.shm_wire.specs.Words.{IsWide};
+ghost use Rattle.shm_lines.specs.Words.{IsWide};
 
 /// Each header has one spelling: what is read is spelled so, and what is spelled so is read.
 pub fn headers_have_one_spelling()

@@ -4,8 +4,7 @@ ghost use Rattle.shm_journal.specs.HeaderOf.{header_of};
 ghost use Rattle.shm_journal.specs.Lines.{read_entry, read_header};
 
 use crate::header::Header;
-use shm_lines::{Words, split_at};
-use shm_wire::parse_wide;
+use shm_lines::{Words, split_at, wide_number};
 
 /// The header that this line spells, which stands without its line feed; `None` where it spells none.
 pub fn parse_header(line: &[u8]) -> Option<Header>
@@ -34,7 +33,7 @@ pub fn parse_entry(line: &[u8]) -> Option<(u64, &[u8])>
         return None;
     }
     let (word, rest) = split_at(rest?, b' ');
-    let clock = parse_wide(word)?;
+    let clock = wide_number(word)?;
     let made_by = rest?;
     Some((clock, made_by))
 }

@@ -149,7 +149,12 @@ impl<A: Allocator + Copy> Reading<A> {
 
     /// The next line begins.
     fn count_line(&mut self) -> Result<(), RecoveryFault>
-        ensures ok { OnOk result (reading_of self.new ≡ record (reading_of self.old) { line = []; lines = (reading_of self.old).lines + 1; whole = (reading_of self.old).whole + (length (reading_of self.old).line + 1) }) }
+        ensures ok { OnOk result (reading_of self.new ≡ record
+            (reading_of self.old) {
+              line = [];
+              lines = (reading_of self.old).lines + 1;
+              whole = (reading_of self.old).whole + (length (reading_of self.old).line + 1);
+            }) }
         ensures err { IfErr result (λ fault. fault ≡ ReadFault) }
     {
         let whole = self.whole + (self.line.len() as u64 + 1);

@@ -1,9 +1,9 @@
 //! A site from its journal.
-ghost use Rattle.std.specs.Prelude.{◌≡◌, ◌<◌, ◌≤◌, ℕ, List, IfSome, OnOk};
+ghost use Rattle.std.specs.Prelude.{◌≡◌, ◌<◌, ◌≤◌, ℕ, List, IfErr, IfSome, OnOk};
 ghost use Rattle.std.specs.Io.KnownBytes.{IsAtEnd};
-ghost use Rattle.shm_journal.specs.Reading.{Ends, leads_to};
+ghost use Rattle.shm_journal.specs.Reading.{BreaksOff, Ends, leads_to};
 ghost use Rattle.shm_journal.specs.ReadingOf.{reading_of};
-ghost use Rattle.shm_journal.specs.Recovers.{Recovers};
+ghost use Rattle.shm_journal.specs.Recovers.{ReadsAll, ReadsUpTo, Recovers};
 
 use crate::header::Header;
 use crate::reading::Reading;
@@ -18,9 +18,9 @@ use std::io::Read;
 /// How many bytes are read at once.
 const CHUNK: usize = 8192;
 
-/// The site after the steps that its journal records; of so many sites, where segment 0 began with so many pages. Where it is recovered the
-/// journal was read to its end. What stands behind the last line feed is torn: it counts for nothing, unless it is too long for a line, or
-/// stands alone and is no front of the header. No more than a line of the journal is held at once.
+/// The site after the steps that its journal records; of so many sites, where segment 0 began with so many pages. What stands behind the last
+/// line feed is torn: it counts for nothing, unless it is too long for a line, or stands alone and is no front of the header. No more than a
+/// line of the journal is held at once. After a fault the reader stands a little behind the line that is wrong.
 pub fn recover<A: Allocator + Copy, R: Read>(
     alloc: A,
     sites: Sites,
@@ -32,6 +32,8 @@ pub fn recover<A: Allocator + Copy, R: Read>(
     requires from { 1 ≤ pages }
     requires to { pages ≤ PAGES }
     ensures end { OnOk result (IsAtEnd (R.remaining reader.new)) }
+    ensures all { OnOk result (ReadsAll (R.remaining reader.old) (R.remaining reader.new)) }
+    ensures left { IfErr result (ReadsUpTo (record { sites = sites; me = me; pages = pages }) (R.remaining reader.old) (R.remaining reader.new)) }
     ensures found { Recovers (record { sites = sites; me = me; pages = pages }) (R.remaining reader.old) result }
 {
     let Ok(node) = Node::new(alloc, sites, me, pages) else {
@@ -51,6 +53,8 @@ fn read_journal<A: Allocator + Copy, R: Read>(
     reader: &mut R,
 ) -> Result<Recovered<A>, RecoveryFault>
     ensures end { OnOk result (IsAtEnd (R.remaining reader.new)) }
+    ensures all { OnOk result (ReadsAll (R.remaining reader.old) (R.remaining reader.new)) }
+    ensures left { IfErr result (BreaksOff (reading_of reading) (R.remaining reader.old) (R.remaining reader.new)) }
     ensures ends { (file : List ℕ) × IfSome (R.remaining reader.old) (λ known. file ≡ known) × Ends (leads_to (reading_of reading) file) result }
 {
     let mut chunk = [0u8; CHUNK];

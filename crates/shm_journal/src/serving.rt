@@ -59,9 +59,11 @@ fn publish<A: Allocator + Copy, W: Write, J: Journal>(
     writer: &mut W,
     journal: &mut J,
 ) -> Result<(), ProcessFault>
-    ensures done { (r : Option (List ℕ)) → OnOk result (Did (around r (W.contents writer.old) (J.acts journal.old)) (around r (W.contents writer.new) (J.acts journal.new)) (publishing (desk_of desk.old))) }
+    ensures done { (r : Option (List ℕ)) → OnOk result (Did (around r (W.contents writer.old) (J.acts journal.old))
+        (around r (W.contents writer.new) (J.acts journal.new)) (publishing (desk_of desk.old))) }
     ensures cleared { OnOk result (desk_of desk.new ≡ cleared (desk_of desk.old)) }
-    ensures fault { (r : Option (List ℕ)) → IfErr result (FailsToPublish (desk_of desk.old) (around r (W.contents writer.old) (J.acts journal.old)) (around r (W.contents writer.new) (J.acts journal.new))) }
+    ensures fault { (r : Option (List ℕ)) → IfErr result (FailsToPublish (desk_of desk.old) (around r (W.contents writer.old) (J.acts journal.old))
+        (around r (W.contents writer.new) (J.acts journal.new))) }
 {
     match keep(desk.recorded(), journal) {
         Ok(()) => {}

@@ -8,7 +8,7 @@ use Rattle.shm_model.specs.declared.answer.Answer.{Answer}
 use Rattle.shm_wire.specs.Asks.{Ask, read_ask}
 use Rattle.shm_wire.specs.declared.ask.Question.{Question}
 use Rattle.shm_wire.specs.declared.ask.Question.TheVariants as question
-use Rattle.shm_process.specs.Blocks.{Access, Reads, WaitingAsk, after_answer, ask_in, waiting_after, waits_on}
+use Rattle.shm_process.specs.WaitingAsks.{Access, Reads, WaitingAsk, after_answer, ask_in, goes_on, waiting_after}
 use Rattle.shm_process.specs.Node.{Node, Heard, answer_to, heard, is_late, new_node}
 use Rattle.shm_process.specs.Recorded.{Event, Line, TooLong, Again, Restarted, after_event, after_events}
 use Rattle.shm_process.specs.Waiting.{after_heard, after_restart, after_unheard, again_at, again_if, block_here, block_in, has_room, joins, most_waiting, ready, waiting_at}
@@ -37,7 +37,7 @@ after-few waiting at answer few =
     let ask = ask_in waiting at in
     let same : length (set waiting at (after_answer ask answer)) ≡ length waiting = length-set waiting at (after_answer ask answer) in
     let less : length (remove waiting at) ≤ length waiting = remove-shorter waiting at in
-    cond-few (waits_on ask answer) (set waiting at (after_answer ask answer)) (remove waiting at) (omega (arith, few, same)) (omega (arith, few, less))
+    cond-few (goes_on ask answer) (set waiting at (after_answer ask answer)) (remove waiting at) (omega (arith, few, same)) (omega (arith, few, less))
 
 -- ---- a line
 

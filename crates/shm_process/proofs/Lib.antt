@@ -5,5 +5,11 @@ pub mod Replays
 pub mod Asks
 pub mod AskedBlock
 pub mod Few
+pub mod Kept
+pub mod HeardAccesses
+pub mod SmallBlocks
+pub mod Totals
+pub mod Lasting
+pub mod Enough
 pub mod DeskLemmas
 pub mod DeskEvents

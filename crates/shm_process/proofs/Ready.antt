@@ -3,7 +3,7 @@ use Rattle.std.proofs.Common.{◌≡◌, ℕ, ◌+◌, ◌<◌, ◌≤◌, Bool,
 use Rattle.std.specs.List.{position_from}
 use Rattle.std.specs.Prelude.{IfNone, IfSome, option_and_then}
 use Rattle.std.proofs.lemmas.List.{drop_all, drop_more, length-map}
-use Rattle.shm_process.specs.Blocks.{Access, next_line}
+use Rattle.shm_process.specs.WaitingAsks.{Access, next_line}
 use Rattle.shm_process.specs.Node.{Node, Said, heard}
 use Rattle.shm_process.specs.Waiting.{after_again, again_at, again_if, can_be_made, ready, said_again, says_at, waiting_at}
 

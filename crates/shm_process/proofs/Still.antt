@@ -11,6 +11,7 @@ use Rattle.shm_model.specs.Message.{Envelope, Input, Load, Store, Begin, Deliver
 use Rattle.shm_model.specs.Refusal.{numbers_used_up}
 use Rattle.shm_model.specs.Site.{Site, Step, still}
 use Rattle.shm_model.specs.Step.{step}
+use Rattle.shm_site.specs.Step.{is_foreign}
 use Rattle.shm_process.specs.Access.{is_access, is_waiting}
 
 IsStill : Step → Site → Type 0
@@ -64,3 +65,12 @@ pub still_after : (sites me : ℕ) (old new : Site) (input : Input) (answer : An
 still_after sites me old new input answer sent access made waits =
     ap (λ (s : Step). s.site) (sym made)
     ∙ waiting_still sites me old input access (ap (λ (s : Step). is_waiting s.answer) made ∙ waits)
+
+-- an access hands over no envelope
+pub own_access : (sites me : ℕ) (input : Input) → is_access input ≡ true → is_foreign sites me input ≡ false
+own_access sites me (Load at offset) h = refl
+own_access sites me (Store at offset byte) h = refl
+own_access sites me (Begin request) h = absurd (cc)
+own_access sites me (Deliver e) h = absurd (cc)
+own_access sites me Tick h = absurd (cc)
+own_access sites me Restart h = absurd (cc)

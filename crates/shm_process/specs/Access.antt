@@ -1,8 +1,11 @@
--- Inputs that access a page, and what is answered to them.
-use Rattle.std.specs.Prelude.{Bool, true, false}
+-- Inputs that access a page, what is answered to them, and the asks for them.
+use Rattle.std.specs.Prelude.{ℕ, Bool, true, false, List}
 use Rattle.shm_model.specs.declared.answer.Answer.{Answer}
 use Rattle.shm_model.specs.declared.answer.Answer.TheVariants.{Fault, Waiting}
+use Rattle.shm_model.specs.declared.asked.Asked.{Asked}
 use Rattle.shm_model.specs.Message.{Input, Load, Store}
+use Rattle.shm_wire.specs.Asks.{Ask}
+use Rattle.shm_wire.specs.declared.ask.Question.TheVariants as question
 
 abbrev pub is_access : Input → Bool
 is_access (Load at offset) = true
@@ -19,3 +22,7 @@ is_open _ = false
 abbrev pub is_waiting : Answer → Bool
 is_waiting Waiting = true
 is_waiting _ = false
+
+-- an access that a site is asked for under a tag
+abbrev pub access_ask : ℕ → List ℕ → Asked → Ask
+access_ask site tag asked = record { site = site; tag = tag; asked = question.Access asked }

@@ -1,5 +1,6 @@
 pub mod Access
 pub mod Blocks
+pub mod WaitingAsks
 pub mod AskOf
 pub mod Node
 pub mod NodeOf

@@ -14,7 +14,7 @@ use Rattle.shm_wire.specs.Asks.{Ask, read_ask}
 use Rattle.shm_wire.specs.Sent.{Sent, read_envelope}
 use Rattle.shm_wire.specs.declared.ask.Question.{Question}
 use Rattle.shm_wire.specs.declared.ask.Question.TheVariants as question
-use Rattle.shm_process.specs.Blocks.{WaitingAsk}
+use Rattle.shm_process.specs.WaitingAsks.{WaitingAsk}
 
 -- how many sites there are, and which one this is; the site as it stands, its clock, and how many steps it made; how many lines made
 -- a step or brought a block that found room, and how many were passed over; the tag of the caller whose segment call is outstanding;

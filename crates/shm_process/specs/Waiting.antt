@@ -1,5 +1,5 @@
--- Asks that wait for their right, and the steps that a node makes: of a line, of an ask that waits, at a restart, and again from the
--- lines that were recorded.
+-- The asks of a node that wait for their right, and the steps that it makes: of a line, of an ask that waits, at a restart, and again from
+-- the lines that were recorded. What such an ask is, and becomes, stands in WaitingAsks.antt.
 use Rattle.std.specs.Prelude.{ℕ, ◌+◌, ◌*◌, Bool, false, ◌&&◌, not, List, [], ◌∷◌, ◌++◌, codes, Option, Some, None, ◌==◌, if◌then◌else◌, length, nat_lt, option_map, option_and_then}
 use Rattle.std.specs.List.{position_from}
 use Rattle.std.specs.Str.{bytes_eq}
@@ -10,7 +10,8 @@ use Rattle.shm_wire.specs.Asks.{Ask, read_ask}
 use Rattle.shm_wire.specs.declared.ask.Question.{Question}
 use Rattle.shm_wire.specs.declared.ask.Question.TheVariants as question
 use Rattle.shm_process.specs.Access.{is_open, is_waiting}
-use Rattle.shm_process.specs.Blocks.{Access, Block, Reads, all_bytes, ask_in, next_line, waiting_after, waits_on}
+use Rattle.shm_process.specs.Blocks.{Block}
+use Rattle.shm_process.specs.WaitingAsks.{Access, Reads, WaitingAsk, all_bytes, ask_in, goes_on, next_line, waiting_after}
 use Rattle.shm_process.specs.Node.{Node, Heard, Said, answer_to, heard, is_late, next_clock, says, stepped}
 
 -- so many asks wait at most; a further access is answered at once, as one that is only tried, and a further block isn't tried
@@ -28,6 +29,11 @@ counted lines = if lines == greatest then lines else lines + 1
 
 abbrev pub joins : Node → Heard → Bool
 joins node heard = (heard.waits && has_room node) && is_open (answer_to node heard)
+
+-- those that wait, and an access behind them whose line was kept, if it was neither made nor refused
+abbrev pub with_kept : List WaitingAsk → Option (List ℕ) → Bool → List WaitingAsk
+with_kept waiting None stays = waiting
+with_kept waiting (Some line) stays = if stays then waiting ++ Access line ∷ [] else waiting
 
 abbrev pub taken : Node → List ℕ → Heard → Node
 taken node line heard = record (stepped node heard) {
@@ -72,7 +78,8 @@ said node line = option_map (λ h. says node line h (joins node h)) (heard node 
 
 -- ---- an ask that waits
 
--- so many steps are made at most of the asks that wait, after one line: for each ask a page's bytes, and one step more that asks for a right
+-- so many steps are made at most of the asks that wait, after one line: for each ask a page's bytes, and one step more that asks for a
+-- right. They are always enough (`laws::no_ask_is_left_that_can_be_made`)
 abbrev pub most_steps : ℕ
 most_steps = most_waiting * (page_bytes + 1)
 
@@ -105,7 +112,7 @@ after_again node = again_if node (ready node)
 abbrev pub says_again : Node → ℕ → Heard → Said
 says_again node at heard =
     let ask = ask_in node.waiting at in
-    record (says node (waiting_at node at) heard (waits_on ask (answer_to node heard))) { block = all_bytes ask (answer_to node heard) }
+    record (says node (waiting_at node at) heard (goes_on ask (answer_to node heard))) { block = all_bytes ask (answer_to node heard) }
 
 abbrev pub says_at : Node → ℕ → Option Said
 says_at node at = option_map (says_again node at) (heard node (waiting_at node at))

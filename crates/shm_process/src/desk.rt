@@ -171,7 +171,8 @@ impl<A: Allocator + Copy> Desk<A> {
     #[tactic(auto, using(crate::proofs::DeskLemmas::none_again))]
     fn make_waiting(&mut self) -> Result<bool, AllocError>
         ensures more { IfOk result (λ more. more ≡ is_some (said_again (desk_of self.old).node)) }
-        ensures made { OnOk result (desk_of self.new ≡ (if is_some (said_again (desk_of self.old).node) then made_again (desk_of self.old) else desk_of self.old)) }
+        ensures made { OnOk result (desk_of self.new ≡ (if is_some (said_again (desk_of self.old).node) then made_again
+            (desk_of self.old) else desk_of self.old)) }
     {
         let Some(said) = self.node.again()? else {
             return Ok(false);

@@ -1,10 +1,10 @@
 //! What holds of the definitions, whatever a node is made to do.
-ghost use Rattle.std.specs.Prelude.{◌≡◌, ◌≤◌, List, ℕ, Some, length};
-ghost use Rattle.shm_process.specs.Desk.{Desk, on_bytes};
+ghost use Rattle.std.specs.Prelude.{◌≡◌, ◌≤◌, List, ℕ, None, Some, length};
+ghost use Rattle.shm_process.specs.Desk.{Desk, on_bytes, settled};
 ghost use Rattle.shm_process.specs.DeskEvents.{DidEvents};
 ghost use Rattle.shm_process.specs.Node as spec;
 ghost use Rattle.shm_process.specs.Recorded.{Event, after_events, entries_of, kept, replayed_all};
-ghost use Rattle.shm_process.specs.Waiting.{most_waiting};
+ghost use Rattle.shm_process.specs.Waiting.{most_steps, most_waiting, said_again};
 
 /// The recorded steps, replayed one by one, lead to the same site, clock, count of steps and outstanding caller; only the asks that wait
 /// are forgotten, and no line is counted.
@@ -22,4 +22,11 @@ pub fn a_desk_records_each_step()
 #[tactic(auto, using(crate::proofs::Few::few_wait))]
 pub fn few_asks_wait()
     ensures { (sites me pages : ℕ) (events : List Event) → length (after_events (spec.new_node sites me pages) events).waiting ≤ most_waiting }
+{}
+
+/// After a line the asks that wait make all steps that they can: `most_steps` are always enough. So an ask that still waits then waits for
+/// what was asked already, or for a clock.
+pub fn no_ask_is_left_that_can_be_made()
+    ensures { (sites me pages : ℕ) (events : List Event) (desk : Desk) → desk.node ≡ after_events (spec.new_node sites me pages) events
+        → said_again (settled most_steps desk).node ≡ None }
 {}

@@ -23,4 +23,3 @@ pub use desk::Desk;
 pub use hearing::input_asked;
 pub use node::Node;
 pub use said::Said;
-pub use taking::MOST_WAITING;

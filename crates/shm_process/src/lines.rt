@@ -35,7 +35,8 @@ fn push_line<A: Allocator + Copy>(
     source: Stamp,
     envelope: &Envelope<A>,
 ) -> Result<(), AllocError>
-    ensures { OnOk result (string_bytes text.new ≡ string_bytes text.old ++ (envelope_line (record { source = stamp_of source; envelope = envelope_of envelope.now }) ++ 10 ∷ [])) }
+    ensures { OnOk result (string_bytes text.new ≡ string_bytes text.old
+        ++ (envelope_line (record { source = stamp_of source; envelope = envelope_of envelope.now }) ++ 10 ∷ [])) }
 {
     let line = SentLine { source, envelope };
     writeln!(text, "{line}")

@@ -24,22 +24,9 @@ impl<A: Allocator + Copy> Node<A> {
     {
         let line = Vec::from_slice(self.alloc, b"restart".as_slice())?;
         let clock = self.next_clock(0);
-        let index = self.steps;
-        let Made { answer, sent } = self.site.step_spending(Input::Restart)?;
-        self.clock = clock;
-        self.steps = index + 1;
+        let made = self.site.step_spending(Input::Restart)?;
         self.waiting.clear();
-        let tag = take_tag(false, None, &mut self.caller, &answer);
-        Ok(Said {
-            site: self.me,
-            clock,
-            index,
-            sent,
-            tag,
-            answer,
-            block: None,
-            line,
-        })
+        Ok(self.say(clock, None, false, made, line))
     }
 
     /// Makes the step that was recorded under this clock with this line, and says nothing. `false`: no such step can be the site's next,

@@ -1,10 +1,60 @@
-//! Who is told a step's answer, and what an access's answer means for it.
-ghost use Rattle.std.specs.Prelude.{◌≡◌, if◌then◌else◌, None, option_map, string_bytes};
+//! What is said of a step: who is told its answer, and what an access's answer means for it.
+ghost use Rattle.std.specs.Prelude.{◌≡◌, ◌+◌, ◌<◌, if◌then◌else◌, map, None, option_map, string_bytes};
+ghost use Rattle.shm_parts.specs.Message.{envelope_of};
 ghost use Rattle.shm_process.specs.Node.{caller_after, tag_told};
+ghost use Rattle.shm_process.specs.NodeOf.{node_of, said_of};
 ghost use Rattle.shm_process.specs.Access.{is_open, is_waiting};
 
+use crate::node::Node;
+use crate::said::Said;
 use shm_model::Answer;
+use shm_site::Made;
 use std::alloc::Allocator;
+
+impl<A: Allocator + Copy> Node<A> {
+    /// Counts a step that its site made under this clock, and says it; nobody is told the answer where the ask stays among those that wait.
+    pub(crate) fn say(
+        &mut self,
+        clock: u64,
+        tag: Option<String<A>>,
+        stays: bool,
+        made: Made<A>,
+        line: Vec<u8, A>,
+    ) -> Said<A>
+        requires { self.old.clock < clock }
+        ensures said { said_of result ≡ record {
+          site = self.old.me;
+          clock = clock;
+          index = self.old.steps;
+          sent = map envelope_of made.sent.items;
+          tag = tag_told stays (option_map string_bytes tag) (option_map string_bytes self.old.caller) made.answer;
+          answer = made.answer;
+          block = None;
+          line = line.items;
+        } }
+        ensures after { node_of self.new ≡ record (node_of self.old) {
+          clock = clock;
+          steps = self.old.steps + 1;
+          caller = caller_after (option_map string_bytes tag) (option_map string_bytes self.old.caller) made.answer;
+        } }
+    {
+        let Made { answer, sent } = made;
+        let index = self.steps;
+        self.clock = clock;
+        self.steps = index + 1;
+        let tag = take_tag(stays, tag, &mut self.caller, &answer);
+        Said {
+            site: self.me,
+            clock,
+            index,
+            sent,
+            tag,
+            answer,
+            block: None,
+            line,
+        }
+    }
+}
 
 /// Who is told the answer, unless the ask stays among those that wait. A segment call that begins has its caller until it is replied to.
 pub(crate) fn take_tag<A: Allocator + Copy>(

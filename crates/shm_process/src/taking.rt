@@ -1,31 +1,30 @@
 //! What a node does with a line.
-ghost use Rattle.std.specs.Prelude.{◌≡◌, ◌<◌, ◌++◌, ◌∷◌, ◌&&◌, [], false, map, max, option_map, IfOk, OnErr, OnOk, if◌then◌else◌, vec_capacity, vec_len};
+ghost use Rattle.std.specs.Prelude.{◌≡◌, ◌<◌, ◌&&◌, false, is_some, map, max, None, option_map, IfOk, OnErr, OnOk, Some, if◌then◌else◌, vec_capacity, vec_len};
 ghost use Rattle.shm_model.specs.Basics.{greatest};
 ghost use Rattle.shm_process.specs.Access.{is_open};
 ghost use Rattle.shm_process.specs.AskOf.{ask_of, block_of};
-ghost use Rattle.shm_process.specs.Blocks.{Access};
 ghost use Rattle.shm_process.specs.Node.{next_clock, says};
 ghost use Rattle.shm_process.specs.NodeOf.{heard_of, node_of, said_of};
-ghost use Rattle.shm_process.specs.Waiting.{after, after_unheard, counted, has_room, joined, joining, joins, passed_over, said, taken};
+ghost use Rattle.shm_process.specs.Waiting.{after, after_unheard, counted, has_room, joined, joining, joins, passed_over, said, taken, with_kept};
 ghost use Rattle.shm_site.specs.Step.{input_of, is_foreign};
 
 use crate::block::Block;
 use crate::heard::Heard;
 use crate::node::Node;
 use crate::said::Said;
-use crate::stepping::{is_open, take_tag};
+use crate::stepping::is_open;
 use crate::waiting_ask::WaitingAsk;
 use shm_place::PAGE_BYTES;
-use shm_site::{Answer, Made};
+use shm_site::Answer;
 use shm_wire::{Question, parse_ask};
 use std::alloc::{AllocError, Allocator};
 
 /// So many asks wait at most. A further access is answered at once, as one that is only tried; a further block is answered `waiting`, and
 /// isn't tried.
-pub const MOST_WAITING: usize = 64;
+pub(crate) const MOST_WAITING: usize = 64;
 
 /// So many steps are made at most of the asks that wait, after one line: for each ask a page's bytes, and one step more that asks for a
-/// right.
+/// right. They are always enough (`laws::no_ask_is_left_that_can_be_made`).
 pub(crate) const MOST_STEPS: usize = MOST_WAITING * (PAGE_BYTES + 1);
 
 impl<A: Allocator + Copy> Node<A> {
@@ -103,6 +102,7 @@ impl<A: Allocator + Copy> Node<A> {
     }
 
     /// Makes a step that can be this site's, under a clock that there is.
+    #[tactic(auto, using(crate::proofs::Kept::kept_joins, crate::proofs::Kept::kept_stays))]
     fn make(&mut self, heard: Heard<A>, line: &[u8]) -> Result<Said<A>, AllocError>
         requires proper { is_foreign self.old.sites self.old.me (input_of heard.input) ≡ false }
         requires early { max self.old.clock heard.source < greatest }
@@ -116,36 +116,25 @@ impl<A: Allocator + Copy> Node<A> {
             tag,
             waits,
         } = heard;
-        let waits = self.may_wait(waits);
-        let copy = Vec::from_slice(self.alloc, line)?;
+        let kept = self.line_to_wait(waits, line)?;
         let line = Vec::from_slice(self.alloc, line)?;
         self.waiting.reserve(1)?;
         let clock = self.next_clock(source);
-        let index = self.steps;
-        let Made { answer, sent } = self.site.step_spending(input)?;
-        self.clock = clock;
-        self.steps = index + 1;
+        let made = self.site.step_spending(input)?;
         self.taken = one_more(self.taken);
-        let stays = waits_still(waits, &answer);
-        join(&mut self.waiting, copy, stays);
-        let tag = take_tag(stays, tag, &mut self.caller, &answer);
-        Ok(Said {
-            site: self.me,
-            clock,
-            index,
-            sent,
-            tag,
-            answer,
-            block: None,
-            line,
-        })
+        let stays = join(&mut self.waiting, kept, &made.answer);
+        Ok(self.say(clock, tag, stays, made, line))
     }
 
-    /// Whether an ask that waits finds room to.
-    fn may_wait(&self, waits: bool) -> bool
-        ensures { result ≡ (waits && has_room (node_of self.now)) }
+    /// A copy of the line of an ask that waits, if it finds room to; no other line is copied.
+    fn line_to_wait(&self, waits: bool, line: &[u8]) -> Result<Option<Vec<u8, A>>, AllocError>
+        ensures { IfOk result (λ kept. option_map (λ copy. copy.items) kept ≡ (if (waits && has_room (node_of self.now)) then Some line.now else None)) }
     {
-        waits && self.has_room()
+        if !waits || !self.has_room() {
+            return Ok(None);
+        }
+        let copy = Vec::from_slice(self.alloc, line)?;
+        Ok(Some(copy))
     }
 
     /// Whether one more ask may wait.
@@ -165,23 +154,25 @@ impl<A: Allocator + Copy> Node<A> {
     }
 }
 
-/// Whether an ask that may wait does.
-fn waits_still(waits: bool, answer: &Answer) -> bool
-    ensures { result ≡ (waits && is_open answer.now) }
-{
-    waits && is_open(answer)
-}
-
-/// The ask joins those that wait, if it stays.
+/// An ask whose line was kept joins those that wait, if it was neither made nor refused: then it stays.
 #[tactic(auto, using(crate::proofs::Asks::map_push))]
-fn join<A: Allocator + Copy>(waiting: &mut Vec<WaitingAsk<A>, A>, line: Vec<u8, A>, stays: bool)
+fn join<A: Allocator + Copy>(
+    waiting: &mut Vec<WaitingAsk<A>, A>,
+    kept: Option<Vec<u8, A>>,
+    answer: &Answer,
+) -> bool
     requires { vec_len waiting.old < vec_capacity waiting.old }
-    ensures { map ask_of waiting.new.items ≡ (if stays then map ask_of waiting.old.items ++ Access line.items ∷ [] else map ask_of waiting.old.items) }
+    ensures stays { result ≡ (is_some kept && is_open answer.now) }
+    ensures after { map ask_of waiting.new.items ≡ with_kept (map ask_of waiting.old.items) (option_map (λ line. line.items) kept) (is_open answer.now) }
 {
-    if !stays {
-        return;
+    let Some(line) = kept else {
+        return false;
+    };
+    if !is_open(answer) {
+        return false;
     }
     waiting.push_reserved(WaitingAsk::Access(line));
+    true
 }
 
 /// One more line.

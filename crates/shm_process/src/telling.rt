@@ -26,29 +26,38 @@ impl<A: Allocator + Copy> Said<A> {
         let tag = tag.as_str();
         let text = ToldText {
             answer: self.answer,
-            block: &self.block,
+            block: self.whole_block(),
         };
         let line = format!(in alloc; "tell {site} {tag} {text}")?;
         Ok(Some(line))
+    }
+
+    fn whole_block(&self) -> Option<&[u8]>
+        ensures { option_map (λ bytes. bytes.now) result ≡ option_map (λ bytes. bytes.items) self.now.block }
+    {
+        match &self.block {
+            Some(bytes) => Some(bytes.as_slice()),
+            None => None,
+        }
     }
 }
 
 /// An answer in the script's words, or the bytes of a block.
 #[derive(Clone, Copy)]
-struct ToldText<'a, A: Allocator + Copy> {
+struct ToldText<'a> {
     answer: Answer,
-    block: &'a Option<Vec<u8, A>>,
+    block: Option<&'a [u8]>,
 }
 
-impl<'a, A: Allocator + Copy> fmt::Display for ToldText<'a, A> {
+impl<'a> fmt::Display for ToldText<'a> {
     ghost use Rattle.std.specs.Prelude.{Some, option_map};
     ghost use Rattle.shm_process.specs.Telling.{text_of};
 
-    ghost output = { λ text. Some (text_of text.answer (option_map (λ bytes. bytes.items) text.block.now)) };
+    ghost output = { λ text. Some (text_of text.answer (option_map (λ bytes. bytes.now) text.block)) };
 
     fn fmt<W: fmt::Write>(&self, f: &mut fmt::Formatter<W>) -> fmt::Result {
         match self.block {
-            Some(bytes) => write!(f, "{}", BlockText(bytes.as_slice())),
+            Some(bytes) => write!(f, "{}", BlockText(bytes)),
             None => write!(f, "{}", AnswerText(self.answer)),
         }
     }

@@ -1,11 +1,11 @@
 //! Asks that wait for their right, and are made again.
-ghost use Rattle.std.specs.Prelude.{◌≡◌, ◌<◌, false, true, map, max, option_map, remove, IfNone, IfOk, IfSome, OnErr, OnOk, Some, if◌then◌else◌, vec_len};
+ghost use Rattle.std.specs.Prelude.{◌≡◌, ◌<◌, false, true, map, max, length, option_map, remove, IfNone, IfOk, IfSome, OnErr, OnOk, Some, if◌then◌else◌, vec_len};
 ghost use Rattle.shm_model.specs.Basics.{greatest};
 ghost use Rattle.shm_model.specs.Step.{step};
 ghost use Rattle.shm_parts.specs.Message.{envelope_of};
 ghost use Rattle.shm_process.specs.Access.{is_access, is_waiting};
 ghost use Rattle.shm_process.specs.AskOf.{ask_of};
-ghost use Rattle.shm_process.specs.Blocks.{all_bytes, ask_in, waiting_after, waits_on};
+ghost use Rattle.shm_process.specs.WaitingAsks.{all_bytes, ask_in, goes_on, waiting_after};
 ghost use Rattle.shm_process.specs.Node.{answer_to, heard};
 ghost use Rattle.shm_process.specs.NodeOf.{heard_of, node_of, said_of};
 ghost use Rattle.shm_process.specs.Waiting.{after_again, again_at, can_be_made, made_again, said_again, says_again, says_at, waiting_at};
@@ -15,15 +15,16 @@ ghost use Rattle.shm_site.specs.Step.{input_of, is_foreign};
 use crate::heard::Heard;
 use crate::node::Node;
 use crate::said::Said;
-use crate::stepping::{is_waiting, take_tag};
+use crate::stepping::is_waiting;
 use crate::waiting_ask::WaitingAsk;
 use shm_site::{Answer, Input, Made, Site};
 use std::alloc::{AllocError, Allocator};
 
 impl<A: Allocator + Copy> Node<A> {
     /// Makes one step of the oldest ask that waits and can be made or refused now, or has to ask for its right anew: the access, or a block's
-    /// next load. `None`: there is none.
-    /// Whoever takes lines calls this after each, until there is none. Where memory is refused the node is as before.
+    /// next load. `None`: there is none. Where memory is refused the node is as before.
+    ///
+    /// Whoever takes lines calls this after each, until there is none.
     pub fn again(&mut self) -> Result<Option<Said<A>>, AllocError>
         ensures said { IfOk result (λ said_now. option_map said_of said_now ≡ said_again (node_of self.old)) }
         ensures after { OnOk result (node_of self.new ≡ after_again (node_of self.old)) }
@@ -40,11 +41,14 @@ impl<A: Allocator + Copy> Node<A> {
     /// Makes the ask at this place, unless it only waits for what was asked already.
     fn make_at(&mut self, at: usize) -> Result<Option<Said<A>>, AllocError>
         requires { at < vec_len self.old.waiting }
-        ensures none { IfOk result (λ said. IfNone said ((can_be_made (node_of self.old) (heard (node_of self.old) (waiting_at (node_of self.old) at)) ≡ false) × (node_of self.new ≡ node_of self.old))) }
+        ensures none { IfOk result (λ said. IfNone said ((can_be_made (node_of self.old) (heard (node_of self.old) (waiting_at (node_of self.old) at))
+            ≡ false) × (node_of self.new ≡ node_of self.old))) }
         ensures count { IfOk result (λ said. IfNone said (vec_len self.new.waiting ≡ vec_len self.old.waiting)) }
-        ensures can { IfOk result (λ said. IfSome said (λ s. can_be_made (node_of self.old) (heard (node_of self.old) (waiting_at (node_of self.old) at)) ≡ true)) }
+        ensures can { IfOk result (λ said. IfSome said (λ s. can_be_made (node_of self.old) (heard (node_of self.old) (waiting_at (node_of self.old) at))
+            ≡ true)) }
         ensures said { IfOk result (λ said. IfSome said (λ s. Some (said_of s) ≡ says_at (node_of self.old) at)) }
-        ensures after { IfOk result (λ said. IfSome said (λ s. node_of self.new ≡ again_at (node_of self.old) at (heard (node_of self.old) (waiting_at (node_of self.old) at)))) }
+        ensures after { IfOk result (λ said. IfSome said (λ s. node_of self.new
+            ≡ again_at (node_of self.old) at (heard (node_of self.old) (waiting_at (node_of self.old) at)))) }
         ensures refused { OnErr result (node_of self.new ≡ node_of self.old) }
     {
         let line = self.line_at(at)?;
@@ -57,6 +61,7 @@ impl<A: Allocator + Copy> Node<A> {
         self.try_at(at, heard, line)
     }
 
+    /// The line that makes the next step of the ask at this place.
     #[tactic(auto, using(crate::proofs::Asks::map_read))]
     fn line_at(&self, at: usize) -> Result<Vec<u8, A>, AllocError>
         requires { at < vec_len self.now.waiting }
@@ -65,7 +70,8 @@ impl<A: Allocator + Copy> Node<A> {
         self.waiting[at].next_line(self.alloc, self.me)
     }
 
-    /// Makes an access that waits at this place, unless it only waits for what was asked already.
+    /// Makes the access that the ask at this place comes to next, an ask's own or a block's next load, unless it only waits for what was
+    /// asked already.
     fn try_at(
         &mut self,
         at: usize,
@@ -91,26 +97,14 @@ impl<A: Allocator + Copy> Node<A> {
             waits: _,
         } = heard;
         let clock = self.next_clock(source);
-        let index = self.steps;
-        let Made { answer, sent } = step_access(&mut self.site, input)?;
-        if is_waiting(&answer) {
+        let made = step_access(&mut self.site, input)?;
+        if is_waiting(&made.answer) {
             return Ok(None);
         }
-        self.clock = clock;
-        self.steps = index + 1;
-        let stays = waits_on_at(&self.waiting, at, &answer);
-        let block = go_on_or_end(&mut self.waiting, at, stays, &answer);
-        let tag = take_tag(stays, tag, &mut self.caller, &answer);
-        Ok(Some(Said {
-            site: self.me,
-            clock,
-            index,
-            sent,
-            tag,
-            answer,
-            block,
-            line,
-        }))
+        let stays = goes_on_at(self.waiting.as_slice(), at, &made.answer);
+        let block = go_on_or_end(&mut self.waiting, at, stays, &made.answer);
+        let said = self.say(clock, tag, stays, made, line);
+        Ok(Some(Said { block, ..said }))
     }
 }
 
@@ -120,7 +114,8 @@ fn step_access<A: Allocator + Copy>(
     input: Input<A>,
 ) -> Result<Made<A>, AllocError>
     requires { is_access (input_of input) ≡ true }
-    ensures step { IfOk result (λ made. step site.old.sites site.old.me (site_of site.old) (input_of input) ≡ stepped site.new made.answer (map envelope_of made.sent.items)) }
+    ensures step { IfOk result (λ made. step site.old.sites site.old.me (site_of site.old) (input_of input)
+        ≡ stepped site.new made.answer (map envelope_of made.sent.items)) }
     ensures still { IfOk result (λ made. is_waiting made.answer ≡ true → site_of site.new ≡ site_of site.old) }
     ensures refused { OnErr result (site_of site.new ≡ site_of site.old) }
     ensures seat { SameSeat site.old site.new }
@@ -130,15 +125,11 @@ fn step_access<A: Allocator + Copy>(
 
 /// Whether the ask at this place goes on waiting.
 #[tactic(auto, using(crate::proofs::Asks::map_read))]
-fn waits_on_at<A: Allocator + Copy>(
-    waiting: &Vec<WaitingAsk<A>, A>,
-    at: usize,
-    answer: &Answer,
-) -> bool
-    requires { at < vec_len waiting.now }
-    ensures { result ≡ waits_on (ask_in (map ask_of waiting.now.items) at) answer.now }
+fn goes_on_at<A: Allocator + Copy>(waiting: &[WaitingAsk<A>], at: usize, answer: &Answer) -> bool
+    requires { at < length waiting.now }
+    ensures { result ≡ goes_on (ask_in (map ask_of waiting.now) at) answer.now }
 {
-    waiting[at].waits_on(answer)
+    waiting[at].goes_on(answer)
 }
 
 /// The ask at this place goes on waiting, or leaves those that wait; it has all bytes of a block, if this is the last of them.
@@ -150,7 +141,7 @@ fn go_on_or_end<A: Allocator + Copy>(
     answer: &Answer,
 ) -> Option<Vec<u8, A>>
     requires at { at < vec_len waiting.old }
-    requires stays { stays ≡ waits_on (ask_in (map ask_of waiting.old.items) at) answer.now }
+    requires stays { stays ≡ goes_on (ask_in (map ask_of waiting.old.items) at) answer.now }
     ensures after { map ask_of waiting.new.items ≡ waiting_after (map ask_of waiting.old.items) at answer.now }
     ensures whole { option_map (λ bytes. bytes.items) result ≡ all_bytes (ask_in (map ask_of waiting.old.items) at) answer.now }
 {

@@ -15,7 +15,7 @@ pub(crate) enum WaitingAsk<A: Allocator + Copy = Global> {
 impl<A: Allocator + Copy> WaitingAsk<A> {
     ghost use Rattle.std.specs.Prelude.{◌≡◌, false, true, option_map, IfOk};
     ghost use Rattle.shm_process.specs.AskOf.{ask_of};
-    ghost use Rattle.shm_process.specs.Blocks.{after_answer, all_bytes, next_line, waits_on};
+    ghost use Rattle.shm_process.specs.WaitingAsks.{after_answer, all_bytes, goes_on, next_line};
 
     /// The line that makes its next step.
     pub(crate) fn next_line(&self, alloc: A, site: SiteId) -> Result<Vec<u8, A>, AllocError>
@@ -28,8 +28,8 @@ impl<A: Allocator + Copy> WaitingAsk<A> {
     }
 
     /// Whether it goes on waiting when its step is answered so.
-    pub(crate) fn waits_on(&self, answer: &Answer) -> bool
-        ensures { result ≡ waits_on (ask_of self.now) answer.now }
+    pub(crate) fn goes_on(&self, answer: &Answer) -> bool
+        ensures { result ≡ goes_on (ask_of self.now) answer.now }
     {
         match self {
             WaitingAsk::Access(_) => is_open(answer),
@@ -39,7 +39,7 @@ impl<A: Allocator + Copy> WaitingAsk<A> {
 
     /// It goes on waiting after this answer.
     pub(crate) fn go_on(&mut self, answer: &Answer)
-        requires { waits_on (ask_of self.old) answer.now ≡ true }
+        requires { goes_on (ask_of self.old) answer.now ≡ true }
         ensures { ask_of self.new ≡ after_answer (ask_of self.old) answer.now }
     {
         match self {
@@ -50,7 +50,7 @@ impl<A: Allocator + Copy> WaitingAsk<A> {
 
     /// It ends with this answer: all bytes of a block, if this is the last of them.
     pub(crate) fn end(self, answer: &Answer) -> Option<Vec<u8, A>>
-        requires { waits_on (ask_of self) answer.now ≡ false }
+        requires { goes_on (ask_of self) answer.now ≡ false }
         ensures { option_map (λ bytes. bytes.items) result ≡ all_bytes (ask_of self) answer.now }
     {
         match self {

@@ -2,8 +2,7 @@ use Rattle.std.proofs.Common.{rules, ◌≡◌, Some, ◌∷◌, [], ap, sym, �
 use Rattle.std.specs.Prelude.{codes}
 use Rattle.std.specs.Option.{option_map_or}
 use Rattle.std.proofs.lemmas.Slice.Eq.{bytes_eq-Decides}
-use Rattle.shm_lines.specs.Words.{words_of}
-use Rattle.shm_wire.specs.Words.{wide_of}
+use Rattle.shm_lines.specs.Words.{words_of, wide_of}
 use Rattle.shm_journal.proofs.EntryWords.{entry-read}
 use Rattle.shm_journal.proofs.parsing.parse_entry.Goals as goal
 

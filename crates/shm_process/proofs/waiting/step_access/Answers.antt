@@ -3,8 +3,11 @@ use Rattle.shm_parts.specs.Message.{envelope_of}
 use Rattle.std.proofs.lemmas.Result.{IfOk-weaker}
 use Rattle.shm_site.specs.Site.{site_of}
 use Rattle.shm_site.specs.Step.{input_of}
-use Rattle.shm_process.proofs.Still.{still_after}
+use Rattle.shm_process.proofs.Still.{own_access, still_after}
 use Rattle.shm_process.proofs.waiting.step_access.Goals as goal
+
+pub step_spending-requires : goal.step_spending-requires
+step_spending-requires g c = own_access c.args.site.now.sites c.args.site.now.me (input_of c.args.input) c.requires
 
 pub returns-clause-still : goal.returns-clause-still
 returns-clause-still g c =

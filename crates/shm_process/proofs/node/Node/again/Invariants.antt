@@ -1,6 +1,6 @@
 use Rattle.std.proofs.Common.{◌≡◌, drop, vec_len}
 use Rattle.std.specs.List.{position_from}
-use Rattle.shm_process.specs.Blocks.{next_line}
+use Rattle.shm_process.specs.WaitingAsks.{next_line}
 use Rattle.shm_process.specs.Node.{heard}
 use Rattle.shm_process.specs.NodeOf.{node_of}
 use Rattle.shm_process.specs.Waiting.{can_be_made, ready}
