@@ -10,7 +10,8 @@ use Rattle.shm_place.specs.declared.page.PageId.{PageId}
 use Rattle.shm_model.specs.declared.event.Event.{Event}
 use Rattle.shm_model.specs.declared.event.Event.TheVariants.{Load, Store, Begin, Tick, Restart, Deliver, Repeat, Lose}
 use Rattle.shm_model.specs.Message.{Envelope}
-use Rattle.shm_model.specs.World.{Opening, Run, World, begun, extended, live, next, opened, run, run_on}
+use Rattle.shm_model.specs.World.{Opening, World, live, next, opened, run}
+use Rattle.shm_world.proofs.Runs.{run-then}
 use Rattle.shm_draw.specs.Arrows.{IsWayOf, Passes, SentBy, scene_of}
 use Rattle.shm_draw.specs.Picture.{Scene, arrow, first_scene, is_drawn, last_scene, live_way, mark, on_their_way, origins_after, page_of, passed, scene_after, way, word_of}
 use Rattle.shm_draw.specs.declared.mark.End.{End}
@@ -21,13 +22,6 @@ use Rattle.shm_draw.specs.declared.mark.Way.{Way}
 use Rattle.shm_draw.proofs.Senders.{from-at, next-sends}
 
 -- ---- one event more
-
-run_on-push : (r : Run) (events : List Event) (e : Event) → run_on r (events ++ e ∷ []) ≡ extended (run_on r events) (next (run_on r events).world e)
-run_on-push r [] e = refl
-run_on-push r (x ∷ events) e = run_on-push (extended r (next r.world x)) events e
-
-pub world_after : (o : Opening) (events : List Event) (e : Event) → (run o (events ++ e ∷ [])).world ≡ (next (run o events).world e).world
-world_after o events e = ap (λ (r : Run). r.world) (run_on-push (begun o) events e)
 
 pub last_scene-append : (s : Scene) (earlier later : List Event) → last_scene s (earlier ++ later) ≡ last_scene (last_scene s earlier) later
 last_scene-append s [] later = refl
@@ -90,7 +84,7 @@ traced_next o events s e t =
     let now = s.origins ++ replicate (length (next s.world e).world.sent - length s.origins) s.number in
     let many : length (next s.world e).world.sent ≡ length s.world.sent + length m.more = ap length m.sent ∙ length-append s.world.sent m.more in
     record {
-      world = ap (λ (v : World). (next v e).world) t.world ∙ sym (world_after o events e);
+      world = ap (λ (v : World). (next v e).world) t.world ∙ sym (run-then o events (e ∷ []));
       number = omega (arith, t.number, length-append events (e ∷ []));
       counted = omega (arith, length-append s.origins rep, length-replicate d s.number, many, t.counted);
       origins = λ k sent h.

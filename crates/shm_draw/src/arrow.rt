@@ -7,6 +7,7 @@ use crate::mark::{End, Way};
 use crate::word::name_of;
 use shm_debug::AnswerText;
 use shm_model::Answer;
+use shm_place::SiteId;
 use std::alloc::{AllocError, Allocator};
 
 /// Tells the arrow that ends at this height, and what was answered there.
@@ -79,7 +80,7 @@ fn tell_aside<A: Allocator + Copy>(
     ensures { OnOk result (string_bytes out.new ≡ string_bytes out.old ++ Svg.aside_text way.now end y) }
 {
     let tip = tip_of(way.from, way.to, end);
-    if way.to < way.from {
+    if way.to.0 < way.from.0 {
         return write!(
             out,
             "</text><text class='t' x='{tip}' y='{y}' dy='4' dx='24'>"
@@ -133,13 +134,13 @@ fn end_text(end: End) -> &'static str
     }
 }
 
-fn side_of(from: u32, to: u32) -> &'static str
+fn side_of(from: SiteId, to: SiteId) -> &'static str
     ensures { result.now ≡ Svg.side_text from to }
 {
-    if from < to {
+    if from.0 < to.0 {
         return "dx='12'";
     }
-    if to < from {
+    if to.0 < from.0 {
         return "dx='-12' text-anchor='end'";
     }
     "dx='42'"

@@ -18,16 +18,17 @@ pub(crate) fn tell_names<A: Allocator + Copy>(
     ensures { OnOk result (string_bytes out.new ≡ string_bytes out.old ++ Svg.names_text sites) }
 {
     'sites: for site in 0..sites.count() {
-        tell_name(out, site)?;
+        tell_name(out, SiteId(site))?;
     }
     Ok(())
 }
 
-fn tell_name<A: Allocator + Copy>(out: &mut String<A>, site: u32) -> Result<(), AllocError>
+fn tell_name<A: Allocator + Copy>(out: &mut String<A>, site: SiteId) -> Result<(), AllocError>
     ensures { OnOk result (string_bytes out.new ≡ string_bytes out.old ++ Svg.name_text site) }
 {
     let x = x_of(site);
-    write!(out, "<text class='s' x='{x}' y='70'>site {site}</text>\n")
+    let number = site.0;
+    write!(out, "<text class='s' x='{x}' y='70'>site {number}</text>\n")
 }
 
 /// Tells what each site has of the page from this row on.
@@ -41,7 +42,7 @@ pub(crate) fn tell_cells<A: Allocator + Copy>(
 {
     let place = &page;
     'sites: for site in 0..world.sites().count() {
-        tell_cell(out, number, site, world.shown(SiteId(site), *place))?;
+        tell_cell(out, number, SiteId(site), world.shown(SiteId(site), *place))?;
     }
     Ok(())
 }
@@ -49,7 +50,7 @@ pub(crate) fn tell_cells<A: Allocator + Copy>(
 fn tell_cell<A: Allocator + Copy>(
     out: &mut String<A>,
     number: u64,
-    site: u32,
+    site: SiteId,
     shown: Option<Shown>,
 ) -> Result<(), AllocError>
     ensures { OnOk result (string_bytes out.new ≡ string_bytes out.old ++ Svg.cell_text number site shown) }

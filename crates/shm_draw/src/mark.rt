@@ -1,5 +1,6 @@
 //! What an event draws.
 use crate::word::Word;
+use shm_place::SiteId;
 
 /// An envelope's way, as an arrow shows it.
 #[derive(Clone, Copy, Debug, PartialEq, Eq)]
@@ -9,9 +10,9 @@ pub struct Way {
     /// The number of the event that sent it.
     pub origin: u64,
     /// The site that sent it.
-    pub from: u32,
+    pub from: SiteId,
     /// The site that it is for.
-    pub to: u32,
+    pub to: SiteId,
     /// What its message is called.
     pub word: Word,
 }
@@ -19,9 +20,11 @@ pub struct Way {
 /// How an envelope's way ends.
 #[derive(Clone, Copy, Debug, PartialEq, Eq)]
 pub enum End {
+    /// It was handed over.
     HandedOver,
     /// It was handed over, and may be once more.
     Repeated,
+    /// The network lost it.
     Lost,
     /// It is still on its way after the last event.
     OnItsWay,
@@ -39,8 +42,9 @@ pub enum Symbol {
 /// What an event draws.
 #[derive(Clone, Copy, Debug, PartialEq, Eq)]
 pub enum Mark {
-    /// Something at the site of this number.
-    At(u32, Symbol),
+    /// Something at a site.
+    At(SiteId, Symbol),
+    /// The way of the envelope that it hands over or loses, and which of these it does.
     Arrow(Way, End),
     /// Nothing: the envelope is about a page that is not drawn.
     Hidden,

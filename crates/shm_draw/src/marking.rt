@@ -23,11 +23,11 @@ pub(crate) fn mark_of<A: Allocator + Copy>(
     ensures { (w : model.World) → StandsFor world.now w → result ≡ Picture.mark page.now w origins.now event.now }
 {
     match event {
-        Event::Load { site, .. } => Mark::At(site.0, Symbol::Request),
-        Event::Store { site, .. } => Mark::At(site.0, Symbol::Request),
-        Event::Begin { site, .. } => Mark::At(site.0, Symbol::Request),
-        Event::Tick { site } => Mark::At(site.0, Symbol::Tick),
-        Event::Restart { site } => Mark::At(site.0, Symbol::Restart),
+        Event::Load { site, .. } => Mark::At(*site, Symbol::Request),
+        Event::Store { site, .. } => Mark::At(*site, Symbol::Request),
+        Event::Begin { site, .. } => Mark::At(*site, Symbol::Request),
+        Event::Tick { site } => Mark::At(*site, Symbol::Tick),
+        Event::Restart { site } => Mark::At(*site, Symbol::Restart),
         Event::Deliver(number) => numbered_arrow(world, origins, page, *number, End::HandedOver),
         Event::Repeat(number) => numbered_arrow(world, origins, page, *number, End::Repeated),
         Event::Lose(number) => numbered_arrow(world, origins, page, *number, End::Lost),

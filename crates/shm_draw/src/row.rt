@@ -7,6 +7,7 @@ use crate::geometry::{x_of, y_of};
 use crate::mark::{Mark, Symbol};
 use shm_lines::Line;
 use shm_model::{Answer, Event};
+use shm_place::SiteId;
 use std::alloc::{AllocError, Allocator};
 
 /// Tells the event's line in the script of what stands, whose first line is the opening, and the event as a script spells it.
@@ -47,7 +48,7 @@ pub(crate) fn tell_mark<A: Allocator + Copy>(
 fn tell_symbol<A: Allocator + Copy>(
     out: &mut String<A>,
     number: u64,
-    site: u32,
+    site: SiteId,
     symbol: Symbol,
     answer: &Answer,
 ) -> Result<(), AllocError>
@@ -61,7 +62,7 @@ fn tell_symbol<A: Allocator + Copy>(
 fn tell_symbol_head<A: Allocator + Copy>(
     out: &mut String<A>,
     number: u64,
-    site: u32,
+    site: SiteId,
     symbol: Symbol,
 ) -> Result<(), AllocError>
     ensures { OnOk result (string_bytes out.new ≡ string_bytes out.old ++ Svg.symbol_head number site symbol) }

@@ -20,8 +20,8 @@ pub(crate) fn way_of<A: Allocator + Copy>(
     ensures { result ≡ Picture.way page.now origins.now number (envelope_of envelope.now) }
 {
     let word = word_of(&envelope.message);
-    let from = envelope.from.0;
-    let to = envelope.to.0;
+    let from = envelope.from;
+    let to = envelope.to;
     let origin = origin_of(origins, number);
     if !is_drawn(page, page_of(&envelope.message)) {
         return None;

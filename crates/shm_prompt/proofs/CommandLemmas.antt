@@ -1,9 +1,8 @@
 -- What is read as a line of a script.
-use Rattle.std.proofs.Common.{◌≡◌, Option, None, Some, Result, Ok, Err, option_and_then, refl, ap}
+use Rattle.std.proofs.Common.{◌≡◌, Option, None, Some, Ok, Err, option_and_then, refl}
 use Rattle.std.specs.Option.{ok_or}
 use Rattle.shm_lines.specs.declared.line.Line as script
 use Rattle.shm_lines.specs.declared.parse.BadLine.{BadLine}
-use Rattle.shm_prompt.specs.declared.command.Command.{Command}
 use Rattle.shm_prompt.specs.declared.command.Command.TheVariants.{Line}
 
 pub none_scripted : (o : Option script.Line) (e f : BadLine) → Err e ≡ ok_or o f → None ≡ option_and_then (λ line. Some (Line line)) o

@@ -1,3 +1,4 @@
 mod CommandLemmas
 mod DialogLemmas
+mod Passing
 mod SavedLemmas

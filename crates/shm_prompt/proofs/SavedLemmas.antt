@@ -1,17 +1,17 @@
 -- The script of what stands is read as its own lines, and leads to what stands.
-use Rattle.std.proofs.Common.{◌≡◌, ℕ, ◌+◌, ◌<◌, ◌≤◌, ◌==◌, ◌&&◌, Bool, true, false, not, cond, List, [], ◌∷◌, ◌++◌, length, map, take, get_or, All, Option, None, Some, Ok, refl, sym, ap, subst, ◌∙◌, arith, append_assoc, append-nil}
+use Rattle.std.proofs.Common.{◌≡◌, ℕ, ◌+◌, ◌<◌, ◌≤◌, ◌==◌, ◌&&◌, Bool, true, false, not, cond, List, [], ◌∷◌, ◌++◌, length, map, take, get_or, All, None, Some, Ok, refl, sym, ap, subst, ◌∙◌, arith, append_assoc, append-nil}
 use Rattle.std.specs.List.{list_all}
 use Rattle.std.proofs.lemmas.List.Elements.{All-append, All-cons, All-nil, All-head, All-tail}
 use Rattle.std.proofs.lemmas.Bool.Decides.{nat_tests}
 use Rattle.std.proofs.lemmas.List.{map-append, take_all, take_more}
 use Rattle.shm_model.specs.declared.event.Event.{Event}
 use Rattle.shm_model.specs.World.{Opening, New, Preset, Framed}
-use Rattle.shm_lines.specs.Line.{is_first, line_of, may_stand}
+use Rattle.shm_lines.specs.Line.{line_of, may_stand}
 use Rattle.shm_lines.specs.Spelling.{IsLine, spelling}
 use Rattle.shm_lines.specs.declared.line.Line.{Line}
 use Rattle.shm_lines.specs.declared.line.Line.TheVariants.{Event as EventLine}
 use Rattle.shm_debug.specs.Said.{next, standing_after}
-use Rattle.shm_debug.specs.Script.{Script, after, parts_of, placed, read_line, read_on, script_of, whole}
+use Rattle.shm_debug.specs.Script.{Script, after, parts_of, placed, read_line, read_on, script_of}
 use Rattle.shm_debug.specs.Standing.{Standing, standing}
 use Rattle.shm_debug.proofs.PartsLemmas.{NoFeed, parts, parts-feed, read_on-line}
 use Rattle.shm_debug.proofs.ReadingLemmas.{read-within, placed-yes, rest-whole}

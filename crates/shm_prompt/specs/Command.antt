@@ -1,5 +1,5 @@
 -- What may be typed: each line of a script, and the commands of the prompt beside them.
-use Rattle.std.specs.Prelude.{ℕ, if◌then◌else◌, List, codes, Option, None, Some}
+use Rattle.std.specs.Prelude.{ℕ, Bool, true, false, if◌then◌else◌, List, codes, Option, None, Some}
 use Rattle.std.specs.Str.{bytes_eq}
 use Rattle.shm_lines.specs.Line.{line_of}
 use Rattle.shm_lines.specs.Spelling.{IsLine}
@@ -60,6 +60,16 @@ abbrev pub command_of : List ℕ → Option Command
 command_of bytes = do
   (verb, words) ← next_word (words_of bytes)
   command_by bytes verb words
+
+-- whether it ends the session
+abbrev pub is_quit : Option Command → Bool
+is_quit (Some Quit) = true
+is_quit _ = false
+
+-- whether it writes a file
+abbrev pub is_save : Option Command → Bool
+is_save (Some Save) = true
+is_save _ = false
 
 -- a line of a script is one that there is
 abbrev pub IsCommand : Command → Type 0

@@ -1,15 +1,16 @@
 -- What stands in a dialog, what is told to the lines of a script, and what the commands make of it.
-use Rattle.std.specs.Prelude.{◌≡◌, ℕ, ◌+◌, ◌≤◌, Bool, true, false, List, [], ◌∷◌, ◌++◌, codes, length, Option, None, Some}
+use Rattle.std.specs.Prelude.{◌≡◌, ℕ, ◌+◌, ◌≤◌, ◌⊎◌, Bool, true, false, List, [], ◌∷◌, ◌++◌, codes, length, Option, None, Some}
 use Rattle.std.specs.Fmt.{decimal}
 use Rattle.shm_model.specs.declared.event.Event.TheVariants as event
 use Rattle.shm_lines.specs.declared.line.Line.{Line}
 use Rattle.shm_lines.specs.declared.line.Line.TheVariants as line
 use Rattle.shm_debug.specs.Text.{line_text}
-use Rattle.shm_debug.specs.Said.{next, said, said_to_event}
+use Rattle.shm_debug.specs.Said.{next, said}
 use Rattle.shm_debug.specs.Standing.{Standing, with_event, world_of}
 use Rattle.shm_prompt.specs.declared.command.Command.{Command}
 use Rattle.shm_prompt.specs.declared.command.Command.TheVariants as command
-use Rattle.shm_prompt.specs.Running.{IsQuiet}
+use Rattle.shm_prompt.specs.declared.help.TheConstants.{HELP}
+use Rattle.shm_prompt.specs.Running.{AreOldest, FirstFrom, IsAtRest}
 
 -- the number of the last line of the script of what stands: its `sites` line, and a line for each event
 abbrev pub last_line : Option Standing → ℕ
@@ -46,45 +47,89 @@ told_of_deliveries s [] = []
 told_of_deliveries s (k ∷ ks) =
     answered (Some s) (line.Event (event.Deliver k)) ++ told_of_deliveries (with_event s (event.Deliver k)) ks
 
--- at most so many deliveries, and nothing else, lead from what stood to what stands, and each was told
-pub record Deliveries (most : ℕ) (s t : Standing) (old new : List ℕ) : Type 0 where
+-- These deliveries, and nothing else, lead from what stood to what stands, and each was told. Each is that of the oldest envelope on its way.
+pub record Deliveries (s t : Standing) (old new : List ℕ) : Type 0 where
   pub numbers : List ℕ
-  pub within : length numbers ≤ most
+  pub oldest : AreOldest (world_of s) numbers
   pub stands : t ≡ delivered s numbers
   pub told : new ≡ old ++ told_of_deliveries s numbers
+
+-- at most so many deliveries, up to the end: nothing is on its way, or so many were made and something still is
+pub record Delivered (most : ℕ) (s t : Standing) (old new : List ℕ) (quiet : Bool) : Type 0 where
+  pub made : Deliveries s t old new
+  pub within : length made.numbers ≤ most
+  pub none_left : quiet ≡ true → IsAtRest (world_of t)
+  pub some_left : quiet ≡ false → (length made.numbers ≡ most) × ((k : ℕ) × FirstFrom (world_of t) 0 k)
 
 -- what `run` tells at its end: that nothing is on its way, or that it stopped at its bound
 abbrev pub run_end : ℕ → Bool → List ℕ
 run_end most true = codes "nothing is on its way\n"
 run_end most false = codes "stopped at the bound of " ++ (decimal most ++ codes ": more is on its way\n")
 
--- a whole `run`: where it says that nothing is on its way, nothing is
+-- a whole `run`
 pub record Ran (most : ℕ) (s t : Standing) (old new : List ℕ) : Type 0 where
   pub before_end : List ℕ
-  pub deliveries : Deliveries most s t old before_end
   pub quiet : Bool
+  pub deliveries : Delivered most s t old before_end quiet
   pub told : new ≡ before_end ++ run_end most quiet
-  pub none_left : quiet ≡ true → IsQuiet (world_of t)
 
 abbrev pub Runs : ℕ → Option Standing → Option Standing → List ℕ → List ℕ → Type 0
 Runs most None new text text' = (new ≡ None) × (text' ≡ text ++ not_begun)
 Runs most (Some s) None text text' = ⊥
 Runs most (Some s) (Some t) text text' = Ran most s t text text'
 
--- ---- what a command makes of what stands, and what it tells: only a script's line, `undo` and `run` change it, and `undo` is `back 1`;
--- of what the tables tell nothing is said
+-- ---- what a command makes of what stands, and what it tells behind what was told before: only a script's line, `undo` and `run` change
+-- what stands, and `undo` is `back 1`; what the tables tell, and what `save` tells, isn't said
+
+-- something is told
+abbrev pub Tells : List ℕ → List ℕ → Type 0
+Tells text text' = (more : List ℕ) × (text' ≡ text ++ more)
+
+-- something is told of what stands
+abbrev pub TellsOf : Option Standing → List ℕ → List ℕ → Type 0
+TellsOf None text text' = text' ≡ text ++ not_begun
+TellsOf (Some s) text text' = Tells text text'
+
 abbrev pub Obeyed : Option Standing → Command → Option Standing → List ℕ → List ℕ → Type 0
 Obeyed old (command.Line l) new text text' = (new ≡ next old l) × (text' ≡ text ++ said_to old l)
 Obeyed old command.Undo new text text' = (new ≡ next old (line.Back 1)) × (text' ≡ text ++ said_to old (line.Back 1))
 Obeyed old (command.Run most) new text text' = Runs most old new text text'
-Obeyed old command.Flight new text text' = new ≡ old
-Obeyed old command.Sites new text text' = new ≡ old
-Obeyed old command.Segments new text text' = new ≡ old
-Obeyed old command.Help new text text' = new ≡ old
-Obeyed old command.Save new text text' = new ≡ old
+Obeyed old command.Flight new text text' = (new ≡ old) × TellsOf old text text'
+Obeyed old command.Sites new text text' = (new ≡ old) × TellsOf old text text'
+Obeyed old command.Segments new text text' = (new ≡ old) × TellsOf old text text'
+Obeyed old command.Help new text text' = (new ≡ old) × (text' ≡ text ++ HELP.now)
+Obeyed old command.Save new text text' = (new ≡ old) × Tells text text'
 Obeyed old command.Quit new text text' = (new ≡ old) × (text' ≡ text)
 
--- the same of what was typed; a wrong line changes nothing
+-- the same of what was typed; a wrong line changes nothing, and is told something
 abbrev pub ObeyedTyped : Option Standing → Option Command → Option Standing → List ℕ → List ℕ → Type 0
-ObeyedTyped old None new text text' = new ≡ old
+ObeyedTyped old None new text text' = (new ≡ old) × Tells text text'
 ObeyedTyped old (Some command) new text text' = Obeyed old command new text text'
+
+-- ---- what stands where memory was refused
+
+-- a line of a script: what stood, or what stands after it
+abbrev pub Halted : Option Standing → Line → Option Standing → Type 0
+Halted old l new = (new ≡ old) ⊎ (new ≡ next old l)
+
+-- some of a run's deliveries, each of the oldest envelope on its way
+pub record SomeDelivered (most : ℕ) (s t : Standing) : Type 0 where
+  pub numbers : List ℕ
+  pub oldest : AreOldest (world_of s) numbers
+  pub within : length numbers ≤ most
+  pub stands : t ≡ delivered s numbers
+
+abbrev pub HaltedRun : ℕ → Option Standing → Option Standing → Type 0
+HaltedRun most None new = new ≡ None
+HaltedRun most (Some s) None = ⊥
+HaltedRun most (Some s) (Some t) = SomeDelivered most s t
+
+abbrev pub HaltedCommand : Option Standing → Command → Option Standing → Type 0
+HaltedCommand old (command.Line l) new = Halted old l new
+HaltedCommand old command.Undo new = Halted old (line.Back 1) new
+HaltedCommand old (command.Run most) new = HaltedRun most old new
+HaltedCommand old _ new = new ≡ old
+
+abbrev pub HaltedTyped : Option Standing → Option Command → Option Standing → Type 0
+HaltedTyped old None new = new ≡ old
+HaltedTyped old (Some command) new = HaltedCommand old command new

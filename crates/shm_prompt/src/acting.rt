@@ -1,10 +1,10 @@
 //! The lines of scripts: each is acted on as a replay does.
-ghost use Rattle.std.specs.Prelude.{◌≡◌, ◌++◌, Some, OnOk};
+ghost use Rattle.std.specs.Prelude.{◌≡◌, ◌++◌, ◌⊎◌, Some, OnErr, OnOk};
 ghost use Rattle.shm_lines.specs.Spelling.{IsLine};
 ghost use Rattle.shm_lines.specs.declared.line.Line.TheVariants as line;
 ghost use Rattle.shm_debug.specs.Said.{next, next_back};
 ghost use Rattle.shm_debug.specs.Standing.{with_event};
-ghost use Rattle.shm_prompt.specs.Dialog.{answered, said_to};
+ghost use Rattle.shm_prompt.specs.Dialog.{Halted, answered, said_to};
 
 use crate::dialog::Dialog;
 use crate::telling::{last_line, tell_line};
@@ -23,6 +23,7 @@ impl<A: Allocator + Copy> Dialog<A> {
         requires { IsLine line }
         ensures told { OnOk result (out.new.items ≡ out.old.items ++ said_to self.old line) }
         ensures next { OnOk result (self.new ≡ next self.old line) }
+        ensures halted { OnErr result (Halted self.old line self.new) }
     {
         act_on(&mut self.session, self.alloc, line, out)
     }
@@ -37,6 +38,7 @@ fn act_on<A: Allocator + Copy>(
     requires { IsLine line }
     ensures told { OnOk result (out.new.items ≡ out.old.items ++ said_to session.old line) }
     ensures next { OnOk result (session.new ≡ next session.old line) }
+    ensures halted { OnErr result (Halted session.old line session.new) }
 {
     match line {
         Line::Sites(opening) => begin(session, alloc, opening, out),
@@ -65,6 +67,7 @@ fn begin<A: Allocator + Copy>(
     requires { IsLine (line.Sites opening) }
     ensures told { OnOk result (out.new.items ≡ out.old.items ++ said_to session.old (line.Sites opening)) }
     ensures next { OnOk result (session.new ≡ next session.old (line.Sites opening)) }
+    ensures halted { OnErr result (session.new ≡ session.old) }
 {
     let opened = Session::new(alloc, opening)?;
     tell_line(out, 1, b"ready")?;
@@ -81,6 +84,7 @@ pub(crate) fn happen<A: Allocator + Copy>(
 ) -> Result<(), AllocError>
     ensures told { OnOk result (out.new.items ≡ out.old.items ++ answered (Some session.old) (line.Event event)) }
     ensures next { OnOk result (session.new ≡ with_event session.old event) }
+    ensures halted { OnErr result ((session.new ≡ session.old) ⊎ (session.new ≡ with_event session.old event)) }
 {
     let first = session.world().sent();
     let answer = session.apply(event)?;
@@ -110,6 +114,7 @@ fn go_back<A: Allocator + Copy>(
 ) -> Result<(), AllocError>
     ensures told { OnOk result (out.new.items ≡ out.old.items ++ answered (Some session.old) (line.Back count)) }
     ensures next { OnOk result (session.new ≡ next_back session.old count) }
+    ensures halted { OnErr result ((session.new ≡ session.old) ⊎ (session.new ≡ next_back session.old count)) }
 {
     match session.back(count) {
         Ok(left) => {

@@ -9,18 +9,14 @@ use std::io::{Read, Write};
 /// How many bytes are read at once.
 const CHUNK: usize = 4096;
 
-/// What is written before a line is read, where it is wanted.
-const MARK: &[u8] = b"> ";
-
 /// The debugger's session for people at a terminal: reads what is typed, line by line, to the input's end or to `quit`, and answers each.
-/// A wrong line is told, and doesn't end it. With `marks`, `> ` is written before each read.
+/// A wrong line is told, and doesn't end it.
 ///
 /// Before each read all that was told is written, and the writer is flushed; so it is at the end. A line has at most 200 bytes; what
 /// stands after the last line feed is none. Where the reader or the writer answers an error, of whatever kind, it ends, and so it
 /// does where memory is refused.
 pub fn prompt<A: Allocator + Copy, R: Read, W: Write, S: SaveFile>(
     alloc: A,
-    marks: bool,
     reader: &mut R,
     writer: &mut W,
     files: &mut S,
@@ -28,13 +24,9 @@ pub fn prompt<A: Allocator + Copy, R: Read, W: Write, S: SaveFile>(
     let Ok(mut typed) = Typed::new(alloc) else {
         return Err(PromptFault::OutOfMemory);
     };
-    let mark = if marks { MARK } else { b"".as_slice() };
     let mut out = Vec::new(alloc);
     let mut chunk = [0u8; CHUNK];
     'reads: for _ in 0..u64::MAX {
-        if out.extend_from_slice(mark).is_err() {
-            return Err(PromptFault::OutOfMemory);
-        }
         match write_and_flush(&mut out, writer) {
             Ok(()) => {}
             Err(fault) => return Err(fault),

@@ -113,30 +113,29 @@ fn verb_of(kind: Kind) -> &'static str {
     }
 }
 
-/// Whether an envelope that is on its way speaks of this page of a segment.
-pub(crate) fn is_in_flight<A: Allocator + Copy>(world: &World<A>, seg: u32, index: u32) -> bool {
+/// The pages of which the envelopes on their way speak, one for each.
+pub(crate) fn pages_in_flight<A: Allocator + Copy>(
+    alloc: A,
+    world: &World<A>,
+) -> Result<Vec<PageId, A>, AllocError> {
+    let mut pages = Vec::new(alloc);
     'numbers: for number in 0..world.sent() {
-        if speaks_of(world, number, seg, index) {
-            return true;
+        if let Some(page) = page_of(world, number) {
+            pages.push(page)?;
         }
     }
-    false
+    Ok(pages)
 }
 
-fn speaks_of<A: Allocator + Copy>(world: &World<A>, number: u64, seg: u32, index: u32) -> bool {
+/// The page of which the envelope of this number speaks, if it is on its way and speaks of one.
+fn page_of<A: Allocator + Copy>(world: &World<A>, number: u64) -> Option<PageId> {
     match world.envelope(number) {
-        None => false,
-        Some(envelope) => match page_of(&envelope.message) {
-            None => false,
-            Some(page) => page.seg.0 == seg && page.index == index,
-        },
-    }
-}
-
-/// The page that a message speaks of.
-fn page_of<A: Allocator + Copy>(message: &Message<A>) -> Option<PageId> {
-    match message {
-        Message::Of { page, .. } => Some(*page),
+        Some(
+            Envelope {
+                message: Message::Of { page, .. },
+                ..
+            },
+        ) => Some(*page),
         _ => None,
     }
 }

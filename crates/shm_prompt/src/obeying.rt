@@ -1,7 +1,7 @@
 //! What each command makes of what stands, and what is told of it.
-ghost use Rattle.std.specs.Prelude.{◌≡◌, ◌++◌, OnOk};
-ghost use Rattle.shm_prompt.specs.Command.{IsCommand, command_of};
-ghost use Rattle.shm_prompt.specs.Dialog.{Obeyed, ObeyedTyped, Ran, Runs, run_end};
+ghost use Rattle.std.specs.Prelude.{◌≡◌, ◌++◌, Some, false, IfOk, OnErr, OnOk};
+ghost use Rattle.shm_prompt.specs.Command.{IsCommand, command_of, is_quit, is_save};
+ghost use Rattle.shm_prompt.specs.Dialog.{HaltedCommand, HaltedRun, HaltedTyped, Obeyed, ObeyedTyped, Ran, Runs, SomeDelivered, Tells, TellsOf, run_end};
 
 use crate::acting::NOT_BEGUN;
 use crate::command::{Command, parse_command};
@@ -19,22 +19,28 @@ use shm_lines::{Line, Words};
 use std::alloc::{AllocError, Allocator};
 
 impl<A: Allocator + Copy> Dialog<A> {
-    /// Does what was typed, without its line feed. Of a wrong line it is told which word can't be read on, and what was expected there;
-    /// to `quit` nothing is said.
+    /// Does what was typed, without its line feed, and answers whether it was `quit`, to which nothing is said. Of a wrong line it is
+    /// told where it can't be read on, and what was expected there.
     ///
-    /// Of the tables and the hints no clause says what they tell.
+    /// Of the tables and the hints no clause says what they tell, and of `save` which script it writes under which name.
     pub fn obey<S: SaveFile>(
         &mut self,
         typed: &[u8],
         files: &mut S,
         out: &mut Vec<u8, A>,
-    ) -> Result<(), AllocError>
-        ensures { OnOk result (ObeyedTyped self.old (command_of typed.now) self.new out.old.items out.new.items) }
+    ) -> Result<bool, AllocError>
+        ensures obeyed { OnOk result (ObeyedTyped self.old (command_of typed.now) self.new out.old.items out.new.items) }
+        ensures quits { IfOk result (λ quits. quits ≡ is_quit (command_of typed.now)) }
+        ensures halted { OnErr result (HaltedTyped self.old (command_of typed.now) self.new) }
+        ensures unsaved { is_save (command_of typed.now) ≡ false → files.new ≡ files.old }
     {
-        match parse_command(typed) {
-            None => tell_hint(out, typed),
-            Some(command) => self.carry_out(command, typed, files, out),
-        }
+        let Some(command) = parse_command(typed) else {
+            tell_hint(out, typed)?;
+            return Ok(false);
+        };
+        let quits = ends(&command);
+        self.carry_out(command, typed, files, out)?;
+        Ok(quits)
     }
 
     fn carry_out<S: SaveFile>(
@@ -45,7 +51,9 @@ impl<A: Allocator + Copy> Dialog<A> {
         out: &mut Vec<u8, A>,
     ) -> Result<(), AllocError>
         requires { IsCommand command }
-        ensures { OnOk result (Obeyed self.old command self.new out.old.items out.new.items) }
+        ensures obeyed { OnOk result (Obeyed self.old command self.new out.old.items out.new.items) }
+        ensures halted { OnErr result (HaltedCommand self.old command self.new) }
+        ensures unsaved { is_save (Some command) ≡ false → files.new ≡ files.old }
     {
         match command {
             Command::Line(line) => self.act(line, out),
@@ -61,7 +69,8 @@ impl<A: Allocator + Copy> Dialog<A> {
     }
 
     fn run(&mut self, most: u32, out: &mut Vec<u8, A>) -> Result<(), AllocError>
-        ensures { OnOk result (Runs most self.old self.new out.old.items out.new.items) }
+        ensures runs { OnOk result (Runs most self.old self.new out.old.items out.new.items) }
+        ensures halted { OnErr result (HaltedRun most self.old self.new) }
     {
         let alloc = self.alloc;
         match &mut self.session {
@@ -70,7 +79,9 @@ impl<A: Allocator + Copy> Dialog<A> {
         }
     }
 
-    fn show(&self, view: View, out: &mut Vec<u8, A>) -> Result<(), AllocError> {
+    fn show(&self, view: View, out: &mut Vec<u8, A>) -> Result<(), AllocError>
+        ensures { OnOk result (TellsOf self.now out.old.items out.new.items) }
+    {
         match &self.session {
             None => out.extend_from_slice(NOT_BEGUN.as_bytes()),
             Some(session) => show_view(session, view, out),
@@ -82,7 +93,9 @@ impl<A: Allocator + Copy> Dialog<A> {
         typed: &[u8],
         files: &mut S,
         out: &mut Vec<u8, A>,
-    ) -> Result<(), AllocError> {
+    ) -> Result<(), AllocError>
+        ensures { OnOk result (Tells out.old.items out.new.items) }
+    {
         let Some(name) = file_name(typed) else {
             return out.extend_from_slice(b"not saved: the file's name is no text\n");
         };
@@ -90,6 +103,16 @@ impl<A: Allocator + Copy> Dialog<A> {
             None => out.extend_from_slice(NOT_BEGUN.as_bytes()),
             Some(session) => save_to(session, self.alloc, name, files, out),
         }
+    }
+}
+
+/// Whether the session ends with it.
+fn ends(command: &Command) -> bool
+    ensures { result ≡ is_quit (Some command.now) }
+{
+    match command {
+        Command::Quit => true,
+        _ => false,
     }
 }
 
@@ -108,7 +131,8 @@ fn run_on<A: Allocator + Copy>(
     most: u32,
     out: &mut Vec<u8, A>,
 ) -> Result<(), AllocError>
-    ensures { OnOk result (Ran most session.old session.new out.old.items out.new.items) }
+    ensures ran { OnOk result (Ran most session.old session.new out.old.items out.new.items) }
+    ensures halted { OnErr result (SomeDelivered most session.old session.new) }
 {
     let quiet = deliver_all(session, alloc, most, out)?;
     end_run(out, most, quiet)?;
@@ -136,7 +160,9 @@ fn show_view<A: Allocator + Copy>(
     session: &Session<A>,
     view: View,
     out: &mut Vec<u8, A>,
-) -> Result<(), AllocError> {
+) -> Result<(), AllocError>
+    ensures { OnOk result (Tells out.old.items out.new.items) }
+{
     let mut text = String::new(*out.allocator());
     match view {
         View::Flight => list_flight(&mut text, session.world())?,
@@ -153,7 +179,9 @@ fn save_to<A: Allocator + Copy, S: SaveFile>(
     name: &str,
     files: &mut S,
     out: &mut Vec<u8, A>,
-) -> Result<(), AllocError> {
+) -> Result<(), AllocError>
+    ensures { OnOk result (Tells out.old.items out.new.items) }
+{
     let text = match saved_script(alloc, session) {
         Err(refusal) => format!(in alloc; "not saved: {refusal}\n")?,
         Ok(script) => match files.save(name, script.as_slice()) {

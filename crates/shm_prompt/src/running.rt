@@ -1,11 +1,9 @@
 //! `run`: the oldest envelope is delivered, again and again.
-ghost use Rattle.std.specs.Prelude.{◌≡◌, true, IfOk, OnOk};
-ghost use Rattle.shm_debug.specs.Standing.{world_of};
-ghost use Rattle.shm_prompt.specs.Dialog.{Deliveries};
-ghost use Rattle.shm_prompt.specs.Running.{IsQuiet};
+ghost use Rattle.std.specs.Prelude.{◌≡◌, true, IfOk, OnErr};
+ghost use Rattle.shm_prompt.specs.Dialog.{Delivered, SomeDelivered};
 
 use crate::acting::happen;
-use crate::quiet::{is_quiet, oldest};
+use crate::quiet::oldest_from;
 use shm_debug::Session;
 use shm_model::Event;
 use std::alloc::{AllocError, Allocator};
@@ -17,16 +15,16 @@ pub(crate) fn deliver_all<A: Allocator + Copy>(
     most: u32,
     out: &mut Vec<u8, A>,
 ) -> Result<bool, AllocError>
-    ensures delivers { OnOk result (Deliveries most session.old session.new out.old.items out.new.items) }
-    ensures quiet { IfOk result (λ quiet. quiet ≡ true → IsQuiet (world_of session.new)) }
+    ensures delivers { IfOk result (λ quiet. Delivered most session.old session.new out.old.items out.new.items quiet) }
+    ensures halted { OnErr result (SomeDelivered most session.old session.new) }
 {
     let mut from = 0;
     'deliveries: for _turn in 0..most {
-        let Some(number) = oldest(session.world(), from) else {
-            return Ok(is_quiet(session.world()));
+        let Some(number) = oldest_from(session.world(), from) else {
+            return Ok(true);
         };
         happen(session, alloc, Event::Deliver(number), out)?;
-        from = number;
+        from = number + 1;
     }
-    Ok(is_quiet(session.world()))
+    Ok(oldest_from(session.world(), from).is_none())
 }

@@ -37,8 +37,10 @@ fn text_of<A: Allocator + Copy>(
     first: Line,
     events: &[Event],
 ) -> Result<Vec<u8, A>, SaveRefusal>
-    ensures text { (s : Standing) → saved.first_line s.opening ≡ first → s.events ≡ events.now → IfOk result (λ bytes. bytes.items ≡ text_of_lines (lines_of s)) }
-    ensures replays { (s : Standing) → saved.first_line s.opening ≡ first → s.events ≡ events.now → length s.events < 100000 → IfOk result (λ bytes. Replays bytes.items s) }
+    ensures text { (s : Standing) → saved.first_line s.opening ≡ first → s.events ≡ events.now
+        → IfOk result (λ bytes. bytes.items ≡ text_of_lines (lines_of s)) }
+    ensures replays { (s : Standing) → saved.first_line s.opening ≡ first → s.events ≡ events.now → length s.events < 100000
+        → IfOk result (λ bytes. Replays bytes.items s) }
 {
     laws::lines_have_one_spelling();
     let mut text = Vec::new(alloc);

@@ -1,7 +1,8 @@
 //! `sites`: a row for each page that was asked for, a column for each site, and the manager's book.
-use crate::flight::is_in_flight;
+use crate::flight::pages_in_flight;
+use shm_keys::Segment;
 use shm_model::{Kind, Shown, State};
-use shm_place::{MAX_SITES, PAGE_BYTES, PAGES, PageId, SegId, SiteId, SiteSet, manager_of};
+use shm_place::{MAX_SITES, PAGE_BYTES, PAGES, PageId, SiteId, SiteSet, manager_of};
 use shm_world::{BookView, World};
 use std::alloc::{AllocError, Allocator};
 
@@ -10,9 +11,10 @@ pub(crate) fn show_pages<A: Allocator + Copy>(
     text: &mut String<A>,
     world: &World<A>,
 ) -> Result<(), AllocError> {
+    let flying = pages_in_flight(*text.allocator(), world)?;
     head(text, world.sites().count())?;
     'homes: for home in 0..world.sites().count() {
-        show_home(text, world, SiteId(home))?;
+        show_home(text, world, flying.as_slice(), SiteId(home))?;
     }
     Ok(())
 }
@@ -30,48 +32,58 @@ fn head<A: Allocator + Copy>(text: &mut String<A>, sites: u32) -> Result<(), All
 fn show_home<A: Allocator + Copy>(
     text: &mut String<A>,
     world: &World<A>,
+    flying: &[PageId],
     home: SiteId,
 ) -> Result<(), AllocError> {
     let Some(site) = world.site(home) else {
         return Ok(());
     };
     'segments: for segment in site.segments() {
-        show_segment(text, world, segment.id.0, segment.size)?;
+        show_segment(text, world, flying, segment)?;
     }
     Ok(())
 }
 
-/// Shows the pages of a segment of so many bytes.
+/// Shows the pages of a segment.
 fn show_segment<A: Allocator + Copy>(
     text: &mut String<A>,
     world: &World<A>,
-    seg: u32,
-    bytes: u32,
+    flying: &[PageId],
+    segment: &Segment,
 ) -> Result<(), AllocError> {
-    let pages = bytes.div_ceil(PAGE_BYTES as u32).min(PAGES);
+    let pages = segment.size.div_ceil(PAGE_BYTES as u32).min(PAGES);
     'pages: for index in 0..pages {
-        if is_touched(world, seg, index) {
-            show_row(text, world, seg, index)?;
-        }
+        let page = PageId {
+            seg: segment.id,
+            index,
+        };
+        show_page(text, world, flying, &page)?;
     }
     Ok(())
 }
 
-/// Whether a right to the page was asked for: its manager has given it, a site has met its number, or an envelope speaks of it.
-fn is_touched<A: Allocator + Copy>(world: &World<A>, seg: u32, index: u32) -> bool {
+/// Shows a page, if a right to it was asked for.
+fn show_page<A: Allocator + Copy>(
+    text: &mut String<A>,
+    world: &World<A>,
+    flying: &[PageId],
+    page: &PageId,
+) -> Result<(), AllocError> {
+    if flying.contains(page) || is_touched(world, page) {
+        return show_row(text, world, page);
+    }
+    Ok(())
+}
+
+/// Whether the page's manager has given a right to it, or a site has met its number. A right was asked for then, as where an envelope
+/// speaks of the page.
+fn is_touched<A: Allocator + Copy>(world: &World<A>, page: &PageId) -> bool {
     'sites: for site in 0..world.sites().count() {
-        if is_met(world.shown(SiteId(site), page_at(seg, index))) {
+        if is_met(world.shown(SiteId(site), *page)) {
             return true;
         }
     }
-    is_begun(world.book(page_at(seg, index))) || is_in_flight(world, seg, index)
-}
-
-fn page_at(seg: u32, index: u32) -> PageId {
-    PageId {
-        seg: SegId(seg),
-        index,
-    }
+    is_begun(world.book(*page))
 }
 
 fn is_met(shown: Option<Shown>) -> bool {
@@ -91,16 +103,14 @@ fn is_begun(book: Option<BookView>) -> bool {
 fn show_row<A: Allocator + Copy>(
     text: &mut String<A>,
     world: &World<A>,
-    seg: u32,
-    index: u32,
+    page: &PageId,
 ) -> Result<(), AllocError> {
-    let name = format!(in *text.allocator(); "{seg} {index}")?;
+    let name = format!(in *text.allocator(); "{} {}", page.seg.0, page.index)?;
     write!(text, "{name:<12}")?;
     'sites: for site in 0..world.sites().count() {
-        show_cell(text, world.shown(SiteId(site), page_at(seg, index)))?;
+        show_cell(text, world.shown(SiteId(site), *page))?;
     }
-    let manager = manager_of(world.sites(), page_at(seg, index));
-    show_manager(text, manager, world.book(page_at(seg, index)))
+    show_manager(text, manager_of(world.sites(), *page), world.book(*page))
 }
 
 /// The state in which a site has the page, and the number that it met last.

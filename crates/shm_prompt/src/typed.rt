@@ -1,5 +1,4 @@
 //! Bytes that are typed, line by line.
-use crate::command::{Command, parse_command};
 use crate::dialog::Dialog;
 use crate::save_file::SaveFile;
 use std::alloc::{AllocError, Allocator};
@@ -75,19 +74,10 @@ impl<A: Allocator + Copy> Typed<A> {
         if self.is_long {
             out.extend_from_slice(b"a line has at most 200 bytes\n")?;
         } else {
-            self.has_quit = is_quit(self.line.as_slice());
-            self.dialog.obey(self.line.as_slice(), files, out)?;
+            self.has_quit = self.dialog.obey(self.line.as_slice(), files, out)?;
         }
         self.is_long = false;
         self.line.clear();
         Ok(())
-    }
-}
-
-/// Whether a line is `quit`.
-fn is_quit(line: &[u8]) -> bool {
-    match parse_command(line) {
-        Some(Command::Quit) => true,
-        _ => false,
     }
 }

@@ -43,18 +43,20 @@ fn count(cell: &Cell<usize>) {
     cell.set(cell.get().saturating_add(1));
 }
 
-/// Gives a line a read. At each read it looks whether the text of the lines that were given was flushed: it has a mark for each read.
+/// Gives a line a read. At each read it looks whether what is told to the lines before was flushed, and no more.
 #[derive(Drop)]
 struct Typing<'a> {
-    rest: &'a [u8],
-    text: &'a [u8],
+    given: usize,
     seen: &'a Seen,
 }
 
 impl Typing<'_> {
     fn look(&self) {
-        let told = up_to_mark(self.text, self.seen.reads.get());
-        if self.seen.flushed.get() != told.len() {
+        let mut told = 0usize;
+        for answer in TOLD.iter().take(self.seen.reads.get()) {
+            told = told.saturating_add(answer.len());
+        }
+        if self.seen.flushed.get() != told {
             count(&self.seen.wrong);
         }
         count(&self.seen.reads);
@@ -64,38 +66,14 @@ impl Typing<'_> {
 impl Read for Typing<'_> {
     fn read(&mut self, buf: &mut [u8]) -> io::Result<usize> {
         self.look();
-        let line = first_line(self.rest).min(buf.len());
-        let count = line.min(self.rest.len());
-        buf[..count].copy_from_slice(&self.rest[..count]);
-        self.rest = &self.rest[count..];
+        let Some(line) = TYPED.get(self.given) else {
+            return Ok(0);
+        };
+        self.given = self.given.saturating_add(1);
+        let count = line.len().min(buf.len());
+        buf[..count].copy_from_slice(&line.as_bytes()[..count]);
         Ok(count)
     }
-}
-
-/// How many bytes the first line has, its line feed among them.
-fn first_line(text: &[u8]) -> usize {
-    for (at, byte) in text.iter().enumerate() {
-        if *byte == b'\n' {
-            return at.saturating_add(1);
-        }
-    }
-    text.len()
-}
-
-/// The text to the end of the mark that follows so many marks. A mark is a `>` before a blank.
-fn up_to_mark(text: &[u8], marks: usize) -> &[u8] {
-    let mut left = marks;
-    let mut before = b' ';
-    for (at, byte) in text.iter().enumerate() {
-        if before == b'>' && *byte == b' ' {
-            if left == 0 {
-                return &text[..=at];
-            }
-            left -= 1;
-        }
-        before = *byte;
-    }
-    text
 }
 
 /// Takes all that is written, and tells at each flush how much that is.
@@ -119,37 +97,49 @@ impl Write for Screen<'_> {
     }
 }
 
-const TYPED: &[u8] =
-    b"load 1 0 0\nsites 2 preset 1\nload 1 0 0\nflight\nloud\nstore 0 0 x 1\nrun 1\nrun\nsites\nsegments\nundo\nquit\n";
+const TYPED: [&str; 13] = [
+    "load 1 0 0\n",
+    "sites 2 preset 1\n",
+    "load 1 0 0\n",
+    "flight\n",
+    "loud\n",
+    "store 0 0 x 1\n",
+    "run 01\n",
+    "run 1\n",
+    "run\n",
+    "sites\n",
+    "segments\n",
+    "undo\n",
+    "quit\n",
+];
 
-const TOLD: &str = "> no sites stand yet: begin with a line as sites 2 preset 1
-> 1 ready
-> 2 fault m0>0:Ask
-> m0 1>0 Ask page 0 0 request 1 to read
-> word 1, `loud`: expected a command; `help` lists them
-> word 4, `x`: expected the offset, a number from 0 to 4294967295
-> 3 took m1>0:Hand
-stopped at the bound of 1: more is on its way
-> 4 took m2>1:Page
-5 took m3>0:Confirm
-6 took
-nothing is on its way
-> page        site 0        site 1        manager
-0 0         OwnRead/1     Copy/1        0: owner 0 copies 1 t 1 idle
-> key        shmid      owner      perms      bytes      nattch     status
-0x00000000 0          0          666        4096       2          \n> 5 back 4\n> ";
+/// What is told to each of these lines.
+const TOLD: [&str; 13] = [
+    "no sites stand yet: begin with a line as sites 2 preset 1\n",
+    "1 ready\n",
+    "2 fault m0>0:Ask\n",
+    "m0 1>0 Ask page 0 0 request 1 to read\n",
+    "expected a command: `help` lists them\n",
+    "store 0 0 x 1\n          ^ an offset: digits, with no zero before others\n",
+    "expected: run, or run N with N from 0 to 4294967295, with no zero before other digits\n",
+    "3 took m1>0:Hand\nstopped at the bound of 1: more is on its way\n",
+    "4 took m2>1:Page\n5 took m3>0:Confirm\n6 took\nnothing is on its way\n",
+    "page        site 0        site 1        manager\n0 0         OwnRead/1     Copy/1        0: owner 0 copies 1 t 1 idle\n",
+    "key        shmid      owner      perms      bytes      nattch     status\n0x00000000 0          0          666        4096       2          \n",
+    "5 back 4\n",
+    "",
+];
 
 /// Each answer is written and flushed before the next line is read, and no more than it.
 #[test]
-fn each_line_is_answered_before_the_next(rt: HostRuntime) {
+fn each_line_is_answered_before_the_next(rt: HostRuntime) -> Result<(), Fail> {
     let seen = Seen {
         flushed: Cell::new(0),
         reads: Cell::new(0),
         wrong: Cell::new(0),
     };
     let mut reader = Typing {
-        rest: TYPED,
-        text: TOLD.as_bytes(),
+        given: 0,
         seen: &seen,
     };
     let mut writer = Screen {
@@ -157,11 +147,22 @@ fn each_line_is_answered_before_the_next(rt: HostRuntime) {
         seen: &seen,
     };
     let mut files = empty_shelf(rt.alloc());
-    let result = prompt(rt.alloc(), true, &mut reader, &mut writer, &mut files);
+    let result = prompt(rt.alloc(), &mut reader, &mut writer, &mut files);
     assert_eq!(rt; result, Ok(()));
-    assert_eq!(rt; std::str::from_utf8(writer.text.as_slice()), Ok(TOLD));
+    assert_eq!(rt; writer.text.as_slice(), TOLD.concat(rt.alloc())?.as_bytes());
     assert_eq!(rt; seen.wrong.get(), 0);
-    assert_eq!(rt; seen.reads.get(), 12);
+    assert_eq!(rt; seen.reads.get(), 13);
+    Ok(())
+}
+
+/// A byte that no terminal should be told is shown as a question mark.
+#[test]
+fn bytes_that_are_no_text_are_not_told(rt: HostRuntime) {
+    let (result, text, _files) = typed(rt.alloc(), b"load 01 \x1b[2J\xff\n\x1b[2J\n");
+    assert_eq!(rt; result, Ok(()));
+    let told = b"load 01 ?[2J?\n      ^ a site's number: digits, with no zero before others\n\
+expected a command: `help` lists them\n";
+    assert_eq!(rt; text.as_slice(), told.as_slice());
 }
 
 /// What is answered to bytes that are typed at once, and what is saved.
@@ -169,7 +170,7 @@ fn typed(alloc: Global, bytes: &[u8]) -> (Result<(), PromptFault>, Vec<u8>, Shel
     let mut reader = bytes;
     let mut text = Vec::new(alloc);
     let mut files = empty_shelf(alloc);
-    let result = prompt(alloc, false, &mut reader, &mut text, &mut files);
+    let result = prompt(alloc, &mut reader, &mut text, &mut files);
     (result, text, files)
 }
 
@@ -215,7 +216,7 @@ fn one_call_of_a_dialog_fails(rt: HostRuntime) -> Result<(), Fail> {
         };
         let mut reader = b"sites 2\n".as_slice();
         let mut files = empty_shelf(rt.alloc());
-        let result = prompt(rt.alloc(), false, &mut reader, &mut writer, &mut files);
+        let result = prompt(rt.alloc(), &mut reader, &mut writer, &mut files);
         assert_eq!(rt; result, Err(PromptFault::WriteFault));
         assert_eq!(rt;
             writer.text.as_slice(),
@@ -230,7 +231,7 @@ fn one_call_of_a_dialog_fails(rt: HostRuntime) -> Result<(), Fail> {
         };
         let mut text = Vec::new(rt.alloc());
         let mut files = empty_shelf(rt.alloc());
-        let result = prompt(rt.alloc(), false, &mut reader, &mut text, &mut files);
+        let result = prompt(rt.alloc(), &mut reader, &mut text, &mut files);
         assert_eq!(rt; result, Err(PromptFault::ReadFault));
     }
     Ok(())
@@ -240,7 +241,7 @@ fn one_call_of_a_dialog_fails(rt: HostRuntime) -> Result<(), Fail> {
 #[test]
 fn a_dialog_runs_out_of_memory(rt: HostRuntime) -> Result<(), Fail> {
     let bytes =
-        b"sites 2 preset 1\nload 1 0 0\nflight\nrun\nsites\nsegments\nloud\nundo\nhelp\n".as_slice();
+        b"sites 2 preset 1\nload 1 0 0\nflight\nrun\nsites\nsegments\nloud\nload 01\nrun 01\nundo\nhelp\n".as_slice();
     let (whole, text, _files) = typed(rt.alloc(), bytes);
     assert_eq!(rt; whole, Ok(()));
     let mut done = false;
@@ -249,7 +250,7 @@ fn a_dialog_runs_out_of_memory(rt: HostRuntime) -> Result<(), Fail> {
         let mut reader = bytes;
         let mut told = Vec::new(rt.alloc());
         let mut files = empty_shelf(rt.alloc());
-        let result = prompt(&heap, false, &mut reader, &mut told, &mut files);
+        let result = prompt(&heap, &mut reader, &mut told, &mut files);
         if result.is_ok() {
             assert!(rt; told.as_slice() == text.as_slice());
             done = true;

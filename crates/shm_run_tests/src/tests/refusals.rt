@@ -1,5 +1,5 @@
 //! The one table of refusals: what each fault is told by.
-use shm_attach::{BeginFault, Denied};
+use shm_attach::Denied;
 use shm_debug::{BackFault, DebugFault};
 use shm_keys::GetFault;
 use shm_lines::WorkloadFault;
@@ -40,11 +40,9 @@ fn the_errors_of_the_system(rt: HostRuntime) {
 /// What a site, a world, a box and a session refuse.
 #[test]
 fn what_is_refused_to_an_event(rt: HostRuntime) {
-    assert_eq!(rt; BeginFault::Busy.number(), 8);
     assert_eq!(rt; Denied::NoAttachment.number(), 9);
     assert_eq!(rt; Denied::ReadOnly.number(), 10);
     assert_eq!(rt; Denied::OutOfSegment.number(), 11);
-    assert_eq!(rt; BeginFault::UsedUp.number(), 13);
     assert_eq!(rt; UsedUp.number(), 13);
     assert_eq!(rt; NoSuchSite.number(), 14);
     assert_eq!(rt; StepFault::Foreign.number(), 16);

@@ -1,6 +1,7 @@
-use Rattle.std.proofs.Common.{◌+◌, arith, drop, string_bytes}
+use Rattle.std.proofs.Common.{◌≡◌, ◌∙◌, ◌∷◌, ◌+◌, ap, arith, drop, string_bytes, sym}
 use Rattle.std.proofs.lemmas.List.{drop_more}
 use Rattle.shm_draw.specs.Svg.{flying_text}
+use Rattle.shm_draw.specs.declared.mark.Way.{Way}
 use Rattle.shm_draw.proofs.Numbered.{flying_at}
 use Rattle.shm_draw.proofs.on_their_way.tell_on_their_way.Goals as goal
 
@@ -8,5 +9,8 @@ pub ways-preserved : goal.ways-preserved
 ways-preserved g c =
     let ways = c.args.ways.now in
     let index = c.ways.index in
+    let way : Way = c.index-ways-index.result in
+    let dropped : drop c.ways.index ways ≡ way ∷ drop (c.ways.index + 1) ways =
+    drop_more ways index way (omega (arith, c.ways-test.true)) ∙ ap (λ x. x ∷ drop (c.ways.index + 1) ways) (sym c.index-ways-index.is) in
     flying_at c.args.last index c.y_below.result (string_bytes c.args.out.now) (string_bytes c.ways.out) (string_bytes c.tell_arrow.new.out) (drop index ways) (drop (index + 1) ways)
-    _ (flying_text c.args.last 1 ways) c.y_below.ensures c.in_ok-tell_arrow.ensures c.ways.invariant (drop_more ways index _ (omega (arith, c.ways-test.true)))
+    way (flying_text c.args.last 1 ways) c.y_below.ensures c.in_ok-tell_arrow.ensures c.ways.invariant dropped
