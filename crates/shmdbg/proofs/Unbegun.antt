@@ -14,5 +14,6 @@ unbegun kept header fault.OutOfMemory r w h = did_nothing r w
 unbegun kept header fault.Unopened r w h = did_nothing r w
 unbegun kept header fault.Taken r w h = did_nothing r w
 unbegun kept header fault.Uncut r w h = did_nothing r w
+unbegun kept header fault.Unlisted r w h = did_nothing r w
 unbegun kept header (fault.Unrecovered why) r w h = did_nothing r w
 unbegun kept header (fault.Unopenable why) r w h = did_nothing r w

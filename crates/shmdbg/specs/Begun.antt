@@ -1,10 +1,13 @@
 -- The desk that a site's process begins with.
-use Rattle.std.specs.Prelude.{◌≡◌, ℕ, Bool, false, true, List}
+use Rattle.std.specs.Prelude.{◌≡◌, ℕ, Bool, false, true, List, Option}
 use Rattle.shm_journal.specs.Found.{Sound, found, is_empty, lines_of}
 use Rattle.shm_journal.specs.Lines.{Header}
 use Rattle.shm_journal.specs.DeskFrom.{desk_from}
+use Rattle.shm_journal.specs.Recovers.{ReadsAll, ReadsUpTo}
 use Rattle.shm_process.specs.Desk.{Desk, desk_at}
 use Rattle.shm_process.specs.Node.{Node, new_node}
+use Rattle.shmdbg.specs.declared.site_fault.SiteFault.{SiteFault}
+use Rattle.shmdbg.specs.declared.site_fault.SiteFault.TheVariants as fault
 
 -- whose journal it is
 abbrev pub header_at : ℕ → ℕ → ℕ → Header
@@ -20,3 +23,14 @@ pub record BeginsKept (header : Header) (file : List ℕ) (desk : Desk) : Type 0
 abbrev pub BeginsWith : Bool → Header → Desk → Type 0
 BeginsWith false header desk = desk ≡ desk_at (new_node header.sites header.me header.pages)
 BeginsWith true header desk = (file : List ℕ) × BeginsKept header file desk
+
+-- what was read of the journal where its site can't begin: up to the journal's fault, or all of it
+abbrev pub ReadsUnbegun : Header → Option (List ℕ) → Option (List ℕ) → SiteFault → Type 0
+ReadsUnbegun header old new (fault.Unrecovered why) = ReadsUpTo header old new why
+ReadsUnbegun header old new fault.OutOfMemory = ReadsAll old new
+ReadsUnbegun header old new fault.Unopened = ReadsAll old new
+ReadsUnbegun header old new fault.Taken = ReadsAll old new
+ReadsUnbegun header old new fault.Uncut = ReadsAll old new
+ReadsUnbegun header old new fault.Unlisted = ReadsAll old new
+ReadsUnbegun header old new (fault.Unopenable why) = ReadsAll old new
+ReadsUnbegun header old new (fault.Ended why) = ReadsAll old new

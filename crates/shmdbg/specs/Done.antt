@@ -11,10 +11,14 @@ use Rattle.shmdbg.specs.Words.{AskFor}
 use Rattle.shmdbg.specs.declared.words.task.Task.{Task}
 use Rattle.shmdbg.specs.declared.words.task.Task.TheVariants.{Replay, Run, Prompt, Draw, Site, Audit}
 
+-- A run of a workload failed; or the logs that were wanted couldn't be made ready, and nothing was done.
+abbrev pub IsUnrun : ℕ → Bool → ℕ → Around → Around → Type 0
+IsUnrun sites summed status old new = Fails sites summed old.remaining status old.contents new.contents ⊎ ((status ≡ 3) × Did old new [])
+
 -- a workload was run over so many sites: its report was written, or it failed
 pub record Runs (sites : ℕ) (summed : Bool) (status : ℕ) (old new : Around) : Type 0 where
   pub reported : status ≡ 0 → Reports sites summed old.remaining old.contents new.contents
-  pub failed : status ≢ 0 → Fails sites old.remaining status
+  pub failed : status ≢ 0 → IsUnrun sites summed status old new
 
 -- so many journals were audited as those of so many sites: there is one for each, and what was counted of them was written; or they weren't
 -- accepted

@@ -17,6 +17,7 @@ ServesFrom desk (Err fault.OutOfMemory) old new = ⊥
 ServesFrom desk (Err fault.Unopened) old new = ⊥
 ServesFrom desk (Err fault.Taken) old new = ⊥
 ServesFrom desk (Err fault.Uncut) old new = ⊥
+ServesFrom desk (Err fault.Unlisted) old new = ⊥
 ServesFrom desk (Err (fault.Unrecovered why)) old new = ⊥
 ServesFrom desk (Err (fault.Unopenable why)) old new = ⊥
 
@@ -28,6 +29,7 @@ IsServed kept header (Err fault.OutOfMemory) old new = Did old new []
 IsServed kept header (Err fault.Unopened) old new = Did old new []
 IsServed kept header (Err fault.Taken) old new = Did old new []
 IsServed kept header (Err fault.Uncut) old new = Did old new []
+IsServed kept header (Err fault.Unlisted) old new = Did old new []
 IsServed kept header (Err (fault.Unrecovered why)) old new = Did old new []
 IsServed kept header (Err (fault.Unopenable why)) old new = Did old new []
 
@@ -51,6 +53,7 @@ site_status (Err fault.OutOfMemory) = 3
 site_status (Err fault.Unopened) = 3
 site_status (Err fault.Taken) = 3
 site_status (Err fault.Uncut) = 3
+site_status (Err fault.Unlisted) = 3
 site_status (Err (fault.Unopenable why)) = 3
 
 -- the site ended with this status, and did what such an end does

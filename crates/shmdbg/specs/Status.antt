@@ -1,5 +1,5 @@
 -- Exit statuses, and what each tells of the script on standard input and of the text on standard output.
-use Rattle.std.specs.Prelude.{◌≡◌, ◌⊎◌, ℕ, Bool, true, List, [], codes, IfSome, Option, Some, Result, Ok, Err}
+use Rattle.std.specs.Prelude.{◌≡◌, ◌≢◌, ◌⊎◌, ℕ, Bool, true, List, [], codes, IfSome, Option, Some, Result, Ok, Err}
 use Rattle.std.specs.Io.KnownBytes.{Appends}
 use Rattle.clap.specs.Words.{Text}
 use Rattle.shm_debug.specs.Script.{Script}
@@ -9,8 +9,10 @@ use Rattle.shm_draw.specs.Drawn.{Draws}
 use Rattle.shm_place.specs.declared.page.PageId.{PageId}
 use Rattle.shm_debug.specs.declared.outcome.DebugFault.{DebugFault}
 use Rattle.shm_debug.specs.declared.outcome.DebugFault.TheVariants.{OutOfMemory, BadLine, LineTooLong, TooManyLines, ReadFault, WriteFault}
+use Rattle.shm_report.specs.Audited.{TellsRun}
+use Rattle.shm_report.specs.declared.audited.Audited.{Audited}
 use Rattle.shm_report.specs.Causes.{audit_cause, input_cause, is_after_reading, IsFound, IsRight, IsWrongBy}
-use Rattle.shm_report.specs.Report.{IsToldReport}
+use Rattle.shm_report.specs.Report.{IsCutShort, IsToldReport}
 use Rattle.shm_report.specs.declared.report_fault.ReportFault.{ReportFault}
 use Rattle.shm_report.specs.declared.report_fault.ReportFault.TheVariants as report
 use Rattle.shmdbg.specs.Words.{asked_for, fault_in}
@@ -73,11 +75,21 @@ Pictures page script status old new =
 abbrev pub Reports : ℕ → Bool → Option (List ℕ) → Option (List ℕ) → Option (List ℕ) → Type 0
 Reports sites summed workload old new = (text : List ℕ) × Appends old new text × IsToldReport summed sites workload text
 
+-- a front of what is told of a run was written, where what was written is known
+abbrev pub CutsRun : Bool → Audited → Option (List ℕ) → Option (List ℕ) → Type 0
+CutsRun summed run old new = (text : List ℕ) × IsCutShort old new text × TellsRun summed run text
+
+-- a front of a report of this workload
+abbrev pub CutsReport : Bool → ℕ → Option (List ℕ) → Option (List ℕ) → Option (List ℕ) → Type 0
+CutsReport summed sites workload old new = (text : List ℕ) × IsCutShort old new text × IsToldReport summed sites workload text
+
 -- A run of a workload failed by a fault of this status. What the fault says of the workload, or of what the sites logged, is so over so many
--- sites.
-pub record Fails (sites : ℕ) (workload : Option (List ℕ)) (status : ℕ) : Type 0 where
+-- sites. Nothing was written; or writing failed, and a front of a report was.
+pub record Fails (sites : ℕ) (summed : Bool) (workload : Option (List ℕ)) (status : ℕ) (old new : Option (List ℕ)) : Type 0 where
   pub fault : ReportFault
   pub told : status ≡ run_status fault
   pub input : IfSome (input_cause fault) (IsWrongBy sites workload)
   pub right : is_after_reading fault ≡ true → IsRight sites workload
   pub audit : IfSome (audit_cause fault) (IsFound sites workload)
+  pub quiet : fault ≢ report.WriteFault → new ≡ old
+  pub cut : fault ≡ report.WriteFault → (new ≡ old) ⊎ CutsReport summed sites workload old new

@@ -2,10 +2,52 @@
 ghost use Rattle.std.specs.Prelude.{IfErr};
 ghost use Rattle.shm_report.specs.Causes.{IsOther};
 
+use shm_place::Sites;
 use shm_prompt::SaveFile;
 use shm_report::{ReportFault, log_text};
 use shm_sites::SiteLog;
 use std::alloc::{AllocError, Global};
+use std::fs::OpenOptions;
+use std::rt::Files;
+
+/// Why no log can be saved.
+#[derive(Drop)]
+pub enum Unlogged {
+    /// An allocation was refused.
+    OutOfMemory,
+    /// The file of this name couldn't be opened, or made.
+    Unopened(String),
+}
+
+/// Opens the file of each site's log in this folder, and makes it where it isn't there; what a file has stays. At the first that can't be
+/// opened it ends.
+pub fn open_logs<R: AllocGlobal + Files>(
+    rt: &R,
+    folder: &str,
+    sites: Sites,
+) -> Result<(), Unlogged> {
+    'sites: for site in 0..sites.count() {
+        match open_log(rt, folder, site) {
+            Ok(()) => {}
+            Err(unlogged) => return Err(unlogged),
+        }
+    }
+    Ok(())
+}
+
+fn open_log<R: AllocGlobal + Files>(rt: &R, folder: &str, site: u32) -> Result<(), Unlogged> {
+    let Ok(name) = name_of(rt.alloc(), folder, site) else {
+        return Err(Unlogged::OutOfMemory);
+    };
+    let opened = OpenOptions::new()
+        .append(true)
+        .create(true)
+        .open(rt, name.as_str());
+    match opened {
+        Ok(_) => Ok(()),
+        Err(_) => Err(Unlogged::Unopened(name)),
+    }
+}
 
 /// Saves each site's log in this folder, which exists: `site-0.log`, and so on. At the first that can't be saved it ends.
 pub fn save_logs<F: SaveFile>(

@@ -2,7 +2,7 @@ ghost use Rattle.std.specs.Prelude.{◌≡◌, ◌≢◌, ◌≤◌, ◌<◌, �
 ghost use Rattle.shm_debug.specs.Script.{script_of};
 ghost use Rattle.shmdbg.specs.Around.{streams};
 ghost use Rattle.shmdbg.specs.Begun.{header_at};
-ghost use Rattle.shmdbg.specs.Done.{Does, IsDone, has_audit};
+ghost use Rattle.shmdbg.specs.Done.{Does, IsDone, IsUnrun, has_audit};
 ghost use Rattle.shmdbg.specs.Served.{site_status, IsSite};
 ghost use Rattle.shmdbg.specs.Status.{AsksForAudit, Fails, Pictures, Replays, Reports, Takes};
 ghost use Rattle.shmdbg.specs.Words.{IsOneOfSites};
@@ -10,6 +10,7 @@ ghost use Rattle.shmdbg.specs.Words.{IsOneOfSites};
 use crate::auditing::audit;
 use crate::disk::Disk;
 use crate::keeping::Lock;
+use crate::logging::{Unlogged, open_logs};
 use crate::reporting::{Wanted, tell_run};
 use crate::serving::{be_kept_site, be_site};
 use crate::showing::{script_fault, workload_fault};
@@ -143,7 +144,7 @@ fn talk<R: AllocGlobal + Files, I: Read, O: Write, E: Write>(
 ) -> u8
     ensures status { (result ≡ 0) ⊎ (result ≡ 3) }
 {
-    match prompt(rt.alloc(), false, reader, out, &mut Disk { rt }) {
+    match prompt(rt.alloc(), reader, out, &mut Disk { rt }) {
         Ok(()) => 0,
         Err(fault) => tell::prompt_fault(fault, errors),
     }
@@ -192,7 +193,7 @@ fn tell_end<E: Write>(ended: Result<(), SiteFault>, errors: &mut E) -> u8
     }
 }
 
-/// Runs a workload, and answers the exit status.
+/// Runs a workload once the logs that are wanted can be saved, and answers the exit status.
 fn run<
     R: AllocGlobal + Clock + Files + Threads + Wait + Copy + Send + Sync + 'static,
     I: Read + Recalls,
@@ -211,7 +212,49 @@ fn run<
     ensures taken { result ≢ 2 }
     ensures reported { result ≡ 0 →
         Reports sites wanted.now.summary (I.remaining reader.old) (O.contents out.old) (O.contents out.new) }
-    ensures failed { result ≢ 0 → Fails sites (I.remaining reader.old) result }
+    ensures failed { result ≢ 0 → IsUnrun sites wanted.now.summary result
+        (streams (I.remaining reader.old) (O.contents out.old)) (streams (I.remaining reader.new) (O.contents out.new)) }
+    ensures quiet { (result ≡ 1) ⊎ (result ≡ 4) → out.new ≡ out.old }
+{
+    match open_wanted(rt, sites, wanted.log) {
+        Ok(()) => run_ready(rt, sites, seed, wanted, reader, out, errors),
+        Err(fault) => tell::unlogged(&fault, errors),
+    }
+}
+
+/// Makes the logs' files ready, where a folder is named for them.
+fn open_wanted<R: AllocGlobal + Files>(
+    rt: &R,
+    sites: Sites,
+    log: Option<&str>,
+) -> Result<(), Unlogged> {
+    match log {
+        Some(folder) => open_logs(rt, folder, sites),
+        None => Ok(()),
+    }
+}
+
+/// Runs a workload, and answers the exit status.
+fn run_ready<
+    R: AllocGlobal + Clock + Files + Threads + Wait + Copy + Send + Sync + 'static,
+    I: Read + Recalls,
+    O: Write,
+    E: Write,
+>(
+    rt: &R,
+    sites: Sites,
+    seed: u32,
+    wanted: &Wanted<'_>,
+    reader: &mut I,
+    out: &mut O,
+    errors: &mut E,
+) -> u8
+    ensures range { result < 5 }
+    ensures taken { result ≢ 2 }
+    ensures reported { result ≡ 0 →
+        Reports sites wanted.now.summary (I.remaining reader.old) (O.contents out.old) (O.contents out.new) }
+    ensures failed { result ≢ 0 →
+        Fails sites wanted.now.summary (I.remaining reader.old) result (O.contents out.old) (O.contents out.new) }
     ensures quiet { (result ≡ 1) ⊎ (result ≡ 4) → out.new ≡ out.old }
 {
     match tell_run(rt, sites, seed, wanted, reader, out) {

@@ -5,6 +5,7 @@ ghost use Rattle.shm_report.specs.Audited.{TellsRun};
 ghost use Rattle.shm_report.specs.Causes.{audit_cause, input_cause, is_after_reading, IsFound, IsOther, IsRight, IsWrongBy};
 ghost use Rattle.shm_report.specs.Report.{IsToldReport};
 ghost use Rattle.shm_report.specs.declared.report_fault.ReportFault.TheVariants as cause;
+ghost use Rattle.shmdbg.specs.Status.{CutsReport, CutsRun};
 
 use crate::disk::Disk;
 use crate::logging::save_logs;
@@ -43,6 +44,8 @@ pub fn tell_run<
     ensures quiet { IfErr result (λ fault. (fault ≡ cause.WriteFault) ⊎ (out.new ≡ out.old)) }
     ensures told { OnOk result ((text : List ℕ) × Appends (O.contents out.old) (O.contents out.new) text
         × IsToldReport wanted.now.summary sites (I.remaining reader.old) text) }
+    ensures cut { IfErr result (λ fault. fault ≡ cause.WriteFault → (out.new ≡ out.old)
+        ⊎ CutsReport wanted.now.summary sites (I.remaining reader.old) (O.contents out.old) (O.contents out.new)) }
     ensures input { IfErr result (λ fault. IfSome (input_cause fault) (IsWrongBy sites (I.remaining reader.old))) }
     ensures right { IfErr result (λ fault. is_after_reading fault ≡ true → IsRight sites (I.remaining reader.old)) }
     ensures audit { IfErr result (λ fault. IfSome (audit_cause fault) (IsFound sites (I.remaining reader.old))) }
@@ -65,6 +68,8 @@ fn tell_wanted<R: AllocGlobal + Clock + Files, O: Write>(
     ensures quiet { IfErr result (λ fault. (fault ≡ cause.WriteFault) ⊎ (out.new ≡ out.old)) }
     ensures other { IfErr result IsOther }
     ensures told { OnOk result ((text : List ℕ) × Appends (O.contents out.old) (O.contents out.new) text × TellsRun wanted.now.summary run.now text) }
+    ensures cut { IfErr result (λ fault. fault ≡ cause.WriteFault → (out.new ≡ out.old)
+        ⊎ CutsRun wanted.now.summary run.now (O.contents out.old) (O.contents out.new)) }
 {
     let took = milliseconds_since(rt, started);
     match save_wanted(rt, wanted.log, run) {
@@ -82,6 +87,8 @@ fn tell_plainly<O: Write>(alloc: Global, run: &Audited, out: &mut O) -> Result<(
     ensures quiet { IfErr result (λ fault. (fault ≡ cause.WriteFault) ⊎ (out.new ≡ out.old)) }
     ensures other { IfErr result IsOther }
     ensures told { OnOk result ((text : List ℕ) × Appends (O.contents out.old) (O.contents out.new) text × TellsRun false run.now text) }
+    ensures cut { IfErr result (λ fault. fault ≡ cause.WriteFault → (out.new ≡ out.old)
+        ⊎ CutsRun false run.now (O.contents out.old) (O.contents out.new)) }
 {
     run.write(alloc, "", out)
 }
@@ -110,6 +117,8 @@ fn tell_with_summary<O: Write>(
     ensures quiet { IfErr result (λ fault. (fault ≡ cause.WriteFault) ⊎ (out.new ≡ out.old)) }
     ensures other { IfErr result IsOther }
     ensures told { OnOk result ((text : List ℕ) × Appends (O.contents out.old) (O.contents out.new) text × TellsRun true run.now text) }
+    ensures cut { IfErr result (λ fault. fault ≡ cause.WriteFault → (out.new ≡ out.old)
+        ⊎ CutsRun true run.now (O.contents out.old) (O.contents out.new)) }
 {
     let Ok(more) = run.summary(alloc, took) else {
         return Err(ReportFault::OutOfMemory);

@@ -30,7 +30,8 @@ pub(crate) fn be_site<R: AllocGlobal, I: Read, O: Write>(
     requires below { me < sites }
     requires from { 1 ≤ pages }
     requires to { pages ≤ PAGES }
-    ensures { IsServed false (header_at sites me pages) result (streams (I.remaining reader.old) (O.contents out.old)) (streams (I.remaining reader.new) (O.contents out.new)) }
+    ensures { IsServed false (header_at sites me pages) result (streams (I.remaining reader.old) (O.contents out.old))
+        (streams (I.remaining reader.new) (O.contents out.new)) }
 {
     let Ok(desk) = begin(rt.alloc(), sites, me, pages) else {
         return Err(SiteFault::OutOfMemory);
@@ -53,13 +54,14 @@ where
     requires below { me < sites }
     requires from { 1 ≤ pages }
     requires to { pages ≤ PAGES }
-    ensures { IsServed true (header_at sites me pages) result (streams (I.remaining reader.old) (O.contents out.old)) (streams (I.remaining reader.new) (O.contents out.new)) }
+    ensures { IsServed true (header_at sites me pages) result (streams (I.remaining reader.old) (O.contents out.old))
+        (streams (I.remaining reader.new) (O.contents out.new)) }
 {
     let mut file = match open_journal(rt, journal) {
         Ok(file) => file,
         Err(fault) => return Err(fault),
     };
-    match begin_kept(rt.alloc(), sites, me, pages, &mut file) {
+    match begin_kept(rt, sites, me, pages, journal, &mut file) {
         Ok(desk) => serve_streams(desk, reader, out, &mut JournalFile { file }),
         Err(fault) => Err(fault),
     }
@@ -83,7 +85,8 @@ fn serve_streams<I: Read, O: Write, J: Journal>(
     out: &mut O,
     journal: &mut J,
 ) -> Result<(), SiteFault>
-    ensures { ServesFrom (desk_of desk) result (around (I.remaining reader.old) (O.contents out.old) (J.acts journal.old)) (around (I.remaining reader.new) (O.contents out.new) (J.acts journal.new)) }
+    ensures { ServesFrom (desk_of desk) result (around (I.remaining reader.old) (O.contents out.old) (J.acts journal.old))
+        (around (I.remaining reader.new) (O.contents out.new) (J.acts journal.new)) }
 {
     match serve(desk, reader, out, journal) {
         Ok(()) => Ok(()),

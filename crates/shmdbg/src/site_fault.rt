@@ -16,6 +16,9 @@ pub enum SiteFault {
     /// What is torn at the journal's end couldn't be cut off.
     #[error("journal: write fault")]
     Uncut,
+    /// The folder of a new journal couldn't be made durable.
+    #[error("journal: its folder can't be made durable")]
+    Unlisted,
     /// The journal can't be this site's, or memory or reading failed.
     #[error("{0}")]
     Unrecovered(RecoveryFault),

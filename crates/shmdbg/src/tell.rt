@@ -7,6 +7,7 @@ ghost use Rattle.shmdbg.specs.Audited.{unaudited_status};
 ghost use Rattle.shmdbg.specs.Served.{site_status};
 ghost use Rattle.shmdbg.specs.Status.{fault_status, run_status};
 
+use crate::logging::Unlogged;
 use crate::site_fault::SiteFault;
 use crate::unaudited::Unaudited;
 use clap::error::ErrorKind;
@@ -154,6 +155,17 @@ pub fn run_fault<E: Write>(fault: ReportFault, errors: &mut E) -> u8
         | ReportFault::ClockEnd
         | ReportFault::Foreign => 3,
     }
+}
+
+/// The exit status where a run's logs couldn't be made ready. Its one line goes to `errors`.
+pub fn unlogged<E: Write>(unlogged: &Unlogged, errors: &mut E) -> u8
+    ensures { result ≡ 3 }
+{
+    let _ = match unlogged {
+        Unlogged::OutOfMemory => writeln!(errors, "shmdbg: out of memory"),
+        Unlogged::Unopened(name) => writeln!(errors, "shmdbg: {name}: it can't be opened"),
+    };
+    3
 }
 
 /// The exit status where the process's words could not be read: memory was refused, or a word is no UTF-8.

@@ -53,6 +53,31 @@ fn three_sites_and_no_room(rt: HostRuntime) {
     assert_eq!(rt; reader, b"".as_slice());
 }
 
+/// The logs have no folder: nothing is read, and nothing is run.
+#[test]
+fn three_sites_and_no_folder(rt: HostRuntime) {
+    let words = [
+        "shmdbg",
+        "run",
+        "--sites",
+        "3",
+        "--seed",
+        "2",
+        "--log",
+        "no folder",
+    ];
+    let mut reader = b"preset 1\n".as_slice();
+    let ran = run_over(&rt, &words, &mut reader);
+    expect(
+        &rt,
+        &ran,
+        3,
+        b"",
+        b"shmdbg: no folder/site-0.log: it can't be opened\n",
+    );
+    assert_eq!(rt; reader, b"preset 1\n".as_slice());
+}
+
 /// Wrong lines are shown where they are to be.
 #[test]
 fn wrong_lines_are_shown(rt: HostRuntime) {

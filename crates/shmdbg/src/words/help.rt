@@ -22,8 +22,8 @@ Exit status:
      line, if it has one
   2  these words were refused, or asked for help or the version; nothing was
      read
-  3  memory, reading, writing or a thread failed, or another process has the
-     journal
+  3  memory, reading, writing or a thread failed, a journal can't be opened or
+     another process has it, a site's clock ended, or a box was another site's
   4  a run gave up, or an audit found a cause";
 
 /// Of a replay: the lines of a script.
@@ -88,8 +88,8 @@ on, a line for each step: its stamp, what came, the answer, what was sent.
   $ cat site-0.log
   1 store 0 0 0 7 > stored
 Exit status: 0 done, 1 the workload has a fault, 2 these words were refused,
-3 memory, reading, writing or a thread failed, 4 the run gave up or its audit
-found a cause.";
+3 memory, reading, writing or a thread failed, a site's clock ended, or a box
+was another site's, 4 the run gave up or its audit found a cause.";
 
 /// Of a site as a process.
 pub const SITE: &str = "\
@@ -121,8 +121,8 @@ cluster that goes on, as it would have forgotten what it held.
     shmdbg site --sites 1 --me 0 --preset 1 --journal site-0.journal
   tell 0 b byte 7
 Exit status: 0 its input ended, 1 FILE is another's journal or no journal,
-2 these words were refused, 3 memory, reading or writing failed, or another
-process has FILE.";
+2 these words were refused, 3 memory, reading or writing failed, FILE can't be
+opened, another process has it, or its site's clock ended.";
 
 /// Of an audit of journals.
 pub const AUDIT: &str = "\
@@ -140,7 +140,8 @@ envelopes there were:
   envelopes 6
 Exit status: 0 the audit is yes, 1 a file is no journal (standard error tells it
 and the line), or they aren't those of one set of sites, 2 these words were
-refused, 3 memory, reading or writing failed, 4 the audit found a cause.";
+refused, 3 memory, reading or writing failed, or a file can't be opened, 4 the
+audit found a cause.";
 
 /// Of the prompt.
 pub const PROMPT: &str = "\
@@ -148,7 +149,7 @@ Lines are those of a script, and
   flight    the envelopes on their way
   sites     the pages that were asked for, at each site
   segments  the segments, as ipcs -m lists them
-  run [N]   hand over what is on its way, the oldest first, N at most
+  run [N]   hand over what is on its way, the oldest first, N or 10,000 at most
   undo      take the last event back
   save FILE the script of what stands
   help      an example of each

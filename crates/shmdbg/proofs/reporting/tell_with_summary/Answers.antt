@@ -1,6 +1,6 @@
 -- Behind the report stands the summary.
-use Rattle.std.proofs.Common.{◌∙◌, ◌++◌, ap}
-use Rattle.shm_report.proofs.Reports.{on_ok}
+use Rattle.std.proofs.Common.{◌∙◌, ◌++◌, ap, inr}
+use Rattle.shm_report.proofs.Reports.{if_err, on_ok}
 use Rattle.shmdbg.proofs.reporting.tell_with_summary.Goals as goal
 
 pub returns-clause-told : goal.returns-clause-told
@@ -12,3 +12,15 @@ returns-clause-told g c =
       (told.0, c.args.took, told.2, ap (λ more. told.0 ++ more) (c.as_str.ensures.value ∙ c.in-Ok.ensures)),
     ))
     c.write.ensures.told
+
+pub returns-clause-cut : goal.returns-clause-cut
+returns-clause-cut g c =
+    if_err c.write.result
+    (λ fault cut is.
+    let told = cut is in
+    inr (
+      told.0 ++ c.as_str.result.now,
+      told.1,
+      (told.0, c.args.took, told.2, ap (λ more. told.0 ++ more) (c.as_str.ensures.value ∙ c.in-Ok.ensures)),
+    ))
+    c.write.ensures.cut
