@@ -11,6 +11,7 @@ import os
 import random
 import select
 import signal
+import socket
 import subprocess
 import sys
 import tempfile
@@ -225,6 +226,31 @@ def try_kills(sites):
     killer.join()
 
 
+def try_stopped(site):
+    """A call behind the stop fails, and nothing is written to a file that has the number of what was the process's input."""
+    with tempfile.TemporaryFile() as other:
+        number = site._to_site.descriptor
+        site.stop()
+        os.dup2(other.fileno(), number)
+        expect_error(errno.ESHUTDOWN, lambda: site.shm_read(0, 0, 1))
+        os.close(number)
+        expect(os.fstat(other.fileno()).st_size == 0, 'a stopped site writes nothing')
+
+
+def try_socket(options):
+    """Two sites have a socket each as their stream, which they read and write."""
+    ends = socket.socketpair()
+    sites = [Site.start(options.program, 2, me, PAGES, end, end) for me, end in enumerate(ends)]
+    data = random.Random(4).randbytes(PAGES * PAGE_BYTES)
+    sites[0].shm_write(0, 0, data)
+    expect(sites[1].shm_read(0, 0, len(data)) == data, 'what was written is read over one socket')
+    for site in sites:
+        site.stop()
+    for end in ends:
+        end.close()
+    print('one socket to read and to write: as expected')
+
+
 def try_library(options, folder):
     stream = Stream(2, options.lose)
     sites = start_sites(options, stream, folder, 'calls')
@@ -236,7 +262,7 @@ def try_library(options, folder):
         try_kills(sites)
         restarts = sum(16 - site._restarts for site in sites)
     for site in sites:
-        site.stop()
+        try_stopped(site)
     stream.stop()
     print(f'calls in Python: as expected; {stream.lost} lines lost, {restarts} processes killed')
 
@@ -293,6 +319,7 @@ def main():
         subprocess.run(make, check=True)
         subprocess.run([os.path.join(folder, 'calls'), options.program], check=True)
         try_library(options, folder)
+        try_socket(options)
         try_counters(options, folder)
     print(f'{time.monotonic() - begin:.0f} seconds')
 

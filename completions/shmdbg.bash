@@ -2,6 +2,9 @@
 
 _shmdbg() {
   local word=${COMP_WORDS[COMP_CWORD]} before=${COMP_WORDS[COMP_CWORD - 1]} offered=
+  # Of --sites=4 the equals sign is a word of its own.
+  [ "$word" != = ] || word=
+  [ "$before" != = ] || before=${COMP_WORDS[COMP_CWORD - 2]}
   case $COMP_CWORD:${COMP_WORDS[1]} in
     1:*) offered='replay run prompt draw site audit help -h --help -V --version' ;;
     2:help) offered='replay run prompt draw site audit help' ;;
@@ -12,6 +15,7 @@ _shmdbg() {
         --seed) ;;
         --log)
           mapfile -t COMPREPLY < <(compgen -d -- "$word")
+          compopt -o filenames 2> /dev/null
           return
           ;;
         *) offered='--sites --seed --summary --log -h --help' ;;
@@ -25,6 +29,7 @@ _shmdbg() {
         --preset) ;;
         --journal)
           mapfile -t COMPREPLY < <(compgen -f -- "$word")
+          compopt -o filenames 2> /dev/null
           return
           ;;
         *) offered='--sites --me --preset --journal -h --help' ;;
@@ -35,6 +40,7 @@ _shmdbg() {
         --sites) offered='1 2 3 4 5 6 7 8 9 10 11 12 13 14 15 16' ;;
         *)
           mapfile -t COMPREPLY < <(compgen -W '--sites -h --help' -- "$word"; compgen -f -- "$word")
+          compopt -o filenames 2> /dev/null
           return
           ;;
       esac

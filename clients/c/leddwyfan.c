@@ -66,8 +66,7 @@ struct leddwyfan {
     pthread_mutex_t calls; /* a site has one segment call at a time */
     pthread_cond_t changed;
     pthread_t thread;
-    char **words;
-    char *journal;
+    char **words; /* of the process, all copied: it may be started again */
     char numbers[3][12];
     unsigned me, timeout, restarts;
     uint32_t uid, gid;
@@ -251,8 +250,9 @@ static int spawn(struct leddwyfan *site, int input, int output) {
     posix_spawn_file_actions_init(&actions);
     posix_spawn_file_actions_adddup2(&actions, input, 0);
     posix_spawn_file_actions_adddup2(&actions, output, 1);
-    if (site->from_stream.descriptor > 2) posix_spawn_file_actions_addclose(&actions, site->from_stream.descriptor);
-    if (site->to_stream.descriptor > 2) posix_spawn_file_actions_addclose(&actions, site->to_stream.descriptor);
+    int reader = site->from_stream.descriptor, writer = site->to_stream.descriptor;
+    if (reader > 2) posix_spawn_file_actions_addclose(&actions, reader);
+    if (writer > 2 && writer != reader) posix_spawn_file_actions_addclose(&actions, writer);
     posix_spawnattr_init(&attributes);
     posix_spawnattr_setsigmask(&attributes, &site->signals);
     posix_spawnattr_setflags(&attributes, POSIX_SPAWN_SETSIGMASK);
@@ -512,17 +512,21 @@ static void wait_for_change(struct leddwyfan *site) {
     }
 }
 
+/* Why a call of this deadline waits no longer, or 0. */
+static int fault_at(const struct leddwyfan *site, int64_t deadline) {
+    if (site->fault != 0) return site->fault;
+    return deadline != 0 && now() >= deadline ? ETIMEDOUT : 0;
+}
+
 /* Asks all of these at once, and waits for their answers. The site is ticked while they wait. */
 static int exchange(struct leddwyfan *site, struct batch *batch, int64_t deadline) {
-    int fault = 0;
     pthread_mutex_lock(&site->lock);
-    say_batch(site, batch);
-    while (batch->missing > 0 && fault == 0) {
-        fault = site->fault;
-        if (fault == 0 && deadline != 0 && now() >= deadline) fault = ETIMEDOUT;
-        if (fault == 0) wait_for_change(site);
+    int fault = fault_at(site, deadline);
+    if (fault == 0) {
+        say_batch(site, batch);
+        while (batch->missing > 0 && (fault = fault_at(site, deadline)) == 0) wait_for_change(site);
+        take_off_batch(site, batch);
     }
-    take_off_batch(site, batch);
     pthread_mutex_unlock(&site->lock);
     return batch->missing == 0 ? 0 : failed(fault);
 }
@@ -775,25 +779,24 @@ static int make_words(struct leddwyfan *site, const struct leddwyfan_options *op
     size_t count = 0;
     while (options->program[count] != NULL) count++;
     if (count == 0) return failed(EINVAL);
-    site->words = calloc(count + 10, sizeof *site->words);
-    if (site->words == NULL) return failed(ENOMEM);
-    memcpy(site->words, options->program, count * sizeof *site->words);
     const unsigned numbers[] = {options->sites, options->me, options->pages};
     for (int number = 0; number < 3; number++) snprintf(site->numbers[number], sizeof site->numbers[number], "%u", numbers[number]);
-    char *further[] = {"site", "--sites", site->numbers[0], "--me", site->numbers[1], "--preset", site->numbers[2]};
-    memcpy(site->words + count, further, sizeof further);
-    count += sizeof further / sizeof *further;
-    if (options->journal == NULL) return 0;
-    site->journal = strdup(options->journal);
-    site->words[count] = "--journal";
-    site->words[count + 1] = site->journal;
-    return site->journal == NULL ? failed(ENOMEM) : 0;
+    const char *further[] = {"site",     "--sites",        site->numbers[0], "--me",          site->numbers[1],
+                             "--preset", site->numbers[2], "--journal",      options->journal};
+    size_t all = count + sizeof further / sizeof *further - (options->journal == NULL ? 2 : 0);
+    site->words = calloc(all + 1, sizeof *site->words);
+    if (site->words == NULL) return failed(ENOMEM);
+    for (size_t place = 0; place < all; place++) {
+        site->words[place] = strdup(place < count ? options->program[place] : further[place - count]);
+        if (site->words[place] == NULL) return failed(ENOMEM);
+    }
+    return 0;
 }
 
 static void free_site(struct leddwyfan *site) {
     int number = errno;
+    for (char **copied = site->words; copied != NULL && *copied != NULL; copied++) free(*copied);
     free(site->words);
-    free(site->journal);
     free(site->from_stream.bytes.start);
     free(site->to_stream.bytes.start);
     free(site->from_site.bytes.start);

@@ -82,11 +82,13 @@ class Incoming:
         self.unread = b''
 
     def read_lines(self):
-        """The whole lines that have come; None at the end, behind which a torn line counts for nothing."""
+        """The whole lines that have come; None at the end, behind which a torn line counts for nothing. A fault is an end."""
         try:
             data = os.read(self.descriptor, 1 << 16)
         except BlockingIOError:
             return []
+        except OSError:
+            return None
         if not data:
             return None
         *lines, unread = (self.unread + data).split(b'\n')
@@ -163,13 +165,13 @@ class Site:
         hearing = subprocess.Popen(hear, stdin=subprocess.DEVNULL, stdout=subprocess.PIPE)
         try:
             saying = subprocess.Popen(say, stdin=subprocess.PIPE, stdout=subprocess.DEVNULL)
-        except OSError:
+        except Exception:
             end_carriers((hearing,))
             raise
         carriers = (hearing, saying)
         try:
             return cls.start(program, sites, me, pages, hearing.stdout, saying.stdin, carriers=carriers, **options)
-        except OSError:
+        except Exception:
             end_carriers(carriers)
             raise
 
@@ -196,9 +198,14 @@ class Site:
         self._last_tick, self._heard = time.monotonic(), False
         self._wake_reader, self._wake_writer = os.pipe()
         os.set_blocking(self._wake_writer, False)
-        self._start_process()
+        self._process = None
         self._thread = threading.Thread(target=self._carry, name=f'site {me}', daemon=True)
-        self._thread.start()
+        try:
+            self._start_process()
+            self._thread.start()
+        except Exception:
+            self._close()
+            raise
 
     # The calls.
 
@@ -259,8 +266,12 @@ class Site:
             self._fail(errno.ESHUTDOWN)
             self._wake()
         self._thread.join()
-        end_process(self._process)
+        self._close()
         end_carriers(self._carriers)
+
+    def _close(self):
+        if self._process is not None:
+            end_process(self._process)
         os.close(self._wake_reader)
         os.close(self._wake_writer)
 
@@ -295,8 +306,8 @@ class Site:
     def _call(self, question):
         """Makes a segment call, and gives the words of its reply. A site has one at a time: where another caller's isn't replied to yet, this
         one didn't begin, and is asked again."""
-        deadline = self._deadline()
         with self._calls:
+            deadline = self._deadline()
             answer = self._exchange([question], deadline, begins=True)[0]
             while answer == ['refused', '8']:
                 time.sleep(TICK_SECONDS)
@@ -312,19 +323,24 @@ class Site:
     def _deadline(self):
         return None if self.timeout is None else time.monotonic() + self.timeout
 
+    def _check(self, deadline):
+        """Fails where a call of this deadline waits no longer."""
+        if self._fault is not None:
+            raise failure(self._fault)
+        if deadline is not None and time.monotonic() >= deadline:
+            raise failure(errno.ETIMEDOUT)
+
     def _exchange(self, questions, deadline, begins=False):
         """Asks all of these at once, and waits for their answers, in the same order. The site is ticked while they wait."""
         batch = Batch(len(questions))
         with self._changed:
+            self._check(deadline)
             tags = [self._ask(question, batch, place, begins) for place, question in enumerate(questions)]
             self._write_to_site()
             try:
                 while batch.missing:
-                    if self._fault is not None:
-                        raise failure(self._fault)
-                    if deadline is not None and time.monotonic() >= deadline:
-                        raise failure(errno.ETIMEDOUT)
-                    if not self._changed.wait(TICK_SECONDS):
+                    self._check(deadline)
+                    if not self._changed.wait(TICK_SECONDS) and self._fault is None:
                         self._tick_if_due()
             finally:
                 for tag in tags:
@@ -389,14 +405,15 @@ class Site:
                 self._fail(errno.EIO)
 
     def _wait(self):
-        """The descriptors that can be read, or written where there is something to write."""
+        """The descriptors that can be read, or written where there is something to write. The stream may be one descriptor for both."""
         poll = select.poll()
         with self._changed:
-            for descriptor in (self._from_stream.descriptor, self._from_site.descriptor, self._wake_reader):
-                poll.register(descriptor, select.POLLIN)
+            events = dict.fromkeys((self._from_stream.descriptor, self._from_site.descriptor, self._wake_reader), select.POLLIN)
             for outgoing in (self._to_stream, self._to_site):
                 if outgoing.unwritten:
-                    poll.register(outgoing.descriptor, select.POLLOUT)
+                    events[outgoing.descriptor] = events.get(outgoing.descriptor, 0) | select.POLLOUT
+            for descriptor, mask in events.items():
+                poll.register(descriptor, mask)
             due = self._last_tick + self._tick_seconds() - time.monotonic()
         return {descriptor for descriptor, _ in poll.poll(max(0, 1000 * due))}
 
@@ -407,6 +424,8 @@ class Site:
             self._take_from_site()
         if self._from_stream.descriptor in ready:
             self._take_from_stream()
+        if self._fault is not None:
+            return
         self._tick_if_due()
         if not self._to_stream.write():
             self._fail(errno.EPIPE)
@@ -492,7 +511,8 @@ class Site:
         self._probe()
 
     def _fail(self, number):
-        """All that waits fails with this errno, and all that comes."""
+        """All that waits fails with this errno, and all that comes. Nothing is written any more: what was a descriptor of the process may by
+        now be another file's."""
         if self._fault is None:
             self._fault = number
         self._changed.notify_all()
