@@ -11,9 +11,10 @@ use Rattle.shm_world.proofs.Runs.{run-then}
 use Rattle.shm_debug.specs.Text.{line_text}
 use Rattle.shm_debug.specs.Said.{next}
 use Rattle.shm_debug.specs.Standing.{Standing, with_event, world_of}
-use Rattle.shm_prompt.specs.Running.{AreOldest, FirstFrom, IsAtRest, NoneFrom}
+use Rattle.shm_progress.specs.Deliveries.{IsAtRest}
+use Rattle.shm_progress.specs.Rest.Deliveries.{AreOldest, FirstFrom, NoneFrom}
 use Rattle.shm_prompt.specs.Dialog.{answered, said_to, not_begun, delivered, told_of_deliveries, Deliveries, Delivered, Ran, SomeDelivered, run_end}
-use Rattle.shm_prompt.proofs.Passing.{passed-on}
+use Rattle.shm_progress.proofs.Rest.Deliveries.{passed-on}
 
 -- ---- lines
 

@@ -1,4 +1,3 @@
 mod CommandLemmas
 mod DialogLemmas
-mod Passing
 mod SavedLemmas

@@ -10,7 +10,8 @@ use Rattle.shm_debug.specs.Standing.{Standing, with_event, world_of}
 use Rattle.shm_prompt.specs.declared.command.Command.{Command}
 use Rattle.shm_prompt.specs.declared.command.Command.TheVariants as command
 use Rattle.shm_prompt.specs.declared.help.TheConstants.{HELP}
-use Rattle.shm_prompt.specs.Running.{AreOldest, FirstFrom, IsAtRest}
+use Rattle.shm_progress.specs.Deliveries.{IsAtRest}
+use Rattle.shm_progress.specs.Rest.Deliveries.{AreOldest, FirstFrom}
 
 -- the number of the last line of the script of what stands: its `sites` line, and a line for each event
 abbrev pub last_line : Option Standing → ℕ

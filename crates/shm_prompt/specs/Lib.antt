@@ -1,6 +1,5 @@
 pub mod Command
 pub mod Dialog
 pub mod Faults
-pub mod Running
 pub mod Saved
 pub mod Spelled

@@ -10,7 +10,6 @@ mod help;
 mod hints;
 mod obeying;
 mod prompt_fault;
-mod quiet;
 mod running;
 mod save_file;
 mod save_refusal;

@@ -3,9 +3,9 @@ ghost use Rattle.std.specs.Prelude.{◌≡◌, true, IfOk, OnErr};
 ghost use Rattle.shm_prompt.specs.Dialog.{Delivered, SomeDelivered};
 
 use crate::acting::happen;
-use crate::quiet::oldest_from;
 use shm_debug::Session;
 use shm_model::Event;
+use shm_progress::oldest_from;
 use std::alloc::{AllocError, Allocator};
 
 /// Delivers the oldest envelope that is on its way, until none is, or at most so often. Answers whether none is.

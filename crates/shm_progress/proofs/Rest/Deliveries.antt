@@ -67,7 +67,7 @@ none-goes : (found : Option Envelope) → found ≡ None → IsTrue (is_some fou
 none-goes None none going = cc
 none-goes (Some e) none going = cc
 
-passed-on : (w : model.World) (k : ℕ) (found : Option Envelope) → model.live w k ≡ found → FirstFrom w 0 k → (j : ℕ) → j < k + 1 → model.live (model.next w (Deliver k)).world j ≡ None
+pub passed-on : (w : model.World) (k : ℕ) (found : Option Envelope) → model.live w k ≡ found → FirstFrom w 0 k → (j : ℕ) → j < k + 1 → model.live (model.next w (Deliver k)).world j ≡ None
 passed-on w k None h first j below = absurd (none-goes (model.live w k) h first.going)
 passed-on w k (Some e) h first j below = by-order (cases_lt j k)
   where
