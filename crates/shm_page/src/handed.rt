@@ -53,32 +53,31 @@ impl<A: Allocator + Copy> Model for WriteGrant<A> {
 }
 
 impl<A: Allocator + Copy> HandedPage<A> {
-    /// What an owner becomes that hands these bytes over, and the grant.
+    /// What an owner becomes that hands these bytes over and keeps equal ones, and the grant.
     pub(crate) fn with_grant(
         number: u64,
         to: SiteId,
-        bytes: Bytes<A>,
+        kept: Bytes<A>,
+        sent: Bytes<A>,
         alloc: A,
-    ) -> Result<(HandedPage<A>, WriteGrant<A>), AllocError>
-        requires { length bytes ≡ page_bytes }
-        ensures page { IfOk result (λ r. r.0 ≡ handed_of number to bytes) }
-        ensures grant { IfOk result (λ r. r.1 ≡ grant_of number bytes) }
+    ) -> (HandedPage<A>, WriteGrant<A>)
+        requires whole { length kept ≡ page_bytes }
+        requires same { sent ≡ kept }
+        ensures page { result.0 ≡ handed_of number to kept }
+        ensures grant { result.1 ≡ grant_of number kept }
     {
-        let sent = bytes.clone()?;
         let grant = WriteGrant {
             number,
             bytes: sent,
             alloc,
         };
-        Ok((
-            HandedPage {
-                seen: number,
-                to,
-                bytes,
-                alloc,
-            },
-            grant,
-        ))
+        let page = HandedPage {
+            seen: number,
+            to,
+            bytes: kept,
+            alloc,
+        };
+        (page, grant)
     }
 
     /// The greatest transaction number that the site has met for this page.

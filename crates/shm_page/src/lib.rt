@@ -12,6 +12,7 @@ mod out;
 mod own_read;
 mod own_write;
 mod read_grant;
+mod sharing;
 
 pub use copy::CopyPage;
 pub use entry::Entry;

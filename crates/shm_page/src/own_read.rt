@@ -1,4 +1,4 @@
-ghost use Rattle.std.specs.Prelude.{◌≡◌, ◌<◌, ◌≤◌, length, slice_index, IfOk, IfErr, OnOk, OnErr};
+ghost use Rattle.std.specs.Prelude.{◌≡◌, ◌<◌, ◌≤◌, ◌+◌, [], length, slice_index, vec_capacity, vec_len, IfOk, IfErr, OnOk, OnErr};
 ghost use Rattle.shm_place.specs.Limits.{page_bytes};
 ghost use Rattle.shm_page.specs.State.{page_of, handed_of, grant_of};
 
@@ -12,16 +12,16 @@ use std::marker::Model;
 
 /// The owner's page while others may have copies: it can be read.
 ///
-/// The bytes are held twice: once to be shared, and once for the owner's next right to write, which then takes no memory.
+/// The bytes are shared. Beside them there is room for the owner's own, so that its next right to write takes no memory.
 #[derive(Drop)]
 pub struct OwnReadPage<A: Allocator + Copy = Global> {
     seen: u64,
-    own: Vec<u8, A>,
     shared: Bytes<A>,
+    room: Vec<u8, A>,
 }
 
 impl<A: Allocator + Copy> Model for OwnReadPage<A> {
-    ghost use Rattle.std.specs.Prelude.{◌≡◌, length};
+    ghost use Rattle.std.specs.Prelude.{◌≡◌, ◌+◌, ◌≤◌, [], length, vec_capacity, vec_len};
     ghost use Rattle.shm_place.specs.Limits.{page_bytes};
     ghost use Rattle.shm_page.specs.State.{PageView};
 
@@ -29,17 +29,18 @@ impl<A: Allocator + Copy> Model for OwnReadPage<A> {
 
     ghost view = { λ page. record { seen = page.seen; bytes = page.shared } };
 
-    ghost invariant = { λ page. (length page.shared ≡ page_bytes) × (page.own.items ≡ page.shared) };
+    ghost invariant = { λ page. (length page.shared ≡ page_bytes) × (page.room.items ≡ []) × (vec_len page.room + page_bytes ≤ vec_capacity page.room) };
 }
 
 impl<A: Allocator + Copy> OwnReadPage<A> {
-    /// The owner's page once these bytes of it are shared.
-    pub(crate) fn of(seen: u64, own: Vec<u8, A>, shared: Bytes<A>) -> OwnReadPage<A>
+    /// The owner's page once its bytes are shared, with room for its own.
+    pub(crate) fn of(seen: u64, room: Vec<u8, A>, shared: Bytes<A>) -> OwnReadPage<A>
         requires whole { length shared ≡ page_bytes }
-        requires same { own.items ≡ shared }
+        requires empty { room.items ≡ [] }
+        requires fits { vec_len room + page_bytes ≤ vec_capacity room }
         ensures { result ≡ page_of seen shared }
     {
-        OwnReadPage { seen, own, shared }
+        OwnReadPage { seen, shared, room }
     }
 
     /// The greatest transaction number that the site has met for this page.
@@ -80,22 +81,18 @@ impl<A: Allocator + Copy> OwnReadPage<A> {
         ensures grant { IfOk result (λ r. r.1 ≡ grant_of number self.bytes) }
         ensures refused { IfErr result (λ e. e.0 ≡ self) }
     {
-        match self.hand_bytes(number, to) {
-            Ok(handed) => Ok(handed),
+        let alloc = *self.room.allocator();
+        match self.shared.clone() {
+            Ok(sent) => {
+                let OwnReadPage {
+                    seen: _,
+                    shared,
+                    room: _,
+                } = self;
+                Ok(HandedPage::with_grant(number, to, shared, sent, alloc))
+            }
             Err(error) => Err((self, error)),
         }
-    }
-
-    fn hand_bytes(
-        &self,
-        number: u64,
-        to: SiteId,
-    ) -> Result<(HandedPage<A>, WriteGrant<A>), AllocError>
-        ensures page { IfOk result (λ r. r.0 ≡ handed_of number to self.now.bytes) }
-        ensures grant { IfOk result (λ r. r.1 ≡ grant_of number self.now.bytes) }
-    {
-        let kept = self.shared.clone()?;
-        HandedPage::with_grant(number, to, kept, *self.own.allocator())
     }
 
     /// The owner may write: nobody else has a copy any more.
@@ -105,10 +102,11 @@ impl<A: Allocator + Copy> OwnReadPage<A> {
     {
         let OwnReadPage {
             seen: _,
-            own,
-            shared: _,
+            shared,
+            mut room,
         } = self;
-        OwnWritePage::of(number, own)
+        let _ = room.extend_from_slice(shared.as_slice());
+        OwnWritePage::of(number, room)
     }
 
     /// The owner asked for itself: only the number is met.
@@ -123,12 +121,12 @@ impl<A: Allocator + Copy> OwnReadPage<A> {
     pub fn copy(&self) -> Result<OwnReadPage<A>, AllocError>
         ensures { IfOk result (λ page. page ≡ self.now) }
     {
-        let own = Vec::from_slice(*self.own.allocator(), self.shared.as_slice())?;
+        let room = Vec::with_capacity(*self.room.allocator(), PAGE_BYTES)?;
         let shared = self.shared.clone()?;
         Ok(OwnReadPage {
             seen: self.seen,
-            own,
             shared,
+            room,
         })
     }
 }

@@ -1,4 +1,4 @@
-ghost use Rattle.std.specs.Prelude.{◌≡◌, ◌<◌, ◌≤◌, length, slice_index, slice_set, IfOk, IfErr};
+ghost use Rattle.std.specs.Prelude.{◌≡◌, ◌<◌, ◌≤◌, ◌+◌, [], length, slice_index, slice_set, vec_capacity, vec_len, IfOk, IfErr};
 ghost use Rattle.shm_place.specs.Limits.{page_bytes};
 ghost use Rattle.shm_model.specs.Site.{blank};
 ghost use Rattle.shm_page.specs.State.{page_of, handed_of, grant_of};
@@ -6,7 +6,7 @@ ghost use Rattle.shm_page.specs.State.{page_of, handed_of, grant_of};
 use crate::handed::{HandedPage, WriteGrant};
 use crate::own_read::OwnReadPage;
 use crate::read_grant::ReadGrant;
-use bytes::Bytes;
+use crate::sharing::{Shared, share};
 use shm_place::{PAGE_BYTES, SiteId};
 use std::alloc::{AllocError, Allocator, Global};
 use std::marker::Model;
@@ -88,23 +88,29 @@ impl<A: Allocator + Copy> OwnWritePage<A> {
         ensures grant { IfOk result (λ r. r.1 ≡ grant_of number self.bytes) }
         ensures refused { IfErr result (λ e. e.0 ≡ self) }
     {
-        match self.lend_bytes(number) {
-            Ok((shared, grant)) => {
-                let OwnWritePage { seen: _, bytes } = self;
-                Ok((OwnReadPage::of(number, bytes, shared), grant))
-            }
-            Err(error) => Err((self, error)),
-        }
+        let (shared, lent, room) = self.share()?;
+        let page = OwnReadPage::of(number, room, shared);
+        Ok((page, ReadGrant::holding(number, lent)))
     }
 
-    fn lend_bytes(&self, number: u64) -> Result<(Bytes<A>, ReadGrant<A>), AllocError>
-        ensures shared { IfOk result (λ r. r.0 ≡ self.now.bytes) }
+    /// The page's bytes with two holders, and room for as many. Where memory is refused, the page comes back.
+    fn share(self) -> Result<Shared<A>, (OwnWritePage<A>, AllocError)>
+        ensures first { IfOk result (λ r. r.0 ≡ self.bytes) }
+        ensures second { IfOk result (λ r. r.1 ≡ self.bytes) }
         ensures whole { IfOk result (λ r. length r.0 ≡ page_bytes) }
-        ensures grant { IfOk result (λ r. r.1 ≡ grant_of number self.now.bytes) }
+        ensures empty { IfOk result (λ r. r.2.items ≡ []) }
+        ensures fits { IfOk result (λ r. vec_len r.2 + page_bytes ≤ vec_capacity r.2) }
+        ensures refused { IfErr result (λ e. e.0 ≡ self) }
     {
-        let shared = Bytes::copy_from_slice(*self.bytes.allocator(), self.bytes.as_slice())?;
-        let grant = ReadGrant::of(number, &shared)?;
-        Ok((shared, grant))
+        let room = match Vec::with_capacity(*self.bytes.allocator(), PAGE_BYTES) {
+            Ok(room) => room,
+            Err(error) => return Err((self, error)),
+        };
+        let OwnWritePage { seen, bytes } = self;
+        match share(bytes, room) {
+            Ok(shared) => Ok(shared),
+            Err((bytes, error)) => Err((OwnWritePage { seen, bytes }, error)),
+        }
     }
 
     /// Hands the page over. Where memory is refused, the page comes back.
@@ -118,23 +124,9 @@ impl<A: Allocator + Copy> OwnWritePage<A> {
         ensures grant { IfOk result (λ r. r.1 ≡ grant_of number self.bytes) }
         ensures refused { IfErr result (λ e. e.0 ≡ self) }
     {
-        match self.hand_bytes(number, to) {
-            Ok(handed) => Ok(handed),
-            Err(error) => Err((self, error)),
-        }
-    }
-
-    fn hand_bytes(
-        &self,
-        number: u64,
-        to: SiteId,
-    ) -> Result<(HandedPage<A>, WriteGrant<A>), AllocError>
-        ensures page { IfOk result (λ r. r.0 ≡ handed_of number to self.now.bytes) }
-        ensures grant { IfOk result (λ r. r.1 ≡ grant_of number self.now.bytes) }
-    {
         let alloc = *self.bytes.allocator();
-        let kept = Bytes::copy_from_slice(alloc, self.bytes.as_slice())?;
-        HandedPage::with_grant(number, to, kept, alloc)
+        let (kept, sent, _) = self.share()?;
+        Ok(HandedPage::with_grant(number, to, kept, sent, alloc))
     }
 
     /// The right to write once more: only the number is met.

@@ -32,7 +32,15 @@ impl<A: Allocator + Copy> ReadGrant<A> {
         ensures { IfOk result (λ grant. grant ≡ grant_of number shared.now) }
     {
         let bytes = shared.clone()?;
-        Ok(ReadGrant { number, bytes })
+        Ok(ReadGrant::holding(number, bytes))
+    }
+
+    /// A grant that holds these bytes.
+    pub(crate) fn holding(number: u64, bytes: Bytes<A>) -> ReadGrant<A>
+        requires { length bytes ≡ page_bytes }
+        ensures { result ≡ grant_of number bytes }
+    {
+        ReadGrant { number, bytes }
     }
 
     /// The transaction's number.
