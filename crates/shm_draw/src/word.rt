@@ -4,7 +4,7 @@ ghost use Rattle.shm_parts.specs.Message.{message_of, note_of};
 ghost use Rattle.shm_draw.specs.Picture;
 ghost use Rattle.shm_draw.specs.Svg;
 
-use shm_parts::{Message, Note};
+use shm_parts::{BookNote, EntryNote, Message, Note};
 use shm_place::PageId;
 use std::alloc::Allocator;
 
@@ -39,12 +39,12 @@ fn word_of_note<A: Allocator + Copy>(note: &Note<A>) -> Word
     ensures { result ≡ Picture.word_of_note (note_of note.now) }
 {
     match note {
-        Note::Ask { .. } => Word::Ask,
-        Note::Clear(_) => Word::Clear,
-        Note::Cleared(_) => Word::Cleared,
-        Note::Hand { .. } => Word::Hand,
-        Note::Read(_) | Note::Write(_) => Word::Page,
-        Note::Confirm(_) => Word::Confirm,
+        Note::ToBook(BookNote::Ask { .. }) => Word::Ask,
+        Note::ToBook(BookNote::Cleared(_)) => Word::Cleared,
+        Note::ToBook(BookNote::Confirm(_)) => Word::Confirm,
+        Note::ToEntry(EntryNote::Clear(_)) => Word::Clear,
+        Note::ToEntry(EntryNote::Hand { .. }) => Word::Hand,
+        Note::ToEntry(EntryNote::Read(_) | EntryNote::Write(_)) => Word::Page,
     }
 }
 

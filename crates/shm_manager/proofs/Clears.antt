@@ -1,7 +1,8 @@
 -- The orders to clear, as the loop over the sites gathers them.
-use Rattle.std.proofs.Common.{◌≡◌, ◌∙◌, sym, length-append, ℕ, ◌+◌, ◌≤◌, true, false, cond, List, [], ◌∷◌, ◌++◌, map, length, filter, ap, refl, arith}
+use Rattle.std.proofs.Common.{◌≡◌, ◌∙◌, sym, length-append, ℕ, zero, suc, ◌+◌, ◌≤◌, ◌<◌, ◌==◌, ◌-◌, true, false, cond, List, [], ◌∷◌, ◌++◌, map, length, filter, ap, refl, arith}
+use Rattle.std.proofs.lemmas.Bool.Decides.{nat_tests}
 use Rattle.std.specs.List.{range_with_len}
-use Rattle.std.proofs.lemmas.List.{append-nil, map-append}
+use Rattle.std.proofs.lemmas.List.{append-nil, length-map, map-append}
 use Rattle.std.proofs.lemmas.List.FromFn.{filter_of_map_range_with_len_more}
 use Rattle.shm_model.specs.Book.{Book, Running, Order, ClearTo, awaits, awaited}
 
@@ -51,3 +52,27 @@ gathered_not_here b run n old new had not_here e = record {
 
 pub gathered_all : (b : Book) (run : Running) (n : ℕ) (clears : List Order) → n ≡ 16 → Gathered b run n clears → clears ≡ map ClearTo (awaited b run)
 gathered_all b run n clears whole had = had.below ∙ ap (clears_below b run) whole ∙ clears_below-all b run
+
+-- ---- whether a site is awaited
+
+clears_below-longer : (b : Book) (run : Running) (n k m : ℕ) → m ≡ n + k → length (clears_below b run n) ≤ length (clears_below b run m)
+clears_below-longer b run n zero m e =
+    let same : m ≡ n = omega (arith, e) in
+    omega (arith, ap (λ j. length (clears_below b run j)) same)
+clears_below-longer b run n (suc k) m e =
+    let more : m ≡ (n + k) + 1 = omega (arith, e) in
+    omega (arith, clears_below-longer b run n k (n + k) refl, ap (λ j. length (clears_below b run j)) more, ap length (clears_below-more b run (n + k)), length-append (clears_below b run (n + k)) (map ClearTo (cond (awaits b run (n + k)) ((n + k) ∷ []) [])))
+
+pub none_awaited : (b : Book) (run : Running) (n : ℕ) → n ≡ 16 → clears_below b run n ≡ [] → true ≡ (length (awaited b run) == 0)
+none_awaited b run n whole none =
+    let all : length (map ClearTo (awaited b run)) ≡ 0 = ap length (sym (clears_below-all b run) ∙ ap (clears_below b run) (sym whole) ∙ none) in
+    let few : length (awaited b run) ≡ 0 = sym (length-map (awaited b run) ClearTo) ∙ all in
+    grind (arith, nat_tests, few)
+
+pub one_awaited : (b : Book) (run : Running) (n : ℕ) → n < 16 → awaits b run n ≡ true → false ≡ (length (awaited b run) == 0)
+one_awaited b run n low here =
+    let some : 1 ≤ length (clears_below b run (n + 1)) = omega (arith, ap length (clears_below-here b run n here), length-append (clears_below b run n) (ClearTo n ∷ [])) in
+    let fits : 16 ≡ (n + 1) + (15 - n) = omega (arith, low) in
+    let most = clears_below-longer b run (n + 1) ((15 - n)) 16 fits in
+    let few : 1 ≤ length (awaited b run) = omega (arith, some, most, ap length (clears_below-all b run), length-map (awaited b run) ClearTo) in
+    grind (arith, nat_tests, few)

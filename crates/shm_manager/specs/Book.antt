@@ -1,10 +1,12 @@
 -- What shm_model sees of a book, and of what a call answers.
-use Rattle.std.specs.Prelude.{ℕ, Bool, true, false, List, Option, Some, None, Result, Ok, Err}
+use Rattle.std.specs.Prelude.{ℕ, Bool, true, false, List, [], ◌∷◌, ◌++◌, Option, Some, None, Result, Ok, Err}
 use Rattle.shm_model.specs.declared.kind.Kind.{Kind}
 use Rattle.shm_model.specs.Book as model
 use Rattle.shm_number.specs.Served.{served_of}
 use Rattle.shm_number.specs.declared.counter.UsedUp.{UsedUp}
 use Rattle.shm_manager.specs.declared.book.Book.{Book}
+use Rattle.shm_manager.specs.declared.due.Due.{Due}
+use Rattle.shm_manager.specs.declared.due.Due.TheVariants as due
 use Rattle.shm_place.specs.SiteSet.{has}
 
 abbrev pub run_of : Kind → ℕ → model.Running
@@ -44,12 +46,18 @@ abbrev pub asked_row_of : Result (Option (List model.Order)) UsedUp → model.Bo
 asked_row_of (Ok answer) after = row_of answer after
 asked_row_of (Err _) after = model.UsedUp
 
--- no number is left for the transaction that the message would start
-abbrev pub is_used_up : model.Outcome → Bool
-is_used_up model.UsedUp = true
-is_used_up _ = false
+-- with a request behind those that wait
+abbrev pub behind : ℕ → ℕ → Kind → model.Book → model.Book
+behind from request kind b = record b { waiting = b.waiting ++ (record { from = from; request = request; kind = kind } ∷ []) }
 
--- the message changed the book
-abbrev pub is_taken : model.Outcome → Bool
-is_taken (model.Taken _ _) = true
-is_taken _ = false
+-- what becomes of a request, from its row and from what runs: one that is taken waits behind what runs, or starts
+abbrev pub due_of : model.Outcome → Option model.Running → Due
+due_of model.Ignored _ = due.Ignored
+due_of model.UsedUp _ = due.UsedUp
+due_of (model.Taken _ _) None = due.Starts
+due_of (model.Taken _ _) (Some _) = due.Waits
+
+-- a transaction starts
+abbrev pub starts : Due → Bool
+starts due.Starts = true
+starts _ = false

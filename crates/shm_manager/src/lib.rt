@@ -4,10 +4,12 @@
 
 mod ask;
 mod book;
+mod due;
 mod orders;
 mod queue;
 mod rows;
 
 pub use book::Book;
-pub use orders::{Order, Orders};
+pub use due::Due;
+pub use orders::{MOST_ORDERS, Order, Orders};
 pub use shm_model::Kind;

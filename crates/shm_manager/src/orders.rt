@@ -19,6 +19,9 @@ pub enum Order {
     },
 }
 
+/// How many orders go out at once, at most.
+pub const MOST_ORDERS: usize = 16;
+
 /// At most 16 orders, in the order in which they go out.
 #[derive(Drop)]
 pub struct Orders {

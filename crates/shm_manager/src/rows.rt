@@ -1,12 +1,13 @@
 //! What a manager does at each message, and what it sends again at a tick.
-ghost use Rattle.std.specs.Prelude.{◌≡◌, ◌<◌, ◌&&◌, is_none, map, IfOk, IfNone, OnErr};
+ghost use Rattle.std.specs.Prelude.{◌≡◌, ◌<◌, ◌==◌, false, [], length, map, Some, IfOk, IfNone, OnErr};
 ghost use Rattle.shm_number.specs.Served.{served_of};
 ghost use Rattle.shm_model.specs.Book as model;
 ghost use Rattle.shm_model.specs.declared.kind.Kind.{Kind};
-ghost use Rattle.shm_manager.specs.Book.{book_of, run_of, row_of, asked_row_of, is_taken, is_used_up};
+ghost use Rattle.shm_manager.specs.Book.{book_of, run_of, row_of, asked_row_of, behind, due_of};
 
 use crate::ask::Ask;
 use crate::book::Book;
+use crate::due::Due;
 use crate::orders::Orders;
 use shm_model::Kind;
 use shm_number::UsedUp;
@@ -14,20 +15,34 @@ use shm_place::{SiteId, SiteSet};
 use std::alloc::Allocator;
 
 impl<A: Allocator> Book<A> {
-    /// Whether the request would start a transaction for which no number is left.
-    pub fn lacks_number(&self, from: SiteId, request: u64) -> bool
+    /// What becomes of a request for a right, whatever the right is. Nothing is changed yet.
+    pub fn due(&self, from: SiteId, request: u64) -> Due
         requires { from < 16 }
-        ensures { (kind : Kind) → result ≡ is_used_up (model.on_ask from request kind (book_of self.now)) }
+        ensures { (kind : Kind) → result ≡ due_of (model.on_ask from request kind (book_of self.now)) (book_of self.now).running }
     {
-        self.number == u64::MAX && self.running.is_none() && self.served.fresh(from, request)
+        if !self.served.fresh(from, request) {
+            return Due::Ignored;
+        }
+        if self.running.is_some() {
+            return self.due_behind(from, request);
+        }
+        if self.number == u64::MAX {
+            return Due::UsedUp;
+        }
+        Due::Starts
     }
 
-    /// Whether the request would start a transaction.
-    pub fn starts(&self, from: SiteId, request: u64) -> bool
+    fn due_behind(&self, from: SiteId, request: u64) -> Due
         requires { from < 16 }
-        ensures { (kind : Kind) → result ≡ (is_none (book_of self.now).running && is_taken (model.on_ask from request kind (book_of self.now))) }
+        ensures { (kind : Kind) (run : model.Running) → result ≡ due_of (model.ask_behind from request kind (book_of self.now)) (Some run) }
     {
-        self.number < u64::MAX && self.running.is_none() && self.served.fresh(from, request)
+        if self.waiting.contains(from, request) {
+            return Due::Ignored;
+        }
+        if self.waiting.is_full() {
+            return Due::Ignored;
+        }
+        Due::Waits
     }
 
     /// A request for a right. None: it was served, or waits already, or there is no room to wait.
@@ -37,41 +52,50 @@ impl<A: Allocator> Book<A> {
         ensures ignored { IfOk result (λ answer. IfNone answer (book_of self.new ≡ book_of self.old)) }
         ensures refused { OnErr result (book_of self.new ≡ book_of self.old) }
     {
-        if !self.served.fresh(from, request) {
-            return Ok(None);
-        }
-        if self.running.is_some() {
-            return Ok(self.ask_behind(from, request, kind));
-        }
-        if self.number == u64::MAX {
-            return Err(UsedUp);
-        }
-        Ok(Some(self.start(from, request, kind)))
+        let due = self.due(from, request);
+        self.ask_due(due, from, request, kind)
     }
 
-    fn ask_behind(&mut self, from: SiteId, request: u64, kind: Kind) -> Option<Orders>
-        requires { from < 16 }
-        ensures row { row_of result (book_of self.new) ≡ model.ask_behind from request kind (book_of self.old) }
-        ensures ignored { IfNone result (book_of self.new ≡ book_of self.old) }
+    /// The same, where it was found out before what becomes of the request.
+    pub fn ask_due(
+        &mut self,
+        due: Due,
+        from: SiteId,
+        request: u64,
+        kind: Kind,
+    ) -> Result<Option<Orders>, UsedUp>
+        requires site { from < 16 }
+        requires due { due ≡ due_of (model.on_ask from request kind (book_of self.old)) (book_of self.old).running }
+        ensures row { asked_row_of result (book_of self.new) ≡ model.on_ask from request kind (book_of self.old) }
+        ensures ignored { IfOk result (λ answer. IfNone answer (book_of self.new ≡ book_of self.old)) }
+        ensures refused { OnErr result (book_of self.new ≡ book_of self.old) }
     {
-        if self.waiting.contains(from, request) {
-            return None;
+        match due {
+            Due::Ignored => Ok(None),
+            Due::UsedUp => Err(UsedUp),
+            Due::Waits => Ok(Some(self.wait(from, request, kind))),
+            Due::Starts => Ok(Some(self.start(from, request, kind))),
         }
-        if self.waiting.is_full() {
-            return None;
-        }
+    }
+
+    fn wait(&mut self, from: SiteId, request: u64, kind: Kind) -> Orders
+        requires site { from < 16 }
+        requires room { length self.old.waiting < 16 }
+        ensures book { book_of self.new ≡ behind from request kind (book_of self.old) }
+        ensures orders { result ≡ [] }
+    {
         self.waiting.push(Ask {
             from,
             request,
             kind,
         });
-        Some(Orders::none())
+        Orders::none()
     }
 
     fn start(&mut self, from: SiteId, request: u64, kind: Kind) -> Orders
         requires site { from < 16 }
         requires fresh { served_of self.old.served from < request }
-        requires number_left { self.old.number < u64.MAX }
+        requires number_left { (self.old.number == u64.MAX) ≡ false }
         ensures book { book_of self.new ≡ model.started from request kind (book_of self.old) }
         ensures orders { result ≡ model.orders (model.started from request kind (book_of self.old)) }
     {
@@ -105,7 +129,7 @@ impl<A: Allocator> Book<A> {
         requires { self.now.running ≡ Some (kind, requester) }
         ensures { result ≡ model.hand_if_cleared (book_of self.now) (run_of kind requester) (model.awaited (book_of self.now) (run_of kind requester)) }
     {
-        if self.orders_to_clear(kind, requester).is_empty() {
+        if self.all_cleared(kind, requester) {
             return Orders::hand(self.owner, requester, kind);
         }
         Orders::none()
@@ -171,11 +195,22 @@ impl<A: Allocator> Book<A> {
     fn orders_for(&self, kind: Kind, requester: SiteId) -> Orders
         ensures { result ≡ model.orders_to (book_of self.now) (run_of kind requester) (model.awaited (book_of self.now) (run_of kind requester)) }
     {
-        let clears = self.orders_to_clear(kind, requester);
-        if clears.is_empty() {
+        if self.all_cleared(kind, requester) {
             return Orders::hand(self.owner, requester, kind);
         }
-        clears
+        self.orders_to_clear(kind, requester)
+    }
+
+    /// Whether the transaction waits for no site, so that the page is to be handed.
+    fn all_cleared(&self, kind: Kind, requester: SiteId) -> bool
+        ensures { result ≡ (length (model.awaited (book_of self.now) (run_of kind requester)) == 0) }
+    {
+        'sites: for site in 0..16u32 {
+            if self.awaits(kind, requester, SiteId(site)) {
+                return false;
+            }
+        }
+        true
     }
 
     /// An order to clear for each site that the transaction still waits for.

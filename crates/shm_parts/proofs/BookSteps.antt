@@ -16,7 +16,8 @@ use Rattle.shm_model.specs.Site.{Site, Step, dropped, still}
 use Rattle.shm_model.specs.Transfer.{booked_with, to_book, order_envelope}
 use Rattle.shm_model.specs.declared.answer.Answer.TheVariants.{Took, Refused}
 use Rattle.shm_model.specs.Refusal.{numbers_used_up}
-use Rattle.shm_manager.specs.Book.{book_of}
+use Rattle.shm_manager.specs.Book.{book_of, due_of, starts}
+use Rattle.shm_manager.specs.declared.due.Due.{Due}
 use Rattle.shm_manager.specs.declared.book.Book.{Book}
 use Rattle.shm_parts.specs.declared.outcome.Outcome.{Outcome}
 use Rattle.shm_parts.specs.declared.outcome.Outcome.TheVariants as outcome
@@ -226,6 +227,15 @@ asked_first me from request kind h = rw (le_0 request h) refl
   where
     le_0 : (r : ℕ) → 0 < r → nat_le r 0 ≡ false
     le_0 r h = grind (arith, nat_tests)
+
+-- what becomes of it, as found out before there is a book
+pub first_due : (me from request : ℕ) (kind : Kind) (due : Due) (b : model.Book) → due ≡ due_of (model.on_ask from request kind (model.untouched_book me)) None → b ≡ model.untouched_book me → due ≡ due_of (model.on_ask from request kind b) b.running
+first_due me from request kind due b is made = is ∙ sym (ap (λ (x : model.Book). due_of (model.on_ask from request kind x) x.running) made)
+
+-- only one with a number starts a transaction
+pub first_starts : (me from request : ℕ) (kind : Kind) (due : Due) → due ≡ due_of (model.on_ask from request kind (model.untouched_book me)) None → starts due ≡ true → 0 < request
+first_starts me from zero kind due is h = absurd (true≢false (sym h ∙ ap starts is))
+first_starts me from (suc r) kind due is h = omega arith
 
 module _ {A : Type 0} where
   -- a row of a page that has the book b, which became next

@@ -1,24 +1,22 @@
 -- The pages that are listed and marked fit the books, after a change of both.
-use Rattle.std.proofs.Common.{◌≡◌, ◌==◌, ◌&&◌, ◌≤◌, ◌+◌, ℕ, Bool, true, false, cond, not, nat_lt, if◌then◌else◌, List, [], ◌∷◌, filter, map, Option, Some, None, is_none, is_some, refl, sym, ap, ◌∙◌}
+use Rattle.std.proofs.Common.{◌≡◌, ◌==◌, ◌&&◌, ◌≤◌, ◌+◌, ℕ, Bool, true, false, cond, not, nat_lt, if◌then◌else◌, List, [], ◌∷◌, filter, map, Option, Some, None, is_some, refl, sym, ap, ◌∙◌}
 use Rattle.std.proofs.Math.Path.{fun_ext}
 use Rattle.std.proofs.lemmas.Bool.{false≢true, true≢false}
 use Rattle.std.specs.List.{list_any}
 use Rattle.std.specs.Map.{keys_of, lookup}
 use Rattle.shm_place.specs.declared.page.PageId.{PageId}
 use Rattle.shm_place.specs.Page.{same_page}
-use Rattle.shm_manager.specs.Book.{book_of, is_taken}
+use Rattle.shm_manager.specs.Book.{book_of}
 use Rattle.shm_manager.specs.declared.book.Book.{Book}
 use Rattle.shm_model.specs.Book as model
 use Rattle.shm_model.specs.SegmentCalls.{of_segment, without_segment}
 use Rattle.shm_model.specs.Transfer.{without_page}
 use Rattle.shm_parts.specs.Booked.{IsBooked, book_or, runs_at}
 use Rattle.shm_parts.specs.Bookings.{is_listed, is_marked, listed_of}
-use Rattle.shm_parts.specs.Books.{IsSettled, given_by, viewed}
+use Rattle.shm_parts.specs.Books.{viewed}
 use Rattle.shm_parts.specs.Ends.{is_past}
 use Rattle.shm_parts.specs.Places.{place_of}
 use Rattle.shm_parts.specs.declared.bookings.Bookings.{Bookings}
-use Rattle.shm_parts.specs.declared.outcome.Outcome.{Outcome}
-use Rattle.shm_parts.specs.declared.outcome.Outcome.TheVariants as outcome
 use Rattle.shm_parts.proofs.BookSteps.{as_books, forgotten_books, forgotten_keys, list_any-keys, page-same, same_books, same_keys}
 use Rattle.shm_parts.proofs.GoneLemmas.{gone_below, gone-more, gone-none, gone-past}
 use Rattle.shm_parts.proofs.ListLemmas.{all-map, all-values, filter-agree, filter-twice}
@@ -30,16 +28,6 @@ settled_off false b c same h = refl
 
 present-keys : {A : Type 0} (old new : List (PageId × Book A)) → keys_of new ≡ keys_of old → (q : PageId) → is_some (lookup (same_page q) new) ≡ is_some (lookup (same_page q) old)
 present-keys old new same q = sym (list_any-keys (same_page q) new) ∙ ap (list_any (same_page q)) same ∙ list_any-keys (same_page q) old
-
--- a row that isn't taken, or is taken behind a running transaction, starts none
-asked_idle : (o : Outcome) (old next : model.Book) (row : model.Outcome) → given_by o next ≡ row → IsSettled o old next → (is_none old.running && is_taken row) ≡ false → is_some next.running ≡ true → is_some old.running ≡ true
-asked_idle outcome.Ignored old next row given settled idle runs = ap (λ (b : model.Book). is_some b.running) (sym settled) ∙ runs
-asked_idle outcome.UsedUp old next row given settled idle runs = ap (λ (b : model.Book). is_some b.running) (sym settled) ∙ runs
-asked_idle (outcome.Taken number orders) old next row given settled idle runs = ran old.running (ap (λ (r : model.Outcome). is_none old.running && is_taken r) given ∙ idle)
-  where
-    ran : (r : Option model.Running) → (is_none r && true) ≡ false → is_some r ≡ true
-    ran None h = absurd (true≢false h)
-    ran (Some run) h = refl
 
 module _ {A B : Type 0} where
   -- the same pages have books and run
@@ -86,22 +74,9 @@ module _ {A B : Type 0} where
       run q true same h = ap (is_marked now) (sym (page-same page q same)) ∙ marks h
       run q false same h = keeps q same (is.running q h)
 
-  -- a row of an Ask that starts no transaction leaves the book idle where it was
-  pub booked_asked : (old : List (PageId × Book A)) (was now : Bookings B) (page : PageId) (b : Book A) (next : model.Book) (row : model.Outcome) (o : Outcome) (starts : Bool) → lookup (same_page page) old ≡ Some b
-      → starts ≡ (is_none (book_of b).running && is_taken row) → given_by o next ≡ row → IsSettled o (book_of b) next
-      → (starts ≡ true → is_listed was page ≡ true → is_marked now page ≡ true) → ((q : PageId) → is_marked was q ≡ true → is_marked now q ≡ true) → IsBooked old was
-      → is_some next.running ≡ true → is_marked now page ≡ true
-  booked_asked old was now page b next row o starts found decided given settled marks keeps is runs = by starts refl
-    where
-      listed : is_listed was page ≡ true
-      listed = is.listed page ∙ ap is_some found
-
-      ran : is_some (book_of b).running ≡ true → is_marked now page ≡ true
-      ran h = keeps page (is.running page (ap (λ (x : Option (Book A)). is_some (book_or (model.untouched_book 0) x).running) found ∙ h))
-
-      by : (s : Bool) → starts ≡ s → is_marked now page ≡ true
-      by true h = marks h listed
-      by false h = ran (asked_idle o (book_of b) next row given settled (sym decided ∙ h) runs)
+  -- a page that has a book is listed
+  pub booked_there : (old : List (PageId × Book A)) (was : Bookings B) (page : PageId) (b : Book A) → lookup (same_page page) old ≡ Some b → IsBooked old was → is_listed was page ≡ true
+  booked_there old was page b found is = is.listed page ∙ ap is_some found
 
   -- a page is among those booked if it has a book
   pub any_booked : (books : List (PageId × Book A)) (was : Bookings B) (page : PageId) → IsBooked books was → list_any (same_page page) (listed_of was) ≡ is_some (lookup (same_page page) books)

@@ -1,25 +1,27 @@
 -- What a change of one page's entry does to the entries as a function of the page.
-use Rattle.std.proofs.Common.{◌≡◌, ℕ, zero, suc, ◌+◌, Bool, true, false, List, [], ◌∷◌, ◌++◌, take, slice_get, ◌==◌, Option, Some, None, is_some, Result, Ok, Err, OnOk, OnErr, if◌then◌else◌, refl, sym, ◌∙◌, ap, true≢false, arith}
+use Rattle.std.proofs.Common.{◌≡◌, ℕ, zero, suc, ◌+◌, ◌<◌, Bool, true, false, List, [], ◌∷◌, ◌++◌, take, slice_get, get_or, length, position, ◌==◌, Option, Some, None, is_some, Result, Ok, Err, IfOk, OnOk, OnErr, if◌then◌else◌, refl, sym, subst, ◌∙◌, ap, true≢false, arith}
 use Rattle.std.proofs.Math.Path.{fun_ext}
 use Rattle.std.proofs.lemmas.Bool.{and_parts}
 use Rattle.std.proofs.lemmas.Bool.Decides.{nat_tests}
 use Rattle.std.proofs.lemmas.List.{take_more}
+use Rattle.std.proofs.lemmas.List.Quantifiers.{position-Some}
 use Rattle.std.proofs.lemmas.Map.{lookup-none}
-use Rattle.std.proofs.lemmas.Map.Entries.{lookup_from_place, none_past_head}
+use Rattle.std.proofs.lemmas.Map.Entries.{length-keys_of, lookup_from_place, none_past_head}
 use Rattle.std.proofs.lemmas.Map.Keys.{IsDistinct-tail}
-use Rattle.std.proofs.lemmas.Option.{get_or_from_slice_get, slice_get_within}
+use Rattle.std.proofs.lemmas.Option.{get_or_from_slice_get, slice_get-get_or, same_Some, slice_get-map, slice_get_within}
 use Rattle.std.specs.Cmp.{IsEquivalence}
 use Rattle.std.specs.List.{IsDistinct}
 use Rattle.std.specs.Map.{keys_of, lookup}
-use Rattle.indexmap.proofs.CallerLemmas.{insert_entry-new}
-use Rattle.indexmap.specs.IndexMap.{IndexMap, insert_entry}
+use Rattle.std.specs.Option.{option_map}
+use Rattle.indexmap.proofs.CallerLemmas.{insert_entry-new, updates-with_value_at}
+use Rattle.indexmap.specs.IndexMap.{IndexMap, IsUnique, insert_entry, with_value_at}
 use Rattle.shm_place.specs.declared.page.PageId.{PageId}
 use Rattle.shm_place.specs.Page.{same_page}
 use Rattle.shm_model.specs.Entry as model
 use Rattle.shm_model.specs.Basics.{at_page}
 use Rattle.shm_page.specs.Entry.{entry_of}
 use Rattle.shm_page.specs.declared.entry.Entry.{Entry}
-use Rattle.shm_parts.specs.Entries.{entries_of, entry_or, is_stored, stored_at}
+use Rattle.shm_parts.specs.Entries.{StandsAt, entries_of, entry_or, is_stored, stored_at}
 use Rattle.shm_parts.specs.declared.entries.Entries.{Entries}
 
 -- pages with the same segment and index are the same
@@ -98,6 +100,11 @@ pub on_ok : {T E : Type 0} {P Q : Type 0} (r : Result T E) → (P → Q) → OnO
 on_ok (Ok x) f h = f h
 on_ok (Err e) f h = h
 
+-- what holds of a success
+pub if_ok : {T E : Type 0} {P Q : T → Type 0} (r : Result T E) → ((x : T) → P x → Q x) → IfOk r P → IfOk r Q
+if_ok (Ok x) f h = f x h
+if_ok (Err e) f h = h
+
 -- and at a failure
 pub on_err : {T E : Type 0} {P Q : Type 0} (r : Result T E) → (P → Q) → OnErr r P → OnErr r Q
 on_err (Ok x) f h = h
@@ -132,3 +139,46 @@ entry-next m es i k v d at is =
     ∙ ap (λ l. l ++ (k, v) ∷ []) is
     ∙ ap (λ x. take i es ++ x ∷ []) (sym (get_or_from_slice_get es i (k, v) (k, v) at))
     ∙ sym (take_more es i (k, v) within)
+
+-- where a search among the stored pages ends, there the page stands
+pub stands-found : {A : Type 0} (entries : Entries A) (page : PageId) (place : ℕ) → position (same_page page) (keys_of entries.map.entries) ≡ Some place → StandsAt page place entries
+stands-found entries page place found =
+    let pages : List PageId = keys_of entries.map.entries in
+    let parts = position-Some (same_page page) pages place page found in
+    slice_get-get_or pages place page parts.0 ∙ ap Some (sym (page-same page (get_or pages place page) parts.1))
+
+last-place : {X : Type 0} (es : List (PageId × X)) (e : PageId × X) → slice_get (keys_of (es ++ e ∷ [])) (length es) ≡ Some e.0
+last-place [] e = refl
+last-place (x ∷ es) e = last-place es e
+
+nothing : {X : Type 0} (o : Option X) → is_some o ≡ false → o ≡ None
+nothing None h = refl
+nothing (Some x) h = absurd (true≢false h)
+
+-- a page whose entry is stored anew stands last
+pub stands-new : {A : Type 0} (old new : Entries A) (page : PageId) (w : Entry A) → is_stored old page ≡ false
+    → new.map.entries ≡ insert_entry same_page old.map.entries page w → StandsAt page (length old.map.entries) new
+stands-new old new page w fresh put =
+    let es = old.map.entries in
+    ap (λ l. slice_get (keys_of l) (length es)) (put ∙ insert_entry-new same_page old.map page w (nothing (stored_at old page) fresh))
+    ∙ last-place es (page, w)
+
+-- where a page stands is one of so many places
+pub stands-within : {A : Type 0} (entries : Entries A) (page : PageId) (place : ℕ) → StandsAt page place entries → place < length entries.map.entries
+stands-within entries page place stands =
+    subst (λ n. place < n) (length-keys_of entries.map.entries) (slice_get_within (keys_of entries.map.entries) place page stands)
+
+-- what stands where the page does is the page's entry
+pub stands-own : {A : Type 0} (entries : Entries A) (page : PageId) (place : ℕ) (k : PageId) (v : Entry A) → StandsAt page place entries
+    → slice_get entries.map.entries place ≡ Some (k, v) → slice_get entries.map.entries place ≡ Some (page, v)
+stands-own entries page place k v stands at =
+    at ∙ ap (λ p. Some (p, v)) (same_Some k page (sym (ap (option_map (λ e. e.0)) at) ∙ sym (slice_get-map (λ e. e.0) entries.map.entries place) ∙ stands))
+
+-- the value at the place where the page stands is the page's entry; and a value that is written there is the page's entry after it
+module _ {A : Type 0} (old : Entries A) (page : PageId) (place : ℕ) (k : PageId) (v w : Entry A) (unique : IsUnique same_page old.map)
+    (stands : StandsAt page place old) (at : slice_get old.map.entries place ≡ Some (k, v)) where
+  pub stands-entry : Some v ≡ stored_at old page
+  stands-entry = sym (lookup_from_place same_page_equiv old.map.entries place page v unique (stands-own old page place k v stands at))
+
+  pub stands-written : (q : PageId) → stored_at (record { map = with_value_at old.map place w }) q ≡ (if same_page page q then Some w else stored_at old q)
+  stands-written = (updates-with_value_at old.map place w same_page_equiv unique page v (stands-own old page place k v stands at)).0

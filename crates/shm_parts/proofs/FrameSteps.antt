@@ -6,12 +6,21 @@ use Rattle.indexmap.specs.IndexMap.{insert_entry}
 use Rattle.shm_place.specs.declared.page.PageId.{PageId}
 use Rattle.shm_place.specs.Page.{same_page}
 use Rattle.shm_model.specs.SegmentCalls.{without_segment}
+use Rattle.shm_model.specs.Site as model
 use Rattle.shm_model.specs.Transfer.{without_page}
-use Rattle.shm_parts.specs.Frames.{IsFor, arranged_by, counted}
+use Rattle.shm_parts.specs.Frames.{IsFor, arranged_by, counted, installs}
 use Rattle.shm_parts.specs.OrderedPages.{without, without_pages_of}
 use Rattle.shm_parts.specs.declared.change.Change.{Change}
 use Rattle.shm_parts.proofs.EntryLemmas.{same-page}
 use Rattle.shm_parts.proofs.OrderedPagesLemmas.{filter-both, insert-new}
+
+second : (b c : Bool) → not b ≡ false → (b && c) ≡ false → c ≡ false
+second true c in_it none = none
+second false c in_it none = absurd (true≢false in_it)
+
+pub first_and : (b c : Bool) → (b && c) ≡ true → (not b ≡ false) × (c ≡ true)
+first_and true c both = (refl, both)
+first_and false c both = absurd (true≢false (sym both))
 
 twice : (b : Bool) → not b ≡ (not b && not b)
 twice true = refl
@@ -30,6 +39,13 @@ none_from (Some x) h = absurd (true≢false h)
 pub unit_from : (o : Option (Unit {0})) → is_some o ≡ true → o ≡ Some tt
 unit_from None h = absurd (true≢false (sym h))
 unit_from (Some x) h = refl
+
+-- a copy that stays one stays where it is
+pub arranged-kept : (page : PageId) (change : Change) (old new : model.Frames) → not change.copy ≡ false → installs change ≡ false → new ≡ old
+    → new ≡ record old { copies = arranged_by change page old.copies }
+arranged-kept page change old new in_it none same =
+    same
+    ∙ (λ i. record old { copies = if sym in_it i then without_page page old.copies else if sym (second change.copy change.newer in_it none) i then without_page page old.copies ++ (page ∷ []) else old.copies })
 
 module _ {V : Type 0} where
   keys_step : (b : Bool) (e : PageId × V) (xs : List (PageId × V)) (ys : List PageId) → keys_of xs ≡ ys → keys_of (cond b (e ∷ xs) xs) ≡ cond b (e.0 ∷ ys) ys
@@ -89,6 +105,14 @@ module _ {V : Type 0} where
     where
       copies : List PageId
       copies = counted awaited (keys_of es)
+
+  -- the same, of the frames, where no page is awaited
+  pub arranged-left : (page : PageId) (change : Change) (old : model.Frames) (limit : ℕ) (awaited : Option PageId) (es new : List (PageId × V)) → awaited ≡ None → not change.copy ≡ true → new ≡ without page es
+      → record { limit = limit; copies = counted awaited (keys_of es) } ≡ old → record { limit = limit; copies = counted awaited (keys_of new) } ≡ record old { copies = arranged_by change page old.copies }
+  arranged-left page change old limit None es new none out gone same =
+      ap (λ (l : List PageId). record { limit = limit; copies = l }) (copies-left page change None es new tt out gone)
+      ∙ ap (λ (f : model.Frames). record f { copies = arranged_by change page f.copies }) same
+  arranged-left page change old limit (Some q) es new none out gone same = cc
 
   -- the page is the newest copy
   pub copies-joined : (page : PageId) (v : V) (change : Change) (awaited : Option PageId) (es new : List (PageId × V)) → IsFor page awaited → not change.copy ≡ false → change.newer ≡ true

@@ -13,3 +13,4 @@ pub mod OrderedPagesLemmas
 pub mod Held
 pub mod Reaches
 pub mod Turned
+pub mod Installs

@@ -76,6 +76,25 @@ pending_settled reads writes page (e ∷ es) h =
     settled_step (same_page page e.0) reads writes e es (remove_entry (same_page page) es) (pending_at page (map pending_of es)) (settle reads writes page (map pending_of es))
     (λ k. pending_settled reads writes page es k) h
 
+dropped_step : (b reads : Bool) (e : Row) (es rest : List Row) (more : List Pending) → map pending_of rest ≡ more
+    → map pending_of (cond b es (e ∷ rest)) ≡ cond b (cond (is_settled reads true (pending_of e)) (map pending_of es) (pending_of e ∷ map pending_of es)) (pending_of e ∷ more)
+dropped_step true reads e es rest more h = refl
+dropped_step false reads e es rest more h = ap (λ ps. pending_of e ∷ ps) h
+
+-- the right to write settles the page's request, whatever it is
+pub pending_dropped : (reads : Bool) (page : PageId) (es : List Row) → map pending_of (remove_entry (same_page page) es) ≡ settle reads true page (map pending_of es)
+pending_dropped reads page [] = refl
+pending_dropped reads page (e ∷ es) =
+    dropped_step (same_page page e.0) reads e es (remove_entry (same_page page) es) (settle reads true page (map pending_of es)) (pending_dropped reads page es)
+
+-- where no right came, nothing is settled
+pub nothing_settles : (page : PageId) (pending : List Pending) → settles false false page pending ≡ false
+nothing_settles page pending = by (pending_at page pending)
+  where
+    by : (p : Option Pending) → settled_by false false p ≡ false
+    by None = refl
+    by (Some p) = refl
+
 kept_step : (b reads writes : Bool) (p : Pending) (ps more : List Pending) (later : Option Pending) → (settled_by reads writes later ≡ false → ps ≡ more)
     → settled_by reads writes (cond b (Some p) later) ≡ false → p ∷ ps ≡ cond b (cond (is_settled reads writes p) ps (p ∷ ps)) (p ∷ more)
 kept_step true reads writes p ps more later step h = sym (ap (λ s. cond s ps (p ∷ ps)) h)

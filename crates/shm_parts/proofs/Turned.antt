@@ -14,10 +14,11 @@ use Rattle.shm_model.specs.Transfer.{arranged, drop_first, is_nothing, limited, 
 use Rattle.shm_parts.specs.Entries.{change_of, row}
 use Rattle.shm_parts.specs.Frames.{arranged_by, first_out}
 use Rattle.shm_parts.specs.Holdings.{arranged_frames, given_up, held_entries, rearranged, turned_step, with_frames, with_holdings}
-use Rattle.shm_page.specs.Out.{out_of}
-use Rattle.shm_page.specs.declared.out.Out.{Out}
+use Rattle.shm_model.specs.Message.{Envelope as ModelEnvelope}
+use Rattle.shm_parts.specs.Message.{envelope_of}
 use Rattle.shm_parts.specs.declared.change.Change.{Change}
 use Rattle.shm_parts.specs.declared.holdings.Holdings.{Holdings}
+use Rattle.shm_parts.specs.declared.message.Envelope.{Envelope}
 use Rattle.shm_parts.proofs.Held.{Pages, at_same, here_alive, masked, masked_at, site_of}
 
 dropped_step : (b : Bool) (qs : List PageId) (f : ModelFrames) (site : Site)
@@ -82,45 +83,43 @@ quiet me (model.Page n kind b) e = quiet-page n kind b e
 quiet me (model.Confirm _) e = λ _. refl
 
 -- a row that sends something, where `hold` gives a site what is held after it
-pub turned_loud : (sites me : ℕ) (page : PageId) (new : model.Entry) (out : model.Out) (held : Pages) (a : ℕ → Option Attachment) (p : ℕ → Bool) (f : Option ModelFrames) (hold : Site → Site) (site : Site)
-    → is_nothing out ≡ false
+turned_loud : {A : Type 0} (sites me : ℕ) (page : PageId) (new : model.Entry) (out : model.Out) (envelope : Envelope A) (held : Pages) (a : ℕ → Option Attachment) (p : ℕ → Bool) (f : Option ModelFrames) (hold : Site → Site) (site : Site)
+    → is_nothing out ≡ false → sent_by sites me page out ≡ envelope_of envelope ∷ []
     → ((x : Site) → hold x ≡ rearranged (change_of (held page) new) page (site_of (at_page held page new) a p f x))
-    → to_entry sites me page (new, out) (site_of held a p f site) ≡ turned_step sites me page out (change_of (held page) new) hold site
-turned_loud sites me page new out held a p f hold site sends holds =
+    → to_entry sites me page (new, out) (site_of held a p f site) ≡ turned_step page (Some (envelope, change_of (held page) new)) hold site
+turned_loud sites me page new out envelope held a p f hold site sends sent holds =
     let change = change_of (held page) new in
     let site2 : Site = record (site_of (at_page held page new) a p f site) { pending = settle (model.readable new) (model.writable new) page site.pending } in
     let after = limited_step f page (held page) new site2 in
     let held_after = holds (record site { pending = settle (model.readable new) (model.writable new) page site.pending }) in
     cond-false (is_nothing out) (dropped (site_of held a p f site)) (record { site = with_entry page new (site_of held a p f site); answer = Took; sent = sent_by sites me page out }) sends
     ∙ ap (λ (s : Site). record { site = s; answer = Took; sent = sent_by sites me page out }) (after ∙ sym held_after)
-    ∙ sym (cond-false (is_nothing out) (dropped (hold site)) (record { site = hold (record site { pending = settle (model.readable new) (model.writable new) page site.pending }); answer = Took; sent = sent_by sites me page out }) sends)
+    ∙ ap (λ (l : List ModelEnvelope). record { site = hold (record site { pending = settle (model.readable new) (model.writable new) page site.pending }); answer = Took; sent = l }) sent
 
 nothing_step : (sites me : ℕ) (page : PageId) (r : model.Entry × model.Out) (site : Site) → is_nothing r.1 ≡ true → to_entry sites me page r site ≡ dropped site
 nothing_step sites me page (new, out) site h =
     cond-true (is_nothing out) (dropped site) (record { site = with_entry page new site; answer = Took; sent = sent_by sites me page out }) h
 
 -- a row that sends nothing, at a page whose segment isn't purged
-pub turned_quiet : (sites me : ℕ) (page : PageId) (note : model.Note) (old new : Pages) (a : ℕ → Option Attachment) (p : ℕ → Bool) (f : Option ModelFrames) (out : model.Out) (change : Change) (site : Site)
-    → p page.seg ≡ false → true ≡ is_nothing out → out ≡ (row me note (old page)).1 → new ≡ at_page old page (row me note (old page)).0
-    → to_entry sites me page (row me note (masked p old page)) (site_of (masked p old) a p f site) ≡ turned_step sites me page out change (site_of (masked p new) a p f) site
-turned_quiet sites me page note old new a p f out change site alive silent_out is after =
+pub turned_quiet : (sites me : ℕ) (page : PageId) (note : model.Note) (old new : Pages) (a : ℕ → Option Attachment) (p : ℕ → Bool) (f : Option ModelFrames) (out : model.Out) (site : Site)
+    → p page.seg ≡ false → is_nothing out ≡ true → out ≡ (row me note (old page)).1 → new ≡ at_page old page (row me note (old page)).0
+    → to_entry sites me page (row me note (masked p old page)) (site_of (masked p old) a p f site) ≡ dropped (site_of (masked p new) a p f site)
+turned_quiet sites me page note old new a p f out site alive silent_out is after =
     let here = here_alive p old page alive in
-    let silent : is_nothing (row me note (old page)).1 ≡ true = ap is_nothing (sym is) ∙ sym silent_out in
+    let silent : is_nothing (row me note (old page)).1 ≡ true = ap is_nothing (sym is) ∙ silent_out in
     let same : new ≡ old = after ∙ at_same old page (row me note (old page)).0 (quiet me note (old page) silent) in
-    let hold : Site → Site = site_of (masked p new) a p f in
     nothing_step sites me page (row me note (masked p old page)) (site_of (masked p old) a p f site) (ap (λ (x : model.Entry). is_nothing (row me note x).1) here ∙ silent)
     ∙ ap (λ (e : Pages). dropped (site_of (masked p e) a p f site)) (sym same)
-    ∙ sym (cond-true (is_nothing out) (dropped (hold site)) (record { site = hold (record site { pending = settle change.readable change.writable page site.pending }); answer = Took; sent = sent_by sites me page out }) (sym silent_out))
 
 paired : (sites me : ℕ) (page : PageId) (r : model.Entry × model.Out) (site : Site) → to_entry sites me page r site ≡ to_entry sites me page (r.0, r.1) site
 paired sites me page (new, out) site = refl
 
 -- one that sends something
-pub turned_sent : (sites me : ℕ) (page : PageId) (note : model.Note) (old new : Pages) (a : ℕ → Option Attachment) (p : ℕ → Bool) (f : Option ModelFrames) (out : model.Out) (change : Change) (hold : Site → Site) (site : Site)
-    → p page.seg ≡ false → false ≡ is_nothing out → out ≡ (row me note (old page)).1 → change ≡ change_of (old page) (row me note (old page)).0 → new ≡ at_page old page (row me note (old page)).0
+pub turned_sent : {A : Type 0} (sites me : ℕ) (page : PageId) (note : model.Note) (old new : Pages) (a : ℕ → Option Attachment) (p : ℕ → Bool) (f : Option ModelFrames) (out : model.Out) (envelope : Envelope A) (change : Change) (hold : Site → Site) (site : Site)
+    → p page.seg ≡ false → is_nothing out ≡ false → sent_by sites me page out ≡ envelope_of envelope ∷ [] → out ≡ (row me note (old page)).1 → change ≡ change_of (old page) (row me note (old page)).0 → new ≡ at_page old page (row me note (old page)).0
     → ((x : Site) → hold x ≡ rearranged change page (site_of (masked p new) a p f x))
-    → to_entry sites me page (row me note (masked p old page)) (site_of (masked p old) a p f site) ≡ turned_step sites me page out change hold site
-turned_sent sites me page note old new a p f out change hold site alive sends is changes after holds =
+    → to_entry sites me page (row me note (masked p old page)) (site_of (masked p old) a p f site) ≡ turned_step page (Some (envelope, change)) hold site
+turned_sent sites me page note old new a p f out envelope change hold site alive sends sent is changes after holds =
     let held : Pages = masked p old in
     let r : model.Entry × model.Out = row me note (held page) in
     let here : held page ≡ old page = here_alive p old page alive in
@@ -131,21 +130,21 @@ turned_sent sites me page note old new a p f out change hold site alive sends is
     let holds2 : (x : Site) → hold x ≡ rearranged (change_of (held page) r.0) page (site_of (at_page held page r.0) a p f x) =
     (λ x. holds x ∙ (λ i. rearranged (change2 i) page (site_of (entries i) a p f x))) in
     paired sites me page r (site_of held a p f site)
-    ∙ turned_loud sites me page r.0 r.1 held a p f hold site (ap is_nothing (sym outs) ∙ sym sends) holds2
-    ∙ (λ i. turned_step sites me page (sym outs i) (sym change2 i) hold site)
+    ∙ turned_loud sites me page r.0 r.1 envelope held a p f hold site (ap is_nothing (sym outs) ∙ sends) (ap (sent_by sites me page) (sym outs) ∙ sent) holds2
+    ∙ (λ i. turned_step page (Some (envelope, sym change2 i)) hold site)
 
 -- what a row did where room was made before it
-pub turned_same : {A E : Type 0} (sites me : ℕ) (page : PageId) (note : model.Note) (old mid new : Holdings A) (result : Result (Out A × Change) E)
+pub turned_same : {A E : Type 0} (sites me : ℕ) (page : PageId) (note : model.Note) (old mid new : Holdings A) (result : Result (Option (Envelope A × Change)) E)
     → ((site : Site) → with_holdings sites me mid site ≡ with_holdings sites me old site)
-    → IfOk result (λ r. (sites : ℕ) → (site : Site) → to_entry sites me page (row me note (held_entries sites me mid page)) (with_holdings sites me mid site) ≡ turned_step sites me page (out_of r.0) r.1 (with_holdings sites me new) site)
-    → IfOk result (λ r. (site : Site) → to_entry sites me page (row me note (held_entries sites me old page)) (with_holdings sites me old site) ≡ turned_step sites me page (out_of r.0) r.1 (with_holdings sites me new) site)
+    → IfOk result (λ sent. (site : Site) → to_entry sites me page (row me note (held_entries sites me mid page)) (with_holdings sites me mid site) ≡ turned_step page sent (with_holdings sites me new) site)
+    → IfOk result (λ sent. (site : Site) → to_entry sites me page (row me note (held_entries sites me old page)) (with_holdings sites me old site) ≡ turned_step page sent (with_holdings sites me new) site)
 turned_same sites me page note old mid new (Ok r) same turned = λ site.
-    ap (λ (s : Site). to_entry sites me page (row me note (s.entries page)) s) (sym (same site)) ∙ turned sites site
+    ap (λ (s : Site). to_entry sites me page (row me note (s.entries page)) s) (sym (same site)) ∙ turned site
 turned_same sites me page note old mid new (Err back) same turned = tt
 
 pub refused_same : {A X E : Type 0} (sites me : ℕ) (old mid new : Holdings A) (result : Result X E)
     → ((site : Site) → with_holdings sites me mid site ≡ with_holdings sites me old site)
-    → OnErr result ((sites : ℕ) → (site : Site) → with_holdings sites me new site ≡ with_holdings sites me mid site)
+    → OnErr result ((site : Site) → with_holdings sites me new site ≡ with_holdings sites me mid site)
     → OnErr result ((site : Site) → with_holdings sites me new site ≡ with_holdings sites me old site)
 refused_same sites me old mid new (Ok r) same refused = tt
-refused_same sites me old mid new (Err back) same refused = λ site. refused sites site ∙ same site
+refused_same sites me old mid new (Err back) same refused = λ site. refused site ∙ same site

@@ -1,5 +1,5 @@
 -- The books of the pages that a site manages, as a function of the page, and the pages in the order of their first transactions.
-use Rattle.std.specs.Prelude.{◌≡◌, ℕ, List, ◌∷◌, ◌++◌, Option, Some, None, map}
+use Rattle.std.specs.Prelude.{◌≡◌, ◌==◌, ◌≤◌, ℕ, false, List, [], ◌∷◌, ◌++◌, Option, Some, None, length, map}
 use Rattle.std.specs.List.{AllByRecursion}
 use Rattle.std.specs.Map.{lookup}
 use Rattle.shm_place.specs.declared.page.PageId.{PageId}
@@ -49,6 +49,15 @@ abbrev pub booked_step : ℕ → PageId → Outcome → Site → Step
 booked_step me page outcome.Ignored site = dropped site
 booked_step me page outcome.UsedUp site = still (Refused numbers_used_up) site
 booked_step me page (outcome.Taken number orders) site = record { site = site; answer = Took; sent = map (order_envelope me page number) orders }
+
+-- what goes out
+abbrev pub orders_in : Outcome → List model.Order
+orders_in (outcome.Taken number orders) = orders
+orders_in _ = []
+
+-- there is room for as many orders as there may be, if any go out
+abbrev pub HasRoom : Outcome → ℕ → Type 0
+HasRoom outcome room = (length (orders_in outcome) == 0) ≡ false → 16 ≤ room
 
 -- the row that an outcome tells of, with the book after it
 abbrev pub given_by : Outcome → model.Book → model.Outcome

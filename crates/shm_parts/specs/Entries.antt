@@ -1,6 +1,6 @@
 -- The entries that a site has stored, as a function of the page; and what a message does to one of them.
-use Rattle.std.specs.Prelude.{ℕ, Bool, Option, Some, None, is_some, nat_lt}
-use Rattle.std.specs.Map.{lookup}
+use Rattle.std.specs.Prelude.{◌≡◌, ℕ, Bool, Option, Some, None, is_some, nat_lt, slice_get}
+use Rattle.std.specs.Map.{keys_of, lookup}
 use Rattle.shm_place.specs.declared.page.PageId.{PageId}
 use Rattle.shm_place.specs.Page.{same_page}
 use Rattle.shm_model.specs.Entry as model
@@ -18,6 +18,10 @@ stored_at entries page = lookup (same_page page) entries.map.entries
 
 abbrev pub is_stored : {A : Type 0} → Entries A → PageId → Bool
 is_stored entries page = is_some (stored_at entries page)
+
+-- the page's entry stands at this place among those that are stored
+abbrev pub StandsAt : {A : Type 0} → PageId → ℕ → Entries A → Type 0
+StandsAt page place entries = slice_get (keys_of entries.map.entries) place ≡ Some page
 
 -- the entries as a function of the page, where `rest` says what a page is of which nothing is stored
 abbrev pub entries_of : {A : Type 0} → (PageId → model.Entry) → Entries A → PageId → model.Entry

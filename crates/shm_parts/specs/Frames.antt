@@ -1,5 +1,5 @@
 -- Frames, as the definitions speak of them.
-use Rattle.std.specs.Prelude.{◌≡◌, true, List, [], ◌∷◌, ◌++◌, Option, Some, None, is_some, not, nat_lt, if◌then◌else◌, length, ⊤}
+use Rattle.std.specs.Prelude.{◌≡◌, Bool, true, ◌&&◌, List, [], ◌∷◌, ◌++◌, Option, Some, None, is_some, not, nat_lt, if◌then◌else◌, length, ⊤}
 use Rattle.std.specs.Map.{keys_of, lookup}
 use Rattle.shm_place.specs.declared.page.PageId.{PageId}
 use Rattle.shm_place.specs.Page.{same_page}
@@ -28,6 +28,10 @@ IsFor page (Some awaited) = awaited ≡ page
 -- the page stands there, as a copy or where it will be one, and so takes no more memory
 abbrev pub has_room : {A : Type 0} → PageId → Frames A → Type 0
 has_room page frames = IsFor page frames.awaited × (is_some (lookup (same_page page) frames.pages) ≡ true)
+
+-- a copy came
+abbrev pub installs : Change → Bool
+installs change = change.copy && change.newer
 
 -- the copies after a change at the page
 abbrev pub arranged_by : Change → PageId → List PageId → List PageId

@@ -1,5 +1,5 @@
 -- What a site holds of pages, as the definitions speak of it; and what its calls mean to the site.
-use Rattle.std.specs.Prelude.{ℕ, Bool, [], Option, Some, None, Result, Ok, Err, if◌then◌else◌, slice_index}
+use Rattle.std.specs.Prelude.{ℕ, Bool, [], ◌∷◌, Option, Some, None, Result, Ok, Err, if◌then◌else◌, slice_index}
 use Rattle.shm_place.specs.declared.page.PageId.{PageId}
 use Rattle.shm_model.specs.declared.answer.Access.{Access}
 use Rattle.shm_model.specs.declared.answer.Access.TheVariants as access
@@ -12,16 +12,18 @@ use Rattle.shm_model.specs.Access.{ask_for}
 use Rattle.shm_model.specs.Basics.{at_page}
 use Rattle.shm_model.specs.Site.{Step, dropped, still, Frames as ModelFrames, Site, untouched}
 use Rattle.shm_model.specs.Entry as model
-use Rattle.shm_model.specs.Transfer.{is_nothing, sent_by, settle}
+use Rattle.shm_model.specs.Transfer.{settle}
 use Rattle.shm_attach.specs.Attachments.{attachments_of}
 use Rattle.shm_attach.specs.Right.{denied_number}
 use Rattle.shm_attach.specs.declared.fault.Denied.{Denied}
 use Rattle.shm_parts.specs.Entries.{entries_of}
 use Rattle.shm_parts.specs.Frames.{arranged_by, frames_of, overflowed}
+use Rattle.shm_parts.specs.Message.{envelope_of}
 use Rattle.shm_parts.specs.Purged.{purged_of}
 use Rattle.shm_parts.specs.declared.change.Change.{Change}
 use Rattle.shm_parts.specs.declared.frames.Frames.{Frames}
 use Rattle.shm_parts.specs.declared.holdings.Holdings.{Holdings}
+use Rattle.shm_parts.specs.declared.message.Envelope.{Envelope}
 use Rattle.shm_parts.specs.declared.reached.Loaded.{Loaded}
 use Rattle.shm_parts.specs.declared.reached.Loaded.TheVariants as loaded
 use Rattle.shm_parts.specs.declared.reached.Kept.{Kept}
@@ -80,11 +82,12 @@ kept_step sites me (Ok kept.Stored) site = still Stored site
 kept_step sites me (Ok (kept.Absent page)) site = ask_for sites me Write page site
 kept_step sites me (Err denied) site = still (Refused (denied_number denied)) site
 
--- a message that turned an entry, as a step of the site: `hold` gives a site its holdings after it
-abbrev pub turned_step : ℕ → ℕ → PageId → model.Out → Change → (Site → Site) → Site → Step
-turned_step sites me page out change hold site =
-    if is_nothing out then dropped (hold site)
-    else record { site = hold (record site { pending = settle change.readable change.writable page site.pending }); answer = Took; sent = sent_by sites me page out }
+-- a message that turned an entry, as a step of the site: what goes out, if anything does, and what changed; `hold` gives a site its holdings
+-- after it
+abbrev pub turned_step : {A : Type 0} → PageId → Option (Envelope A × Change) → (Site → Site) → Site → Step
+turned_step page None hold site = dropped (hold site)
+turned_step page (Some sent) hold site =
+    record { site = hold (record site { pending = settle sent.1.readable sent.1.writable page site.pending }); answer = Took; sent = envelope_of sent.0 ∷ [] }
 
 abbrev pub access_of : model.Entry → Access
 access_of e = if model.writable e then access.Write else if model.readable e then access.Read else access.Nil

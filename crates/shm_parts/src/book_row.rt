@@ -1,11 +1,11 @@
 //! A row of one book's table, and what became of its message.
 ghost use Rattle.std.specs.Prelude.{◌≡◌, ◌<◌, true, is_some, IfNone};
-ghost use Rattle.shm_manager.specs.Book.{book_of, row_of};
+ghost use Rattle.shm_manager.specs.Book.{book_of, due_of, row_of};
 ghost use Rattle.shm_model.specs.Book as model;
 ghost use Rattle.shm_parts.specs.Books.{given_by, IsSettled};
 
 use crate::outcome::Outcome;
-use shm_manager::{Book, Kind, Orders};
+use shm_manager::{Book, Due, Kind, Orders};
 use shm_place::SiteId;
 use std::alloc::Allocator;
 
@@ -19,18 +19,20 @@ fn outcome_of(answer: Option<Orders>, number: u64) -> Outcome
     }
 }
 
-/// A request for a right.
+/// A request for a right, of which was found out before what becomes of it.
 pub(crate) fn ask_in<A: Allocator>(
     book: &mut Book<A>,
+    due: Due,
     from: SiteId,
     request: u64,
     kind: Kind,
 ) -> Outcome
-    requires { from < 16 }
+    requires site { from < 16 }
+    requires due { due ≡ due_of (model.on_ask from request kind (book_of book.old)) (book_of book.old).running }
     ensures row { given_by result (book_of book.new) ≡ model.on_ask from request kind (book_of book.old) }
     ensures settled { IsSettled result (book_of book.old) (book_of book.new) }
 {
-    match book.ask(from, request, kind) {
+    match book.ask_due(due, from, request, kind) {
         Err(_) => Outcome::UsedUp,
         Ok(answer) => outcome_of(answer, book.number()),
     }

@@ -84,7 +84,7 @@ impl<A: Allocator + Copy> Bookings<A> {
     }
 
     /// Marks the page. It takes no memory where the page is marked.
-    fn mark(&mut self, page: &PageId) -> Result<(), AllocError>
+    pub(crate) fn mark(&mut self, page: &PageId) -> Result<(), AllocError>
         ensures listed { listed_of self.new ≡ listed_of self.old }
         ensures there { is_listed self.new ≡ is_listed self.old }
         ensures marked { OnOk result (is_listed self.old page.now ≡ true → is_marked self.new page.now ≡ true) }
@@ -94,19 +94,6 @@ impl<A: Allocator + Copy> Bookings<A> {
             return Ok(());
         };
         put_at(&mut self.marked, *place, *page)
-    }
-
-    /// Marks the page where its book's transaction is about to start.
-    pub(crate) fn mark_if(&mut self, page: &PageId, starts: bool) -> Result<(), AllocError>
-        ensures listed { listed_of self.new ≡ listed_of self.old }
-        ensures there { is_listed self.new ≡ is_listed self.old }
-        ensures marked { OnOk result (starts ≡ true → is_listed self.old page.now ≡ true → is_marked self.new page.now ≡ true) }
-        ensures others { (other : Page) → is_marked self.old other ≡ true → is_marked self.new other ≡ true }
-    {
-        if !starts {
-            return Ok(());
-        }
-        self.mark(page)
     }
 
     /// Takes the page's mark away, unless its book's transaction runs.

@@ -1,10 +1,10 @@
 //! What a manager's books do at each message, at a restart and at a purge.
-ghost use Rattle.std.specs.Prelude.{◌≡◌, ℕ, ◌<◌, ◌==◌, cond, [], None, option_copied, IfNone, IfOk, IfSome, OnErr};
+ghost use Rattle.std.specs.Prelude.{◌≡◌, ℕ, ◌<◌, ◌==◌, true, cond, [], None, option_copied, IfNone, IfOk, IfSome, OnErr};
 ghost use Rattle.shm_parts.specs.Booked.{IsBooked};
 ghost use Rattle.std.specs.Map.{lookup};
 ghost use Rattle.shm_place.specs.declared.page.PageId.{PageId as Page};
 ghost use Rattle.shm_place.specs.Page.{same_page};
-ghost use Rattle.shm_manager.specs.Book.{book_of};
+ghost use Rattle.shm_manager.specs.Book.{book_of, due_of, starts};
 ghost use Rattle.shm_model.specs.Book as model;
 ghost use Rattle.shm_model.specs.SegmentCalls.{of_segment, without_segment};
 ghost use Rattle.shm_model.specs.Site.{Site};
@@ -13,10 +13,12 @@ ghost use Rattle.shm_model.specs.Transfer.{to_book, without_page};
 use crate::book_map::{copy_all, forget_all};
 use crate::book_row::{ask_in, cleared_in, confirm_in, runs};
 use crate::bookings::Bookings;
+use crate::message::Envelope;
+use crate::outbox::Outbox;
 use crate::outcome::Outcome;
 use crate::page_map::{end_of, put};
 use indexmap::IndexMap;
-use shm_manager::{Book, Kind};
+use shm_manager::{Book, Due, Kind, MOST_ORDERS};
 use shm_place::{PageId, SegId, SiteId};
 use std::alloc::{AllocError, Allocator, Global};
 use std::hash::{BuildHasherDefault, FoldHasher};
@@ -30,7 +32,7 @@ pub struct Books<A: Allocator + Copy = Global> {
 }
 
 impl<A: Allocator + Copy> Books<A> {
-    ghost use Rattle.shm_parts.specs.Books.{book_or, booked_after, booked_of, booked_step, books_of, with_books, AllIdle, IsNextRunning};
+    ghost use Rattle.shm_parts.specs.Books.{book_or, booked_after, booked_of, booked_step, books_of, with_books, AllIdle, HasRoom, IsNextRunning};
 
     /// No page was asked for.
     pub fn new(alloc: A) -> Books<A>
@@ -43,9 +45,10 @@ impl<A: Allocator + Copy> Books<A> {
         }
     }
 
-    /// A request for a right to the page. The page's first one takes memory for its book, and one that starts a transaction may take
-    /// some; where it is refused nothing changes. It is refused too where no segment has a page of this index.
-    pub fn ask(
+    /// A request for a right to the page. One that starts a transaction takes memory: room for its orders, and for the page's mark, and
+    /// the page's first one for its book. Where that is refused nothing changes. It is refused too where no segment has a page of this
+    /// index.
+    pub fn ask<O: Outbox<Envelope<A>>>(
         &mut self,
         alloc: A,
         me: SiteId,
@@ -53,22 +56,31 @@ impl<A: Allocator + Copy> Books<A> {
         from: SiteId,
         request: u64,
         kind: Kind,
+        outbox: &mut O,
     ) -> Result<Outcome, AllocError>
         requires { from < 16 }
         ensures step { IfOk result (λ outcome. (site : Site)
             → to_book me page (model.on_ask from request kind (books_of me self.old page)) (with_books me self.old site)
             ≡ booked_step me page outcome (with_books me self.new site)) }
         ensures refused { OnErr result (((me : ℕ) → books_of me self.new ≡ books_of me self.old) × (booked_of self.new ≡ booked_of self.old)) }
+        ensures starts { OnErr result (starts (due_of (model.on_ask from request kind (books_of me self.old page)) (books_of me self.old page).running) ≡ true) }
+        ensures room { IfOk result (λ outcome. HasRoom outcome (O.room outbox.new)) }
+        ensures same { O.posted outbox.old outbox.new [] }
     {
         let Some(book) = self.map.get_mut(&page) else {
-            return self.first(alloc, me, page, from, request, kind);
+            return self.first(alloc, me, page, from, request, kind, outbox);
         };
-        self.bookings.mark_if(&page, book.starts(from, request))?;
-        Ok(ask_in(book, from, request, kind))
+        let due = book.due(from, request);
+        if !due.starts() {
+            return Ok(ask_in(book, due, from, request, kind));
+        }
+        outbox.reserve(MOST_ORDERS)?;
+        self.bookings.mark(&page)?;
+        Ok(ask_in(book, due, from, request, kind))
     }
 
-    /// The page's first request.
-    fn first(
+    /// The page's first request. Memory comes first here too, then the row.
+    fn first<O: Outbox<Envelope<A>>>(
         &mut self,
         alloc: A,
         me: SiteId,
@@ -76,6 +88,7 @@ impl<A: Allocator + Copy> Books<A> {
         from: SiteId,
         request: u64,
         kind: Kind,
+        outbox: &mut O,
     ) -> Result<Outcome, AllocError>
         requires site { from < 16 }
         requires absent { lookup (same_page page) self.old.map.entries ≡ None }
@@ -83,14 +96,19 @@ impl<A: Allocator + Copy> Books<A> {
             → to_book me page (model.on_ask from request kind (books_of me self.old page)) (with_books me self.old site)
             ≡ booked_step me page outcome (with_books me self.new site)) }
         ensures refused { OnErr result ((self.new.map.entries ≡ self.old.map.entries) × (booked_of self.new ≡ booked_of self.old)) }
+        ensures fresh { OnErr result (0 < request) }
+        ensures room { IfOk result (λ outcome. HasRoom outcome (O.room outbox.new)) }
+        ensures same { O.posted outbox.old outbox.new [] }
     {
-        if request == 0 {
+        let due = Due::of_first(request);
+        if !due.starts() {
             return Ok(Outcome::Ignored);
         }
+        outbox.reserve(MOST_ORDERS)?;
         self.map.reserve(1)?;
         let mut book = Book::new(alloc, me)?;
-        let outcome = ask_in(&mut book, from, request, kind);
         self.bookings.add(&page)?;
+        let outcome = ask_in(&mut book, due, from, request, kind);
         put(&mut self.map, page, book);
         Ok(outcome)
     }

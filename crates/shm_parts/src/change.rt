@@ -1,3 +1,6 @@
+ghost use Rattle.std.specs.Prelude.{◌≡◌};
+ghost use Rattle.shm_parts.specs.Frames.{installs};
+
 /// What a message changed at a page's entry, for what depends on it.
 #[derive(Clone, Copy, Debug, PartialEq, Eq)]
 pub struct Change {
@@ -9,4 +12,13 @@ pub struct Change {
     pub readable: bool,
     /// The page may be written now.
     pub writable: bool,
+}
+
+impl Change {
+    /// Whether a copy came.
+    pub(crate) fn installs(self) -> bool
+        ensures { result ≡ installs self }
+    {
+        self.copy && self.newer
+    }
 }

@@ -11,7 +11,7 @@ ghost use Rattle.shm_model.specs.Site.{untouched};
 ghost use Rattle.shm_page.specs.Out.{out_of};
 
 use crate::change::Change;
-use crate::message::Note;
+use crate::message::EntryNote;
 use crate::page_map::{end_of, put};
 use crate::slot::{forget_in, open, store_in, turn_in};
 use indexmap::IndexMap;
@@ -27,8 +27,8 @@ pub struct Entries<A: Allocator + Copy = Global> {
 }
 
 impl<A: Allocator + Copy> Entries<A> {
-    ghost use Rattle.shm_parts.specs.Entries.{change_of, entries_of, is_stored, row, stored_at};
-    ghost use Rattle.shm_parts.specs.Message.{note_of};
+    ghost use Rattle.shm_parts.specs.Entries.{StandsAt, change_of, entries_of, is_stored, row, stored_at};
+    ghost use Rattle.shm_parts.specs.Message.{entry_note_of};
 
     /// Nothing is stored.
     pub fn new(alloc: A) -> Entries<A>
@@ -69,25 +69,28 @@ impl<A: Allocator + Copy> Entries<A> {
         self.get(page)
     }
 
-    /// Stores the entry of an untouched page, unless its entry is stored already. Seen through the definitions nothing changes.
+    /// Stores the entry of an untouched page, unless its entry is stored already, and tells where it stands. Seen through the definitions
+    /// nothing changes.
     pub fn ensure(
         &mut self,
         alloc: A,
         sites: Sites,
         me: SiteId,
         page: PageId,
-    ) -> Result<(), AllocError>
+    ) -> Result<usize, AllocError>
         ensures same { (rest : Page → model.Entry) → rest page ≡ untouched sites me page → entries_of rest self.new ≡ entries_of rest self.old }
         ensures stored { OnOk result (is_stored self.new page ≡ true) }
         ensures others { (other : Page) → is_stored self.old other ≡ true → is_stored self.new other ≡ true }
+        ensures place { IfOk result (λ place. StandsAt page place self.new) }
     {
-        if self.map.contains_key(&page) {
-            return Ok(());
+        if let Some(place) = self.map.get_index_of(&page) {
+            return Ok(place);
         }
+        let place = self.map.len();
         self.map.reserve(1)?;
         let entry = open(alloc, sites, me, page)?;
         put(&mut self.map, page, entry);
-        Ok(())
+        Ok(place)
     }
 
     /// Stores a byte where the page may be written, and tells whether it did.
@@ -106,26 +109,26 @@ impl<A: Allocator + Copy> Entries<A> {
         store_in(entry, within, byte)
     }
 
-    /// Runs the note's row of the entry's table. Where memory is refused, the note comes back and nothing changes.
+    /// Runs the note's row of the table of the page's entry, which stands at this place. Where memory is refused, the note comes back and
+    /// nothing changes.
     pub fn turn(
         &mut self,
         me: SiteId,
         page: PageId,
-        note: Note<A>,
-    ) -> Result<(Out<A>, Change), Note<A>>
-        requires stored { is_stored self.old page ≡ true }
+        place: usize,
+        note: EntryNote<A>,
+    ) -> Result<(Out<A>, Change), EntryNote<A>>
+        requires place { StandsAt page place self.old }
         ensures after { OnOk result ((rest : Page → model.Entry)
-            → entries_of rest self.new ≡ at_page (entries_of rest self.old) page (row me (note_of note) (entries_of rest self.old page)).0) }
-        ensures out { IfOk result (λ r. (rest : Page → model.Entry) → out_of r.0 ≡ (row me (note_of note) (entries_of rest self.old page)).1) }
+            → entries_of rest self.new ≡ at_page (entries_of rest self.old) page (row me (entry_note_of note) (entries_of rest self.old page)).0) }
+        ensures out { IfOk result (λ r. (rest : Page → model.Entry) → out_of r.0 ≡ (row me (entry_note_of note) (entries_of rest self.old page)).1) }
         ensures change { IfOk result (λ r. (rest : Page → model.Entry)
-            → r.1 ≡ change_of (entries_of rest self.old page) (row me (note_of note) (entries_of rest self.old page)).0) }
+            → r.1 ≡ change_of (entries_of rest self.old page) (row me (entry_note_of note) (entries_of rest self.old page)).0) }
         ensures same { is_stored self.new ≡ is_stored self.old }
-        ensures back { IfErr result (λ back. note_of back ≡ note_of note) }
+        ensures back { IfErr result (λ back. entry_note_of back ≡ entry_note_of note) }
         ensures refused { OnErr result ((rest : Page → model.Entry) → entries_of rest self.new ≡ entries_of rest self.old) }
     {
-        let Some(entry) = self.map.get_mut(&page) else {
-            return Err(note);
-        };
+        let (_page, entry) = self.map.pair_mut(place);
         turn_in(entry, me, note)
     }
 

@@ -1,5 +1,5 @@
 //! The order in which copies are given up.
-ghost use Rattle.std.specs.Prelude.{◌≡◌, [], None, IfOk, OnOk};
+ghost use Rattle.std.specs.Prelude.{◌≡◌, [], None, true, IfOk, OnOk};
 ghost use Rattle.shm_model.specs.SegmentCalls.{without_segment};
 
 use crate::change::Change;
@@ -18,7 +18,7 @@ pub struct Frames<A: Allocator + Copy = Global> {
 }
 
 impl<A: Allocator + Copy> Frames<A> {
-    ghost use Rattle.shm_parts.specs.Frames.{arranged_by, frames_of, has_room, overflowed};
+    ghost use Rattle.shm_parts.specs.Frames.{arranged_by, frames_of, has_room, installs, overflowed};
 
     /// No copies, and at most `limit` from now on.
     #[tactic(auto, unfolding(crate::specs::Frames::copies_in))]
@@ -58,19 +58,19 @@ impl<A: Allocator + Copy> Frames<A> {
         self.awaited = None;
     }
 
-    /// A copy that was installed goes last among the copies; what is no copy any more leaves them.
+    /// A copy that came, for which room was made, goes last among the copies; what is no copy any more leaves them.
     pub fn arrange(&mut self, page: PageId, change: Change)
-        requires { has_room page self.old }
+        requires { installs change ≡ true → has_room page self.old }
         ensures { frames_of self.new ≡ record (frames_of self.old) { copies = arranged_by change page (frames_of self.old).copies } }
     {
-        if !change.copy {
-            self.pages.remove(&page);
+        if change.installs() {
+            self.pages.move_last(&page);
             self.awaited = None;
             return;
         }
-        if change.newer {
-            self.pages.move_last(&page);
-            self.awaited = None;
+        self.let_go();
+        if !change.copy {
+            self.pages.remove(&page);
         }
     }
 

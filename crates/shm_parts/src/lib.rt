@@ -2,6 +2,7 @@
 //! requests that are pending.
 #![tactic(auto)]
 
+mod addressing;
 mod attaching;
 mod book_map;
 mod book_row;
@@ -29,12 +30,13 @@ mod showing;
 mod slot;
 mod turning;
 
+pub use addressing::{to_manager, to_site};
 pub use books::Books;
 pub use change::Change;
 pub use entries::Entries;
 pub use frames::Frames;
 pub use holdings::Holdings;
-pub use message::{Envelope, Message, Note};
+pub use message::{BookNote, EntryNote, Envelope, Message, Note};
 pub use outbox::Outbox;
 pub use outcome::Outcome;
 pub use pages_in_order::PagesInOrder;

@@ -1,29 +1,43 @@
 //! What sites tell one another.
 ghost use Rattle.std.specs.Prelude.{◌≡◌, true, IsErr, IfOk};
-ghost use Rattle.shm_parts.specs.Message.{envelope_of, has_bytes, holds_page, message_of, note_of};
+ghost use Rattle.shm_parts.specs.Message.{brings_bytes, entry_note_of, envelope_of, has_bytes, holds_page, message_of, note_of};
 
 use shm_model::{Kind, Op, Reply};
 use shm_page::{ReadGrant, WriteGrant};
 use shm_place::{PageId, SegId, SiteId};
 use std::alloc::{AllocError, Allocator, Global};
 
-/// What is told of a page (Li and Hudak 1989, §3.2). Where a number stands alone, it is that of the page's transaction.
+/// What is told of a page (Li and Hudak 1989, §3.2): to its manager's book, or to the entry of a site that holds it or wants it.
 #[derive(Drop)]
 pub enum Note<A: Allocator + Copy = Global> {
-    /// To the manager: a right to the page is wanted.
+    /// To the page's manager.
+    ToBook(BookNote),
+    /// To a site that holds the page, or that asked for it.
+    ToEntry(EntryNote<A>),
+}
+
+/// What a page's manager is told. Where a number stands alone, it is that of the page's transaction.
+#[derive(Clone, Copy, Debug, PartialEq, Eq)]
+pub enum BookNote {
+    /// A right to the page is wanted.
     Ask { request: u64, kind: Kind },
+    /// The copy is given up.
+    Cleared(u64),
+    /// What was asked for is here.
+    Confirm(u64),
+}
+
+/// What a site that holds the page, or that asked for it, is told. Where a number stands alone, it is that of the page's transaction.
+#[derive(Drop)]
+pub enum EntryNote<A: Allocator + Copy = Global> {
     /// From the manager: give the copy up.
     Clear(u64),
-    /// To the manager: the copy is given up.
-    Cleared(u64),
     /// From the manager to the owner: hand the page, or a copy of it, to the site `to`.
     Hand { number: u64, kind: Kind, to: SiteId },
     /// From the owner to who asked: a copy to read.
     Read(ReadGrant<A>),
     /// From the owner to who asked: the page to write.
     Write(WriteGrant<A>),
-    /// To the manager: what was asked for is here.
-    Confirm(u64),
 }
 
 /// What sites tell one another of pages and of segment calls. `number` is that of a segment call.
@@ -49,6 +63,21 @@ pub struct Envelope<A: Allocator + Copy = Global> {
     pub message: Message<A>,
 }
 
+impl<A: Allocator + Copy> EntryNote<A> {
+    /// An equal note. Only a page's bytes may take memory.
+    pub fn copy(&self) -> Result<EntryNote<A>, AllocError>
+        ensures note { IfOk result (λ note. entry_note_of note ≡ entry_note_of self.now) }
+        ensures memory { IsErr result → brings_bytes self.now ≡ true }
+    {
+        match self {
+            &EntryNote::Clear(number) => Ok(EntryNote::Clear(number)),
+            &EntryNote::Hand { number, kind, to } => Ok(EntryNote::Hand { number, kind, to }),
+            EntryNote::Read(grant) => Ok(EntryNote::Read(grant.copy()?)),
+            EntryNote::Write(grant) => Ok(EntryNote::Write(grant.copy()?)),
+        }
+    }
+}
+
 impl<A: Allocator + Copy> Note<A> {
     /// An equal note. Only a page's bytes may take memory.
     pub fn copy(&self) -> Result<Note<A>, AllocError>
@@ -56,13 +85,8 @@ impl<A: Allocator + Copy> Note<A> {
         ensures memory { IsErr result → has_bytes self.now ≡ true }
     {
         match self {
-            &Note::Ask { request, kind } => Ok(Note::Ask { request, kind }),
-            &Note::Clear(number) => Ok(Note::Clear(number)),
-            &Note::Cleared(number) => Ok(Note::Cleared(number)),
-            &Note::Hand { number, kind, to } => Ok(Note::Hand { number, kind, to }),
-            Note::Read(grant) => Ok(Note::Read(grant.copy()?)),
-            Note::Write(grant) => Ok(Note::Write(grant.copy()?)),
-            &Note::Confirm(number) => Ok(Note::Confirm(number)),
+            &Note::ToBook(told) => Ok(Note::ToBook(told)),
+            Note::ToEntry(told) => Ok(Note::ToEntry(told.copy()?)),
         }
     }
 }

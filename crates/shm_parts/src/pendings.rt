@@ -1,5 +1,5 @@
 //! What is done with the requests that are pending.
-ghost use Rattle.std.specs.Prelude.{◌≡◌, ◌==◌, [], filter, length, map, not, IfOk, OnOk, OnErr};
+ghost use Rattle.std.specs.Prelude.{◌≡◌, ◌==◌, [], false, filter, length, map, not, true, IfOk, OnOk, OnErr};
 ghost use Rattle.shm_model.specs.Access.{is_pending, put_pending};
 ghost use Rattle.shm_model.specs.Book as model;
 ghost use Rattle.shm_model.specs.Transfer.{settle};
@@ -61,17 +61,28 @@ impl<A: Allocator + Copy> Pendings<A> {
     pub fn settle(&mut self, reads: bool, writes: bool, page: PageId)
         ensures { pendings_of self.new ≡ settle reads writes page (pendings_of self.old) }
     {
-        if self.is_settled(reads, writes, page) {
+        if writes {
+            self.pages.remove(&page);
+        } else if reads {
+            self.settle_read(page);
+        }
+    }
+
+    /// Drops the page's request where it is one to read.
+    fn settle_read(&mut self, page: PageId)
+        ensures { pendings_of self.new ≡ settle true false page (pendings_of self.old) }
+    {
+        if self.asks_to_read(page) {
             self.pages.remove(&page);
         }
     }
 
-    /// Whether one of these rights serves the page's request.
-    fn is_settled(&self, reads: bool, writes: bool, page: PageId) -> bool
-        ensures { result ≡ settles reads writes page (pendings_of self.now) }
+    /// Whether the page's request is one to read.
+    fn asks_to_read(&self, page: PageId) -> bool
+        ensures { result ≡ settles true false page (pendings_of self.now) }
     {
         match self.pages.get(&page) {
-            Some(pending) => writes || (reads && !is_write(pending.1)),
+            Some(pending) => !is_write(pending.1),
             None => false,
         }
     }

@@ -7,10 +7,10 @@ ghost use Rattle.shm_model.specs.Site.{untouched};
 ghost use Rattle.shm_page.specs.Entry.{entry_of};
 ghost use Rattle.shm_page.specs.Out.{out_of};
 ghost use Rattle.shm_parts.specs.Entries.{change_of, row};
-ghost use Rattle.shm_parts.specs.Message.{note_of};
+ghost use Rattle.shm_parts.specs.Message.{entry_note_of};
 
 use crate::change::Change;
-use crate::message::Note;
+use crate::message::EntryNote;
 use shm_model::Kind;
 use shm_page::{Entry, NilPage, Out};
 use shm_place::{PageId, SiteId, Sites, manager_of};
@@ -48,12 +48,12 @@ pub(crate) fn store_in<A: Allocator + Copy>(entry: &mut Entry<A>, within: usize,
 pub(crate) fn turn_in<A: Allocator + Copy>(
     entry: &mut Entry<A>,
     me: SiteId,
-    note: Note<A>,
-) -> Result<(Out<A>, Change), Note<A>>
-    ensures after { OnOk result (entry_of entry.new ≡ (row me (note_of note) (entry_of entry.old)).0) }
-    ensures out { IfOk result (λ r. out_of r.0 ≡ (row me (note_of note) (entry_of entry.old)).1) }
-    ensures change { IfOk result (λ r. r.1 ≡ change_of (entry_of entry.old) (row me (note_of note) (entry_of entry.old)).0) }
-    ensures back { IfErr result (λ back. note_of back ≡ note_of note) }
+    note: EntryNote<A>,
+) -> Result<(Out<A>, Change), EntryNote<A>>
+    ensures after { OnOk result (entry_of entry.new ≡ (row me (entry_note_of note) (entry_of entry.old)).0) }
+    ensures out { IfOk result (λ r. out_of r.0 ≡ (row me (entry_note_of note) (entry_of entry.old)).1) }
+    ensures change { IfOk result (λ r. r.1 ≡ change_of (entry_of entry.old) (row me (entry_note_of note) (entry_of entry.old)).0) }
+    ensures back { IfErr result (λ back. entry_note_of back ≡ entry_note_of note) }
     ensures refused { OnErr result (entry_of entry.new ≡ entry_of entry.old) }
 {
     let seen = entry.seen();
@@ -83,21 +83,20 @@ pub(crate) fn forget_in<A: Allocator + Copy>(entry: &mut Entry<A>)
 fn turn<A: Allocator + Copy>(
     entry: Entry<A>,
     me: SiteId,
-    note: Note<A>,
-) -> Result<(Entry<A>, Out<A>), (Entry<A>, Note<A>)>
-    ensures row { IfOk result (λ r. (entry_of r.0, out_of r.1) ≡ row me (note_of note) (entry_of entry)) }
+    note: EntryNote<A>,
+) -> Result<(Entry<A>, Out<A>), (Entry<A>, EntryNote<A>)>
+    ensures row { IfOk result (λ r. (entry_of r.0, out_of r.1) ≡ row me (entry_note_of note) (entry_of entry)) }
     ensures kept { IfErr result (λ e. entry_of e.0 ≡ entry_of entry) }
-    ensures back { IfErr result (λ e. note_of e.1 ≡ note_of note) }
+    ensures back { IfErr result (λ e. entry_note_of e.1 ≡ entry_note_of note) }
 {
     match note {
-        Note::Clear(number) => Ok(clear(entry, number)),
-        Note::Hand { number, kind, to } => hand(entry, me, number, kind, to),
-        Note::Read(grant) => Ok(take_copy(entry, grant)),
-        Note::Write(grant) => match take_ownership(entry, grant) {
+        EntryNote::Clear(number) => Ok(clear(entry, number)),
+        EntryNote::Hand { number, kind, to } => hand(entry, me, number, kind, to),
+        EntryNote::Read(grant) => Ok(take_copy(entry, grant)),
+        EntryNote::Write(grant) => match take_ownership(entry, grant) {
             Ok(taken) => Ok(taken),
-            Err((entry, grant, _)) => Err((entry, Note::Write(grant))),
+            Err((entry, grant, _)) => Err((entry, EntryNote::Write(grant))),
         },
-        Note::Ask { .. } | Note::Cleared(_) | Note::Confirm(_) => Ok((entry, Out::Nothing)),
     }
 }
 
@@ -108,10 +107,10 @@ fn hand<A: Allocator + Copy>(
     number: u64,
     kind: Kind,
     to: SiteId,
-) -> Result<(Entry<A>, Out<A>), (Entry<A>, Note<A>)>
+) -> Result<(Entry<A>, Out<A>), (Entry<A>, EntryNote<A>)>
     ensures row { IfOk result (λ r. (entry_of r.0, out_of r.1) ≡ row me (model.Hand number kind to) (entry_of entry)) }
     ensures kept { IfErr result (λ e. entry_of e.0 ≡ entry_of entry) }
-    ensures back { IfErr result (λ e. note_of e.1 ≡ model.Hand number kind to) }
+    ensures back { IfErr result (λ e. entry_note_of e.1 ≡ model.Hand number kind to) }
 {
     let handed = match kind {
         Kind::Read => lend_to(entry, number, me, to),
@@ -119,7 +118,7 @@ fn hand<A: Allocator + Copy>(
     };
     match handed {
         Ok(handed) => Ok(handed),
-        Err((entry, _)) => Err((entry, Note::Hand { number, kind, to })),
+        Err((entry, _)) => Err((entry, EntryNote::Hand { number, kind, to })),
     }
 }
 

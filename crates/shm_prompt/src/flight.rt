@@ -1,6 +1,6 @@
 //! `flight`: the envelopes on their way.
 use shm_model::Kind;
-use shm_parts::{Envelope, Message, Note};
+use shm_parts::{BookNote, EntryNote, Envelope, Message, Note};
 use shm_place::PageId;
 use shm_world::World;
 use std::alloc::{AllocError, Allocator};
@@ -65,26 +65,30 @@ fn describe_note<A: Allocator + Copy>(
     note: &Note<A>,
 ) -> Result<(), AllocError> {
     match note {
-        Note::Ask { request, kind } => {
+        Note::ToBook(BookNote::Ask { request, kind }) => {
             text.push_str("Ask")?;
             name_page(text, page)?;
             write!(text, " request {request} to {}", verb_of(*kind))
         }
-        Note::Clear(number) => tell_transaction(text, "Clear", page, *number),
-        Note::Cleared(number) => tell_transaction(text, "Cleared", page, *number),
-        Note::Hand { number, kind, to } => {
+        Note::ToBook(BookNote::Cleared(number)) => {
+            tell_transaction(text, "Cleared", page, *number)
+        }
+        Note::ToBook(BookNote::Confirm(number)) => {
+            tell_transaction(text, "Confirm", page, *number)
+        }
+        Note::ToEntry(EntryNote::Clear(number)) => tell_transaction(text, "Clear", page, *number),
+        Note::ToEntry(EntryNote::Hand { number, kind, to }) => {
             tell_transaction(text, "Hand", page, *number)?;
             write!(text, " to site {} to {}", to.0, verb_of(*kind))
         }
-        Note::Read(copy) => {
+        Note::ToEntry(EntryNote::Read(copy)) => {
             tell_transaction(text, "Page", page, copy.number())?;
             text.push_str(" to read")
         }
-        Note::Write(whole) => {
+        Note::ToEntry(EntryNote::Write(whole)) => {
             tell_transaction(text, "Page", page, whole.number())?;
             text.push_str(" to write")
         }
-        Note::Confirm(number) => tell_transaction(text, "Confirm", page, *number),
     }
 }
 

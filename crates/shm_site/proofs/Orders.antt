@@ -35,13 +35,13 @@ told_both {first = first} {then = then} {last = last} {xs = xs} joined one two i
   meant = map-append envelope_of one.sent two.sent ∙ ap (λ (l : List message.Envelope). l ++ map envelope_of two.sent) one.meant ∙ ap (λ (l : List message.Envelope). xs ++ l) two.meant ∙ is;
 }
 
--- the whole list, where `g` says how the definitions see an element
-pub all_told : {A O X Y : Type 0} {posted : O → O → List (Envelope A) → Type 0} {first last : O} (f : Y → message.Envelope) (g : X → Y) (xs : List X) (ys : List Y) (i : ℕ)
-    → Told posted first last (map (λ x. f (g x)) (take i xs)) → length xs ≤ i → map g xs ≡ ys → Told posted first last (map f ys)
-all_told {X = X} f g xs ys i had whole seen = record {
+-- what was told of a list, where `g` says how the definitions see an element
+pub all_told : {A O X Y : Type 0} {posted : O → O → List (Envelope A) → Type 0} {first last : O} (f : Y → message.Envelope) (g : X → Y) (xs : List X) (ys : List Y)
+    → Told posted first last (map (λ x. f (g x)) xs) → map g xs ≡ ys → Told posted first last (map f ys)
+all_told f g xs ys had seen = record {
   sent = had.sent;
   behind = had.behind;
-  meant = had.meant ∙ ap (map (λ (x : X). f (g x))) (take_all i xs whole) ∙ sym (map-map f g xs) ∙ ap (map f) seen;
+  meant = had.meant ∙ sym (map-map f g xs) ∙ ap (map f) seen;
 }
 
 -- the whole list was sent behind what was there, where `g` says how the definitions see an element

@@ -1,10 +1,14 @@
 -- Steps of a site, and what they post.
-use Rattle.std.proofs.Common.{◌≡◌, ◌∙◌, List, [], ◌∷◌, ◌++◌, Result, Ok, Err, IfOk}
+use Rattle.std.proofs.Common.{◌≡◌, ◌∙◌, ℕ, List, [], ◌∷◌, ◌++◌, Option, None, Some, Result, Ok, Err, IfOk, refl}
 use Rattle.std.specs.Result.{OnErr}
 use Rattle.shm_model.specs.declared.answer.Answer.{Answer}
 use Rattle.shm_model.specs.Site.{Step}
 use Rattle.shm_model.specs.Site as model
+use Rattle.shm_place.specs.declared.page.PageId.{PageId}
+use Rattle.shm_parts.specs.Holdings.{turned_step, with_holdings}
 use Rattle.shm_parts.specs.Message.{envelope_of}
+use Rattle.shm_parts.specs.declared.change.Change.{Change}
+use Rattle.shm_parts.specs.declared.holdings.Holdings.{Holdings}
 use Rattle.shm_parts.specs.declared.message.Envelope.{Envelope}
 use Rattle.shm_site.specs.Site.{Makes, SameSeat, StepsTo, stepped}
 use Rattle.shm_site.specs.declared.site.Site.{Site}
@@ -27,6 +31,12 @@ module _ {A O : Type 0} {posted : O → O → List (Envelope A) → Type 0} wher
       → posted before room [] → posted room after (e ∷ []) → step ≡ record { site = site; answer = answer; sent = envelope_of e ∷ [] } → Makes posted before after site answer step
   one_sent {before = before} {after = after} e room joined made sent is =
       record { sent = e ∷ []; behind = joined before room after [] (e ∷ []) made sent; made = is }
+
+-- a turned entry, at the site with what it holds then
+pub turned-held : {A : Type 0} (sites me : ℕ) (page : PageId) (sent : Option (Envelope A × Change)) (held : Holdings A) (site : model.Site)
+    → turned_step page sent (with_holdings sites me held) site ≡ turned_step page sent (λ s. s) (with_holdings sites me held site)
+turned-held sites me page None held site = refl
+turned-held sites me page (Some sent) held site = refl
 
 -- the same step by another name, at a site of the same seat
 pub if_steps : {A O X : Type 0} (posted : O → O → List (Envelope A) → Type 0) (old mid new : Site A) (before after : O) (first then : Step) (r : Result Answer X)

@@ -4,11 +4,10 @@ ghost use Rattle.shm_model.specs.Access as model;
 ghost use Rattle.shm_model.specs.declared.answer.Answer.TheVariants as answer;
 ghost use Rattle.shm_site.specs.Site.{StepsTo, Unchanged, site_of};
 
-use crate::sending::to_manager;
 use crate::site::Site;
 use shm_model::refusal::NUMBERS_USED_UP;
 use shm_model::{Answer, Kind, Numbered};
-use shm_parts::{Envelope, Kept, Loaded, Note, Outbox};
+use shm_parts::{BookNote, Envelope, Kept, Loaded, Outbox, to_manager};
 use shm_place::PageId;
 use std::alloc::{AllocError, Allocator};
 
@@ -77,7 +76,7 @@ impl<A: Allocator + Copy> Site<A> {
         outbox.reserve(1)?;
         self.pending.put(*page, request, kind)?;
         self.requests = requests;
-        outbox.push(to_manager(self.sites, self.me, page, Note::Ask { request, kind }));
+        outbox.push(to_manager(self.sites, self.me, page, BookNote::Ask { request, kind }));
         Ok(Answer::Fault)
     }
 }

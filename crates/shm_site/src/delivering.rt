@@ -3,7 +3,7 @@ ghost use Rattle.std.specs.Prelude.{◌≡◌, ◌<◌, true, false, IfOk, IfErr
 ghost use Rattle.shm_model.specs.Message.{Of};
 ghost use Rattle.shm_model.specs.Step.{deliver, foreign, is_proper, on_message};
 ghost use Rattle.shm_model.specs.Transfer.{on_note, on_note_of};
-ghost use Rattle.shm_parts.specs.Message.{envelope_of, message_of, note_of};
+ghost use Rattle.shm_parts.specs.Message.{book_note_of, envelope_of, message_of, note_of};
 ghost use Rattle.shm_parts.specs.Purged.{purged_of};
 ghost use Rattle.shm_site.specs.Site.{StepsTo, Unchanged, site_of};
 ghost use Rattle.shm_site.specs.Step.{is_refused};
@@ -11,9 +11,10 @@ ghost use Rattle.shm_site.specs.Step.{is_refused};
 use crate::foreign::is_foreign;
 use crate::site::Site;
 use shm_model::Answer;
-use shm_parts::{Envelope, Message, Note, Outbox};
+use shm_model::refusal::FOREIGN;
+use shm_parts::{BookNote, Envelope, Message, Note, Outbox};
 use shm_place::{PageId, SiteId};
-use std::alloc::Allocator;
+use std::alloc::{AllocError, Allocator};
 
 impl<A: Allocator + Copy> Site<A> {
     /// Whether the envelope can't be for this site: it names another one or comes from none, or its message can't be this site's.
@@ -23,8 +24,26 @@ impl<A: Allocator + Copy> Site<A> {
         is_foreign(self.sites, self.me, envelope)
     }
 
+    /// Takes an envelope; one that can't be for this site is refused. Where memory is refused it comes back.
+    pub fn deliver<O: Outbox<Envelope<A>>>(
+        &mut self,
+        envelope: Envelope<A>,
+        outbox: &mut O,
+    ) -> Result<Answer, Envelope<A>>
+        ensures step { IfOk result (λ answer. StepsTo O.posted self.old self.new outbox.old outbox.new answer
+            (deliver self.old.sites self.old.me (envelope_of envelope) (site_of self.old))) }
+        ensures memory { OnErr result (is_refused (deliver self.old.sites self.old.me (envelope_of envelope) (site_of self.old)).answer ≡ false) }
+        ensures back { IfErr result (λ back. envelope_of back ≡ envelope_of envelope) }
+        ensures refused { OnErr result (Unchanged O.posted self.old self.new outbox.old outbox.new) }
+    {
+        if self.foreign(&envelope) {
+            return Ok(Answer::Refused(FOREIGN));
+        }
+        self.deliver_proper(envelope, outbox)
+    }
+
     /// Takes an envelope that can be for this site. Where memory is refused it comes back.
-    pub(crate) fn deliver<O: Outbox<Envelope<A>>>(
+    pub(crate) fn deliver_proper<O: Outbox<Envelope<A>>>(
         &mut self,
         envelope: Envelope<A>,
         outbox: &mut O,
@@ -126,19 +145,35 @@ impl<A: Allocator + Copy> Site<A> {
         ensures refused { OnErr result (Unchanged O.posted self.old self.new outbox.old outbox.new) }
     {
         match note {
-            Note::Ask { request, kind } => match self.on_ask(*page, from, request, kind, outbox) {
+            Note::ToBook(told) => match self.to_book(from, page, &told, outbox) {
                 Ok(answer) => Ok(answer),
-                Err(_) => Err(Note::Ask { request, kind }),
+                Err(_) => Err(Note::ToBook(told)),
             },
-            Note::Cleared(number) => match self.on_cleared(*page, from, number, outbox) {
+            Note::ToEntry(told) => match self.to_entry(page, told, outbox) {
                 Ok(answer) => Ok(answer),
-                Err(_) => Err(Note::Cleared(number)),
+                Err(told) => Err(Note::ToEntry(told)),
             },
-            Note::Confirm(number) => match self.on_confirm(*page, from, number, outbox) {
-                Ok(answer) => Ok(answer),
-                Err(_) => Err(Note::Confirm(number)),
-            },
-            to_entry => self.to_entry(*page, to_entry, outbox),
+        }
+    }
+
+    /// Takes a note to the book of a page: one row of its table.
+    fn to_book<O: Outbox<Envelope<A>>>(
+        &mut self,
+        from: SiteId,
+        page: &PageId,
+        told: &BookNote,
+        outbox: &mut O,
+    ) -> Result<Answer, AllocError>
+        requires { from < 16 }
+        ensures step { IfOk result (λ answer. StepsTo O.posted self.old self.new outbox.old outbox.new answer
+            (on_note self.old.sites self.old.me from page.now (book_note_of told.now) (site_of self.old))) }
+        ensures memory { OnErr result (is_refused (on_note self.old.sites self.old.me from page.now (book_note_of told.now) (site_of self.old)).answer ≡ false) }
+        ensures refused { OnErr result (Unchanged O.posted self.old self.new outbox.old outbox.new) }
+    {
+        match told {
+            &BookNote::Ask { request, kind } => self.on_ask(page, from, request, kind, outbox),
+            &BookNote::Cleared(number) => self.on_cleared(page, from, number, outbox),
+            &BookNote::Confirm(number) => self.on_confirm(page, from, number, outbox),
         }
     }
 }

@@ -46,7 +46,7 @@ fn is_proper<A: Allocator + Copy>(
 fn is_to_manager<A: Allocator + Copy>(note: &Note<A>) -> bool
     ensures { result ≡ is_to_manager (note_of note.now) }
 {
-    matches!(note, Note::Ask { .. } | Note::Cleared(_) | Note::Confirm(_))
+    matches!(note, Note::ToBook(_))
 }
 
 /// Some home could give the identifier.

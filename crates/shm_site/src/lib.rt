@@ -28,6 +28,6 @@ pub use book_view::BookView;
 pub use input::Input;
 pub use listing::Made;
 pub use shm_model::Answer;
-pub use shm_parts::{Envelope, Message, Note, Outbox};
+pub use shm_parts::{BookNote, EntryNote, Envelope, Message, Note, Outbox};
 pub use site::Site;
 pub use step_error::{StepError, StepFault};

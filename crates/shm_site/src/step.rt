@@ -55,6 +55,7 @@ impl<A: Allocator + Copy> Site<A> {
     }
 
     /// Makes one step of an input that isn't refused. Where memory is, an envelope that was handed in comes back.
+    #[inline(always)]
     pub(crate) fn step_proper<O: Outbox<Envelope<A>>>(
         &mut self,
         input: Input<A>,
@@ -71,7 +72,7 @@ impl<A: Allocator + Copy> Site<A> {
             Input::Load { at, offset } => or_none(self.load(at, offset, outbox)),
             Input::Store { at, offset, byte } => or_none(self.store(at, offset, byte, outbox)),
             Input::Begin(request) => or_none(self.begin(request, outbox)),
-            Input::Deliver(envelope) => or_back(self.deliver(envelope, outbox)),
+            Input::Deliver(envelope) => or_back(self.deliver_proper(envelope, outbox)),
             Input::Tick => or_none(self.tick(outbox)),
             Input::Restart => Ok(self.restart()),
         }

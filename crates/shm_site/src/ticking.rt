@@ -13,11 +13,11 @@ ghost use Rattle.shm_parts.specs.Pendings.{pendings_of};
 ghost use Rattle.shm_site.specs.Site.{SameSeat, StepsTo, site_of, stepped};
 
 use crate::homing::op_home;
-use crate::sending::{order_envelope, to_manager};
+use crate::sending::order_envelope;
 use crate::site::Site;
 use shm_manager::Book;
 use shm_model::{Answer, Kind};
-use shm_parts::{Envelope, Message, Note, Outbox};
+use shm_parts::{BookNote, Envelope, Message, Outbox, to_manager};
 use shm_place::{PageId, SegId, SiteId, SiteSet, Sites};
 use std::alloc::{AllocError, Allocator};
 
@@ -31,7 +31,7 @@ fn ask_envelope<A: Allocator + Copy>(
 ) -> Envelope<A>
     ensures { envelope_of result ≡ model.ask_again sites me (record { page = page.now; request = request; kind = kind }) }
 {
-    to_manager(sites, me, page, Note::Ask { request, kind })
+    to_manager(sites, me, page, BookNote::Ask { request, kind })
 }
 
 impl<A: Allocator + Copy> Site<A> {

@@ -1,16 +1,15 @@
 //! Notes of a page to its manager's book: each is a row of the book's table (Li and Hudak 1989, §3.2).
-ghost use Rattle.std.specs.Prelude.{◌≡◌, ◌≤◌, ◌<◌, false, IfOk, OnErr};
-ghost use Rattle.shm_manager.specs.Book.{is_used_up};
+ghost use Rattle.std.specs.Prelude.{◌≡◌, ◌<◌, false, IfOk, OnErr};
 ghost use Rattle.shm_model.specs.Book as book;
 ghost use Rattle.shm_model.specs.Site as model;
 ghost use Rattle.shm_model.specs.Transfer.{to_book};
-ghost use Rattle.shm_model.specs.declared.kind.Kind.{Kind};
-ghost use Rattle.shm_parts.specs.Books.{booked_step};
+ghost use Rattle.shm_parts.specs.Books.{booked_step, HasRoom};
 ghost use Rattle.shm_site.specs.Site.{Makes, StepsTo, Unchanged, site_of};
 ghost use Rattle.shm_site.specs.Step.{is_refused};
 
-use crate::sending::{MOST_ORDERS, send_orders};
+use crate::sending::send_orders;
 use crate::site::Site;
+use shm_manager::MOST_ORDERS;
 use shm_model::refusal::NUMBERS_USED_UP;
 use shm_model::{Answer, Kind};
 use shm_parts::{Envelope, Outbox, Outcome};
@@ -18,10 +17,10 @@ use shm_place::{PageId, SiteId};
 use std::alloc::{AllocError, Allocator};
 
 impl<A: Allocator + Copy> Site<A> {
-    /// A site asks for a right to the page. Where memory is refused, an Ask for which no number is left is refused for that all the same.
+    /// A site asks for a right to the page. An Ask that starts no transaction takes no memory.
     pub(crate) fn on_ask<O: Outbox<Envelope<A>>>(
         &mut self,
-        page: PageId,
+        page: &PageId,
         from: SiteId,
         request: u64,
         kind: Kind,
@@ -29,68 +28,31 @@ impl<A: Allocator + Copy> Site<A> {
     ) -> Result<Answer, AllocError>
         requires { from < 16 }
         ensures step { IfOk result (λ answer. StepsTo O.posted self.old self.new outbox.old outbox.new answer
-            (to_book self.old.me page (book.on_ask from request kind ((site_of self.old).books page)) (site_of self.old))) }
-        ensures memory { OnErr result (is_refused (to_book self.old.me page (book.on_ask from request kind ((site_of self.old).books page))
+            (to_book self.old.me page.now (book.on_ask from request kind ((site_of self.old).books page.now)) (site_of self.old))) }
+        ensures memory { OnErr result (is_refused (to_book self.old.me page.now (book.on_ask from request kind ((site_of self.old).books page.now))
             (site_of self.old)).answer ≡ false) }
         ensures refused { OnErr result (Unchanged O.posted self.old self.new outbox.old outbox.new) }
     {
-        match self.ask_book(page, from, request, kind, outbox) {
-            Ok(answer) => Ok(answer),
-            Err(_) if self.lacks_number(&page, from, request) => {
-                Ok(Answer::Refused(NUMBERS_USED_UP))
-            }
-            Err(error) => Err(error),
-        }
-    }
-
-    /// The same, with what memory there is.
-    fn ask_book<O: Outbox<Envelope<A>>>(
-        &mut self,
-        page: PageId,
-        from: SiteId,
-        request: u64,
-        kind: Kind,
-        outbox: &mut O,
-    ) -> Result<Answer, AllocError>
-        requires { from < 16 }
-        ensures step { IfOk result (λ answer. StepsTo O.posted self.old self.new outbox.old outbox.new answer
-            (to_book self.old.me page (book.on_ask from request kind ((site_of self.old).books page)) (site_of self.old))) }
-        ensures refused { OnErr result (Unchanged O.posted self.old self.new outbox.old outbox.new) }
-    {
-        outbox.reserve(MOST_ORDERS)?;
-        let page = &page;
         let outcome = self
             .books
-            .ask(self.alloc, self.me, *page, from, request, kind)?;
+            .ask(self.alloc, self.me, *page, from, request, kind, outbox)?;
         Ok(answer_row(self.me, page, outcome, outbox))
-    }
-
-    /// Whether an Ask would start a transaction of the page for which no number is left.
-    fn lacks_number(&self, page: &PageId, from: SiteId, request: u64) -> bool
-        requires { from < 16 }
-        ensures { (kind : Kind) → result ≡ is_used_up (book.on_ask from request kind ((site_of self.now).books page.now)) }
-    {
-        match self.books.get(*page) {
-            Some(book) => book.lacks_number(from, request),
-            None => false,
-        }
     }
 
     /// A site has given up its copy of the page.
     pub(crate) fn on_cleared<O: Outbox<Envelope<A>>>(
         &mut self,
-        page: PageId,
+        page: &PageId,
         from: SiteId,
         number: u64,
         outbox: &mut O,
     ) -> Result<Answer, AllocError>
         requires { from < 16 }
         ensures step { IfOk result (λ answer. StepsTo O.posted self.old self.new outbox.old outbox.new answer
-            (to_book self.old.me page (book.on_cleared from number ((site_of self.old).books page)) (site_of self.old))) }
+            (to_book self.old.me page.now (book.on_cleared from number ((site_of self.old).books page.now)) (site_of self.old))) }
         ensures refused { OnErr result (Unchanged O.posted self.old self.new outbox.old outbox.new) }
     {
         outbox.reserve(MOST_ORDERS)?;
-        let page = &page;
         let outcome = self.books.cleared(*page, from, number);
         Ok(answer_row(self.me, page, outcome, outbox))
     }
@@ -98,18 +60,17 @@ impl<A: Allocator + Copy> Site<A> {
     /// A site has what it asked for.
     pub(crate) fn on_confirm<O: Outbox<Envelope<A>>>(
         &mut self,
-        page: PageId,
+        page: &PageId,
         from: SiteId,
         number: u64,
         outbox: &mut O,
     ) -> Result<Answer, AllocError>
         requires { from < 16 }
         ensures step { IfOk result (λ answer. StepsTo O.posted self.old self.new outbox.old outbox.new answer
-            (to_book self.old.me page (book.on_confirm from number ((site_of self.old).books page)) (site_of self.old))) }
+            (to_book self.old.me page.now (book.on_confirm from number ((site_of self.old).books page.now)) (site_of self.old))) }
         ensures refused { OnErr result (Unchanged O.posted self.old self.new outbox.old outbox.new) }
     {
         outbox.reserve(MOST_ORDERS)?;
-        let page = &page;
         let outcome = self.books.confirm(*page, from, number);
         Ok(answer_row(self.me, page, outcome, outbox))
     }
@@ -122,14 +83,14 @@ fn answer_row<A: Allocator + Copy, O: Outbox<Envelope<A>>>(
     outcome: Outcome,
     outbox: &mut O,
 ) -> Answer
-    requires { MOST_ORDERS ≤ O.room outbox.old }
+    requires { HasRoom outcome (O.room outbox.old) }
     ensures { (site : model.Site) → Makes O.posted outbox.old outbox.new site result (booked_step me page.now outcome site) }
 {
     match outcome {
         Outcome::Ignored => Answer::Dropped,
         Outcome::UsedUp => Answer::Refused(NUMBERS_USED_UP),
         Outcome::Taken { number, orders } => {
-            send_orders(me, page, number, &orders, outbox);
+            send_orders(me, page, number, orders.as_slice(), outbox);
             Answer::Took
         }
     }

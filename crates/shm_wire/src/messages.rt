@@ -9,7 +9,7 @@ use crate::calls::call;
 use crate::replies::reply;
 use crate::words::{kind, wide};
 use shm_lines::Words;
-use shm_parts::{Message, Note};
+use shm_parts::{BookNote, EntryNote, Message, Note};
 use shm_place::{PageId, SegId, SiteId};
 use std::alloc::Allocator;
 
@@ -71,7 +71,7 @@ fn ask<A: Allocator + Copy>(words: Words<'_>) -> Option<Message<A>>
     }
     Some(Message::Of {
         page,
-        note: Note::Ask { request, kind },
+        note: Note::ToBook(BookNote::Ask { request, kind }),
     })
 }
 
@@ -85,7 +85,7 @@ fn clear<A: Allocator + Copy>(words: Words<'_>) -> Option<Message<A>>
     }
     Some(Message::Of {
         page,
-        note: Note::Clear(number),
+        note: Note::ToEntry(EntryNote::Clear(number)),
     })
 }
 
@@ -99,7 +99,7 @@ fn cleared<A: Allocator + Copy>(words: Words<'_>) -> Option<Message<A>>
     }
     Some(Message::Of {
         page,
-        note: Note::Cleared(number),
+        note: Note::ToBook(BookNote::Cleared(number)),
     })
 }
 
@@ -115,11 +115,11 @@ fn hand<A: Allocator + Copy>(words: Words<'_>) -> Option<Message<A>>
     }
     Some(Message::Of {
         page,
-        note: Note::Hand {
+        note: Note::ToEntry(EntryNote::Hand {
             number,
             kind,
             to: SiteId(to),
-        },
+        }),
     })
 }
 
@@ -133,7 +133,7 @@ fn confirm<A: Allocator + Copy>(words: Words<'_>) -> Option<Message<A>>
     }
     Some(Message::Of {
         page,
-        note: Note::Confirm(number),
+        note: Note::ToBook(BookNote::Confirm(number)),
     })
 }
 

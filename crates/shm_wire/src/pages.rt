@@ -14,7 +14,7 @@ use base64::engine::general_purpose::STANDARD;
 use shm_lines::Words;
 use shm_model::Kind;
 use shm_page::{Entry, OwnWritePage};
-use shm_parts::{Message, Note};
+use shm_parts::{EntryNote, Message, Note};
 use shm_place::{PAGE_BYTES, SiteId};
 use std::alloc::{AllocError, Allocator};
 
@@ -78,11 +78,11 @@ fn grant_note<A: Allocator + Copy>(
     let owned = owned_page(alloc, bytes)?;
     match kind {
         Kind::Read => match owned.downgrade(number) {
-            Ok((_page, grant)) => Ok(Note::Read(grant)),
+            Ok((_page, grant)) => Ok(Note::ToEntry(EntryNote::Read(grant))),
             Err((_page, error)) => Err(error),
         },
         Kind::Write => match owned.hand(number, SiteId(0)) {
-            Ok((_page, grant)) => Ok(Note::Write(grant)),
+            Ok((_page, grant)) => Ok(Note::ToEntry(EntryNote::Write(grant))),
             Err((_page, error)) => Err(error),
         },
     }

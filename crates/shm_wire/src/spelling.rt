@@ -4,7 +4,7 @@ use crate::spelling_calls::{CallWords, ReplyWords};
 use base64::display::Base64Display;
 use base64::engine::general_purpose::STANDARD;
 use shm_model::Kind;
-use shm_parts::{Message, Note};
+use shm_parts::{BookNote, EntryNote, Message, Note};
 use shm_place::PageId;
 use std::alloc::Allocator;
 use std::fmt;
@@ -95,28 +95,32 @@ impl<'a, A: Allocator + Copy> fmt::Display for ToldNote<'a, A> {
         let seg = self.page.seg.0;
         let index = self.page.index;
         match self.note {
-            Note::Ask { request, kind } => {
+            Note::ToBook(BookNote::Ask { request, kind }) => {
                 write!(f, "ask {seg} {index} {request} {}", KindWord(*kind))
             }
-            Note::Clear(number) => write!(f, "clear {seg} {index} {number}"),
-            Note::Cleared(number) => write!(f, "cleared {seg} {index} {number}"),
-            Note::Hand { number, kind, to } => write!(
+            Note::ToBook(BookNote::Cleared(number)) => {
+                write!(f, "cleared {seg} {index} {number}")
+            }
+            Note::ToBook(BookNote::Confirm(number)) => {
+                write!(f, "confirm {seg} {index} {number}")
+            }
+            Note::ToEntry(EntryNote::Clear(number)) => write!(f, "clear {seg} {index} {number}"),
+            Note::ToEntry(EntryNote::Hand { number, kind, to }) => write!(
                 f,
                 "hand {seg} {index} {number} {} {}",
                 KindWord(*kind),
                 to.0
             ),
-            Note::Read(grant) => {
+            Note::ToEntry(EntryNote::Read(grant)) => {
                 let number = grant.number();
                 let bytes = Base64Display::new(grant.bytes(), &STANDARD);
                 write!(f, "page {seg} {index} {number} read {bytes}")
             }
-            Note::Write(grant) => {
+            Note::ToEntry(EntryNote::Write(grant)) => {
                 let number = grant.number();
                 let bytes = Base64Display::new(grant.bytes(), &STANDARD);
                 write!(f, "page {seg} {index} {number} write {bytes}")
             }
-            Note::Confirm(number) => write!(f, "confirm {seg} {index} {number}"),
         }
     }
 }

@@ -1,6 +1,6 @@
 //! Lines that others spelled, and lines that are none.
 use linked_list_allocator::LocalHeap;
-use shm_parts::{Message, Note};
+use shm_parts::{EntryNote, Message, Note};
 use shm_wire::{Sent, parse_answer, parse_ask, parse_envelope};
 use std::alloc::{AllocError, Allocator, Global};
 use std::process::Abort;
@@ -148,11 +148,11 @@ fn page_line(alloc: Global, kind: &str) -> Result<String, AllocError> {
 fn brings_the_page<A: Allocator + Copy>(sent: &Sent<A>, kind: &str) -> bool {
     match &sent.envelope.message {
         Message::Of {
-            note: Note::Read(grant),
+            note: Note::ToEntry(EntryNote::Read(grant)),
             ..
         } => kind == "read" && grant.number() == 6 && is_the_page(grant.bytes()),
         Message::Of {
-            note: Note::Write(grant),
+            note: Note::ToEntry(EntryNote::Write(grant)),
             ..
         } => kind == "write" && grant.number() == 6 && is_the_page(grant.bytes()),
         _ => false,

@@ -15,6 +15,8 @@ use Rattle.shm_parts.specs.Message.{envelope_of, holds_page, message_of}
 use Rattle.shm_parts.specs.declared.message.Envelope.{Envelope}
 use Rattle.shm_parts.specs.declared.message.Message.{Message}
 use Rattle.shm_parts.specs.declared.message.Message.TheVariants as message-of
+use Rattle.shm_parts.specs.declared.message.BookNote.TheVariants as book_note
+use Rattle.shm_parts.specs.declared.message.EntryNote.TheVariants as entry_note
 use Rattle.shm_parts.specs.declared.message.Note.TheVariants as note
 use Rattle.shm_site.specs.Site.{site_of}
 use Rattle.shm_site.specs.declared.site.Site.{Site}
@@ -155,13 +157,13 @@ back-taken undo after w number e none here unsent back = record {
 
 -- only a page's bytes may take memory
 pub page-is : {A : Type 0} (m : Message A) → holds_page m ≡ has_page (message_of m)
-page-is (message-of.Of page (note.Ask request kind)) = refl
-page-is (message-of.Of page (note.Clear number)) = refl
-page-is (message-of.Of page (note.Cleared number)) = refl
-page-is (message-of.Of page (note.Hand number kind to)) = refl
-page-is (message-of.Of page (note.Read given)) = refl
-page-is (message-of.Of page (note.Write given)) = refl
-page-is (message-of.Of page (note.Confirm number)) = refl
+page-is (message-of.Of page (note.ToBook (book_note.Ask request kind))) = refl
+page-is (message-of.Of page (note.ToBook (book_note.Cleared number))) = refl
+page-is (message-of.Of page (note.ToBook (book_note.Confirm number))) = refl
+page-is (message-of.Of page (note.ToEntry (entry_note.Clear number))) = refl
+page-is (message-of.Of page (note.ToEntry (entry_note.Hand number kind to))) = refl
+page-is (message-of.Of page (note.ToEntry (entry_note.Read given))) = refl
+page-is (message-of.Of page (note.ToEntry (entry_note.Write given))) = refl
 page-is (message-of.Call number op) = refl
 page-is (message-of.Reply number reply) = refl
 page-is (message-of.Purge id) = refl

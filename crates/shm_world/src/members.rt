@@ -5,9 +5,10 @@ ghost use Rattle.std.specs.List.{range_with_len};
 ghost use Rattle.std.specs.Option.{option_copied};
 ghost use Rattle.shm_model.specs.Access as access;
 ghost use Rattle.shm_model.specs.Site as model;
-ghost use Rattle.shm_model.specs.Step.{step};
+ghost use Rattle.shm_model.specs.Step.{deliver, step};
 ghost use Rattle.shm_model.specs.World.{IsOpening, opened_site};
-ghost use Rattle.shm_site.specs.Step.{envelope_if, fault_of, handed_in, input_of, is_fault, is_foreign, may_grow};
+ghost use Rattle.shm_parts.specs.Message.{envelope_of};
+ghost use Rattle.shm_site.specs.Step.{envelope_if, fault_of, handed_in, input_of, is_fault, is_foreign, is_refused, may_grow};
 ghost use Rattle.shm_site.specs.declared.step_error.StepFault.TheVariants as fault;
 
 use crate::start::begin;
@@ -116,6 +117,26 @@ impl<A: Allocator + Copy> Members<A> {
         ensures count { self.new.count ≡ self.old.count }
     {
         self.sites[site.0 as usize].store(at, offset, byte, outbox)
+    }
+
+    /// Hands an envelope to the site that it names. Where memory is refused the sites are as before, and it comes back.
+    #[inline(always)]
+    pub(crate) fn deliver<O: Outbox<Envelope<A>>>(
+        &mut self,
+        envelope: Envelope<A>,
+        outbox: &mut O,
+    ) -> Result<Answer, Envelope<A>>
+        requires { envelope.to < self.old.count }
+        ensures step { IfOk result (λ answer. (x : model.Site) → slice_get (members_of self.old) envelope.to ≡ Some x
+            → Made O.posted self.old self.new envelope.to outbox.old outbox.new answer (deliver self.old.count envelope.to (envelope_of envelope) x)) }
+        ensures memory { OnErr result ((x : model.Site) → slice_get (members_of self.old) envelope.to ≡ Some x
+            → is_refused (deliver self.old.count envelope.to (envelope_of envelope) x).answer ≡ false) }
+        ensures back { IfErr result (λ back. envelope_of back ≡ envelope_of envelope) }
+        ensures refused { OnErr result ((members_of self.new ≡ members_of self.old) × O.posted outbox.old outbox.new []) }
+        ensures count { self.new.count ≡ self.old.count }
+    {
+        let site = envelope.to;
+        self.sites[site.0 as usize].deliver(envelope, outbox)
     }
 
     /// A copy of the site of this number, beside the number, if there is one.

@@ -4,7 +4,7 @@ ghost use Rattle.shm_model.specs.Basics.{max_sent};
 ghost use Rattle.shm_model.specs.Message as input;
 ghost use Rattle.shm_model.specs.World as model;
 ghost use Rattle.shm_parts.specs.Message.{envelope_of};
-ghost use Rattle.shm_site.specs.Step.{envelope_if, handed_in, input_of, is_fault, is_refused};
+ghost use Rattle.shm_site.specs.Step.{input_of, is_fault, is_refused};
 ghost use Rattle.shm_world.specs.Network.{has_place};
 ghost use Rattle.shm_world.specs.Steps.{Went};
 ghost use Rattle.shm_world.specs.World.{StandsFor, input_may_grow};
@@ -53,7 +53,8 @@ impl<A: Allocator + Copy> World<A> {
             .store(site, at, offset, byte, &mut self.network)
     }
 
-    /// Steps a site at an input that hands no envelope over. Where memory is refused nothing changes.
+    /// Steps a site, if there is one and envelopes have numbers left, at an input that hands no envelope over. Where memory is refused
+    /// nothing changes.
     #[inline(always)]
     pub(crate) fn act(&mut self, site: SiteId, input: Input<A>) -> Result<Answer, AllocError>
         ensures step { (w : model.World) → StandsFor self.old w → IfOk result (λ answer. Went self.new (model.step_at w site (input_of input)) answer) }
@@ -61,10 +62,20 @@ impl<A: Allocator + Copy> World<A> {
         ensures memory { (w : model.World) → StandsFor self.old w
             → OnErr result (input_may_grow (input_of input) (model.step_at w site (input_of input)).done.answer ≡ true) }
     {
-        self.step_site(site, input).map_err(|_| AllocError)
+        if let Some(answer) = self.refusal(site) {
+            return Ok(answer);
+        }
+        match self.members.step(site, input, &mut self.network) {
+            Ok(answer) => Ok(answer),
+            Err(error) => match error.fault {
+                StepFault::Foreign => Ok(Answer::Refused(FOREIGN)),
+                StepFault::OutOfMemory => Err(AllocError),
+            },
+        }
     }
 
-    /// Hands the envelope to its site. Where memory is refused it comes back, and nothing changes.
+    /// Hands the envelope to its site, if there is one and envelopes have numbers left. Where memory is refused it comes back, and nothing
+    /// changes.
     #[inline(always)]
     pub(crate) fn hand(&mut self, envelope: Envelope<A>) -> Result<Answer, Envelope<A>>
         ensures step { (w : model.World) → StandsFor self.old w
@@ -75,34 +86,10 @@ impl<A: Allocator + Copy> World<A> {
             → OnErr result (is_refused (model.step_at w (envelope_of envelope).to (input.Deliver (envelope_of envelope))).done.answer ≡ false) }
         ensures places { OnErr result ((k : ℕ) → has_place self.old.network k ≡ true → has_place self.new.network k ≡ true) }
     {
-        match self.step_site(envelope.to, Input::Deliver(envelope)) {
-            Ok(answer) => Ok(answer),
-            Err(Some(envelope)) => Err(envelope),
-            Err(None) => unreachable!(),
-        }
-    }
-
-    /// Steps a site, if there is one and envelopes have numbers left. Where memory is refused nothing changes, and an envelope that was
-    /// handed in comes back.
-    #[inline(always)]
-    fn step_site(&mut self, site: SiteId, input: Input<A>) -> Result<Answer, Option<Envelope<A>>>
-        ensures step { (w : model.World) → StandsFor self.old w → IfOk result (λ answer. Went self.new (model.step_at w site (input_of input)) answer) }
-        ensures back { IfErr result (λ back. envelope_if back ≡ handed_in (input_of input)) }
-        ensures refused { (w : model.World) → StandsFor self.old w → OnErr result (StandsFor self.new w) }
-        ensures memory { (w : model.World) → StandsFor self.old w
-            → OnErr result (input_may_grow (input_of input) (model.step_at w site (input_of input)).done.answer ≡ true) }
-        ensures places { OnErr result ((k : ℕ) → has_place self.old.network k ≡ true → has_place self.new.network k ≡ true) }
-    {
-        if let Some(answer) = self.refusal(site) {
+        if let Some(answer) = self.refusal(envelope.to) {
             return Ok(answer);
         }
-        match self.members.step(site, input, &mut self.network) {
-            Ok(answer) => Ok(answer),
-            Err(error) => match error.fault {
-                StepFault::Foreign => Ok(Answer::Refused(FOREIGN)),
-                StepFault::OutOfMemory => Err(error.envelope),
-            },
-        }
+        self.members.deliver(envelope, &mut self.network)
     }
 
     /// Why no site is stepped, if none is: there is no such site, or envelopes have no numbers left.

@@ -1,5 +1,5 @@
 use anyhow::Result;
-use shm_parts::{Message, Note};
+use shm_parts::{BookNote, EntryNote, Message, Note};
 use shm_sites::{Envelope, Stamp};
 use std::alloc::Global;
 use std::collections::VecDeque;
@@ -47,10 +47,12 @@ pub fn kind_of(envelope: &Envelope) -> &'static str {
         return "another message";
     };
     match note {
-        Note::Ask { .. } => "Ask",
-        Note::Hand { .. } => "Hand",
-        Note::Read(_) | Note::Write(_) => "Page",
-        Note::Confirm(_) => "Confirm",
-        Note::Clear(_) | Note::Cleared(_) => "another message",
+        Note::ToBook(BookNote::Ask { .. }) => "Ask",
+        Note::ToBook(BookNote::Confirm(_)) => "Confirm",
+        Note::ToEntry(EntryNote::Hand { .. }) => "Hand",
+        Note::ToEntry(EntryNote::Read(_) | EntryNote::Write(_)) => "Page",
+        Note::ToBook(BookNote::Cleared(_)) | Note::ToEntry(EntryNote::Clear(_)) => {
+            "another message"
+        }
     }
 }

@@ -7,7 +7,7 @@ ghost use Rattle.shm_debug.specs.Text;
 ghost use Rattle.shm_debug.specs.Text.{envelope_text, live_text, message_name, sent_text};
 
 use crate::telling::pushing::push_number;
-use shm_parts::{Envelope, Message, Note};
+use shm_parts::{BookNote, EntryNote, Envelope, Message, Note};
 use shm_world::World;
 use std::alloc::{AllocError, Allocator};
 
@@ -74,11 +74,11 @@ fn note_name<A: Allocator + Copy>(note: &Note<A>) -> &'static str
     ensures { result.now ≡ Text.note_name (note_of note.now) }
 {
     match note {
-        Note::Ask { .. } => "Ask",
-        Note::Clear(_) => "Clear",
-        Note::Cleared(_) => "Cleared",
-        Note::Hand { .. } => "Hand",
-        Note::Read(_) | Note::Write(_) => "Page",
-        Note::Confirm(_) => "Confirm",
+        Note::ToBook(BookNote::Ask { .. }) => "Ask",
+        Note::ToBook(BookNote::Cleared(_)) => "Cleared",
+        Note::ToBook(BookNote::Confirm(_)) => "Confirm",
+        Note::ToEntry(EntryNote::Clear(_)) => "Clear",
+        Note::ToEntry(EntryNote::Hand { .. }) => "Hand",
+        Note::ToEntry(EntryNote::Read(_) | EntryNote::Write(_)) => "Page",
     }
 }

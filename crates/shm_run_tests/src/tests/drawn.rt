@@ -1,6 +1,6 @@
 //! That a run draws from its seed: what becomes of the first envelope that a site's thread sends.
 use shm_lines::parse_workload;
-use shm_parts::{Message, Note};
+use shm_parts::{EntryNote, Message, Note};
 use shm_place::Sites;
 use shm_report::run_workload;
 use shm_sites::{Input, SiteLog};
@@ -78,7 +78,7 @@ fn is_hand(input: &Input) -> bool {
         Input::Deliver(envelope) => matches!(
             envelope.message,
             Message::Of {
-                note: Note::Hand { .. },
+                note: Note::ToEntry(EntryNote::Hand { .. }),
                 ..
             }
         ),

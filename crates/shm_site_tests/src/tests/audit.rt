@@ -3,7 +3,7 @@
 //! Whoever holds logs drops them by name: a drop at the end of its scope is written out there, and takes far longer to prove.
 use super::expect;
 use shm_model::Kind;
-use shm_parts::{Message, Note};
+use shm_parts::{BookNote, Message, Note};
 use shm_place::{PageId, SegId, SiteId, Sites};
 use shm_sites::{
     AuditFault, Envelope, Event, Input, Receipt, SiteBox, SiteLog, Stamp, audit, logs_match,
@@ -321,10 +321,10 @@ fn input_of<A: Allocator + Copy>(given: Given, me: u32) -> Input<A> {
                     seg: SegId(0),
                     index,
                 },
-                note: Note::Ask {
+                note: Note::ToBook(BookNote::Ask {
                     request: 1,
                     kind: Kind::Read,
-                },
+                }),
             },
         }),
     }

@@ -4,7 +4,9 @@
 use super::expect;
 use shm_model::{Access, Kind, Op, Reply, Request, Shown};
 use shm_place::{PageId, SegId, SiteId, Sites};
-use shm_site::{Answer, Envelope, Input, Message, Note, Site, StepError, StepFault};
+use shm_site::{
+    Answer, BookNote, EntryNote, Envelope, Input, Message, Note, Site, StepError, StepFault,
+};
 use std::alloc::{AllocError, Allocator};
 use std::process::Abort;
 
@@ -176,18 +178,18 @@ fn told_by<A: Allocator + Copy>(from: u32, to: u32, told: &Told) -> Input<A> {
 
 fn message_of<A: Allocator + Copy>(told: &Told) -> Message<A> {
     match *told {
-        Told::Ask(index, request, kind) => of(index, Note::Ask { request, kind }),
-        Told::Clear(index, number) => of(index, Note::Clear(number)),
-        Told::Cleared(index, number) => of(index, Note::Cleared(number)),
-        Told::Hand(index, number, kind, to) => of(
+        Told::Ask(index, request, kind) => to_book(index, BookNote::Ask { request, kind }),
+        Told::Clear(index, number) => to_entry(index, EntryNote::Clear(number)),
+        Told::Cleared(index, number) => to_book(index, BookNote::Cleared(number)),
+        Told::Hand(index, number, kind, to) => to_entry(
             index,
-            Note::Hand {
+            EntryNote::Hand {
                 number,
                 kind,
                 to: SiteId(to),
             },
         ),
-        Told::Confirm(index, number) => of(index, Note::Confirm(number)),
+        Told::Confirm(index, number) => to_book(index, BookNote::Confirm(number)),
         Told::Call(number, op) => Message::Call { number, op },
         Told::Reply(number, reply) => Message::Reply { number, reply },
         Told::Purge(id) => Message::Purge { id: SegId(id) },
@@ -195,11 +197,19 @@ fn message_of<A: Allocator + Copy>(told: &Told) -> Message<A> {
     }
 }
 
-/// A note of a page of segment 0.
-fn of<A: Allocator + Copy>(index: u32, note: Note<A>) -> Message<A> {
+/// A note to the book of a page of segment 0.
+fn to_book<A: Allocator + Copy>(index: u32, told: BookNote) -> Message<A> {
     Message::Of {
         page: page(index),
-        note,
+        note: Note::ToBook(told),
+    }
+}
+
+/// A note to an entry of a page of segment 0.
+fn to_entry<A: Allocator + Copy>(index: u32, told: EntryNote<A>) -> Message<A> {
+    Message::Of {
+        page: page(index),
+        note: Note::ToEntry(told),
     }
 }
 

@@ -1,9 +1,9 @@
 //! Whether two envelopes are one.
 ghost use Rattle.std.specs.Prelude.{◌≡◌};
 ghost use Rattle.std.specs.Bool.{Decides};
-ghost use Rattle.shm_parts.specs.Message.{envelope_of, message_of, note_of};
+ghost use Rattle.shm_parts.specs.Message.{entry_note_of, envelope_of, message_of, note_of};
 
-use shm_parts::{Envelope, Message, Note};
+use shm_parts::{EntryNote, Envelope, Message, Note};
 use std::alloc::Allocator;
 
 pub(crate) fn same_envelope<A: Allocator + Copy>(a: &Envelope<A>, b: &Envelope<A>) -> bool
@@ -39,30 +39,31 @@ fn same_note<A: Allocator + Copy>(a: &Note<A>, b: &Note<A>) -> bool
     ensures { Decides result (note_of a.now ≡ note_of b.now) }
 {
     match (a, b) {
+        (Note::ToBook(told), Note::ToBook(t)) => told == t,
+        (Note::ToEntry(told), Note::ToEntry(t)) => same_entry_note(told, t),
+        _ => false,
+    }
+}
+
+fn same_entry_note<A: Allocator + Copy>(a: &EntryNote<A>, b: &EntryNote<A>) -> bool
+    ensures { Decides result (entry_note_of a.now ≡ entry_note_of b.now) }
+{
+    match (a, b) {
+        (EntryNote::Clear(number), EntryNote::Clear(n)) => number == n,
         (
-            Note::Ask { request, kind },
-            Note::Ask {
-                request: r,
-                kind: k,
-            },
-        ) => request == r && kind == k,
-        (Note::Clear(number), Note::Clear(n)) => number == n,
-        (Note::Cleared(number), Note::Cleared(n)) => number == n,
-        (
-            Note::Hand { number, kind, to },
-            Note::Hand {
+            EntryNote::Hand { number, kind, to },
+            EntryNote::Hand {
                 number: n,
                 kind: k,
                 to: t,
             },
         ) => number == n && kind == k && to == t,
-        (Note::Read(grant), Note::Read(g)) => {
+        (EntryNote::Read(grant), EntryNote::Read(g)) => {
             grant.number() == g.number() && grant.bytes() == g.bytes()
         }
-        (Note::Write(grant), Note::Write(g)) => {
+        (EntryNote::Write(grant), EntryNote::Write(g)) => {
             grant.number() == g.number() && grant.bytes() == g.bytes()
         }
-        (Note::Confirm(number), Note::Confirm(n)) => number == n,
         _ => false,
     }
 }

@@ -1,13 +1,21 @@
-use Rattle.std.proofs.Common.{map, ap, sym, ◌∙◌}
+use Rattle.std.proofs.Common.{false, map, ap, sym, ◌∙◌}
+use Rattle.shm_model.specs.Transfer.{settle}
 use Rattle.shm_parts.specs.Pendings.{pending_of, pendings_of}
-use Rattle.shm_parts.proofs.PendingLemmas.{pending_kept, pending_settled}
+use Rattle.shm_parts.proofs.PendingLemmas.{nothing_settles, pending_dropped, pending_kept}
 use Rattle.shm_parts.proofs.pendings.Pendings.settle.Goals as goal
 
-pub returns-then-is_settled : goal.returns-then-is_settled
-returns-then-is_settled g c =
+pub returns-then-writes : goal.returns-then-writes
+returns-then-writes g c =
     ap (map pending_of) c.remove.ensures.first
-    ∙ pending_settled c.args.reads c.args.writes c.args.page c.args.self.now.pages (sym c.is_settled.ensures ∙ c.if-is_settled.true)
+    ∙ pending_dropped c.args.reads c.args.page c.args.self.now.pages
+    ∙ ap (λ b. settle c.args.reads b c.args.page (pendings_of c.args.self.now)) (sym c.if-writes.true)
 
-pub returns-else-is_settled : goal.returns-else-is_settled
-returns-else-is_settled g c =
-    pending_kept c.args.reads c.args.writes c.args.page (pendings_of c.args.self.now) (sym c.is_settled.ensures ∙ c.if-is_settled.false)
+pub returns-then-reads : goal.returns-then-reads
+returns-then-reads g c =
+    c.settle_read.ensures
+    ∙ (λ i. settle (sym c.if-reads.true i) (sym c.if-writes.false i) c.args.page (pendings_of c.args.self.now))
+
+pub returns-else-reads : goal.returns-else-reads
+returns-else-reads g c =
+    pending_kept false false c.args.page (pendings_of c.args.self.now) (nothing_settles c.args.page (pendings_of c.args.self.now))
+    ∙ (λ i. settle (sym c.if-reads.false i) (sym c.if-writes.false i) c.args.page (pendings_of c.args.self.now))

@@ -1,6 +1,6 @@
 //! All that can be seen of a world: its sites, its books, and the envelopes that are on their way.
 use shm_model::{Kind, Op, Reply};
-use shm_parts::{Envelope, Message, Note};
+use shm_parts::{BookNote, EntryNote, Envelope, Message, Note};
 use shm_place::{MAX_SITES, PageId, SegId, SiteId};
 use shm_world::{Access, BookView, Shown, World};
 use std::alloc::{AllocError, Allocator, Global};
@@ -133,17 +133,29 @@ fn message_of<A: Allocator + Copy>(message: &Message<A>) -> SeenMessage {
 
 fn note_of<A: Allocator + Copy>(page: PageId, note: &Note<A>) -> SeenMessage {
     match note {
-        &Note::Ask { request, kind } => SeenMessage::Ask(page, request, kind),
-        &Note::Clear(number) => SeenMessage::Clear(page, number),
-        &Note::Cleared(number) => SeenMessage::Cleared(page, number),
-        &Note::Hand { number, kind, to } => SeenMessage::Hand(page, number, kind, to),
-        Note::Read(grant) => {
+        &Note::ToBook(told) => book_note_of(page, told),
+        Note::ToEntry(told) => entry_note_of(page, told),
+    }
+}
+
+fn book_note_of(page: PageId, told: BookNote) -> SeenMessage {
+    match told {
+        BookNote::Ask { request, kind } => SeenMessage::Ask(page, request, kind),
+        BookNote::Cleared(number) => SeenMessage::Cleared(page, number),
+        BookNote::Confirm(number) => SeenMessage::Confirm(page, number),
+    }
+}
+
+fn entry_note_of<A: Allocator + Copy>(page: PageId, told: &EntryNote<A>) -> SeenMessage {
+    match told {
+        &EntryNote::Clear(number) => SeenMessage::Clear(page, number),
+        &EntryNote::Hand { number, kind, to } => SeenMessage::Hand(page, number, kind, to),
+        EntryNote::Read(grant) => {
             SeenMessage::Page(page, grant.number(), Kind::Read, sum(grant.bytes()))
         }
-        Note::Write(grant) => {
+        EntryNote::Write(grant) => {
             SeenMessage::Page(page, grant.number(), Kind::Write, sum(grant.bytes()))
         }
-        &Note::Confirm(number) => SeenMessage::Confirm(page, number),
     }
 }
 

@@ -4,7 +4,7 @@ use crate::boxes::{Envelope, Input, SiteBox, Stamp};
 use crate::cluster::work::give_input;
 use linked_list_allocator::LocalHeap;
 use shm_model::Kind;
-use shm_parts::{Message, Note};
+use shm_parts::{BookNote, Message, Note};
 use shm_place::{PageId, SegId, SiteId, Sites};
 use std::alloc::{AllocError, Allocator, Global};
 use std::test::Fail;
@@ -62,10 +62,10 @@ fn asking<A: Allocator + Copy>() -> Input<A> {
                 seg: SegId(0),
                 index: 0,
             },
-            note: Note::Ask {
+            note: Note::ToBook(BookNote::Ask {
                 request: 1,
                 kind: Kind::Read,
-            },
+            }),
         },
     })
 }

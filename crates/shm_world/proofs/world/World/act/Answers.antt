@@ -3,7 +3,7 @@ use Rattle.shm_site.specs.Site.{site_of}
 use Rattle.shm_site.specs.Step.{input_of, is_foreign, may_grow}
 use Rattle.shm_world.specs.World.{input_may_grow}
 use Rattle.shm_world.proofs.Steps.{answered, found, grows, stays, turned_away, was_foreign, went}
-use Rattle.shm_world.proofs.world.World.step_site.Goals as goal
+use Rattle.shm_world.proofs.world.World.act.Goals as goal
 
 pub returns-in-Ok-clause-step : goal.returns-in-Ok-clause-step
 returns-in-Ok-clause-step g c = λ w stands.
@@ -28,11 +28,11 @@ returns-in-Foreign-clause-step g c = λ w stands.
     (omega (arith, c.in_default.ensures.numbers, stands.carries.count))
     (ap (λ n. is_foreign n s i) stands.count ∙ was_foreign (is_foreign old.members.count s i) (sym c.in-Foreign.is ∙ c.in-Err.ensures.fault))
 
-pub returns-in-OutOfMemory-clause-refused : goal.returns-in-OutOfMemory-clause-refused
-returns-in-OutOfMemory-clause-refused g c = λ w stands. stays c.args.self.now _ w stands c.in-Err.ensures.count c.in-Err.ensures.refused.0 c.in-Err.ensures.refused.1
+pub returns-clause-refused : goal.returns-clause-refused
+returns-clause-refused g c = λ w stands. stays c.args.self.now _ w stands c.in-Err.ensures.count c.in-Err.ensures.refused.0 c.in-Err.ensures.refused.1
 
-pub returns-in-OutOfMemory-clause-memory : goal.returns-in-OutOfMemory-clause-memory
-returns-in-OutOfMemory-clause-memory g c = λ w stands.
+pub returns-clause-memory : goal.returns-clause-memory
+returns-clause-memory g c = λ w stands.
     let old = c.args.self.now in
     let s = c.args.site in
     let i = input_of c.args.input in
