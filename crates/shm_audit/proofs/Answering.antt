@@ -1,12 +1,13 @@
 -- What is answered of a journal.
-use Rattle.std.proofs.Common.{◌≡◌, ℕ, List, ◌∷◌, ◌++◌, [], Some, None, Ok, Err, Result, ◌⊎◌, inl, inr, refl, sym, subst}
+use Rattle.std.proofs.Common.{◌≡◌, ◌≤◌, ℕ, List, ◌∷◌, ◌++◌, [], Some, None, Ok, Err, Result, ◌⊎◌, inl, inr, length, refl, sym, subst}
 use Rattle.std.specs.Prelude.{⊤, Option, IfErr, IfOk, IfSome}
 use Rattle.std.specs.Io.KnownBytes.{Consumes}
+use Rattle.shm_journal.specs.Found.{max_journal_line}
 use Rattle.shm_sites.specs.Boxes.Box.{Box}
 use Rattle.shm_sites.specs.Boxes.SiteBox.{box_of}
 use Rattle.shm_sites.specs.declared.boxes.site_box.SiteBox.{SiteBox}
 use Rattle.shm_sites.specs.declared.boxes.site_log.SiteLog.{SiteLog}
-use Rattle.shm_audit.specs.Found.{Found, Led, IsFault, IsLed, Tells, entered, found, found_from, opened, whole_lines}
+use Rattle.shm_audit.specs.Found.{Found, Led, IsFault, IsLed, Tells, entered, found, found_behind, opened}
 use Rattle.shm_audit.specs.Leading.{Leads}
 use Rattle.shm_audit.specs.LinesOf.{Unended}
 use Rattle.shm_audit.specs.declared.journal_fault.JournalFault.{JournalFault}
@@ -21,37 +22,37 @@ nothing_known (Some xs) = tt
 -- ---- the first line
 
 pub first_ok : {A : Type 0} → (before left : Option (List ℕ)) (line now : List ℕ) (r : Result (SiteBox A) JournalFault) → Consumes before left (line ++ 10 ∷ []) → Unended line
-    → now ≡ line → IfOk r (λ new. opened now ≡ Some (box_of new)) → IfOk r (λ new. Leads found before left 2 (box_of new))
-first_ok before left line now (Ok new) taken h same e = first_line before left (box_of new) line taken h (subst (λ l. opened l ≡ Some (box_of new)) same e)
-first_ok before left line now (Err f) taken h same e = tt
+    → length line ≤ max_journal_line → now ≡ line → IfOk r (λ new. opened now ≡ Some (box_of new)) → IfOk r (λ new. Leads found before left 2 (box_of new))
+first_ok before left line now (Ok new) taken h short same e = first_line before left (box_of new) line taken h short (subst (λ l. opened l ≡ Some (box_of new)) same e)
+first_ok before left line now (Err f) taken h short same e = tt
 
 first_fault : (before left : Option (List ℕ)) (line : List ℕ) (f : JournalFault) → Consumes before left (line ++ 10 ∷ []) → Unended line
-    → (f ≡ fault.OutOfMemory) ⊎ ((f ≡ fault.BadLine 1) × (opened line ≡ None)) → IfSome before (λ file. IsFault (found file) f)
-first_fault before left line f taken h (inl e) = subst (λ f. IfSome before (λ file. IsFault (found file) f)) (sym e) (nothing_known before)
-first_fault before left line f taken h (inr e) =
-    subst (λ f. IfSome before (λ file. IsFault (found file) f)) (sym e.0) (bad_first_line before left line taken h e.1)
+    → length line ≤ max_journal_line → (f ≡ fault.OutOfMemory) ⊎ ((f ≡ fault.BadLine 1) × (opened line ≡ None)) → IfSome before (λ file. IsFault (found file) f)
+first_fault before left line f taken h short (inl e) = subst (λ f. IfSome before (λ file. IsFault (found file) f)) (sym e) (nothing_known before)
+first_fault before left line f taken h short (inr e) =
+    subst (λ f. IfSome before (λ file. IsFault (found file) f)) (sym e.0) (bad_first_line before left line taken h short e.1)
 
 pub first_err : {A : Type 0} → (before left : Option (List ℕ)) (line now : List ℕ) (r : Result (SiteBox A) JournalFault) → Consumes before left (line ++ 10 ∷ []) → Unended line
-    → now ≡ line → IfErr r (λ f. (f ≡ fault.OutOfMemory) ⊎ ((f ≡ fault.BadLine 1) × (opened now ≡ None)))
+    → length line ≤ max_journal_line → now ≡ line → IfErr r (λ f. (f ≡ fault.OutOfMemory) ⊎ ((f ≡ fault.BadLine 1) × (opened now ≡ None)))
     → IfErr r (λ f. IfSome before (λ file. IsFault (found file) f))
-first_err before left line now (Ok new) taken h same e = tt
-first_err before left line now (Err f) taken h same e =
-    first_fault before left line f taken h (subst (λ l. (f ≡ fault.OutOfMemory) ⊎ ((f ≡ fault.BadLine 1) × (opened l ≡ None))) same e)
+first_err before left line now (Ok new) taken h short same e = tt
+first_err before left line now (Err f) taken h short same e =
+    first_fault before left line f taken h short (subst (λ l. (f ≡ fault.OutOfMemory) ⊎ ((f ≡ fault.BadLine 1) × (opened l ≡ None))) same e)
 
 -- ---- the entries
 
 by_fault : (says : List ℕ → Found) (before left now : Option (List ℕ)) (number : ℕ) (box : Box) (line : List ℕ) (f : JournalFault) → Leads says before left number box
-    → Consumes left now (line ++ 10 ∷ []) → Unended line → (f ≡ fault.OutOfMemory) ⊎ ((f ≡ fault.BadLine number) × (entered box line ≡ None))
+    → Consumes left now (line ++ 10 ∷ []) → Unended line → length line ≤ max_journal_line → (f ≡ fault.OutOfMemory) ⊎ ((f ≡ fault.BadLine number) × (entered box line ≡ None))
     → IfSome before (λ file. IsFault (says file) f)
-by_fault says before left now number box line f l taken h (inl e) = subst (λ f. IfSome before (λ file. IsFault (says file) f)) (sym e) (nothing_known before)
-by_fault says before left now number box line f l taken h (inr e) =
-    subst (λ f. IfSome before (λ file. IsFault (says file) f)) (sym e.0) (bad_line says before left now number box line l taken h e.1)
+by_fault says before left now number box line f l taken h short (inl e) = subst (λ f. IfSome before (λ file. IsFault (says file) f)) (sym e) (nothing_known before)
+by_fault says before left now number box line f l taken h short (inr e) =
+    subst (λ f. IfSome before (λ file. IsFault (says file) f)) (sym e.0) (bad_line says before left now number box line l taken h short e.1)
 
 pub entry_fault : (says : List ℕ → Found) (before left now : Option (List ℕ)) (number : ℕ) (box : Box) (line seen : List ℕ) (f : JournalFault) → Leads says before left number box
-    → Consumes left now (line ++ 10 ∷ []) → Unended line → seen ≡ line → (f ≡ fault.OutOfMemory) ⊎ ((f ≡ fault.BadLine number) × (entered box seen ≡ None))
+    → Consumes left now (line ++ 10 ∷ []) → Unended line → length line ≤ max_journal_line → seen ≡ line → (f ≡ fault.OutOfMemory) ⊎ ((f ≡ fault.BadLine number) × (entered box seen ≡ None))
     → IfSome before (λ file. IsFault (says file) f)
-entry_fault says before left now number box line seen f l taken h same e =
-    by_fault says before left now number box line f l taken h
+entry_fault says before left now number box line seen f l taken h short same e =
+    by_fault says before left now number box line f l taken h short
     (subst (λ s. (f ≡ fault.OutOfMemory) ⊎ ((f ≡ fault.BadLine number) × (entered box s ≡ None))) same e)
 
 -- ---- the log
@@ -63,6 +64,6 @@ has_log (Some xs) says box log h same =
     subst (λ l. IsLed (says xs) l) (sym same) (subst (λ f. IsLed f box.log) (sym h) (record { sites = refl; me = refl; pages = refl; steps = refl }))
 
 pub whole_journal : {A : Type 0} → (all before left : Option (List ℕ)) (box : Box) (r : Result (SiteLog A) JournalFault) → before ≡ all → Leads found before left 2 box
-    → IfSome left (λ rest. Tells (found_from 2 box (whole_lines rest)) r) → IfSome all (λ file. Tells (found file) r)
+    → IfSome left (λ rest. Tells (found_behind 2 box rest) r) → IfSome all (λ file. Tells (found file) r)
 whole_journal all before left box r same l h =
     subst (λ a. IfSome a (λ file. Tells (found file) r)) same (joined found before left 2 box (λ f. Tells f r) l h)

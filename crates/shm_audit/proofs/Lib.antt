@@ -1,5 +1,6 @@
 pub mod Bytes
 pub mod Leading
+pub mod Overlong
 pub mod ReadBytes
 pub mod Answering
 pub mod Counted

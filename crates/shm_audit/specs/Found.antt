@@ -1,9 +1,9 @@
 -- What the file of a journal says: the box that its entries lead to, one after another. Only whole lines count: what stands behind the last
--- line feed is torn, and says nothing.
+-- line feed is torn, and says nothing, unless it is too long for a line.
 use Rattle.std.specs.Prelude.{◌≡◌, ⊤, ℕ, ◌+◌, ◌&&◌, Bool, List, [], ◌∷◌, Option, Some, None, Result, Ok, Err, if◌then◌else◌, nat_lt, option_and_then}
 use Rattle.shm_place.specs.Limits.{max_sites}
 use Rattle.shm_place.specs.Limits as limit
-use Rattle.shm_journal.specs.Found.{lines_of}
+use Rattle.shm_journal.specs.Found.{is_long, lines_of}
 use Rattle.shm_journal.specs.Lines.{Header, read_entry, read_header}
 use Rattle.shm_sites.specs.Boxes.Box.{Box, new_box}
 use Rattle.shm_sites.specs.Boxes.SiteLog.{steps_of}
@@ -12,14 +12,15 @@ use Rattle.shm_audit.specs.Entered.{box_after}
 use Rattle.shm_audit.specs.declared.journal_fault.JournalFault.{JournalFault}
 use Rattle.shm_audit.specs.declared.journal_fault.JournalFault.TheVariants as fault
 
--- the box that the lines lead to; or the number of the first line, from 1, that is none of a journal's, or records no step that can be the
--- site's next
+-- the box that the lines lead to; or the number of the first line, from 1, that is none of a journal's, or too long, or records no step that
+-- can be the site's next
 pub data Found : Type 0 where
   Led : Box → Found
   Bad : ℕ → Found
 
-abbrev pub whole_lines : List ℕ → List (List ℕ)
-whole_lines file = (lines_of file).whole
+-- a line that is too long is none, whatever it says; and so is what is torn
+abbrev pub unless_long : ℕ → List ℕ → Found → Found
+unless_long number line says = if is_long line then Bad number else says
 
 -- ---- the first line
 
@@ -44,17 +45,21 @@ abbrev pub next_found : ℕ → Option Box → (Box → Found) → Found
 next_found number None onward = Bad number
 next_found number (Some box) onward = onward box
 
--- the lines from this number on lead there
-unfoldable pub found_from : ℕ → Box → List (List ℕ) → Found
-found_from number box [] = Led box
-found_from number box (line ∷ lines) = next_found number (entered box line) (λ next. found_from (number + 1) next lines)
+-- the lines from this number on lead there; what is torn may be the front of one
+unfoldable pub found_from : ℕ → Box → List (List ℕ) → List ℕ → Found
+found_from number box [] torn = unless_long number torn (Led box)
+found_from number box (line ∷ lines) torn = unless_long number line (next_found number (entered box line) (λ next. found_from (number + 1) next lines torn))
 
-abbrev pub found_in : List (List ℕ) → Found
-found_in [] = Bad 1
-found_in (line ∷ lines) = next_found 1 (opened line) (λ box. found_from 2 box lines)
+-- what these bytes say, which begin with the line of this number
+abbrev pub found_behind : ℕ → Box → List ℕ → Found
+found_behind number box rest = let lines = lines_of rest in found_from number box lines.whole lines.torn
+
+abbrev pub found_in : List (List ℕ) → List ℕ → Found
+found_in [] torn = Bad 1
+found_in (line ∷ lines) torn = unless_long 1 line (next_found 1 (opened line) (λ box. found_from 2 box lines torn))
 
 abbrev pub found : List ℕ → Found
-found file = found_in (whole_lines file)
+found file = let lines = lines_of file in found_in lines.whole lines.torn
 
 -- ---- what is answered of it
 

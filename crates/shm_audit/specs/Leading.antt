@@ -2,11 +2,11 @@
 use Rattle.std.specs.Prelude.{◌≡◌, ℕ, List, ◌++◌, Option}
 use Rattle.std.specs.Io.KnownBytes.{Consumes}
 use Rattle.shm_sites.specs.Boxes.Box.{Box}
-use Rattle.shm_audit.specs.Found.{Found, found_from, whole_lines}
+use Rattle.shm_audit.specs.Found.{Found, found_behind}
 
 -- Bytes were taken of those that there were, and these are left. Whatever follows them, the whole says what it says from the line of this
 -- number on, where it leads from this box.
 pub record Leads (says : List ℕ → Found) (before left : Option (List ℕ)) (number : ℕ) (box : Box) : Type 0 where
   pub bytes : List ℕ
   pub taken : Consumes before left bytes
-  pub onward : (more : List ℕ) → says (bytes ++ more) ≡ found_from number box (whole_lines more)
+  pub onward : (more : List ℕ) → says (bytes ++ more) ≡ found_behind number box more

@@ -1,5 +1,6 @@
 pub mod Faults
 pub mod LinesOf
+pub mod Taking
 pub mod Entered
 pub mod HandedOf
 pub mod Found

@@ -12,6 +12,7 @@ pub mod laws;
 mod lines;
 mod opening;
 mod reading;
+mod taken;
 
 pub use counts::Counts;
 pub use journal_fault::JournalFault;

@@ -1,8 +1,11 @@
 //! A reader's bytes, a line at a time.
 ghost use Rattle.std.specs.Prelude.{◌≤◌, length};
+ghost use Rattle.shm_journal.specs.Found.{max_journal_line};
 
 use crate::journal_fault::JournalFault;
+use crate::taken::Taken;
 use shm_debug::read_up_to;
+use shm_journal::MAX_LINE_BYTES;
 use std::alloc::{Allocator, Global};
 use std::io::Read;
 
@@ -16,15 +19,16 @@ pub(crate) struct Lines<A: Allocator + Copy = Global> {
     bytes: Vec<u8, A>,
     at: usize,
     ghost once: { length bytes.items ≤ 8192 },
+    ghost short: { length line.items ≤ max_journal_line },
 }
 
 impl<A: Allocator + Copy> Lines<A> {
-    ghost use Rattle.std.specs.Prelude.{◌≡◌, ◌≤◌, ◌==◌, ◌∷◌, ◌++◌, [], false, true, ℕ, length, Option, List, IfErr, IfNone, IfOk, IfSome, OnErr, OnOk};
-    ghost use Rattle.std.specs.List.{All};
+    ghost use Rattle.std.specs.Prelude.{◌≡◌, ◌∷◌, [], true, ℕ, Option, List, IfErr, IfNone, IfOk, IfSome, OnErr, OnOk};
     ghost use Rattle.std.specs.Io.KnownBytes.{Consumes, IsAtEnd, Keeps};
     ghost use Rattle.shm_audit.specs.LinesOf.{is_used_up, left_of, Unended};
     ghost use Rattle.shm_audit.specs.Faults.{IsOther};
     ghost use Rattle.shm_audit.specs.ReadUpTo.{ReadsOn};
+    ghost use Rattle.shm_audit.specs.Taking.{Takes};
 
     /// Nothing was read yet.
     pub(crate) fn new(alloc: A) -> Lines<A>
@@ -37,37 +41,39 @@ impl<A: Allocator + Copy> Lines<A> {
         }
     }
 
-    /// The line that was taken last, without its line feed.
+    /// The line that was taken last, without its line feed, or its front.
     pub(crate) fn line(&self) -> &[u8]
         ensures { result.now ≡ self.now.line.items }
     {
         self.line.as_slice()
     }
 
-    /// Takes the next line. `false`: the bytes ended before it did, and its front is taken.
-    pub(crate) fn take<R: Read>(&mut self, reader: &mut R) -> Result<bool, JournalFault>
-        ensures unended { IfOk result (λ whole. Unended self.new.line.items) }
-        ensures whole { IfOk result (λ whole. whole ≡ true → Consumes (left_of self.old (R.remaining reader.old)) (left_of self.new (R.remaining reader.new))
-            (self.new.line.items ++ 10 ∷ [])) }
-        ensures torn { IfOk result (λ whole. whole ≡ false → Consumes (left_of self.old (R.remaining reader.old))
-            (left_of self.new (R.remaining reader.new)) self.new.line.items) }
-        ensures end { IfOk result (λ whole. whole ≡ false → IsAtEnd (R.remaining reader.new) × IsAtEnd (left_of self.new (R.remaining reader.new))) }
+    /// Takes the next line, or as much of it as there is and may be. A byte too many is taken, but not kept.
+    pub(crate) fn take<R: Read>(&mut self, reader: &mut R) -> Result<Taken, JournalFault>
+        ensures unended { OnOk result (Unended self.new.line.items) }
+        ensures takes { IfOk result (λ taken. Takes taken (left_of self.old (R.remaining reader.old)) (left_of self.new (R.remaining reader.new))
+            (R.remaining reader.new) self.new.line.items) }
         ensures fault { IfErr result IsOther }
         ensures front { OnErr result (ReadsOn (left_of self.old (R.remaining reader.old)) (R.remaining reader.new)) }
     {
         self.line.clear();
         'bytes: for _ in 0..u64::MAX {
             match self.take_byte(reader) {
-                Ok(None) => return Ok(false),
-                Ok(Some(b'\n')) => return Ok(true),
-                Ok(Some(byte)) => match self.line.push(byte) {
-                    Ok(()) => {}
-                    Err(_) => return Err(JournalFault::OutOfMemory),
-                },
+                Ok(None) => return Ok(Taken::Torn),
+                Ok(Some(b'\n')) => return Ok(Taken::Whole),
+                Ok(Some(byte)) => {
+                    if self.line.len() >= MAX_LINE_BYTES {
+                        return Ok(Taken::TooLong);
+                    }
+                    match self.line.push(byte) {
+                        Ok(()) => {}
+                        Err(_) => return Err(JournalFault::OutOfMemory),
+                    }
+                }
                 Err(fault) => return Err(fault),
             }
         }
-        // No run takes so many bytes.
+        // No line takes so many bytes.
         Err(JournalFault::ReadFault)
     }
 

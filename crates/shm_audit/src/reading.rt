@@ -2,7 +2,7 @@
 ghost use Rattle.std.specs.Prelude.{◌≡◌, ℕ, IfErr, IfOk, IfSome, OnOk};
 ghost use Rattle.std.specs.Io.KnownBytes.{IsAtEnd};
 ghost use Rattle.shm_sites.specs.Boxes.SiteBox.{box_of};
-ghost use Rattle.shm_audit.specs.Found.{found, found_from, whole_lines, IsFault, Led, Tells};
+ghost use Rattle.shm_audit.specs.Found.{found, found_behind, IsFault, Led, Tells};
 ghost use Rattle.shm_audit.specs.LinesOf.{left_of};
 ghost use Rattle.shm_audit.specs.Leading.{Leads};
 ghost use Rattle.shm_audit.specs.ReadUpTo.{ReadsToLine, ReadsUpTo};
@@ -12,13 +12,15 @@ use crate::entering::enter;
 use crate::journal_fault::JournalFault;
 use crate::lines::Lines;
 use crate::opening::open_box;
+use crate::taken::Taken;
 use shm_sites::{SiteBox, SiteLog};
 use std::alloc::Allocator;
 use std::io::Read;
 
 /// The log of the site whose journal this is: its box takes each step that is recorded, one after another. A last line without its line feed
-/// counts for nothing. Memory is needed for the longest line and for the log. After a fault the reader stands a little behind the line that is
-/// wrong.
+/// counts for nothing. A line that is longer than a journal's may be is wrong, the last one too, and is told as soon as it has a byte too many,
+/// whatever follows. So memory for a line is bounded, by `shm_journal::MAX_LINE_BYTES`; beside it some is needed for the log. After a fault the
+/// reader stands a little behind the line that is wrong, or behind its byte too many.
 pub fn read_log<A: Allocator + Copy, R: Read>(
     alloc: A,
     reader: &mut R,
@@ -44,9 +46,9 @@ fn read_rest<A: Allocator + Copy, R: Read>(
 ) -> Result<SiteLog<A>, JournalFault>
     ensures end { OnOk result (IsAtEnd (R.remaining reader.new)) }
     ensures all { OnOk result (ReadsAll (left_of lines (R.remaining reader.old)) (R.remaining reader.new)) }
-    ensures left { IfErr result (ReadsToLine (λ rest. found_from 2 (box_of site_box) (whole_lines rest)) (left_of lines (R.remaining reader.old))
+    ensures left { IfErr result (ReadsToLine (λ rest. found_behind 2 (box_of site_box) rest) (left_of lines (R.remaining reader.old))
         (R.remaining reader.new)) }
-    ensures tells { IfSome (left_of lines (R.remaining reader.old)) (λ rest. Tells (found_from 2 (box_of site_box) (whole_lines rest)) result) }
+    ensures tells { IfSome (left_of lines (R.remaining reader.old)) (λ rest. Tells (found_behind 2 (box_of site_box) rest) result) }
 {
     let mut lines = lines;
     let mut site_box = site_box;
@@ -67,8 +69,9 @@ fn read_first<A: Allocator + Copy, R: Read>(
     ensures err { IfErr result (λ fault. IfSome (left_of lines.old (R.remaining reader.old)) (λ file. IsFault (found file) fault)) }
 {
     match lines.take(reader) {
-        Ok(true) => open_box(alloc, lines.line()),
-        Ok(false) => Err(JournalFault::BadLine(1)),
+        Ok(Taken::Whole) => open_box(alloc, lines.line()),
+        Ok(Taken::Torn) => Err(JournalFault::BadLine(1)),
+        Ok(Taken::TooLong) => Err(JournalFault::BadLine(1)),
         Err(fault) => Err(fault),
     }
 }
@@ -82,17 +85,18 @@ fn read_on<A: Allocator + Copy, R: Read>(
 ) -> Result<(), JournalFault>
     ensures end { OnOk result (IsAtEnd (R.remaining reader.new)) }
     ensures all { OnOk result (ReadsAll (left_of lines.old (R.remaining reader.old)) (R.remaining reader.new)) }
-    ensures left { IfErr result (ReadsToLine (λ rest. found_from 2 (box_of site_box.old) (whole_lines rest)) (left_of lines.old (R.remaining reader.old))
+    ensures left { IfErr result (ReadsToLine (λ rest. found_behind 2 (box_of site_box.old) rest) (left_of lines.old (R.remaining reader.old))
         (R.remaining reader.new)) }
     ensures ok { OnOk result (IfSome (left_of lines.old (R.remaining reader.old))
-        (λ rest. found_from 2 (box_of site_box.old) (whole_lines rest) ≡ Led (box_of site_box.new))) }
+        (λ rest. found_behind 2 (box_of site_box.old) rest ≡ Led (box_of site_box.new))) }
     ensures err { IfErr result (λ fault. IfSome (left_of lines.old (R.remaining reader.old))
-        (λ rest. IsFault (found_from 2 (box_of site_box.old) (whole_lines rest)) fault)) }
+        (λ rest. IsFault (found_behind 2 (box_of site_box.old) rest) fault)) }
 {
     'lines: for number in 2..u64::MAX {
         match lines.take(reader) {
-            Ok(true) => {}
-            Ok(false) => return Ok(()),
+            Ok(Taken::Whole) => {}
+            Ok(Taken::Torn) => return Ok(()),
+            Ok(Taken::TooLong) => return Err(JournalFault::BadLine(number)),
             Err(fault) => return Err(fault),
         }
         match enter(alloc, number, site_box, lines.line()) {

@@ -19,6 +19,7 @@ pub use journal::{Failed, Journal};
 pub use opening::{OpeningFault, open_desk};
 pub use parsing::{parse_entry, parse_header};
 pub use process_fault::ProcessFault;
+pub use reading::MAX_LINE_BYTES;
 pub use recovered::Recovered;
 pub use recovery::recover;
 pub use recovery_fault::RecoveryFault;

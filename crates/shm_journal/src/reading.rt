@@ -13,7 +13,7 @@ use shm_process::Node;
 use std::alloc::{AllocError, Allocator, Global};
 
 /// How many bytes a line has at most, less its line feed: `step `, the greatest clock, a blank, and the longest line that a site takes.
-const MAX_LINE_BYTES: usize = 8218;
+pub const MAX_LINE_BYTES: usize = 8218;
 
 /// No file has more bytes.
 const MOST_BYTES: u64 = 1 << 63;

@@ -4,6 +4,7 @@ use shm_audit::{Counts, JournalFault, JournalsFault, audit_journals, read_log};
 use shm_place::SiteId;
 use shm_sites::{AuditFault, SiteLog};
 use std::alloc::{AllocError, Allocator};
+use std::io;
 use std::test::Fail;
 
 /// Of a site that stores a byte and lends its page.
@@ -121,6 +122,52 @@ fn bad_lines_have_their_numbers(rt: HostRuntime) {
     assert_eq!(rt; fault_of(alloc, late), Some(JournalFault::BadLine(2)));
     let early = b"journal 2 0 4\nstep 1 restart\nstep 1 ask 0 a tick\n".as_slice();
     assert_eq!(rt; fault_of(alloc, early), Some(JournalFault::BadLine(3)));
+}
+
+#[test]
+fn a_line_of_8219_bytes_is_bad(rt: HostRuntime) -> Result<(), Fail> {
+    let alloc = rt.alloc();
+    let mut journal = Vec::from_slice(alloc, b"journal 2 0 4\n".as_slice())?;
+    for _ in 0..8218 {
+        journal.push(b'a')?;
+    }
+    assert_eq!(rt; fault_of(alloc, journal.as_slice()), None, "it may be torn");
+    journal.push(b'a')?;
+    assert_eq!(rt;
+        fault_of(alloc, journal.as_slice()),
+        Some(JournalFault::BadLine(2))
+    );
+    Ok(())
+}
+
+#[test]
+fn nine_thousand_bytes_without_a_line_feed_are_no_journal(rt: HostRuntime) -> Result<(), Fail> {
+    let alloc = rt.alloc();
+    let mut bytes = Vec::new(alloc);
+    for _ in 0..9000 {
+        bytes.push(b'a')?;
+    }
+    assert_eq!(rt;
+        fault_of(alloc, bytes.as_slice()),
+        Some(JournalFault::BadLine(1))
+    );
+    Ok(())
+}
+
+/// Memory for one line is enough, and the audit ends.
+#[test]
+fn zeros_without_end_are_no_journal(rt: HostRuntime) -> Result<(), Fail> {
+    let heap = LocalHeap::new(rt.alloc(), 65536)?;
+    match read_log(&heap, &mut io::repeat(0)) {
+        Ok(log) => {
+            drop(log);
+            Err(Fail::new("zeros were a journal"))
+        }
+        Err(fault) => {
+            assert_eq!(rt; fault, JournalFault::BadLine(1));
+            Ok(())
+        }
+    }
 }
 
 #[test]

@@ -1,8 +1,8 @@
-use Rattle.std.proofs.Common.{◌∷◌, [], drop, subst}
-use Rattle.std.specs.Prelude.{IfNone, IfSome}
-use Rattle.std.specs.Io.KnownBytes.{Consumes, Keeps}
+use Rattle.std.proofs.Common.{◌∷◌, [], arith, drop, subst}
+use Rattle.std.specs.Prelude.{IfSome}
+use Rattle.std.specs.Io.KnownBytes.{Consumes}
 use Rattle.shm_audit.specs.LinesOf.{left_of}
-use Rattle.shm_audit.proofs.Bytes.{line_grows, line_stops, same_unended, still_unended}
+use Rattle.shm_audit.proofs.Bytes.{line_grows, line_overruns, same_unended, still_unended}
 use Rattle.shm_audit.proofs.ReadBytes.{reads_line, reads_taken, reads_then}
 use Rattle.shm_audit.proofs.lines.Lines.take.Goals as goal
 
@@ -24,15 +24,16 @@ pub returns-in-Ok-None-clause-unended : goal.returns-in-Ok-None-clause-unended
 returns-in-Ok-None-clause-unended g c =
     same_unended c.bytes.self.line.items c.take_byte.new.self.line.items c.bytes.invariant.1 c.in-Ok-None.ensures.line
 
-pub returns-in-Ok-None-clause-torn : goal.returns-in-Ok-None-clause-torn
-returns-in-Ok-None-clause-torn g c _ =
+pub returns-then-len-ge-MAX_LINE_BYTES-clause-takes : goal.returns-then-len-ge-MAX_LINE_BYTES-clause-takes
+returns-then-len-ge-MAX_LINE_BYTES-clause-takes g c =
     let remaining = g.R.Read.remaining in
-    let kept : Keeps (left_of c.bytes.self (remaining c.bytes.reader)) (left_of c.take_byte.new.self (remaining c.take_byte.new.reader)) =
-    subst (λ o. IfNone o (Keeps (left_of c.bytes.self (remaining c.bytes.reader)) (left_of c.take_byte.new.self (remaining c.take_byte.new.reader))))
-    c.in-Ok-None.field-0-is c.in-Ok-None.ensures.none in
-    line_stops (left_of c.args.self.now (remaining c.args.reader.now)) (left_of c.bytes.self (remaining c.bytes.reader))
-    (left_of c.take_byte.new.self (remaining c.take_byte.new.reader)) c.bytes.self.line.items c.take_byte.new.self.line.items c.bytes.invariant.0 kept
-    c.in-Ok-None.ensures.line
+    let one : Consumes (left_of c.bytes.self (remaining c.bytes.reader)) (left_of c.take_byte.new.self (remaining c.take_byte.new.reader)) (c.in-Ok-Some.byte ∷ []) =
+    subst
+    (λ o. IfSome o (λ b. Consumes (left_of c.bytes.self (remaining c.bytes.reader)) (left_of c.take_byte.new.self (remaining c.take_byte.new.reader)) (b ∷ [])))
+    c.in-Ok-Some.field-0-is c.in-Ok-Some.ensures.some in
+    line_overruns (left_of c.args.self.now (remaining c.args.reader.now)) (left_of c.bytes.self (remaining c.bytes.reader))
+    (left_of c.take_byte.new.self (remaining c.take_byte.new.reader)) c.bytes.self.line.items c.take_byte.new.self.line.items c.in-Ok-Some.byte
+    c.bytes.invariant.0 one c.bytes.invariant.1 c.in-Ok-Some.byte-test.1 c.in-Ok-Some.ensures.line c.take_byte.new.self.short (omega arith)
 
 pub returns-in-Err-push-clause-front : goal.returns-in-Err-push-clause-front
 returns-in-Err-push-clause-front g c =
