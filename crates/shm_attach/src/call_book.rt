@@ -1,10 +1,12 @@
 ghost use Rattle.std.specs.Prelude.{◌≡◌, None, Some};
-ghost use Rattle.shm_model.specs.Calls.{fits, is_size};
+ghost use Rattle.shm_model.specs.Calls.{is_size};
+ghost use Rattle.shm_model.specs.declared.call.Reply.TheVariants.{Attached as AttachedReply};
 ghost use Rattle.shm_model.specs.Site.{Site};
 ghost use Rattle.shm_model.specs.SegmentCalls.{on_reply_to};
-ghost use Rattle.shm_attach.specs.CallBook.{answered_by, begun_as, counted, number_after, outstanding_of};
+ghost use Rattle.shm_attach.specs.CallBook.{begun_as, ended, ended_as, ended_by, number_after, outstanding_of};
 
-use shm_model::{Op, Reply};
+use crate::ending::Ending;
+use shm_model::{Attached, Op, Reply};
 use shm_place::MAX_SEGMENT_BYTES;
 use std::marker::Model;
 
@@ -54,21 +56,16 @@ impl CallBook {
         self.outstanding = Some((number, op));
     }
 
-    /// The call that this reply counts for: that of its number, where the reply has its form.
-    pub fn answered_by(&self, number: u64, reply: &Reply) -> Option<Op>
-        ensures call { result ≡ answered_by number reply.now self.now.outstanding }
-        ensures step { (site : Site) → on_reply_to self.now.outstanding number reply.now site ≡ counted result number reply.now site }
+    /// How this reply ends the call that is outstanding. None: it doesn't count for it.
+    pub fn ended_by(&self, number: u64, reply: &Reply) -> Option<Ending>
+        ensures ending { result ≡ ended_by number reply.now self.now.outstanding }
+        ensures step { (site : Site) → on_reply_to self.now.outstanding number reply.now site ≡ ended result number reply.now site }
     {
-        let Some((outstanding, op)) = self.outstanding else {
-            return None;
-        };
+        let (outstanding, op) = self.outstanding?;
         if number != outstanding {
             return None;
         }
-        if !fits(&op, reply) {
-            return None;
-        }
-        Some(op)
+        ending(&op, reply)
     }
 
     /// The call has ended: no reply is waited for any longer.
@@ -96,16 +93,29 @@ impl CallBook {
     }
 }
 
-/// Whether a reply of this form can be the reply to this call.
-fn fits(op: &Op, reply: &Reply) -> bool
-    ensures { result ≡ fits op.now reply.now }
+/// How a reply ends this call. None: its form is that of a reply to another.
+fn ending(op: &Op, reply: &Reply) -> Option<Ending>
+    ensures { result ≡ ended_as op.now reply.now }
 {
     match reply {
-        Reply::Refused(_) => true,
-        Reply::Id(_) => matches!(op, Op::Get { .. }),
-        Reply::Attached(attached) => matches!(op, Op::Attach { .. }) && is_size(attached.size),
-        Reply::Ok => matches!(op, Op::Detach { .. } | Op::Remove { .. } | Op::Set { .. }),
-        Reply::Stat(_) => matches!(op, Op::Stat { .. }),
+        Reply::Refused(_) => Some(Ending::Replied),
+        Reply::Id(_) => matches!(op, Op::Get { .. }).then_some(Ending::Replied),
+        Reply::Attached(attached) => attachment(op, *attached),
+        Reply::Ok => match op {
+            Op::Detach { .. } | Op::Remove { .. } | Op::Set { .. } => Some(Ending::Replied),
+            _ => None,
+        },
+        Reply::Stat(_) => matches!(op, Op::Stat { .. }).then_some(Ending::Replied),
+    }
+}
+
+/// How what an attach gives ends this call.
+fn attachment(op: &Op, attached: Attached) -> Option<Ending>
+    ensures { result ≡ ended_as op.now (AttachedReply attached) }
+{
+    match op {
+        &Op::Attach { id, .. } if is_size(attached.size) => Some(Ending::Attached { id, attached }),
+        _ => None,
     }
 }
 

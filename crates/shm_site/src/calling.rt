@@ -1,7 +1,5 @@
 //! Segment calls at the site that begins them: how a call goes out, and what its reply ends.
-ghost use Rattle.std.specs.Prelude.{◌≡◌, Bool, [], None, false, IfOk, OnErr};
-ghost use Rattle.shm_model.specs.declared.call.Cred.{Cred};
-ghost use Rattle.shm_model.specs.declared.call.Op.TheVariants.{Attach};
+ghost use Rattle.std.specs.Prelude.{◌≡◌, [], None, false, IfOk, OnErr};
 ghost use Rattle.shm_model.specs.declared.call.Reply.TheVariants.{Attached as AttachedReply};
 ghost use Rattle.shm_model.specs.Site.{Step};
 ghost use Rattle.shm_model.specs.SegmentCalls as model;
@@ -10,6 +8,7 @@ ghost use Rattle.shm_site.specs.Step.{is_refused};
 
 use crate::homing::op_home;
 use crate::site::Site;
+use shm_attach::Ending;
 use shm_model::refusal::{BUSY, NO_ATTACHMENT, NUMBERS_USED_UP, TOO_MANY_ATTACHMENTS};
 use shm_model::{Answer, Attached, Op, Reply, Request};
 use shm_parts::{Envelope, Message, Outbox};
@@ -112,40 +111,13 @@ impl<A: Allocator + Copy> Site<A> {
         ensures refused { OnErr result (site_of self.new ≡ site_of self.old) }
         ensures seat { SameSeat self.old self.new }
     {
-        // an attach that finds no place leaves its call outstanding: the call is only named here, and ends below
-        let Some(op) = self.calls.answered_by(number, &reply) else {
+        // this only tells how the call ends: an attach that finds no place leaves it outstanding
+        let Some(ending) = self.calls.ended_by(number, &reply) else {
             return Ok(Answer::Dropped);
         };
-        self.end_counted_call(number, op, reply)
-    }
-
-    /// The reply to this call, which it ends.
-    fn end_counted_call(&mut self, number: u64, op: Op, reply: Reply) -> Result<Answer, AllocError>
-        ensures step { IfOk result (λ answer. model.reply_counts number op reply (site_of self.old) ≡ stepped self.new answer []) }
-        ensures refused { OnErr result (site_of self.new ≡ site_of self.old) }
-        ensures seat { SameSeat self.old self.new }
-    {
-        match op {
-            Op::Attach { id, .. } => self.on_attach_reply(number, id, reply),
-            _ => Ok(self.end_call(number, reply, None)),
-        }
-    }
-
-    /// The reply to an attach.
-    fn on_attach_reply(
-        &mut self,
-        number: u64,
-        id: SegId,
-        reply: Reply,
-    ) -> Result<Answer, AllocError>
-        ensures step { IfOk result (λ answer. (cred : Cred) (ro : Bool)
-            → model.reply_counts number (Attach cred id ro) reply (site_of self.old) ≡ stepped self.new answer []) }
-        ensures refused { OnErr result (site_of self.new ≡ site_of self.old) }
-        ensures seat { SameSeat self.old self.new }
-    {
-        match reply {
-            Reply::Attached(attached) => self.attach(number, id, attached),
-            _ => Ok(self.end_call(number, reply, None)),
+        match ending {
+            Ending::Replied => Ok(self.end_call(number, reply, None)),
+            Ending::Attached { id, attached } => self.attach(number, id, attached),
         }
     }
 

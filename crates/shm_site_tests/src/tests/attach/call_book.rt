@@ -1,4 +1,4 @@
-use shm_attach::{Attached, CallBook, Op, Reply};
+use shm_attach::{Attached, CallBook, Ending, Op, Reply};
 use shm_model::Cred;
 use shm_place::SegId;
 use std::process::Abort;
@@ -21,9 +21,9 @@ fn expect_next(rt: &impl Abort, next: Option<u64>, expected: Option<u64>) {
     assert_eq!(rt; next, expected);
 }
 
-/// Stops the test where a reply counts for another call.
-fn expect_answered(rt: &impl Abort, answered: Option<Op>, expected: Option<Op>) {
-    assert_eq!(rt; answered, expected);
+/// Stops the test where a reply ends the call in another way.
+fn expect_ending(rt: &impl Abort, ending: Option<Ending>, expected: Option<Ending>) {
+    assert_eq!(rt; ending, expected);
 }
 
 /// Stops the test where another call is outstanding.
@@ -37,11 +37,11 @@ fn a_call_ends_once(rt: HostRuntime) {
     expect_next(&rt, book.next_number(), Some(1));
     book.begin(1, a_detach());
     expect_next(&rt, book.next_number(), Some(2));
-    expect_answered(&rt, book.answered_by(2, &Reply::Ok), None);
+    expect_ending(&rt, book.ended_by(2, &Reply::Ok), None);
     expect_outstanding(&rt, book.copy().outstanding(), Some((1, a_detach())));
-    expect_answered(&rt, book.answered_by(1, &Reply::Ok), Some(a_detach()));
+    expect_ending(&rt, book.ended_by(1, &Reply::Ok), Some(Ending::Replied));
     book.end();
-    expect_answered(&rt, book.answered_by(1, &Reply::Ok), None);
+    expect_ending(&rt, book.ended_by(1, &Reply::Ok), None);
     expect_outstanding(&rt, book.outstanding(), None);
     expect_next(&rt, book.next_number(), Some(2));
 }
@@ -50,14 +50,22 @@ fn a_call_ends_once(rt: HostRuntime) {
 fn a_reply_of_another_form_is_ignored(rt: HostRuntime) {
     let mut book = CallBook::new();
     book.begin(1, an_attach());
-    expect_answered(&rt, book.answered_by(1, &Reply::Ok), None);
+    expect_ending(&rt, book.ended_by(1, &Reply::Ok), None);
     for size in [0, 1_048_577] {
         let reply = Reply::Attached(Attached { size, ro: true });
-        expect_answered(&rt, book.answered_by(1, &reply), None);
+        expect_ending(&rt, book.ended_by(1, &reply), None);
     }
-    let reply = Reply::Attached(Attached {
+    let attached = Attached {
         size: 1_048_576,
         ro: true,
-    });
-    expect_answered(&rt, book.answered_by(1, &reply), Some(an_attach()));
+    };
+    let ending = Ending::Attached {
+        id: SegId(4),
+        attached,
+    };
+    expect_ending(
+        &rt,
+        book.ended_by(1, &Reply::Attached(attached)),
+        Some(ending),
+    );
 }
