@@ -1,3 +1,3 @@
 pub mod Queues
-pub mod Clears
+pub mod Members
 pub mod Starts

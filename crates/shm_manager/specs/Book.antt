@@ -7,6 +7,8 @@ use Rattle.shm_number.specs.declared.counter.UsedUp.{UsedUp}
 use Rattle.shm_manager.specs.declared.book.Book.{Book}
 use Rattle.shm_manager.specs.declared.due.Due.{Due}
 use Rattle.shm_manager.specs.declared.due.Due.TheVariants as due
+use Rattle.shm_manager.specs.declared.orders.Orders.{Orders}
+use Rattle.shm_manager.specs.Orders.{orders_of}
 use Rattle.shm_place.specs.SiteSet.{has}
 
 abbrev pub run_of : Kind → ℕ → model.Running
@@ -38,11 +40,11 @@ abbrev pub untouched_at : ℕ → ℕ → model.Book
 untouched_at manager number = record (model.untouched_book manager) { number = number }
 
 -- the row that a call took, from its answer and the book after it
-abbrev pub row_of : Option (List model.Order) → model.Book → model.Outcome
+abbrev pub row_of : Option Orders → model.Book → model.Outcome
 row_of None after = model.Ignored
-row_of (Some orders) after = model.Taken after orders
+row_of (Some orders) after = model.Taken after (orders_of orders)
 
-abbrev pub asked_row_of : Result (Option (List model.Order)) UsedUp → model.Book → model.Outcome
+abbrev pub asked_row_of : Result (Option Orders) UsedUp → model.Book → model.Outcome
 asked_row_of (Ok answer) after = row_of answer after
 asked_row_of (Err _) after = model.UsedUp
 

@@ -1,3 +1,3 @@
-pub mod Order
+pub mod Orders
 pub mod Queue
 pub mod Book

@@ -11,5 +11,5 @@ mod rows;
 
 pub use book::Book;
 pub use due::Due;
-pub use orders::{MOST_ORDERS, Order, Orders};
+pub use orders::{MOST_ORDERS, Orders};
 pub use shm_model::Kind;

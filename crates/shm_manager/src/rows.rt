@@ -1,9 +1,11 @@
 //! What a manager does at each message, and what it sends again at a tick.
-ghost use Rattle.std.specs.Prelude.{◌≡◌, ◌<◌, ◌==◌, false, [], length, map, Some, IfOk, IfNone, OnErr};
+ghost use Rattle.std.specs.Prelude.{◌≡◌, ◌<◌, ◌==◌, false, [], ◌∷◌, length, Some, IfOk, IfNone, OnErr};
 ghost use Rattle.shm_number.specs.Served.{served_of};
 ghost use Rattle.shm_model.specs.Book as model;
 ghost use Rattle.shm_model.specs.declared.kind.Kind.{Kind};
+ghost use Rattle.shm_place.specs.SiteSet.{has_none};
 ghost use Rattle.shm_manager.specs.Book.{book_of, run_of, row_of, asked_row_of, behind, due_of};
+ghost use Rattle.shm_manager.specs.Orders.{members, orders_of};
 
 use crate::ask::Ask;
 use crate::book::Book;
@@ -82,14 +84,14 @@ impl<A: Allocator> Book<A> {
         requires site { from < 16 }
         requires room { length self.old.waiting < 16 }
         ensures book { book_of self.new ≡ behind from request kind (book_of self.old) }
-        ensures orders { result ≡ [] }
+        ensures orders { orders_of result ≡ [] }
     {
         self.waiting.push(Ask {
             from,
             request,
             kind,
         });
-        Orders::none()
+        Orders::Nothing
     }
 
     fn start(&mut self, from: SiteId, request: u64, kind: Kind) -> Orders
@@ -97,7 +99,7 @@ impl<A: Allocator> Book<A> {
         requires fresh { served_of self.old.served from < request }
         requires number_left { (self.old.number == u64.MAX) ≡ false }
         ensures book { book_of self.new ≡ model.started from request kind (book_of self.old) }
-        ensures orders { result ≡ model.orders (model.started from request kind (book_of self.old)) }
+        ensures orders { orders_of result ≡ model.orders (model.started from request kind (book_of self.old)) }
     {
         self.number += 1;
         self.running = Some((kind, from));
@@ -127,12 +129,12 @@ impl<A: Allocator> Book<A> {
 
     fn hand_if_cleared(&self, kind: Kind, requester: SiteId) -> Orders
         requires { self.now.running ≡ Some (kind, requester) }
-        ensures { result ≡ model.hand_if_cleared (book_of self.now) (run_of kind requester) (model.awaited (book_of self.now) (run_of kind requester)) }
+        ensures { orders_of result ≡ model.hand_if_cleared (book_of self.now) (run_of kind requester) (model.awaited (book_of self.now) (run_of kind requester)) }
     {
-        if self.all_cleared(kind, requester) {
-            return Orders::hand(self.owner, requester, kind);
+        if self.awaited(kind, requester).is_empty() {
+            return self.hand(kind, requester);
         }
-        Orders::none()
+        Orders::Nothing
     }
 
     /// The requester has what it asked for. None: it doesn't end the running transaction.
@@ -170,60 +172,61 @@ impl<A: Allocator> Book<A> {
     }
 
     fn serve_next(&mut self) -> Orders
-        ensures { model.Taken (book_of self.new) result ≡ model.serve_next (book_of self.old) }
+        ensures { model.Taken (book_of self.new) (orders_of result) ≡ model.serve_next (book_of self.old) }
     {
         if self.number == u64::MAX {
             self.waiting.clear();
-            return Orders::none();
+            return Orders::Nothing;
         }
         let Some(ask) = self.waiting.next_unserved(&self.served) else {
-            return Orders::none();
+            return Orders::Nothing;
         };
         self.start(ask.from, ask.request, ask.kind)
     }
 
     /// What the running transaction still asks for, to be sent again at a tick.
     pub fn resend(&self) -> Orders
-        ensures { result ≡ model.orders (book_of self.now) }
+        ensures { orders_of result ≡ model.orders (book_of self.now) }
     {
         let Some((kind, requester)) = self.running else {
-            return Orders::none();
+            return Orders::Nothing;
         };
         self.orders_for(kind, requester)
     }
 
     fn orders_for(&self, kind: Kind, requester: SiteId) -> Orders
-        ensures { result ≡ model.orders_to (book_of self.now) (run_of kind requester) (model.awaited (book_of self.now) (run_of kind requester)) }
+        ensures { orders_of result ≡ model.orders_to (book_of self.now) (run_of kind requester) (model.awaited (book_of self.now) (run_of kind requester)) }
     {
-        if self.all_cleared(kind, requester) {
-            return Orders::hand(self.owner, requester, kind);
+        let missing = self.awaited(kind, requester);
+        if missing.is_empty() {
+            return self.hand(kind, requester);
         }
-        self.orders_to_clear(kind, requester)
+        Orders::Clear(missing)
     }
 
-    /// Whether the transaction waits for no site, so that the page is to be handed.
-    fn all_cleared(&self, kind: Kind, requester: SiteId) -> bool
-        ensures { result ≡ (length (model.awaited (book_of self.now) (run_of kind requester)) == 0) }
+    /// The owner is to hand the page.
+    fn hand(&self, kind: Kind, requester: SiteId) -> Orders
+        ensures { orders_of result ≡ model.HandTo (book_of self.now).owner requester kind ∷ [] }
     {
-        'sites: for site in 0..16u32 {
-            if self.awaits(kind, requester, SiteId(site)) {
-                return false;
-            }
+        Orders::Hand {
+            owner: self.owner,
+            requester,
+            kind,
         }
-        true
     }
 
-    /// An order to clear for each site that the transaction still waits for.
-    fn orders_to_clear(&self, kind: Kind, requester: SiteId) -> Orders
-        ensures { result ≡ map model.ClearTo (model.awaited (book_of self.now) (run_of kind requester)) }
+    /// The sites that the transaction still waits for.
+    fn awaited(&self, kind: Kind, requester: SiteId) -> SiteSet
+        ensures sites { members result ≡ model.awaited (book_of self.now) (run_of kind requester) }
+        ensures none { has_none result ≡ (length (model.awaited (book_of self.now) (run_of kind requester)) == 0) }
     {
-        let mut clears = Orders::none();
+        let mut missing = SiteSet::empty();
         'sites: for site in 0..16u32 {
             if self.awaits(kind, requester, SiteId(site)) {
-                clears.clear(SiteId(site));
+                missing.insert(SiteId(site));
             }
         }
-        clears
+        missing
     }
 
     fn awaits(&self, kind: Kind, requester: SiteId, site: SiteId) -> bool

@@ -1,9 +1,10 @@
 -- What a loop has posted, one envelope after the other.
-use Rattle.std.proofs.Common.{◌≡◌, ◌∙◌, ℕ, ◌+◌, ◌<◌, ◌≤◌, List, [], ◌∷◌, ◌++◌, ap, append_assoc, get_or, length, map, refl, sym, take}
-use Rattle.std.proofs.lemmas.List.{map-append, take_all, take_more}
+use Rattle.std.proofs.Common.{◌≡◌, ◌∙◌, List, [], ◌∷◌, ◌++◌, Vec, ap, append-nil, append_assoc, map, refl, sym}
+use Rattle.std.proofs.lemmas.List.{map-append}
 use Rattle.std.proofs.lemmas.Simd.{map-map}
 use Rattle.shm_model.specs.Message as message
 use Rattle.shm_parts.specs.Message.{envelope_of}
+use Rattle.shm_parts.specs.Outbox.{AddedTo}
 use Rattle.shm_parts.specs.declared.message.Envelope.{Envelope}
 use Rattle.shm_site.specs.Site.{Told}
 
@@ -17,9 +18,9 @@ told_more {first = first} {then = then} {last = last} {before = before} e joined
   meant = map-append envelope_of had.sent (e ∷ []) ∙ ap (λ (l : List message.Envelope). l ++ envelope_of e ∷ []) had.meant ∙ ap (λ (x : message.Envelope). before ++ x ∷ []) is ∙ all;
 }
 
--- one element more of a list
-pub next_one : {X Z : Type 0} (f : X → Z) (xs : List X) (i : ℕ) (x : X) → i < length xs → x ≡ get_or xs i x → map f (take i xs) ++ f x ∷ [] ≡ map f (take (i + 1) xs)
-next_one {Z = Z} f xs i x inside is = ap (λ (y : Z). map f (take i xs) ++ y ∷ []) (ap f is) ∙ sym (ap (map f) (take_more xs i x inside) ∙ map-append f (take i xs) (get_or xs i x ∷ []))
+-- the same, said otherwise
+pub told_as : {A O : Type 0} {posted : O → O → List (Envelope A) → Type 0} {first last : O} {xs ys : List message.Envelope} → Told posted first last xs → xs ≡ ys → Told posted first last ys
+told_as had e = record { sent = had.sent; behind = had.behind; meant = had.meant ∙ e }
 
 -- one envelope
 pub told_one : {A O : Type 0} {posted : O → O → List (Envelope A) → Type 0} {before after : O} (e : Envelope A) → posted before after (e ∷ []) → Told posted before after (envelope_of e ∷ [])
@@ -44,11 +45,12 @@ all_told f g xs ys had seen = record {
   meant = had.meant ∙ sym (map-map f g xs) ∙ ap (map f) seen;
 }
 
--- the whole list was sent behind what was there, where `g` says how the definitions see an element
-pub all_listed : {X Y Z : Type 0} (f : Y → Z) (g : X → Y) (xs : List X) (ys : List Y) (i : ℕ) (before now : List Z)
-    → now ≡ before ++ map (λ x. f (g x)) (take i xs) → length xs ≤ i → map g xs ≡ ys → now ≡ before ++ map f ys
-all_listed {X = X} {Y = Y} {Z = Z} f g xs ys i before now had whole seen =
-    had ∙ ap (λ (l : List Z). before ++ l) (ap (map (λ (x : X). f (g x))) (take_all i xs whole) ∙ sym (map-map f g xs) ∙ ap (map f) seen)
+-- what was told to a list, in which room was made first
+pub told_listed : {A B : Type 0} (old with_room new : Vec (Envelope A) B) (ys : List message.Envelope) → AddedTo old with_room [] → Told AddedTo with_room new ys → map envelope_of new.items ≡ map envelope_of old.items ++ ys
+told_listed {A = A} old with_room new ys room had =
+    let same : with_room.items ≡ old.items = room ∙ append-nil old.items in
+    ap (map envelope_of) (had.behind ∙ ap (λ (l : List (Envelope A)). l ++ had.sent) same)
+    ∙ map-append envelope_of old.items had.sent ∙ ap (λ (l : List message.Envelope). map envelope_of old.items ++ l) had.meant
 
 -- four lists, one behind the other
 pub in_four : {X Y : Type 0} (f : X → Y) (none one two three all : List X) (a b c d : List Y)

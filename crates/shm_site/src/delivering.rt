@@ -3,7 +3,7 @@ ghost use Rattle.std.specs.Prelude.{◌≡◌, ◌<◌, true, false, IfOk, IfErr
 ghost use Rattle.shm_model.specs.Message.{Of};
 ghost use Rattle.shm_model.specs.Step.{deliver, foreign, is_proper, on_message};
 ghost use Rattle.shm_model.specs.Transfer.{on_note, on_note_of};
-ghost use Rattle.shm_parts.specs.Message.{book_note_of, envelope_of, message_of, note_of};
+ghost use Rattle.shm_parts.specs.Message.{envelope_of, message_of, note_of};
 ghost use Rattle.shm_parts.specs.Purged.{purged_of};
 ghost use Rattle.shm_site.specs.Site.{StepsTo, Unchanged, site_of};
 ghost use Rattle.shm_site.specs.Step.{is_refused};
@@ -12,9 +12,9 @@ use crate::foreign::is_foreign;
 use crate::site::Site;
 use shm_model::Answer;
 use shm_model::refusal::FOREIGN;
-use shm_parts::{BookNote, Envelope, Message, Note, Outbox};
+use shm_parts::{Envelope, Message, Note, Outbox};
 use shm_place::{PageId, SiteId};
-use std::alloc::{AllocError, Allocator};
+use std::alloc::Allocator;
 
 impl<A: Allocator + Copy> Site<A> {
     /// Whether the envelope can't be for this site: it names another one or comes from none, or its message can't be this site's.
@@ -153,27 +153,6 @@ impl<A: Allocator + Copy> Site<A> {
                 Ok(answer) => Ok(answer),
                 Err(told) => Err(Note::ToEntry(told)),
             },
-        }
-    }
-
-    /// Takes a note to the book of a page: one row of its table.
-    fn to_book<O: Outbox<Envelope<A>>>(
-        &mut self,
-        from: SiteId,
-        page: &PageId,
-        told: &BookNote,
-        outbox: &mut O,
-    ) -> Result<Answer, AllocError>
-        requires { from < 16 }
-        ensures step { IfOk result (λ answer. StepsTo O.posted self.old self.new outbox.old outbox.new answer
-            (on_note self.old.sites self.old.me from page.now (book_note_of told.now) (site_of self.old))) }
-        ensures memory { OnErr result (is_refused (on_note self.old.sites self.old.me from page.now (book_note_of told.now) (site_of self.old)).answer ≡ false) }
-        ensures refused { OnErr result (Unchanged O.posted self.old self.new outbox.old outbox.new) }
-    {
-        match told {
-            &BookNote::Ask { request, kind } => self.on_ask(page, from, request, kind, outbox),
-            &BookNote::Cleared(number) => self.on_cleared(page, from, number, outbox),
-            &BookNote::Confirm(number) => self.on_confirm(page, from, number, outbox),
         }
     }
 }

@@ -13,9 +13,9 @@ ghost use Rattle.shm_parts.specs.Pendings.{pendings_of};
 ghost use Rattle.shm_site.specs.Site.{SameSeat, StepsTo, site_of, stepped};
 
 use crate::homing::op_home;
-use crate::sending::order_envelope;
+use crate::sending::send_orders;
 use crate::site::Site;
-use shm_manager::Book;
+use shm_manager::{Book, MOST_ORDERS};
 use shm_model::{Answer, Kind};
 use shm_parts::{BookNote, Envelope, Message, Outbox, to_manager};
 use shm_place::{PageId, SegId, SiteId, SiteSet, Sites};
@@ -95,10 +95,8 @@ impl<A: Allocator + Copy> Site<A> {
         ensures { OnOk result (map envelope_of list.new.items
             ≡ map envelope_of list.old.items ++ transfer.order_envelopes self.now.me page.now (book_of book.now) (orders (book_of book.now))) }
     {
-        let orders = book.resend();
-        'orders: for order in orders.as_slice() {
-            list.push(order_envelope(self.me, page, book.number(), order))?;
-        }
+        Outbox::reserve(list, MOST_ORDERS)?;
+        send_orders(self.me, page, book.number(), book.resend(), list);
         Ok(())
     }
 

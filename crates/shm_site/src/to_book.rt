@@ -2,8 +2,9 @@
 ghost use Rattle.std.specs.Prelude.{◌≡◌, ◌<◌, false, IfOk, OnErr};
 ghost use Rattle.shm_model.specs.Book as book;
 ghost use Rattle.shm_model.specs.Site as model;
-ghost use Rattle.shm_model.specs.Transfer.{to_book};
+ghost use Rattle.shm_model.specs.Transfer.{on_note, to_book};
 ghost use Rattle.shm_parts.specs.Books.{booked_step, HasRoom};
+ghost use Rattle.shm_parts.specs.Message.{book_note_of};
 ghost use Rattle.shm_site.specs.Site.{Makes, StepsTo, Unchanged, site_of};
 ghost use Rattle.shm_site.specs.Step.{is_refused};
 
@@ -12,13 +13,34 @@ use crate::site::Site;
 use shm_manager::MOST_ORDERS;
 use shm_model::refusal::NUMBERS_USED_UP;
 use shm_model::{Answer, Kind};
-use shm_parts::{Envelope, Outbox, Outcome};
+use shm_parts::{BookNote, Envelope, Outbox, Outcome};
 use shm_place::{PageId, SiteId};
 use std::alloc::{AllocError, Allocator};
 
 impl<A: Allocator + Copy> Site<A> {
+    /// Takes a note to the book of a page: one row of its table.
+    pub(crate) fn to_book<O: Outbox<Envelope<A>>>(
+        &mut self,
+        from: SiteId,
+        page: &PageId,
+        told: &BookNote,
+        outbox: &mut O,
+    ) -> Result<Answer, AllocError>
+        requires { from < 16 }
+        ensures step { IfOk result (λ answer. StepsTo O.posted self.old self.new outbox.old outbox.new answer
+            (on_note self.old.sites self.old.me from page.now (book_note_of told.now) (site_of self.old))) }
+        ensures memory { OnErr result (is_refused (on_note self.old.sites self.old.me from page.now (book_note_of told.now) (site_of self.old)).answer ≡ false) }
+        ensures refused { OnErr result (Unchanged O.posted self.old self.new outbox.old outbox.new) }
+    {
+        match told {
+            &BookNote::Ask { request, kind } => self.on_ask(page, from, request, kind, outbox),
+            &BookNote::Cleared(number) => self.on_cleared(page, from, number, outbox),
+            &BookNote::Confirm(number) => self.on_confirm(page, from, number, outbox),
+        }
+    }
+
     /// A site asks for a right to the page. An Ask that starts no transaction takes no memory.
-    pub(crate) fn on_ask<O: Outbox<Envelope<A>>>(
+    fn on_ask<O: Outbox<Envelope<A>>>(
         &mut self,
         page: &PageId,
         from: SiteId,
@@ -40,7 +62,7 @@ impl<A: Allocator + Copy> Site<A> {
     }
 
     /// A site has given up its copy of the page.
-    pub(crate) fn on_cleared<O: Outbox<Envelope<A>>>(
+    fn on_cleared<O: Outbox<Envelope<A>>>(
         &mut self,
         page: &PageId,
         from: SiteId,
@@ -58,7 +80,7 @@ impl<A: Allocator + Copy> Site<A> {
     }
 
     /// A site has what it asked for.
-    pub(crate) fn on_confirm<O: Outbox<Envelope<A>>>(
+    fn on_confirm<O: Outbox<Envelope<A>>>(
         &mut self,
         page: &PageId,
         from: SiteId,
@@ -90,7 +112,7 @@ fn answer_row<A: Allocator + Copy, O: Outbox<Envelope<A>>>(
         Outcome::Ignored => Answer::Dropped,
         Outcome::UsedUp => Answer::Refused(NUMBERS_USED_UP),
         Outcome::Taken { number, orders } => {
-            send_orders(me, page, number, orders.as_slice(), outbox);
+            send_orders(me, page, number, orders, outbox);
             Answer::Took
         }
     }

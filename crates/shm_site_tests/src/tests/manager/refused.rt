@@ -1,7 +1,7 @@
 use super::{gives, lend};
 use crate::tests::full_heap::filled;
 use linked_list_allocator::LocalHeap;
-use shm_manager::Book;
+use shm_manager::{Book, Orders};
 use shm_model::Kind;
 use shm_place::SiteId;
 use std::test::Fail;
@@ -29,13 +29,13 @@ fn a_book_is_refused_until_there_is_room(rt: HostRuntime) -> Result<(), Fail> {
 fn a_copy_is_refused_until_there_is_room(rt: HostRuntime) -> Result<(), Fail> {
     let heap = LocalHeap::new(rt.alloc(), 1 << 13)?;
     let mut book = Book::at(&heap, SiteId(0), 7)?;
-    assert!(rt; gives(book.ask(SiteId(1), 1, Kind::Read)?, &[lend(1)]));
+    assert!(rt; gives(book.ask(SiteId(1), 1, Kind::Read)?, lend(1)));
     let mut blocks = filled(rt.alloc(), &heap)?;
     for tries in 0..TRIES {
         if let Ok(copy) = book.copy() {
             assert!(rt; tries > 0);
             assert_eq!(rt; (copy.number(), book.number()), (8, 8));
-            assert!(rt; gives(book.confirm(SiteId(1), 8), &[]));
+            assert!(rt; gives(book.confirm(SiteId(1), 8), Orders::Nothing));
             assert_eq!(rt; copy.running(), Some((Kind::Read, SiteId(1))));
             return Ok(());
         }

@@ -1,5 +1,5 @@
-use super::{gives, lend};
-use shm_manager::{Book, Order};
+use super::{clear, gives, lend};
+use shm_manager::{Book, Orders};
 use shm_model::Kind;
 use shm_place::SiteId;
 use std::alloc::{AllocError, Global};
@@ -20,12 +20,12 @@ fn read_by_two(alloc: Global) -> Result<Book, AllocError> {
 #[test]
 fn readers_get_copies(rt: HostRuntime) -> Result<(), Fail> {
     let mut book = Book::new(rt.alloc(), SiteId(0))?;
-    assert!(rt; gives(book.ask(SiteId(1), 1, Kind::Read)?, &[lend(1)]));
+    assert!(rt; gives(book.ask(SiteId(1), 1, Kind::Read)?, lend(1)));
     assert_eq!(rt; book.running(), Some((Kind::Read, SiteId(1))));
-    assert!(rt; gives(Some(book.resend()), &[lend(1)]));
+    assert!(rt; gives(Some(book.resend()), lend(1)));
     assert!(rt; book.confirm(SiteId(2), 1).is_none());
     assert!(rt; book.confirm(SiteId(1), 2).is_none());
-    assert!(rt; gives(book.confirm(SiteId(1), 1), &[]));
+    assert!(rt; gives(book.confirm(SiteId(1), 1), Orders::Nothing));
     assert_eq!(rt;
         (book.owner(), book.number(), book.running()),
         (SiteId(0), 1, None)
@@ -38,19 +38,19 @@ fn readers_get_copies(rt: HostRuntime) -> Result<(), Fail> {
 #[test]
 fn a_writer_waits_for_each_copy(rt: HostRuntime) -> Result<(), Fail> {
     let mut book = read_by_two(rt.alloc())?;
-    let hand = Order::HandTo {
+    let hand = Orders::Hand {
         owner: SiteId(0),
         requester: SiteId(3),
         kind: Kind::Write,
     };
-    let clears = [Order::ClearTo(SiteId(1)), Order::ClearTo(SiteId(2))];
-    assert!(rt; gives(book.ask(SiteId(3), 1, Kind::Write)?, &clears));
-    assert!(rt; gives(book.cleared(SiteId(2), 3), &[]));
+    let clears = clear(1, 2);
+    assert!(rt; gives(book.ask(SiteId(3), 1, Kind::Write)?, clears));
+    assert!(rt; gives(book.cleared(SiteId(2), 3), Orders::Nothing));
     assert!(rt; book.cleared(SiteId(2), 3).is_none());
-    assert!(rt; gives(Some(book.resend()), &[Order::ClearTo(SiteId(1))]));
-    assert!(rt; gives(book.cleared(SiteId(1), 3), &[hand]));
-    assert!(rt; gives(Some(book.resend()), &[hand]));
-    assert!(rt; gives(book.confirm(SiteId(3), 3), &[]));
+    assert!(rt; gives(Some(book.resend()), clear(1, 1)));
+    assert!(rt; gives(book.cleared(SiteId(1), 3), hand));
+    assert!(rt; gives(Some(book.resend()), hand));
+    assert!(rt; gives(book.confirm(SiteId(3), 3), Orders::Nothing));
     assert_eq!(rt; (book.owner(), book.running()), (SiteId(3), None));
     assert!(rt; !book.copies().contains(SiteId(1)));
     Ok(())
@@ -59,14 +59,14 @@ fn a_writer_waits_for_each_copy(rt: HostRuntime) -> Result<(), Fail> {
 #[test]
 fn a_restart_forgets_who_cleared_and_who_waits(rt: HostRuntime) -> Result<(), Fail> {
     let mut book = read_by_two(rt.alloc())?;
-    let clears = [Order::ClearTo(SiteId(1)), Order::ClearTo(SiteId(2))];
-    assert!(rt; gives(book.ask(SiteId(3), 1, Kind::Write)?, &clears));
-    assert!(rt; gives(book.cleared(SiteId(2), 3), &[]));
-    assert!(rt; gives(book.ask(SiteId(4), 1, Kind::Read)?, &[]));
+    let clears = clear(1, 2);
+    assert!(rt; gives(book.ask(SiteId(3), 1, Kind::Write)?, clears));
+    assert!(rt; gives(book.cleared(SiteId(2), 3), Orders::Nothing));
+    assert!(rt; gives(book.ask(SiteId(4), 1, Kind::Read)?, Orders::Nothing));
     let copy = book.copy()?;
     book.forget_volatile();
-    assert!(rt; gives(Some(book.resend()), &clears));
-    assert!(rt; gives(Some(copy.resend()), &[Order::ClearTo(SiteId(1))]));
-    assert!(rt; gives(book.ask(SiteId(4), 1, Kind::Read)?, &[]));
+    assert!(rt; gives(Some(book.resend()), clears));
+    assert!(rt; gives(Some(copy.resend()), clear(1, 1)));
+    assert!(rt; gives(book.ask(SiteId(4), 1, Kind::Read)?, Orders::Nothing));
     Ok(())
 }
