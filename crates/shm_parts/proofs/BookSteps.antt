@@ -21,6 +21,8 @@ use Rattle.shm_manager.specs.declared.due.Due.{Due}
 use Rattle.shm_manager.specs.declared.book.Book.{Book}
 use Rattle.shm_parts.specs.declared.outcome.Outcome.{Outcome}
 use Rattle.shm_parts.specs.declared.outcome.Outcome.TheVariants as outcome
+use Rattle.shm_manager.specs.Orders.{orders_of}
+use Rattle.shm_manager.specs.declared.orders.Orders.{Orders}
 use Rattle.shm_parts.specs.Books.{IsSettled, book_or, booked_step, given_by, viewed}
 
 -- pages with the same segment and index are the same
@@ -190,12 +192,12 @@ site_with site books booked = record site { books = books; booked = booked }
 abbrev taken : ℕ → PageId → ℕ → List model.Order → Site → Step
 taken me page number orders site = record { site = site; answer = Took; sent = map (order_envelope me page number) orders }
 
-taken_step : (me : ℕ) (page : PageId) (number : ℕ) (orders : List model.Order) (books next : PageId → model.Book) (booked now_booked : List PageId) (after : model.Book) (site : Site)
+taken_step : (me : ℕ) (page : PageId) (number : ℕ) (orders : Orders) (books next : PageId → model.Book) (booked now_booked : List PageId) (after : model.Book) (site : Site)
     → number ≡ after.number → next ≡ at_page books page after → now_booked ≡ booked_with page booked
-    → to_book me page (model.Taken after orders) (site_with site books booked) ≡ booked_step me page (outcome.Taken number orders) (site_with site next now_booked)
+    → to_book me page (model.Taken after (orders_of orders)) (site_with site books booked) ≡ booked_step me page (outcome.Taken number orders) (site_with site next now_booked)
 taken_step me page number orders books next booked now_booked after site settled put joined =
-    ap₂ (λ (bs : PageId → model.Book) (ks : List PageId). taken me page after.number orders (site_with site bs ks)) (sym put) (sym joined)
-    ∙ ap (λ n. taken me page n orders (site_with site next now_booked)) (sym settled)
+    ap₂ (λ (bs : PageId → model.Book) (ks : List PageId). taken me page after.number (orders_of orders) (site_with site bs ks)) (sym put) (sym joined)
+    ∙ ap (λ n. taken me page n (orders_of orders) (site_with site next now_booked)) (sym settled)
 
 -- a row of a page that has a book
 pub row_step : (me : ℕ) (page : PageId) (row : model.Outcome) (outcome : Outcome) (books next : PageId → model.Book) (booked now_booked : List PageId) (after : model.Book) (site : Site)

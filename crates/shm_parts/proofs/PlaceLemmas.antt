@@ -1,6 +1,5 @@
 -- Pages at places: one page more, and one less.
-use Rattle.std.proofs.Common.{◌≡◌, ◌==◌, ◌<◌, ℕ, Bool, true, false, cond, not, ◌||◌, if◌then◌else◌, List, [], ◌∷◌, ◌++◌, filter, Option, Some, None, is_some, nat_cmp, Less, Greater, refl, sym, ap, subst, ◌∙◌, true≢false, arith}
-use Rattle.std.proofs.Math.Path.{fun_ext}
+use Rattle.std.proofs.Common.{◌≡◌, ◌==◌, ◌<◌, ℕ, Bool, true, false, cond, not, ◌||◌, List, [], ◌∷◌, ◌++◌, filter, Option, Some, None, is_some, nat_cmp, Less, Greater, refl, sym, ap, subst, ◌∙◌, true≢false, arith}
 use Rattle.std.proofs.lemmas.Bool.Decides.{nat_tests}
 use Rattle.std.proofs.lemmas.Bool.{and_from, eq-eqb, false≢true, or_right}
 use Rattle.std.proofs.lemmas.Map.{lookup-none}
@@ -15,7 +14,7 @@ use Rattle.shm_place.specs.declared.page.PageId.{PageId}
 use Rattle.shm_place.specs.Limits as limit
 use Rattle.shm_place.specs.Page.{same_page}
 use Rattle.shm_model.specs.Transfer.{without_page}
-use Rattle.shm_parts.specs.Places.{IsPlaced, page_at, place_of}
+use Rattle.shm_parts.specs.Places.{IsPlaced, is_marked_at, page_at, place_of}
 use Rattle.shm_parts.proofs.BookSteps.{page-same}
 use Rattle.shm_parts.proofs.ListLemmas.{all-filter, all-keys, all-map, all-push, all-values, filter-all, values-filter}
 
@@ -31,7 +30,7 @@ no_place (Some x) h = absurd (true≢false h)
 pub at-same : (n k : ℕ) → is_at (nat_cmp n) k ≡ true → n ≡ k
 at-same n k h = grind (arith, nat_tests)
 
-at-itself : (n : ℕ) → is_at (nat_cmp n) n ≡ true
+pub at-itself : (n : ℕ) → is_at (nat_cmp n) n ≡ true
 at-itself n = grind (arith, nat_tests)
 
 at-below : (n k : ℕ) → k < n → is_at (nat_cmp n) k ≡ false
@@ -119,6 +118,59 @@ placed_more places places2 pages pages2 marked next next2 page is absent small p
         subst (λ k. page_at (pages ++ (next, page) ∷ []) k ≡ Some q) (same_Some next place h) (page_at-last pages next page fresh ∙ ap (λ (p : PageId). Some p) (page-same page q same))
     there-more q place false same h fresh = page_at-more pages ((next, page) ∷ []) place q (is.there q place h)
 
+-- the page that was put last is taken away again
+take_last : (es : List (ℕ × PageId)) (n : ℕ) (page : PageId) → AllByRecursion (λ e. e.0 < n) es → remove_entry (is_at (nat_cmp n)) (es ++ (n, page) ∷ []) ≡ es
+take_last [] n page h = ap (λ b. cond b [] ((n, page) ∷ [])) (at-itself n)
+take_last (e ∷ es) n page h =
+    ap (λ b. cond b (es ++ (n, page) ∷ []) (e ∷ remove_entry (is_at (nat_cmp n)) (es ++ (n, page) ∷ []))) (at-below n e.0 h.0) ∙ ap (λ fs. e ∷ fs) (take_last es n page h.1)
+
+pub taken_back : (pages more less : List (ℕ × PageId)) (next : ℕ) (page : PageId) → AllByRecursion (λ e. e.0 < next) pages
+    → more ≡ insert_entry nat_cmp pages next page → less ≡ remove_entry (is_at (nat_cmp next)) more → less ≡ pages
+taken_back pages more less next page below put taken = taken ∙ ap (remove_entry (is_at (nat_cmp next))) (put ∙ put_last pages next page below) ∙ take_last pages next page below
+
+pub placed_same : (places places2 : List (PageId × ℕ)) (pages pages2 marked marked2 : List (ℕ × PageId)) (next : ℕ) → places2 ≡ places → pages2 ≡ pages → marked2 ≡ marked
+    → IsPlaced places pages marked next → IsPlaced places2 pages2 marked2 next
+placed_same places places2 pages pages2 marked marked2 next a b c is =
+    subst (λ (ps : List (PageId × ℕ)). IsPlaced ps pages2 marked2 next) (sym a)
+    (subst (λ (ps : List (ℕ × PageId)). IsPlaced places ps marked2 next) (sym b) (subst (λ (ms : List (ℕ × PageId)). IsPlaced places pages ms next) (sym c) is))
+
+-- ---- one mark more
+
+pub placed_marked : (places : List (PageId × ℕ)) (pages marked marked2 : List (ℕ × PageId)) (next n : ℕ) (page : PageId) → IsPlaced places pages marked next → page_at pages n ≡ Some page
+    → ((k : ℕ) → page_at marked2 k ≡ cond (is_at (nat_cmp n) k) (Some page) (page_at marked k)) → IsPlaced places pages marked2 next
+placed_marked places pages marked marked2 next n page is here more = record {
+  rising = is.rising;
+  below = is.below;
+  own = is.own;
+  within = is.within;
+  there = is.there;
+  chosen = λ k q h. chosen-more k q (is_at (nat_cmp n) k) refl (sym (more k) ∙ h);
+}
+  where
+    chosen-more : (k : ℕ) (q : PageId) (b : Bool) → is_at (nat_cmp n) k ≡ b → cond b (Some page) (page_at marked k) ≡ Some q → page_at pages k ≡ Some q
+    chosen-more k q true at h = ap (page_at pages) (sym (at-same n k at)) ∙ here ∙ h
+    chosen-more k q false at h = is.chosen k q h
+
+still_some : (b : Bool) (page : PageId) (o : Option PageId) → is_some o ≡ true → is_some (cond b (Some page) o) ≡ true
+still_some true page o h = refl
+still_some false page o h = h
+
+-- a mark stays where a page and a mark are added
+pub marks_stay : (places places2 : List (PageId × ℕ)) (marked marked2 : List (ℕ × PageId)) (next : ℕ) (page other : PageId) → place_of places page ≡ None
+    → place_of places2 other ≡ cond (same_page page other) (Some next) (place_of places other)
+    → ((k : ℕ) → page_at marked2 k ≡ cond (is_at (nat_cmp next) k) (Some page) (page_at marked k))
+    → is_marked_at (place_of places other) marked ≡ true → is_marked_at (place_of places2 other) marked2 ≡ true
+marks_stay places places2 marked marked2 next page other absent put more was =
+    ap (λ (o : Option ℕ). is_marked_at o marked2) put ∙ by (same_page page other) refl
+  where
+    stays : (o : Option ℕ) → is_marked_at o marked ≡ true → is_marked_at o marked2 ≡ true
+    stays None h = absurd (false≢true h)
+    stays (Some k) h = ap (λ (o : Option PageId). is_some o) (more k) ∙ still_some (is_at (nat_cmp next) k) page (page_at marked k) h
+
+    by : (b : Bool) → same_page page other ≡ b → is_marked_at (cond b (Some next) (place_of places other)) marked2 ≡ true
+    by true same = absurd (false≢true (sym (ap (λ (o : Option ℕ). is_marked_at o marked) (ap (place_of places) (sym (page-same page other same)) ∙ absent)) ∙ was))
+    by false same = stays (place_of places other) was
+
 -- ---- one page less
 
 removed_is : (es : List (ℕ × PageId)) (n : ℕ) → IsStrictlySortedBy nat_cmp (keys_of es) → remove_entry (is_at (nat_cmp n)) es ≡ filter (λ e. not (is_at (nat_cmp n) e.0)) es
@@ -173,10 +225,6 @@ apart_from places page e absent own = by (same_page page e.1) refl
     by true h = absurd (none-some e.0 (sym absent ∙ ap (place_of places) (page-same page e.1 h) ∙ own))
     by false h = refl
 
-without_last : (page : PageId) (ps : List PageId) → without_page page (ps ++ page ∷ []) ≡ without_page page ps
-without_last page [] = ap (λ b. cond (not b) (page ∷ []) []) (page-itself page)
-without_last page (p ∷ ps) = ap (λ qs. cond (not (same_page page p)) (p ∷ qs) qs) (without_last page ps)
-
 pub listed_same : (places : List (PageId × ℕ)) (pages marked : List (ℕ × PageId)) (next : ℕ) (page : PageId) → IsPlaced places pages marked next → place_of places page ≡ None
     → values_of pages ≡ without_page page (values_of pages)
 listed_same places pages marked next page is absent =
@@ -204,18 +252,6 @@ any_placed places pages marked next page is = by (place_of places page) refl
     by None own = none_at page (values_of pages) (all-values (λ (p : PageId). same_page page p ≡ false) pages
         (all-map (λ (e : ℕ × PageId). place_of places e.1 ≡ Some e.0) (λ (e : ℕ × PageId). same_page page e.1 ≡ false) pages (λ e h. apart_from places page e own h) is.own))
     by (Some n) own = any_at pages n page (is.there page n own)
-
--- a page that was added and is taken out again
-pub listed_back : (places : List (PageId × ℕ)) (pages marked : List (ℕ × PageId)) (next : ℕ) (page : PageId) → IsPlaced places pages marked next → place_of places page ≡ None
-    → without_page page (values_of pages ++ page ∷ []) ≡ values_of pages
-listed_back places pages marked next page is absent = without_last page (values_of pages) ∙ sym (listed_same places pages marked next page is absent)
-
-pub there_back : (page : PageId) (was mid now : PageId → Bool) → was page ≡ false → ((q : PageId) → mid q ≡ (if same_page page q then true else was q)) → ((q : PageId) → now q ≡ (if same_page page q then false else mid q)) → now ≡ was
-there_back page was mid now absent added taken = fun_ext (λ q. taken q ∙ by q (same_page page q) refl (added q))
-  where
-    by : (q : PageId) (b : Bool) → same_page page q ≡ b → mid q ≡ (if same_page page q then true else was q) → (if b then false else mid q) ≡ was q
-    by q true same h = sym (ap was (sym (page-same page q same)) ∙ absent)
-    by q false same h = h ∙ ap (λ (b : Bool). if b then true else was q) same
 
 pub placed_less : (places places2 : List (PageId × ℕ)) (pages pages2 marked marked2 : List (ℕ × PageId)) (next : ℕ) (page : PageId) (n : ℕ) → IsPlaced places pages marked next → place_of places page ≡ Some n
     → ((q : PageId) → place_of places2 q ≡ cond (same_page page q) None (place_of places q))

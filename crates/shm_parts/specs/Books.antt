@@ -10,6 +10,7 @@ use Rattle.shm_model.specs.Book as model
 use Rattle.shm_model.specs.Refusal.{numbers_used_up}
 use Rattle.shm_model.specs.Transfer.{order_envelope}
 use Rattle.shm_manager.specs.Book.{book_of}
+use Rattle.shm_manager.specs.Orders.{orders_of}
 use Rattle.shm_manager.specs.declared.book.Book.{Book}
 pub use Rattle.shm_parts.specs.Booked.{book_or}
 use Rattle.shm_parts.specs.Bookings.{listed_after, listed_of}
@@ -48,11 +49,11 @@ with_books me books site = record site { books = books_of me books; booked = boo
 abbrev pub booked_step : ℕ → PageId → Outcome → Site → Step
 booked_step me page outcome.Ignored site = dropped site
 booked_step me page outcome.UsedUp site = still (Refused numbers_used_up) site
-booked_step me page (outcome.Taken number orders) site = record { site = site; answer = Took; sent = map (order_envelope me page number) orders }
+booked_step me page (outcome.Taken number orders) site = record { site = site; answer = Took; sent = map (order_envelope me page number) (orders_of orders) }
 
 -- what goes out
 abbrev pub orders_in : Outcome → List model.Order
-orders_in (outcome.Taken number orders) = orders
+orders_in (outcome.Taken number orders) = orders_of orders
 orders_in _ = []
 
 -- there is room for as many orders as there may be, if any go out
@@ -63,7 +64,7 @@ HasRoom outcome room = (length (orders_in outcome) == 0) ≡ false → 16 ≤ ro
 abbrev pub given_by : Outcome → model.Book → model.Outcome
 given_by outcome.Ignored after = model.Ignored
 given_by outcome.UsedUp after = model.UsedUp
-given_by (outcome.Taken number orders) after = model.Taken after orders
+given_by (outcome.Taken number orders) after = model.Taken after (orders_of orders)
 
 -- a row that was taken answers with the number of the book after it; any other leaves the book
 abbrev pub IsSettled : Outcome → model.Book → model.Book → Type 0

@@ -1,11 +1,9 @@
 //! What is done with all books of a map at once.
-ghost use Rattle.std.specs.Prelude.{◌≡◌, map as map_list, IfOk, OnOk};
-ghost use Rattle.indexmap.specs.IndexMap.{insert_entry};
-ghost use Rattle.shm_place.specs.Page.{same_page};
-ghost use Rattle.shm_manager.specs.Book.{book_of};
+ghost use Rattle.std.specs.Prelude.{◌≡◌, map as map_list, IfOk};
 ghost use Rattle.shm_model.specs.Book as model;
 ghost use Rattle.shm_parts.specs.Books.{viewed};
 
+use crate::page_map::put;
 use indexmap::IndexMap;
 use shm_manager::Book;
 use shm_place::PageId;
@@ -31,22 +29,8 @@ pub(crate) fn copy_all<A: Allocator + Copy>(
 {
     let mut copy = IndexMap::with_capacity(*books.allocator(), books.len())?;
     'books: for (page, book) in books.iter() {
-        push_copy(&mut copy, *page, book)?;
+        let book = book.copy()?;
+        put(&mut copy, *page, book);
     }
     Ok(copy)
-}
-
-/// Adds an equal book of a page that has none.
-fn push_copy<A: Allocator + Copy>(
-    books: &mut IndexMap<PageId, Book<A>, BuildHasherDefault<FoldHasher>, A>,
-    page: PageId,
-    book: &Book<A>,
-) -> Result<(), AllocError>
-    ensures { OnOk result (viewed books.new.entries ≡ insert_entry same_page (viewed books.old.entries) page (book_of book.now)) }
-{
-    let book = book.copy()?;
-    match books.insert(page, book) {
-        Ok(_) => Ok(()),
-        Err(_) => Err(AllocError),
-    }
 }

@@ -51,24 +51,6 @@ impl<A: Allocator + Copy> Bookings<A> {
         ensures others { (other : Page) → is_marked self.old other ≡ true → is_marked self.new other ≡ true }
         ensures refused { OnErr result ((listed_of self.new ≡ listed_of self.old) × (is_listed self.new ≡ is_listed self.old)) }
     {
-        self.list(page)?;
-        match self.mark(page) {
-            Ok(()) => Ok(()),
-            Err(error) => {
-                self.remove(page);
-                Err(error)
-            }
-        }
-    }
-
-    /// Adds a page as the last one, without a mark.
-    fn list(&mut self, page: &PageId) -> Result<(), AllocError>
-        requires { is_listed self.old page.now ≡ false }
-        ensures listed { OnOk result (listed_of self.new ≡ listed_of self.old ++ page.now ∷ []) }
-        ensures there { OnOk result ((other : Page) → is_listed self.new other ≡ (if same_page page.now other then true else is_listed self.old other)) }
-        ensures others { (other : Page) → is_marked self.old other ≡ true → is_marked self.new other ≡ true }
-        ensures refused { OnErr result ((listed_of self.new ≡ listed_of self.old) × (is_listed self.new ≡ is_listed self.old)) }
-    {
         let place = self.next;
         let Some(next) = place.checked_add(1) else {
             return Err(AllocError);
@@ -78,6 +60,10 @@ impl<A: Allocator + Copy> Bookings<A> {
         }
         self.places.reserve(1)?;
         put_at(&mut self.pages, place, *page)?;
+        if let Err(error) = put_at(&mut self.marked, place, *page) {
+            let _ = self.pages.remove(&place);
+            return Err(error);
+        }
         put(&mut self.places, *page, place);
         self.next = next;
         Ok(())

@@ -125,7 +125,7 @@ impl<A: Allocator + Copy> Books<A> {
         }
     }
 
-    /// A site has what it asked for.
+    /// A site has what it asked for. Where that is ignored the page's mark stays as it is.
     pub fn confirm(&mut self, page: PageId, from: SiteId, number: u64) -> Outcome
         requires { from < 16 }
         ensures { (me : ℕ) (site : Site) → to_book me page (model.on_confirm from number (books_of me self.old page)) (with_books me self.old site)
@@ -135,6 +135,9 @@ impl<A: Allocator + Copy> Books<A> {
             return Outcome::Ignored;
         };
         let outcome = confirm_in(book, from, number);
+        if matches!(outcome, Outcome::Ignored) {
+            return outcome;
+        }
         let runs = runs(book);
         self.bookings.settle(&page, runs);
         outcome

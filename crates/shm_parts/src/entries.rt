@@ -104,7 +104,7 @@ impl<A: Allocator + Copy> Entries<A> {
         ensures same { is_stored self.new ≡ is_stored self.old }
     {
         let Some(entry) = self.map.get_mut(&page) else {
-            return false;
+            unreachable!()
         };
         store_in(entry, within, byte)
     }
@@ -139,9 +139,10 @@ impl<A: Allocator + Copy> Entries<A> {
             ≡ at_page (entries_of rest self.old) page (model.forget (entries_of rest self.old page)) }
         ensures same { is_stored self.new ≡ is_stored self.old }
     {
-        if let Some(entry) = self.map.get_mut(&page) {
-            forget_in(entry);
-        }
+        let Some(entry) = self.map.get_mut(&page) else {
+            unreachable!()
+        };
+        forget_in(entry);
     }
 
     /// Drops what is stored of a segment's pages.
@@ -164,7 +165,7 @@ impl<A: Allocator + Copy> Entries<A> {
         let mut map = IndexMap::with_capacity(*self.map.allocator(), count)?;
         for index in 0..count {
             let Some((page, entry)) = self.map.get_index(index) else {
-                return Err(AllocError);
+                unreachable!()
             };
             let entry = entry.copy()?;
             put(&mut map, *page, entry);

@@ -29,7 +29,9 @@ pub(crate) fn put<V: Drop, A: Allocator + Copy>(
         ≡ cond (same_page page other) (Some value) (lookup (same_page other) map.old.entries) }
     ensures room { spare map.old ≤ spare map.new + 1 }
 {
-    let _ = map.insert(page, value);
+    let Ok(_) = map.insert(page, value) else {
+        unreachable!()
+    };
 }
 
 /// The index behind the last of the segment's pages that the map has, or 0; `PAGES` where the map is so large that a look at each of its
@@ -47,7 +49,7 @@ pub(crate) fn end_of<V: Drop, A: Allocator>(
     let mut end = 0;
     'places: for place in 0..count {
         let Some((page, _)) = map.get_index(place) else {
-            return PAGES;
+            unreachable!()
         };
         end = end_with(end, id, *page);
     }

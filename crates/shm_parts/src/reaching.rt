@@ -50,10 +50,10 @@ impl<A: Allocator + Copy> Holdings<A> {
         ensures { (sites me : ℕ) → (site : Site) → load_at sites me (record { page = page.now; within = within }) (with_holdings sites me self.now site)
             ≡ loaded_step sites me (Ok result) (with_holdings sites me self.now site) }
     {
-        match self.entries.get_near(place, *page) {
-            Some(entry) => read(entry, page, within),
-            None => Loaded::Absent(*page),
-        }
+        let Some(entry) = self.entries.get_near(place, *page) else {
+            unreachable!()
+        };
+        read(entry, page, within)
     }
 
     fn store_at(&mut self, page: &PageId, within: usize, byte: u8) -> Kept
