@@ -1,18 +1,15 @@
 -- What becomes of an envelope that was on its way.
-use Rattle.std.proofs.Common.{◌≡◌, ◌∙◌, ℕ, ◌<◌, ◌≤◌, Bool, true, false, List, Option, Some, None, is_some, ⊎_elim, ap, arith, if◌then◌else◌, length, refl, slice_get, subst, sym}
+use Rattle.std.proofs.Common.{◌≡◌, ◌∙◌, ℕ, ◌<◌, ◌≤◌, Bool, true, false, List, Option, Some, None, is_some, ⊎_elim, arith, if◌then◌else◌, length, refl, slice_get, subst, sym}
 use Rattle.std.proofs.lemmas.Bool.{cases_lt}
 use Rattle.std.proofs.lemmas.Option.{none-some, slice_get_past}
 use Rattle.shm_model.specs.declared.answer.Answer.{Answer}
 use Rattle.shm_model.specs.declared.answer.Answer.TheVariants.{Took, Refused}
-use Rattle.shm_model.specs.Site.{Step}
 use Rattle.shm_model.specs.Basics.{at}
-use Rattle.shm_model.specs.Message.{Deliver, Envelope, Input}
-use Rattle.shm_model.specs.Refusal.{no_such_message, numbers_used_up}
-use Rattle.shm_model.specs.Site as model
-use Rattle.shm_model.specs.Step.{step}
+use Rattle.shm_model.specs.Message.{Deliver, Envelope}
+use Rattle.shm_model.specs.Refusal.{no_such_message}
 use Rattle.shm_model.specs.World as world
-use Rattle.shm_laws.proofs.Call.Steps.{at-here, at-there}
-use Rattle.shm_world.specs.Network.{on_way, Carries}
+use Rattle.shm_laws.proofs.Call.Steps.{at-there}
+use Rattle.shm_world.specs.Network.{Carries}
 use Rattle.shm_site.specs.Step.{is_refused}
 use Rattle.shm_world.specs.Members.{members_of}
 use Rattle.shm_world.specs.Steps.{Went}
@@ -54,31 +51,14 @@ missed new w k is stands = subst (λ (m : Option Envelope). Went new (world.deli
 pub not_repeated : {A : Type 0} (new : World A) (w : world.World) (k : ℕ) → None ≡ world.live w k → StandsFor new w → Went new (world.hand_over (world.live w k) w) (Refused no_such_message)
 not_repeated new w k is stands = subst (λ (m : Option Envelope). Went new (world.hand_over m w) (Refused no_such_message)) is (record { stands = stands; answered = refl })
 
--- what is gone stays gone
-gone_then : (full : Bool) (w : world.World) (s : ℕ) (i : Input) (done : Step) (k : ℕ) → w.gone k ≡ true
-    → (if full then world.unstepped w s (Refused numbers_used_up) else world.stepped w s i done).world.gone k ≡ true
-gone_then true w s i done k h = h
-gone_then false w s i done k h = h
-
-gone_still : (found : Option model.Site) (w : world.World) (s : ℕ) (i : Input) (k : ℕ) → w.gone k ≡ true → (world.step_site found w s i).world.gone k ≡ true
-gone_still None w s i k h = h
-gone_still (Some x) w s i k h = gone_then (world.is_full w) w s i (step w.count s x i) k h
-
-none_live : (b : Bool) (m : Option Envelope) → b ≡ true → (if b then None else m) ≡ None
-none_live true m h = refl
-none_live false m h = absurd (cc)
-
--- an envelope goes to its site, and its place with it
-pub delivered : {A : Type 0} (handed new : World A) (w : world.World) (k : ℕ) (e : Envelope) (answer : Answer) (was : Bool) → Some e ≡ world.live w k
+-- an envelope goes to its site
+pub delivered : {A : Type 0} (handed new : World A) (w : world.World) (k : ℕ) (e : Envelope) (answer : Answer) → Some e ≡ world.live w k
     → Went handed (world.step_at (world.without w k) e.to (Deliver e)) answer → new.members.count ≡ handed.members.count → members_of new.members ≡ members_of handed.members
-    → was ≡ is_some (on_way handed.network k) → (was ≡ false → (sent : List Envelope) (gone : ℕ → Bool) → Carries handed.network sent gone → Carries new.network sent gone)
-    → Went new (world.deliver (world.live w k) w k) answer
-delivered handed new w k e answer was live went count sites is missing =
-    let next = world.step_at (world.without w k) e.to (Deliver e) in
-    let gone : next.world.gone k ≡ true = gone_still (slice_get w.sites e.to) (world.without w k) e.to (Deliver e) k (at-here w.gone k true k refl) in
-    let none : on_way handed.network k ≡ None = went.stands.carries.live k ∙ none_live (next.world.gone k) (slice_get next.world.sent k) gone in
+    → ((sent : List Envelope) (gone : ℕ → Bool) → Carries handed.network sent gone → Carries new.network sent gone) → Went new (world.deliver (world.live w k) w k) answer
+delivered handed new w k e answer live went count sites swept =
+    let next = (world.step_at (world.without w k) e.to (Deliver e)).world in
     subst (λ (m : Option Envelope). Went new (world.deliver m w k) answer) live (record {
-      stands = still_stands handed new next.world went.stands count sites (missing (is ∙ ap is_some none) next.world.sent next.world.gone went.stands.carries);
+      stands = still_stands handed new next went.stands count sites (swept next.sent next.gone went.stands.carries);
       answered = went.answered;
     })
 

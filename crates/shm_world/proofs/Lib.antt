@@ -1,6 +1,8 @@
 pub mod Envelopes
+pub mod Joining
 pub mod Loads
 pub mod NetworkLemmas
+pub mod Numbers
 pub mod Runs
 pub mod Seats
 pub mod Steps

@@ -1,5 +1,5 @@
 -- What is kept before an event leads back over it; and a world that goes back by it stands where it stood.
-use Rattle.std.proofs.Common.{◌≡◌, ◌∙◌, ℕ, ◌<◌, ◌≤◌, ◌⊎◌, ◌+◌, ◌==◌, ◌&&◌, Bool, true, false, List, [], ◌∷◌, ◌++◌, Option, Some, None, IfSome, ⊎_elim, ap, arith, if◌then◌else◌, length, nat_le, nat_lt, refl, slice_get, slice_set, subst, suc, sym, zero}
+use Rattle.std.proofs.Common.{◌≡◌, ◌∙◌, ℕ, ◌<◌, ◌≤◌, ◌==◌, Bool, true, false, List, [], ◌∷◌, ◌++◌, Option, Some, None, IfSome, ⊎_elim, ap, arith, if◌then◌else◌, length, nat_le, refl, slice_get, slice_set, subst, suc, sym, zero}
 use Rattle.std.proofs.lemmas.Bool.{cases_eq, cases_lt}
 use Rattle.std.proofs.lemmas.Bool.Decides.{nat_tests}
 use Rattle.std.proofs.lemmas.Option.{slice_get_past}
@@ -41,22 +41,6 @@ set-back : {X : Type 0} (xs : List X) (s : ℕ) (y x : X) → slice_get xs s ≡
 set-back [] s y x h = refl
 set-back (z ∷ xs) zero y x h = sym (set_same (z ∷ xs) zero x h)
 set-back (z ∷ xs) (suc s) y x h = ap (λ l. z ∷ l) (set-back xs s y x h)
-
--- ---- what is forgotten
-
-pub forgot-none : {X : Type 0} (first k : ℕ) (y : Option X) → y ≡ (if nat_le first k && nat_lt k first then None else y)
-forgot-none first k y = grind (arith, nat_tests)
-
-pub forgot-more : {X : Type 0} (first number k : ℕ) (x y : Option X) → first ≤ number → x ≡ (if nat_le first k && nat_lt k number then None else y)
-    → (if number == k then None else x) ≡ (if nat_le first k && nat_lt k (number + 1) then None else y)
-forgot-more first number k x y from is = grind (arith, nat_tests)
-
-pub forgot-all : {X : Type 0} (first number sent k : ℕ) (y : Option X) → (number ≤ sent) ⊎ (number ≡ first) → sent ≤ number
-    → (if nat_le first k && nat_lt k number then None else y) ≡ (if nat_le first k && nat_lt k sent then None else y)
-forgot-all first number sent k y within done = ⊎_elim
-    (λ (low : number ≤ sent). let same : number ≡ sent = omega arith in ap (λ n. if nat_le first k && nat_lt k n then None else y) same)
-    (λ (none : number ≡ first). grind (arith, nat_tests))
-    within
 
 -- ---- what a step leaves
 
@@ -188,32 +172,31 @@ past-envelope : {A : Type 0} (taken : Option (ℕ × Envelope A)) (f : ℕ → O
 past-envelope None f sent k low h = refl
 past-envelope (Some t) f sent k low h = at-there f t.0 (Some (envelope_of t.1)) k (λ same. omega (arith, same, low, h))
 
-early : {X : Type 0} (first sent k : ℕ) (x : Option X) → k < first → (if nat_le first k && nat_lt k sent then None else x) ≡ x
-early first sent k x h = grind (arith, nat_tests)
+early : {X : Type 0} (first k : ℕ) (x : Option X) → k < first → (if nat_le first k then None else x) ≡ x
+early first k x h = let b : nat_le first k ≡ false = grind (arith, nat_tests, h) in ap (λ b. if b then None else x) b
 
-late : {X : Type 0} (first sent k : ℕ) (x : Option X) → first ≤ k → (sent ≤ k → x ≡ None) → (if nat_le first k && nat_lt k sent then None else x) ≡ None
-late first sent k x h past = ⊎_elim (λ (low : k < sent). grind (arith, nat_tests)) (λ (high : sent ≤ k). let none = past high in grind (arith, nat_tests)) (cases_lt k sent)
+late : {X : Type 0} (first k : ℕ) (x : Option X) → first ≤ k → (if nat_le first k then None else x) ≡ None
+late first k x h = let b : nat_le first k ≡ true = grind (arith, nat_tests, h) in ap (λ b. if b then None else x) b
 
 none-past : (b : Bool) (xs : List message.Envelope) (k : ℕ) → length xs ≤ k → (if b then None else slice_get xs k) ≡ None
 none-past true xs k h = refl
 none-past false xs k h = slice_get_past xs k h
 
 pub goes-back : {A : Type 0} (old new : Running A) (undo : Undo A) (after before : World) → StandsFor old after → LeadsBack undo after before
-    → new.members.count ≡ old.members.count → members_of new.members ≡ with_site undo.site (members_of old.members) → new.network.sent ≡ undo.sent
-    → ((k : ℕ) → on_way new.network k ≡ with_envelope undo.taken (sent_before undo.sent old.network) k) → StandsFor new before
+    → new.members.count ≡ old.members.count → members_of new.members ≡ with_site undo.site (members_of old.members) → new.network.envelopes.next ≡ undo.sent
+    → (IfSome undo.taken (λ t. t.0 < undo.sent) → (k : ℕ) → on_way new.network k ≡ with_envelope undo.taken (sent_before undo.sent old.network) k) → StandsFor new before
 goes-back old new undo after before stands back count sites sent lives = record {
   count = back.count ∙ stands.count ∙ sym count;
   sites = back.sites ∙ ap (with_site undo.site) stands.sites ∙ sym sites;
   carries = record {
     count = sent ∙ back.sent;
-    live = λ k. lives k ∙ ⊎_elim
+    live = λ k. lives back.taken k ∙ ⊎_elim
         (λ (low : k < undo.sent).
-        same-envelope undo.taken (sent_before undo.sent old.network) (live after) k (early undo.sent old.network.sent k (on_way old.network k) low ∙ stands.carries.live k)
+        same-envelope undo.taken (sent_before undo.sent old.network) (live after) k (early undo.sent k (on_way old.network k) low ∙ stands.carries.live k)
         ∙ sym (back.live k low))
         (λ (high : undo.sent ≤ k).
         past-envelope undo.taken (sent_before undo.sent old.network) undo.sent k back.taken high
-        ∙ late undo.sent old.network.sent k (on_way old.network k) high
-        (λ past. stands.carries.live k ∙ none-past (after.gone k) after.sent k (omega (arith, past, stands.carries.count)))
+        ∙ late undo.sent k (on_way old.network k) high
         ∙ sym (none-past (before.gone k) before.sent k (omega (arith, high, back.sent))))
         (cases_lt k undo.sent);
   };

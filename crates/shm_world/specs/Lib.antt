@@ -1,3 +1,4 @@
+pub mod ByNumber
 pub mod Members
 pub mod Network
 pub mod Posting

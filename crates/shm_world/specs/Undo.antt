@@ -1,6 +1,5 @@
 -- What is kept of a world before an event, so that the event can be taken back.
 use Rattle.std.specs.Prelude.{◌≡◌, ℕ, ◌<◌, ◌≤◌, ◌||◌, Bool, false, true, List, Option, Some, None, IfSome, is_some, length, slice_get, slice_set}
-use Rattle.indexmap.specs.IndexMap.{spare}
 use Rattle.shm_model.specs.Basics.{at}
 use Rattle.shm_model.specs.Entry as entry
 use Rattle.shm_model.specs.declared.event.Event.{Event}
@@ -45,7 +44,7 @@ pub record LeadsBack {A : Type 0} (undo : Undo A) (after before : World) : Type 
 
 -- how many more envelopes have room
 abbrev pub room_in : {A : Type 0} → Running A → ℕ
-room_in world = spare world.network.places
+room_in world = world.network.envelopes.spare
 
 -- ---- what may need memory
 

@@ -23,16 +23,16 @@ impl<A: Allocator + Copy> World<A> {
         ensures memory { (w : model.World) → StandsFor self.old w
             → OnErr result (is_refused (model.deliver (model.live w number) w number).done.answer ≡ false) }
     {
-        let Some(envelope) = self.network.take_out(number) else {
+        let Some((place, envelope)) = self.network.take_out(number) else {
             return Ok(Answer::Refused(NO_SUCH_MESSAGE));
         };
         match self.hand(envelope) {
             Ok(answer) => {
-                self.network.lose(number);
+                self.network.sweep();
                 Ok(answer)
             }
             Err(envelope) => {
-                self.network.put_back(number, envelope);
+                self.network.put_back(place, envelope);
                 Err(AllocError)
             }
         }

@@ -1,11 +1,13 @@
 //! The world: all sites and the network between them, stepped by events; and the headline as the contract of its run.
 #![tactic(auto)]
 
+mod by_number;
 mod delivering;
 pub mod laws;
 mod members;
 mod network;
 mod opening;
+mod place;
 mod running;
 mod showing;
 mod start;

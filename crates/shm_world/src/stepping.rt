@@ -5,7 +5,7 @@ ghost use Rattle.shm_model.specs.Message as input;
 ghost use Rattle.shm_model.specs.World as model;
 ghost use Rattle.shm_parts.specs.Message.{envelope_of};
 ghost use Rattle.shm_site.specs.Step.{input_of, is_fault, is_refused};
-ghost use Rattle.shm_world.specs.Network.{has_place};
+ghost use Rattle.shm_world.specs.Network.{StandsAt};
 ghost use Rattle.shm_world.specs.Steps.{Went};
 ghost use Rattle.shm_world.specs.World.{StandsFor, input_may_grow};
 
@@ -84,7 +84,7 @@ impl<A: Allocator + Copy> World<A> {
         ensures refused { (w : model.World) → StandsFor self.old w → OnErr result (StandsFor self.new w) }
         ensures memory { (w : model.World) → StandsFor self.old w
             → OnErr result (is_refused (model.step_at w (envelope_of envelope).to (input.Deliver (envelope_of envelope))).done.answer ≡ false) }
-        ensures places { OnErr result ((k : ℕ) → has_place self.old.network k ≡ true → has_place self.new.network k ≡ true) }
+        ensures places { OnErr result ((k at : ℕ) → StandsAt k at self.old.network → StandsAt k at self.new.network) }
     {
         if let Some(answer) = self.refusal(envelope.to) {
             return Ok(answer);
@@ -98,7 +98,7 @@ impl<A: Allocator + Copy> World<A> {
         ensures refused { IfSome result (λ answer. (w : model.World) (i : input.Input) → StandsFor self.now w
             → model.step_at w site i ≡ model.unstepped w site answer) }
         ensures site { IfNone result (site < self.now.members.count) }
-        ensures numbers { IfNone result (self.now.network.sent ≤ max_sent) }
+        ensures numbers { IfNone result (self.now.network.envelopes.next ≤ max_sent) }
         ensures refuses { IfSome result (λ answer. is_refused answer ≡ true) }
     {
         if site.0 >= self.members.count.count() {

@@ -45,13 +45,44 @@ fn what_is_lost_is_gone(rt: HostRuntime) -> Result<(), Fail> {
 #[test]
 fn what_is_taken_out_is_put_back(rt: HostRuntime) -> Result<(), Fail> {
     let mut network = posted(rt.alloc())?;
-    let Some(envelope) = network.take_out(0) else {
+    let Some((place, envelope)) = network.take_out(0) else {
         return Err(Fail::new("the envelope is on its way"));
     };
     assert!(rt; network.envelope(0).is_none());
-    network.put_back(0, envelope);
+    network.put_back(place, envelope);
     assert!(rt; is_of(network.envelope(0), 7));
     assert!(rt; network.take_out(0).is_some());
     assert!(rt; network.take_out(0).is_none());
+    Ok(())
+}
+
+/// A network that carries a purge of each of 100 segments, under its number.
+fn hundred(alloc: Global) -> Result<Network, AllocError> {
+    let mut network = Network::new(alloc);
+    for id in 0..100u32 {
+        network.reserve(1)?;
+        network.push(purge(id));
+    }
+    Ok(network)
+}
+
+/// Loses nine of ten.
+fn lose_most(network: &mut Network) {
+    for id in 0..100u32 {
+        if id % 10 != 3 {
+            network.lose(id as u64);
+        }
+    }
+}
+
+#[test]
+fn what_stays_is_found_among_many_that_are_gone(rt: HostRuntime) -> Result<(), Fail> {
+    let mut network = hundred(rt.alloc())?;
+    lose_most(&mut network);
+    network.sweep();
+    for id in 0..100u32 {
+        let stays = is_of(network.envelope(id as u64), id);
+        assert_eq!(rt; stays, id % 10 == 3);
+    }
     Ok(())
 }

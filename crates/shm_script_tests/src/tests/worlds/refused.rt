@@ -22,7 +22,8 @@ const PAGE_BLOCKS: usize = 256;
 const TRIES: usize = 2000;
 
 /// A world of two pages in which site 1 asked for the first one, and its manager, site 0, told itself to lend it, and again at each of
-/// eight ticks: envelopes 1 to 9 are on their way. Being a copy, it has no room to spare: a map of nine is full.
+/// eight ticks: envelopes 1 to 9 are on their way. Being a copy of a copy, it has no room to spare: the first has a place more, as the
+/// envelope that was delivered had one.
 fn asked(heap: &LocalHeap) -> Result<World<&LocalHeap>, Fail> {
     let mut world = preset(heap, 2, 2)?;
     world.step(load(1, 0, 0))?;
@@ -30,7 +31,7 @@ fn asked(heap: &LocalHeap) -> Result<World<&LocalHeap>, Fail> {
     for _again in 0..8usize {
         world.step(tick(0))?;
     }
-    Ok(world.copy()?)
+    Ok(world.copy()?.copy()?)
 }
 
 /// How often the event is refused while the hole widens, and its answer. Each time the world stands as before.

@@ -1,16 +1,14 @@
-use Rattle.std.proofs.Common.{◌≡◌, ℕ, ◌==◌, ◌≤◌, length, drop}
-use Rattle.std.specs.Map.{lookup}
-use Rattle.indexmap.specs.IndexMap.{spare}
-use Rattle.shm_world.specs.Network.{in_place, on_way}
+use Rattle.std.proofs.Common.{◌≡◌, ◌≤◌, drop, length, true}
+use Rattle.shm_world.specs.ByNumber.{rises}
+use Rattle.shm_world.proofs.NetworkLemmas.{Copied}
 use Rattle.shm_world.proofs.network.Network.copy.Given as goal
 
-abbrev pub invariant-entries : goal.invariant-entries
-invariant-entries g l = record {
-  within : l.left ≤ length l.self.places.entries;
-  room : l.left ≤ spare l.copy.places;
-  sent : l.copy.sent ≡ l.self.sent;
-  copied : (k : ℕ) → on_way l.copy k ≡ in_place (lookup (λ j. k == j) (drop l.left l.self.places.entries));
-}
-
-abbrev pub decreases-entries : goal.decreases-entries
-decreases-entries g l = l.left
+-- the places up to this one are copied, and there is room for the others
+abbrev pub invariant-places : goal.invariant-places
+invariant-places g l =
+    let all = l.self.envelopes.places in
+    record {
+      room : length (drop l.place-index all) ≤ l.envelopes.spare;
+      order : rises l.envelopes.next (drop l.place-index all) l.self.envelopes.next ≡ true;
+      copied : Copied all (drop l.place-index all) l.envelopes.places l.envelopes.next;
+    }

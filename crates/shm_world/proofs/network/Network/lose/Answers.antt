@@ -1,14 +1,19 @@
-use Rattle.std.proofs.Common.{◌==◌, is_some, ap, refl, sym, ◌∙◌}
-use Rattle.shm_world.specs.Network.{in_place}
-use Rattle.shm_world.proofs.NetworkLemmas.{empty_place, no_place, place_gone, unlost}
+use Rattle.std.proofs.Common.{subst, sym, true, ◌∙◌, true≢false}
+use Rattle.shm_model.specs.Basics.{at}
+use Rattle.shm_world.specs.Network.{Carries}
 use Rattle.shm_world.proofs.network.Network.lose.Goals as goal
+use Rattle.shm_world.proofs.network.Network.lose.Goals.{in-Some, in-None}
 
-pub returns-in-Some-clause-missing : goal.returns-in-Some-clause-missing
-returns-in-Some-clause-missing g c = λ none sent gone had.
-    let old = c.args.self.now in
-    unlost old _ sent gone c.args.number (ap in_place (sym c.swap_remove.ensures.value ∙ c.in-Some.is) ∙ empty_place c.is_some.result c.in-Some.place c.is_some.ensures none) refl
-    (λ k. ap in_place (c.swap_remove.ensures.updates.0 k) ∙ place_gone (c.args.number == k) _)
-    had
+pub returns-clause-after : goal.returns-clause-after
+returns-clause-after g c = λ sent gone had.
+    elim c.match-take_out.branch [
+      | in-Some w ↦ subst (λ n. Carries n sent (at gone c.args.number true)) (sym w.self-is) (w.sweep.ensures sent (at gone c.args.number true) (c.take_out.ensures.after sent gone had))
+      | in-None w ↦ subst (λ n. Carries n sent (at gone c.args.number true)) (sym w.self-is) (c.take_out.ensures.after sent gone had)
+    ]
 
-pub returns-in-Some-clause-place : goal.returns-in-Some-clause-place
-returns-in-Some-clause-place g c = ap is_some (c.swap_remove.ensures.updates.0 c.args.number) ∙ no_place c.args.number _
+pub returns-clause-missing : goal.returns-clause-missing
+returns-clause-missing g c = λ lost sent gone had.
+    elim c.match-take_out.branch [
+      | in-Some w ↦ absurd (true≢false (sym w.result-is ∙ lost))
+      | in-None w ↦ subst (λ n. Carries n sent gone) (sym w.self-is) (w.in-None.ensures.missing sent gone had)
+    ]
