@@ -54,9 +54,10 @@ impl<A: Allocator + Copy> Site<A> {
         }
     }
 
-    /// Makes one step of an input that isn't refused. Where memory is, an envelope that was handed in comes back.
+    /// Makes one step of an input that the site doesn't refuse as foreign: what is sent joins the outbox. Where memory is refused, site and
+    /// outbox are as before and an envelope that was handed in comes back.
     #[inline(always)]
-    pub(crate) fn step_proper<O: Outbox<Envelope<A>>>(
+    pub fn step_proper<O: Outbox<Envelope<A>>>(
         &mut self,
         input: Input<A>,
         outbox: &mut O,

@@ -1,5 +1,5 @@
 -- Steps of the world, as its code makes them.
-use Rattle.std.proofs.Common.{◌≡◌, ◌∙◌, ℕ, ◌<◌, ◌≤◌, Bool, true, false, List, [], ◌∷◌, ◌++◌, Some, None, ap, append-nil, arith, length, length-append, map, nat_lt, refl, slice_get, slice_set, subst, suc, sym, zero}
+use Rattle.std.proofs.Common.{◌≡◌, ◌∙◌, ℕ, ◌<◌, ◌≤◌, true, false, List, [], ◌∷◌, ◌++◌, Some, None, ap, append-nil, arith, length, length-append, map, nat_lt, refl, slice_get, slice_set, subst, suc, sym, zero}
 use Rattle.std.proofs.lemmas.Bool.{cond-true, cond-false}
 use Rattle.std.proofs.lemmas.Bool.Decides.{nat_tests}
 use Rattle.std.proofs.lemmas.Option.{same_Some}
@@ -7,6 +7,7 @@ use Rattle.shm_model.specs.Basics.{max_sent}
 use Rattle.shm_model.specs.declared.answer.Answer.{Answer}
 use Rattle.shm_model.specs.declared.answer.Answer.TheVariants.{Refused}
 use Rattle.shm_model.specs.Site.{Step, still}
+use Rattle.shm_model.specs.Message as message
 use Rattle.shm_model.specs.Message.{Input, Load, Store, Begin, Deliver, Tick, Restart}
 use Rattle.shm_model.specs.Refusal.{foreign_message, no_such_site, numbers_used_up}
 use Rattle.shm_model.specs.Site as model
@@ -15,8 +16,7 @@ use Rattle.shm_model.specs.World as world
 use Rattle.shm_world.specs.Network.{Carries, CarriesOn}
 use Rattle.shm_world.specs.Members.{members_of, Made}
 use Rattle.shm_parts.specs.Message.{envelope_of}
-use Rattle.shm_site.specs.Step.{fault_of, is_foreign, may_grow}
-use Rattle.shm_site.specs.declared.step_error.StepFault.TheVariants as fault
+use Rattle.shm_site.specs.Step.{may_grow}
 use Rattle.shm_world.specs.Steps.{Went}
 use Rattle.shm_world.specs.World.{StandsFor, input_may_grow}
 use Rattle.shm_world.specs.declared.world.World.{World}
@@ -99,22 +99,11 @@ still_there world' w s x i answer stands there few same =
       answered = refl;
     })
 
--- a site's answer to an envelope that can't be for it
-foreign_still : (sites me : ℕ) (i : Input) (x : model.Site) → is_foreign sites me i ≡ true → step sites me x i ≡ still (Refused foreign_message) x
-foreign_still sites me (Deliver e) x h = cond-true (foreign sites me e) (still (Refused foreign_message) x) (on_message sites me e.from e.message x) h
-foreign_still sites me (Load a o) x h = absurd (cc)
-foreign_still sites me (Store a o b) x h = absurd (cc)
-foreign_still sites me (Begin r) x h = absurd (cc)
-foreign_still sites me Tick x h = absurd (cc)
-foreign_still sites me Restart x h = absurd (cc)
-
-pub was_foreign : (b : Bool) → fault.Foreign ≡ fault_of b → b ≡ true
-was_foreign true e = refl
-was_foreign false e = absurd (cc)
-
-pub turned_away : {A : Type 0} (new : World A) (w : world.World) (s : ℕ) (x : model.Site) (i : Input) → StandsFor new w → slice_get w.sites s ≡ Some x → length w.sent ≤ max_sent
-    → is_foreign w.count s i ≡ true → Went new (world.step_at w s i) (Refused foreign_message)
-turned_away new w s x i stands there few is = still_there new w s x i (Refused foreign_message) stands there few (foreign_still w.count s i x is)
+-- an envelope that can't be for its site is refused
+pub turned_away : {A : Type 0} (new : World A) (w : world.World) (x : model.Site) (e : message.Envelope) → StandsFor new w → slice_get w.sites e.to ≡ Some x → length w.sent ≤ max_sent
+    → foreign w.count e.to e ≡ true → Went new (world.step_at w e.to (Deliver e)) (Refused foreign_message)
+turned_away new w x e stands there few is = still_there new w e.to x (Deliver e) (Refused foreign_message) stands there few
+    (cond-true (foreign w.count e.to e) (still (Refused foreign_message) x) (on_message w.count e.to e.from e.message x) is)
 
 -- memory may be missing where a step may need some
 pub grows : (sites me : ℕ) (x : model.Site) (i : Input) → may_grow sites me x i ≡ true → input_may_grow i (step sites me x i).answer ≡ true

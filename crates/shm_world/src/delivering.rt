@@ -64,10 +64,7 @@ impl<A: Allocator + Copy> World<A> {
         if let Some(answer) = self.refusal(envelope.to) {
             return Ok(answer);
         }
-        let Some(site) = self.members.get(envelope.to) else {
-            return Err(AllocError);
-        };
-        if site.foreign(envelope) {
+        if self.members.is_foreign(envelope) {
             return Ok(Answer::Refused(FOREIGN));
         }
         Err(AllocError)

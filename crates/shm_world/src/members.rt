@@ -1,21 +1,20 @@
 //! What is done with the sites, each at its number.
-ghost use Rattle.std.specs.Prelude.{◌≡◌, length, [], false, true, ◌<◌, Some, is_some, map, slice_get, slice_set, IfErr, IfOk, IfSome, IsOk, OnErr};
+ghost use Rattle.std.specs.Prelude.{◌≡◌, length, [], false, true, ◌<◌, Some, is_some, map, slice_get, slice_set, IfErr, IfOk, IfSome, OnErr};
 ghost use Rattle.shm_world.specs.Seats.{Seated};
 ghost use Rattle.std.specs.List.{range_with_len};
 ghost use Rattle.std.specs.Option.{option_copied};
 ghost use Rattle.shm_model.specs.Access as access;
 ghost use Rattle.shm_model.specs.Site as model;
-ghost use Rattle.shm_model.specs.Step.{deliver, step};
+ghost use Rattle.shm_model.specs.Step.{deliver, foreign, step};
 ghost use Rattle.shm_model.specs.World.{IsOpening, opened_site};
 ghost use Rattle.shm_parts.specs.Message.{envelope_of};
-ghost use Rattle.shm_site.specs.Step.{envelope_if, fault_of, handed_in, input_of, is_fault, is_foreign, is_refused, may_grow};
-ghost use Rattle.shm_site.specs.declared.step_error.StepFault.TheVariants as fault;
+ghost use Rattle.shm_site.specs.Step.{envelope_if, handed_in, input_of, is_fault, is_foreign, is_refused, may_grow};
 
 use crate::start::begin;
 use shm_model::{Answer, Opening};
 use shm_parts::{Envelope, Outbox};
 use shm_place::{SiteId, Sites};
-use shm_site::{Input, Site, StepError};
+use shm_site::{Input, Site};
 use std::alloc::{AllocError, Allocator, Global};
 
 /// The sites of a world, each at its number.
@@ -56,26 +55,26 @@ impl<A: Allocator + Copy> Members<A> {
         self.sites.get(site.0 as usize)
     }
 
-    /// A site's step. Where it isn't made, the sites are as before and an envelope that was handed in comes back.
+    /// A site's step of an input that it doesn't refuse as foreign. Where memory is refused, the sites are as before and an envelope that was
+    /// handed in comes back.
     #[inline(always)]
     pub(crate) fn step<O: Outbox<Envelope<A>>>(
         &mut self,
         site: SiteId,
         input: Input<A>,
         outbox: &mut O,
-    ) -> Result<Answer, StepError<A>>
-        requires { site < self.old.count }
+    ) -> Result<Answer, Option<Envelope<A>>>
+        requires below { site < self.old.count }
+        requires own { is_foreign self.old.count site (input_of input) ≡ false }
         ensures step { IfOk result (λ answer. (x : model.Site) → slice_get (members_of self.old) site ≡ Some x
             → Made O.posted self.old self.new site outbox.old outbox.new answer (step self.old.count site x (input_of input))) }
-        ensures taken { IsOk result → is_foreign self.old.count site (input_of input) ≡ false }
-        ensures fault { IfErr result (λ e. e.fault ≡ fault_of (is_foreign self.old.count site (input_of input))) }
-        ensures memory { IfErr result (λ e. e.fault ≡ fault.OutOfMemory → (x : model.Site) → slice_get (members_of self.old) site ≡ Some x
+        ensures memory { OnErr result ((x : model.Site) → slice_get (members_of self.old) site ≡ Some x
             → may_grow self.old.count site x (input_of input) ≡ true) }
-        ensures back { IfErr result (λ e. envelope_if e.envelope ≡ handed_in (input_of input)) }
+        ensures back { IfErr result (λ back. envelope_if back ≡ handed_in (input_of input)) }
         ensures refused { OnErr result ((members_of self.new ≡ members_of self.old) × O.posted outbox.old outbox.new []) }
         ensures count { self.new.count ≡ self.old.count }
     {
-        self.sites[site.0 as usize].step(input, outbox)
+        self.sites[site.0 as usize].step_proper(input, outbox)
     }
 
     /// A site's load. Where memory is refused the sites are as before.
@@ -137,6 +136,15 @@ impl<A: Allocator + Copy> Members<A> {
     {
         let site = envelope.to;
         self.sites[site.0 as usize].deliver(envelope, outbox)
+    }
+
+    /// Whether the site that the envelope names refuses it as foreign.
+    pub(crate) fn is_foreign(&self, envelope: &Envelope<A>) -> bool
+        requires { envelope.now.to < self.now.count }
+        ensures { result ≡ foreign self.now.count envelope.now.to (envelope_of envelope.now) }
+    {
+        let site = envelope.to;
+        self.sites[site.0 as usize].foreign(envelope)
     }
 
     /// A copy of the site of this number, beside the number, if there is one.

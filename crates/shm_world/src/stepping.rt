@@ -4,17 +4,17 @@ ghost use Rattle.shm_model.specs.Basics.{max_sent};
 ghost use Rattle.shm_model.specs.Message as input;
 ghost use Rattle.shm_model.specs.World as model;
 ghost use Rattle.shm_parts.specs.Message.{envelope_of};
-ghost use Rattle.shm_site.specs.Step.{input_of, is_fault, is_refused};
+ghost use Rattle.shm_site.specs.Step.{input_of, is_fault, is_foreign, is_refused};
 ghost use Rattle.shm_world.specs.Network.{StandsAt};
 ghost use Rattle.shm_world.specs.Steps.{Went};
 ghost use Rattle.shm_world.specs.World.{StandsFor, input_may_grow};
 
 use crate::world::World;
-use shm_model::refusal::{FOREIGN, NO_SUCH_SITE, NUMBERS_USED_UP};
+use shm_model::refusal::{NO_SUCH_SITE, NUMBERS_USED_UP};
 use shm_model::{Answer, MAX_SENT};
 use shm_parts::Envelope;
 use shm_place::SiteId;
-use shm_site::{Input, StepFault};
+use shm_site::Input;
 use std::alloc::{AllocError, Allocator};
 
 impl<A: Allocator + Copy> World<A> {
@@ -57,6 +57,7 @@ impl<A: Allocator + Copy> World<A> {
     /// nothing changes.
     #[inline(always)]
     pub(crate) fn act(&mut self, site: SiteId, input: Input<A>) -> Result<Answer, AllocError>
+        requires { (sites me : ℕ) → is_foreign sites me (input_of input) ≡ false }
         ensures step { (w : model.World) → StandsFor self.old w → IfOk result (λ answer. Went self.new (model.step_at w site (input_of input)) answer) }
         ensures refused { (w : model.World) → StandsFor self.old w → OnErr result (StandsFor self.new w) }
         ensures memory { (w : model.World) → StandsFor self.old w
@@ -67,10 +68,7 @@ impl<A: Allocator + Copy> World<A> {
         }
         match self.members.step(site, input, &mut self.network) {
             Ok(answer) => Ok(answer),
-            Err(error) => match error.fault {
-                StepFault::Foreign => Ok(Answer::Refused(FOREIGN)),
-                StepFault::OutOfMemory => Err(AllocError),
-            },
+            Err(back) => Err(give_up(back)),
         }
     }
 
@@ -109,4 +107,10 @@ impl<A: Allocator + Copy> World<A> {
         }
         None
     }
+}
+
+/// What came back where memory was refused is given up.
+fn give_up<A: Allocator + Copy>(back: Option<Envelope<A>>) -> AllocError {
+    drop(back);
+    AllocError
 }

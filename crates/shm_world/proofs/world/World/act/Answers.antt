@@ -1,8 +1,8 @@
-use Rattle.std.proofs.Common.{◌∙◌, ap, arith, slice_get, sym}
+use Rattle.std.proofs.Common.{◌∙◌, ap, arith, slice_get}
 use Rattle.shm_site.specs.Site.{site_of}
-use Rattle.shm_site.specs.Step.{input_of, is_foreign, may_grow}
+use Rattle.shm_site.specs.Step.{input_of, may_grow}
 use Rattle.shm_world.specs.World.{input_may_grow}
-use Rattle.shm_world.proofs.Steps.{answered, found, grows, stays, turned_away, was_foreign, went}
+use Rattle.shm_world.proofs.Steps.{answered, found, grows, stays, went}
 use Rattle.shm_world.proofs.world.World.act.Goals as goal
 
 pub returns-in-Ok-clause-step : goal.returns-in-Ok-clause-step
@@ -16,23 +16,11 @@ returns-in-Ok-clause-step g c = λ w stands.
     (omega (arith, c.in_default.ensures.numbers, stands.carries.count))
     (c.in-Ok.ensures.step one.site one.there) c.in-Ok.ensures.count
 
-pub returns-in-Foreign-clause-step : goal.returns-in-Foreign-clause-step
-returns-in-Foreign-clause-step g c = λ w stands.
-    let old = c.args.self.now in
-    let s = c.args.site in
-    let i = input_of c.args.input in
-    let one = found site_of old.members.sites.items s (omega (arith, old.members.whole, c.in_default.ensures.site)) in
-    let same = c.in-Err.ensures.refused in
-    turned_away _ w s one.site i (stays old _ w stands c.in-Err.ensures.count same.0 same.1)
-    (ap (λ l. slice_get l s) stands.sites ∙ one.there)
-    (omega (arith, c.in_default.ensures.numbers, stands.carries.count))
-    (ap (λ n. is_foreign n s i) stands.count ∙ was_foreign (is_foreign old.members.count s i) (sym c.in-Foreign.is ∙ c.in-Err.ensures.fault))
+pub returns-in-Err-clause-refused : goal.returns-in-Err-clause-refused
+returns-in-Err-clause-refused g c = λ w stands. stays c.args.self.now _ w stands c.in-Err.ensures.count c.in-Err.ensures.refused.0 c.in-Err.ensures.refused.1
 
-pub returns-clause-refused : goal.returns-clause-refused
-returns-clause-refused g c = λ w stands. stays c.args.self.now _ w stands c.in-Err.ensures.count c.in-Err.ensures.refused.0 c.in-Err.ensures.refused.1
-
-pub returns-clause-memory : goal.returns-clause-memory
-returns-clause-memory g c = λ w stands.
+pub returns-in-Err-clause-memory : goal.returns-in-Err-clause-memory
+returns-in-Err-clause-memory g c = λ w stands.
     let old = c.args.self.now in
     let s = c.args.site in
     let i = input_of c.args.input in
@@ -40,4 +28,4 @@ returns-clause-memory g c = λ w stands.
     ap (input_may_grow i) (answered w s one.site i
     (ap (λ l. slice_get l s) stands.sites ∙ one.there)
     (omega (arith, c.in_default.ensures.numbers, stands.carries.count)))
-    ∙ grows w.count s one.site i (ap (λ n. may_grow n s one.site i) stands.count ∙ c.in-Err.ensures.memory c.in-OutOfMemory.is one.site one.there)
+    ∙ grows w.count s one.site i (ap (λ n. may_grow n s one.site i) stands.count ∙ c.in-Err.ensures.memory one.site one.there)
