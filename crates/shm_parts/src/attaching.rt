@@ -35,9 +35,8 @@ impl<A: Allocator + Copy> Holdings<A> {
         let pages = (rounded(size) / PAGE_BYTES as u64) as u32;
         match store_pages(&mut self.entries, self.alloc, sites, me, id, pages) {
             Err(error) => Err(error),
-            Ok(()) => {
+            Ok(first) => {
                 let number = self.attachments.put(id, size, ro);
-                let first = self.entries.place_of(PageId { seg: id, index: 0 });
                 self.first_places.note(number, first);
                 Ok(number)
             }
@@ -60,7 +59,7 @@ impl<A: Allocator + Copy> Holdings<A> {
     }
 }
 
-/// Stores the entries of the segment's first pages.
+/// Stores the entries of the segment's first pages, and tells where the first page's stands, if there is one.
 fn store_pages<A: Allocator + Copy>(
     entries: &mut Entries<A>,
     alloc: A,
@@ -68,13 +67,17 @@ fn store_pages<A: Allocator + Copy>(
     me: SiteId,
     id: SegId,
     pages: u32,
-) -> Result<(), AllocError>
+) -> Result<Option<usize>, AllocError>
     ensures same { entries_of (untouched sites me) entries.new ≡ entries_of (untouched sites me) entries.old }
     ensures stored { OnOk result ((index : ℕ) → index < pages → is_stored entries.new (record { seg = id; index = index }) ≡ true) }
     ensures others { (other : Page) → is_stored entries.old other ≡ true → is_stored entries.new other ≡ true }
 {
+    let mut first = None;
     'pages: for index in 0..pages {
-        entries.ensure(alloc, sites, me, PageId { seg: id, index })?;
+        let place = entries.ensure(alloc, sites, me, PageId { seg: id, index })?;
+        if index == 0 {
+            first = Some(place);
+        }
     }
-    Ok(())
+    Ok(first)
 }

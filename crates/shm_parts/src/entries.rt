@@ -1,9 +1,7 @@
 //! What is done with the entries that a site has stored.
 ghost use Rattle.std.specs.Prelude.{◌≡◌, ℕ, ◌+◌, ◌<◌, ◌≤◌, ◌==◌, true, false, if◌then◌else◌, None, Some, option_copied, IfOk, IfErr, OnOk, OnErr};
 ghost use Rattle.shm_place.specs.declared.page.PageId.{PageId as Page};
-ghost use Rattle.indexmap.specs.IndexMap.{index_of_by};
 ghost use Rattle.shm_place.specs.Limits.{page_bytes, pages};
-ghost use Rattle.shm_place.specs.Page.{same_page};
 ghost use Rattle.shm_model.specs.Access.{stored_entry};
 ghost use Rattle.shm_model.specs.Entry as model;
 ghost use Rattle.shm_model.specs.Basics.{at_page};
@@ -47,13 +45,6 @@ impl<A: Allocator + Copy> Entries<A> {
         ensures { option_copied result ≡ stored_at self.now page }
     {
         self.map.get(&page)
-    }
-
-    /// Where the page's entry stands among those that are stored, if one is.
-    pub(crate) fn place_of(&self, page: PageId) -> Option<usize>
-        ensures { result ≡ index_of_by (same_page page) self.now.map }
-    {
-        self.map.get_index_of(&page)
     }
 
     /// The page's entry, if one is stored: as [`Entries::get`] tells it, and sooner where it stands at this place.
