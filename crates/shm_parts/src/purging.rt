@@ -1,5 +1,5 @@
 //! Destroyed segments, of which nothing is held any more.
-ghost use Rattle.std.specs.Prelude.{◌≡◌, ℕ, not, true, if◌then◌else◌, IfOk, OnErr};
+ghost use Rattle.std.specs.Prelude.{◌≡◌, ◌<◌, ℕ, [], not, false, true, if◌then◌else◌, IfOk, OnErr};
 ghost use Rattle.shm_model.specs.Basics.{at};
 ghost use Rattle.shm_model.specs.Entry.{Nil};
 ghost use Rattle.shm_model.specs.SegmentCalls.{frames_without, of_segment};
@@ -10,6 +10,8 @@ ghost use Rattle.shm_parts.specs.Purged.{purged_of};
 
 use crate::frames::Frames;
 use crate::holdings::Holdings;
+use crate::message::Envelope;
+use crate::outbox::Outbox;
 use shm_place::SegId;
 use std::alloc::{AllocError, Allocator};
 
@@ -21,8 +23,13 @@ impl<A: Allocator + Copy> Holdings<A> {
         self.purged.contains(id)
     }
 
-    /// Gives up what is held of a destroyed segment, and notes it as purged, unless an attachment names it. Tells whether it did.
-    pub fn purge(&mut self, id: SegId) -> Result<bool, AllocError>
+    /// Gives up what is held of a destroyed segment, and notes it as purged, unless an attachment names it. Tells whether it did. Room
+    /// is made for that note and for one envelope; where an attachment names the segment, none.
+    pub fn purge<O: Outbox<Envelope<A>>>(
+        &mut self,
+        id: SegId,
+        outbox: &mut O,
+    ) -> Result<bool, AllocError>
         ensures unnamed { IfOk result (λ done. (site : Site) → done ≡ not (is_attached (with_attachments (attachments_of self.old.attachments) site) id)) }
         ensures after { IfOk result (λ done. (sites me : ℕ) → (site : Site) → with_holdings sites me self.new site
             ≡ (if done then record (with_holdings sites me self.old site) {
@@ -32,10 +39,14 @@ impl<A: Allocator + Copy> Holdings<A> {
             }
             else with_holdings sites me self.old site)) }
         ensures refused { OnErr result ((sites me : ℕ) → (site : Site) → with_holdings sites me self.new site ≡ with_holdings sites me self.old site) }
+        ensures spends { OnErr result ((site : Site) → is_attached (with_attachments (attachments_of self.old.attachments) site) id ≡ false) }
+        ensures room { IfOk result (λ done. done ≡ true → 0 < O.room outbox.new) }
+        ensures same { O.posted outbox.old outbox.new [] }
     {
         if self.attachments.names(id) {
             return Ok(false);
         }
+        outbox.reserve(1)?;
         match self.purged.insert(id) {
             Err(error) => Err(error),
             Ok(()) => {

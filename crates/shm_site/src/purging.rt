@@ -20,8 +20,7 @@ impl<A: Allocator + Copy> Site<A> {
             (on_purge self.old.sites self.old.me id (site_of self.old))) }
         ensures refused { OnErr result (Unchanged O.posted self.old self.new outbox.old outbox.new) }
     {
-        outbox.reserve(1)?;
-        if !self.holdings.purge(id)? {
+        if !self.holdings.purge(id, outbox)? {
             return Ok(Answer::Dropped);
         }
         self.books.remove_segment(id);
