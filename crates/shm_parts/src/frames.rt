@@ -58,10 +58,12 @@ impl<A: Allocator + Copy> Frames<A> {
         self.awaited = None;
     }
 
-    /// A copy that came, for which room was made, goes last among the copies; what is no copy any more leaves them.
-    pub fn arrange(&mut self, page: PageId, change: Change)
+    /// A copy that came, for which room was made, goes last among the copies; what is no copy any more leaves them. Room that was made
+    /// and not used is given up.
+    pub(crate) fn arrange(&mut self, page: PageId, change: Change)
         requires { installs change ≡ true → has_room page self.old }
-        ensures { frames_of self.new ≡ record (frames_of self.old) { copies = arranged_by change page (frames_of self.old).copies } }
+        ensures arranged { frames_of self.new ≡ record (frames_of self.old) { copies = arranged_by change page (frames_of self.old).copies } }
+        ensures none { self.new.awaited ≡ None }
     {
         if change.installs() {
             self.pages.move_last(&page);
@@ -76,10 +78,10 @@ impl<A: Allocator + Copy> Frames<A> {
 
     /// Takes the first copy out where there are more than there may be.
     #[tactic(auto, unfolding(crate::specs::Frames::copies_in))]
-    pub fn overflow(&mut self) -> Option<PageId>
+    pub(crate) fn overflow(&mut self) -> Option<PageId>
+        requires { self.old.awaited ≡ None }
         ensures { (result, frames_of self.new) ≡ overflowed (frames_of self.old) }
     {
-        self.let_go();
         if self.pages.len() <= self.limit as usize {
             return None;
         }
