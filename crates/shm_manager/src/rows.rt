@@ -1,5 +1,5 @@
 //! What a manager does at each message, and what it sends again at a tick.
-ghost use Rattle.std.specs.Prelude.{◌≡◌, ◌<◌, ◌==◌, false, [], ◌∷◌, length, Some, IfOk, IfNone, OnErr};
+ghost use Rattle.std.specs.Prelude.{◌≡◌, ◌<◌, ◌≤◌, ◌==◌, false, [], ◌∷◌, length, Some, IfOk, IfNone, IfSome, OnErr};
 ghost use Rattle.shm_number.specs.Served.{served_of};
 ghost use Rattle.shm_model.specs.Book as model;
 ghost use Rattle.shm_model.specs.declared.kind.Kind.{Kind};
@@ -113,6 +113,7 @@ impl<A: Allocator> Book<A> {
         requires { from < 16 }
         ensures row { row_of result (book_of self.new) ≡ model.on_cleared from number (book_of self.old) }
         ensures ignored { IfNone result (book_of self.new ≡ book_of self.old) }
+        ensures one { IfSome result (λ orders. length (orders_of orders) ≤ 1) }
     {
         let Some((kind, requester)) = self.running else {
             return None;
@@ -129,7 +130,9 @@ impl<A: Allocator> Book<A> {
 
     fn hand_if_cleared(&self, kind: Kind, requester: SiteId) -> Orders
         requires { self.now.running ≡ Some (kind, requester) }
-        ensures { orders_of result ≡ model.hand_if_cleared (book_of self.now) (run_of kind requester) (model.awaited (book_of self.now) (run_of kind requester)) }
+        ensures orders { orders_of result
+            ≡ model.hand_if_cleared (book_of self.now) (run_of kind requester) (model.awaited (book_of self.now) (run_of kind requester)) }
+        ensures one { length (orders_of result) ≤ 1 }
     {
         if self.awaited(kind, requester).is_empty() {
             return self.hand(kind, requester);

@@ -23,7 +23,8 @@ use Rattle.shm_parts.specs.declared.outcome.Outcome.{Outcome}
 use Rattle.shm_parts.specs.declared.outcome.Outcome.TheVariants as outcome
 use Rattle.shm_manager.specs.Orders.{orders_of}
 use Rattle.shm_manager.specs.declared.orders.Orders.{Orders}
-use Rattle.shm_parts.specs.Books.{IsSettled, book_or, booked_step, given_by, viewed}
+use Rattle.shm_manager.proofs.Members.{orders-few}
+use Rattle.shm_parts.specs.Books.{HasRoom, IsSettled, book_or, booked_step, given_by, viewed}
 
 -- pages with the same segment and index are the same
 pub page-same : (p q : PageId) → same_page p q ≡ true → p ≡ q
@@ -306,6 +307,12 @@ put_back rest old new page b found put = fun_ext (λ q. ap (book_or rest) (put q
     by : (q : PageId) (same : Bool) → same_page page q ≡ same → cond same (Some b) (lookup (same_page q) old) ≡ lookup (same_page q) old
     by q true same = sym found ∙ ap (λ (p : PageId). lookup (same_page p) old) (page-same page q same)
     by q false same = refl
+
+-- room for as many orders as there may be is room for all
+pub room_for_all : (outcome : Outcome) (room : ℕ) → 16 ≤ room → HasRoom outcome room
+room_for_all outcome.Ignored room much = omega arith
+room_for_all outcome.UsedUp room much = omega arith
+room_for_all (outcome.Taken number orders) room much = omega (arith, orders-few orders, much)
 
 -- what holds anyway holds where there is an error
 pub where_refused : {T E P : Type 0} (r : Result T E) → P → OnErr r P

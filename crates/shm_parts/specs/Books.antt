@@ -56,9 +56,9 @@ abbrev pub orders_in : Outcome → List model.Order
 orders_in (outcome.Taken number orders) = orders_of orders
 orders_in _ = []
 
--- there is room for as many orders as there may be, if any go out
+-- there is room for all that goes out
 abbrev pub HasRoom : Outcome → ℕ → Type 0
-HasRoom outcome room = (length (orders_in outcome) == 0) ≡ false → 16 ≤ room
+HasRoom outcome room = length (orders_in outcome) ≤ room
 
 -- the row that an outcome tells of, with the book after it
 abbrev pub given_by : Outcome → model.Book → model.Outcome

@@ -1,8 +1,9 @@
 //! A row of one book's table, and what became of its message.
-ghost use Rattle.std.specs.Prelude.{◌≡◌, ◌<◌, true, is_some, IfNone};
+ghost use Rattle.std.specs.Prelude.{◌≡◌, ◌<◌, ◌≤◌, ℕ, true, length, is_some, IfNone, IfSome};
 ghost use Rattle.shm_manager.specs.Book.{book_of, due_of, row_of};
+ghost use Rattle.shm_manager.specs.Orders.{orders_of};
 ghost use Rattle.shm_model.specs.Book as model;
-ghost use Rattle.shm_parts.specs.Books.{given_by, IsSettled};
+ghost use Rattle.shm_parts.specs.Books.{given_by, orders_in, IsSettled};
 
 use crate::outcome::Outcome;
 use shm_manager::{Book, Due, Kind, Orders};
@@ -12,6 +13,7 @@ use std::alloc::Allocator;
 fn outcome_of(answer: Option<Orders>, number: u64) -> Outcome
     ensures row { (after : model.Book) → given_by result after ≡ row_of answer after }
     ensures settled { (old new : model.Book) → IfNone answer (new ≡ old) → number ≡ new.number → IsSettled result old new }
+    ensures few { (n : ℕ) → IfSome answer (λ orders. length (orders_of orders) ≤ n) → length (orders_in result) ≤ n }
 {
     match answer {
         None => Outcome::Ignored,
@@ -43,6 +45,7 @@ pub(crate) fn cleared_in<A: Allocator>(book: &mut Book<A>, from: SiteId, number:
     requires { from < 16 }
     ensures row { given_by result (book_of book.new) ≡ model.on_cleared from number (book_of book.old) }
     ensures settled { IsSettled result (book_of book.old) (book_of book.new) }
+    ensures one { length (orders_in result) ≤ 1 }
     ensures idle { is_some (book_of book.new).running ≡ true → is_some (book_of book.old).running ≡ true }
 {
     let answer = book.cleared(from, number);

@@ -1,5 +1,5 @@
 //! What a manager's books do at each message, at a restart and at a purge.
-ghost use Rattle.std.specs.Prelude.{◌≡◌, ℕ, ◌<◌, ◌==◌, true, cond, [], None, option_copied, IfNone, IfOk, IfSome, OnErr};
+ghost use Rattle.std.specs.Prelude.{◌≡◌, ℕ, ◌<◌, ◌≤◌, ◌==◌, true, cond, [], length, None, option_copied, IfNone, IfOk, IfSome, OnErr};
 ghost use Rattle.shm_parts.specs.Booked.{IsBooked};
 ghost use Rattle.std.specs.Map.{lookup};
 ghost use Rattle.shm_place.specs.declared.page.PageId.{PageId as Page};
@@ -32,7 +32,7 @@ pub struct Books<A: Allocator + Copy = Global> {
 }
 
 impl<A: Allocator + Copy> Books<A> {
-    ghost use Rattle.shm_parts.specs.Books.{book_or, booked_after, booked_of, booked_step, books_of, with_books, AllIdle, HasRoom, IsNextRunning};
+    ghost use Rattle.shm_parts.specs.Books.{book_or, booked_after, booked_of, booked_step, books_of, orders_in, with_books, AllIdle, HasRoom, IsNextRunning};
 
     /// No page was asked for.
     pub fn new(alloc: A) -> Books<A>
@@ -63,7 +63,8 @@ impl<A: Allocator + Copy> Books<A> {
             → to_book me page (model.on_ask from request kind (books_of me self.old page)) (with_books me self.old site)
             ≡ booked_step me page outcome (with_books me self.new site)) }
         ensures refused { OnErr result (((me : ℕ) → books_of me self.new ≡ books_of me self.old) × (booked_of self.new ≡ booked_of self.old)) }
-        ensures starts { OnErr result (starts (due_of (model.on_ask from request kind (books_of me self.old page)) (books_of me self.old page).running) ≡ true) }
+        ensures starts { OnErr result (starts (due_of (model.on_ask from request kind (books_of me self.old page))
+            (books_of me self.old page).running) ≡ true) }
         ensures room { IfOk result (λ outcome. HasRoom outcome (O.room outbox.new)) }
         ensures same { O.posted outbox.old outbox.new [] }
     {
@@ -116,8 +117,9 @@ impl<A: Allocator + Copy> Books<A> {
     /// A site has given up its copy of the page.
     pub fn cleared(&mut self, page: PageId, from: SiteId, number: u64) -> Outcome
         requires { from < 16 }
-        ensures { (me : ℕ) (site : Site) → to_book me page (model.on_cleared from number (books_of me self.old page)) (with_books me self.old site)
+        ensures step { (me : ℕ) (site : Site) → to_book me page (model.on_cleared from number (books_of me self.old page)) (with_books me self.old site)
             ≡ booked_step me page result (with_books me self.new site) }
+        ensures one { length (orders_in result) ≤ 1 }
     {
         match self.map.get_mut(&page) {
             None => Outcome::Ignored,

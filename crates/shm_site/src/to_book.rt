@@ -29,7 +29,8 @@ impl<A: Allocator + Copy> Site<A> {
         requires { from < 16 }
         ensures step { IfOk result (λ answer. StepsTo O.posted self.old self.new outbox.old outbox.new answer
             (on_note self.old.sites self.old.me from page.now (book_note_of told.now) (site_of self.old))) }
-        ensures memory { OnErr result (is_refused (on_note self.old.sites self.old.me from page.now (book_note_of told.now) (site_of self.old)).answer ≡ false) }
+        ensures memory { OnErr result (is_refused
+            (on_note self.old.sites self.old.me from page.now (book_note_of told.now) (site_of self.old)).answer ≡ false) }
         ensures refused { OnErr result (Unchanged O.posted self.old self.new outbox.old outbox.new) }
     {
         match told {
@@ -61,7 +62,7 @@ impl<A: Allocator + Copy> Site<A> {
         Ok(answer_row(self.me, page, outcome, outbox))
     }
 
-    /// A site has given up its copy of the page.
+    /// A site has given up its copy of the page. After the last one a Hand may go out.
     fn on_cleared<O: Outbox<Envelope<A>>>(
         &mut self,
         page: &PageId,
@@ -74,7 +75,7 @@ impl<A: Allocator + Copy> Site<A> {
             (to_book self.old.me page.now (book.on_cleared from number ((site_of self.old).books page.now)) (site_of self.old))) }
         ensures refused { OnErr result (Unchanged O.posted self.old self.new outbox.old outbox.new) }
     {
-        outbox.reserve(MOST_ORDERS)?;
+        outbox.reserve(1)?;
         let outcome = self.books.cleared(*page, from, number);
         Ok(answer_row(self.me, page, outcome, outbox))
     }

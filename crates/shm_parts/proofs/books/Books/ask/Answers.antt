@@ -3,7 +3,7 @@ use Rattle.shm_model.specs.Book as model
 use Rattle.shm_parts.specs.Booked.{book_or}
 use Rattle.shm_parts.specs.Books.{booked_of}
 use Rattle.shm_parts.specs.Bookings.{listed_of}
-use Rattle.shm_parts.proofs.BookSteps.{present_step, put_back, where_refused}
+use Rattle.shm_parts.proofs.BookSteps.{present_step, put_back, room_for_all, where_refused}
 use Rattle.shm_parts.proofs.BookedLemmas.{any_booked, booked_put, booked_there}
 use Rattle.shm_parts.proofs.books.Books.ask.Goals as goal
 
@@ -70,3 +70,6 @@ returns-clause-step g c = λ site.
     present_step c.args.me c.args.page (model.on_ask c.args.from c.args.request c.args.kind) c.ask_in-2.result old.map.entries (c.get_mut.follows.lender next).entries (booked_of old) (listed_of c.mark.new.self)
     c.in-Some.book.now next site found c.ask_in-2.ensures.row c.ask_in-2.ensures.settled (written.3 (ap is_some found)).0 c.mark.ensures.listed
     (any_booked old.map.entries old.bookings c.args.page old.booked ∙ ap is_some found)
+
+pub returns-clause-room : goal.returns-clause-room
+returns-clause-room g c = room_for_all c.ask_in-2.result (g.O.Outbox.room c.reserve.new.self) c.in_ok-reserve.ensures.room

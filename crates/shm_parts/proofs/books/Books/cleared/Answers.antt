@@ -5,8 +5,8 @@ use Rattle.shm_parts.proofs.BookSteps.{present_step}
 use Rattle.shm_parts.proofs.BookedLemmas.{any_booked}
 use Rattle.shm_parts.proofs.books.Books.cleared.Goals as goal
 
-pub returns-in-Some : goal.returns-in-Some
-returns-in-Some g c = λ me site.
+pub returns-in-Some-clause-step : goal.returns-in-Some-clause-step
+returns-in-Some-clause-step g c = λ me site.
     let old = c.args.self.now in
     let written = c.get_mut.follows.holds c.cleared_in.new.book in
     let found = sym c.in-Some.ensures.value in

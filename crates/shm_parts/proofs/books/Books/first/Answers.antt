@@ -4,7 +4,7 @@ use Rattle.shm_manager.specs.Book.{book_of}
 use Rattle.shm_place.specs.Page.{same_page}
 use Rattle.shm_parts.specs.Books.{booked_of}
 use Rattle.shm_parts.specs.Bookings.{listed_of}
-use Rattle.shm_parts.proofs.BookSteps.{absent_step, first_due, first_starts, where_refused}
+use Rattle.shm_parts.proofs.BookSteps.{absent_step, first_due, first_starts, room_for_all, where_refused}
 use Rattle.shm_parts.proofs.BookedLemmas.{any_booked, booked_same}
 use Rattle.shm_parts.proofs.books.Books.first.Goals as goal
 
@@ -38,3 +38,6 @@ returns-in_err-book-clause-fresh g c = where_refused c.from_residual-in_err-book
 
 pub returns-in_err-add-clause-fresh : goal.returns-in_err-add-clause-fresh
 returns-in_err-add-clause-fresh g c = where_refused c.from_residual-in_err-add.result (first_starts c.args.me c.args.from c.args.request c.args.kind c.of_first-due.result (c.of_first-due.ensures c.args.me c.args.from c.args.kind) (sym c.starts.ensures ∙ c.if-not-starts.false))
+
+pub returns-clause-room : goal.returns-clause-room
+returns-clause-room g c = room_for_all c.ask_in-outcome.result (g.O.Outbox.room c.reserve.new.self) c.in_ok-reserve.ensures.room
