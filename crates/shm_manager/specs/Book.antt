@@ -1,5 +1,5 @@
 -- What shm_model sees of a book, and of what a call answers.
-use Rattle.std.specs.Prelude.{ℕ, Bool, true, false, List, [], ◌∷◌, ◌++◌, Option, Some, None, Result, Ok, Err}
+use Rattle.std.specs.Prelude.{ℕ, Bool, true, false, [], ◌∷◌, ◌++◌, Option, Some, None, Result, Ok, Err}
 use Rattle.shm_model.specs.declared.kind.Kind.{Kind}
 use Rattle.shm_model.specs.Book as model
 use Rattle.shm_number.specs.Served.{served_of}
@@ -63,3 +63,8 @@ due_of (model.Taken _ _) (Some _) = due.Waits
 abbrev pub starts : Due → Bool
 starts due.Starts = true
 starts _ = false
+
+-- nothing becomes of a message
+abbrev pub is_ignored : model.Outcome → Bool
+is_ignored model.Ignored = true
+is_ignored _ = false

@@ -146,14 +146,33 @@ impl<A: Allocator> Book<A> {
         ensures row { row_of result (book_of self.new) ≡ model.on_confirm from number (book_of self.old) }
         ensures ignored { IfNone result (book_of self.new ≡ book_of self.old) }
     {
+        let kind = self.ending(from, number)?;
+        Some(self.confirm_ending(kind, from))
+    }
+
+    /// What the transaction gives that a Confirm ends, if it ends the one that runs. Nothing is changed yet.
+    pub fn ending(&self, from: SiteId, number: u64) -> Option<Kind>
+        ensures runs { IfSome result (λ kind. (book_of self.now).running ≡ Some (run_of kind from)) }
+        ensures row { IfSome result (λ kind. model.on_confirm from number (book_of self.now)
+            ≡ model.serve_next (model.ended (run_of kind from) (book_of self.now))) }
+        ensures ignored { IfNone result (model.on_confirm from number (book_of self.now) ≡ model.Ignored) }
+    {
         let Some((kind, requester)) = self.running else {
             return None;
         };
         if number != self.number || from != requester {
             return None;
         }
+        Some(kind)
+    }
+
+    /// What a Confirm does, where it was found out before that it ends the transaction.
+    pub fn confirm_ending(&mut self, kind: Kind, from: SiteId) -> Orders
+        requires { from < 16 }
+        ensures { model.Taken (book_of self.new) (orders_of result) ≡ model.serve_next (model.ended (run_of kind from) (book_of self.old)) }
+    {
         self.end(kind, from);
-        Some(self.serve_next())
+        self.serve_next()
     }
 
     fn end(&mut self, kind: Kind, requester: SiteId)

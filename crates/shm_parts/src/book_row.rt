@@ -1,6 +1,6 @@
 //! A row of one book's table, and what became of its message.
 ghost use Rattle.std.specs.Prelude.{◌≡◌, ◌<◌, ◌≤◌, ℕ, true, length, is_some, IfNone, IfSome};
-ghost use Rattle.shm_manager.specs.Book.{book_of, due_of, row_of};
+ghost use Rattle.shm_manager.specs.Book.{book_of, due_of, row_of, run_of};
 ghost use Rattle.shm_manager.specs.Orders.{orders_of};
 ghost use Rattle.shm_model.specs.Book as model;
 ghost use Rattle.shm_parts.specs.Books.{given_by, orders_in, IsSettled};
@@ -52,15 +52,17 @@ pub(crate) fn cleared_in<A: Allocator>(book: &mut Book<A>, from: SiteId, number:
     outcome_of(answer, book.number())
 }
 
-/// A site has what it asked for.
-pub(crate) fn confirm_in<A: Allocator>(book: &mut Book<A>, from: SiteId, number: u64) -> Outcome
+/// A site has what it asked for, of which was found out before that it ends the transaction.
+pub(crate) fn confirm_in<A: Allocator>(book: &mut Book<A>, kind: Kind, from: SiteId) -> Outcome
     requires { from < 16 }
-    ensures row { given_by result (book_of book.new) ≡ model.on_confirm from number (book_of book.old) }
+    ensures row { given_by result (book_of book.new) ≡ model.serve_next (model.ended (run_of kind from) (book_of book.old)) }
     ensures settled { IsSettled result (book_of book.old) (book_of book.new) }
-    ensures idle { is_some (book_of book.new).running ≡ true → is_some (book_of book.old).running ≡ true }
 {
-    let answer = book.confirm(from, number);
-    outcome_of(answer, book.number())
+    let orders = book.confirm_ending(kind, from);
+    Outcome::Taken {
+        number: book.number(),
+        orders,
+    }
 }
 
 /// Whether a transaction of the book runs.

@@ -1,10 +1,10 @@
 //! What a manager's books do at each message, at a restart and at a purge.
-ghost use Rattle.std.specs.Prelude.{◌≡◌, ℕ, ◌<◌, ◌≤◌, ◌==◌, true, cond, [], length, None, option_copied, IfNone, IfOk, IfSome, OnErr};
+ghost use Rattle.std.specs.Prelude.{◌≡◌, ℕ, ◌<◌, ◌≤◌, ◌==◌, false, true, cond, [], length, None, option_copied, IfNone, IfOk, IfSome, OnErr};
 ghost use Rattle.shm_parts.specs.Booked.{IsBooked};
 ghost use Rattle.std.specs.Map.{lookup};
 ghost use Rattle.shm_place.specs.declared.page.PageId.{PageId as Page};
 ghost use Rattle.shm_place.specs.Page.{same_page};
-ghost use Rattle.shm_manager.specs.Book.{book_of, due_of, starts};
+ghost use Rattle.shm_manager.specs.Book.{book_of, due_of, is_ignored, starts};
 ghost use Rattle.shm_model.specs.Book as model;
 ghost use Rattle.shm_model.specs.SegmentCalls.{of_segment, without_segment};
 ghost use Rattle.shm_model.specs.Site.{Site};
@@ -127,22 +127,35 @@ impl<A: Allocator + Copy> Books<A> {
         }
     }
 
-    /// A site has what it asked for. Where that is ignored the page's mark stays as it is.
-    pub fn confirm(&mut self, page: PageId, from: SiteId, number: u64) -> Outcome
+    /// A site has what it asked for. Where that ends the transaction that runs it takes memory: room for the orders of the next. Where
+    /// that is refused nothing changes. Where the Confirm is ignored the page's mark stays as it is.
+    pub fn confirm<O: Outbox<Envelope<A>>>(
+        &mut self,
+        page: PageId,
+        from: SiteId,
+        number: u64,
+        outbox: &mut O,
+    ) -> Result<Outcome, AllocError>
         requires { from < 16 }
-        ensures { (me : ℕ) (site : Site) → to_book me page (model.on_confirm from number (books_of me self.old page)) (with_books me self.old site)
-            ≡ booked_step me page result (with_books me self.new site) }
+        ensures step { IfOk result (λ outcome. (me : ℕ) (site : Site)
+            → to_book me page (model.on_confirm from number (books_of me self.old page)) (with_books me self.old site)
+            ≡ booked_step me page outcome (with_books me self.new site)) }
+        ensures refused { OnErr result (((me : ℕ) → books_of me self.new ≡ books_of me self.old) × (booked_of self.new ≡ booked_of self.old)) }
+        ensures ends { OnErr result ((me : ℕ) → is_ignored (model.on_confirm from number (books_of me self.old page)) ≡ false) }
+        ensures room { IfOk result (λ outcome. HasRoom outcome (O.room outbox.new)) }
+        ensures same { O.posted outbox.old outbox.new [] }
     {
         let Some(book) = self.map.get_mut(&page) else {
-            return Outcome::Ignored;
+            return Ok(Outcome::Ignored);
         };
-        let outcome = confirm_in(book, from, number);
-        if matches!(outcome, Outcome::Ignored) {
-            return outcome;
-        }
+        let Some(kind) = book.ending(from, number) else {
+            return Ok(Outcome::Ignored);
+        };
+        outbox.reserve(MOST_ORDERS)?;
+        let outcome = confirm_in(book, kind, from);
         let runs = runs(book);
         self.bookings.settle(&page, runs);
-        outcome
+        Ok(outcome)
     }
 
     /// What a restart of the manager loses of each book.

@@ -1,12 +1,15 @@
 -- Steps of a site, and what they post.
-use Rattle.std.proofs.Common.{◌≡◌, ◌∙◌, ℕ, List, [], ◌∷◌, ◌++◌, Option, None, Some, Result, Ok, Err, IfOk, refl}
+use Rattle.std.proofs.Common.{◌≡◌, ◌∙◌, ℕ, List, [], ◌∷◌, ◌++◌, Option, None, Some, Result, Ok, Err, IfOk, ap, refl}
 use Rattle.std.specs.Result.{OnErr}
 use Rattle.shm_model.specs.declared.answer.Answer.{Answer}
 use Rattle.shm_model.specs.Site.{Step}
+use Rattle.shm_model.specs.Book as book
 use Rattle.shm_model.specs.Site as model
 use Rattle.shm_place.specs.declared.page.PageId.{PageId}
+use Rattle.shm_parts.specs.Books.{booked_of, books_of, with_books}
 use Rattle.shm_parts.specs.Holdings.{turned_step, with_holdings}
 use Rattle.shm_parts.specs.Message.{envelope_of}
+use Rattle.shm_parts.specs.declared.books.Books.{Books}
 use Rattle.shm_parts.specs.declared.change.Change.{Change}
 use Rattle.shm_parts.specs.declared.holdings.Holdings.{Holdings}
 use Rattle.shm_parts.specs.declared.message.Envelope.{Envelope}
@@ -46,6 +49,11 @@ if_steps posted old mid new before after first then (Ok answer) same steps seat 
   seat = (steps.seat.0 ∙ seat.0, steps.seat.1 ∙ seat.1);
 }
 if_steps posted old mid new before after first then (Err e) same steps seat = tt
+
+-- a site whose books are as they were
+pub books_back : {A : Type 0} (me : ℕ) (old new : Books A) (site : model.Site) → ((me : ℕ) → books_of me new ≡ books_of me old) → booked_of new ≡ booked_of old → with_books me new site ≡ with_books me old site
+books_back me old new site books booked =
+    ap (λ (bs : PageId → book.Book). record site { books = bs; booked = booked_of new }) (books me) ∙ ap (λ (ps : List PageId). record site { books = books_of me old; booked = ps }) booked
 
 -- of a result that is an error, what holds anyway
 pub on_err : {T E P : Type 0} (r : Result T E) → P → OnErr r P

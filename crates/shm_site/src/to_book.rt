@@ -10,7 +10,6 @@ ghost use Rattle.shm_site.specs.Step.{is_refused};
 
 use crate::sending::send_orders;
 use crate::site::Site;
-use shm_manager::MOST_ORDERS;
 use shm_model::refusal::NUMBERS_USED_UP;
 use shm_model::{Answer, Kind};
 use shm_parts::{BookNote, Envelope, Outbox, Outcome};
@@ -80,7 +79,7 @@ impl<A: Allocator + Copy> Site<A> {
         Ok(answer_row(self.me, page, outcome, outbox))
     }
 
-    /// A site has what it asked for.
+    /// A site has what it asked for. A Confirm that ends no transaction takes no memory.
     fn on_confirm<O: Outbox<Envelope<A>>>(
         &mut self,
         page: &PageId,
@@ -93,8 +92,7 @@ impl<A: Allocator + Copy> Site<A> {
             (to_book self.old.me page.now (book.on_confirm from number ((site_of self.old).books page.now)) (site_of self.old))) }
         ensures refused { OnErr result (Unchanged O.posted self.old self.new outbox.old outbox.new) }
     {
-        outbox.reserve(MOST_ORDERS)?;
-        let outcome = self.books.confirm(*page, from, number);
+        let outcome = self.books.confirm(*page, from, number, outbox)?;
         Ok(answer_row(self.me, page, outcome, outbox))
     }
 }

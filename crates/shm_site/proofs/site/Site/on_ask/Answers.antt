@@ -1,14 +1,14 @@
-use Rattle.std.proofs.Common.{◌≡◌, ◌∙◌, ℕ, true, false, List, Option, ap, refl}
+use Rattle.std.proofs.Common.{◌≡◌, ℕ, true, false, Option, refl}
 use Rattle.std.proofs.lemmas.Bool.{false≢true}
 use Rattle.shm_place.specs.declared.page.PageId.{PageId}
 use Rattle.shm_manager.specs.Book.{due_of, starts}
 use Rattle.shm_model.specs.Book as book
 use Rattle.shm_model.specs.Site as model
 use Rattle.shm_model.specs.Transfer.{to_book}
-use Rattle.shm_parts.specs.Books.{booked_of, with_books}
+use Rattle.shm_parts.specs.Books.{with_books}
 use Rattle.shm_site.specs.Site.{site_of}
 use Rattle.shm_site.specs.Step.{is_refused}
-use Rattle.shm_site.proofs.Steps.{on_err, with_room}
+use Rattle.shm_site.proofs.Steps.{books_back, on_err, with_room}
 use Rattle.shm_site.proofs.site.Site.on_ask.Goals as goal
 
 -- an Ask that starts a transaction isn't refused
@@ -26,10 +26,7 @@ returns-in_err-outcome-clause-memory g c =
 pub returns-in_err-outcome-clause-refused : goal.returns-in_err-outcome-clause-refused
 returns-in_err-outcome-clause-refused g c =
     let old = c.args.self.now in
-    let site : model.Site = site_of old in
-    let same : with_books old.me c.ask.new.self site ≡ site =
-    ap (λ (books : PageId → book.Book). record site { books = books; booked = booked_of c.ask.new.self }) (c.in_err-outcome.ensures.refused.0 old.me)
-    ∙ ap (λ (booked : List PageId). record site { booked = booked }) c.in_err-outcome.ensures.refused.1 in
+    let same = books_back old.me old.books c.ask.new.self (site_of old) c.in_err-outcome.ensures.refused.0 c.in_err-outcome.ensures.refused.1 in
     on_err c.from_residual.result (record { site = same; behind = c.in_err-outcome.ensures.same; seat = (refl, refl) })
 
 pub returns-clause-step : goal.returns-clause-step
