@@ -1,8 +1,9 @@
 -- What shm_model sees of a home: its table of segments, and the last reply to each site.
-use Rattle.std.specs.Prelude.{◌≡◌, ℕ, List, [], ◌∷◌, Option, Some, None}
+use Rattle.std.specs.Prelude.{◌≡◌, ℕ, Bool, true, false, List, [], ◌∷◌, Option, Some, None}
 use Rattle.shm_model.specs.declared.answer.Answer.{Answer}
 use Rattle.shm_model.specs.declared.answer.Answer.TheVariants.{Took, Dropped}
 use Rattle.shm_model.specs.declared.call.Op.{Op}
+use Rattle.shm_model.specs.declared.call.Op.TheVariants.{Detach, Remove}
 use Rattle.shm_model.specs.declared.call.Reply.{Reply}
 use Rattle.shm_model.specs.declared.call.Reply.TheVariants.{Id}
 use Rattle.shm_model.specs.Calls.{Kept, Freshness, Fresh, Again, Old}
@@ -53,6 +54,12 @@ pub record IsRun (op : Op) (before after : Table) (done : Done) : Type 0 where
   pub missing : (id site : ℕ) → missing_of after id site ≡ missing_after done.destroyed before.sites (missing_of before) id site
   pub home : after.home ≡ before.home
   pub sites : after.sites ≡ before.sites
+
+-- the calls that can destroy a segment
+abbrev pub may_destroy : Op → Bool
+may_destroy (Detach _) = true
+may_destroy (Remove _ _) = true
+may_destroy _ = false
 
 -- the call would be answered by the identifier of a new segment
 abbrev pub MakesSegment : Op → Table → Type 0

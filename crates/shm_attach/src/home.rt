@@ -30,7 +30,7 @@ impl<A: Allocator + Copy> Home<A> {
     ghost use Rattle.shm_keys.specs.Purge.{is_above};
     ghost use Rattle.shm_place.specs.SiteSet.{has, has_none};
     ghost use Rattle.shm_keys.specs.Table.{IsNumbered, is_purged_from, missing_of};
-    ghost use Rattle.shm_attach.specs.Home.{MakesSegment, Serves, kept_of};
+    ghost use Rattle.shm_attach.specs.Home.{MakesSegment, Serves, kept_of, may_destroy};
 
     /// The home that keeps this table, before any call came.
     pub fn new(table: SegTable<A>) -> Home<A>
@@ -55,6 +55,7 @@ impl<A: Allocator + Copy> Home<A> {
         requires site { from < 16 }
         requires home { op_home self.old.table.sites from op ≡ self.old.table.home }
         ensures step { IfOk result (λ done. Serves from number op self.old self.new done) }
+        ensures spared { IfOk result (λ served. may_destroy op ≡ false → IfSome served (λ done. done.destroyed ≡ None)) }
         ensures home { self.new.table.home ≡ self.old.table.home }
         ensures sites { self.new.table.sites ≡ self.old.table.sites }
         ensures refused { OnErr result (self.new ≡ self.old) }
@@ -76,6 +77,7 @@ impl<A: Allocator + Copy> Home<A> {
         requires home { op_home self.old.table.sites from op ≡ self.old.table.home }
         requires fresh { Fresh ≡ freshness (kept_of self.old.kept from) number }
         ensures step { IfOk result (λ done. Serves from number op self.old self.new done) }
+        ensures spared { IfOk result (λ served. may_destroy op ≡ false → IfSome served (λ done. done.destroyed ≡ None)) }
         ensures home { self.new.table.home ≡ self.old.table.home }
         ensures sites { self.new.table.sites ≡ self.old.table.sites }
         ensures refused { OnErr result (self.new ≡ self.old) }

@@ -1,9 +1,9 @@
 //! One call on a home's table, with what it destroys.
-ghost use Rattle.std.specs.Prelude.{◌≡◌, IfOk, IfSome, OnErr};
+ghost use Rattle.std.specs.Prelude.{◌≡◌, false, IfOk, IfSome, OnErr};
 ghost use Rattle.shm_model.specs.Kernel.{named_by};
 ghost use Rattle.shm_model.specs.declared.call.Op.TheVariants.{Get as GetOp, Attach as AttachOp, Detach as DetachOp, Remove as RemoveOp, Set as SetOp, Stat as StatOp};
 ghost use Rattle.shm_place.specs.Home.{home_of_id};
-ghost use Rattle.shm_attach.specs.Home.{IsRun, MakesSegment};
+ghost use Rattle.shm_attach.specs.Home.{IsRun, MakesSegment, may_destroy};
 
 use crate::done::Done;
 use shm_keys::{GetFault, SegTable};
@@ -18,6 +18,7 @@ pub(crate) fn execute<A: Allocator + Copy>(
 ) -> Result<Done, AllocError>
     requires { IfSome (named_by op) (λ id. home_of_id table.old.sites id ≡ table.old.home) }
     ensures run { IfOk result (λ done. IsRun op table.old table.new done) }
+    ensures spared { IfOk result (λ done. may_destroy op ≡ false → done.destroyed ≡ None) }
     ensures refused { OnErr result (table.new ≡ table.old) }
     ensures memory { OnErr result (MakesSegment op table.old) }
 {
@@ -52,6 +53,7 @@ fn get<A: Allocator + Copy>(
     flags: GetFlags,
 ) -> Result<Done, AllocError>
     ensures run { IfOk result (λ done. IsRun (GetOp cred key size mode flags) table.old table.new done) }
+    ensures spared { IfOk result (λ done. done.destroyed ≡ None) }
     ensures refused { OnErr result (table.new ≡ table.old) }
     ensures memory { OnErr result (MakesSegment (GetOp cred key size mode flags) table.old) }
 {
@@ -64,7 +66,8 @@ fn get<A: Allocator + Copy>(
 
 fn attach<A: Allocator + Copy>(table: &mut SegTable<A>, cred: Cred, id: SegId, ro: bool) -> Done
     requires { home_of_id table.old.sites id ≡ table.old.home }
-    ensures { IsRun (AttachOp cred id ro) table.old table.new result }
+    ensures run { IsRun (AttachOp cred id ro) table.old table.new result }
+    ensures spared { result.destroyed ≡ None }
 {
     match table.attach(cred, id, ro) {
         Ok(attached) => reply_alone(Reply::Attached(attached)),
@@ -107,7 +110,8 @@ fn set<A: Allocator + Copy>(
     mode: Mode,
 ) -> Done
     requires { home_of_id table.old.sites id ≡ table.old.home }
-    ensures { IsRun (SetOp cred id uid gid mode) table.old table.new result }
+    ensures run { IsRun (SetOp cred id uid gid mode) table.old table.new result }
+    ensures spared { result.destroyed ≡ None }
 {
     match table.set(cred, id, uid, gid, mode) {
         Ok(()) => reply_alone(Reply::Ok),
@@ -117,7 +121,8 @@ fn set<A: Allocator + Copy>(
 
 fn stat<A: Allocator + Copy>(table: &SegTable<A>, cred: Cred, id: SegId) -> Done
     requires { home_of_id table.now.sites id ≡ table.now.home }
-    ensures { IsRun (StatOp cred id) table.now table.now result }
+    ensures run { IsRun (StatOp cred id) table.now table.now result }
+    ensures spared { result.destroyed ≡ None }
 {
     match table.stat(cred, id) {
         Ok(stat) => reply_alone(Reply::Stat(stat)),

@@ -1,5 +1,6 @@
 -- The steps of segment calls and purges, out of what the parts of the site say.
-use Rattle.std.proofs.Common.{◌≡◌, ℕ, ◌+◌, sym, Bool, true, false, not, List, [], ◌∷◌, Option, Some, None, filter, map, ◌==◌, if◌then◌else◌, refl, ap, ◌∙◌}
+use Rattle.std.proofs.Common.{◌≡◌, ℕ, ◌+◌, ◌≤◌, sym, Bool, true, false, not, List, [], ◌∷◌, Option, Some, None, IfSome, filter, length, map, ◌==◌, if◌then◌else◌, refl, ap, arith, ◌∙◌}
+use Rattle.std.proofs.lemmas.List.FromFn.{length-map-range_with_len}
 use Rattle.shm_place.specs.Home.{home_of_id}
 use Rattle.shm_place.specs.declared.page.PageId.{PageId}
 use Rattle.shm_model.specs.declared.answer.Answer.{Answer}
@@ -15,9 +16,11 @@ use Rattle.shm_model.specs.Calls.{Attachment, op_home}
 use Rattle.shm_model.specs.Message.{Call, Purged}
 use Rattle.shm_model.specs.Message as message
 use Rattle.shm_model.specs.Refusal.{numbers_used_up}
-use Rattle.shm_model.specs.SegmentCalls.{attached, begin_detach, call_begun, frames_without, numbered, of_segment, on_purge, purged_site, replied, without_segment}
+use Rattle.shm_model.specs.SegmentCalls.{attached, begin_detach, call_begun, frames_without, numbered, of_segment, on_purge, purge_envelope, purged_site, purges, replied, without_segment}
 use Rattle.shm_attach.specs.Attachments.{segment_of}
+use Rattle.shm_attach.specs.declared.done.Done.{Done}
 use Rattle.shm_attach.specs.CallBook.{Calls, begun_as, number_after, with_calls}
+use Rattle.shm_attach.specs.Home.{sent_for}
 use Rattle.shm_parts.specs.Message.{envelope_of}
 use Rattle.shm_parts.specs.declared.message.Envelope.{Envelope}
 use Rattle.shm_site.specs.Site.{Makes, Told}
@@ -35,6 +38,19 @@ served {told = told} site is sends = record {
   behind = sends.behind;
   made = ap (step_of site told) (sym sends.meant) ∙ ap (λ (a : Answer). step_of site a (map envelope_of sends.sent)) (sym is);
 }
+
+most_purges : (sites me : ℕ) (gone : Option ℕ) → sites ≤ 16 → length (purges sites me gone) ≤ 16
+most_purges sites me None few = omega arith
+most_purges sites me (Some id) few = omega (arith, few, length-map-range_with_len (purge_envelope me id) 0 sites)
+
+-- what goes out for a call, where `may` says whether the call can destroy a segment
+pub most_told : (may : Bool) (sites me from number : ℕ) (served : Option Done) → sites ≤ 16 → (may ≡ false → IfSome served (λ done. done.destroyed ≡ None)) → length (sent_for sites me from number served) ≤ (if may then 17 else 1)
+most_told true sites me from number None few spared = omega arith
+most_told false sites me from number None few spared = omega arith
+most_told true sites me from number (Some done) few spared = omega (arith, most_purges sites me done.destroyed few)
+most_told false sites me from number (Some done) few spared =
+    let none : length (purges sites me done.destroyed) ≡ 0 = ap (λ (gone : Option ℕ). length (purges sites me gone)) (spared refl) in
+    omega (arith, none)
 
 -- ---- calling
 

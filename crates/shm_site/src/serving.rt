@@ -1,19 +1,19 @@
 //! Segment calls at their home: what is executed there, and what goes out for it.
-ghost use Rattle.std.specs.Prelude.{◌≡◌, ◌<◌, ◌≤◌, [], map, IfOk, OnErr};
+ghost use Rattle.std.specs.Prelude.{◌≡◌, ◌<◌, ◌≤◌, [], length, map, if◌then◌else◌, IfOk, OnErr};
 ghost use Rattle.std.specs.List.{range_with_len};
 ghost use Rattle.shm_model.specs.Calls.{op_home};
 ghost use Rattle.shm_model.specs.SegmentCalls.{on_call, on_purged, purge_envelope};
-ghost use Rattle.shm_attach.specs.Home.{answered, sent_for};
+ghost use Rattle.shm_attach.specs.Home.{answered, may_destroy, sent_for};
 ghost use Rattle.shm_site.specs.Site.{SameSeat, StepsTo, Told, Unchanged, site_of, stepped};
 
 use crate::site::Site;
 use shm_attach::Done;
 use shm_model::{Answer, Op};
 use shm_parts::{Envelope, Message, Outbox};
-use shm_place::{SegId, SiteId, Sites};
+use shm_place::{SegId, SiteId};
 use std::alloc::{AllocError, Allocator};
 
-/// How many envelopes a call has go out at most: its reply, and a purge to each of 16 sites.
+/// How many envelopes a call has go out at most that destroys a segment: its reply, and a purge to each of 16 sites.
 const MOST_FOR_A_CALL: usize = 17;
 
 impl<A: Allocator + Copy> Site<A> {
@@ -31,9 +31,9 @@ impl<A: Allocator + Copy> Site<A> {
             (on_call self.old.sites self.old.me from number op (site_of self.old))) }
         ensures refused { OnErr result (Unchanged O.posted self.old self.new outbox.old outbox.new) }
     {
-        outbox.reserve(MOST_FOR_A_CALL)?;
+        outbox.reserve(most_sent(&op))?;
         let served = self.home.serve(from, number, op)?;
-        Ok(tell(self.sites, self.me, from, number, served, outbox))
+        Ok(tell(self.sites.count(), self.me, from, number, served, outbox))
     }
 
     /// A site tells the home that it has purged the segment. It takes no memory.
@@ -49,16 +49,26 @@ impl<A: Allocator + Copy> Site<A> {
     }
 }
 
+/// How many envelopes this call has go out at most. Only a detach or a removal can destroy a segment.
+fn most_sent(op: &Op) -> usize
+    ensures { result ≡ (if may_destroy op.now then 17 else 1) }
+{
+    match op {
+        Op::Detach { .. } | Op::Remove { .. } => MOST_FOR_A_CALL,
+        Op::Get { .. } | Op::Attach { .. } | Op::Set { .. } | Op::Stat { .. } => 1,
+    }
+}
+
 /// Sends what a home tells of a call: the reply, and a purge to every site where the call destroyed a segment.
 fn tell<A: Allocator + Copy, O: Outbox<Envelope<A>>>(
-    sites: Sites,
+    sites: u32,
     me: SiteId,
     from: SiteId,
     number: u64,
     served: Option<Done>,
     outbox: &mut O,
 ) -> Answer
-    requires room { MOST_FOR_A_CALL ≤ O.room outbox.old }
+    requires room { length (sent_for sites me from number served) ≤ O.room outbox.old }
     ensures answer { result ≡ answered served }
     ensures sent { Told O.posted outbox.old outbox.new (sent_for sites me from number served) }
 {
@@ -84,15 +94,15 @@ fn tell<A: Allocator + Copy, O: Outbox<Envelope<A>>>(
 
 /// Tells every site to purge the segment.
 fn send_purges<A: Allocator + Copy, O: Outbox<Envelope<A>>>(
-    sites: Sites,
+    sites: u32,
     me: SiteId,
     id: SegId,
     outbox: &mut O,
 )
-    requires { 16 ≤ O.room outbox.old }
+    requires { sites ≤ O.room outbox.old }
     ensures { Told O.posted outbox.old outbox.new (map (purge_envelope me id) (range_with_len 0 sites)) }
 {
-    'sites: for to in 0..sites.count() {
+    'sites: for to in 0..sites {
         outbox.push(Envelope {
             from: me,
             to: SiteId(to),

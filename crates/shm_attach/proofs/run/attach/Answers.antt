@@ -6,7 +6,7 @@ use Rattle.shm_attach.specs.declared.done.Done.{Done}
 use Rattle.shm_attach.proofs.Runs.{attach_run}
 use Rattle.shm_attach.proofs.run.attach.Goals as goal
 
-pub returns-in-Ok : goal.returns-in-Ok
-returns-in-Ok g c =
+pub returns-in-Ok-clause-run : goal.returns-in-Ok-clause-run
+returns-in-Ok-clause-run g c =
     subst (λ (done : Done). IsRun (Attach c.args.cred c.args.id c.args.ro) c.args.table.now c.attach.new.self done) (sym c.reply_alone.ensures)
     (attach_run c.args.cred c.args.id c.args.ro c.args.table.now c.attach.new.self (AttachedReply c.in-Ok.attached) c.in-Ok.ensures.answer c.in-Ok.ensures.rest)

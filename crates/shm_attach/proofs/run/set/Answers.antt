@@ -6,7 +6,7 @@ use Rattle.shm_attach.specs.declared.done.Done.{Done}
 use Rattle.shm_attach.proofs.Runs.{set_run}
 use Rattle.shm_attach.proofs.run.set.Goals as goal
 
-pub returns-in-Ok : goal.returns-in-Ok
-returns-in-Ok g c =
+pub returns-in-Ok-clause-run : goal.returns-in-Ok-clause-run
+returns-in-Ok-clause-run g c =
     subst (λ (done : Done). IsRun (Set c.args.cred c.args.id c.args.uid c.args.gid c.args.mode) c.args.table.now c.set.new.self done) (sym c.reply_alone.ensures)
     (set_run c.args.cred c.args.id c.args.uid c.args.gid c.args.mode c.args.table.now c.set.new.self OkReply c.in-Ok.ensures.answer c.in-Ok.ensures.rest)

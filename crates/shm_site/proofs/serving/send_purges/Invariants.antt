@@ -7,5 +7,5 @@ use Rattle.shm_site.proofs.serving.send_purges.Given as goal
 abbrev pub invariant-sites : goal.invariant-sites
 invariant-sites g l = record {
   sent : Told g.O.Outbox.posted l.initial.outbox l.outbox (map (purge_envelope l.me l.id) (range_with_len 0 l.to));
-  room : 16 ≤ g.O.Outbox.room l.outbox + l.to;
+  room : l.fn.sites ≤ g.O.Outbox.room l.outbox + l.to;
 }
