@@ -6,7 +6,7 @@ use Rattle.shm_model.specs.declared.call.Op.{Op}
 use Rattle.shm_model.specs.declared.call.Op.TheVariants.{Detach, Remove}
 use Rattle.shm_model.specs.declared.call.Reply.{Reply}
 use Rattle.shm_model.specs.declared.call.Reply.TheVariants.{Id}
-use Rattle.shm_model.specs.Calls.{Kept, Freshness, Fresh, Again, Old}
+use Rattle.shm_model.specs.Calls.{Kept}
 use Rattle.shm_model.specs.Kernel.{call, destroyed_by, next_id}
 use Rattle.shm_model.specs.Message.{Envelope}
 use Rattle.shm_model.specs.Site.{Site}
@@ -15,8 +15,6 @@ use Rattle.shm_number.specs.Kept.{kept_at}
 use Rattle.shm_keys.specs.Table.{Table, missing_of}
 use Rattle.shm_keys.specs.Purge.{missing_after}
 use Rattle.shm_attach.specs.declared.done.Done.{Done}
-use Rattle.shm_attach.specs.declared.recall.Recall.{Recall}
-use Rattle.shm_attach.specs.declared.recall.Recall.TheVariants as recall
 
 pub record Home : Type 0 where
   pub table : Table
@@ -28,11 +26,6 @@ kept_reply (Some last) = Some (record { number = last.0; reply = last.1 })
 
 abbrev pub kept_of : List (Option (ℕ × Reply)) → ℕ → Option Kept
 kept_of kept site = kept_reply (kept_at kept site)
-
-abbrev pub freshness_of : Recall → Freshness
-freshness_of recall.Fresh = Fresh
-freshness_of (recall.Again reply) = Again reply
-freshness_of recall.Old = Old
 
 -- the site, with this home
 abbrev pub with_home : Home → Site → Site

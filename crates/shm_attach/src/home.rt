@@ -2,11 +2,10 @@ ghost use Rattle.std.specs.Prelude.{◌≡◌, ℕ, ◌<◌, ◌≤◌, ◌==◌
 ghost use Rattle.shm_model.specs.Calls.{Fresh, freshness, op_home};
 
 use crate::done::Done;
-use crate::recall::{Recall, recall_of};
 use crate::run::execute;
 use shm_keys::{SegTable, Segment};
 use shm_model::{Op, Reply};
-use shm_number::KeptReply;
+use shm_number::{KeptReply, Recall};
 use shm_place::{SegId, SiteId, SiteSet};
 use std::alloc::{AllocError, Allocator, Global};
 use std::marker::Model;
@@ -62,7 +61,7 @@ impl<A: Allocator + Copy> Home<A> {
         ensures fresh { OnErr result (Fresh ≡ freshness (kept_of self.old.kept from) number) }
         ensures memory { OnErr result (MakesSegment op self.old.table) }
     {
-        match recall_of(&self.kept, from, number) {
+        match self.kept.ask(from, number) {
             Recall::Old => Ok(None),
             Recall::Again(reply) => Ok(Some(Done {
                 reply,

@@ -9,7 +9,6 @@ mod done;
 mod ending;
 mod fault;
 mod home;
-mod recall;
 mod run;
 
 pub use access::right;

@@ -1,7 +1,7 @@
 -- The last number and reply of each of 16 sites, in the order of the sites, and what they say of a call that comes in.
 use Rattle.std.specs.Prelude.{ℕ, List, Option, Some, None, nat_lt, slice_index_or, if◌then◌else◌, ◌==◌}
-use Rattle.shm_number.specs.declared.kept.Asked.{Asked}
-use Rattle.shm_number.specs.declared.kept.Asked.TheVariants as asked
+use Rattle.shm_number.specs.declared.kept.Recall.{Recall}
+use Rattle.shm_number.specs.declared.kept.Recall.TheVariants.{Fresh, Again, Old}
 
 module _ {R : Type 0} where
   -- the number and the reply kept for one site, if any
@@ -17,22 +17,10 @@ module _ {R : Type 0} where
   abbrev pub kept_then : (ℕ → Option (ℕ × R)) → ℕ → ℕ → R → ℕ → Option (ℕ × R)
   kept_then kept site number reply j = if site == j then Some (number, reply) else kept j
 
--- what a number says of a call
-pub data Verdict (R : Type 0) : Type 0 where
-  fresh : Verdict R
-  again : R → Verdict R
-  old : Verdict R
-
-module _ {R : Type 0} where
-  -- a number above the last one is new, the last one itself is that very call again; 0 is never a call's number
-  abbrev pub verdict : Option (ℕ × R) → ℕ → Verdict R
-  verdict None number = if number == 0 then old else fresh
+  -- what a number says of a call: one above the last is new, the last one itself is that very call again; 0 is never a call's number
+  abbrev pub verdict : Option (ℕ × R) → ℕ → Recall R
+  verdict None number = if number == 0 then Old else Fresh
   verdict (Some last) number =
-      if nat_lt number last.0 then old
-      else if number == last.0 then again last.1
-      else fresh
-
-  abbrev pub verdict_of : Asked R → Verdict R
-  verdict_of asked.Fresh = fresh
-  verdict_of (asked.Again reply) = again reply.now
-  verdict_of asked.Old = old
+      if nat_lt number last.0 then Old
+      else if number == last.0 then Again last.1
+      else Fresh

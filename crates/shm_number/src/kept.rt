@@ -1,16 +1,16 @@
 ghost use Rattle.std.specs.Prelude.{◌≡◌, ◌<◌};
-ghost use Rattle.shm_number.specs.Kept.{kept_at, kept_then, number_of, verdict, verdict_of};
+ghost use Rattle.shm_number.specs.Kept.{kept_at, kept_then, number_of, verdict};
 
 use shm_place::SiteId;
 use std::marker::Model;
 
 /// What a call's number says of it.
 #[derive(Clone, Copy, Debug, PartialEq, Eq)]
-pub enum Asked<'a, R> {
+pub enum Recall<R> {
     /// It is to be executed.
     Fresh,
     /// It was executed last; this was the reply.
-    Again(&'a R),
+    Again(R),
     /// It was executed, or given up, before the last one.
     Old,
 }
@@ -42,25 +42,25 @@ impl<R: Copy> KeptReply<R> {
     }
 
     /// What the number says, where `number` comes from `site`. With nothing kept the last number counts as 0.
-    pub fn ask(&self, site: SiteId, number: u64) -> Asked<'_, R>
+    pub fn ask(&self, site: SiteId, number: u64) -> Recall<R>
         requires { site < 16 }
-        ensures { verdict_of result ≡ verdict (kept_at self.now site) number }
+        ensures { result ≡ verdict (kept_at self.now site) number }
     {
         match &self.kept[site.0 as usize] {
             None => {
                 if number == 0 {
-                    return Asked::Old;
+                    return Recall::Old;
                 }
-                Asked::Fresh
+                Recall::Fresh
             }
             Some((last, reply)) => {
                 if number < *last {
-                    return Asked::Old;
+                    return Recall::Old;
                 }
                 if number == *last {
-                    return Asked::Again(reply);
+                    return Recall::Again(*reply);
                 }
-                Asked::Fresh
+                Recall::Fresh
             }
         }
     }

@@ -8,5 +8,5 @@ mod served;
 mod tests;
 
 pub use counter::{Counter, UsedUp};
-pub use kept::{Asked, KeptReply};
+pub use kept::{KeptReply, Recall};
 pub use served::Served;

@@ -1,4 +1,4 @@
-use crate::{Asked, Counter, KeptReply, Served};
+use crate::{Counter, KeptReply, Recall, Served};
 use shm_place::SiteId;
 
 #[test]
@@ -33,13 +33,13 @@ fn only_a_greater_number_is_fresh(rt: HostRuntime) {
 #[test]
 fn a_repeated_call_is_told_its_reply(rt: HostRuntime) {
     let mut replies = KeptReply::<u8>::new();
-    assert_eq!(rt; replies.ask(SiteId(2), 0), Asked::Old);
-    assert_eq!(rt; replies.ask(SiteId(2), 1), Asked::Fresh);
+    assert_eq!(rt; replies.ask(SiteId(2), 0), Recall::Old);
+    assert_eq!(rt; replies.ask(SiteId(2), 1), Recall::Fresh);
     replies.keep(SiteId(2), 7, 40);
     let copy = replies.copy();
-    assert_eq!(rt; replies.ask(SiteId(2), 6), Asked::Old);
-    assert_eq!(rt; replies.ask(SiteId(2), 7), Asked::Again(&40));
-    assert_eq!(rt; replies.ask(SiteId(2), 8), Asked::Fresh);
-    assert_eq!(rt; replies.ask(SiteId(3), 7), Asked::Fresh);
-    assert_eq!(rt; copy.ask(SiteId(2), 7), Asked::Again(&40));
+    assert_eq!(rt; replies.ask(SiteId(2), 6), Recall::Old);
+    assert_eq!(rt; replies.ask(SiteId(2), 7), Recall::Again(40));
+    assert_eq!(rt; replies.ask(SiteId(2), 8), Recall::Fresh);
+    assert_eq!(rt; replies.ask(SiteId(3), 7), Recall::Fresh);
+    assert_eq!(rt; copy.ask(SiteId(2), 7), Recall::Again(40));
 }
