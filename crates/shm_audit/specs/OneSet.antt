@@ -16,11 +16,12 @@ pub record IsOneSet {A : Type 0} (logs : List (SiteLog A)) : Type 0 where
   pub some : 1 ≤ sites
   pub logs_of_all : AreLogsOf sites pages logs
 
--- they are a run of the world, as some events, in which memory is one plain memory. No receipts are looked at: what callers were told stands
--- in the logs.
+-- they are a run of a world of one site or more, as some events, in which memory is one plain memory. No receipts are looked at: what callers
+-- were told stands in the logs.
 pub record AreOneRun {A : Type 0} (logs : List (SiteLog A)) : Type 0 where
   pub sites : ℕ
   pub pages : ℕ
+  pub some : 1 ≤ sites
   pub logs_of_all : AreLogsOf sites pages logs
   pub events : List Event
   pub audited : IsAudited (Preset sites pages) (logs_of logs) [] events
