@@ -66,7 +66,7 @@ clients:
 refused:
 	@refused/try
 
-# The gate: tries the programs that must not compile, proves every crate (from nothing where this machine hasn't proved it before), and runs every test, every program and every edit
+# The gate: tries the programs that must not compile, proves every crate from nothing (newer toolchains: what this machine hasn't proved before), and runs every test, every program and every edit
 # that must fail.
 test: refused
 	rt ci 2>&1
