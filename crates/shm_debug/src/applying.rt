@@ -20,8 +20,9 @@ impl<A: Allocator + Copy> Session<A> {
         ensures ok { OnOk result (self.new ≡ with_event self.old event) }
         ensures err { OnErr result (self.new ≡ self.old) }
     {
-        if let Ok(answer) = self.make(&event) {
-            return Ok(answer);
+        let made = self.make(&event);
+        if made.is_ok() {
+            return made;
         }
         self.give_up_copies();
         self.make_unkept(&event)
@@ -48,9 +49,8 @@ impl<A: Allocator + Copy> Session<A> {
         ensures ok { OnOk result (self.new ≡ with_event self.old event.now) }
         ensures err { OnErr result (self.new ≡ self.old) }
     {
-        let answer = step_and_push(&mut self.world, &mut self.events, event)?;
         self.undos.miss();
-        Ok(answer)
+        step_and_push(&mut self.world, &mut self.events, event)
     }
 
     /// The event, and what takes it back is kept, if there is memory.
@@ -94,7 +94,9 @@ fn step_and_push<A: Allocator + Copy>(
         → OnErr result (may_grow event.now (model.next w event.now).done.answer ≡ true) }
 {
     events.reserve(1)?;
-    let answer = world.step(*event)?;
-    events.push_reserved(*event);
-    Ok(answer)
+    let answered = world.step(*event);
+    if answered.is_ok() {
+        events.push_reserved(*event);
+    }
+    answered
 }

@@ -86,8 +86,10 @@ fn happen<A: Allocator + Copy>(
     ensures err { OnErr result (output.new ≡ output.old) }
 {
     let first = session.world().sent();
-    let answer = session.apply(event)?;
-    output.tell_answer(number, &answer, session.world(), first)
+    match &session.apply(event) {
+        Ok(answer) => output.tell_answer(number, answer, session.world(), first),
+        Err(_) => Err(AllocError),
+    }
 }
 
 /// The last events are taken back, if there are so many.

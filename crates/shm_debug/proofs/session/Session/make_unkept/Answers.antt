@@ -4,8 +4,8 @@ use Rattle.shm_debug.specs.Standing.{standing}
 use Rattle.shm_debug.proofs.Going.{joined}
 use Rattle.shm_debug.proofs.session.Session.make_unkept.Goals as goal
 
-pub invariant_of-self-2 : goal.invariant_of-self-2
-invariant_of-self-2 g c =
+pub invariant_of-self : goal.invariant_of-self
+invariant_of-self g c =
     let o = opening_of c.self.inside.opening in
     let old = c.self.inside.events.items in
     let both = joined c.step_and_push.result c.step_and_push.new.world c.self.inside.checkpoints o old c.step_and_push.new.events.items c.args.event.now
