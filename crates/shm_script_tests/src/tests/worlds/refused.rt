@@ -13,7 +13,7 @@ use std::process::Abort;
 use std::test::Fail;
 
 /// How many bytes of memory a world has here.
-const HEAP: usize = 1 << 16;
+const HEAP: usize = 1 << 17;
 
 /// How many blocks of 16 bytes a page takes.
 const PAGE_BLOCKS: usize = 256;
