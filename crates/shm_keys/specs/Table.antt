@@ -30,7 +30,8 @@ pub record IsNumbered (home sites : ℕ) (segments : List Segment) : Type 0 wher
 
 -- the index by key leads to the segment that has the key, and to no other
 pub record IsIndexed (segments : List Segment) (places : ℕ → Option ℕ) : Type 0 where
-  pub keyed : (place : ℕ) (d : Segment) → place < length segments → (slice_index_or segments place d).key ≢ 0 → places (slice_index_or segments place d).key ≡ Some place
+  pub keyed : (place : ℕ) (d : Segment) → place < length segments → (slice_index_or segments place d).key ≢ 0
+      → places (slice_index_or segments place d).key ≡ Some place
   pub within : (key place : ℕ) → places key ≡ Some place → place < length segments
   pub own : (key place : ℕ) (d : Segment) → places key ≡ Some place → (slice_index_or segments place d).key ≡ key
 

@@ -72,8 +72,10 @@ segments_after o r = kernel o (calls_of r.account)
 
 -- Each call is executed once: every reply that was sent, and every one that was answered, is the kernel's at that call's place.
 pub record ExecutedOnce (o : Opening) (r : Run) : Type 0 where
-  pub sent : (e : Envelope) (n : ℕ) (reply : Reply) → Contains r.world.sent e → e.message ≡ Replies n reply → reply_to o (calls_of r.account) e.to n ≡ Some reply
-  pub answered : (d : Done) (n : ℕ) (reply : Reply) (a : Option ℕ) → Contains r.account d → d.answer ≡ Replied n reply a → reply_to o (calls_of r.account) d.site n ≡ Some reply
+  pub sent : (e : Envelope) (n : ℕ) (reply : Reply) → Contains r.world.sent e → e.message ≡ Replies n reply
+      → reply_to o (calls_of r.account) e.to n ≡ Some reply
+  pub answered : (d : Done) (n : ℕ) (reply : Reply) (a : Option ℕ) → Contains r.account d → d.answer ≡ Replied n reply a
+      → reply_to o (calls_of r.account) d.site n ≡ Some reply
 
 abbrev pub is_reply : ℕ → ℕ → Answer → Bool
 is_reply d n (Replied m _ _) = m == n
@@ -96,7 +98,8 @@ naming o account id = sum_by (λ s. count_by (λ a. is_segment (segment_of o acc
 
 -- an attach to the segment succeeded at its home, and its site doesn't know yet
 abbrev pub attaching : Opening → List Done → List Numbered → ℕ → ℕ
-attaching o account calls id = count_by (λ c. is_attach c.op id && is_attached (reply_to o calls c.site c.number) && not (has_replied account c.site c.number)) calls
+attaching o account calls id =
+    count_by (λ c. is_attach c.op id && is_attached (reply_to o calls c.site c.number) && not (has_replied account c.site c.number)) calls
 
 abbrev pub is_detach_begun : Option Input → Answer → ℕ → (ℕ → Option ℕ) → List Numbered → ℕ → Bool
 is_detach_begun (Some (Begin (DetachAt a))) (Began n) s named calls id = is_segment (named a) id && not (has_call s n calls)
@@ -114,7 +117,8 @@ held o account id = naming o account id + (attaching o account (calls_of account
 -- Attachments are counted, all of them, and none names a destroyed segment.
 pub record Counted (o : Opening) (r : Run) : Type 0 where
   pub count : (g : Segment) → Contains (segments_after o r) g → destroyed g ≡ false → g.nattch ≡ held o r.account g.id
-  pub named : (s a id : ℕ) → s < sites_of o → segment_of o r.account s a ≡ Some id → (g : Segment) × (with_id id (segments_after o r) ≡ Some g) × (destroyed g ≡ false)
+  pub named : (s a id : ℕ) → s < sites_of o → segment_of o r.account s a ≡ Some id
+      → (g : Segment) × (with_id id (segments_after o r) ≡ Some g) × (destroyed g ≡ false)
   pub small : (s a id : ℕ) → segment_of o r.account s a ≡ Some id → a < max_attachments
 
 -- Each home's table is its part of the one kernel's list.
@@ -123,5 +127,7 @@ HomesKeepTheirPart o r = (h : ℕ) (home : Site) → slice_get r.world.sites h �
 
 -- Nothing alive is purged: what a site has purged is destroyed, and no attachment names it.
 pub record PurgedDead (o : Opening) (r : Run) : Type 0 where
-  pub dead : (s id : ℕ) (site : Site) → slice_get r.world.sites s ≡ Some site → IsTrue (site.purged id) → (g : Segment) × (with_id id (segments_after o r) ≡ Some g) × IsTrue (destroyed g)
-  pub unnamed : (s t a id : ℕ) (site : Site) → slice_get r.world.sites s ≡ Some site → IsTrue (site.purged id) → t < sites_of o → segment_of o r.account t a ≢ Some id
+  pub dead : (s id : ℕ) (site : Site) → slice_get r.world.sites s ≡ Some site → IsTrue (site.purged id)
+      → (g : Segment) × (with_id id (segments_after o r) ≡ Some g) × IsTrue (destroyed g)
+  pub unnamed : (s t a id : ℕ) (site : Site) → slice_get r.world.sites s ≡ Some site → IsTrue (site.purged id)
+      → t < sites_of o → segment_of o r.account t a ≢ Some id

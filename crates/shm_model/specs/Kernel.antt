@@ -37,7 +37,18 @@ live_at sites home segments = count_by (λ g. is_at sites home g && not (destroy
 
 -- A new segment belongs to its caller. The c-th one of home h has the identifier c * sites + h, which is never given again.
 abbrev pub new_segment : ℕ → Cred → ℕ → ℕ → ℕ → Segment
-new_segment id cred key size mode = record { id = id; key = key; uid = cred.uid; gid = cred.gid; cuid = cred.uid; cgid = cred.gid; mode = mode; size = size; nattch = 0; marked = false }
+new_segment id cred key size mode = record {
+  id = id;
+  key = key;
+  uid = cred.uid;
+  gid = cred.gid;
+  cuid = cred.uid;
+  cgid = cred.gid;
+  mode = mode;
+  size = size;
+  nattch = 0;
+  marked = false;
+}
 
 abbrev pub next_id : ℕ → ℕ → List Segment → ℕ
 next_id sites home segments = made_at sites home segments * sites + home
@@ -112,7 +123,20 @@ set cred id uid gid mode g segments =
 abbrev pub stat : Cred → Segment → List Segment → Called
 stat cred g segments =
     if not (may_stat cred g) then refuse Eacces segments
-    else record { reply = StatReply (record { key = g.key; uid = g.uid; gid = g.gid; cuid = g.cuid; cgid = g.cgid; mode = g.mode; size = g.size; nattch = g.nattch; marked = g.marked }); segments = segments }
+    else record {
+      reply = StatReply (record {
+        key = g.key;
+        uid = g.uid;
+        gid = g.gid;
+        cuid = g.cuid;
+        cgid = g.cgid;
+        mode = g.mode;
+        size = g.size;
+        nattch = g.nattch;
+        marked = g.marked;
+      });
+      segments = segments;
+    }
 
 -- One call at its home. The home counts in `get` alone: in what is full there, and in a new identifier.
 abbrev pub call : ℕ → ℕ → Op → List Segment → Called

@@ -25,7 +25,8 @@ pub record Promised (o : Opening) (events : List Event) : Type 0 where
 -- A byte that this event loads is the one stored last to its place by the events before it, or 0 where there is none (Li and Hudak 1989, §2);
 -- the place is in the segment that the attachment names then.
 abbrev pub GivesLast : Opening → List Event → Event → Answer → Type 0
-GivesLast o before (Load s a offset) (Byte byte) = (id : ℕ) × (segment_of o (run o before).account s a ≡ Some id) × (byte ≡ last_store o (run o before).account id offset)
+GivesLast o before (Load s a offset) (Byte byte) =
+    (id : ℕ) × (segment_of o (run o before).account s a ≡ Some id) × (byte ≡ last_store o (run o before).account id offset)
 GivesLast o before _ _ = Unit {0}
 
 -- so it is for each of these events, where the answers from number `first` on are theirs

@@ -35,7 +35,8 @@ IsRequester book s = (run : Running) × (book.running ≡ Some run) × (run.requ
 -- no site has met a number that its manager hasn't given; and a note above what its receiver has met is the running transaction's
 pub record NumbersTell (w : World) : Type 0 where
   pub met : (page : PageId) (s : ℕ) (x m : Site) → Stands w page s x → Stands w page (manager_of w.count page) m → seen (x.entries page) ≤ (m.books page).number
-  pub above : (page : PageId) (e : Envelope) (note : Note) (x m : Site) → Contains w.sent e → e.message ≡ Of page note → Stands w page e.to x → Stands w page (manager_of w.count page) m
+  pub above : (page : PageId) (e : Envelope) (note : Note) (x m : Site) → Contains w.sent e → e.message ≡ Of page note
+      → Stands w page e.to x → Stands w page (manager_of w.count page) m
       → seen (x.entries page) < entry_number note → (entry_number note ≡ (m.books page).number) × IsRunning (m.books page)
 
 -- who may read is the owner, has a copy that the manager knows of, or is the requester that is being served
@@ -54,9 +55,11 @@ pub record TellsToHand (w : World) (page : PageId) (book : Book) (q : ℕ) (e : 
 pub record InvalidatedFirst (w : World) : Type 0 where
   pub told : (page : PageId) (q : ℕ) (e : Envelope) (m : Site) → Stands w page (manager_of w.count page) m → TellsToHand w page (m.books page) q e
       → (e.to ≡ (m.books page).owner) × IsRequester (m.books page) q
-  pub met : (page : PageId) (q : ℕ) (e : Envelope) (s : ℕ) (x m : Site) → Stands w page s x → Stands w page (manager_of w.count page) m → TellsToHand w page (m.books page) q e
+  pub met : (page : PageId) (q : ℕ) (e : Envelope) (s : ℕ) (x m : Site) → Stands w page s x → Stands w page (manager_of w.count page) m
+      → TellsToHand w page (m.books page) q e
       → IsTrue ((m.books page).copies s) → s ≢ q → (m.books page).number ≤ seen (x.entries page)
-  pub unreadable : (page : PageId) (q : ℕ) (e : Envelope) (s : ℕ) (x m : Site) → Stands w page s x → Stands w page (manager_of w.count page) m → TellsToHand w page (m.books page) q e
+  pub unreadable : (page : PageId) (q : ℕ) (e : Envelope) (s : ℕ) (x m : Site) → Stands w page s x → Stands w page (manager_of w.count page) m
+      → TellsToHand w page (m.books page) q e
       → s ≢ (m.books page).owner → s ≢ q → readable (x.entries page) ≡ false
 
 -- these bytes are, at each offset of the page, the last store or 0
@@ -66,8 +69,11 @@ IsLast o r page b = (k : ℕ) → k < page_bytes → slice_index b k ≡ last_st
 -- what may be read was stored last, and so was what a Page that isn't late would install, and what is kept for a site that hasn't got the
 -- page yet
 pub record BytesAreLast (o : Opening) (r : Run) : Type 0 where
-  pub readable_bytes : (page : PageId) (s : ℕ) (x : Site) → Stands r.world page s x → IsTrue (readable (x.entries page)) → IsLast o r page (bytes (x.entries page))
-  pub sent_bytes : (page : PageId) (e : Envelope) (n : ℕ) (kind : Kind) (b : List ℕ) (x : Site) → Contains r.world.sent e → e.message ≡ Of page (Page n kind b) → Stands r.world page e.to x
+  pub readable_bytes : (page : PageId) (s : ℕ) (x : Site) → Stands r.world page s x → IsTrue (readable (x.entries page))
+      → IsLast o r page (bytes (x.entries page))
+  pub sent_bytes : (page : PageId) (e : Envelope) (n : ℕ) (kind : Kind) (b : List ℕ) (x : Site)
+      → Contains r.world.sent e → e.message ≡ Of page (Page n kind b) → Stands r.world page e.to x
       → seen (x.entries page) < n → IsLast o r page b
-  pub handed_bytes : (page : PageId) (s n to : ℕ) (b : List ℕ) (x y : Site) → Stands r.world page s x → Stands r.world page to y → x.entries page ≡ Handed n to b
+  pub handed_bytes : (page : PageId) (s n to : ℕ) (b : List ℕ) (x y : Site)
+      → Stands r.world page s x → Stands r.world page to y → x.entries page ≡ Handed n to b
       → seen (y.entries page) < n → IsLast o r page b

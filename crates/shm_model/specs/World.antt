@@ -35,7 +35,18 @@ IsOpening (Framed n pages frames) = (1 ≤ n) × (n ≤ max_sites) × (1 ≤ pag
 
 -- segment 0 belongs to user and group 0 and everyone may read and write it (octal 666)
 abbrev pub preset_segment : ℕ → ℕ → Segment
-preset_segment sites pages = record { id = 0; key = 0; uid = 0; gid = 0; cuid = 0; cgid = 0; mode = 438; size = page_bytes * pages; nattch = sites; marked = false }
+preset_segment sites pages = record {
+  id = 0;
+  key = 0;
+  uid = 0;
+  gid = 0;
+  cuid = 0;
+  cgid = 0;
+  mode = 438;
+  size = page_bytes * pages;
+  nattch = sites;
+  marked = false;
+}
 
 abbrev pub preset_table : ℕ → ℕ → ℕ → List Segment
 preset_table sites pages me = if me == 0 then preset_segment sites pages ∷ [] else []

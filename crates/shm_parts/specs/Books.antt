@@ -39,7 +39,8 @@ AllIdle books pages = AllByRecursion (λ page. (me : ℕ) → (books_of me books
 
 -- the next page behind `last`, at this place, of those that may have a running transaction
 abbrev pub IsNextRunning : {A : Type 0} → Option ℕ → Books A → ℕ → PageId → Type 0
-IsNextRunning last books place page = (between : List PageId) × (booked_after last books ≡ between ++ page ∷ booked_after (Some place) books) × AllIdle books between
+IsNextRunning last books place page =
+    (between : List PageId) × (booked_after last books ≡ between ++ page ∷ booked_after (Some place) books) × AllIdle books between
 
 -- the site, with these books
 abbrev pub with_books : {A : Type 0} → ℕ → Books A → Site → Site

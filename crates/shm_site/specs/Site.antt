@@ -47,13 +47,15 @@ pub record Told {A O : Type 0} (posted : O → O → List (Envelope A) → Type 
   pub meant : map envelope_of sent ≡ envelopes
 
 -- the step leaves this site and gives this answer, and what it sends was posted
-pub record Makes {A O : Type 0} (posted : O → O → List (Envelope A) → Type 0) (before after : O) (site : model.Site) (answer : Answer) (step : Step) : Type 0 where
+pub record Makes {A O : Type 0} (posted : O → O → List (Envelope A) → Type 0) (before after : O)
+    (site : model.Site) (answer : Answer) (step : Step) : Type 0 where
   pub sent : List (Envelope A)
   pub behind : posted before after sent
   pub made : step ≡ record { site = site; answer = answer; sent = map envelope_of sent }
 
 -- the site made the step
-pub record StepsTo {A O : Type 0} (posted : O → O → List (Envelope A) → Type 0) (old new : Site A) (before after : O) (answer : Answer) (step : Step) : Type 0 where
+pub record StepsTo {A O : Type 0} (posted : O → O → List (Envelope A) → Type 0) (old new : Site A) (before after : O)
+    (answer : Answer) (step : Step) : Type 0 where
   pub makes : Makes posted before after (site_of new) answer step
   pub seat : SameSeat old new
 

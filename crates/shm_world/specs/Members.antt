@@ -16,7 +16,8 @@ seen_by None = None
 seen_by (Some site) = Some (site_of site)
 
 -- site s made this step: the others are as before, and what it sends was posted
-pub record Made {A O : Type 0} (posted : O → O → List (Envelope A) → Type 0) (old new : Members A) (s : ℕ) (before after : O) (answer : Answer) (step : Step) : Type 0 where
+pub record Made {A O : Type 0} (posted : O → O → List (Envelope A) → Type 0) (old new : Members A) (s : ℕ) (before after : O)
+    (answer : Answer) (step : Step) : Type 0 where
   pub sites : members_of new ≡ slice_set (members_of old) s step.site
   pub sent : Told posted before after step.sent
   pub answered : answer ≡ step.answer

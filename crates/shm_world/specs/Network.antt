@@ -38,5 +38,6 @@ pub record Carries {A : Type 0} (network : Network A) (sent : List model.Envelop
 
 -- Whatever the first network carries, the second carries too, with these envelopes sent behind; and each place stays where it is.
 pub record CarriesOn {A : Type 0} (old new : Network A) (envelopes : List (Envelope A)) : Type 0 where
-  pub carries : (sent : List model.Envelope) (gone : ℕ → Bool) → Carries old sent gone → ((k : ℕ) → length sent ≤ k → gone k ≡ false) → Carries new (sent ++ map envelope_of envelopes) gone
+  pub carries : (sent : List model.Envelope) (gone : ℕ → Bool) → Carries old sent gone → ((k : ℕ) → length sent ≤ k → gone k ≡ false)
+      → Carries new (sent ++ map envelope_of envelopes) gone
   pub places : (k at : ℕ) → StandsAt k at old → StandsAt k at new

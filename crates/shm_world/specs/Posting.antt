@@ -13,10 +13,12 @@ carries_nothing network = record {
   places = λ k at h. h;
 }
 
-pub carries_both : {A : Type 0} (first then last : Network A) (xs ys : List (Envelope A)) → CarriesOn first then xs → CarriesOn then last ys → CarriesOn first last (xs ++ ys)
+pub carries_both : {A : Type 0} (first then last : Network A) (xs ys : List (Envelope A))
+    → CarriesOn first then xs → CarriesOn then last ys → CarriesOn first last (xs ++ ys)
 carries_both first then last xs ys one two = record {
   carries = λ sent gone had fresh.
       subst (λ l. Carries last l gone) (append_assoc sent (map envelope_of xs) (map envelope_of ys) ∙ ap (λ l. sent ++ l) (sym (map-append envelope_of xs ys)))
-      (two.carries (sent ++ map envelope_of xs) gone (one.carries sent gone had fresh) (λ k h. fresh k (omega (arith, h, length-append sent (map envelope_of xs)))));
+      (two.carries (sent ++ map envelope_of xs) gone (one.carries sent gone had fresh)
+      (λ k h. fresh k (omega (arith, h, length-append sent (map envelope_of xs)))));
   places = λ k at h. two.places k at (one.places k at h);
 }
