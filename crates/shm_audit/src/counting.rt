@@ -50,7 +50,7 @@ fn count_step<A: Allocator + Copy>(before: Counts, step: &Step<A>) -> Option<Cou
     }) }
 {
     let steps = before.steps.checked_add(1)?;
-    let accesses = before.accesses.checked_add(completed(step.answer))?;
+    let accesses = before.accesses.checked_add(completions(step.answer))?;
     let envelopes = before.envelopes.checked_add(step.sent.len() as u64)?;
     Some(Counts {
         steps,
@@ -60,7 +60,7 @@ fn count_step<A: Allocator + Copy>(before: Counts, step: &Step<A>) -> Option<Cou
 }
 
 /// 1 for an access that is answered so, if it is completed.
-fn completed(answer: Answer) -> u64
+fn completions(answer: Answer) -> u64
     ensures { result ≡ (if completes answer then 1 else 0) }
 {
     match answer {

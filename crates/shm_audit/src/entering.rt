@@ -7,7 +7,7 @@ ghost use Rattle.shm_audit.specs.Found.{entered};
 ghost use Rattle.shm_audit.specs.HandedOf.{handed_of};
 ghost use Rattle.shm_audit.specs.declared.journal_fault.JournalFault.TheVariants as fault;
 
-use crate::handed::{Handed, handed_by};
+use crate::handed::{Handed, handed_input};
 use crate::journal_fault::JournalFault;
 use shm_journal::parse_entry;
 use shm_sites::{BoxFault, SiteBox};
@@ -26,7 +26,7 @@ pub(crate) fn enter<A: Allocator + Copy>(
     let Some((clock, made_by)) = parse_entry(line) else {
         return Err(JournalFault::BadLine(number));
     };
-    match handed_by(alloc, site_box.log().site(), made_by) {
+    match handed_input(alloc, site_box.log().site(), made_by) {
         Ok(Some(handed)) => take(number, site_box, clock, handed),
         Ok(None) => Err(JournalFault::BadLine(number)),
         Err(_) => Err(JournalFault::OutOfMemory),

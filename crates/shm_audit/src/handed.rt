@@ -20,7 +20,7 @@ pub(crate) struct Handed<A: Allocator + Copy = Global> {
 }
 
 /// What the line of an entry hands to this site. Only a page's bytes take memory.
-pub(crate) fn handed_by<A: Allocator + Copy>(
+pub(crate) fn handed_input<A: Allocator + Copy>(
     alloc: A,
     me: SiteId,
     line: &[u8],
@@ -28,12 +28,12 @@ pub(crate) fn handed_by<A: Allocator + Copy>(
     ensures { IfOk result (λ handed. option_map handed_of handed ≡ spec.handed me line.now) }
 {
     match parse_envelope(alloc, line)? {
-        Some(sent) => Ok(Some(delivered(sent))),
-        None => Ok(asked_or_restarted(me, line)),
+        Some(sent) => Ok(Some(delivered_input(sent))),
+        None => Ok(ask_or_restart(me, line)),
     }
 }
 
-fn delivered<A: Allocator + Copy>(sent: Sent<A>) -> Handed<A>
+fn delivered_input<A: Allocator + Copy>(sent: Sent<A>) -> Handed<A>
     ensures { handed_of result ≡ spec.delivered (sent_of sent) }
 {
     let Sent { source, envelope } = sent;
@@ -48,25 +48,25 @@ fn delivered<A: Allocator + Copy>(sent: Sent<A>) -> Handed<A>
 }
 
 /// What a caller asked of this site, or its restart.
-fn asked_or_restarted<A: Allocator + Copy>(me: SiteId, line: &[u8]) -> Option<Handed<A>>
+fn ask_or_restart<A: Allocator + Copy>(me: SiteId, line: &[u8]) -> Option<Handed<A>>
     ensures { option_map handed_of result ≡ spec.or_restart line.now (option_and_then (spec.asked_here me) (read_ask line.now)) }
 {
-    match asked_here(me, line) {
+    match ask_here(me, line) {
         Some(handed) => Some(handed),
-        None => restarted(line),
+        None => restart_input(line),
     }
 }
 
-fn restarted<A: Allocator + Copy>(line: &[u8]) -> Option<Handed<A>>
+fn restart_input<A: Allocator + Copy>(line: &[u8]) -> Option<Handed<A>>
     ensures { option_map handed_of result ≡ spec.or_restart line.now None }
 {
     if line != b"restart".as_slice() {
         return None;
     }
-    Some(unsent(Input::Restart))
+    Some(unsent_input(Input::Restart))
 }
 
-fn asked_here<A: Allocator + Copy>(me: SiteId, line: &[u8]) -> Option<Handed<A>>
+fn ask_here<A: Allocator + Copy>(me: SiteId, line: &[u8]) -> Option<Handed<A>>
     ensures { option_map handed_of result ≡ option_and_then (spec.asked_here me) (read_ask line.now) }
 {
     let Some(ask) = parse_ask(line) else {
@@ -76,13 +76,13 @@ fn asked_here<A: Allocator + Copy>(me: SiteId, line: &[u8]) -> Option<Handed<A>>
         return None;
     }
     match input_asked(ask.asked) {
-        Some(input) => Some(unsent(input)),
+        Some(input) => Some(unsent_input(input)),
         None => None,
     }
 }
 
 /// What is no envelope.
-fn unsent<A: Allocator + Copy>(input: Input<A>) -> Handed<A>
+fn unsent_input<A: Allocator + Copy>(input: Input<A>) -> Handed<A>
     ensures { handed_of result ≡ spec.unsent (input_of input) }
 {
     Handed {

@@ -32,7 +32,7 @@ pub fn pass_line<A: Allocator + Copy>(
 {
     match session {
         None => {
-            let opened = opened(alloc, line)?;
+            let opened = open_session(alloc, line)?;
             output.tell(number, Notice::Ready)?;
             *session = Some(opened);
             Ok(())
@@ -42,7 +42,7 @@ pub fn pass_line<A: Allocator + Copy>(
 }
 
 /// The session that a first line opens.
-fn opened<A: Allocator + Copy>(alloc: A, line: Line) -> Result<Session<A>, AllocError>
+fn open_session<A: Allocator + Copy>(alloc: A, line: Line) -> Result<Session<A>, AllocError>
     requires first { is_first line ≡ true }
     requires is_line { IsLine line }
     ensures { IfOk result (λ session. next None line ≡ Some session) }

@@ -44,7 +44,7 @@ pub fn draw<A: Allocator + Copy, R: Read, W: Write>(
         Ok(player) => player,
         Err(fault) => return Err(fault),
     };
-    let Ok(picture) = drawn(alloc, &player, page) else {
+    let Ok(picture) = player_picture(alloc, &player, page) else {
         return Err(DebugFault::OutOfMemory);
     };
     match write_whole(writer, picture.as_bytes()) {
@@ -102,7 +102,7 @@ fn whole<A: Allocator + Copy>(player: Player<A>) -> Result<Player<A>, DebugFault
 }
 
 /// The picture of what stands, or nothing where nothing does.
-fn drawn<A: Allocator + Copy>(
+fn player_picture<A: Allocator + Copy>(
     alloc: A,
     player: &Player<A>,
     page: Option<PageId>,
@@ -111,12 +111,12 @@ fn drawn<A: Allocator + Copy>(
     ensures { IfOk result (λ picture. string_bytes picture ≡ drawing page player.now.standing) }
 {
     match player.session() {
-        Some(session) => drawn_session(alloc, session, page),
+        Some(session) => session_picture(alloc, session, page),
         None => Ok(String::new(alloc)),
     }
 }
 
-fn drawn_session<A: Allocator + Copy>(
+fn session_picture<A: Allocator + Copy>(
     alloc: A,
     session: &Session<A>,
     page: Option<PageId>,

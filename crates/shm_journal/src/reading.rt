@@ -173,7 +173,7 @@ impl<A: Allocator + Copy> Reading<A> {
     {
         let is_new = self.lines == 0;
         if !is_new {
-            return Ok(self.found(false));
+            return Ok(self.into_recovered(false));
         }
         let Ok(own) = own_line(self.alloc, self.header) else {
             return Err(RecoveryFault::OutOfMemory);
@@ -181,10 +181,10 @@ impl<A: Allocator + Copy> Reading<A> {
         if !own.as_bytes().starts_with(self.line.as_slice()) {
             return Err(RecoveryFault::BadLine(1));
         }
-        Ok(self.found(true))
+        Ok(self.into_recovered(true))
     }
 
-    fn found(self, is_new: bool) -> Recovered<A>
+    fn into_recovered(self, is_new: bool) -> Recovered<A>
         ensures node { node_of result.node ≡ node_of self.node }
         ensures whole { result.whole ≡ self.whole }
         ensures is_new { result.is_new ≡ is_new }

@@ -65,11 +65,11 @@ fn publish<A: Allocator + Copy, W: Write, J: Journal>(
     ensures fault { (r : Option (List ℕ)) → IfErr result (FailsToPublish (desk_of desk.old) (around r (W.contents writer.old) (J.acts journal.old))
         (around r (W.contents writer.new) (J.acts journal.new))) }
 {
-    match keep(desk.recorded(), journal) {
+    match keep(desk.entries(), journal) {
         Ok(()) => {}
         Err(_) => return Err(ProcessFault::JournalFault),
     }
-    match tell(desk.told().as_bytes(), writer, journal) {
+    match tell(desk.output().as_bytes(), writer, journal) {
         Ok(()) => {}
         Err(_) => return Err(ProcessFault::WriteFault),
     }

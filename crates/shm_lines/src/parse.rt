@@ -91,7 +91,7 @@ fn frames(sites: Sites, size: u32, words: Words<'_>) -> Option<Line>
     ensures { result ≡ frames_of sites size words.entry }
 {
     let (frames, words) = named_number(b"frames".as_slice(), MAX_FRAMES, words)?;
-    words.closed(Line::Sites(Opening::framed(sites, size, frames)))
+    words.if_closed(Line::Sites(Opening::framed(sites, size, frames)))
 }
 
 /// This word and a number from 1 to `most`, and the words after them.
@@ -112,7 +112,7 @@ fn load(words: Words<'_>) -> Option<Line>
     let (site, words) = words.number()?;
     let (at, words) = words.number()?;
     let (offset, words) = words.number()?;
-    words.closed(Line::Event(Event::Load {
+    words.if_closed(Line::Event(Event::Load {
         site: SiteId(site),
         at,
         offset,
@@ -126,7 +126,7 @@ fn store(words: Words<'_>) -> Option<Line>
     let (at, words) = words.number()?;
     let (offset, words) = words.number()?;
     let (byte, words) = words.byte()?;
-    words.closed(Line::Event(Event::Store {
+    words.if_closed(Line::Event(Event::Store {
         site: SiteId(site),
         at,
         offset,
@@ -138,35 +138,35 @@ fn deliver(words: Words<'_>) -> Option<Line>
     ensures { result ≡ deliver_of words.entry }
 {
     let (number, words) = words.number()?;
-    words.closed(Line::Event(Event::Deliver(number as u64)))
+    words.if_closed(Line::Event(Event::Deliver(number as u64)))
 }
 
 fn repeat(words: Words<'_>) -> Option<Line>
     ensures { result ≡ repeat_of words.entry }
 {
     let (number, words) = words.number()?;
-    words.closed(Line::Event(Event::Repeat(number as u64)))
+    words.if_closed(Line::Event(Event::Repeat(number as u64)))
 }
 
 fn lose(words: Words<'_>) -> Option<Line>
     ensures { result ≡ lose_of words.entry }
 {
     let (number, words) = words.number()?;
-    words.closed(Line::Event(Event::Lose(number as u64)))
+    words.if_closed(Line::Event(Event::Lose(number as u64)))
 }
 
 fn tick(words: Words<'_>) -> Option<Line>
     ensures { result ≡ tick_of words.entry }
 {
     let (site, words) = words.number()?;
-    words.closed(Line::Event(Event::Tick { site: SiteId(site) }))
+    words.if_closed(Line::Event(Event::Tick { site: SiteId(site) }))
 }
 
 fn restart(words: Words<'_>) -> Option<Line>
     ensures { result ≡ restart_of words.entry }
 {
     let (site, words) = words.number()?;
-    words.closed(Line::Event(Event::Restart { site: SiteId(site) }))
+    words.if_closed(Line::Event(Event::Restart { site: SiteId(site) }))
 }
 
 fn show(words: Words<'_>) -> Option<Line>
@@ -174,7 +174,7 @@ fn show(words: Words<'_>) -> Option<Line>
 {
     let (seg, words) = words.number()?;
     let (index, words) = words.number()?;
-    words.closed(Line::Show(PageId {
+    words.if_closed(Line::Show(PageId {
         seg: SegId(seg),
         index,
     }))
@@ -184,5 +184,5 @@ fn back(words: Words<'_>) -> Option<Line>
     ensures { result ≡ back_of words.entry }
 {
     let (count, words) = words.number()?;
-    words.closed(Line::Back(count))
+    words.if_closed(Line::Back(count))
 }

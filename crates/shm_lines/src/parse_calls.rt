@@ -58,7 +58,7 @@ fn get(words: Words<'_>) -> Option<Line>
         mode,
         flags,
     };
-    words.closed(begin(site, op))
+    words.if_closed(begin(site, op))
 }
 
 fn attach(words: Words<'_>) -> Option<Line>
@@ -73,7 +73,7 @@ fn attach(words: Words<'_>) -> Option<Line>
         id: SegId(id),
         ro,
     };
-    words.closed(begin(site, op))
+    words.if_closed(begin(site, op))
 }
 
 fn detach(words: Words<'_>) -> Option<Line>
@@ -81,7 +81,7 @@ fn detach(words: Words<'_>) -> Option<Line>
 {
     let (site, words) = words.number()?;
     let (at, words) = words.number()?;
-    words.closed(Line::Event(Event::Begin {
+    words.if_closed(Line::Event(Event::Begin {
         site: SiteId(site),
         request: Request::DetachAt(at),
     }))
@@ -97,7 +97,7 @@ fn remove(words: Words<'_>) -> Option<Line>
         cred,
         id: SegId(id),
     };
-    words.closed(begin(site, op))
+    words.if_closed(begin(site, op))
 }
 
 fn set(words: Words<'_>) -> Option<Line>
@@ -116,7 +116,7 @@ fn set(words: Words<'_>) -> Option<Line>
         gid,
         mode,
     };
-    words.closed(begin(site, op))
+    words.if_closed(begin(site, op))
 }
 
 fn stat(words: Words<'_>) -> Option<Line>
@@ -129,5 +129,5 @@ fn stat(words: Words<'_>) -> Option<Line>
         cred,
         id: SegId(id),
     };
-    words.closed(begin(site, op))
+    words.if_closed(begin(site, op))
 }

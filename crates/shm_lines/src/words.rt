@@ -107,7 +107,7 @@ impl<'a> Words<'a> {
     }
 
     /// The line, if no word is left.
-    pub fn closed(self, line: Line) -> Option<Line>
+    pub fn if_closed(self, line: Line) -> Option<Line>
         ensures { result ≡ said.closed line self.entry }
     {
         if !self.is_empty() {

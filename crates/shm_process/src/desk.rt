@@ -48,14 +48,14 @@ impl<A: Allocator + Copy> Desk<A> {
     }
 
     /// The entries of the steps that were made, each `step CLOCK LINE` and a line feed. They are to be kept before anything is told.
-    pub fn recorded(&self) -> &[u8]
+    pub fn entries(&self) -> &[u8]
         ensures { result.now ≡ (desk_of self.now).recorded }
     {
         self.recorded.as_slice()
     }
 
     /// All that is to be told.
-    pub fn told(&self) -> &str
+    pub fn output(&self) -> &str
         ensures { result.now ≡ (desk_of self.now).told }
     {
         self.told.as_str()
@@ -148,7 +148,7 @@ impl<A: Allocator + Copy> Desk<A> {
     fn show(&mut self) -> Result<(), AllocError>
         ensures { OnOk result (desk_of self.new ≡ tell (desk_of self.old) (line_text (shown_line (desk_of self.old).node (desk_of self.old).line))) }
     {
-        match self.node.shown(self.line.as_slice())? {
+        match self.node.line_at_once(self.line.as_slice())? {
             Some(shown) => push_line(&mut self.told, shown.as_str()),
             None => Ok(()),
         }

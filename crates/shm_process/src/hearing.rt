@@ -16,7 +16,7 @@ use std::alloc::{AllocError, Allocator};
 
 impl<A: Allocator + Copy> Node<A> {
     /// What the line hands to the site, if it is for this site. A page's bytes and a caller's tag take memory.
-    pub(crate) fn heard(&self, line: &[u8]) -> Result<Option<Heard<A>>, AllocError>
+    pub(crate) fn heard_input(&self, line: &[u8]) -> Result<Option<Heard<A>>, AllocError>
         ensures heard { IfOk result (λ heard. option_map heard_of heard ≡ spec.heard (node_of self.now) line.now) }
         ensures proper { IfOk result (λ heard. IfSome heard (λ h. is_foreign self.now.sites self.now.me (input_of h.input) ≡ false)) }
         ensures early { IfOk result (λ heard. IfSome heard (λ h. max self.now.clock h.source < greatest)) }

@@ -74,14 +74,14 @@ impl<A: Allocator + Copy> Node<A> {
     }
 
     /// How many lines made a step when they were taken, or brought a block that found room.
-    pub fn taken(&self) -> u64
+    pub fn lines_taken(&self) -> u64
         ensures { result ≡ (node_of self.now).taken }
     {
         self.taken
     }
 
     /// How many lines were passed over: the others; a `show`, and a block that found no room, too, though they are answered.
-    pub fn passed(&self) -> u64
+    pub fn lines_passed(&self) -> u64
         ensures { result ≡ (node_of self.now).passed }
     {
         self.passed

@@ -36,7 +36,7 @@ impl<A: Allocator + Copy> Node<A> {
         ensures after { OnOk result (node_of self.new ≡ unwrap_or (replayed (node_of self.old) clock line.now) (node_of self.old)) }
         ensures refused { OnErr result (node_of self.new ≡ node_of self.old) }
     {
-        let Some(heard) = self.recorded(line)? else {
+        let Some(heard) = self.recorded_input(line)? else {
             return Ok(false);
         };
         if self.next_clock(heard.source) != clock {
@@ -47,12 +47,12 @@ impl<A: Allocator + Copy> Node<A> {
     }
 
     /// What a recorded line handed to the site.
-    fn recorded(&self, line: &[u8]) -> Result<Option<Heard<A>>, AllocError>
+    fn recorded_input(&self, line: &[u8]) -> Result<Option<Heard<A>>, AllocError>
         ensures heard { IfOk result (λ h. option_map heard_of h ≡ or_restart (node_of self.now) line.now (heard (node_of self.now) line.now)) }
         ensures proper { IfOk result (λ heard. IfSome heard (λ h. is_foreign self.now.sites self.now.me (input_of h.input) ≡ false)) }
         ensures early { IfOk result (λ heard. IfSome heard (λ h. max self.now.clock h.source < greatest)) }
     {
-        match self.heard(line)? {
+        match self.heard_input(line)? {
             Some(heard) => Ok(Some(heard)),
             None => Ok(self.recorded_restart(line)),
         }

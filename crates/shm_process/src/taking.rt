@@ -36,7 +36,7 @@ impl<A: Allocator + Copy> Node<A> {
         ensures after { OnOk result (node_of self.new ≡ after (node_of self.old) line.now) }
         ensures refused { OnErr result (node_of self.new ≡ node_of self.old) }
     {
-        match self.heard(line)? {
+        match self.heard_input(line)? {
             Some(heard) => {
                 let said = self.make(heard, line)?;
                 Ok(Some(said))

@@ -67,7 +67,7 @@ impl<A: Allocator + Copy> Node<A> {
     /// The line that is told at once of this one, without a line feed: what the site has of a page, where that is asked of it, and that a
     /// block finds no room to wait. It makes no step, and is to be asked for before the line is taken: a block that has joined may have
     /// taken the last room.
-    pub fn shown(&self, line: &[u8]) -> Result<Option<String<A>>, AllocError>
+    pub fn line_at_once(&self, line: &[u8]) -> Result<Option<String<A>>, AllocError>
         ensures { IfOk result (λ told. option_map string_bytes told ≡ shown_line (node_of self.now) line.now) }
     {
         let Some(ask) = parse_ask(line) else {

@@ -52,7 +52,7 @@ impl<A: Allocator + Copy> Node<A> {
         ensures refused { OnErr result (node_of self.new ≡ node_of self.old) }
     {
         let line = self.line_at(at)?;
-        let Some(heard) = self.heard(line.as_slice())? else {
+        let Some(heard) = self.heard_input(line.as_slice())? else {
             return Ok(None);
         };
         if !heard.waits {

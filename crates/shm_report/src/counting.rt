@@ -146,14 +146,14 @@ fn mark(marks: &mut Vec<bool>, event: &Event)
     ensures marked { (k : ℕ) → k < length marks.old.items
         → slice_index_or marks.new.items k false ≡ (slice_index_or marks.old.items k false || spec.receives k event.now) }
 {
-    match received_by(event) {
+    match received_envelope(event) {
         Some(number) => mark_at(marks, number as usize),
         None => {}
     }
 }
 
 /// The envelope that the event hands over, if it does.
-fn received_by(event: &Event) -> Option<u64>
+fn received_envelope(event: &Event) -> Option<u64>
     ensures { (k : ℕ) → spec.receives k event.now ≡ option_map_or (λ number. number == k) result false }
 {
     match event {

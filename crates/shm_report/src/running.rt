@@ -51,7 +51,7 @@ pub fn run_workload<R: Threads + Wait + Copy + Send + Sync + 'static>(
         workload.accesses.as_slice(),
     );
     let logs = cluster.stop(rt);
-    ran(alloc, sites, workload.pages, told, logs)
+    run_outcome(alloc, sites, workload.pages, told, logs)
 }
 
 /// Runs a caller for each site, in a thread of its own.
@@ -92,7 +92,7 @@ fn call_site<R: Wait>(
 }
 
 /// What came of the workload, where each caller came to its end, and the logs that were given back are those of so many sites.
-fn ran(
+fn run_outcome(
     alloc: Global,
     sites: Sites,
     pages: u32,
@@ -115,13 +115,13 @@ fn ran(
         Err(fault) => return Err(fault),
     };
     match logs {
-        Ok(logs) => matching(sites, pages, Ran { callers, logs }),
+        Ok(logs) => if_matching(sites, pages, Ran { callers, logs }),
         Err(_) => Err(RunFault::OutOfMemory),
     }
 }
 
 /// The same, where its logs are those of so many sites.
-fn matching(sites: Sites, pages: u32, ran: Ran) -> Result<Ran, RunFault>
+fn if_matching(sites: Sites, pages: u32, ran: Ran) -> Result<Ran, RunFault>
     ensures same { IfOk result (λ matched. matched ≡ ran) }
     ensures logs { IfOk result (λ ran. AreLogsOf sites pages ran.logs.items) }
     ensures fault { IfErr result (λ fault. (fault ≡ cause.Logs) × (¬ AreLogsOf sites pages ran.logs.items)) }

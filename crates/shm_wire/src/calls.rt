@@ -2,7 +2,7 @@
 ghost use Rattle.std.specs.Prelude.{◌≡◌};
 ghost use Rattle.shm_wire.specs.Calls.{call_of, common_of, detach_of, get_of, attach_of, remove_of, set_of, stat_of};
 
-use crate::words::ended;
+use crate::words::if_ended;
 use shm_lines::Words;
 use shm_model::Op;
 use shm_place::{Key, SegId};
@@ -27,7 +27,7 @@ fn detach(words: Words<'_>) -> Option<Op>
         return None;
     }
     let op = Op::Detach { id: SegId(id) };
-    ended(op, words)
+    if_ended(op, words)
 }
 
 /// The segment call of this verb, but for a detach.
@@ -67,7 +67,7 @@ fn get(words: Words<'_>) -> Option<Op>
         mode,
         flags,
     };
-    ended(op, words)
+    if_ended(op, words)
 }
 
 fn attach(words: Words<'_>) -> Option<Op>
@@ -81,7 +81,7 @@ fn attach(words: Words<'_>) -> Option<Op>
         id: SegId(id),
         ro,
     };
-    ended(op, words)
+    if_ended(op, words)
 }
 
 fn remove(words: Words<'_>) -> Option<Op>
@@ -93,7 +93,7 @@ fn remove(words: Words<'_>) -> Option<Op>
         cred,
         id: SegId(id),
     };
-    ended(op, words)
+    if_ended(op, words)
 }
 
 fn set(words: Words<'_>) -> Option<Op>
@@ -111,7 +111,7 @@ fn set(words: Words<'_>) -> Option<Op>
         gid,
         mode,
     };
-    ended(op, words)
+    if_ended(op, words)
 }
 
 fn stat(words: Words<'_>) -> Option<Op>
@@ -123,5 +123,5 @@ fn stat(words: Words<'_>) -> Option<Op>
         cred,
         id: SegId(id),
     };
-    ended(op, words)
+    if_ended(op, words)
 }

@@ -24,7 +24,7 @@ pub fn plain<A: Allocator + Copy>(verb: &[u8], words: Words<'_>) -> Option<Messa
         return clear(words);
     }
     if verb == b"cleared".as_slice() {
-        return cleared(words);
+        return cleared_message(words);
     }
     if verb == b"hand".as_slice() {
         return hand(words);
@@ -42,7 +42,7 @@ pub fn plain<A: Allocator + Copy>(verb: &[u8], words: Words<'_>) -> Option<Messa
         return purge(words);
     }
     if verb == b"purged".as_slice() {
-        return purged(words);
+        return purged_message(words);
     }
     None
 }
@@ -89,7 +89,7 @@ fn clear<A: Allocator + Copy>(words: Words<'_>) -> Option<Message<A>>
     })
 }
 
-fn cleared<A: Allocator + Copy>(words: Words<'_>) -> Option<Message<A>>
+fn cleared_message<A: Allocator + Copy>(words: Words<'_>) -> Option<Message<A>>
     ensures { option_map message_of result ≡ numbered_of Cleared words.entry }
 {
     let (page, words) = page_id(words)?;
@@ -163,7 +163,7 @@ fn purge<A: Allocator + Copy>(words: Words<'_>) -> Option<Message<A>>
     Some(Message::Purge { id: SegId(id) })
 }
 
-fn purged<A: Allocator + Copy>(words: Words<'_>) -> Option<Message<A>>
+fn purged_message<A: Allocator + Copy>(words: Words<'_>) -> Option<Message<A>>
     ensures { option_map message_of result ≡ of_segment Purged words.entry }
 {
     let (id, words) = words.number()?;

@@ -2,7 +2,7 @@
 ghost use Rattle.std.specs.Prelude.{◌≡◌};
 ghost use Rattle.shm_wire.specs.Replies.{reply_of, id_of, attached_of, stat_of, refused_of};
 
-use crate::words::{ended, errno, standing, wide};
+use crate::words::{errno, if_ended, standing, wide};
 use shm_lines::Words;
 use shm_model::{Attached, Reply, Stat};
 use shm_place::{Key, SegId};
@@ -16,16 +16,16 @@ pub fn reply(words: Words<'_>) -> Option<Reply>
         return id(words);
     }
     if verb == b"attached".as_slice() {
-        return attached(words);
+        return attached_reply(words);
     }
     if verb == b"ok".as_slice() {
-        return ended(Reply::Ok, words);
+        return if_ended(Reply::Ok, words);
     }
     if verb == b"stat".as_slice() {
         return stat(words);
     }
     if verb == b"refused".as_slice() {
-        return refused(words);
+        return refused_reply(words);
     }
     None
 }
@@ -34,15 +34,15 @@ fn id(words: Words<'_>) -> Option<Reply>
     ensures { result ≡ id_of words.entry }
 {
     let (id, words) = words.number()?;
-    ended(Reply::Id(SegId(id)), words)
+    if_ended(Reply::Id(SegId(id)), words)
 }
 
-fn attached(words: Words<'_>) -> Option<Reply>
+fn attached_reply(words: Words<'_>) -> Option<Reply>
     ensures { result ≡ attached_of words.entry }
 {
     let (size, words) = words.number()?;
     let (ro, words) = words.access()?;
-    ended(Reply::Attached(Attached { size, ro }), words)
+    if_ended(Reply::Attached(Attached { size, ro }), words)
 }
 
 fn stat(words: Words<'_>) -> Option<Reply>
@@ -68,12 +68,12 @@ fn stat(words: Words<'_>) -> Option<Reply>
         nattch,
         marked,
     };
-    ended(Reply::Stat(stat), words)
+    if_ended(Reply::Stat(stat), words)
 }
 
-fn refused(words: Words<'_>) -> Option<Reply>
+fn refused_reply(words: Words<'_>) -> Option<Reply>
     ensures { result ≡ refused_of words.entry }
 {
     let (error, words) = errno(words)?;
-    ended(Reply::Refused(error), words)
+    if_ended(Reply::Refused(error), words)
 }

@@ -95,7 +95,7 @@ fn errno_named(word: &[u8]) -> Option<Errno>
 }
 
 /// What was read, if no word is left.
-pub fn ended<T: Drop>(value: T, words: Words<'_>) -> Option<T>
+pub fn if_ended<T: Drop>(value: T, words: Words<'_>) -> Option<T>
     ensures { result ≡ said.ended value words.entry }
 {
     if !words.is_empty() {

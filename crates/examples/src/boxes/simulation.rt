@@ -54,7 +54,7 @@ impl Simulation {
             Err(fault) => bail!("site {}: {fault:?}", site.0),
         };
         write!(out, "site {} {given}: {:?}", site.0, receipt.answer())?;
-        if receipt.asked().is_some() {
+        if receipt.asked_access().is_some() {
             self.receipts.push(receipt)?;
         }
         let (at, index) = (held.clock(), receipt.index());
@@ -89,12 +89,12 @@ impl Simulation {
             .into_iter()
             .map(SiteBox::into_log)
             .collect(alloc)?;
-        audited(alloc, sites, logs, self.receipts)
+        audit_logs(alloc, sites, logs, self.receipts)
     }
 }
 
 /// The same of logs, and of what a single caller was told.
-fn audited(
+fn audit_logs(
     alloc: Global,
     sites: Sites,
     logs: Vec<SiteLog>,

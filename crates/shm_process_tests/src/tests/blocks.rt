@@ -21,7 +21,12 @@ fn page_line(alloc: Global, front: &str, end: &str) -> Result<String, AllocError
 /// How many steps a desk's node has made, how many lines it took and passed over, and how many asks wait.
 fn counts(desk: &Desk) -> (u64, u64, u64, usize) {
     let node = desk.node();
-    (node.steps(), node.taken(), node.passed(), node.waiting())
+    (
+        node.steps(),
+        node.lines_taken(),
+        node.lines_passed(),
+        node.waiting(),
+    )
 }
 
 /// The bytes are 7, 255, 0 and 16.
@@ -32,9 +37,9 @@ fn a_block_is_told_once_and_recorded_byte_by_byte(rt: HostRuntime) -> Result<(),
     owner.take(b"ask 0 a store 0 5 7\nask 0 a store 0 6 255\nask 0 a store 0 8 16\n")?;
     owner.clear();
     owner.take(b"ask 0 b read 0 5 4\n")?;
-    assert_eq!(rt; owner.told(), "tell 0 b block B/8AEA==\n");
+    assert_eq!(rt; owner.output(), "tell 0 b block B/8AEA==\n");
     assert_eq!(rt;
-        owner.recorded(),
+        owner.entries(),
         b"step 4 ask 0 b load 0 5\nstep 5 ask 0 b load 0 6\nstep 6 ask 0 b load 0 7\nstep 7 ask 0 b load 0 8\n".as_slice()
     );
     assert_eq!(rt; counts(&owner), (7, 4, 0, 0));
@@ -54,9 +59,9 @@ fn a_block_over_two_pages_is_told_when_both_came(rt: HostRuntime) -> Result<(), 
     second.clear();
 
     reader.take(b"ask 2 b read 0 4094 5\n")?;
-    assert_eq!(rt; reader.told(), "env 2 0 1 0 0 ask 0 0 1 read\n");
+    assert_eq!(rt; reader.output(), "env 2 0 1 0 0 ask 0 0 1 read\n");
     assert_eq!(rt;
-        reader.recorded(),
+        reader.entries(),
         b"step 1 ask 2 b load 0 4094\n".as_slice()
     );
     first.take(b"env 2 0 1 0 0 ask 0 0 1 read\nenv 0 0 3 2 0 hand 0 0 1 read 2\n")?;
@@ -65,16 +70,16 @@ fn a_block_over_two_pages_is_told_when_both_came(rt: HostRuntime) -> Result<(), 
         "env 0 0 3 2 0 hand 0 0 1 read 2\nenv 0 2 4 3 0 page 0 0 1 read ",
         "AAABAg==\n",
     )?;
-    assert_eq!(rt; first.told(), lent.as_str());
+    assert_eq!(rt; first.output(), lent.as_str());
 
     reader.clear();
-    reader.take(first.told().as_bytes())?;
+    reader.take(first.output().as_bytes())?;
     assert_eq!(rt;
-        reader.told(),
+        reader.output(),
         "env 2 0 5 1 0 confirm 0 0 1\nenv 2 1 8 4 0 ask 0 1 2 read\n"
     );
     assert!(rt;
-        reader.recorded().ends_with(
+        reader.entries().ends_with(
             b"\nstep 6 ask 2 b load 0 4094\nstep 7 ask 2 b load 0 4095\nstep 8 ask 2 b load 0 4096\n".as_slice()
         )
     );
@@ -84,16 +89,16 @@ fn a_block_over_two_pages_is_told_when_both_came(rt: HostRuntime) -> Result<(), 
         "env 1 1 9 2 0 hand 0 1 1 read 2\nenv 1 2 10 3 0 page 0 1 1 read AwAF",
         "AA==\n",
     )?;
-    assert_eq!(rt; second.told(), lent.as_str());
+    assert_eq!(rt; second.output(), lent.as_str());
 
     reader.clear();
-    reader.take(second.told().as_bytes())?;
+    reader.take(second.output().as_bytes())?;
     assert_eq!(rt;
-        reader.told(),
+        reader.output(),
         "env 2 1 11 5 0 confirm 0 1 1\ntell 2 b block AQIDAAU=\n"
     );
     assert!(rt;
-        reader.recorded().ends_with(
+        reader.entries().ends_with(
             b"\nstep 12 ask 2 b load 0 4096\nstep 13 ask 2 b load 0 4097\nstep 14 ask 2 b load 0 4098\n".as_slice()
         )
     );
@@ -133,11 +138,16 @@ fn a_block_that_finds_no_room_is_told_so_and_passed_over(rt: HostRuntime) -> Res
     let alloc = rt.alloc();
     let mut node = new_node(alloc, 2, 1)?;
     crowd(&mut node)?;
-    let told = node.shown(b"ask 1 b read 0 2 1")?;
+    let told = node.line_at_once(b"ask 1 b read 0 2 1")?;
     assert!(rt; is_line(&told, "tell 1 b waiting"));
     assert!(rt; node.take(b"ask 1 b read 0 2 1")?.is_none());
     assert_eq!(rt;
-        (node.steps(), node.taken(), node.passed(), node.waiting()),
+        (
+            node.steps(),
+            node.lines_taken(),
+            node.lines_passed(),
+            node.waiting()
+        ),
         (64, 64, 1, 64)
     );
     Ok(())
@@ -152,7 +162,12 @@ fn takes<'a>(rt: &impl Abort, node: &mut Node<&'a LocalHeap>) -> bool {
         }
         Err(_) => {
             assert_eq!(rt;
-                (node.steps(), node.taken(), node.passed(), node.waiting()),
+                (
+                    node.steps(),
+                    node.lines_taken(),
+                    node.lines_passed(),
+                    node.waiting()
+                ),
                 (0, 0, 0, 0)
             );
             false
@@ -189,7 +204,12 @@ fn each_growth_of_a_block_is_refused_in_turn(rt: HostRuntime) -> Result<(), Fail
         "the place among those that wait was refused too"
     );
     assert_eq!(rt;
-        (node.steps(), node.taken(), node.passed(), node.waiting()),
+        (
+            node.steps(),
+            node.lines_taken(),
+            node.lines_passed(),
+            node.waiting()
+        ),
         (0, 1, 0, 1)
     );
     Ok(())

@@ -47,8 +47,8 @@ fn a_copy_is_lent(rt: HostRuntime) -> Result<(), Fail> {
         (
             reader.steps(),
             reader.clock(),
-            reader.taken(),
-            reader.passed()
+            reader.lines_taken(),
+            reader.lines_passed()
         ),
         (3, 5, 2, 1)
     );
@@ -63,7 +63,10 @@ fn tries_load<'a>(rt: &impl Abort, node: &mut Node<&'a LocalHeap>) -> bool {
             true
         }
         Err(_) => {
-            assert_eq!(rt; (node.steps(), node.taken(), node.passed()), (0, 0, 0));
+            assert_eq!(rt;
+                (node.steps(), node.lines_taken(), node.lines_passed()),
+                (0, 0, 0)
+            );
             false
         }
     }
@@ -93,7 +96,7 @@ fn each_growth_is_refused_in_turn(rt: HostRuntime) -> Result<(), Fail> {
         return Err(Fail::new("no step was made"));
     };
     assert!(rt; tries > 1, "the tag and what is sent were refused too");
-    assert_eq!(rt; (node.steps(), node.taken()), (1, 1));
+    assert_eq!(rt; (node.steps(), node.lines_taken()), (1, 1));
     Ok(())
 }
 
@@ -103,29 +106,26 @@ fn an_access_is_answered_when_its_page_comes(rt: HostRuntime) -> Result<(), Fail
     let mut owner = Desk::new(alloc, new_node(alloc, 2, 0)?);
     let mut reader = Desk::new(alloc, new_node(alloc, 2, 1)?);
     owner.take(b"ask 0 a store 0 5 7\nnot a line of ours\nask 1 b lo")?;
-    assert_eq!(rt; owner.told(), "tell 0 a stored\n");
-    assert_eq!(rt;
-        owner.recorded(),
-        b"step 1 ask 0 a store 0 5 7\n".as_slice()
-    );
+    assert_eq!(rt; owner.output(), "tell 0 a stored\n");
+    assert_eq!(rt; owner.entries(), b"step 1 ask 0 a store 0 5 7\n".as_slice());
     reader.take(b"ask 1 b load 0 5\nask 1 c show 0 0\n")?;
     assert_eq!(rt;
-        reader.told(),
+        reader.output(),
         "env 1 0 1 0 0 ask 0 0 1 read\ntell 1 c page Nil/0\n"
     );
     owner.clear();
     owner.take(b"ad 0 5\n")?;
     owner.take(b"env 1 0 1 0 0 ask 0 0 1 read\nenv 0 0 2 1 0 hand 0 0 1 read 1\n")?;
-    assert_eq!(rt; owner.node().passed(), 2);
+    assert_eq!(rt; owner.node().lines_passed(), 2);
     assert_eq!(rt;
-        owner.recorded(),
+        owner.entries(),
         b"step 2 env 1 0 1 0 0 ask 0 0 1 read\nstep 3 env 0 0 2 1 0 hand 0 0 1 read 1\n".as_slice()
     );
-    let lent = String::from_str(alloc, owner.told())?;
+    let lent = String::from_str(alloc, owner.output())?;
     reader.clear();
     reader.take(lent.as_bytes())?;
     assert_eq!(rt;
-        reader.told(),
+        reader.output(),
         "env 1 0 4 1 0 confirm 0 0 1\ntell 1 b byte 7\n"
     );
     assert_eq!(rt; reader.node().waiting(), 0);
@@ -143,7 +143,7 @@ fn a_restart_is_recorded_and_asks_that_wait_are_forgotten(rt: HostRuntime) -> Re
         desk.restart()?;
     }
     assert_eq!(rt;
-        desk.recorded(),
+        desk.entries(),
         b"first\nstep 1 ask 1 b load 0 5\nstep 2 restart\n".as_slice()
     );
     assert_eq!(rt; desk.node().waiting(), 0);

@@ -137,7 +137,7 @@ fn told(taken: Result<Receipt, BoxFault>) -> Result<Told, BoxFault> {
         Ok(receipt) => Ok((
             receipt.site().0,
             receipt.index(),
-            receipt.asked(),
+            receipt.asked_access(),
             receipt.answer(),
         )),
         Err(fault) => Err(fault),

@@ -107,7 +107,7 @@ fn cause_of_all<A: Allocator + Copy>(
     ensures fault { IfErr result (λ f. (f ≡ fault.OutOfMemory) ⊎ IsFirstCauseOfAll (logs_of logs.now) (callers_of callers.now) f) }
 {
     match named_steps(alloc, logs, callers) {
-        Ok(marks) => all_told(logs, marks),
+        Ok(marks) => check_all_told(logs, marks),
         Err(fault) => Err(fault),
     }
 }
@@ -156,7 +156,10 @@ fn name_steps<A: Allocator + Copy>(
 }
 
 /// The first step that needs a receipt and isn't marked, where there is one.
-fn all_told<A: Allocator + Copy>(logs: &[SiteLog<A>], marks: Marks<A>) -> Result<(), AuditFault>
+fn check_all_told<A: Allocator + Copy>(
+    logs: &[SiteLog<A>],
+    marks: Marks<A>,
+) -> Result<(), AuditFault>
     requires { length logs.now ≤ 16 }
     ensures told { IsOk result → (s i : ℕ) → IsToldAt (logs_of logs.now) (mark_at (marks_of marks)) s i }
     ensures untold { IfErr result (IsUntold (logs_of logs.now) (mark_at (marks_of marks))) }

@@ -85,7 +85,7 @@ fn tells<A: Allocator + Copy>(logs: &[SiteLog<A>], receipt: &Receipt) -> bool
 {
     match step_at(logs, receipt.site(), receipt.index()) {
         Some(step) => {
-            same_access(step.input.access(), receipt.asked())
+            same_access(step.input.access(), receipt.asked_access())
                 && same_answer(step.answer, receipt.answer())
         }
         None => false,

@@ -45,7 +45,7 @@ impl Receipt {
     }
 
     /// The access of the step, where it was one.
-    pub fn asked(&self) -> Option<Asked>
+    pub fn asked_access(&self) -> Option<Asked>
         ensures { asked_of result ≡ (receipt_of self.now).asked }
     {
         self.asked

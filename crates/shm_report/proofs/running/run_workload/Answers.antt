@@ -7,5 +7,5 @@ pub returns-clause-place : goal.returns-clause-place
 returns-clause-place g c =
     let sites = c.args.sites in
     let accesses = c.args.workload.now.accesses.items in
-    c.ran.ensures.place sites accesses
+    c.run_outcome.ensures.place sites accesses
     (subst (λ lines. IfOk c.call-told.result (λ told. ServedUnlessEnded sites lines told.items)) c.as_slice.ensures.value c.call-told.ensures)

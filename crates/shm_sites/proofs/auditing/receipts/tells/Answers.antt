@@ -15,7 +15,7 @@ returns-then-same_access g c =
     let named : slice_get (log_of logs r.site) r.index ≡ Some l =
     ap (λ s. slice_get (log_of logs s) r.index) (sym c.site.ensures) ∙ ap (λ i. slice_get (log_of logs c.site.result) i) (sym c.index.ensures)
     ∙ sym c.in-Some.ensures in
-    let asked : access l.input ≡ r.asked = sym c.access.ensures ∙ c.same_access.ensures.0 c.if-same_access.true ∙ c.asked.ensures in (
+    let asked : access l.input ≡ r.asked = sym c.access.ensures ∙ c.same_access.ensures.0 c.if-same_access.true ∙ c.asked_access.ensures in (
       λ h. record { step = l; named = named; asked = asked; answered = c.same_answer.ensures.same h ∙ c.answer.ensures },
       λ h. c.same_answer.ensures.other (answered-so logs r l named h ∙ sym c.answer.ensures),
     )

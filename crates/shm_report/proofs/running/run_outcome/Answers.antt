@@ -3,11 +3,11 @@ use Rattle.std.proofs.Common.{IfErr, IfOk, subst, sym}
 use Rattle.shm_report.specs.Callers.{ServedUnlessEnded}
 use Rattle.shm_report.specs.RunFaults.{NoneFailed, TellsFirst}
 use Rattle.shm_report.proofs.Served.{all_served, matched_callers, names_access, none_failed, unmatched_first}
-use Rattle.shm_report.proofs.running.ran.Goals as goal
+use Rattle.shm_report.proofs.running.run_outcome.Goals as goal
 
 pub returns-in-Ok-logs-clause-callers : goal.returns-in-Ok-logs-clause-callers
 returns-in-Ok-logs-clause-callers c sites accesses served =
-    matched_callers c.matching.result (record { callers = c.in-Ok-receipts.callers; logs = c.in-Ok-logs.logs }) sites accesses c.matching.ensures.same
+    matched_callers c.if_matching.result (record { callers = c.in-Ok-receipts.callers; logs = c.in-Ok-logs.logs }) sites accesses c.if_matching.ensures.same
     (all_served sites accesses c.in-Ok.told.items c.in-Ok-receipts.callers.items
     (subst (λ told. IfOk told (λ told. ServedUnlessEnded sites accesses told.items)) c.in-Ok.is served) c.in-Ok-receipts.ensures.all)
 
@@ -26,6 +26,6 @@ returns-in-Err-logs-clause-first c =
 
 pub returns-in-Ok-logs-clause-first : goal.returns-in-Ok-logs-clause-first
 returns-in-Ok-logs-clause-first c =
-    subst (λ told. IfOk told (λ told. IfErr c.matching.result (TellsFirst told.items))) (sym c.in-Ok.is)
-    (unmatched_first _ c.matching.result c.in-Ok.told.items c.matching.ensures.fault
+    subst (λ told. IfOk told (λ told. IfErr c.if_matching.result (TellsFirst told.items))) (sym c.in-Ok.is)
+    (unmatched_first _ c.if_matching.result c.in-Ok.told.items c.if_matching.ensures.fault
     (none_failed c.in-Ok.told.items c.in-Ok-receipts.callers.items c.in-Ok-receipts.ensures.all))

@@ -3,7 +3,7 @@ use Rattle.std.proofs.lemmas.Result.{IfOk-weaker}
 use Rattle.shm_model.specs.World.{opened}
 use Rattle.shm_world.specs.World.{StandsFor}
 use Rattle.shm_draw.specs.Svg.{svg_text}
-use Rattle.shm_draw.proofs.script.drawn_session.Goals as goal
+use Rattle.shm_draw.proofs.script.session_picture.Goals as goal
 
 pub returns : goal.returns
 returns g c =
