@@ -11,7 +11,7 @@ use Rattle.shm_lines.specs.declared.line.Line.TheVariants.{Sites, Event as Event
 use Rattle.shm_debug.specs.Standing.{Standing, without_last}
 use Rattle.shm_model.specs.Promise.{Promised}
 use Rattle.shm_debug.specs.Said.{next, standing_after}
-use Rattle.shm_debug.specs.Promise.{Kept}
+use Rattle.shm_debug.specs.Promise.{KeepsPromise}
 use Rattle.shm_debug.specs.Script.{Script, begun, parts_of, placed, read_line, read_on, script_of, unended, whole}
 use Rattle.shm_debug.specs.declared.outcome.DebugFault.{DebugFault}
 use Rattle.shm_debug.specs.declared.outcome.DebugFault.TheVariants.{BadLine, LineTooLong, TooManyLines}
@@ -91,9 +91,9 @@ module _ (spelled : (bytes : List ℕ) (line : Line) → line_of bytes ≡ Some 
 
   -- the promise holds of all that begins as a world may
   module _ (promised : (o : Opening) (events : List Event) → IsOpening o → Promised o events) where
-    kept : (s : Option Standing) → Begins s → Kept s
+    kept : (s : Option Standing) → Begins s → KeepsPromise s
     kept None b = tt
     kept (Some s) b = promised s.opening s.events b
 
-    pub always-kept : (bytes : List ℕ) (n : ℕ) → Kept (standing_after None (take n (script_of bytes).lines))
+    pub always-kept : (bytes : List ℕ) (n : ℕ) → KeepsPromise (standing_after None (take n (script_of bytes).lines))
     always-kept bytes n = kept (standing_after None (take n (script_of bytes).lines)) (begins-always bytes n)

@@ -12,13 +12,13 @@ use Rattle.shm_model.specs.Promise.{Promised}
 use Rattle.shm_debug.specs.Said.{said_to_event, standing_after}
 
 -- the headline, of the run of what stands
-abbrev pub Kept : Option Standing → Type 0
-Kept None = Unit {0}
-Kept (Some s) = Promised s.opening s.events
+abbrev pub KeepsPromise : Option Standing → Type 0
+KeepsPromise None = Unit {0}
+KeepsPromise (Some s) = Promised s.opening s.events
 
 -- After each line it holds of what stands then: each byte that was loaded is the one stored last to its place, and so on.
 abbrev pub AlwaysKept : List Line → Type 0
-AlwaysKept lines = (n : ℕ) → Kept (standing_after None (take n lines))
+AlwaysKept lines = (n : ℕ) → KeepsPromise (standing_after None (take n lines))
 
 -- This follows `byte `, where a load of these is told so: the byte stored last to its place by the events that stand before it, or 0 where
 -- there is none (Li and Hudak 1989, §2); the place is in the segment that the attachment names then. The envelopes that were sent follow.

@@ -11,7 +11,7 @@ const KEPT: usize = 8448;
 
 /// The last bytes of a text, from the beginning of a line on.
 #[derive(Drop)]
-pub struct Kept {
+pub struct KeptLines {
     /// The number of the line with which they begin.
     first: u64,
     bytes: [u8; KEPT],
@@ -19,10 +19,10 @@ pub struct Kept {
     ghost within: { len ≤ 8448 },
 }
 
-impl Kept {
+impl KeptLines {
     /// Nothing yet.
-    pub fn new() -> Kept {
-        Kept {
+    pub fn new() -> KeptLines {
+        KeptLines {
             first: 1,
             bytes: [0; KEPT],
             len: 0,

@@ -1,7 +1,7 @@
 //! A reader that remembers the lines that it gave last.
 ghost use Rattle.std.specs.Prelude.{◌≤◌, length, IfSome};
 
-use crate::hints::kept::Kept;
+use crate::hints::kept::KeptLines;
 use std::io::{self, Read};
 
 /// How many bytes are read at once at most.
@@ -12,14 +12,14 @@ const BLOCK: usize = 8192;
 #[derive(Drop)]
 pub struct Recalling<R> {
     reader: R,
-    kept: Kept,
+    kept: KeptLines,
 }
 
 impl<R: Read> Recalling<R> {
     pub fn new(reader: R) -> Recalling<R> {
         Recalling {
             reader,
-            kept: Kept::new(),
+            kept: KeptLines::new(),
         }
     }
 }
