@@ -5,9 +5,9 @@ use Rattle.shm_lines.specs.Words.{is_end}
 use Rattle.shm_lines.proofs.WordLemmas.{is_end-parts}
 use Rattle.shm_lines.specs.Workload.{Whole, parts_of, prefixed, read_line, then_rest, with_size, access_of, accesses_on, read_all, after_first, preset_of}
 use Rattle.shm_lines.specs.declared.workload_fault.WorkloadFault.{WorkloadFault}
-use Rattle.shm_lines.specs.declared.access.Access.{Access}
+use Rattle.shm_lines.specs.declared.access.WorkloadAccess.{WorkloadAccess}
 
-prefixed-then : (before : List Access) (access : Access) (rest : Result (List Access) WorkloadFault)
+prefixed-then : (before : List WorkloadAccess) (access : WorkloadAccess) (rest : Result (List WorkloadAccess) WorkloadFault)
     → prefixed before (then_rest (Ok access) rest) ≡ prefixed (before ++ access ∷ []) rest
 prefixed-then before access (Err fault) = refl
 prefixed-then before access (Ok accesses) = ap Ok (sym (append_assoc before (access ∷ []) accesses))
@@ -24,21 +24,21 @@ read_all-first sites line [] e = absurd (cc)
 read_all-first sites line (part ∷ parts) e = refl
 
 -- this line, and what is read after it
-step : (sites size n : ℕ) (before : List Access) (bytes line others : List ℕ) → parts_of bytes ≡ line ∷ parts_of others
+step : (sites size n : ℕ) (before : List WorkloadAccess) (bytes line others : List ℕ) → parts_of bytes ≡ line ∷ parts_of others
     → prefixed before (accesses_on sites size n (parts_of bytes))
     ≡ prefixed before (then_rest (read_line (access_of sites size) n line) (accesses_on sites size (n + 1) (parts_of others)))
 step sites size n before bytes line others cut =
     ap (λ parts. prefixed before (accesses_on sites size n parts)) cut
     ∙ ap (prefixed before) (accesses_on-line sites size n line (parts_of others) (is_end-parts (λ byte. byte == 10) others))
 
-pub line_fails : (sites size n : ℕ) (before : List Access) (bytes line others : List ℕ) (fault : WorkloadFault)
+pub line_fails : (sites size n : ℕ) (before : List WorkloadAccess) (bytes line others : List ℕ) (fault : WorkloadFault)
     → parts_of bytes ≡ line ∷ parts_of others → Err fault ≡ read_line (access_of sites size) n line
     → prefixed before (accesses_on sites size n (parts_of bytes)) ≡ Err fault
 line_fails sites size n before bytes line others fault cut read =
     step sites size n before bytes line others cut
     ∙ ap (λ r. prefixed before (then_rest r (accesses_on sites size (n + 1) (parts_of others)))) (sym read)
 
-pub line_passes : (sites size n : ℕ) (before : List Access) (bytes line others : List ℕ) (access : Access)
+pub line_passes : (sites size n : ℕ) (before : List WorkloadAccess) (bytes line others : List ℕ) (access : WorkloadAccess)
     → parts_of bytes ≡ line ∷ parts_of others → Ok access ≡ read_line (access_of sites size) n line
     → prefixed before (accesses_on sites size n (parts_of bytes)) ≡ prefixed (before ++ access ∷ []) (accesses_on sites size (n + 1) (parts_of others))
 line_passes sites size n before bytes line others access cut read =

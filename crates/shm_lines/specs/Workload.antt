@@ -9,28 +9,28 @@ use Rattle.shm_lines.specs.Words.{◌>>=◌, words_of, byte_of, next_word, next_
 use Rattle.shm_lines.specs.Limits.{max_line_bytes, max_lines}
 use Rattle.shm_lines.specs.declared.workload_fault.WorkloadFault.{WorkloadFault}
 use Rattle.shm_lines.specs.declared.workload_fault.WorkloadFault.TheVariants.{BadLine, LineTooLong, TooManyLines}
-use Rattle.shm_lines.specs.declared.access.Access.{Access}
+use Rattle.shm_lines.specs.declared.access.WorkloadAccess.{WorkloadAccess}
 
 -- there is such a site, and segment 0 has a byte there
 abbrev pub is_inside : ℕ → ℕ → ℕ → ℕ → Bool
 is_inside sites size site offset = nat_lt site sites && nat_lt offset (size * page_bytes)
 
 -- `load site offset`
-abbrev pub load_of : ℕ → ℕ → List (List ℕ) → Option Access
+abbrev pub load_of : ℕ → ℕ → List (List ℕ) → Option WorkloadAccess
 load_of sites size words = do
   (site, words) ← next_number words
   (offset, words) ← next_number words
   if is_end words && is_inside sites size site offset then Some (record { site = site; asked = Load 0 offset }) else None
 
 -- `store site offset byte`
-abbrev pub store_of : ℕ → ℕ → List (List ℕ) → Option Access
+abbrev pub store_of : ℕ → ℕ → List (List ℕ) → Option WorkloadAccess
 store_of sites size words = do
   (site, words) ← next_number words
   (offset, words) ← next_number words
   (byte, words) ← next_of byte_of words
   if is_end words && is_inside sites size site offset then Some (record { site = site; asked = Store 0 offset byte }) else None
 
-abbrev pub access_of : ℕ → ℕ → List ℕ → Option Access
+abbrev pub access_of : ℕ → ℕ → List ℕ → Option WorkloadAccess
 access_of sites size line = do
   (verb, words) ← next_word (words_of line)
   if bytes_eq verb (codes "load") then load_of sites size words
@@ -67,20 +67,20 @@ abbrev pub open_line : ℕ → List ℕ → WorkloadFault
 open_line number bytes = unwrap_or (broken_limit number bytes) (BadLine number)
 
 -- this access, and then the rest
-abbrev pub then_rest : Result Access WorkloadFault → Result (List Access) WorkloadFault → Result (List Access) WorkloadFault
+abbrev pub then_rest : Result WorkloadAccess WorkloadFault → Result (List WorkloadAccess) WorkloadFault → Result (List WorkloadAccess) WorkloadFault
 then_rest (Err fault) rest = Err fault
 then_rest (Ok access) (Err fault) = Err fault
 then_rest (Ok access) (Ok accesses) = Ok (access ∷ accesses)
 
 -- from the line of this number on, in the parts that the line feeds leave
-abbrev pub accesses_on : ℕ → ℕ → ℕ → List (List ℕ) → Result (List Access) WorkloadFault
+abbrev pub accesses_on : ℕ → ℕ → ℕ → List (List ℕ) → Result (List WorkloadAccess) WorkloadFault
 accesses_on sites size number [] = Ok []
 accesses_on sites size number (rest ∷ []) = if length rest == 0 then Ok [] else Err (open_line number rest)
 accesses_on sites size number (bytes ∷ next ∷ others) =
     then_rest (read_line (access_of sites size) number bytes) (accesses_on sites size (number + 1) (next ∷ others))
 
 -- these accesses, and then the rest
-abbrev pub prefixed : List Access → Result (List Access) WorkloadFault → Result (List Access) WorkloadFault
+abbrev pub prefixed : List WorkloadAccess → Result (List WorkloadAccess) WorkloadFault → Result (List WorkloadAccess) WorkloadFault
 prefixed before (Err fault) = Err fault
 prefixed before (Ok accesses) = Ok (before ++ accesses)
 
@@ -90,9 +90,9 @@ parts_of bytes = slice_split (λ byte. byte == 10) bytes
 -- how many pages there are, and what is done, in the order of the lines
 pub record Whole : Type 0 where
   pub size : ℕ
-  pub accesses : List Access
+  pub accesses : List WorkloadAccess
 
-abbrev pub with_size : ℕ → Result (List Access) WorkloadFault → Result Whole WorkloadFault
+abbrev pub with_size : ℕ → Result (List WorkloadAccess) WorkloadFault → Result Whole WorkloadFault
 with_size size (Err fault) = Err fault
 with_size size (Ok accesses) = Ok (record { size = size; accesses = accesses })
 

@@ -18,7 +18,7 @@ mod workload;
 mod workload_fault;
 mod workload_line;
 
-pub use access::Access;
+pub use access::WorkloadAccess;
 pub use hints::{
     Expected, Hint, Recalling, Word, hint_of_access_line, hint_of_first_line, hint_of_script_line,
     write_hint,

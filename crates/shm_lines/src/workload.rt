@@ -3,7 +3,7 @@ ghost use Rattle.std.specs.Prelude.{◌≡◌, ◌≢◌, ◌≤◌, ◌⊎◌, 
 ghost use Rattle.shm_lines.specs.Workload.{open_line, parts_of, with_size, workload_of, accesses_on};
 ghost use Rattle.shm_lines.specs.declared.workload_fault.WorkloadFault.TheVariants as cause;
 
-use crate::access::Access;
+use crate::access::WorkloadAccess;
 use crate::split_at;
 use crate::workload_fault::WorkloadFault;
 use crate::workload_line::{access_line, first_line, open_line};
@@ -16,7 +16,7 @@ pub struct Workload<A: Allocator = Global> {
     /// How many pages segment 0 has, 1 to 256.
     pub pages: u32,
     /// What is done, in the order of the lines, the first of which is line 2.
-    pub accesses: Vec<Access, A>,
+    pub accesses: Vec<WorkloadAccess, A>,
 }
 
 /// Reads a workload for so many sites.
@@ -74,7 +74,7 @@ fn further_lines<A: Allocator>(
 /// The workload that ends with this, which has no line feed.
 fn finish<A: Allocator>(
     size: u32,
-    accesses: Vec<Access, A>,
+    accesses: Vec<WorkloadAccess, A>,
     number: u64,
     rest: &[u8],
 ) -> Result<Workload<A>, WorkloadFault>

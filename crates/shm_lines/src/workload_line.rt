@@ -3,7 +3,7 @@ ghost use Rattle.std.specs.Prelude.{◌≡◌, ◌≤◌};
 ghost use Rattle.shm_lines.specs.Workload as said;
 
 use crate::Words;
-use crate::access::Access;
+use crate::access::WorkloadAccess;
 use crate::workload_fault::WorkloadFault;
 use shm_model::Asked;
 use shm_place::{PAGE_BYTES, PAGES, SiteId, Sites};
@@ -33,7 +33,7 @@ pub(crate) fn access_line(
     size: u32,
     number: u64,
     line: &[u8],
-) -> Result<Access, WorkloadFault>
+) -> Result<WorkloadAccess, WorkloadFault>
     requires { size ≤ PAGES }
     ensures { result ≡ said.read_line (said.access_of sites size) number line.now }
 {
@@ -82,7 +82,7 @@ fn preset_of(line: &[u8]) -> Option<u32>
     Some(size)
 }
 
-fn access_of(sites: Sites, size: u32, line: &[u8]) -> Option<Access>
+fn access_of(sites: Sites, size: u32, line: &[u8]) -> Option<WorkloadAccess>
     requires { size ≤ PAGES }
     ensures { result ≡ said.access_of sites size line.now }
 {
@@ -96,7 +96,7 @@ fn access_of(sites: Sites, size: u32, line: &[u8]) -> Option<Access>
     None
 }
 
-fn load(sites: Sites, size: u32, words: Words<'_>) -> Option<Access>
+fn load(sites: Sites, size: u32, words: Words<'_>) -> Option<WorkloadAccess>
     requires { size ≤ PAGES }
     ensures { result ≡ said.load_of sites size words.entry }
 {
@@ -105,13 +105,13 @@ fn load(sites: Sites, size: u32, words: Words<'_>) -> Option<Access>
     if !words.is_empty() || !is_inside(sites, size, site, offset) {
         return None;
     }
-    Some(Access {
+    Some(WorkloadAccess {
         site: SiteId(site),
         asked: Asked::Load { at: 0, offset },
     })
 }
 
-fn store(sites: Sites, size: u32, words: Words<'_>) -> Option<Access>
+fn store(sites: Sites, size: u32, words: Words<'_>) -> Option<WorkloadAccess>
     requires { size ≤ PAGES }
     ensures { result ≡ said.store_of sites size words.entry }
 {
@@ -121,7 +121,7 @@ fn store(sites: Sites, size: u32, words: Words<'_>) -> Option<Access>
     if !words.is_empty() || !is_inside(sites, size, site, offset) {
         return None;
     }
-    Some(Access {
+    Some(WorkloadAccess {
         site: SiteId(site),
         asked: Asked::Store {
             at: 0,

@@ -7,7 +7,7 @@ use Rattle.std.proofs.lemmas.List.{append-nil, length-drop, length-take, take-ap
 use Rattle.std.proofs.lemmas.List.Splits.{join_with_byte-slice_split, length-slice_split}
 use Rattle.shm_lines.specs.Limits.{max_bytes}
 use Rattle.shm_lines.specs.Workload.{Whole, access_of, accesses_on, after_first, broken_limit, open_line, or_bad, parts_of, preset_of, read_all, read_line, then_rest, unless_broken, with_size, workload_of}
-use Rattle.shm_lines.specs.declared.access.Access.{Access}
+use Rattle.shm_lines.specs.declared.access.WorkloadAccess.{WorkloadAccess}
 use Rattle.shm_lines.specs.declared.workload_fault.WorkloadFault.{WorkloadFault}
 use Rattle.shm_lines.specs.declared.workload_fault.WorkloadFault.TheVariants.{BadLine, LineTooLong, TooManyLines}
 use Rattle.shm_report.proofs.WholeInput.{in_limits}
@@ -70,7 +70,7 @@ still_broken number rest more long =
     broken_by (nat_lt 10000 number) (nat_lt 200 (length rest)) (nat_lt 200 (length (rest ++ more))) number
     (λ few. (beyond number (length rest) long few, beyond number (length (rest ++ more)) (omega (arith, long, length-append rest more)) few))
 
-abbrev refused : WorkloadFault → Result (List Access) WorkloadFault
+abbrev refused : WorkloadFault → Result (List WorkloadAccess) WorkloadFault
 refused fault = Err fault
 
 abbrev no_whole : WorkloadFault → Result Whole WorkloadFault
@@ -114,8 +114,8 @@ on_more : (sites size number : ℕ) (bytes : List ℕ) (parts : List (List ℕ))
 on_more sites size number bytes [] some = absurd (omega arith)
 on_more sites size number bytes (next ∷ parts) some = refl
 
-then_fault : (line : Result Access WorkloadFault) (rest longer : Result (List Access) WorkloadFault) (fault : WorkloadFault) → then_rest line rest ≡ Err fault
-    → ((access : Access) → line ≡ Ok access → rest ≡ Err fault → longer ≡ Err fault) → then_rest line longer ≡ Err fault
+then_fault : (line : Result WorkloadAccess WorkloadFault) (rest longer : Result (List WorkloadAccess) WorkloadFault) (fault : WorkloadFault) → then_rest line rest ≡ Err fault
+    → ((access : WorkloadAccess) → line ≡ Ok access → rest ≡ Err fault → longer ≡ Err fault) → then_rest line longer ≡ Err fault
 then_fault (Err one) rest longer fault is on = is
 then_fault (Ok access) (Err one) longer fault is on = ap (then_rest (Ok access)) (on access refl is)
 then_fault (Ok access) (Ok all) longer fault is on = absurd (cc)
@@ -142,7 +142,7 @@ after_more : (sites : ℕ) (first : List ℕ) (parts : List (List ℕ)) → 1 �
 after_more sites first [] some = absurd (omega arith)
 after_more sites first (next ∷ parts) some = refl
 
-sized_fault : (size : ℕ) (rest longer : Result (List Access) WorkloadFault) (fault : WorkloadFault) → with_size size rest ≡ Err fault
+sized_fault : (size : ℕ) (rest longer : Result (List WorkloadAccess) WorkloadFault) (fault : WorkloadFault) → with_size size rest ≡ Err fault
     → (rest ≡ Err fault → longer ≡ Err fault) → with_size size longer ≡ Err fault
 sized_fault size (Err one) longer fault is on = ap (with_size size) (on (cc))
 sized_fault size (Ok all) longer fault is on = absurd (cc)

@@ -9,12 +9,12 @@ use Rattle.std.proofs.lemmas.Option.{get_or_from_slice_get, none-some, slice_get
 use Rattle.shm_sites.specs.declared.boxes.receipt.Receipt.{Receipt}
 use Rattle.shm_report.specs.Callers.{AllServed, Serves, ServesAll}
 use Rattle.shm_debug.specs.Text.{line_text}
-use Rattle.shm_lines.specs.declared.access.Access.{Access}
+use Rattle.shm_lines.specs.declared.access.WorkloadAccess.{WorkloadAccess}
 use Rattle.shm_report.proofs.Lines.{answers_text-push, one_line}
 use Rattle.shm_report.specs.Report.{answers_text, earlier, lines_text, TellsLines, TellsReceipt, HasReceipt, IsReceiptOf}
 
 -- so many accesses have these receipts, and of each site's caller so many were found
-pub record AreFound {A : Type 0} (accesses : List Access) (callers : List (Vec Receipt A)) (found : List ℕ) (receipts : List Receipt) (place : ℕ) : Type 0 where
+pub record AreFound {A : Type 0} (accesses : List WorkloadAccess) (callers : List (Vec Receipt A)) (found : List ℕ) (receipts : List Receipt) (place : ℕ) : Type 0 where
   pub sites : length found ≡ 16
   pub count : length receipts ≡ place
   pub each : (k : ℕ) (receipt : Receipt) → slice_get receipts k ≡ Some receipt → IsReceiptOf accesses callers k receipt
@@ -24,21 +24,21 @@ same_some : {X : Type 0} (x y : X) → Some x ≡ Some y → x ≡ y
 same_some x y e = cc
 
 -- in a line-up of lines and receipts, the receipt behind so many is that of the line behind so many
-zip_at : (before : List Access) (x : Access) (after : List Access) (receipts : List Receipt) (receipt : Receipt) → AllZip Serves (before ++ x ∷ after) receipts
+zip_at : (before : List WorkloadAccess) (x : WorkloadAccess) (after : List WorkloadAccess) (receipts : List Receipt) (receipt : Receipt) → AllZip Serves (before ++ x ∷ after) receipts
     → slice_get receipts (length before) ≡ Some receipt → Serves x receipt
 zip_at [] x after [] receipt served at = absurd served
 zip_at [] x after (first ∷ others) receipt served at = subst (Serves x) (same_some first receipt at) served.0
 zip_at (b ∷ before) x after [] receipt served at = absurd served
 zip_at (b ∷ before) x after (first ∷ others) receipt served at = zip_at before x after others receipt served.1 at
 
-kept : (test : Access → Bool) (y : Access) (front all after : List Access) (x : Access) (b : Bool) → all ≡ front ++ x ∷ after
+kept : (test : WorkloadAccess → Bool) (y : WorkloadAccess) (front all after : List WorkloadAccess) (x : WorkloadAccess) (b : Bool) → all ≡ front ++ x ∷ after
     → cond b (y ∷ all) all ≡ cond b (y ∷ front) front ++ x ∷ after
 kept test y front all after x true is = ap (λ l. y ∷ l) is
 kept test y front all after x false is = is
 
 -- the lines of a site, cut at one of them
-cut_at : (test : Access → Bool) (xs : List Access) (place : ℕ) (x : Access) → slice_get xs place ≡ Some x → test x ≡ true
-    → (after : List Access) × (filter test xs ≡ filter test (take place xs) ++ x ∷ after)
+cut_at : (test : WorkloadAccess → Bool) (xs : List WorkloadAccess) (place : ℕ) (x : WorkloadAccess) → slice_get xs place ≡ Some x → test x ≡ true
+    → (after : List WorkloadAccess) × (filter test xs ≡ filter test (take place xs) ++ x ∷ after)
 cut_at test [] place x at passes = absurd (none-some x at)
 cut_at test (y ∷ ys) zero x at passes =
     let same : y ≡ x = same_some y x at in
@@ -51,17 +51,17 @@ own_site : (s : ℕ) → (s == s) ≡ true
 own_site s = grind (arith, nat_tests)
 
 -- where all were served, the receipt behind so many tells of the line behind so many
-own_receipt : {A : Type 0} (accesses : List Access) (callers : List (Vec Receipt A)) (place : ℕ) (access : Access) (receipt : Receipt)
+own_receipt : {A : Type 0} (accesses : List WorkloadAccess) (callers : List (Vec Receipt A)) (place : ℕ) (access : WorkloadAccess) (receipt : Receipt)
     → AllServed (length callers) accesses callers → slice_get accesses place ≡ Some access
     → HasReceipt callers access.site (earlier access.site accesses place) receipt → Serves access receipt
 own_receipt accesses callers place access receipt served made told =
     let site = access.site in
-    let test : Access → Bool = λ a. a.site == site in
+    let test : WorkloadAccess → Bool = λ a. a.site == site in
     let below : site < length callers = slice_get_within callers site told.caller told.own in
     let all : ServesAll site accesses told.caller.items =
     subst (λ caller. ServesAll site accesses caller.items) (get_or_from_slice_get callers site told.caller told.caller told.own) (served.each site told.caller below) in
     let cut = cut_at test accesses place access made (own_site site) in
-    let P : List Access → Type 0 = λ lines. AllZip Serves lines told.caller.items in
+    let P : List WorkloadAccess → Type 0 = λ lines. AllZip Serves lines told.caller.items in
     zip_at (filter test (take place accesses)) access cut.0 told.caller.items receipt (subst P cut.1 all) told.there
 
 at_end : {X : Type 0} (xs : List X) (y : X) (k : ℕ) (x : X) → slice_get (xs ++ y ∷ []) k ≡ Some x
@@ -72,12 +72,12 @@ at_end (z ∷ xs) y zero x at = inl at
 at_end (z ∷ xs) y (suc k) x at = elim (at_end xs y k x at) [ inl h ↦ inl h | inr h ↦ inr (ap suc h.0, h.1) ]
 
 -- this text tells the receipts of so many accesses, and of each site's caller so many were told
-pub record AreTold {A : Type 0} (accesses : List Access) (callers : List (Vec Receipt A)) (told_of text : List ℕ) (place : ℕ) : Type 0 where
+pub record AreTold {A : Type 0} (accesses : List WorkloadAccess) (callers : List (Vec Receipt A)) (told_of text : List ℕ) (place : ℕ) : Type 0 where
   pub receipts : List Receipt
   pub found : AreFound accesses callers told_of receipts place
   pub told : text ≡ lines_text receipts
 
-none_found : {A : Type 0} (accesses : List Access) (callers : List (Vec Receipt A)) (found : List ℕ) → length found ≡ 16
+none_found : {A : Type 0} (accesses : List WorkloadAccess) (callers : List (Vec Receipt A)) (found : List ℕ) → length found ≡ 16
     → ((site : ℕ) → slice_index found site ≡ 0) → AreFound accesses callers found [] 0
 none_found accesses callers found sites zeros = record {
   sites = sites;
@@ -86,7 +86,7 @@ none_found accesses callers found sites zeros = record {
   of_site = λ site below. zeros site;
 }
 
-count_more : (found : List ℕ) (accesses : List Access) (place : ℕ) (access : Access) (site : ℕ) (own : Bool) → (access.site == site) ≡ own
+count_more : (found : List ℕ) (accesses : List WorkloadAccess) (place : ℕ) (access : WorkloadAccess) (site : ℕ) (own : Bool) → (access.site == site) ≡ own
     → access.site < length found → slice_index found site ≡ earlier site accesses place
     → earlier site accesses (place + 1) ≡ earlier site accesses place + cond own 1 0
     → slice_index (slice_set found access.site (slice_index found access.site + 1)) site ≡ earlier site accesses (place + 1)
@@ -99,7 +99,7 @@ count_more found accesses place access site false is below before more =
     let other : site ≡ access.site → ⊥ = λ e. grind (arith, nat_tests) in
     get_or-set_other found access.site site (slice_index found access.site + 1) 0 other ∙ omega (arith, more, before)
 
-one_found : {A : Type 0} (accesses : List Access) (callers : List (Vec Receipt A)) (found : List ℕ) (receipts : List Receipt) (place : ℕ) (access : Access) (receipt : Receipt)
+one_found : {A : Type 0} (accesses : List WorkloadAccess) (callers : List (Vec Receipt A)) (found : List ℕ) (receipts : List Receipt) (place : ℕ) (access : WorkloadAccess) (receipt : Receipt)
     → AllServed (length callers) accesses callers → place < length accesses → access ≡ get_or accesses place access → AreFound accesses callers found receipts place
     → access.site < length found → HasReceipt callers access.site (slice_index found access.site) receipt
     → AreFound accesses callers (slice_set found access.site (slice_index found access.site + 1)) (receipts ++ receipt ∷ []) (place + 1)
@@ -119,7 +119,7 @@ one_found accesses callers found receipts place access receipt served in' read b
           ];
       of_site = λ site few.
           count_more found accesses place access site (access.site == site) refl below (before.of_site site few)
-          (length-filter_more (λ (a : Access). a.site == site) accesses place access in' ∙ ap (λ (a : Access). earlier site accesses place + cond (a.site == site) 1 0) (sym read));
+          (length-filter_more (λ (a : WorkloadAccess). a.site == site) accesses place access in' ∙ ap (λ (a : WorkloadAccess). earlier site accesses place + cond (a.site == site) 1 0) (sym read));
     }
 
 no_count : (n site : ℕ) → slice_index (replicate n 0) site ≡ 0
@@ -127,12 +127,12 @@ no_count zero site = refl
 no_count (suc n) zero = refl
 no_count (suc n) (suc site) = no_count n site
 
-pub none_told : {A : Type 0} (accesses : List Access) (callers : List (Vec Receipt A)) (empty text : List ℕ) → empty ≡ []
+pub none_told : {A : Type 0} (accesses : List WorkloadAccess) (callers : List (Vec Receipt A)) (empty text : List ℕ) → empty ≡ []
     → text ≡ empty ++ line_text 1 (codes "ready") → AreTold accesses callers (replicate 16 0) text 0
 none_told accesses callers empty text none ready =
     record { receipts = []; found = none_found accesses callers (replicate 16 0) refl (no_count 16); told = ready ∙ ap (λ l. l ++ line_text 1 (codes "ready")) none ∙ sym (append-nil (line_text 1 (codes "ready"))) }
 
-pub one_told : {A : Type 0} (accesses : List Access) (callers : List (Vec Receipt A)) (told_of told_of' text text' : List ℕ) (place number : ℕ) (access : Access)
+pub one_told : {A : Type 0} (accesses : List WorkloadAccess) (callers : List (Vec Receipt A)) (told_of told_of' text text' : List ℕ) (place number : ℕ) (access : WorkloadAccess)
     → AllServed (length callers) accesses callers → place < length accesses → access ≡ get_or accesses place access → AreTold accesses callers told_of text place
     → number ≡ place + 2 → access.site < length told_of → TellsReceipt callers access.site (slice_index told_of access.site) number text text'
     → told_of' ≡ slice_set told_of access.site (slice_index told_of access.site + 1) → AreTold accesses callers told_of' text' (place + 1)
@@ -147,7 +147,7 @@ one_told accesses callers told_of told_of' text text' place number access served
           ∙ ap (λ l. ready ++ l) (sym (answers_text-push 2 number before.receipts receipt (omega (arith, next, before.found.count))));
     }
 
-pub all_told : {A : Type 0} (accesses : List Access) (callers : List (Vec Receipt A)) (told_of text : List ℕ) (place : ℕ)
+pub all_told : {A : Type 0} (accesses : List WorkloadAccess) (callers : List (Vec Receipt A)) (told_of text : List ℕ) (place : ℕ)
     → place ≡ length accesses → AreTold accesses callers told_of text place → TellsLines accesses callers text
 all_told accesses callers told_of text place whole all =
     (all.receipts, record { count = all.found.count ∙ whole; each = all.found.each }, all.told)

@@ -14,7 +14,7 @@ use Rattle.shm_sites.specs.Auditing.Logs.{logs_of}
 use Rattle.shm_sites.specs.Boxes.SiteLog.{steps_of}
 use Rattle.shm_sites.specs.declared.boxes.receipt.Receipt.{Receipt}
 use Rattle.shm_lines.specs.Workload.{workload_of}
-use Rattle.shm_lines.specs.declared.access.Access.{Access}
+use Rattle.shm_lines.specs.declared.access.WorkloadAccess.{WorkloadAccess}
 
 pub on_ok : {X E P Q : Type 0} (r : Result X E) → (P → Q) → OnOk r P → OnOk r Q
 on_ok (Ok x) f p = f p
@@ -69,7 +69,7 @@ cut_before old new text more cut = record {
 }
 
 -- the lines tell each access its receipt, where all were served
-abbrev pub Tells : {A : Type 0} → List Access → List (Vec Receipt A) → List ℕ → Type 0
+abbrev pub Tells : {A : Type 0} → List WorkloadAccess → List (Vec Receipt A) → List ℕ → Type 0
 Tells accesses callers text = AllServed (length callers) accesses callers → TellsLines accesses callers text
 
 -- so they are the report of an accepted run

@@ -4,7 +4,7 @@ use Rattle.std.proofs.lemmas.Option.{get_or_from_slice_get, none-some, slice_get
 use Rattle.std.proofs.Math.ListN.{length-map, get_or-map}
 use Rattle.std.specs.Prelude.{Vec}
 use Rattle.shm_sites.specs.declared.boxes.receipt.Receipt.{Receipt}
-use Rattle.shm_lines.specs.declared.access.Access.{Access}
+use Rattle.shm_lines.specs.declared.access.WorkloadAccess.{WorkloadAccess}
 use Rattle.shm_report.specs.Callers.{AllServed, ServedUnlessEnded, ServesAll}
 use Rattle.shm_report.specs.RunFaults.{NamesAccess, NoneFailed, TellsFirst}
 use Rattle.shm_report.specs.declared.ran.Ran.{Ran}
@@ -12,7 +12,7 @@ use Rattle.shm_report.specs.declared.run_fault.CallFault.{CallFault}
 use Rattle.shm_report.specs.declared.run_fault.RunFault.{RunFault}
 use Rattle.shm_report.specs.declared.run_fault.RunFault.TheVariants as run
 
-pub all_served : {A : Type 0} (sites : ℕ) (accesses : List Access) (told : List (Result (Vec Receipt A) CallFault)) (callers : List (Vec Receipt A))
+pub all_served : {A : Type 0} (sites : ℕ) (accesses : List WorkloadAccess) (told : List (Result (Vec Receipt A) CallFault)) (callers : List (Vec Receipt A))
     → ServedUnlessEnded sites accesses told → told ≡ map Ok callers → AllServed sites accesses callers
 all_served {A} sites accesses told callers served all = record {
   count = sym (length-map callers Ok) ∙ ap length (sym all) ∙ served.count;
@@ -22,7 +22,7 @@ all_served {A} sites accesses told callers served all = record {
 }
 
 -- the first fault names one of the accesses
-pub names_access : {A : Type 0} (sites : ℕ) (accesses : List Access) (told : List (Result (Vec Receipt A) CallFault)) (fault : RunFault)
+pub names_access : {A : Type 0} (sites : ℕ) (accesses : List WorkloadAccess) (told : List (Result (Vec Receipt A) CallFault)) (fault : RunFault)
     → ServedUnlessEnded sites accesses told → TellsFirst told fault → NamesAccess (length accesses) fault
 names_access {A} sites accesses told (run.Call call) served first =
     let P : Result (Vec Receipt A) CallFault → Type 0 = λ one. IfErr one (λ fault. fault.place < length accesses) in
@@ -48,7 +48,7 @@ unmatched_first N (Ok ran) told fault none = tt
 unmatched_first N (Err found) told fault none = subst (TellsFirst told) (sym fault.0) none
 
 -- the callers of what matched are those of what was run
-pub matched_callers : (r : Result Ran RunFault) (ran : Ran) (sites : ℕ) (accesses : List Access) → IfOk r (λ matched. matched ≡ ran)
+pub matched_callers : (r : Result Ran RunFault) (ran : Ran) (sites : ℕ) (accesses : List WorkloadAccess) → IfOk r (λ matched. matched ≡ ran)
     → AllServed sites accesses ran.callers.items → IfOk r (λ ran. AllServed sites accesses ran.callers.items)
 matched_callers (Ok matched) ran sites accesses same served = subst (λ (r : Ran). AllServed sites accesses r.callers.items) (sym same) served
 matched_callers (Err found) ran sites accesses same served = tt

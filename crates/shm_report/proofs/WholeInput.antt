@@ -10,7 +10,7 @@ use Rattle.std.proofs.lemmas.Bool.Decides.{nat_tests}
 use Rattle.std.specs.List.{join_with_byte}
 use Rattle.shm_lines.specs.Limits.{max_bytes}
 use Rattle.shm_lines.specs.Workload.{Whole, access_of, accesses_on, after_first, open_line, or_bad, parts_of, preset_of, read_all, read_line, then_rest, unless_broken, with_size, workload_of}
-use Rattle.shm_lines.specs.declared.access.Access.{Access}
+use Rattle.shm_lines.specs.declared.access.WorkloadAccess.{WorkloadAccess}
 use Rattle.shm_lines.specs.declared.workload_fault.WorkloadFault.{WorkloadFault}
 use Rattle.shm_lines.specs.declared.workload_fault.WorkloadFault.TheVariants.{LineTooLong, TooManyLines}
 
@@ -28,19 +28,19 @@ in_limits read number bytes x is =
     let h0 : nat_lt 10000 number ≡ false = h.0 in
     let h1 : nat_lt 200 (length bytes) ≡ false = h.1 in (grind (arith, nat_tests), grind (arith, nat_tests))
 
-both_read : (line : Result Access WorkloadFault) (rest : Result (List Access) WorkloadFault) (all : List Access) → then_rest line rest ≡ Ok all
-    → ((access : Access) × (line ≡ Ok access)) × ((others : List Access) × (rest ≡ Ok others))
+both_read : (line : Result WorkloadAccess WorkloadFault) (rest : Result (List WorkloadAccess) WorkloadFault) (all : List WorkloadAccess) → then_rest line rest ≡ Ok all
+    → ((access : WorkloadAccess) × (line ≡ Ok access)) × ((others : List WorkloadAccess) × (rest ≡ Ok others))
 both_read (Err fault) rest all is = absurd (cc)
 both_read (Ok access) (Err fault) all is = absurd (cc)
 both_read (Ok access) (Ok others) all is = ((access, refl), (others, refl))
 
-ends_here : (empty : Bool) (number : ℕ) (rest : List ℕ) (all : List Access)
+ends_here : (empty : Bool) (number : ℕ) (rest : List ℕ) (all : List WorkloadAccess)
     → (if empty then Ok [] else Err (open_line number rest)) ≡ Ok all → empty ≡ true
 ends_here true number rest all is = refl
 ends_here false number rest all is = absurd (cc)
 
 -- so many bytes at most have the lines from this number on
-on_length : (sites size number : ℕ) (parts : List (List ℕ)) (all : List Access) → accesses_on sites size number parts ≡ Ok all
+on_length : (sites size number : ℕ) (parts : List (List ℕ)) (all : List WorkloadAccess) → accesses_on sites size number parts ≡ Ok all
     → length (join_with_byte 10 parts) ≤ (10001 - number) * 201
 on_length sites size number [] all is = omega arith
 on_length sites size number (rest ∷ []) all is =
@@ -52,12 +52,12 @@ on_length sites size number (bytes ∷ next ∷ others) all is =
     let rest = on_length sites size (number + 1) (next ∷ others) both.1.0 both.1.1 in
     omega (arith, line.0, line.1, rest, length-append bytes (10 ∷ join_with_byte 10 (next ∷ others)))
 
-all_read : (size : ℕ) (rest : Result (List Access) WorkloadFault) (whole : Whole) → with_size size rest ≡ Ok whole → (all : List Access) × (rest ≡ Ok all)
+all_read : (size : ℕ) (rest : Result (List WorkloadAccess) WorkloadFault) (whole : Whole) → with_size size rest ≡ Ok whole → (all : List WorkloadAccess) × (rest ≡ Ok all)
 all_read size (Err fault) whole is = absurd (cc)
 all_read size (Ok all) whole is = (all, refl)
 
 first_read : (sites : ℕ) (first : Result ℕ WorkloadFault) (others : List (List ℕ)) (whole : Whole) → after_first sites first others ≡ Ok whole
-    → (size : ℕ) × (first ≡ Ok size) × ((all : List Access) × (accesses_on sites size 2 others ≡ Ok all))
+    → (size : ℕ) × (first ≡ Ok size) × ((all : List WorkloadAccess) × (accesses_on sites size 2 others ≡ Ok all))
 first_read sites (Err fault) others whole is = absurd (cc)
 first_read sites (Ok size) others whole is = (size, refl, all_read size (accesses_on sites size 2 others) whole is)
 

@@ -5,28 +5,28 @@ use Rattle.shm_model.specs.Receipt.{access_of}
 use Rattle.shm_sites.specs.declared.boxes.receipt.Receipt.{Receipt}
 use Rattle.shm_sites.specs.Cluster.Client.{IsServed, TellsOf}
 use Rattle.shm_report.specs.declared.run_fault.CallFault.{CallFault}
-use Rattle.shm_lines.specs.declared.access.Access.{Access}
+use Rattle.shm_lines.specs.declared.access.WorkloadAccess.{WorkloadAccess}
 
 -- a site's lines, in their order
-abbrev pub lines_of : ℕ → List Access → List Access
-lines_of site accesses = filter (λ (access : Access). access.site == site) accesses
+abbrev pub lines_of : ℕ → List WorkloadAccess → List WorkloadAccess
+lines_of site accesses = filter (λ (access : WorkloadAccess). access.site == site) accesses
 
 -- the step was this access, at its site, and the site had the right to it
-abbrev pub Serves : Access → Receipt → Type 0
+abbrev pub Serves : WorkloadAccess → Receipt → Type 0
 Serves access receipt = TellsOf access.site (access_of access.asked) receipt × IsServed receipt
 
 -- a receipt for each of the site's lines, in their order
-abbrev pub ServesAll : ℕ → List Access → List Receipt → Type 0
+abbrev pub ServesAll : ℕ → List WorkloadAccess → List Receipt → Type 0
 ServesAll site accesses receipts = AllZip Serves (lines_of site accesses) receipts
 
 -- the receipt of this access is added where it is the site's
-abbrev pub Adds : ℕ → Access → List Receipt → List Receipt → Type 0
+abbrev pub Adds : ℕ → WorkloadAccess → List Receipt → List Receipt → Type 0
 Adds site access old new =
     MatchBool (access.site == site) ((receipt : Receipt) × (new ≡ old ++ receipt ∷ []) × Serves access receipt) (new ≡ old)
 
 -- what the callers of so many sites were told, each at its site's number: a receipt for each of the site's lines, unless a fault ended it
 -- at one of the accesses
-pub record ServedUnlessEnded {A : Type 0} (sites : ℕ) (accesses : List Access) (told : List (Result (Vec Receipt A) CallFault)) : Type 0 where
+pub record ServedUnlessEnded {A : Type 0} (sites : ℕ) (accesses : List WorkloadAccess) (told : List (Result (Vec Receipt A) CallFault)) : Type 0 where
   pub count : length told ≡ sites
   pub each : (site : ℕ) (default : Result (Vec Receipt A) CallFault) → site < sites
       → IfOk (slice_index_or told site default) (λ receipts. ServesAll site accesses receipts.items)
@@ -34,6 +34,6 @@ pub record ServedUnlessEnded {A : Type 0} (sites : ℕ) (accesses : List Access)
       → IfErr (slice_index_or told site default) (λ fault. fault.place < length accesses)
 
 -- one list of receipts for each of so many sites, in the sites' order: those of the site's lines
-pub record AllServed {A : Type 0} (sites : ℕ) (accesses : List Access) (callers : List (Vec Receipt A)) : Type 0 where
+pub record AllServed {A : Type 0} (sites : ℕ) (accesses : List WorkloadAccess) (callers : List (Vec Receipt A)) : Type 0 where
   pub count : length callers ≡ sites
   pub each : (site : ℕ) (default : Vec Receipt A) → site < sites → ServesAll site accesses (slice_index_or callers site default).items

@@ -14,11 +14,11 @@ use Rattle.shm_report.specs.Callers.{AllServed, Serves, lines_of}
 use Rattle.shm_report.specs.Counts.{counts_of, summary_text}
 use Rattle.shm_debug.specs.Text.{answer_text, line_text}
 use Rattle.shm_lines.specs.Workload.{Whole, workload_of}
-use Rattle.shm_lines.specs.declared.access.Access.{Access}
+use Rattle.shm_lines.specs.declared.access.WorkloadAccess.{WorkloadAccess}
 use Rattle.shm_lines.specs.declared.workload.Workload.{Workload}
 
 -- how many of the accesses before this place are the site's
-abbrev pub earlier : ℕ → List Access → ℕ → ℕ
+abbrev pub earlier : ℕ → List WorkloadAccess → ℕ → ℕ
 earlier site accesses place = length (lines_of site (take place accesses))
 
 -- the caller of this site has this receipt at this place
@@ -29,14 +29,14 @@ pub record HasReceipt {A : Type 0} (callers : List (Vec Receipt A)) (site place 
 
 -- The receipt of the access at this place of the workload: its site's caller has it, behind the receipts of the site's earlier accesses.
 -- It tells of this very access.
-pub record IsReceiptOf {A : Type 0} (accesses : List Access) (callers : List (Vec Receipt A)) (place : ℕ) (receipt : Receipt) : Type 0 where
-  pub access : Access
+pub record IsReceiptOf {A : Type 0} (accesses : List WorkloadAccess) (callers : List (Vec Receipt A)) (place : ℕ) (receipt : Receipt) : Type 0 where
+  pub access : WorkloadAccess
   pub made : slice_get accesses place ≡ Some access
   pub told : HasReceipt callers access.site (earlier access.site accesses place) receipt
   pub serves : Serves access receipt
 
 -- for each access its receipt, in the order of the lines
-pub record AreReceiptsOf {A : Type 0} (accesses : List Access) (callers : List (Vec Receipt A)) (receipts : List Receipt) : Type 0 where
+pub record AreReceiptsOf {A : Type 0} (accesses : List WorkloadAccess) (callers : List (Vec Receipt A)) (receipts : List Receipt) : Type 0 where
   pub count : length receipts ≡ length accesses
   pub each : (place : ℕ) (receipt : Receipt) → slice_get receipts place ≡ Some receipt → IsReceiptOf accesses callers place receipt
 
@@ -55,7 +55,7 @@ abbrev pub lines_text : List Receipt → List ℕ
 lines_text receipts = line_text 1 (codes "ready") ++ answers_text 2 receipts
 
 -- the text tells each line the answer of the line's own receipt
-abbrev pub TellsLines : {A : Type 0} → List Access → List (Vec Receipt A) → List ℕ → Type 0
+abbrev pub TellsLines : {A : Type 0} → List WorkloadAccess → List (Vec Receipt A) → List ℕ → Type 0
 TellsLines accesses callers text = (receipts : List Receipt) × AreReceiptsOf accesses callers receipts × (text ≡ lines_text receipts)
 
 -- the last line

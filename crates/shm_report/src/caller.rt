@@ -3,7 +3,7 @@ ghost use Rattle.std.specs.Prelude.{◌<◌, length, IfErr, IfOk, OnOk};
 ghost use Rattle.shm_report.specs.Callers.{Adds, ServesAll};
 
 use crate::run_fault::CallFault;
-use shm_lines::Access;
+use shm_lines::WorkloadAccess;
 use shm_sites::{Client, ClientFault, Receipt};
 use std::alloc::Global;
 use std::sync::Wait;
@@ -13,7 +13,7 @@ pub(crate) fn call_all<R: Wait>(
     rt: &R,
     alloc: Global,
     client: &Client<'_>,
-    accesses: &[Access],
+    accesses: &[WorkloadAccess],
 ) -> Result<Vec<Receipt>, CallFault>
     ensures served { IfOk result (λ receipts. ServesAll client.now.site accesses.now receipts.items) }
     ensures place { IfErr result (λ fault. fault.place < length accesses.now) }
@@ -32,7 +32,7 @@ pub(crate) fn call_all<R: Wait>(
 fn add<R: Wait>(
     rt: &R,
     client: &Client<'_>,
-    access: &Access,
+    access: &WorkloadAccess,
     receipts: &mut Vec<Receipt>,
 ) -> Result<(), ClientFault>
     ensures { OnOk result (Adds client.now.site access.now receipts.old.items receipts.new.items) }

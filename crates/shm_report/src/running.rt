@@ -4,12 +4,12 @@ ghost use Rattle.shm_report.specs.Callers.{AllServed, ServedUnlessEnded, ServesA
 ghost use Rattle.shm_report.specs.RunFaults as said;
 ghost use Rattle.shm_report.specs.RunFaults.{FirstIfAny, NamesAccess, NoneFailed, TellsFirst};
 ghost use Rattle.shm_report.specs.declared.run_fault.RunFault.TheVariants as cause;
-ghost use Rattle.shm_lines.specs.declared.access.Access.{Access};
+ghost use Rattle.shm_lines.specs.declared.access.WorkloadAccess.{WorkloadAccess};
 
 use crate::caller::call_all;
 use crate::ran::Ran;
 use crate::run_fault::{CallFault, RunFault};
-use shm_lines::{Access, Workload};
+use shm_lines::{Workload, WorkloadAccess};
 use shm_place::{PAGES, SiteId, Sites};
 use shm_sites::{Clients, Cluster, OpenGate, Receipt, SiteLog, StartFault, logs_match};
 use std::alloc::{AllocError, Global};
@@ -60,7 +60,7 @@ fn call<R: Threads + Wait + Sync>(
     alloc: Global,
     sites: Sites,
     clients: Clients<'_>,
-    accesses: &[Access],
+    accesses: &[WorkloadAccess],
 ) -> Result<Told, AllocError>
     requires { vec_len clients.shared.now.posts ≡ sites }
     ensures { IfOk result (λ told. ServedUnlessEnded sites accesses.now told.items) }
@@ -79,7 +79,7 @@ fn call_site<R: Wait>(
     alloc: Global,
     clients: Clients<'_>,
     site: SiteId,
-    accesses: &[Access],
+    accesses: &[WorkloadAccess],
 ) -> Result<Vec<Receipt>, CallFault>
     requires { site < vec_len clients.shared.now.posts }
     ensures served { IfOk result (λ receipts. ServesAll site accesses.now receipts.items) }
@@ -99,12 +99,12 @@ fn run_outcome(
     told: Result<Told, AllocError>,
     logs: Result<Vec<SiteLog>, AllocError>,
 ) -> Result<Ran, RunFault>
-    ensures callers { (count : ℕ) (accesses : List Access) → IfOk told (λ told. ServedUnlessEnded count accesses told.items) →
+    ensures callers { (count : ℕ) (accesses : List WorkloadAccess) → IfOk told (λ told. ServedUnlessEnded count accesses told.items) →
         IfOk result (λ ran. AllServed count accesses ran.callers.items) }
     ensures logs { IfOk result (λ ran. (logs ≡ Ok ran.logs) × AreLogsOf sites pages ran.logs.items) }
     ensures first { IfOk told (λ told. IfErr result (TellsFirst told.items)) }
     ensures unmatched { IfErr result (λ fault. fault ≡ cause.Logs → IfOk logs (λ logs. ¬ AreLogsOf sites pages logs.items)) }
-    ensures place { (count : ℕ) (accesses : List Access) → IfOk told (λ told. ServedUnlessEnded count accesses told.items) →
+    ensures place { (count : ℕ) (accesses : List WorkloadAccess) → IfOk told (λ told. ServedUnlessEnded count accesses told.items) →
         IfErr result (NamesAccess (length accesses)) }
 {
     let Ok(told) = told else {

@@ -8,7 +8,7 @@ ghost use Rattle.shm_report.specs.declared.report_fault.ReportFault.TheVariants 
 
 use crate::report_fault::ReportFault;
 use shm_debug::{AnswerText, Text, write_whole};
-use shm_lines::Access;
+use shm_lines::WorkloadAccess;
 use shm_place::MAX_SITES;
 use shm_sites::Receipt;
 use std::alloc::Global;
@@ -21,7 +21,7 @@ type ToldOf = [usize; MAX_SITES as usize];
 /// site's caller, where the callers have one for each of their sites' lines.
 pub(crate) fn answer_lines(
     alloc: Global,
-    accesses: &[Access],
+    accesses: &[WorkloadAccess],
     callers: &[Vec<Receipt>],
 ) -> Result<Text, ReportFault>
     ensures lines { IfOk result (λ text. AllServed (length callers.now) accesses.now callers.now → TellsLines accesses.now callers.now text) }
@@ -52,7 +52,7 @@ fn tell(
     text: &mut Text,
     told_of: &mut ToldOf,
     number: u64,
-    access: &Access,
+    access: &WorkloadAccess,
     callers: &[Vec<Receipt>],
 ) -> Result<(), ReportFault>
     ensures fault { IfErr result IsOther }

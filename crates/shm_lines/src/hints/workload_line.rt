@@ -2,7 +2,7 @@
 ghost use Rattle.std.specs.Prelude.{◌≡◌, ◌≤◌};
 ghost use Rattle.shm_lines.specs.Workload as said;
 
-use crate::{Access, Words};
+use crate::{Words, WorkloadAccess};
 use shm_model::Asked;
 use shm_place::{PAGE_BYTES, PAGES, SiteId, Sites};
 
@@ -22,7 +22,7 @@ pub fn preset_of(line: &[u8]) -> Option<u32>
 }
 
 /// The access of a further line.
-pub fn access_of(sites: Sites, pages: u32, line: &[u8]) -> Option<Access>
+pub fn access_of(sites: Sites, pages: u32, line: &[u8]) -> Option<WorkloadAccess>
     requires { pages ≤ PAGES }
     ensures { result ≡ said.access_of sites pages line.now }
 {
@@ -36,7 +36,7 @@ pub fn access_of(sites: Sites, pages: u32, line: &[u8]) -> Option<Access>
     None
 }
 
-fn load(sites: Sites, pages: u32, words: Words<'_>) -> Option<Access>
+fn load(sites: Sites, pages: u32, words: Words<'_>) -> Option<WorkloadAccess>
     requires { pages ≤ PAGES }
     ensures { result ≡ said.load_of sites pages words.entry }
 {
@@ -45,13 +45,13 @@ fn load(sites: Sites, pages: u32, words: Words<'_>) -> Option<Access>
     if !words.is_empty() || !is_inside(sites, pages, site, offset) {
         return None;
     }
-    Some(Access {
+    Some(WorkloadAccess {
         site: SiteId(site),
         asked: Asked::Load { at: 0, offset },
     })
 }
 
-fn store(sites: Sites, pages: u32, words: Words<'_>) -> Option<Access>
+fn store(sites: Sites, pages: u32, words: Words<'_>) -> Option<WorkloadAccess>
     requires { pages ≤ PAGES }
     ensures { result ≡ said.store_of sites pages words.entry }
 {
@@ -61,7 +61,7 @@ fn store(sites: Sites, pages: u32, words: Words<'_>) -> Option<Access>
     if !words.is_empty() || !is_inside(sites, pages, site, offset) {
         return None;
     }
-    Some(Access {
+    Some(WorkloadAccess {
         site: SiteId(site),
         asked: Asked::Store {
             at: 0,

@@ -1,5 +1,5 @@
 use linked_list_allocator::LocalHeap;
-use shm_lines::{Access, WorkloadFault, parse_workload};
+use shm_lines::{WorkloadAccess, WorkloadFault, parse_workload};
 use shm_model::Asked;
 use shm_place::{SiteId, Sites};
 use std::test::Fail;
@@ -15,7 +15,7 @@ fn what_callers_do(rt: HostRuntime) -> Result<(), Fail> {
     let Ok(workload) = parse_workload(rt.alloc(), sites()?, text) else {
         return Err("a workload".into());
     };
-    let store = Access {
+    let store = WorkloadAccess {
         site: SiteId(1),
         asked: Asked::Store {
             at: 0,
@@ -23,7 +23,7 @@ fn what_callers_do(rt: HostRuntime) -> Result<(), Fail> {
             byte: 7,
         },
     };
-    let load = Access {
+    let load = WorkloadAccess {
         site: SiteId(2),
         asked: Asked::Load { at: 0, offset: 0 },
     };
