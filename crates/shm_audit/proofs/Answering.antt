@@ -7,7 +7,7 @@ use Rattle.shm_sites.specs.Boxes.Box.{Box}
 use Rattle.shm_sites.specs.Boxes.SiteBox.{box_of}
 use Rattle.shm_sites.specs.declared.boxes.site_box.SiteBox.{SiteBox}
 use Rattle.shm_sites.specs.declared.boxes.site_log.SiteLog.{SiteLog}
-use Rattle.shm_audit.specs.Found.{Found, Led, IsFault, IsLed, Tells, entered, found, found_behind, opened}
+use Rattle.shm_audit.specs.Found.{Found, Led, IsFault, IsLed, TellsLog, entered, found, found_behind, opened}
 use Rattle.shm_audit.specs.Leading.{Leads}
 use Rattle.shm_audit.specs.LinesOf.{Unended}
 use Rattle.shm_audit.specs.declared.journal_fault.JournalFault.{JournalFault}
@@ -64,6 +64,6 @@ has_log (Some xs) says box log h same =
     subst (λ l. IsLed (says xs) l) (sym same) (subst (λ f. IsLed f box.log) (sym h) (record { sites = refl; me = refl; pages = refl; steps = refl }))
 
 pub whole_journal : {A : Type 0} → (all before left : Option (List ℕ)) (box : Box) (r : Result (SiteLog A) JournalFault) → before ≡ all → Leads found before left 2 box
-    → IfSome left (λ rest. Tells (found_behind 2 box rest) r) → IfSome all (λ file. Tells (found file) r)
+    → IfSome left (λ rest. TellsLog (found_behind 2 box rest) r) → IfSome all (λ file. TellsLog (found file) r)
 whole_journal all before left box r same l h =
-    subst (λ a. IfSome a (λ file. Tells (found file) r)) same (joined found before left 2 box (λ f. Tells f r) l h)
+    subst (λ a. IfSome a (λ file. TellsLog (found file) r)) same (joined found before left 2 box (λ f. TellsLog f r) l h)

@@ -18,7 +18,7 @@ use Rattle.shm_wire.specs.Sent.{Sent, read_envelope}
 use Rattle.shm_wire.specs.declared.ask.Question.{Question}
 use Rattle.shm_wire.specs.declared.ask.Question.TheVariants as question
 use Rattle.shm_audit.specs.Entered.{Handed, at_clock, box_handed, delivered, handed, handed_in, or_restart, unless_refused, unsent}
-use Rattle.shm_audit.specs.Told.{Told, box_after_all, told_at, told_by, told_by_log, told_by_step, all_said, said_first}
+use Rattle.shm_audit.specs.Told.{ToldStep, box_after_all, told_at, told_by_log, told_by_said, told_by_step, all_said, said_first}
 
 -- the box of a node's site, which has this log
 abbrev box_at : Node → ℕ → List Logged → Box
@@ -28,7 +28,7 @@ box_at node pages log = record { sites = node.sites; me = node.me; pages = pages
 record Takes (node : Node) (pages : ℕ) (log : List Logged) (line : List ℕ) (h : Heard) (given : Option Handed) : Type 0 where
   logged : Logged
   goes : box_handed (next_clock node h.source) (box_at node pages log) given ≡ Some (box_at (stepped node h) pages (log ++ logged ∷ []))
-  tells : told_by_step logged ≡ told_by (says node line h false)
+  tells : told_by_step logged ≡ told_by_said (says node line h false)
 
 -- ---- one step
 
@@ -105,24 +105,24 @@ line_taken node pages log line h e = heard_by node pages log line h (read_envelo
 
 -- ---- one step after another
 
-map_more : (log : List Logged) (l : Logged) (rest : List Told) → map told_by_step (log ++ l ∷ []) ++ rest ≡ map told_by_step log ++ (told_by_step l ∷ rest)
+map_more : (log : List Logged) (l : Logged) (rest : List ToldStep) → map told_by_step (log ++ l ∷ []) ++ rest ≡ map told_by_step log ++ (told_by_step l ∷ rest)
 map_more [] l rest = refl
 map_more (x ∷ log) l rest = ap (λ ts. told_by_step x ∷ ts) (map_more log l rest)
 
-abbrev Follows : Box → List Entry → List Logged → List Told → Type 0
+abbrev Follows : Box → List Entry → List Logged → List ToldStep → Type 0
 Follows box entries log told = option_map told_by_log (box_after_all box entries) ≡ Some (map told_by_step log ++ told)
 
-abbrev told_first : Option Said → List Told → List Told
+abbrev told_first : Option Said → List ToldStep → List ToldStep
 told_first None told = told
-told_first (Some said) told = told_by said ∷ told
+told_first (Some said) told = told_by_said said ∷ told
 
-told_more : (said : Option Said) (all : List Said) → map told_by (said_first said all) ≡ told_first said (map told_by all)
+told_more : (said : Option Said) (all : List Said) → map told_by_said (said_first said all) ≡ told_first said (map told_by_said all)
 told_more None all = refl
 told_more (Some said) all = refl
 
-one_step : (node : Node) (pages : ℕ) (log : List Logged) (line : List ℕ) (h : Heard) (entries : List Entry) (told : List Told)
+one_step : (node : Node) (pages : ℕ) (log : List Logged) (line : List ℕ) (h : Heard) (entries : List Entry) (told : List ToldStep)
     → (t : Takes node pages log line h (handed node.me line)) → Follows (box_at (stepped node h) pages (log ++ t.logged ∷ [])) entries (log ++ t.logged ∷ []) told
-    → Follows (box_at node pages log) (record { clock = next_clock node h.source; line = line } ∷ entries) log (told_by (says node line h false) ∷ told)
+    → Follows (box_at node pages log) (record { clock = next_clock node h.source; line = line } ∷ entries) log (told_by_said (says node line h false) ∷ told)
 one_step node pages log line h entries told t rest =
     ap (λ o. option_map told_by_log (option_and_then (λ next. box_after_all next entries) o)) t.goes
     ∙ rest
@@ -133,7 +133,7 @@ unheard_box : (node : Node) (pages : ℕ) (log : List Logged) (block : Option Bl
 unheard_box node pages log None = refl
 unheard_box node pages log (Some block) = refl
 
-line_law : (node : Node) (pages : ℕ) (log : List Logged) (line : List ℕ) (entries : List Entry) (told : List Told) (o : Option Heard) → heard node line ≡ o
+line_law : (node : Node) (pages : ℕ) (log : List Logged) (line : List ℕ) (entries : List Entry) (told : List ToldStep) (o : Option Heard) → heard node line ≡ o
     → ((log : List Logged) → Follows (box_at (after_heard node line o) pages log) entries log told)
     → Follows (box_at node pages log) (recorded (option_map (λ h. says node line h (joins node h)) o) entries) log
     (told_first (option_map (λ h. says node line h (joins node h)) o) told)
@@ -142,7 +142,7 @@ line_law node pages log line entries told None e rest =
 line_law node pages log line entries told (Some h) e rest =
     let t = line_taken node pages log line h e in one_step node pages log line h entries told t (rest (log ++ t.logged ∷ []))
 
-again_law : (node : Node) (pages : ℕ) (log : List Logged) (at : ℕ) (entries : List Entry) (told : List Told) (o : Option Heard) → heard node (waiting_at node at) ≡ o
+again_law : (node : Node) (pages : ℕ) (log : List Logged) (at : ℕ) (entries : List Entry) (told : List ToldStep) (o : Option Heard) → heard node (waiting_at node at) ≡ o
     → ((log : List Logged) → Follows (box_at (again_at node at o) pages log) entries log told)
     → Follows (box_at node pages log) (recorded (option_map (says_again node at) o) entries) log
     (told_first (option_map (says_again node at) o) told)
@@ -151,13 +151,13 @@ again_law node pages log at entries told (Some h) e rest =
     let t = line_taken node pages log (waiting_at node at) h e in
     one_step node pages log (waiting_at node at) h entries told t (rest (log ++ t.logged ∷ []))
 
-ready_law : (node : Node) (pages : ℕ) (log : List Logged) (entries : List Entry) (told : List Told) (p : Option ℕ)
+ready_law : (node : Node) (pages : ℕ) (log : List Logged) (entries : List Entry) (told : List ToldStep) (p : Option ℕ)
     → ((log : List Logged) → Follows (box_at (again_if node p) pages log) entries log told)
     → Follows (box_at node pages log) (recorded (option_and_then (says_at node) p) entries) log (told_first (option_and_then (says_at node) p) told)
 ready_law node pages log entries told None rest = rest log
 ready_law node pages log entries told (Some at) rest = again_law node pages log at entries told (heard node (waiting_at node at)) refl rest
 
-restart_law : (node : Node) (pages : ℕ) (log : List Logged) (entries : List Entry) (told : List Told) (late : Bool) → is_late node 0 ≡ late
+restart_law : (node : Node) (pages : ℕ) (log : List Logged) (entries : List Entry) (told : List ToldStep) (late : Bool) → is_late node 0 ≡ late
     → ((log : List Logged) → Follows (box_at (cond late node (after_restart node)) pages log) entries log told)
     → Follows (box_at node pages log) (recorded (cond late None (Some (said_restart node))) entries) log
     (told_first (cond late None (Some (said_restart node))) told)

@@ -79,6 +79,6 @@ abbrev pub IsFault : Found → JournalFault → Type 0
 IsFault found (fault.BadLine number) = found ≡ Bad number
 IsFault found _ = ⊤
 
-abbrev pub Tells : {A : Type 0} → Found → Result (SiteLog A) JournalFault → Type 0
-Tells found (Ok log) = IsLed found log
-Tells found (Err fault) = IsFault found fault
+abbrev pub TellsLog : {A : Type 0} → Found → Result (SiteLog A) JournalFault → Type 0
+TellsLog found (Ok log) = IsLed found log
+TellsLog found (Err fault) = IsFault found fault

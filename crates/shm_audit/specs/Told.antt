@@ -9,19 +9,19 @@ use Rattle.shm_sites.specs.Boxes.Box.{Box}
 use Rattle.shm_audit.specs.Entered.{box_after}
 
 -- of one step: its stamp, its answer, and the envelopes that it sent
-pub record Told : Type 0 where
+pub record ToldStep : Type 0 where
   pub stamp : ℕ
   pub answer : Answer
   pub sent : List Envelope
 
-abbrev pub told_by_step : Logged → Told
+abbrev pub told_by_step : Logged → ToldStep
 told_by_step step = record { stamp = step.stamp; answer = step.answer; sent = step.sent }
 
-abbrev pub told_by_log : Box → List Told
+abbrev pub told_by_log : Box → List ToldStep
 told_by_log box = map told_by_step box.log
 
-abbrev pub told_by : Said → Told
-told_by said = record { stamp = said.clock; answer = said.answer; sent = said.sent }
+abbrev pub told_by_said : Said → ToldStep
+told_by_said said = record { stamp = said.clock; answer = said.answer; sent = said.sent }
 
 abbrev pub said_first : Option Said → List Said → List Said
 said_first None all = all
@@ -32,8 +32,8 @@ abbrev pub all_said : Node → List Event → List Said
 all_said node [] = []
 all_said node (event ∷ events) = said_first (said_at node event) (all_said (after_event node event) events)
 
-abbrev pub told_at : Node → List Event → List Told
-told_at node events = map told_by (all_said node events)
+abbrev pub told_at : Node → List Event → List ToldStep
+told_at node events = map told_by_said (all_said node events)
 
 -- the box after the steps that these entries record, one after another
 abbrev pub box_after_all : Box → List Entry → Option Box

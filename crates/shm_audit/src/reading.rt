@@ -2,7 +2,7 @@
 ghost use Rattle.std.specs.Prelude.{◌≡◌, ℕ, IfErr, IfOk, IfSome, OnOk};
 ghost use Rattle.std.specs.Io.KnownBytes.{IsAtEnd};
 ghost use Rattle.shm_sites.specs.Boxes.SiteBox.{box_of};
-ghost use Rattle.shm_audit.specs.Found.{found, found_behind, IsFault, Led, Tells};
+ghost use Rattle.shm_audit.specs.Found.{found, found_behind, IsFault, Led, TellsLog};
 ghost use Rattle.shm_audit.specs.LinesOf.{left_of};
 ghost use Rattle.shm_audit.specs.Leading.{Leads};
 ghost use Rattle.shm_audit.specs.ReadUpTo.{ReadsToLine, ReadsUpTo};
@@ -28,7 +28,7 @@ pub fn read_log<A: Allocator + Copy, R: Read>(
     ensures end { OnOk result (IsAtEnd (R.remaining reader.new)) }
     ensures all { OnOk result (ReadsAll (R.remaining reader.old) (R.remaining reader.new)) }
     ensures left { IfErr result (ReadsUpTo (R.remaining reader.old) (R.remaining reader.new)) }
-    ensures found { IfSome (R.remaining reader.old) (λ file. Tells (found file) result) }
+    ensures found { IfSome (R.remaining reader.old) (λ file. TellsLog (found file) result) }
 {
     let mut lines = Lines::new(alloc);
     match read_first(alloc, reader, &mut lines) {
@@ -48,7 +48,7 @@ fn read_rest<A: Allocator + Copy, R: Read>(
     ensures all { OnOk result (ReadsAll (left_of lines (R.remaining reader.old)) (R.remaining reader.new)) }
     ensures left { IfErr result (ReadsToLine (λ rest. found_behind 2 (box_of site_box) rest) (left_of lines (R.remaining reader.old))
         (R.remaining reader.new)) }
-    ensures tells { IfSome (left_of lines (R.remaining reader.old)) (λ rest. Tells (found_behind 2 (box_of site_box) rest) result) }
+    ensures tells { IfSome (left_of lines (R.remaining reader.old)) (λ rest. TellsLog (found_behind 2 (box_of site_box) rest) result) }
 {
     let mut lines = lines;
     let mut site_box = site_box;

@@ -10,15 +10,15 @@ range-more f a (suc n) =
     ∙ sym (append_assoc (f a) (flat_map f (range_with_len (a + 1) n)) (f (a + suc n)))
 
 -- what the loop has told before a number
-pub record Told (f : ℕ → List ℕ) (first number : ℕ) (old new : List ℕ) : Type 0 where
+pub record ToldUpTo (f : ℕ → List ℕ) (first number : ℕ) (old new : List ℕ) : Type 0 where
   pub text : new ≡ old ++ flat_map f (range_with_len first (number - first))
 
-pub told_none : (f : ℕ → List ℕ) (first : ℕ) (old : List ℕ) → Told f first first old old
+pub told_none : (f : ℕ → List ℕ) (first : ℕ) (old : List ℕ) → ToldUpTo f first first old old
 told_none f first old =
     let e : 0 ≡ first - first = omega arith in
     record { text = sym (append-nil old) ∙ ap (λ n. old ++ flat_map f (range_with_len first n)) e }
 
-pub told_more : (f : ℕ → List ℕ) (first number : ℕ) (old now new : List ℕ) → first ≤ number → Told f first number old now → new ≡ now ++ f number → Told f first (number + 1) old new
+pub told_more : (f : ℕ → List ℕ) (first number : ℕ) (old now new : List ℕ) → first ≤ number → ToldUpTo f first number old now → new ≡ now ++ f number → ToldUpTo f first (number + 1) old new
 told_more f first number old now new low had e =
     let next : suc (number - first) ≡ (number + 1) - first = omega arith in
     let here : number ≡ first + (number - first) = omega arith in
@@ -30,5 +30,5 @@ told_more f first number old now new low had e =
           ∙ ap (λ n. old ++ flat_map f (range_with_len first n)) next;
     }
 
-pub told_all : (f : ℕ → List ℕ) (first number count : ℕ) (old new : List ℕ) → number - first ≡ count → Told f first number old new → new ≡ old ++ flat_map f (range_with_len first count)
+pub told_all : (f : ℕ → List ℕ) (first number count : ℕ) (old new : List ℕ) → number - first ≡ count → ToldUpTo f first number old new → new ≡ old ++ flat_map f (range_with_len first count)
 told_all f first number count old new e had = had.text ∙ ap (λ n. old ++ flat_map f (range_with_len first n)) e

@@ -83,28 +83,28 @@ Runs most (Some s) (Some t) text text' = Ran most s t text text'
 -- what stands, and `undo` is `back 1`; what the tables tell, and what `save` tells, isn't said
 
 -- something is told
-abbrev pub Tells : List ℕ → List ℕ → Type 0
-Tells text text' = (more : List ℕ) × (text' ≡ text ++ more)
+abbrev pub TellsMore : List ℕ → List ℕ → Type 0
+TellsMore text text' = (more : List ℕ) × (text' ≡ text ++ more)
 
 -- something is told of what stands
-abbrev pub TellsOf : Option Standing → List ℕ → List ℕ → Type 0
-TellsOf None text text' = text' ≡ text ++ not_begun
-TellsOf (Some s) text text' = Tells text text'
+abbrev pub TellsOfStanding : Option Standing → List ℕ → List ℕ → Type 0
+TellsOfStanding None text text' = text' ≡ text ++ not_begun
+TellsOfStanding (Some s) text text' = TellsMore text text'
 
 abbrev pub Obeyed : Option Standing → Command → Option Standing → List ℕ → List ℕ → Type 0
 Obeyed old (command.Line l) new text text' = (new ≡ next old l) × (text' ≡ text ++ said_to old l)
 Obeyed old command.Undo new text text' = (new ≡ next old (line.Back 1)) × (text' ≡ text ++ said_to old (line.Back 1))
 Obeyed old (command.Run most) new text text' = Runs most old new text text'
-Obeyed old command.Flight new text text' = (new ≡ old) × TellsOf old text text'
-Obeyed old command.Sites new text text' = (new ≡ old) × TellsOf old text text'
-Obeyed old command.Segments new text text' = (new ≡ old) × TellsOf old text text'
+Obeyed old command.Flight new text text' = (new ≡ old) × TellsOfStanding old text text'
+Obeyed old command.Sites new text text' = (new ≡ old) × TellsOfStanding old text text'
+Obeyed old command.Segments new text text' = (new ≡ old) × TellsOfStanding old text text'
 Obeyed old command.Help new text text' = (new ≡ old) × (text' ≡ text ++ HELP.now)
-Obeyed old command.Save new text text' = (new ≡ old) × Tells text text'
+Obeyed old command.Save new text text' = (new ≡ old) × TellsMore text text'
 Obeyed old command.Quit new text text' = (new ≡ old) × (text' ≡ text)
 
 -- the same of what was typed; a wrong line changes nothing, and is told something
 abbrev pub ObeyedTyped : Option Standing → Option Command → Option Standing → List ℕ → List ℕ → Type 0
-ObeyedTyped old None new text text' = (new ≡ old) × Tells text text'
+ObeyedTyped old None new text text' = (new ≡ old) × TellsMore text text'
 ObeyedTyped old (Some command) new text text' = Obeyed old command new text text'
 
 -- ---- what stands where memory was refused

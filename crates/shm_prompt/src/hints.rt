@@ -1,6 +1,6 @@
 //! What is told of a wrong line: of a script's line the place where it can't be read on, of another command how it is typed.
 ghost use Rattle.std.specs.Prelude.{OnOk};
-ghost use Rattle.shm_prompt.specs.Dialog.{Tells};
+ghost use Rattle.shm_prompt.specs.Dialog.{TellsMore};
 
 use shm_lines::{Expected, Hint, Word, Words, hint_of_script_line, write_hint};
 use std::alloc::{AllocError, Allocator};
@@ -13,7 +13,7 @@ pub(crate) fn tell_hint<A: Allocator + Copy>(
     out: &mut Vec<u8, A>,
     typed: &[u8],
 ) -> Result<(), AllocError>
-    ensures { OnOk result (Tells out.old.items out.new.items) }
+    ensures { OnOk result (TellsMore out.old.items out.new.items) }
 {
     let text = hint_text(*out.allocator(), typed)?;
     out.extend_from_slice(text.as_slice())

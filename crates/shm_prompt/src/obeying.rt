@@ -1,7 +1,7 @@
 //! What each command makes of what stands, and what is told of it.
 ghost use Rattle.std.specs.Prelude.{◌≡◌, ◌++◌, Some, false, IfOk, OnErr, OnOk};
 ghost use Rattle.shm_prompt.specs.Command.{IsCommand, command_of, is_quit, is_save};
-ghost use Rattle.shm_prompt.specs.Dialog.{HaltedCommand, HaltedRun, HaltedTyped, Obeyed, ObeyedTyped, Ran, Runs, SomeDelivered, Tells, TellsOf, run_end};
+ghost use Rattle.shm_prompt.specs.Dialog.{HaltedCommand, HaltedRun, HaltedTyped, Obeyed, ObeyedTyped, Ran, Runs, SomeDelivered, TellsMore, TellsOfStanding, run_end};
 
 use crate::acting::NOT_BEGUN;
 use crate::command::{Command, parse_command};
@@ -80,7 +80,7 @@ impl<A: Allocator + Copy> Dialog<A> {
     }
 
     fn show(&self, view: View, out: &mut Vec<u8, A>) -> Result<(), AllocError>
-        ensures { OnOk result (TellsOf self.now out.old.items out.new.items) }
+        ensures { OnOk result (TellsOfStanding self.now out.old.items out.new.items) }
     {
         match &self.session {
             None => out.extend_from_slice(NOT_BEGUN.as_bytes()),
@@ -94,7 +94,7 @@ impl<A: Allocator + Copy> Dialog<A> {
         files: &mut S,
         out: &mut Vec<u8, A>,
     ) -> Result<(), AllocError>
-        ensures { OnOk result (Tells out.old.items out.new.items) }
+        ensures { OnOk result (TellsMore out.old.items out.new.items) }
     {
         let Some(name) = file_name(typed) else {
             return out.extend_from_slice(b"not saved: the file's name is no text\n");
@@ -161,7 +161,7 @@ fn show_view<A: Allocator + Copy>(
     view: View,
     out: &mut Vec<u8, A>,
 ) -> Result<(), AllocError>
-    ensures { OnOk result (Tells out.old.items out.new.items) }
+    ensures { OnOk result (TellsMore out.old.items out.new.items) }
 {
     let mut text = String::new(*out.allocator());
     match view {
@@ -180,7 +180,7 @@ fn save_to<A: Allocator + Copy, S: SaveFile>(
     files: &mut S,
     out: &mut Vec<u8, A>,
 ) -> Result<(), AllocError>
-    ensures { OnOk result (Tells out.old.items out.new.items) }
+    ensures { OnOk result (TellsMore out.old.items out.new.items) }
 {
     let text = match saved_script(alloc, session) {
         Err(refusal) => format!(in alloc; "not saved: {refusal}\n")?,

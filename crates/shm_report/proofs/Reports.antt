@@ -69,11 +69,11 @@ cut_before old new text more cut = record {
 }
 
 -- the lines tell each access its receipt, where all were served
-abbrev pub Tells : {A : Type 0} → List WorkloadAccess → List (Vec Receipt A) → List ℕ → Type 0
-Tells accesses callers text = AllServed (length callers) accesses callers → TellsLines accesses callers text
+abbrev pub TellsIfServed : {A : Type 0} → List WorkloadAccess → List (Vec Receipt A) → List ℕ → Type 0
+TellsIfServed accesses callers text = AllServed (length callers) accesses callers → TellsLines accesses callers text
 
 -- so they are the report of an accepted run
-pub is_report_of : (run : Audited) (text : List ℕ) → Tells run.workload.accesses.items run.ran.callers.items text
+pub is_report_of : (run : Audited) (text : List ℕ) → TellsIfServed run.workload.accesses.items run.ran.callers.items text
     → IsReportOfRun run (text ++ audit_yes)
 is_report_of run text lines run_is =
     let tells = lines (subst (λ n. AllServed n run.workload.accesses.items run.ran.callers.items) (sym run_is.served.count) run_is.served) in

@@ -6,7 +6,7 @@ use Rattle.std.proofs.lemmas.Bool.Decides.{nat_tests}
 use Rattle.std.proofs.lemmas.Option.{none-some, same_Some}
 use Rattle.shm_model.specs.Log.{Logged, log_of}
 use Rattle.shm_sites.specs.declared.auditing.merging.Head.{Head}
-use Rattle.shm_sites.specs.Auditing.Heads.{IsLeast, IsLeastIf, Tells, TellsIf, lesser, next}
+use Rattle.shm_sites.specs.Auditing.Heads.{IsLeast, IsLeastIf, TellsStep, TellsStepIf, lesser, next}
 
 -- the head comes before this step of the site s
 abbrev Precedes : Head → ℕ → Logged → Type 0
@@ -15,11 +15,11 @@ Precedes head s l = (head.stamp < l.stamp) ⊎ ((head.stamp ≡ l.stamp) × (hea
 abbrev PrecedesNext : List (List Logged) → List ℕ → Head → ℕ → Type 0
 PrecedesNext logs heads head s = (l : Logged) → next logs heads s ≡ Some l → Precedes head s l
 
-own-place : (logs : List (List Logged)) (heads : List ℕ) (s : ℕ) (head : Head) → Tells (log_of logs s) s (slice_index heads s) head
-    → Tells (log_of logs head.site) head.site (slice_index heads head.site) head
-own-place logs heads s head tells = subst (λ t. Tells (log_of logs t) t (slice_index heads t) head) (sym tells.of_site) tells
+own-place : (logs : List (List Logged)) (heads : List ℕ) (s : ℕ) (head : Head) → TellsStep (log_of logs s) s (slice_index heads s) head
+    → TellsStep (log_of logs head.site) head.site (slice_index heads head.site) head
+own-place logs heads s head tells = subst (λ t. TellsStep (log_of logs t) t (slice_index heads t) head) (sym tells.of_site) tells
 
-same-stamp : (logs : List (List Logged)) (heads : List ℕ) (s : ℕ) (head : Head) → Tells (log_of logs s) s (slice_index heads s) head
+same-stamp : (logs : List (List Logged)) (heads : List ℕ) (s : ℕ) (head : Head) → TellsStep (log_of logs s) s (slice_index heads s) head
     → (l : Logged) → next logs heads s ≡ Some l → head.stamp ≡ l.stamp
 same-stamp logs heads s head tells l e = tells.stamped ∙ ap (λ (m : Logged). m.stamp) (same_Some tells.step l (sym tells.there ∙ e))
 
@@ -30,7 +30,7 @@ not-after : (one other : Head) (s : ℕ) (l : Logged) → one.stamp ≤ other.st
 not-after one other s l h at e = elim (cases_lt one.stamp l.stamp) [ inl lt ↦ inl lt | inr ge ↦ inr (omega arith, at) ]
 
 either : (logs : List (List Logged)) (heads : List ℕ) (count : ℕ) (one other : Head) (lower-stamp : Bool) → nat_lt other.stamp one.stamp ≡ lower-stamp
-    → IsLeast logs heads count one → Tells (log_of logs count) count (slice_index heads count) other
+    → IsLeast logs heads count one → TellsStep (log_of logs count) count (slice_index heads count) other
     → IsLeastIf logs heads (count + 1) (if lower-stamp then Some other else Some one)
 either logs heads count one other true test old found =
     let less : other.stamp < one.stamp = grind (arith, nat_tests) in
@@ -48,7 +48,7 @@ either logs heads count one other false test old found =
     record { below = omega (arith, old.below); left = old.left; least = λ s l b e. least s b l e }
 
 least-more : (logs : List (List Logged)) (heads : List ℕ) (count : ℕ) (old found : Option Head) → IsLeastIf logs heads count old
-    → TellsIf (log_of logs count) count (slice_index heads count) found → IsLeastIf logs heads (count + 1) (lesser old found)
+    → TellsStepIf (log_of logs count) count (slice_index heads count) found → IsLeastIf logs heads (count + 1) (lesser old found)
 least-more logs heads count None None none here = below_more (λ s. next logs heads s ≡ None) count none here
 least-more logs heads count None (Some head) none found =
     let least : (s : ℕ) → s < count + 1 → PrecedesNext logs heads head s =
@@ -75,10 +75,10 @@ lesser-has P (Some one) (Some other) a b = either-has P one other (nat_lt other.
 
 -- the same, where the log was read and the lesser one was taken
 pub least-with : (logs : List (List Logged)) (heads : List ℕ) (count : ℕ) (log : List Logged) (old found new : Option Head) → log_of logs count ≡ log
-    → IsLeastIf logs heads count old → TellsIf log count (slice_index heads count) found → new ≡ lesser old found → IsLeastIf logs heads (count + 1) new
+    → IsLeastIf logs heads count old → TellsStepIf log count (slice_index heads count) found → new ≡ lesser old found → IsLeastIf logs heads (count + 1) new
 least-with logs heads count log old found new read least here taken =
     subst (IsLeastIf logs heads (count + 1)) (sym taken)
-    (least-more logs heads count old found least (subst (λ ls. TellsIf ls count (slice_index heads count) found) (sym read) here))
+    (least-more logs heads count old found least (subst (λ ls. TellsStepIf ls count (slice_index heads count) found) (sym read) here))
 
 pub has-lesser : (P : Head → Type 0) (one other new : Option Head) → new ≡ lesser one other → IfSome one P → IfSome other P → IfSome new P
 has-lesser P one other new taken a b = subst (λ o. IfSome o P) (sym taken) (lesser-has P one other a b)

@@ -8,21 +8,21 @@ abbrev pub next : List (List Logged) → List ℕ → ℕ → Option Logged
 next logs heads s = slice_get (log_of logs s) (slice_index heads s)
 
 -- it tells of the step of this index in the log of this site
-pub record Tells (log : List Logged) (s i : ℕ) (head : Head) : Type 0 where
+pub record TellsStep (log : List Logged) (s i : ℕ) (head : Head) : Type 0 where
   pub step : Logged
   pub there : slice_get log i ≡ Some step
   pub of_site : head.site ≡ s
   pub at : head.index ≡ i
   pub stamped : head.stamp ≡ step.stamp
 
-abbrev pub TellsIf : List Logged → ℕ → ℕ → Option Head → Type 0
-TellsIf log s i None = slice_get log i ≡ None
-TellsIf log s i (Some head) = Tells log s i head
+abbrev pub TellsStepIf : List Logged → ℕ → ℕ → Option Head → Type 0
+TellsStepIf log s i None = slice_get log i ≡ None
+TellsStepIf log s i (Some head) = TellsStep log s i head
 
 -- of the first sites, so many of them, none has a step left that comes before it
 pub record IsLeast (logs : List (List Logged)) (heads : List ℕ) (count : ℕ) (head : Head) : Type 0 where
   pub below : head.site < count
-  pub left : Tells (log_of logs head.site) head.site (slice_index heads head.site) head
+  pub left : TellsStep (log_of logs head.site) head.site (slice_index heads head.site) head
   pub least : (s : ℕ) (l : Logged) → s < count → next logs heads s ≡ Some l → (head.stamp < l.stamp) ⊎ ((head.stamp ≡ l.stamp) × (head.site ≤ s))
 
 abbrev pub IsLeastIf : List (List Logged) → List ℕ → ℕ → Option Head → Type 0

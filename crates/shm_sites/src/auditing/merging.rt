@@ -1,7 +1,7 @@
 //! All steps of all logs in one order, by stamp and site.
 ghost use Rattle.std.specs.Prelude.{◌≡◌, ◌<◌, ◌≤◌, ◌^◌, ◌-◌, IfOk, IfSome, length};
 ghost use Rattle.shm_sites.specs.Boxes.SiteLog.{steps_of};
-ghost use Rattle.shm_sites.specs.Auditing.Heads.{lesser, IsLeastIf, TellsIf};
+ghost use Rattle.shm_sites.specs.Auditing.Heads.{lesser, IsLeastIf, TellsStepIf};
 ghost use Rattle.shm_sites.specs.Auditing.Logs.{logs_of, LogsRise};
 ghost use Rattle.shm_sites.specs.Auditing.Order.{order_of, AllName};
 ghost use Rattle.shm_model.specs.Merge.{IsMerged};
@@ -68,7 +68,7 @@ fn least<A: Allocator + Copy>(logs: &[SiteLog<A>], heads: &[usize; SITES]) -> Op
 
 /// The step of this index, if the site made so many.
 fn first<A: Allocator + Copy>(site: usize, index: usize, log: &SiteLog<A>) -> Option<Head>
-    ensures step { TellsIf (steps_of log.now) site index result }
+    ensures step { TellsStepIf (steps_of log.now) site index result }
     ensures below { IfSome result (λ head. head.index < 2 ^ 64 - 1) }
 {
     let step = log.steps().get(index)?;
