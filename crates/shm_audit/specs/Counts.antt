@@ -23,4 +23,5 @@ with_log counts log = record {
 -- a line for each
 abbrev pub counts_text : Counts → List ℕ
 counts_text counts =
-    codes "steps " ++ (decimal counts.steps ++ (codes "\naccesses " ++ (decimal counts.accesses ++ (codes "\nenvelopes " ++ (decimal counts.envelopes ++ 10 ∷ [])))))
+    codes "steps " ++ (decimal counts.steps ++ (codes "\naccesses " ++ (decimal counts.accesses
+    ++ (codes "\nenvelopes " ++ (decimal counts.envelopes ++ 10 ∷ [])))))

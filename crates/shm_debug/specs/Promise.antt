@@ -25,11 +25,13 @@ AlwaysKept lines = (n : ℕ) → KeepsPromise (standing_after None (take n lines
 abbrev pub IsLastByte : Standing → ℕ → ℕ → ℕ → List ℕ → Type 0
 IsLastByte s site a offset rest =
     (id : ℕ) × (segment_of s.opening (run s.opening s.events).account site a ≡ Some id)
-    × (rest ≡ decimal (last_store s.opening (run s.opening s.events).account id offset) ++ sent_text (world_of (with_event s (Load site a offset))) (length (world_of s).sent))
+    × (rest ≡ decimal (last_store s.opening (run s.opening s.events).account id offset)
+    ++ sent_text (world_of (with_event s (Load site a offset))) (length (world_of s).sent))
 
 -- where a load is told `byte B`, B is that byte
 abbrev pub TellsLast : Option Standing → Line → Type 0
-TellsLast (Some s) (EventLine (Load site a offset)) = (rest : List ℕ) → said_to_event s (Load site a offset) ≡ codes "byte " ++ rest → IsLastByte s site a offset rest
+TellsLast (Some s) (EventLine (Load site a offset)) =
+    (rest : List ℕ) → said_to_event s (Load site a offset) ≡ codes "byte " ++ rest → IsLastByte s site a offset rest
 TellsLast _ _ = Unit {0}
 
 -- so it is for each line

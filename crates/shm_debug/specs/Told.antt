@@ -15,7 +15,8 @@ use Rattle.shm_debug.specs.declared.outcome.DebugFault.TheVariants.{OutOfMemory,
 
 -- where the output line of a load says `byte B`, B is the byte stored last to its place by the events that stand before it, or 0
 abbrev pub SaysLast : ℕ → Option Standing → Line → List ℕ → Type 0
-SaysLast number (Some s) (EventLine (Load site a offset)) output = (rest : List ℕ) → output ≡ line_text number (codes "byte " ++ rest) → IsLastByte s site a offset rest
+SaysLast number (Some s) (EventLine (Load site a offset)) output =
+    (rest : List ℕ) → output ≡ line_text number (codes "byte " ++ rest) → IsLastByte s site a offset rest
 SaysLast number _ _ output = Unit {0}
 
 -- the output line of the script's line of this number, where this stands before it

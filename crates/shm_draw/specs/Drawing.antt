@@ -12,7 +12,8 @@ pub record DrewEvent {A : Type 0} (page : Option PageId) (s : Scene) (event : Ev
   pub stands : StandsFor world (scene_after s event).world
   pub sent_by : origins ≡ (scene_after s event).origins
 
-pub record DrewEvents {A : Type 0} (page : Option PageId) (s : Scene) (events : List Event) (old new : List ℕ) (world : World A) (origins : List ℕ) : Type 0 where
+pub record DrewEvents {A : Type 0} (page : Option PageId) (s : Scene) (events : List Event) (old new : List ℕ)
+    (world : World A) (origins : List ℕ) : Type 0 where
   pub text : new ≡ old ++ rows_text page s events
   pub stands : StandsFor world (last_scene s events).world
   pub sent_by : origins ≡ (last_scene s events).origins

@@ -72,7 +72,8 @@ fill_name state.Purged seen = state_name state.Purged
 abbrev pub cell_text : ℕ → ℕ → Option Shown → List ℕ
 cell_text number site None = []
 cell_text number site (Some x) =
-    codes "<use href='#" ++ (fill_name x.state x.seen ++ (codes "' x='" ++ (decimal (x_of site) ++ (codes "' y='" ++ (decimal (y_of number) ++ codes "'/>\n")))))
+    codes "<use href='#" ++ (fill_name x.state x.seen ++ (codes "' x='" ++ (decimal (x_of site)
+    ++ (codes "' y='" ++ (decimal (y_of number) ++ codes "'/>\n")))))
 
 abbrev pub cells_text : World → PageId → ℕ → List ℕ
 cells_text w page number = flat_map (λ s. cell_text number s (shown w s page)) (range_with_len 0 w.count)
@@ -178,7 +179,8 @@ mark_text number Nowhere answer = nowhere_text number answer
 -- the event's line in the script of what stands, whose first line is the opening, and the event as a script spells it
 abbrev pub line_text : ℕ → Event → List ℕ
 line_text number event =
-    codes "<text class='l' x='8' y='" ++ (decimal (y_of number) ++ (codes "' dy='4'>" ++ (decimal (number + 1) ++ (codes " " ++ (spelling (line.Event event) ++ codes "</text>\n")))))
+    codes "<text class='l' x='8' y='" ++ (decimal (y_of number) ++ (codes "' dy='4'>" ++ (decimal (number + 1)
+    ++ (codes " " ++ (spelling (line.Event event) ++ codes "</text>\n")))))
 
 -- the lifelines after the event, the event, what it draws
 abbrev pub row_text : Option PageId → Scene → Event → List ℕ
@@ -217,7 +219,8 @@ height_of last further = y_of (last + further) + 44
 
 abbrev pub head_text : ℕ → ℕ → ℕ → ℕ → List ℕ
 head_text sites room last further =
-    codes "<svg xmlns='http://www.w3.org/2000/svg' width='" ++ (decimal (width_of sites room) ++ (codes "' height='" ++ (decimal (height_of last further) ++ codes "'>\n")))
+    codes "<svg xmlns='http://www.w3.org/2000/svg' width='" ++ (decimal (width_of sites room)
+    ++ (codes "' height='" ++ (decimal (height_of last further) ++ codes "'>\n")))
 
 abbrev pub body_text : Option PageId → World → List Event → List Way → List ℕ
 body_text page w events ways =

@@ -54,7 +54,8 @@ IsTakenUpAt w manager from p = (x : Site) × (slice_get w.sites manager ≡ Some
 abbrev pub RequestGoesOn : Opening → List Event → List Event → ℕ → ℕ → Pending → Type 0
 RequestGoesOn o before since manager from p =
     NoteGoes (run o (before ++ since)).world p.page from manager (Ask p.request p.kind)
-    ⊎ (IsTakenUpAt (run o (before ++ since)).world manager from p ⊎ (TookNone o before since manager from p ⊎ IsPurgedSomewhere (run o (before ++ since)).world p.page.seg))
+    ⊎ (IsTakenUpAt (run o (before ++ since)).world manager from p
+    ⊎ (TookNone o before since manager from p ⊎ IsPurgedSomewhere (run o (before ++ since)).world p.page.seg))
 
 -- each request that the site has pending at this manager goes on
 abbrev pub RequestsGoOn : Opening → List Event → List Event → ℕ → ℕ → Type 0

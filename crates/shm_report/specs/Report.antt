@@ -71,7 +71,8 @@ whole_of workload = record { size = workload.pages; accesses = workload.accesses
 -- The text reports what came of a workload that was run over so many sites: an audit accepted what the sites logged and what their callers
 -- were told, each caller was told a receipt for each of its site's lines, and each line of the text tells its own receipt's answer. Every
 -- byte that any site loaded or stored is named by the receipt of a line, so the accesses that were made are exactly the lines'.
-pub record IsReportOf (sites : ℕ) (workload : Whole) (logs : List (List Logged)) (callers : List (Vec Receipt Global)) (events : List Event) (text : List ℕ) : Type 0 where
+pub record IsReportOf (sites : ℕ) (workload : Whole) (logs : List (List Logged)) (callers : List (Vec Receipt Global))
+    (events : List Event) (text : List ℕ) : Type 0 where
   pub a_log_each : length logs ≡ sites
   pub audited : IsAudited (Preset sites workload.size) logs (callers_of callers) events
   pub complete : AllTold logs (callers_of callers)

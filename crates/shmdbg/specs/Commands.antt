@@ -72,5 +72,6 @@ bare_app = record { top = record (new_app (codes "shmdbg")).top { subcommand_req
 -- the program with all its subcommands
 abbrev pub app : App
 app =
-    with_subcommand (with_subcommand (with_subcommand (with_subcommand (with_subcommand (with_subcommand bare_app replay_app.top) run_app.top) prompt_app.top) draw_app.top) site_app.top)
+    with_subcommand (with_subcommand (with_subcommand (with_subcommand (with_subcommand (with_subcommand bare_app replay_app.top)
+    run_app.top) prompt_app.top) draw_app.top) site_app.top)
     audit_app.top

@@ -49,7 +49,8 @@ pub record Settles {A : Type 0} (new : World A) (o : model.Opening) (before : Li
   pub envelopes : List ℕ
   pub is : IsRound o before (round_of (model.sites_of o) envelopes)
   pub stands : StandsFor new (model.run o (before ++ round_of (model.sites_of o) envelopes)).world
-  pub quiet : model.is_full (model.run o (before ++ round_of (model.sites_of o) envelopes)).world ≡ false → IsQuiet o before (round_of (model.sites_of o) envelopes)
+  pub quiet : model.is_full (model.run o (before ++ round_of (model.sites_of o) envelopes)).world ≡ false
+      → IsQuiet o before (round_of (model.sites_of o) envelopes)
 
 -- The world stands after a second round. If no more envelopes were sent than a world counts, no request is pending, and each that was before
 -- the two rounds has gained its right in them, or its site has purged the segment.
