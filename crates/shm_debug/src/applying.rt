@@ -35,7 +35,7 @@ impl<A: Allocator + Copy> Session<A> {
         ensures ok { OnOk result (self.new ≡ with_event self.old event.now) }
         ensures err { OnErr result (self.new ≡ self.old) }
     {
-        if self.undos.wanted() {
+        if self.undos.wants_next() {
             self.make_and_keep(event)
         } else {
             self.make_unkept(event)

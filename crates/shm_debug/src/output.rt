@@ -13,7 +13,7 @@ const ROOM: usize = 1 << 16;
 const LINE: usize = 512;
 
 /// No text yet, with room for what is gathered.
-pub fn gathering<A: Allocator + Copy>(alloc: A) -> Result<Text<A>, AllocError>
+pub fn empty_text<A: Allocator + Copy>(alloc: A) -> Result<Text<A>, AllocError>
     ensures { IfOk result (λ text. text ≡ []) }
 {
     Text::new(alloc, ROOM, LINE)

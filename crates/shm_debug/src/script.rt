@@ -10,7 +10,7 @@ ghost use Rattle.shm_debug.specs.Told.{ToldLast};
 
 use crate::laws;
 use crate::outcome::{DebugFault, Summary};
-use crate::output::{gathering, write_and_flush, write_told};
+use crate::output::{empty_text, write_and_flush, write_told};
 use crate::player::Player;
 use crate::telling::{Text, read_up_to};
 use std::alloc::Allocator;
@@ -45,7 +45,7 @@ pub fn replay<A: Allocator + Copy, R: Read, W: Write>(
     ensures last { (bytes : List ℕ) → AlwaysTellsLast (script_of bytes).lines }
 {
     laws::every_script_keeps_the_promise();
-    let Ok(mut output) = gathering(alloc) else {
+    let Ok(mut output) = empty_text(alloc) else {
         return flush_at_end(Err(DebugFault::OutOfMemory), writer);
     };
     let played = play_all(alloc, reader, writer, &mut output);

@@ -45,7 +45,7 @@ impl<A: Allocator + Copy> Undos<A> {
     }
 
     /// Whether something is to be kept of the next event.
-    pub(crate) fn wanted(&self) -> bool
+    pub(crate) fn wants_next(&self) -> bool
         ensures { result ≡ (self.now.likely && nat_lt 0 self.now.near) }
     {
         self.likely && self.near > 0

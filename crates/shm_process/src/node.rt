@@ -89,7 +89,7 @@ impl<A: Allocator + Copy> Node<A> {
 
     /// How many asks wait.
     #[tactic(auto, using(crate::proofs::Asks::length_map))]
-    pub fn waiting(&self) -> usize
+    pub fn asks_waiting(&self) -> usize
         ensures { result ≡ length (node_of self.now).waiting }
     {
         self.waiting.len()

@@ -53,7 +53,7 @@ impl<A: Allocator + Copy> Node<A> {
         ensures after { OnOk result (node_of self.new ≡ after_unheard (node_of self.old) (joining (node_of self.old) line.now)) }
         ensures refused { OnErr result (node_of self.new ≡ node_of self.old) }
     {
-        match self.joining(line)? {
+        match self.joining_block(line)? {
             Some(block) => self.join_block(block),
             None => {
                 self.pass_over();
@@ -63,7 +63,7 @@ impl<A: Allocator + Copy> Node<A> {
     }
 
     /// The block that the line brings, if it finds room to wait.
-    fn joining(&self, line: &[u8]) -> Result<Option<Block<A>>, AllocError>
+    fn joining_block(&self, line: &[u8]) -> Result<Option<Block<A>>, AllocError>
         ensures { IfOk result (λ block. option_map block_of block ≡ joining (node_of self.now) line.now) }
     {
         if !self.has_room() {

@@ -32,7 +32,7 @@ pub(crate) fn audit<R: AllocGlobal + Files, O: Write, E: Write>(
 {
     match tell_audit(rt, sites, journals, out) {
         Ok(()) => 0,
-        Err(fault) => tell::unaudited(fault, journals, errors),
+        Err(fault) => tell::audit_fault(fault, journals, errors),
     }
 }
 

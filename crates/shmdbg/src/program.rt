@@ -218,7 +218,7 @@ fn run<
 {
     match open_wanted(rt, sites, wanted.log) {
         Ok(()) => run_ready(rt, sites, seed, wanted, reader, out, errors),
-        Err(fault) => tell::unlogged(&fault, errors),
+        Err(fault) => tell::logs_fault(&fault, errors),
     }
 }
 

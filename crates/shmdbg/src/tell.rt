@@ -52,7 +52,7 @@ pub fn site_fault<E: Write>(fault: SiteFault, errors: &mut E) -> u8
 
 /// The exit status where journals of these names weren't accepted. Its one line goes to `errors`: with the journal and the line, where there
 /// is one.
-pub fn unaudited<E: Write>(fault: Unaudited, journals: &[&str], errors: &mut E) -> u8
+pub fn audit_fault<E: Write>(fault: Unaudited, journals: &[&str], errors: &mut E) -> u8
     ensures { result ≡ unaudited_status fault }
 {
     let status = status_of(&fault);
@@ -158,7 +158,7 @@ pub fn run_fault<E: Write>(fault: ReportFault, errors: &mut E) -> u8
 }
 
 /// The exit status where a run's logs couldn't be made ready. Its one line goes to `errors`.
-pub fn unlogged<E: Write>(unlogged: &Unlogged, errors: &mut E) -> u8
+pub fn logs_fault<E: Write>(unlogged: &Unlogged, errors: &mut E) -> u8
     ensures { result ≡ 3 }
 {
     let _ = match unlogged {

@@ -25,7 +25,7 @@ fn counts(desk: &Desk) -> (u64, u64, u64, usize) {
         node.steps(),
         node.lines_taken(),
         node.lines_passed(),
-        node.waiting(),
+        node.asks_waiting(),
     )
 }
 
@@ -114,7 +114,7 @@ fn a_block_that_is_refused_is_told_so_once(rt: HostRuntime) -> Result<(), Fail> 
     assert!(rt; node.take(b"ask 0 b read 1 0 4")?.is_none());
     let said = node.again()?;
     assert!(rt; tells(&said, "b", Answer::Refused(9)));
-    assert_eq!(rt; (node.steps(), node.waiting()), (1, 0));
+    assert_eq!(rt; (node.steps(), node.asks_waiting()), (1, 0));
     Ok(())
 }
 
@@ -146,7 +146,7 @@ fn a_block_that_finds_no_room_is_told_so_and_passed_over(rt: HostRuntime) -> Res
             node.steps(),
             node.lines_taken(),
             node.lines_passed(),
-            node.waiting()
+            node.asks_waiting()
         ),
         (64, 64, 1, 64)
     );
@@ -166,7 +166,7 @@ fn takes<'a>(rt: &impl Abort, node: &mut Node<&'a LocalHeap>) -> bool {
                     node.steps(),
                     node.lines_taken(),
                     node.lines_passed(),
-                    node.waiting()
+                    node.asks_waiting()
                 ),
                 (0, 0, 0, 0)
             );
@@ -208,7 +208,7 @@ fn each_growth_of_a_block_is_refused_in_turn(rt: HostRuntime) -> Result<(), Fail
             node.steps(),
             node.lines_taken(),
             node.lines_passed(),
-            node.waiting()
+            node.asks_waiting()
         ),
         (0, 1, 0, 1)
     );

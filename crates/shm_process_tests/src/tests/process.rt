@@ -128,7 +128,7 @@ fn an_access_is_answered_when_its_page_comes(rt: HostRuntime) -> Result<(), Fail
         reader.output(),
         "env 1 0 4 1 0 confirm 0 0 1\ntell 1 b byte 7\n"
     );
-    assert_eq!(rt; reader.node().waiting(), 0);
+    assert_eq!(rt; reader.node().asks_waiting(), 0);
     Ok(())
 }
 
@@ -138,7 +138,7 @@ fn a_restart_is_recorded_and_asks_that_wait_are_forgotten(rt: HostRuntime) -> Re
     let mut desk = Desk::new(alloc, new_node(alloc, 2, 1)?);
     desk.record(b"first\n")?;
     desk.take(b"ask 1 b load 0 5\n")?;
-    assert_eq!(rt; desk.node().waiting(), 1);
+    assert_eq!(rt; desk.node().asks_waiting(), 1);
     if desk.node().clock() < u64::MAX {
         desk.restart()?;
     }
@@ -146,6 +146,6 @@ fn a_restart_is_recorded_and_asks_that_wait_are_forgotten(rt: HostRuntime) -> Re
         desk.entries(),
         b"first\nstep 1 ask 1 b load 0 5\nstep 2 restart\n".as_slice()
     );
-    assert_eq!(rt; desk.node().waiting(), 0);
+    assert_eq!(rt; desk.node().asks_waiting(), 0);
     Ok(())
 }

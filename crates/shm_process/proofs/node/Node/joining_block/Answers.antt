@@ -1,7 +1,7 @@
 use Rattle.std.proofs.Common.{◌∙◌, option_map, ap, sym}
 use Rattle.shm_wire.specs.Asks.{ask_of}
 use Rattle.shm_process.proofs.AskedBlock.{asked_block}
-use Rattle.shm_process.proofs.node.Node.joining.Goals as goal
+use Rattle.shm_process.proofs.node.Node.joining_block.Goals as goal
 
 pub new-requires : goal.new-requires
 new-requires g c =
