@@ -8,7 +8,7 @@ ghost use Rattle.shm_parts.specs.Purged.{purged_of};
 ghost use Rattle.shm_site.specs.Site.{StepsTo, Unchanged, site_of};
 ghost use Rattle.shm_site.specs.Step.{is_refused};
 
-use crate::foreign::is_foreign;
+use crate::foreign::{is_foreign, is_improper};
 use crate::site::Site;
 use shm_model::Answer;
 use shm_model::refusal::FOREIGN;
@@ -24,19 +24,28 @@ impl<A: Allocator + Copy> Site<A> {
         is_foreign(self.sites, self.me, envelope)
     }
 
-    /// Takes an envelope; one that can't be for this site is refused. Where memory is refused it comes back.
-    pub fn deliver<O: Outbox<Envelope<A>>>(
+    /// Whether the envelope, which names this site, can't be for it all the same: it comes from none, or its message can't be this site's.
+    pub fn is_improper(&self, envelope: &Envelope<A>) -> bool
+        requires { envelope.now.to ≡ self.now.me }
+        ensures { result ≡ foreign self.now.sites self.now.me (envelope_of envelope.now) }
+    {
+        is_improper(self.sites, self.me, envelope)
+    }
+
+    /// Takes an envelope that names this site; one that can't be for it all the same is refused. Where memory is refused it comes back.
+    pub fn deliver_addressed<O: Outbox<Envelope<A>>>(
         &mut self,
         envelope: Envelope<A>,
         outbox: &mut O,
     ) -> Result<Answer, Envelope<A>>
+        requires { envelope.to ≡ self.old.me }
         ensures step { IfOk result (λ answer. StepsTo O.posted self.old self.new outbox.old outbox.new answer
             (deliver self.old.sites self.old.me (envelope_of envelope) (site_of self.old))) }
         ensures memory { OnErr result (is_refused (deliver self.old.sites self.old.me (envelope_of envelope) (site_of self.old)).answer ≡ false) }
         ensures back { IfErr result (λ back. envelope_of back ≡ envelope_of envelope) }
         ensures refused { OnErr result (Unchanged O.posted self.old self.new outbox.old outbox.new) }
     {
-        if self.foreign(&envelope) {
+        if self.is_improper(&envelope) {
             return Ok(Answer::Refused(FOREIGN));
         }
         self.deliver_proper(envelope, outbox)

@@ -18,9 +18,22 @@ pub(crate) fn is_foreign<A: Allocator + Copy>(
 ) -> bool
     ensures { result ≡ foreign sites me (envelope_of envelope.now) }
 {
-    !(envelope.to == me
-        && envelope.from.0 < sites.count()
-        && is_proper(sites, me, envelope.from, &envelope.message))
+    if envelope.to != me {
+        return true;
+    }
+    is_improper(sites, me, envelope)
+}
+
+/// The envelope, which names this site, is from none, or with a message that can't be for this one.
+pub(crate) fn is_improper<A: Allocator + Copy>(
+    sites: Sites,
+    me: SiteId,
+    envelope: &Envelope<A>,
+) -> bool
+    requires { envelope.now.to ≡ me }
+    ensures { result ≡ foreign sites me (envelope_of envelope.now) }
+{
+    !(envelope.from.0 < sites.count() && is_proper(sites, me, envelope.from, &envelope.message))
 }
 
 fn is_proper<A: Allocator + Copy>(

@@ -135,7 +135,7 @@ impl<A: Allocator + Copy> Members<A> {
         ensures count { self.new.count ≡ self.old.count }
     {
         let site = envelope.to;
-        self.sites[site.0 as usize].deliver(envelope, outbox)
+        self.sites[site.0 as usize].deliver_addressed(envelope, outbox)
     }
 
     /// Whether the site that the envelope names refuses it as foreign.
@@ -144,7 +144,7 @@ impl<A: Allocator + Copy> Members<A> {
         ensures { result ≡ foreign self.now.count envelope.now.to (envelope_of envelope.now) }
     {
         let site = envelope.to;
-        self.sites[site.0 as usize].foreign(envelope)
+        self.sites[site.0 as usize].is_improper(envelope)
     }
 
     /// A copy of the site of this number, beside the number, if there is one.

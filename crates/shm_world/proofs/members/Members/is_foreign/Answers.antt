@@ -12,4 +12,12 @@ returns g c =
     let there = slice_get_read sites (length sites) c.site.inside.0 c.index.result.now refl (omega arith) c.index.ensures in
     let was = c.index.result.now in
     let e = envelope_of c.args.envelope.now in
-    c.foreign.ensures ∙ in-seat c.args.self.now c.site.inside.0 c.args.envelope.now.to was is there (λ n m. foreign was.sites was.me e ≡ foreign n m e) refl
+    c.is_improper.ensures ∙ in-seat c.args.self.now c.site.inside.0 c.args.envelope.now.to was is there (λ n m. foreign was.sites was.me e ≡ foreign n m e) refl
+
+pub is_improper-requires : goal.is_improper-requires
+is_improper-requires g c =
+    let is : c.site.inside.0 ≡ c.args.envelope.now.to = omega arith in
+    let sites = c.args.self.now.sites.items in
+    let there = slice_get_read sites (length sites) c.site.inside.0 c.index.result.now refl (omega arith) c.index.ensures in
+    let was = c.index.result.now in
+    in-seat c.args.self.now c.site.inside.0 c.args.envelope.now.to was is there (λ n m. m ≡ was.me) refl
