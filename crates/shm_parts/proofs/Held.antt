@@ -1,5 +1,5 @@
 -- What a site holds, as a function of the page: where a change of what is stored shows, and which pages attachments reach.
-use Rattle.std.proofs.Common.{◌≡◌, ◌∙◌, ℕ, Bool, true, false, ◌==◌, cond, if◌then◌else◌, Option, refl, ap, sym}
+use Rattle.std.proofs.Common.{◌≡◌, ◌∙◌, ℕ, Bool, true, false, ◌==◌, cond, if◌then◌else◌, Option, refl, ap, subst, sym}
 use Rattle.std.proofs.Math.Path.{fun_ext}
 use Rattle.std.proofs.lemmas.Bool.{cond-false, cond-true, true≢false, false≢true}
 use Rattle.shm_place.specs.declared.page.PageId.{PageId}
@@ -7,7 +7,7 @@ use Rattle.shm_place.specs.Page.{same_page}
 use Rattle.shm_model.specs.declared.kind.Kind.TheVariants.{Write}
 use Rattle.shm_model.specs.declared.answer.Answer.TheVariants.{Stored}
 use Rattle.shm_model.specs.Access.{ask_for, store_at, stored_entry}
-use Rattle.shm_model.specs.Site.{still, Frames as ModelFrames, Site}
+use Rattle.shm_model.specs.Site.{blank, still, Frames as ModelFrames, Site}
 use Rattle.shm_model.specs.Basics.{at, at_page}
 use Rattle.shm_model.specs.Calls.{Attachment}
 use Rattle.shm_model.specs.Entry as model
@@ -82,6 +82,15 @@ at_same entries page new same =
 
 pub here_alive : (purged : ℕ → Bool) (entries : Pages) (page : PageId) → purged page.seg ≡ false → masked purged entries page ≡ entries page
 here_alive purged entries page alive = ap (λ b. cond b (model.Nil 0) (entries page)) alive
+
+-- what is said at one seat, at the same by another name
+pub seated : (P : ℕ → ℕ → Type 0) (sites me sites2 me2 : ℕ) → sites2 ≡ sites → me2 ≡ me → P sites2 me2 → P sites me
+seated P sites me sites2 me2 all own p = subst (λ n. P n me) all (subst (λ n. P sites2 n) own p)
+
+-- a page that the site would have stored if it managed it, and hasn't, is untouched and another's
+pub elsewhere : (manager stored : Bool) → (manager ≡ true → stored ≡ true) → stored ≡ false → (if manager then model.OwnWrite 0 blank else model.Nil 0) ≡ model.Nil 0
+elsewhere true stored mine fresh = absurd (true≢false (sym (mine refl) ∙ fresh))
+elsewhere false stored mine fresh = refl
 
 -- a store where the page may be written
 pub store_yes : (sites me : ℕ) (page : PageId) (within byte : ℕ) (old new : Pages) (a : ℕ → Option Attachment) (p : ℕ → Bool) (f : Option ModelFrames) (site : Site)

@@ -16,7 +16,7 @@ use Rattle.shm_parts.specs.Entries.{is_stored, stored_at}
 use Rattle.shm_parts.specs.Frames.{arranged_by}
 use Rattle.shm_parts.specs.Holdings.{arranged_frames, framed, held_frames}
 use Rattle.shm_parts.specs.Purged.{purged_of}
-use Rattle.shm_parts.specs.Reach.{IsReached, copies_of}
+use Rattle.shm_parts.specs.Reach.{IsReached, copies_of, manages}
 use Rattle.shm_parts.specs.declared.change.Change.{Change}
 use Rattle.shm_parts.specs.declared.entries.Entries.{Entries}
 use Rattle.shm_parts.specs.declared.frames.Frames.{Frames}
@@ -41,26 +41,26 @@ pub among_back : {A : Type 0} (frames : Option (Frames A)) (page : PageId) → a
 among_back frames page h = ap (among page) (copies_listed frames) ∙ h
 
 -- more is stored, no attachment is new, and each copy is stored
-pub reach_more : {A : Type 0} (e e2 : Entries A) (s s2 : List (Option Attachment)) (p p2 : Purged A) (f f2 : Option (Frames A))
+pub reach_more : {A : Type 0} {sites me : ℕ} (e e2 : Entries A) (s s2 : List (Option Attachment)) (p p2 : Purged A) (f f2 : Option (Frames A))
     → ((page : PageId) → is_stored e page ≡ true → is_stored e2 page ≡ true)
     → ((number : ℕ) (a : Attachment) → attachments_of s2 number ≡ Some a → attachments_of s number ≡ Some a)
     → purged_of p2 ≡ purged_of p
     → ((page : PageId) → among page (copies_of f2) ≡ true → is_stored e2 page ≡ true)
-    → IsReached e s p f → IsReached e2 s2 p2 f2
+    → IsReached sites me e s p f → IsReached sites me e2 s2 p2 f2
 reach_more e e2 s s2 p p2 f f2 stores fewer same copies is = record {
-  stored = λ number a index stands below. stores (record { seg = a.id; index = index }) (is.stored number a index (fewer number a stands) below);
+  stored = λ number a index stands below mine. stores (record { seg = a.id; index = index }) (is.stored number a index (fewer number a stands) below mine);
   alive = λ number a stands. ap (λ (t : ℕ → Bool). t a.id) same ∙ is.alive number a (fewer number a stands);
   copies = copies;
 }
 
-pub reach_stored : {A : Type 0} (e e2 : Entries A) (s : List (Option Attachment)) (p : Purged A) (f : Option (Frames A)) → is_stored e2 ≡ is_stored e → IsReached e s p f → IsReached e2 s p f
+pub reach_stored : {A : Type 0} {sites me : ℕ} (e e2 : Entries A) (s : List (Option Attachment)) (p : Purged A) (f : Option (Frames A)) → is_stored e2 ≡ is_stored e → IsReached sites me e s p f → IsReached sites me e2 s p f
 reach_stored e e2 s p f same is =
     let stores : (page : PageId) → is_stored e page ≡ true → is_stored e2 page ≡ true = (λ page h. ap (λ (t : PageId → Bool). t page) same ∙ h) in
     reach_more e e2 s s p p f f stores (λ number a h. h) refl (λ page h. stores page (is.copies page h)) is
 
 -- more is stored, and the copies are the same
-pub reach_room : {A : Type 0} (e e2 : Entries A) (s : List (Option Attachment)) (p : Purged A) (f f2 : Option (Frames A)) → ((page : PageId) → is_stored e page ≡ true → is_stored e2 page ≡ true)
-    → held_frames f2 ≡ held_frames f → IsReached e s p f → IsReached e2 s p f2
+pub reach_room : {A : Type 0} {sites me : ℕ} (e e2 : Entries A) (s : List (Option Attachment)) (p : Purged A) (f f2 : Option (Frames A)) → ((page : PageId) → is_stored e page ≡ true → is_stored e2 page ≡ true)
+    → held_frames f2 ≡ held_frames f → IsReached sites me e s p f → IsReached sites me e2 s p f2
 reach_room e e2 s p f f2 stores same is =
     reach_more e e2 s s p p f f2 stores (λ number a h. h) refl (λ page h. stores page (is.copies page (among_back f page (among_held f2 (held_frames f) page same h)))) is
 
@@ -68,8 +68,8 @@ taken_step : (b : Bool) (o : Option Attachment) (a : Attachment) → cond b None
 taken_step true o a h = absurd (none-some a h)
 taken_step false o a h = h
 
-pub reach_detached : {A : Type 0} (e : Entries A) (s s2 : List (Option Attachment)) (p : Purged A) (f : Option (Frames A)) (number : ℕ) → attachments_of s2 ≡ at (attachments_of s) number None
-    → IsReached e s p f → IsReached e s2 p f
+pub reach_detached : {A : Type 0} {sites me : ℕ} (e : Entries A) (s s2 : List (Option Attachment)) (p : Purged A) (f : Option (Frames A)) (number : ℕ) → attachments_of s2 ≡ at (attachments_of s) number None
+    → IsReached sites me e s p f → IsReached sites me e s2 p f
 reach_detached e s s2 p f number after is =
     reach_more e e s s2 p p f f (λ page h. h)
     (λ n a h. taken_step (number == n) (attachments_of s n) a (sym (ap (λ (t : ℕ → Option Attachment). t n) after) ∙ h))
@@ -83,18 +83,18 @@ put_either : (number : Option ℕ) (new : Attachment) (f : ℕ → Option Attach
 put_either None new f n a P here there h = there h
 put_either (Some k) new f n a P here there h = put_step (k == n) new (f n) a P here there h
 
--- an attachment whose pages are stored
-pub reach_attached : {A : Type 0} (e e2 : Entries A) (s s2 : List (Option Attachment)) (p : Purged A) (f : Option (Frames A)) (number : Option ℕ) (new : Attachment)
+-- an attachment whose pages are stored, those that the site manages
+pub reach_attached : {A : Type 0} {sites me : ℕ} (e e2 : Entries A) (s s2 : List (Option Attachment)) (p : Purged A) (f : Option (Frames A)) (number : Option ℕ) (new : Attachment)
     → attachments_of s2 ≡ put_at number new (attachments_of s)
     → ((page : PageId) → is_stored e page ≡ true → is_stored e2 page ≡ true)
-    → ((index : ℕ) → index * page_bytes < rounded new.size → is_stored e2 (record { seg = new.id; index = index }) ≡ true)
+    → ((index : ℕ) → index * page_bytes < rounded new.size → manages sites me (record { seg = new.id; index = index }) ≡ true → is_stored e2 (record { seg = new.id; index = index }) ≡ true)
     → purged_of p new.id ≡ false
-    → IsReached e s p f → IsReached e2 s2 p f
-reach_attached e e2 s s2 p f number new after stores here alive is = record {
+    → IsReached sites me e s p f → IsReached sites me e2 s2 p f
+reach_attached {sites = sites} {me = me} e e2 s s2 p f number new after stores here alive is = record {
   stored = λ n a index stands.
-      put_either number new (attachments_of s) n a (λ a. index * page_bytes < rounded a.size → is_stored e2 (record { seg = a.id; index = index }) ≡ true)
+      put_either number new (attachments_of s) n a (λ a. index * page_bytes < rounded a.size → manages sites me (record { seg = a.id; index = index }) ≡ true → is_stored e2 (record { seg = a.id; index = index }) ≡ true)
       (here index)
-      (λ old below. stores (record { seg = a.id; index = index }) (is.stored n a index old below))
+      (λ old below mine. stores (record { seg = a.id; index = index }) (is.stored n a index old below mine))
       (sym (ap (λ (t : ℕ → Option Attachment). t n) after) ∙ stands);
   alive = λ n a stands.
       put_either number new (attachments_of s) n a (λ a. purged_of p a.id ≡ false) alive (is.alive n a)
@@ -129,15 +129,15 @@ purged_step true x apart alive = absurd (true≢false apart)
 purged_step false x apart alive = alive
 
 -- a segment that is purged, and that no attachment names
-pub reach_purged : {A : Type 0} (e e2 : Entries A) (s : List (Option Attachment)) (p p2 : Purged A) (f f2 : Option (Frames A)) (id : ℕ)
+pub reach_purged : {A : Type 0} {sites me : ℕ} (e e2 : Entries A) (s : List (Option Attachment)) (p p2 : Purged A) (f f2 : Option (Frames A)) (id : ℕ)
     → ((number : ℕ) → is_attachment_of id (attachments_of s number) ≡ false)
     → purged_of p2 ≡ at (purged_of p) id true
     → ((page : PageId) → (id == page.seg) ≡ false → stored_at e2 page ≡ stored_at e page)
     → held_frames f2 ≡ frames_without id (held_frames f)
-    → IsReached e s p f → IsReached e2 s p2 f2
+    → IsReached sites me e s p f → IsReached sites me e2 s p2 f2
 reach_purged e e2 s p p2 f f2 id unnamed added others fewer is = record {
-  stored = λ number a index stands below.
-      ap is_some (others (record { seg = a.id; index = index }) (other number a stands)) ∙ is.stored number a index stands below;
+  stored = λ number a index stands below mine.
+      ap is_some (others (record { seg = a.id; index = index }) (other number a stands)) ∙ is.stored number a index stands below mine;
   alive = λ number a stands.
       ap (λ (t : ℕ → Bool). t a.id) added ∙ purged_step (id == a.id) (purged_of p a.id) (other number a stands) (is.alive number a stands);
   copies = λ page h.
@@ -159,8 +159,8 @@ stored_copy : {A : Type 0} (e : Entries A) (f : Option (Frames A)) (page at : Pa
 stored_copy e f page at copies stored either =
     ⊎_elim (λ same. ap (is_stored e) (page-same page at same) ∙ stored) (λ old. copies page (among_back f page old)) either
 
-pub reach_arranged : {A : Type 0} (e : Entries A) (s : List (Option Attachment)) (p : Purged A) (f f2 : Option (Frames A)) (change : Change) (at : PageId) → is_stored e at ≡ true
-    → held_frames f2 ≡ (arranged_frames change at (held_frames f)).1 → IsReached e s p f → IsReached e s p f2
+pub reach_arranged : {A : Type 0} {sites me : ℕ} (e : Entries A) (s : List (Option Attachment)) (p : Purged A) (f f2 : Option (Frames A)) (change : Change) (at : PageId) → is_stored e at ≡ true
+    → held_frames f2 ≡ (arranged_frames change at (held_frames f)).1 → IsReached sites me e s p f → IsReached sites me e s p f2
 reach_arranged e s p f f2 change at stored after is =
     reach_more e e s s p p f f2 (λ page h. h) (λ number a h. h) refl
     (λ page h. stored_copy e f page at is.copies stored (arranged_copies change at page (held_frames f) (among_held f2 (arranged_frames change at (held_frames f)).1 page after h)))
@@ -171,8 +171,8 @@ first_listed change at first None h = absurd (none-some first h)
 first_listed change at first (Some f) h =
     among-arranged_by first at change f.copies (overflowed-among first (record f { copies = arranged_by change at f.copies }) h)
 
-pub first_stored : {A : Type 0} (e : Entries A) (s : List (Option Attachment)) (p : Purged A) (f : Option (Frames A)) (change : Change) (at first : PageId) → is_stored e at ≡ true
-    → (arranged_frames change at (held_frames f)).0 ≡ Some first → IsReached e s p f → is_stored e first ≡ true
+pub first_stored : {A : Type 0} {sites me : ℕ} (e : Entries A) (s : List (Option Attachment)) (p : Purged A) (f : Option (Frames A)) (change : Change) (at first : PageId) → is_stored e at ≡ true
+    → (arranged_frames change at (held_frames f)).0 ≡ Some first → IsReached sites me e s p f → is_stored e first ≡ true
 first_stored e s p f change at first stored h is =
     stored_copy e f first at is.copies stored (first_listed change at first (held_frames f) h)
 
@@ -180,15 +180,15 @@ framed_none : (limit : Option ℕ) (page : PageId) → among page (listed (optio
 framed_none None page h = false≢true h
 framed_none (Some n) page h = false≢true h
 
-pub reach_opened : {A : Type 0} (e : Entries A) (s : List (Option Attachment)) (p : Purged A) (f : Option (Frames A)) (limit : Option ℕ) → attachments_of s ≡ (λ _. None) → held_frames f ≡ option_map framed limit → IsReached e s p f
+pub reach_opened : {A : Type 0} {sites me : ℕ} (e : Entries A) (s : List (Option Attachment)) (p : Purged A) (f : Option (Frames A)) (limit : Option ℕ) → attachments_of s ≡ (λ _. None) → held_frames f ≡ option_map framed limit → IsReached sites me e s p f
 reach_opened e s p f limit none frames = record {
-  stored = λ number a index stands below. absurd (none-some a (sym (ap (λ (t : ℕ → Option Attachment). t number) none) ∙ stands));
+  stored = λ number a index stands below mine. absurd (none-some a (sym (ap (λ (t : ℕ → Option Attachment). t number) none) ∙ stands));
   alive = λ number a stands. absurd (none-some a (sym (ap (λ (t : ℕ → Option Attachment). t number) none) ∙ stands));
   copies = λ page h. absurd (framed_none limit page (among_held f (option_map framed limit) page frames h));
 }
 
-pub reach_copied : {A : Type 0} (e e2 : Entries A) (s s2 : List (Option Attachment)) (p p2 : Purged A) (f f2 : Option (Frames A)) → is_stored e2 ≡ is_stored e → s2 ≡ s → purged_of p2 ≡ purged_of p
-    → held_frames f2 ≡ held_frames f → IsReached e s p f → IsReached e2 s2 p2 f2
+pub reach_copied : {A : Type 0} {sites me : ℕ} (e e2 : Entries A) (s s2 : List (Option Attachment)) (p p2 : Purged A) (f f2 : Option (Frames A)) → is_stored e2 ≡ is_stored e → s2 ≡ s → purged_of p2 ≡ purged_of p
+    → held_frames f2 ≡ held_frames f → IsReached sites me e s p f → IsReached sites me e2 s2 p2 f2
 reach_copied e e2 s s2 p p2 f f2 entries slots purged frames is =
     let stores : (page : PageId) → is_stored e page ≡ true → is_stored e2 page ≡ true = (λ page h. ap (λ (t : PageId → Bool). t page) entries ∙ h) in
     reach_more e e2 s s2 p p2 f f2 stores

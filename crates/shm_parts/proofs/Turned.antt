@@ -19,7 +19,7 @@ use Rattle.shm_parts.specs.Message.{envelope_of}
 use Rattle.shm_parts.specs.declared.change.Change.{Change}
 use Rattle.shm_parts.specs.declared.holdings.Holdings.{Holdings}
 use Rattle.shm_parts.specs.declared.message.Envelope.{Envelope}
-use Rattle.shm_parts.proofs.Held.{Pages, at_same, here_alive, masked, masked_at, site_of}
+use Rattle.shm_parts.proofs.Held.{Pages, at_same, here_alive, masked, masked_at, seated, site_of}
 
 dropped_step : (b : Bool) (qs : List PageId) (f : ModelFrames) (site : Site)
     → (if b then drop_first qs f (record site { frames = Some f }) else record site { frames = Some f }) ≡ given_up (with_frames (if b then first_out qs f else (None, f))) site
@@ -134,17 +134,22 @@ turned_sent sites me page note old new a p f out envelope change hold site alive
     ∙ (λ i. turned_step page (Some (envelope, sym change2 i)) hold site)
 
 -- what a row did where room was made before it
-pub turned_same : {A E : Type 0} (sites me : ℕ) (page : PageId) (note : model.Note) (old mid new : Holdings A) (result : Result (Option (Envelope A × Change)) E)
+pub turned_same : {A E : Type 0} (sites me sites2 me2 : ℕ) (page : PageId) (note : model.Note) (old mid new : Holdings A) (result : Result (Option (Envelope A × Change)) E)
+    → sites2 ≡ sites → me2 ≡ me
     → ((site : Site) → with_holdings sites me mid site ≡ with_holdings sites me old site)
-    → IfOk result (λ sent. (site : Site) → to_entry sites me page (row me note (held_entries sites me mid page)) (with_holdings sites me mid site) ≡ turned_step page sent (with_holdings sites me new) site)
+    → IfOk result (λ sent. (site : Site) → to_entry sites2 me2 page (row me2 note (held_entries sites2 me2 mid page)) (with_holdings sites2 me2 mid site) ≡ turned_step page sent (with_holdings sites2 me2 new) site)
     → IfOk result (λ sent. (site : Site) → to_entry sites me page (row me note (held_entries sites me old page)) (with_holdings sites me old site) ≡ turned_step page sent (with_holdings sites me new) site)
-turned_same sites me page note old mid new (Ok r) same turned = λ site.
-    ap (λ (s : Site). to_entry sites me page (row me note (s.entries page)) s) (sym (same site)) ∙ turned site
-turned_same sites me page note old mid new (Err back) same turned = tt
+turned_same sites me sites2 me2 page note old mid new (Ok r) all own same turned = λ site.
+    ap (λ (s : Site). to_entry sites me page (row me note (s.entries page)) s) (sym (same site))
+    ∙ seated (λ sites me. to_entry sites me page (row me note (held_entries sites me mid page)) (with_holdings sites me mid site) ≡ turned_step page r (with_holdings sites me new) site)
+    sites me sites2 me2 all own (turned site)
+turned_same sites me sites2 me2 page note old mid new (Err back) all own same turned = tt
 
-pub refused_same : {A X E : Type 0} (sites me : ℕ) (old mid new : Holdings A) (result : Result X E)
+pub refused_same : {A X E : Type 0} (sites me sites2 me2 : ℕ) (old mid new : Holdings A) (result : Result X E)
+    → sites2 ≡ sites → me2 ≡ me
     → ((site : Site) → with_holdings sites me mid site ≡ with_holdings sites me old site)
-    → OnErr result ((site : Site) → with_holdings sites me new site ≡ with_holdings sites me mid site)
+    → OnErr result ((site : Site) → with_holdings sites2 me2 new site ≡ with_holdings sites2 me2 mid site)
     → OnErr result ((site : Site) → with_holdings sites me new site ≡ with_holdings sites me old site)
-refused_same sites me old mid new (Ok r) same refused = tt
-refused_same sites me old mid new (Err back) same refused = λ site. refused site ∙ same site
+refused_same sites me sites2 me2 old mid new (Ok r) all own same refused = tt
+refused_same sites me sites2 me2 old mid new (Err back) all own same refused = λ site.
+    seated (λ sites me. with_holdings sites me new site ≡ with_holdings sites me mid site) sites me sites2 me2 all own (refused site) ∙ same site

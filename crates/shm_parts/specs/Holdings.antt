@@ -1,5 +1,5 @@
 -- What a site holds of pages, as the definitions speak of it; and what its calls mean to the site.
-use Rattle.std.specs.Prelude.{ℕ, Bool, [], ◌∷◌, Option, Some, None, Result, Ok, Err, if◌then◌else◌, slice_index}
+use Rattle.std.specs.Prelude.{◌≡◌, ℕ, Bool, [], ◌∷◌, Option, Some, None, Result, Ok, Err, if◌then◌else◌, slice_index}
 use Rattle.shm_place.specs.declared.page.PageId.{PageId}
 use Rattle.shm_model.specs.declared.answer.Access.{Access}
 use Rattle.shm_model.specs.declared.answer.Access.TheVariants as access
@@ -57,6 +57,10 @@ with_holdings sites me held site = record site {
   purged = purged_of held.purged;
   frames = held_frames held.frames;
 }
+
+-- the site's number, and how many there are, stay
+abbrev pub SameSeat : {A : Type 0} → Holdings A → Holdings A → Type 0
+SameSeat old new = (new.sites ≡ old.sites) × (new.me ≡ old.me)
 
 -- the site with these frames, once it has given up the copy that is to go
 abbrev pub given_up : Option PageId × Option ModelFrames → Site → Site

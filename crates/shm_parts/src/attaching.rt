@@ -5,35 +5,38 @@ ghost use Rattle.shm_model.specs.Basics.{at};
 ghost use Rattle.shm_model.specs.Site.{Site, least_free, untouched};
 ghost use Rattle.shm_attach.specs.Attachments.{attachments_of, put_at, with_attachments};
 ghost use Rattle.shm_parts.specs.Entries.{entries_of, is_stored};
-ghost use Rattle.shm_parts.specs.Holdings.{with_holdings};
+ghost use Rattle.shm_parts.specs.Holdings.{SameSeat, with_holdings};
 ghost use Rattle.shm_parts.specs.Purged.{purged_of};
+ghost use Rattle.shm_parts.specs.Reach.{manages};
 
 use crate::entries::Entries;
 use crate::holdings::Holdings;
-use shm_place::{PAGE_BYTES, PageId, SegId, SiteId, Sites, rounded};
+use shm_place::{PAGE_BYTES, PageId, SegId, SiteId, Sites, manager_of, rounded};
 use std::alloc::{AllocError, Allocator};
 
 impl<A: Allocator + Copy> Holdings<A> {
-    /// Attaches the segment at the least free number, which is the answer; the entries of its pages are stored first, so that an
-    /// access with the right takes no memory. None: no number is free, and nothing changes.
-    pub fn attach(
-        &mut self,
-        sites: Sites,
-        me: SiteId,
-        id: SegId,
-        size: u32,
-        ro: bool,
-    ) -> Result<Option<u32>, AllocError>
+    /// Attaches the segment at the least free number, which is the answer; the entries of those of its pages that the site manages are
+    /// stored first, so that an access with the right takes no memory. None: no number is free, and nothing changes.
+    pub fn attach(&mut self, id: SegId, size: u32, ro: bool) -> Result<Option<u32>, AllocError>
         requires { purged_of self.old.purged id ≡ false }
         ensures number { IfOk result (λ number. number ≡ least_free (attachments_of self.old.attachments)) }
         ensures after { IfOk result (λ number. (site : Site)
-            → with_holdings sites me self.new site
+            → with_holdings self.old.sites self.old.me self.new site
             ≡ with_attachments (put_at number (record { id = id; size = size; ro = ro }) (attachments_of self.old.attachments))
-            (with_holdings sites me self.old site)) }
-        ensures refused { OnErr result ((site : Site) → with_holdings sites me self.new site ≡ with_holdings sites me self.old site) }
+            (with_holdings self.old.sites self.old.me self.old site)) }
+        ensures refused { OnErr result ((site : Site) → with_holdings self.old.sites self.old.me self.new site
+            ≡ with_holdings self.old.sites self.old.me self.old site) }
+        ensures seat { SameSeat self.old self.new }
     {
         let pages = (rounded(size) / PAGE_BYTES as u64) as u32;
-        match store_pages(&mut self.entries, self.alloc, sites, me, id, pages) {
+        match store_pages(
+            &mut self.entries,
+            self.alloc,
+            self.sites,
+            self.me,
+            id,
+            pages,
+        ) {
             Err(error) => Err(error),
             Ok(first) => {
                 let number = self.attachments.put(id, size, ro);
@@ -45,8 +48,9 @@ impl<A: Allocator + Copy> Holdings<A> {
 
     /// Removes what is attached at the number, if anything.
     pub fn detach(&mut self, number: u32)
-        ensures { (sites me : ℕ) → (site : Site) → with_holdings sites me self.new site
+        ensures taken { (sites me : ℕ) → (site : Site) → with_holdings sites me self.new site
             ≡ with_attachments (at (attachments_of self.old.attachments) number None) (with_holdings sites me self.old site) }
+        ensures seat { SameSeat self.old self.new }
     {
         self.attachments.remove(number);
     }
@@ -59,7 +63,7 @@ impl<A: Allocator + Copy> Holdings<A> {
     }
 }
 
-/// Stores the entries of the segment's first pages, and tells where the first page's stands, if there is one.
+/// Stores the entries of those of the segment's first pages that the site manages, and tells where the first one's stands, if there is one.
 fn store_pages<A: Allocator + Copy>(
     entries: &mut Entries<A>,
     alloc: A,
@@ -69,15 +73,38 @@ fn store_pages<A: Allocator + Copy>(
     pages: u32,
 ) -> Result<Option<usize>, AllocError>
     ensures same { entries_of (untouched sites me) entries.new ≡ entries_of (untouched sites me) entries.old }
-    ensures stored { OnOk result ((index : ℕ) → index < pages → is_stored entries.new (record { seg = id; index = index }) ≡ true) }
+    ensures stored { OnOk result ((index : ℕ) → index < pages → manages sites me (record { seg = id; index = index }) ≡ true
+        → is_stored entries.new (record { seg = id; index = index }) ≡ true) }
     ensures others { (other : Page) → is_stored entries.old other ≡ true → is_stored entries.new other ≡ true }
 {
     let mut first = None;
     'pages: for index in 0..pages {
-        let place = entries.ensure(alloc, sites, me, PageId { seg: id, index })?;
-        if index == 0 {
-            first = Some(place);
+        let place = store_managed(entries, alloc, sites, me, PageId { seg: id, index })?;
+        if first.is_none() {
+            first = place;
         }
     }
     Ok(first)
+}
+
+/// Stores the page's entry if the site manages it, and tells where it stands then.
+fn store_managed<A: Allocator + Copy>(
+    entries: &mut Entries<A>,
+    alloc: A,
+    sites: Sites,
+    me: SiteId,
+    page: PageId,
+) -> Result<Option<usize>, AllocError>
+    ensures same { entries_of (untouched sites me) entries.new ≡ entries_of (untouched sites me) entries.old }
+    ensures stored { OnOk result (manages sites me page ≡ true → is_stored entries.new page ≡ true) }
+    ensures others { (other : Page) → is_stored entries.old other ≡ true → is_stored entries.new other ≡ true }
+{
+    let page = &page;
+    if manager_of(sites, *page) != me {
+        return Ok(None);
+    }
+    match entries.ensure(alloc, sites, me, *page) {
+        Ok(place) => Ok(Some(place)),
+        Err(error) => Err(error),
+    }
 }

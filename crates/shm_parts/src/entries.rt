@@ -84,18 +84,18 @@ impl<A: Allocator + Copy> Entries<A> {
         Ok(place)
     }
 
-    /// Stores a byte where the page may be written, and tells whether it did.
+    /// Stores a byte where the page's entry is stored and may be written, and tells whether it did.
     pub fn store(&mut self, page: PageId, within: usize, byte: u8) -> bool
-        requires stored { is_stored self.old page ≡ true }
         requires within { within < page_bytes }
-        ensures writable { (rest : Page → model.Entry) → result ≡ model.writable (entries_of rest self.old page) }
+        ensures writable { (rest : Page → model.Entry) → (is_stored self.old page ≡ false → model.writable (rest page) ≡ false)
+            → result ≡ model.writable (entries_of rest self.old page) }
         ensures after { (rest : Page → model.Entry) → entries_of rest self.new
             ≡ (if result then at_page (entries_of rest self.old) page (stored_entry within byte (entries_of rest self.old page))
             else entries_of rest self.old) }
         ensures same { is_stored self.new ≡ is_stored self.old }
     {
         let Some(entry) = self.map.get_mut(&page) else {
-            unreachable!()
+            return false;
         };
         store_in(entry, within, byte)
     }

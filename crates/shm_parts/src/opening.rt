@@ -18,14 +18,16 @@ use std::alloc::{AllocError, Allocator};
 
 impl<A: Allocator + Copy> Holdings<A> {
     /// Nothing is attached, purged or counted, and every page is untouched.
-    pub fn new(alloc: A) -> Holdings<A>
-        ensures { (sites me : ℕ) → (site : Site) → with_holdings sites me result site
+    pub fn new(alloc: A, sites: Sites, me: SiteId) -> Holdings<A>
+        ensures held { (site : Site) → with_holdings sites me result site
             ≡ record site { entries = untouched sites me; attachments = λ _. None; purged = λ _. false; frames = None } }
+        ensures seat { (result.sites ≡ sites) × (result.me ≡ me) }
     {
-        Holdings::empty(alloc, None)
+        Holdings::empty(alloc, sites, me, None)
     }
 
-    /// Segment 0 with so many pages is attached as attachment 0, to read and write; its pages' entries are stored. `limit`: how many
+    /// Segment 0 with so many pages is attached as attachment 0, to read and write; the entries of the pages that the site manages are
+    /// stored. `limit`: how many
     /// copies there may be, if that is limited.
     pub fn preset(
         alloc: A,
@@ -36,31 +38,35 @@ impl<A: Allocator + Copy> Holdings<A> {
     ) -> Result<Holdings<A>, AllocError>
         requires from { 1 ≤ pages }
         requires to { pages ≤ PAGES }
-        ensures { IfOk result (λ held. (site : Site) → with_holdings sites me held site
+        ensures held { IfOk result (λ held. (site : Site) → with_holdings sites me held site
             ≡ record site {
               entries = untouched sites me;
               attachments = at (λ _. None) 0 (Some (preset_attachment pages));
               purged = λ _. false;
               frames = option_map framed limit;
             }) }
+        ensures seat { IfOk result (λ held. (held.sites ≡ sites) × (held.me ≡ me)) }
     {
-        let mut held = Holdings::empty(alloc, limit);
+        let mut held = Holdings::empty(alloc, sites, me, limit);
         let bytes = PAGE_BYTES as u32 * pages;
-        held.attach(sites, me, SegId(0), bytes, false)?;
+        held.attach(SegId(0), bytes, false)?;
         Ok(held)
     }
 
     /// Nothing is held, and `limit` says how many copies there may be, if that is limited.
-    fn empty(alloc: A, limit: Option<u32>) -> Holdings<A>
-        ensures held { (sites me : ℕ) → (site : Site) → with_holdings sites me result site
+    fn empty(alloc: A, sites: Sites, me: SiteId, limit: Option<u32>) -> Holdings<A>
+        ensures held { (site : Site) → with_holdings sites me result site
             ≡ record site { entries = untouched sites me; attachments = λ _. None; purged = λ _. false; frames = option_map framed limit } }
+        ensures seat { (result.sites ≡ sites) × (result.me ≡ me) }
         ensures purged { purged_of result.purged ≡ (λ _. false) }
         ensures attachments { attachments_of result.attachments ≡ (λ _. None) }
     {
         Holdings {
+            sites,
+            me,
             entries: Entries::new(alloc),
             attachments: Attachments::new(),
-            first_places: FirstPlaces::unknown(),
+            first_places: FirstPlaces::unknown(sites),
             purged: Purged::new(alloc),
             frames: frames_for(alloc, limit),
             alloc,

@@ -5,7 +5,7 @@ ghost use Rattle.shm_model.specs.Entry.{Nil};
 ghost use Rattle.shm_model.specs.SegmentCalls.{frames_without, of_segment};
 ghost use Rattle.shm_model.specs.Site.{Site, is_attached};
 ghost use Rattle.shm_attach.specs.Attachments.{attachments_of, with_attachments};
-ghost use Rattle.shm_parts.specs.Holdings.{held_entries, held_frames, with_holdings};
+ghost use Rattle.shm_parts.specs.Holdings.{SameSeat, held_entries, held_frames, with_holdings};
 ghost use Rattle.shm_parts.specs.Purged.{purged_of};
 
 use crate::frames::Frames;
@@ -39,6 +39,7 @@ impl<A: Allocator + Copy> Holdings<A> {
             }
             else with_holdings sites me self.old site)) }
         ensures refused { OnErr result ((sites me : ℕ) → (site : Site) → with_holdings sites me self.new site ≡ with_holdings sites me self.old site) }
+        ensures seat { SameSeat self.old self.new }
         ensures spends { OnErr result ((site : Site) → is_attached (with_attachments (attachments_of self.old.attachments) site) id ≡ false) }
         ensures room { IfOk result (λ done. done ≡ true → 0 < O.room outbox.new) }
         ensures same { O.posted outbox.old outbox.new [] }

@@ -1,12 +1,13 @@
 //! Loads and stores through attachments.
-ghost use Rattle.std.specs.Prelude.{◌≡◌, ℕ, ◌<◌, false, true, Ok};
+ghost use Rattle.std.specs.Prelude.{◌≡◌, ◌<◌, false, true, Ok};
 ghost use Rattle.shm_place.specs.Limits.{page_bytes};
 ghost use Rattle.shm_model.specs.Access.{load, load_at, store, store_at};
 ghost use Rattle.shm_model.specs.Site.{Site};
 ghost use Rattle.shm_page.specs.Entry.{entry_of};
 ghost use Rattle.shm_parts.specs.Entries.{is_stored};
-ghost use Rattle.shm_parts.specs.Holdings.{kept_step, loaded_step, read_of, with_holdings};
+ghost use Rattle.shm_parts.specs.Holdings.{SameSeat, kept_step, loaded_step, read_of, with_holdings};
 ghost use Rattle.shm_parts.specs.Purged.{purged_of};
+ghost use Rattle.shm_parts.specs.Reach.{manages};
 
 use crate::holdings::Holdings;
 use crate::reached::{Kept, Loaded};
@@ -19,8 +20,8 @@ impl<A: Allocator + Copy> Holdings<A> {
     /// A load through an attachment. It takes no memory.
     #[inline(always)]
     pub fn load(&self, at: u32, offset: u32) -> Result<Loaded, Denied>
-        ensures { (sites me : ℕ) → (site : Site) → load sites me at offset (with_holdings sites me self.now site)
-            ≡ loaded_step sites me result (with_holdings sites me self.now site) }
+        ensures { (site : Site) → load self.now.sites self.now.me at offset (with_holdings self.now.sites self.now.me self.now site)
+            ≡ loaded_step self.now.sites self.now.me result (with_holdings self.now.sites self.now.me self.now site) }
     {
         match right(&self.attachments, at, offset, false) {
             Ok((page, within)) => {
@@ -33,8 +34,9 @@ impl<A: Allocator + Copy> Holdings<A> {
 
     /// A store through an attachment. It takes no memory.
     pub fn store(&mut self, at: u32, offset: u32, byte: u8) -> Result<Kept, Denied>
-        ensures { (sites me : ℕ) → (site : Site) → store sites me at offset byte (with_holdings sites me self.old site)
-            ≡ kept_step sites me result (with_holdings sites me self.new site) }
+        ensures step { (site : Site) → store self.old.sites self.old.me at offset byte (with_holdings self.old.sites self.old.me self.old site)
+            ≡ kept_step self.old.sites self.old.me result (with_holdings self.old.sites self.old.me self.new site) }
+        ensures seat { SameSeat self.old self.new }
     {
         match right(&self.attachments, at, offset, true) {
             Ok((page, within)) => Ok(self.store_at(&page, within, byte)),
@@ -42,26 +44,29 @@ impl<A: Allocator + Copy> Holdings<A> {
         }
     }
 
-    /// The byte of a page whose entry probably stands at this place.
+    /// The byte of a page whose entry probably stands at this place. A page of which nothing is stored is untouched, and another site's.
     fn load_at(&self, place: usize, page: &PageId, within: usize) -> Loaded
         requires within { within < page_bytes }
-        requires stored { is_stored self.now.entries page.now ≡ true }
+        requires stored { manages self.now.sites self.now.me page.now ≡ true → is_stored self.now.entries page.now ≡ true }
         requires alive { purged_of self.now.purged page.now.seg ≡ false }
-        ensures { (sites me : ℕ) → (site : Site) → load_at sites me (record { page = page.now; within = within }) (with_holdings sites me self.now site)
-            ≡ loaded_step sites me (Ok result) (with_holdings sites me self.now site) }
+        ensures { (site : Site) → load_at self.now.sites self.now.me (record { page = page.now; within = within })
+            (with_holdings self.now.sites self.now.me self.now site)
+            ≡ loaded_step self.now.sites self.now.me (Ok result) (with_holdings self.now.sites self.now.me self.now site) }
     {
-        let Some(entry) = self.entries.get_near(place, *page) else {
-            unreachable!()
-        };
-        read(entry, page, within)
+        match self.entries.get_near(place, *page) {
+            Some(entry) => read(entry, page, within),
+            None => Loaded::Absent(*page),
+        }
     }
 
     fn store_at(&mut self, page: &PageId, within: usize, byte: u8) -> Kept
         requires within { within < page_bytes }
-        requires stored { is_stored self.old.entries page.now ≡ true }
+        requires stored { manages self.old.sites self.old.me page.now ≡ true → is_stored self.old.entries page.now ≡ true }
         requires alive { purged_of self.old.purged page.now.seg ≡ false }
-        ensures { (sites me : ℕ) → (site : Site) → store_at sites me (record { page = page.now; within = within }) byte (with_holdings sites me self.old site)
-            ≡ kept_step sites me (Ok result) (with_holdings sites me self.new site) }
+        ensures step { (site : Site) → store_at self.old.sites self.old.me (record { page = page.now; within = within }) byte
+            (with_holdings self.old.sites self.old.me self.old site)
+            ≡ kept_step self.old.sites self.old.me (Ok result) (with_holdings self.old.sites self.old.me self.new site) }
+        ensures seat { SameSeat self.old self.new }
     {
         if self.entries.store(*page, within, byte) {
             return Kept::Stored;

@@ -3,20 +3,20 @@ ghost use Rattle.std.specs.Prelude.{◌≡◌, ℕ, false, if◌then◌else◌, 
 ghost use Rattle.shm_model.specs.Entry.{Nil, OwnWrite};
 ghost use Rattle.shm_model.specs.Site.{Site, blank};
 ghost use Rattle.shm_page.specs.Entry.{entry_of};
-ghost use Rattle.shm_parts.specs.Holdings.{access_of, held_entries, held_frames, shown_of, state_of, with_holdings};
+ghost use Rattle.shm_parts.specs.Holdings.{SameSeat, access_of, held_entries, held_frames, shown_of, state_of, with_holdings};
 ghost use Rattle.shm_parts.specs.Purged.{purged_of};
 
 use crate::frames::Frames;
 use crate::holdings::Holdings;
 use shm_model::{Access, Shown, State};
 use shm_page::Entry;
-use shm_place::{PageId, SiteId, Sites, manager_of};
+use shm_place::{PageId, manager_of};
 use std::alloc::{AllocError, Allocator};
 
 impl<A: Allocator + Copy> Holdings<A> {
     /// The access that the site has to the page.
-    pub fn access(&self, sites: Sites, me: SiteId, page: PageId) -> Access
-        ensures { result ≡ access_of (held_entries sites me self.now page) }
+    pub fn access(&self, page: PageId) -> Access
+        ensures { result ≡ access_of (held_entries self.now.sites self.now.me self.now page) }
     {
         let place = &page;
         if self.purged.contains(place.seg) {
@@ -24,14 +24,14 @@ impl<A: Allocator + Copy> Holdings<A> {
         }
         match self.entries.get(*place) {
             Some(entry) => access_to(entry),
-            None if manager_of(sites, *place) == me => Access::Write,
+            None if manager_of(self.sites, *place) == self.me => Access::Write,
             None => Access::Nil,
         }
     }
 
     /// The page's state here, and the greatest transaction number that it met.
-    pub fn shown(&self, sites: Sites, me: SiteId, page: PageId) -> Shown
-        ensures { result ≡ shown_of (purged_of self.now.purged page.seg) (held_entries sites me self.now page) }
+    pub fn shown(&self, page: PageId) -> Shown
+        ensures { result ≡ shown_of (purged_of self.now.purged page.seg) (held_entries self.now.sites self.now.me self.now page) }
     {
         let place = &page;
         if self.purged.contains(place.seg) {
@@ -45,18 +45,21 @@ impl<A: Allocator + Copy> Holdings<A> {
                 state: state_of(entry),
                 seen: entry.seen(),
             },
-            None => untouched_page(manager_of(sites, *place) == me),
+            None => untouched_page(manager_of(self.sites, *place) == self.me),
         }
     }
 
     /// Equal holdings.
     pub fn copy(&self) -> Result<Holdings<A>, AllocError>
-        ensures { IfOk result (λ copy. (sites me : ℕ) → (site : Site) → with_holdings sites me copy site ≡ with_holdings sites me self.now site) }
+        ensures held { IfOk result (λ copy. (sites me : ℕ) → (site : Site) → with_holdings sites me copy site ≡ with_holdings sites me self.now site) }
+        ensures seat { IfOk result (λ copy. SameSeat self.now copy) }
     {
         let entries = self.entries.copy()?;
         let purged = self.purged.copy()?;
         let frames = copy_frames(&self.frames)?;
         Ok(Holdings {
+            sites: self.sites,
+            me: self.me,
             entries,
             attachments: self.attachments.copy(),
             first_places: self.first_places,

@@ -4,7 +4,7 @@ ghost use Rattle.shm_model.specs.Site.{Site};
 ghost use Rattle.shm_model.specs.Transfer.{to_entry};
 ghost use Rattle.shm_parts.specs.Entries.{StandsAt, is_stored, row};
 ghost use Rattle.shm_parts.specs.Frames.{installs};
-ghost use Rattle.shm_parts.specs.Holdings.{held_entries, arranged_frames, held_frames, rearranged, turned_step, with_holdings};
+ghost use Rattle.shm_parts.specs.Holdings.{SameSeat, held_entries, arranged_frames, held_frames, rearranged, turned_step, with_holdings};
 ghost use Rattle.shm_parts.specs.Message.{brings_copy, entry_note_of};
 ghost use Rattle.shm_parts.specs.Purged.{purged_of};
 ghost use Rattle.shm_parts.specs.Reach.{has_space};
@@ -14,7 +14,7 @@ use crate::change::Change;
 use crate::frames::Frames;
 use crate::holdings::Holdings;
 use crate::message::{EntryNote, Envelope};
-use shm_place::{PageId, SiteId, Sites};
+use shm_place::PageId;
 use std::alloc::{AllocError, Allocator};
 
 impl<A: Allocator + Copy> Holdings<A> {
@@ -22,47 +22,40 @@ impl<A: Allocator + Copy> Holdings<A> {
     /// what changed. Where memory is refused the note comes back and nothing changes.
     pub fn turn(
         &mut self,
-        sites: Sites,
-        me: SiteId,
         page: &PageId,
         note: EntryNote<A>,
     ) -> Result<Option<(Envelope<A>, Change)>, EntryNote<A>>
         requires { purged_of self.old.purged page.now.seg ≡ false }
         ensures step { IfOk result (λ sent. (site : Site)
-            → to_entry sites me page.now (row me (entry_note_of note) (held_entries sites me self.old page.now)) (with_holdings sites me self.old site)
-            ≡ turned_step page.now sent (with_holdings sites me self.new) site) }
+            → to_entry self.old.sites self.old.me page.now (row self.old.me (entry_note_of note) (held_entries self.old.sites self.old.me self.old page.now))
+            (with_holdings self.old.sites self.old.me self.old site) ≡ turned_step page.now sent (with_holdings self.old.sites self.old.me self.new) site) }
         ensures back { IfErr result (λ back. entry_note_of back ≡ entry_note_of note) }
-        ensures refused { OnErr result ((site : Site) → with_holdings sites me self.new site ≡ with_holdings sites me self.old site) }
+        ensures refused { OnErr result ((site : Site) → with_holdings self.old.sites self.old.me self.new site
+            ≡ with_holdings self.old.sites self.old.me self.old site) }
+        ensures seat { SameSeat self.old self.new }
     {
-        match self.make_room(sites, me, page, &note) {
-            Ok(place) => self.turn_stored(sites, me, page, place, note),
+        match self.make_room(page, &note) {
+            Ok(place) => self.turn_stored(page, place, note),
             Err(_) => Err(note),
         }
     }
 
     /// Makes room for what the note of the page may add, and tells where the page's entry stands.
-    fn make_room(
-        &mut self,
-        sites: Sites,
-        me: SiteId,
-        page: &PageId,
-        note: &EntryNote<A>,
-    ) -> Result<usize, AllocError>
-        ensures same { (site : Site) → with_holdings sites me self.new site ≡ with_holdings sites me self.old site }
+    fn make_room(&mut self, page: &PageId, note: &EntryNote<A>) -> Result<usize, AllocError>
+        ensures same { (site : Site) → with_holdings self.old.sites self.old.me self.new site ≡ with_holdings self.old.sites self.old.me self.old site }
+        ensures seat { SameSeat self.old self.new }
         ensures purged { purged_of self.new.purged ≡ purged_of self.old.purged }
         ensures stored { OnOk result (is_stored self.new.entries page.now ≡ true) }
         ensures place { IfOk result (λ place. StandsAt page.now place self.new.entries) }
         ensures room { OnOk result (brings_copy note.now ≡ true → has_space page.now self.new.frames) }
     {
         reserve_copy(&mut self.frames, page, note)?;
-        self.entries.ensure(self.alloc, sites, me, *page)
+        self.entries.ensure(self.alloc, self.sites, self.me, *page)
     }
 
     /// Runs the note's row, where room was made for it.
     fn turn_stored(
         &mut self,
-        sites: Sites,
-        me: SiteId,
         page: &PageId,
         place: usize,
         note: EntryNote<A>,
@@ -72,16 +65,18 @@ impl<A: Allocator + Copy> Holdings<A> {
         requires place { StandsAt page.now place self.old.entries }
         requires room { brings_copy note ≡ true → has_space page.now self.old.frames }
         ensures step { IfOk result (λ sent. (site : Site)
-            → to_entry sites me page.now (row me (entry_note_of note) (held_entries sites me self.old page.now)) (with_holdings sites me self.old site)
-            ≡ turned_step page.now sent (with_holdings sites me self.new) site) }
+            → to_entry self.old.sites self.old.me page.now (row self.old.me (entry_note_of note) (held_entries self.old.sites self.old.me self.old page.now))
+            (with_holdings self.old.sites self.old.me self.old site) ≡ turned_step page.now sent (with_holdings self.old.sites self.old.me self.new) site) }
         ensures back { IfErr result (λ back. entry_note_of back ≡ entry_note_of note) }
-        ensures refused { OnErr result ((site : Site) → with_holdings sites me self.new site ≡ with_holdings sites me self.old site) }
+        ensures refused { OnErr result ((site : Site) → with_holdings self.old.sites self.old.me self.new site
+            ≡ with_holdings self.old.sites self.old.me self.old site) }
+        ensures seat { SameSeat self.old self.new }
     {
-        let (out, change) = match self.entries.turn(me, *page, place, note) {
+        let (out, change) = match self.entries.turn(self.me, *page, place, note) {
             Ok(turned) => turned,
             Err(note) => return Err(note),
         };
-        let Some(envelope) = envelope_out(sites, me, page, out) else {
+        let Some(envelope) = envelope_out(self.sites, self.me, page, out) else {
             return Ok(None);
         };
         self.arrange(page, change);
@@ -92,7 +87,9 @@ impl<A: Allocator + Copy> Holdings<A> {
     fn arrange(&mut self, page: &PageId, change: Change)
         requires stored { is_stored self.old.entries page.now ≡ true }
         requires room { installs change ≡ true → has_space page.now self.old.frames }
-        ensures { (sites me : ℕ) → (site : Site) → with_holdings sites me self.new site ≡ rearranged change page.now (with_holdings sites me self.old site) }
+        ensures copies { (sites me : ℕ) → (site : Site) → with_holdings sites me self.new site
+            ≡ rearranged change page.now (with_holdings sites me self.old site) }
+        ensures seat { SameSeat self.old self.new }
     {
         let Some(first) = arrange_copies(&mut self.frames, page, change) else {
             return;

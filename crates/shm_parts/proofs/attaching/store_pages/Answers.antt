@@ -1,22 +1,22 @@
-use Rattle.std.proofs.Common.{◌≡◌, ◌∙◌, ℕ, refl, ap, ⊎_elim, arith}
+use Rattle.std.proofs.Common.{◌≡◌, ◌∙◌, ℕ, ap, sym, ⊎_elim, arith}
 use Rattle.std.proofs.lemmas.Bool.{cases_lt}
-use Rattle.shm_model.specs.Site.{untouched}
 use Rattle.shm_parts.specs.Entries.{is_stored}
+use Rattle.shm_parts.specs.Reach.{manages}
 use Rattle.shm_parts.proofs.attaching.store_pages.Goals as goal
 
 pub returns-in_err-place-clause-same : goal.returns-in_err-place-clause-same
-returns-in_err-place-clause-same g c =
-    c.ensure.ensures.same (untouched c.args.sites c.args.me) refl ∙ c.pages.invariant.same
+returns-in_err-place-clause-same g c = c.store_managed.ensures.same ∙ c.pages.invariant.same
 
 pub pages-preserved : goal.pages-preserved
 pages-preserved g c = record {
-  same = c.ensure.ensures.same (untouched c.args.sites c.args.me) refl ∙ c.pages.invariant.same;
-  stored = λ index below.
+  same = c.store_managed.ensures.same ∙ c.pages.invariant.same;
+  stored = λ index below mine.
       ⊎_elim
-      (λ before. c.ensure.ensures.others (record { seg = c.args.id; index = index }) (c.pages.invariant.stored index before))
+      (λ before. c.store_managed.ensures.others (record { seg = c.args.id; index = index }) (c.pages.invariant.stored index before mine))
       (λ after.
       let last : ◌≡◌ {A = ℕ} index c.pages.index = omega arith in
-      ap (λ (n : ℕ). is_stored c.ensure.new.self (record { seg = c.args.id; index = n })) last ∙ c.in_ok-place.ensures.stored)
+      ap (λ (n : ℕ). is_stored c.store_managed.new.entries (record { seg = c.args.id; index = n })) last
+      ∙ c.in_ok-place.ensures.stored (ap (λ (n : ℕ). manages c.args.sites c.args.me (record { seg = c.args.id; index = n })) (sym last) ∙ mine))
       (cases_lt index c.pages.index);
-  others = λ other h. c.ensure.ensures.others other (c.pages.invariant.others other h);
+  others = λ other h. c.store_managed.ensures.others other (c.pages.invariant.others other h);
 }

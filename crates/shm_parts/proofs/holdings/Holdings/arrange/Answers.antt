@@ -30,8 +30,8 @@ invariant_of-self-2 g c =
     (ap (λ (t : Option PageId × Option ModelFrames). t.1) c.arrange_copies.ensures) held.reached in
     record { reached = reach_stored held.entries c.forget.new.self held.attachments held.purged c.arrange_copies.new.frames c.forget.ensures.same arranged }
 
-pub returns : goal.returns
-returns g c = λ sites me site.
+pub returns-clause-copies : goal.returns-clause-copies
+returns-clause-copies g c = λ sites me site.
     let held = c.args.self.now in
     let rest = untouched sites me in
     let frames = held_frames c.arrange_copies.new.frames in

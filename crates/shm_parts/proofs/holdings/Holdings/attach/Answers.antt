@@ -17,7 +17,7 @@ invariant_of-self-in-Ok g c =
     record {
       reached = reach_attached held.entries c.store_pages.new.entries held.attachments c.put-number.new.self held.purged held.frames c.put-number.result
           (record { id = c.args.id; size = c.args.size; ro = c.args.ro }) c.put-number.ensures.after c.store_pages.ensures.others
-          (λ index below. c.in-Ok.ensures.stored index (page_below c.args.size c.rounded.result index c.rounded.ensures.whole below))
+          (λ index below mine. c.in-Ok.ensures.stored index (page_below c.args.size c.rounded.result index c.rounded.ensures.whole below) mine)
           c.requires held.reached;
     }
 

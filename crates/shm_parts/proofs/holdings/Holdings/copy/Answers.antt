@@ -12,6 +12,6 @@ invariant_of-result g c =
           c.in_ok-entries.ensures.stored c.copy-3.ensures c.in_ok-purged.ensures c.in_ok-frames.ensures held.reached;
     }
 
-pub returns : goal.returns
-returns g c = λ sites me site.
+pub returns-clause-held : goal.returns-clause-held
+returns-clause-held g c = λ sites me site.
     λ i. site_of (masked (c.in_ok-purged.ensures i) (c.in_ok-entries.ensures.entries (untouched sites me) i)) (attachments_of (c.copy-3.ensures i)) (c.in_ok-purged.ensures i) (c.in_ok-frames.ensures i) site

@@ -9,10 +9,14 @@ turn_stored-requires-clause-alive g c =
 
 pub returns-in-Ok-clause-step : goal.returns-in-Ok-clause-step
 returns-in-Ok-clause-step g c =
-    turned_same c.args.sites c.args.me c.args.page.now (entry_note_of c.args.note) c.args.self.now c.make_room.new.self c.turn_stored.new.self c.turn_stored.result
-    c.make_room.ensures.same c.turn_stored.ensures.step
+    let old = c.args.self.now in
+    let mid = c.make_room.new.self in
+    turned_same old.sites old.me mid.sites mid.me c.args.page.now (entry_note_of c.args.note) old mid c.turn_stored.new.self c.turn_stored.result
+    c.make_room.ensures.seat.0 c.make_room.ensures.seat.1 c.make_room.ensures.same c.turn_stored.ensures.step
 
 pub returns-in-Ok-clause-refused : goal.returns-in-Ok-clause-refused
 returns-in-Ok-clause-refused g c =
-    refused_same c.args.sites c.args.me c.args.self.now c.make_room.new.self c.turn_stored.new.self c.turn_stored.result
-    c.make_room.ensures.same c.turn_stored.ensures.refused
+    let old = c.args.self.now in
+    let mid = c.make_room.new.self in
+    refused_same old.sites old.me mid.sites mid.me old mid c.turn_stored.new.self c.turn_stored.result
+    c.make_room.ensures.seat.0 c.make_room.ensures.seat.1 c.make_room.ensures.same c.turn_stored.ensures.refused

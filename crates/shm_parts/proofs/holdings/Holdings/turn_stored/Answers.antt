@@ -23,13 +23,13 @@ pub returns-in-Err-clause-refused : goal.returns-in-Err-clause-refused
 returns-in-Err-clause-refused g c = λ site.
     let held = c.args.self.now in
     ap (λ (e : Pages). site_of (masked (purged_of held.purged) e) (attachments_of held.attachments) (purged_of held.purged) (held_frames held.frames) site)
-    (c.in-Err.ensures.refused (untouched c.args.sites c.args.me))
+    (c.in-Err.ensures.refused (untouched c.args.self.now.sites c.args.self.now.me))
 
 pub returns-in_default-clause-step : goal.returns-in_default-clause-step
 returns-in_default-clause-step g c = λ site.
     let held = c.args.self.now in
-    let rest = untouched c.args.sites c.args.me in
-    turned_quiet c.args.sites c.args.me c.args.page.now (entry_note_of c.args.note) (entries_of rest held.entries) (entries_of rest c.turn.new.self)
+    let rest = untouched c.args.self.now.sites c.args.self.now.me in
+    turned_quiet c.args.self.now.sites c.args.self.now.me c.args.page.now (entry_note_of c.args.note) (entries_of rest held.entries) (entries_of rest c.turn.new.self)
     (attachments_of held.attachments) (purged_of held.purged) (held_frames held.frames) (out_of c.in-Ok.turned.0) site
     c.requires.alive c.in_default.ensures.nothing (c.in-Ok.ensures.out rest) (c.in-Ok.ensures.after rest)
 
@@ -39,15 +39,15 @@ arrange-requires-clause-stored g c =
 
 pub arrange-requires-clause-room : goal.arrange-requires-clause-room
 arrange-requires-clause-room g c = λ came.
-    let rest = untouched c.args.sites c.args.me in
-    c.requires.room (only-a-grant-installs c.args.me c.args.note (entries_of rest c.args.self.now.entries c.args.page.now) (ap installs (sym (c.in-Ok.ensures.change rest)) ∙ came))
+    let rest = untouched c.args.self.now.sites c.args.self.now.me in
+    c.requires.room (only-a-grant-installs c.args.self.now.me c.args.note (entries_of rest c.args.self.now.entries c.args.page.now) (ap installs (sym (c.in-Ok.ensures.change rest)) ∙ came))
 
 pub returns-clause-step : goal.returns-clause-step
 returns-clause-step g c = λ site.
     let held = c.args.self.now in
-    let rest = untouched c.args.sites c.args.me in
-    turned_sent c.args.sites c.args.me c.args.page.now (entry_note_of c.args.note) (entries_of rest held.entries) (entries_of rest c.turn.new.self)
+    let rest = untouched c.args.self.now.sites c.args.self.now.me in
+    turned_sent c.args.self.now.sites c.args.self.now.me c.args.page.now (entry_note_of c.args.note) (entries_of rest held.entries) (entries_of rest c.turn.new.self)
     (attachments_of held.attachments) (purged_of held.purged) (held_frames held.frames) (out_of c.in-Ok.turned.0) c.in-Some.envelope c.in-Ok.turned.1
-    (with_holdings c.args.sites c.args.me c.arrange.new.self) site
+    (with_holdings c.args.self.now.sites c.args.self.now.me c.arrange.new.self) site
     c.requires.alive c.in-Some.ensures.something c.in-Some.ensures.sent (c.in-Ok.ensures.out rest) (c.in-Ok.ensures.change rest) (c.in-Ok.ensures.after rest)
-    (λ x. c.arrange.ensures c.args.sites c.args.me x)
+    (λ x. c.arrange.ensures.copies c.args.self.now.sites c.args.self.now.me x)
