@@ -36,4 +36,9 @@ row me _ e = (e, model.Nothing)
 
 -- what a row changed: a newer number was met; and what the entry is now
 abbrev pub change_of : model.Entry → model.Entry → Change
-change_of old new = record { newer = nat_lt (model.seen old) (model.seen new); copy = model.is_copy new; readable = model.readable new; writable = model.writable new }
+change_of old new = record {
+  newer = nat_lt (model.seen old) (model.seen new);
+  copy = model.is_copy new;
+  readable = model.readable new;
+  writable = model.writable new;
+}

@@ -28,7 +28,9 @@ abbrev pub has_space : {A : Type 0} → PageId → Option (Frames A) → Type 0
 has_space page None = ⊤
 has_space page (Some frames) = has_room page frames
 
-pub record IsReached {A : Type 0} (sites me : ℕ) (entries : Entries A) (attachments : List (Option Attachment)) (purged : Purged A) (frames : Option (Frames A)) : Type 0 where
-  pub stored : (number : ℕ) (a : Attachment) (index : ℕ) → attachments_of attachments number ≡ Some a → index * page_bytes < rounded a.size → manages sites me (record { seg = a.id; index = index }) ≡ true → is_stored entries (record { seg = a.id; index = index }) ≡ true
+pub record IsReached {A : Type 0} (sites me : ℕ) (entries : Entries A) (attachments : List (Option Attachment)) (purged : Purged A)
+    (frames : Option (Frames A)) : Type 0 where
+  pub stored : (number : ℕ) (a : Attachment) (index : ℕ) → attachments_of attachments number ≡ Some a → index * page_bytes < rounded a.size
+      → manages sites me (record { seg = a.id; index = index }) ≡ true → is_stored entries (record { seg = a.id; index = index }) ≡ true
   pub alive : (number : ℕ) (a : Attachment) → attachments_of attachments number ≡ Some a → purged_of purged a.id ≡ false
   pub copies : (page : PageId) → list_any (same_page page) (copies_of frames) ≡ true → is_stored entries page ≡ true
