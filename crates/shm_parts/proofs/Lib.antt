@@ -10,6 +10,7 @@ pub mod EndLemmas
 pub mod BookedLemmas
 pub mod EntryLemmas
 pub mod OrderedPagesLemmas
+pub mod PageRowLemmas
 pub mod Held
 pub mod Reaches
 pub mod Turned

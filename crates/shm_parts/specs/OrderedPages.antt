@@ -1,27 +1,40 @@
--- Pages in the order in which they joined, each with a value: how a cache that gives nothing up by itself keeps them.
-use Rattle.std.specs.Prelude.{◌≡◌, ℕ, ◌-◌, ◌^◌, ◌≤◌, ◌==◌, not, List, [], ◌∷◌, Option, Some, None, filter, ⊤}
+-- Pages in the order in which they joined, each with a value: how they stand at places, some of which are empty.
+use Rattle.std.specs.Prelude.{◌≡◌, ℕ, suc, ◌≤◌, ◌==◌, ◌&&◌, Bool, true, false, cond, not, List, [], ◌∷◌, ◌++◌, Option, Some, None, is_some, filter, length, ⊤}
+use Rattle.std.specs.Map.{lookup}
+use Rattle.std.specs.Option.{option_map, option_map_or}
 use Rattle.shm_place.specs.declared.page.PageId.{PageId}
 use Rattle.shm_place.specs.Page.{same_page}
-use Rattle.lru.specs.LruCache.{LruCache}
-
--- as many as a cache can be told to hold
-abbrev pub most : ℕ
-most = 2 ^ 64 - 1
 
 module _ {V : Type 0} where
-  abbrev pub kept : Option (LruCache PageId V) → List (PageId × V)
-  kept None = []
-  kept (Some cache) = cache.entries
+  -- the pages that stand somewhere
+  abbrev pub standing : List (Option (PageId × V)) → List (PageId × V)
+  standing [] = []
+  standing (None ∷ rows) = standing rows
+  standing (Some e ∷ rows) = e ∷ standing rows
 
-  -- what an iterator over it has left
-  abbrev pub left : Option (List (PageId × V)) → List (PageId × V)
-  left None = []
-  left (Some rest) = rest
+  abbrev pub holds : PageId → Option (PageId × V) → Bool
+  holds page None = false
+  holds page (Some e) = same_page page e.0
 
-  -- nothing is given up for want of room
-  abbrev pub IsWide : Option (LruCache PageId V) → Type 0
-  IsWide None = ⊤
-  IsWide (Some cache) = cache.cap ≡ most
+  -- where the page stands
+  abbrev pub place_in : PageId → List (Option (PageId × V)) → Option ℕ
+  place_in page [] = None
+  place_in page (row ∷ rows) = cond (holds page row) (Some 0) (option_map (λ n. suc n) (place_in page rows))
+
+  -- no page stands at two places
+  abbrev pub is_apart : List (Option (PageId × V)) → Bool
+  is_apart [] = true
+  is_apart (None ∷ rows) = is_apart rows
+  is_apart (Some e ∷ rows) = not (is_some (place_in e.0 rows)) && is_apart rows
+
+  -- each page's place is where it stands
+  abbrev pub is_found : List (PageId × ℕ) → List (Option (PageId × V)) → Type 0
+  is_found places rows = (page : PageId) → lookup (same_page page) places ≡ place_in page rows
+
+  pub record IsIndexed (places : List (PageId × ℕ)) (rows : List (Option (PageId × V))) : Type 0 where
+    pub found : is_found places rows
+    pub apart : is_apart rows ≡ true
+    pub count : length places ≡ length (standing rows)
 
   -- no page has a greater index in its segment
   abbrev pub IsWithin : ℕ → List (PageId × V) → Type 0
@@ -30,6 +43,10 @@ module _ {V : Type 0} where
 
   abbrev pub without : PageId → List (PageId × V) → List (PageId × V)
   without page entries = filter (λ e. not (same_page page e.0)) entries
+
+  -- the page at the end, if it is there
+  abbrev pub moved_last : PageId → List (PageId × V) → List (PageId × V)
+  moved_last page entries = option_map_or (λ value. without page entries ++ (page, value) ∷ []) (lookup (same_page page) entries) entries
 
   abbrev pub without_pages_of : ℕ → List (PageId × V) → List (PageId × V)
   without_pages_of id entries = filter (λ e. not (id == e.0.seg)) entries

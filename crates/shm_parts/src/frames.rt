@@ -38,6 +38,7 @@ impl<A: Allocator + Copy> Frames<A> {
         ensures room { OnOk result (has_room page.now self.new) }
     {
         self.let_go();
+        self.pages.reserve()?;
         if self.pages.contains(page) {
             return Ok(());
         }

@@ -20,6 +20,7 @@ mod ordered_pages;
 mod outbox;
 mod outcome;
 mod page_map;
+mod page_rows;
 mod pages_in_order;
 mod pendings;
 mod purged;

@@ -1,37 +1,47 @@
 //! Pages in the order in which they joined, each with a value.
-ghost use Rattle.std.specs.Prelude.{◌≡◌, ◌++◌, [], ◌∷◌, None, Some, drop, is_some, length, option_copied, IfOk, OnOk, OnErr};
+ghost use Rattle.std.specs.Prelude.{◌≡◌, ◌++◌, [], ◌∷◌, Some, drop, is_some, length, option_copied, IfOk, OnOk, OnErr};
 ghost use Rattle.std.specs.Map.{lookup, remove_entry};
-ghost use Rattle.shm_place.specs.Page.{same_page};
 ghost use Rattle.indexmap.specs.IndexMap.{insert_entry};
-ghost use Rattle.lru.specs.LruCache.{demoted, lru_cache};
-ghost use Rattle.shm_parts.specs.OrderedPages.{first_page, most, without, without_pages_of};
+ghost use Rattle.shm_place.specs.Page.{same_page};
+ghost use Rattle.shm_parts.specs.OrderedPages.{first_page, moved_last, without, without_pages_of};
 
+use crate::page_map::put_again;
+use crate::page_rows::{index, join, make_room, sweep};
 use crate::pages_in_order::PagesInOrder;
-use lru::LruCache;
+use indexmap::IndexMap;
 use shm_place::{PageId, SegId};
 use std::alloc::{AllocError, Allocator, Global};
+use std::hash::{BuildHasherDefault, FoldHasher};
 use std::marker::Model;
 
+/// So few empty places are never swept.
+const FEW: usize = 32;
+
+/// The first page is found behind fewer empty places than these.
+const MANY: usize = 1024;
+
 /// Pages in the order in which they joined, each with a value. A page joins at the end and leaves from wherever it stands, at a cost
-/// that doesn't grow with the number of pages.
+/// that on average doesn't grow with the number of pages: it stands at a place of a vector, and a map has the place. One that leaves
+/// leaves its place empty, until the empty places are swept. So what is kept are four blocks of memory, however many pages there are, and
+/// so is a copy.
 #[derive(Drop)]
 pub struct OrderedPages<V: Drop, A: Allocator + Copy = Global> {
-    cache: Option<Cache<V, A>>,
+    rows: Vec<Option<(PageId, V)>, A>,
+    places: IndexMap<PageId, usize, BuildHasherDefault<FoldHasher>, A>,
     /// No page that joined had a greater index in its segment.
     last: u32,
-    alloc: A,
 }
 
 impl<V: Drop, A: Allocator + Copy> Model for OrderedPages<V, A> {
     ghost use Rattle.std.specs.Prelude.{List};
     ghost use Rattle.shm_place.specs.declared.page.PageId.{PageId as Page};
-    ghost use Rattle.shm_parts.specs.OrderedPages.{IsWide, IsWithin, kept};
+    ghost use Rattle.shm_parts.specs.OrderedPages.{IsIndexed, IsWithin, standing};
 
     ghost Value = { List (Page × V) };
 
-    ghost view = { λ ordered. kept ordered.cache };
+    ghost view = { λ ordered. standing ordered.rows.items };
 
-    ghost invariant = { λ ordered. IsWide ordered.cache × IsWithin ordered.last (kept ordered.cache) };
+    ghost invariant = { λ ordered. IsIndexed ordered.places.entries ordered.rows.items × IsWithin ordered.last (standing ordered.rows.items) };
 }
 
 impl<V: Drop, A: Allocator + Copy> OrderedPages<V, A> {
@@ -40,9 +50,9 @@ impl<V: Drop, A: Allocator + Copy> OrderedPages<V, A> {
         ensures { result ≡ [] }
     {
         OrderedPages {
-            cache: None,
+            rows: Vec::new(alloc),
+            places: IndexMap::new(alloc),
             last: 0,
-            alloc,
         }
     }
 
@@ -50,18 +60,16 @@ impl<V: Drop, A: Allocator + Copy> OrderedPages<V, A> {
     pub fn len(&self) -> usize
         ensures { result ≡ length self.now }
     {
-        match &self.cache {
-            Some(cache) => cache.len(),
-            None => 0,
-        }
+        self.places.len()
     }
 
     /// The page's value, if it has joined.
     pub fn get(&self, page: &PageId) -> Option<&V>
         ensures { option_copied result ≡ lookup (same_page page.now) self.now }
     {
-        match &self.cache {
-            Some(cache) => cache.peek(page),
+        let place = self.places.get(page)?;
+        match &self.rows[*place] {
+            Some(row) => Some(&row.1),
             None => None,
         }
     }
@@ -78,13 +86,14 @@ impl<V: Drop, A: Allocator + Copy> OrderedPages<V, A> {
         ensures put { OnOk result (self.new ≡ insert_entry same_page self.old page value) }
         ensures refused { OnErr result (self.new ≡ self.old) }
     {
-        let Some(cache) = &mut self.cache else {
-            self.cache = Some(cache_with(self.alloc, page, value)?);
-            self.last = page.index;
+        let row = (page, value);
+        self.last = self.last.max(page.index);
+        let Some(place) = self.places.get(&page) else {
+            make_room(&mut self.rows, &mut self.places)?;
+            join(&mut self.rows, &mut self.places, row);
             return Ok(());
         };
-        put_in(cache, page, value)?;
-        self.last = self.last.max(page.index);
+        self.rows[*place] = Some(row);
         Ok(())
     }
 
@@ -93,23 +102,40 @@ impl<V: Drop, A: Allocator + Copy> OrderedPages<V, A> {
         ensures first { self.new ≡ remove_entry (same_page page.now) self.old }
         ensures all { self.new ≡ without page.now self.old }
     {
-        let Some(cache) = &mut self.cache else {
+        let Some(place) = self.places.swap_remove(page) else {
             return;
         };
-        remove_in(cache, page);
+        self.rows[place] = None;
+        if self.rows.len() < FEW || self.rows.len() / 2 <= self.places.len() {
+            return;
+        }
+        sweep(&mut self.rows, &mut self.places);
     }
 
-    /// Moves the page to the end, if it has joined.
+    /// Moves the page to the end, if it has joined: soon where there is room for a page more.
     pub fn move_last(&mut self, page: &PageId)
-        ensures order { self.new ≡ demoted (same_page page.now) self.old }
+        ensures order { self.new ≡ moved_last page.now self.old }
         ensures moved { (value : V) → lookup (same_page page.now) self.old ≡ Some value → self.new ≡ without page.now self.old ++ (page.now, value) ∷ [] }
     {
-        let Some(cache) = &mut self.cache else {
+        let Some(place) = self.places.get(page) else {
             return;
         };
-        // Reading it tells the proof its limits.
-        let _count = cache.len();
-        cache.demote(page);
+        let row = self.rows[*place].take();
+        if self.rows.len() < self.rows.capacity() {
+            put_again(&mut self.places, *page, self.rows.len());
+            self.rows.push_reserved(row);
+            return;
+        }
+        self.rows.retain(|row| row.is_some());
+        self.rows.push_reserved(row);
+        index(&self.rows, &mut self.places);
+    }
+
+    /// Makes room for a page more.
+    pub fn reserve(&mut self) -> Result<(), AllocError>
+        ensures { self.new ≡ self.old }
+    {
+        make_room(&mut self.rows, &mut self.places)
     }
 
     /// Takes the first page out.
@@ -117,11 +143,21 @@ impl<V: Drop, A: Allocator + Copy> OrderedPages<V, A> {
         ensures first { result ≡ first_page self.old }
         ensures rest { self.new ≡ drop 1 self.old }
     {
-        let Some(cache) = &mut self.cache else {
-            return None;
-        };
-        let (page, _value) = cache.pop_mru()?;
+        self.sweep_many();
+        let (page, _value) = self.iter().next()?;
+        let page = *page;
+        self.remove(&page);
         Some(page)
+    }
+
+    /// Gives the empty places up where there are many.
+    fn sweep_many(&mut self)
+        ensures { self.new ≡ self.old }
+    {
+        if self.rows.len() < self.places.len() + MANY {
+            return;
+        }
+        sweep(&mut self.rows, &mut self.places);
     }
 
     /// Takes a segment's pages out, at a cost that grows with the greatest page index. The others keep their order.
@@ -142,11 +178,8 @@ impl<V: Drop, A: Allocator + Copy> OrderedPages<V, A> {
     pub fn iter(&self) -> PagesInOrder<'_, V>
         ensures { result ≡ self.now }
     {
-        match &self.cache {
-            Some(cache) => PagesInOrder {
-                rest: Some(cache.iter()),
-            },
-            None => PagesInOrder { rest: None },
+        PagesInOrder {
+            rest: self.rows.iter(),
         }
     }
 
@@ -156,82 +189,19 @@ impl<V: Drop, A: Allocator + Copy> OrderedPages<V, A> {
         V: Copy,
         ensures { IfOk result (λ copy. copy ≡ self.now) }
     {
-        let mut copy = OrderedPages::new(self.alloc);
-        let Some(cache) = &self.cache else {
-            return Ok(copy);
-        };
-        // Reading it tells the proof its limits.
-        let _count = cache.len();
-        'entries: for (page, value) in cache.iter() {
-            copy.put(*page, *value)?;
-        }
-        Ok(copy)
+        let rows = Vec::from_slice(*self.rows.allocator(), self.rows.as_slice())?;
+        let places = self.places.clone()?;
+        Ok(OrderedPages {
+            rows,
+            places,
+            last: self.last,
+        })
     }
 
     /// Takes all pages out.
     pub fn clear(&mut self)
         ensures { self.new ≡ [] }
     {
-        self.cache = None;
+        *self = OrderedPages::new(*self.rows.allocator());
     }
-}
-
-type Cache<V, A> = LruCache<PageId, V, lru::DefaultHasher, A>;
-
-/// A cache that never gives a page up by itself, with this page alone.
-fn cache_with<V: Drop, A: Allocator + Copy>(
-    alloc: A,
-    page: PageId,
-    value: V,
-) -> Result<Cache<V, A>, AllocError>
-    ensures { IfOk result (λ cache. cache ≡ lru_cache ((page, value) ∷ []) most) }
-{
-    let mut cache = LruCache::unbounded(alloc)?;
-    append(&mut cache, page, value)?;
-    Ok(cache)
-}
-
-/// A page that is there keeps its place, and a new one goes last.
-fn put_in<V: Drop, A: Allocator + Copy>(
-    cache: &mut Cache<V, A>,
-    page: PageId,
-    value: V,
-) -> Result<(), AllocError>
-    requires { cache.old.cap ≡ most }
-    ensures put { OnOk result (cache.new ≡ lru_cache (insert_entry same_page cache.old.entries page value) most) }
-    ensures refused { OnErr result (cache.new ≡ cache.old) }
-{
-    let Some(slot) = cache.peek_mut(&page) else {
-        return append(cache, page, value);
-    };
-    *slot = value;
-    Ok(())
-}
-
-fn append<V: Drop, A: Allocator + Copy>(
-    cache: &mut Cache<V, A>,
-    page: PageId,
-    value: V,
-) -> Result<(), AllocError>
-    requires wide { cache.old.cap ≡ most }
-    requires fresh { lookup (same_page page) cache.old.entries ≡ None }
-    ensures added { OnOk result (cache.new ≡ lru_cache (cache.old.entries ++ (page, value) ∷ []) most) }
-    ensures refused { OnErr result (cache.new ≡ cache.old) }
-{
-    // Reading it tells the proof its limits.
-    let _count = cache.len();
-    if cache.put(page, value).is_err() {
-        return Err(AllocError);
-    }
-    cache.demote(&page);
-    Ok(())
-}
-
-fn remove_in<V: Drop, A: Allocator + Copy>(cache: &mut Cache<V, A>, page: &PageId)
-    ensures first { cache.new ≡ lru_cache (remove_entry (same_page page.now) cache.old.entries) cache.old.cap }
-    ensures all { cache.new ≡ lru_cache (without page.now cache.old.entries) cache.old.cap }
-{
-    // Reading it tells the proof its limits.
-    let _count = cache.len();
-    let _value = cache.pop(page);
 }

@@ -11,8 +11,9 @@ unfolding copies_in
 returns-clause-same g c =
     let frames = c.let_go.new.self in
     let with_copies : List PageId → model.Frames = λ copies. record { limit = frames.limit; copies = copies } in
-    ap with_copies (awaited-unseen c.args.page.now tt frames.pages c.put.new.self (sym c.contains.ensures ∙ c.if-contains.false) c.in_ok-put.ensures.put ∙ ap (λ o. counted o (keys_of frames.pages)) (sym c.let_go.ensures.none))
+    ap with_copies (awaited-unseen c.args.page.now tt c.reserve.new.self c.put.new.self (sym c.contains.ensures ∙ c.if-contains.false) c.in_ok-put.ensures.put ∙ ap keys_of c.reserve.ensures
+    ∙ ap (λ o. counted o (keys_of frames.pages)) (sym c.let_go.ensures.none))
     ∙ c.let_go.ensures.same
 
 pub returns-clause-room : goal.returns-clause-room
-returns-clause-room g c = (refl, awaited-there c.args.page.now tt c.let_go.new.self.pages c.put.new.self (sym c.contains.ensures ∙ c.if-contains.false) c.in_ok-put.ensures.put)
+returns-clause-room g c = (refl, awaited-there c.args.page.now tt c.reserve.new.self c.put.new.self (sym c.contains.ensures ∙ c.if-contains.false) c.in_ok-put.ensures.put)
