@@ -1,5 +1,6 @@
 pub mod CallSteps
 pub mod Orders
+pub mod Seats
 pub mod SiteParts
 pub mod Steps
 pub mod Stores

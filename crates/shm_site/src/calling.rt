@@ -131,9 +131,7 @@ impl<A: Allocator + Copy> Site<A> {
         if self.holdings.is_purged(id) {
             return Ok(Answer::Dropped);
         }
-        let attachment = self
-            .holdings
-            .attach(self.sites, self.me, id, attached.size, attached.ro)?;
+        let attachment = self.holdings.attach(id, attached.size, attached.ro)?;
         match attachment {
             None => Ok(Answer::Dropped),
             Some(_) => Ok(self.end_call(number, Reply::Attached(attached), attachment)),

@@ -21,7 +21,7 @@ impl<A: Allocator + Copy> Site<A> {
         ensures site { site_of result ≡ opened_site (New sites) me }
         ensures seat { (result.sites ≡ sites) × (result.me ≡ me) }
     {
-        let holdings = Holdings::new(alloc);
+        let holdings = Holdings::new(alloc, sites, me);
         let table = SegTable::new(alloc, me, sites);
         Site::of_parts(alloc, sites, me, holdings, table)
     }
@@ -83,6 +83,8 @@ impl<A: Allocator + Copy> Site<A> {
         table: SegTable<A>,
     ) -> Site<A>
         requires below { me < sites }
+        requires held_sites { holdings.sites ≡ sites }
+        requires held_me { holdings.me ≡ me }
         requires own_home { table.home ≡ me }
         requires all_sites { table.sites ≡ sites }
         ensures site { site_of result ≡ with_holdings sites me holdings (record (new_site sites me) { table = table.segments; missing = missing_of table }) }

@@ -31,7 +31,7 @@ impl<A: Allocator + Copy> Site<A> {
         if !in_limits(self.sites, *page) {
             return None;
         }
-        Some(self.holdings.access(self.sites, self.me, *page))
+        Some(self.holdings.access(*page))
     }
 
     /// The page's state at the site, and the greatest transaction number that it met there. None: no segment can have the page.
@@ -43,7 +43,7 @@ impl<A: Allocator + Copy> Site<A> {
         if !in_limits(self.sites, *page) {
             return None;
         }
-        Some(self.holdings.shown(self.sites, self.me, *page))
+        Some(self.holdings.shown(*page))
     }
 
     /// The page's book, at its manager. None: this site isn't the page's manager, or has purged its segment, or no segment can have

@@ -19,6 +19,8 @@ pub struct Site<A: Allocator + Copy = Global> {
     pub(crate) home: Home<A>,
     pub(crate) alloc: A,
     ghost below: { me < sites },
+    ghost held_sites: { holdings.sites ≡ sites },
+    ghost held_me: { holdings.me ≡ me },
     ghost own_home: { home.table.home ≡ me },
     ghost all_sites: { home.table.sites ≡ sites },
 }

@@ -30,7 +30,7 @@ impl<A: Allocator + Copy> Site<A> {
         if outbox.reserve(1).is_err() {
             return Err(told);
         }
-        let sent = match self.holdings.turn(self.sites, self.me, page, told) {
+        let sent = match self.holdings.turn(page, told) {
             Ok(sent) => sent,
             Err(told) => return Err(told),
         };

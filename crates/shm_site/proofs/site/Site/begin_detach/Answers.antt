@@ -15,7 +15,7 @@ returns-in-Began-clause-step g c =
     let next = c.call.new.self in
     let steps = c.in_ok-refused.ensures.step in
     let called : model.Site = site_of next in
-    let taken = c.detach.ensures next.sites next.me called
+    let taken = c.detach.ensures.taken next.sites next.me called
     ∙ ap (λ (held : Holdings g.row.A.Denot). record called { attachments = at (attachments_of held.attachments) c.args.number None }) c.call.ensures.holdings in
     record {
       makes = record {

@@ -8,5 +8,5 @@ returns-clause-site g c =
     let sites = c.args.sites in
     let me = c.args.me in
     let table : Table = c.new-table.result in
-    c.of_parts.ensures.site ∙ c.new-holdings.ensures sites me (record (new_site sites me) { table = table.segments; missing = missing_of table })
+    c.of_parts.ensures.site ∙ c.new-holdings.ensures.held (record (new_site sites me) { table = table.segments; missing = missing_of table })
     ∙ ap (λ (t : Table). record (new_site sites me) { table = t.segments; missing = missing_of t }) c.new-table.ensures

@@ -11,5 +11,5 @@ returns-clause-site g c =
     let sites = c.args.sites in
     let me = c.args.me in
     let table : Table = c.in_ok-table.table in
-    c.of_parts.ensures.site ∙ c.in_ok-holdings.ensures (record (new_site sites me) { table = table.segments; missing = missing_of table })
+    c.of_parts.ensures.site ∙ c.in_ok-holdings.ensures.held (record (new_site sites me) { table = table.segments; missing = missing_of table })
     ∙ ap (λ (t : Table). record (new_site sites me) { attachments = at (λ _. None) 0 (Some (preset_attachment c.args.pages)); frames = option_map framed c.args.limit; table = t.segments; missing = missing_of t }) c.in_ok-table.ensures
