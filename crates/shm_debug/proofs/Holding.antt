@@ -8,7 +8,7 @@ use Rattle.std.proofs.lemmas.List.Sums.{prefix_len-le-length, prefix_len_passes}
 use Rattle.std.proofs.lemmas.Option.{get_or_from_slice_get, slice_get_within}
 use Rattle.std.specs.List.{All, prefix_len, take_while}
 use Rattle.std.specs.Option.{option_copied}
-use Rattle.circular_buffer.specs.Buffer.{keep_last}
+use Rattle.circular_buffer.specs.Buffer.{keep_last, last_item}
 use denote.Ref.{Bor}
 use Rattle.shm_model.specs.declared.event.Event.{Event}
 use Rattle.shm_world.specs.World.{StandsFor}
@@ -75,3 +75,10 @@ all-kept s n xs c all holds = All-drop (Holds s) (length (xs ++ c ∷ []) - n) (
 pub holds-at : {A : Type 0} (s : Standing) (xs : List (Checkpoint A)) (i : ℕ) (r : Option (Bor (Checkpoint A))) → option_copied r ≡ slice_get xs i → All (Holds s) xs → IfSome r (λ c. Holds s c.now)
 holds-at s xs i None e all = tt
 holds-at {A} s xs i (Some c) e all = subst (λ (x : Checkpoint A). Holds s x) (get_or_from_slice_get xs i c.now c.now (sym e)) (all i c.now (slice_get_within xs i c.now (sym e)))
+
+-- the latest of them
+pub holds-last : {A : Type 0} (s : Standing) (xs : List (Checkpoint A)) (r : Option (Checkpoint A)) → r ≡ last_item xs → All (Holds s) xs → IfSome r (λ c. Holds s c)
+holds-last s xs None e all = tt
+holds-last {A} s xs (Some c) e all =
+    let n = length xs - 1 in
+    subst (λ (x : Checkpoint A). Holds s x) (get_or_from_slice_get xs n c c (sym e)) (all n c (slice_get_within xs n c (sym e)))

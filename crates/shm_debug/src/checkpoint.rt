@@ -6,4 +6,6 @@ use std::alloc::{Allocator, Global};
 pub struct Checkpoint<A: Allocator + Copy = Global> {
     pub(crate) count: u64,
     pub(crate) world: World<A>,
+    /// A short run may take it, and leaves another in its place: so it moves on with the session.
+    pub(crate) moves: bool,
 }

@@ -33,6 +33,24 @@ impl<A: Allocator + Copy> Checkpoints<A> {
         self.ring.back()
     }
 
+    /// Takes the latest checkpoint out, where it moves, and stands at least `least` and fewer than `most` events before the place `last`.
+    pub(crate) fn take_moving(
+        &mut self,
+        last: usize,
+        least: u64,
+        most: u64,
+    ) -> Option<Checkpoint<A>>
+        ensures taken { (s : Standing) → AllHold s self.old → IfSome result (Holds s) }
+        ensures left { (s : Standing) → AllHold s self.old → AllHold s self.new }
+    {
+        let latest = self.ring.back()?;
+        let run = (last as u64).saturating_sub(latest.count);
+        if !latest.moves || run < least || run >= most {
+            return None;
+        }
+        self.ring.pop_back()
+    }
+
     /// Keeps one more; the oldest goes where there are too many.
     pub(crate) fn keep(&mut self, checkpoint: Checkpoint<A>)
         ensures { (s : Standing) → AllHold s self.old → Holds s checkpoint → AllHold s self.new }

@@ -18,8 +18,17 @@ use shm_model::Opening;
 use shm_world::{Event, World};
 use std::alloc::{AllocError, Allocator};
 
-/// A checkpoint can be made after each so many events.
+/// A checkpoint that stays can be made after each so many events.
 const STRIDE: usize = 64;
+
+/// The one that moves is made so many events before the last one: so a few more can be taken back from it.
+const MARGIN: usize = 4;
+
+/// A run of fewer events than these is short: it takes the checkpoint that moves.
+const SHORT: usize = 128;
+
+/// On short runs a checkpoint stays after each so many events.
+const MILESTONE: usize = 1024;
 
 impl<A: Allocator + Copy> Session<A> {
     /// Takes the last `count` events back, and answers how many stand. Where memory is refused, or fewer events stand, what
@@ -76,10 +85,17 @@ impl<A: Allocator + Copy> Session<A> {
         ensures ok { OnOk result (self.new ≡ first_events left self.old) }
         ensures err { OnErr result (self.new ≡ self.old) }
     {
+        let apart = !self.undos.likely();
         self.undos.clear();
         self.checkpoints.drop_past(left as u64);
         let events = &self.events[..left];
-        let world = world_after(self.alloc, self.opening, &mut self.checkpoints, events)?;
+        let world = world_after(
+            self.alloc,
+            self.opening,
+            &mut self.checkpoints,
+            events,
+            apart,
+        )?;
         self.world = world;
         self.events.truncate(left);
         Ok(())
@@ -118,21 +134,50 @@ fn undo_last<A: Allocator + Copy>(
     true
 }
 
-/// The world after these events. What it passes on the way is kept.
+/// The world after these events. Checkpoints are kept on the way; one of them moves, where the session goes back now and then, and not
+/// again and again.
 fn world_after<A: Allocator + Copy>(
     alloc: A,
     opening: Opening,
     checkpoints: &mut Checkpoints<A>,
     events: &[Event],
+    apart: bool,
 ) -> Result<World<A>, AllocError>
     requires opening { model.IsOpening (opening_of opening) }
     requires checkpoints { AllHold (standing (opening_of opening) events.now) checkpoints.old }
     ensures world { IfOk result (λ world. StandsFor world (world_of (standing (opening_of opening) events.now))) }
     ensures kept { AllHold (standing (opening_of opening) events.now) checkpoints.new }
 {
-    let Checkpoint { count, mut world } = nearest(alloc, opening, checkpoints)?;
-    run_on(&mut world, events, count as usize, checkpoints)?;
+    let Checkpoint {
+        count,
+        mut world,
+        moves,
+    } = start_for(alloc, opening, checkpoints, events.len(), apart)?;
+    let from = count as usize;
+    let moving = moves || apart && events.len().saturating_sub(from) >= STRIDE;
+    run_on(&mut world, events, from, moving, checkpoints)?;
     Ok(world)
+}
+
+/// Where a run to the place `last` begins. A short one takes the checkpoint that moves, if it will leave another in its place; else it
+/// begins at a copy. None is taken where the session goes back again and again.
+fn start_for<A: Allocator + Copy>(
+    alloc: A,
+    opening: Opening,
+    checkpoints: &mut Checkpoints<A>,
+    last: usize,
+    apart: bool,
+) -> Result<Checkpoint<A>, AllocError>
+    requires { model.IsOpening (opening_of opening) }
+    ensures start { (events : List Event) → AllHold (standing (opening_of opening) events) checkpoints.old
+        → IfOk result (Holds (standing (opening_of opening) events)) }
+    ensures left { (s : Standing) → AllHold s checkpoints.old → AllHold s checkpoints.new }
+{
+    let most = if apart { SHORT as u64 } else { 0 };
+    match checkpoints.take_moving(last, MARGIN as u64 + 1, most) {
+        Some(checkpoint) => Ok(checkpoint),
+        None => nearest(alloc, opening, checkpoints),
+    }
 }
 
 /// A copy of the latest checkpoint, or the world before the first event where there is none.
@@ -151,11 +196,16 @@ fn nearest<A: Allocator + Copy>(
             Ok(Checkpoint {
                 count: checkpoint.count,
                 world,
+                moves: false,
             })
         }
         None => {
             let world = World::begin(alloc, &opening)?;
-            Ok(Checkpoint { count: 0, world })
+            Ok(Checkpoint {
+                count: 0,
+                world,
+                moves: false,
+            })
         }
     }
 }
@@ -165,6 +215,7 @@ fn run_on<A: Allocator + Copy>(
     world: &mut World<A>,
     events: &[Event],
     from: usize,
+    moving: bool,
     checkpoints: &mut Checkpoints<A>,
 ) -> Result<(), AllocError>
     requires { from ≤ length events.now }
@@ -175,7 +226,7 @@ fn run_on<A: Allocator + Copy>(
 {
     'events: for index in from..events.len() {
         step_on(world, &events[index], checkpoints)?;
-        keep(world, index + 1, events.len(), checkpoints);
+        keep(world, index + 1, from, events.len(), moving, checkpoints);
     }
     Ok(())
 }
@@ -200,26 +251,41 @@ fn step_on<A: Allocator + Copy>(
     }
 }
 
-/// Keeps a copy of the world after `count` events on the way to `last`, where it is one of the checkpoints that are kept: counted from the
-/// last one, the 1st, 2nd, 4th, 8th and so on. Where memory is refused it isn't kept.
+/// Keeps a copy of the world after `count` events, on the way from the place `from` to `last`, where it is one of the checkpoints that are
+/// kept: counted in strides from the last one, the 1st, 2nd, 4th, 8th and so on. Where one is to move, it stands for the 1st, and on a
+/// short run for all but the milestones; so a short run, which took one, mostly makes one copy. Those that stay are never taken. So a
+/// checkpoint and the next lie no farther apart than a milestone and a short run, or than they lay behind the end of the run that kept
+/// them: beside the events that were made since, a run takes no more, but where the oldest went for there were too many. Where memory is
+/// refused nothing is kept.
 fn keep<A: Allocator + Copy>(
     world: &World<A>,
     count: usize,
+    from: usize,
     last: usize,
+    moving: bool,
     checkpoints: &mut Checkpoints<A>,
 )
-    requires { count ≤ last }
+    requires from { from ≤ last }
+    requires within { count ≤ last }
     ensures { (s : Standing) → count ≤ length s.events → StandsFor world.now (world_of (first_events count s)) → AllHold s checkpoints.old
         → AllHold s checkpoints.new }
 {
-    let from_the_last = (last - count) / STRIDE + 1;
-    if count % STRIDE != 0 || !from_the_last.is_power_of_two() {
+    let to_the_last = last - count;
+    let strides = to_the_last / STRIDE;
+    let moves = moving && to_the_last == MARGIN;
+    let stays = if moving && last - from < SHORT {
+        count % MILESTONE == 0
+    } else {
+        count % STRIDE == 0 && (strides + 1).is_power_of_two() && !(moving && strides == 0)
+    };
+    if !(moves || stays) {
         return;
     }
     if let Ok(copy) = world.copy() {
         checkpoints.keep(Checkpoint {
             count: count as u64,
             world: copy,
+            moves,
         });
     }
 }

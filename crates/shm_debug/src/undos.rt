@@ -86,6 +86,13 @@ impl<A: Allocator + Copy> Undos<A> {
         self.near = NEAR;
     }
 
+    /// Whether the last two times of going back were near each other.
+    pub(crate) fn likely(&self) -> bool
+        ensures { result ≡ self.now.likely }
+    {
+        self.likely
+    }
+
     /// Nothing is kept any more.
     pub(crate) fn clear(&mut self)
         ensures { (s : Standing) → AllLeadBack s self.new }
