@@ -36,9 +36,9 @@ abbrev pub ended_as : Op → Reply → Option Ending
 ended_as op reply = if fits op reply then Some (ending op reply) else None
 
 -- how this reply ends the call that is outstanding, if it counts for it
-abbrev pub ended_by : ℕ → Reply → Option Outstanding → Option Ending
-ended_by number reply None = None
-ended_by number reply (Some call) = if number == call.number then ended_as call.op reply else None
+abbrev pub ending_by : ℕ → Reply → Option Outstanding → Option Ending
+ending_by number reply None = None
+ending_by number reply (Some call) = if number == call.number then ended_as call.op reply else None
 
 -- the site, with these as its calls
 abbrev pub with_calls : Calls → Site → Site

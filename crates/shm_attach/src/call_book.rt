@@ -3,7 +3,7 @@ ghost use Rattle.shm_model.specs.Calls.{is_size};
 ghost use Rattle.shm_model.specs.declared.call.Reply.TheVariants.{Attached as AttachedReply};
 ghost use Rattle.shm_model.specs.Site.{Site};
 ghost use Rattle.shm_model.specs.SegmentCalls.{on_reply_to};
-ghost use Rattle.shm_attach.specs.CallBook.{begun_as, ended, ended_as, ended_by, number_after, outstanding_of};
+ghost use Rattle.shm_attach.specs.CallBook.{begun_as, ended, ended_as, ending_by, number_after, outstanding_of};
 
 use crate::ending::Ending;
 use shm_model::{Attached, Op, Reply};
@@ -57,8 +57,8 @@ impl CallBook {
     }
 
     /// How this reply ends the call that is outstanding. None: it doesn't count for it.
-    pub fn ended_by(&self, number: u64, reply: &Reply) -> Option<Ending>
-        ensures ending { result ≡ ended_by number reply.now self.now.outstanding }
+    pub fn ending_by(&self, number: u64, reply: &Reply) -> Option<Ending>
+        ensures ending { result ≡ ending_by number reply.now self.now.outstanding }
         ensures step { (site : Site) → on_reply_to self.now.outstanding number reply.now site ≡ ended result number reply.now site }
     {
         let (outstanding, op) = self.outstanding?;
@@ -76,7 +76,7 @@ impl CallBook {
     }
 
     /// The call whose reply is waited for, and its number.
-    pub fn outstanding(&self) -> Option<(u64, Op)>
+    pub fn outstanding_call(&self) -> Option<(u64, Op)>
         ensures { outstanding_of result ≡ self.now.outstanding }
     {
         self.outstanding

@@ -215,9 +215,9 @@ pub fn books_after_a_purge()
 {}
 
 /// Envelopes that no site sent: what a fresh site refuses, drops and takes.
-#[tactic(auto, using(crate::proofs::Played::Invented::invented))]
-pub fn invented()
-    ensures row { Invented.AllAnswered Invented.invented }
+#[tactic(auto, using(crate::proofs::Played::Invented::invented_envelopes))]
+pub fn invented_envelopes()
+    ensures row { Invented.AllAnswered Invented.invented_envelopes }
 {}
 
 /// Envelopes that no site sent, at sites in the middle of a transaction or after one.

@@ -29,6 +29,7 @@ pub fn wide_number(word: &[u8]) -> Option<u64>
 
 /// The number that a line's first word stands for, and what stands behind the blank after it, if there is one: in one pass over the word.
 /// It is found wherever there is one; `None` says nothing.
+#[inline(always)]
 pub(crate) fn front_number(line: &[u8]) -> Option<(u32, Option<&[u8]>)>
     ensures { IfSome result (λ r. (word : List ℕ) × (Words.words_of line.now ≡ word ∷ option_map_or (λ rest. Words.words_of rest.now) r.1 [])
         × (Words.number_of word ≡ Some r.0)) }
@@ -58,6 +59,7 @@ pub(crate) fn front_number(line: &[u8]) -> Option<(u32, Option<&[u8]>)>
 }
 
 /// Whether so many digits at the line's front are a number: there is one, and the first isn't a 0 before others.
+#[inline(always)]
 fn is_plain(line: &[u8], digits: usize) -> bool
     requires { digits ≤ length line.now }
     ensures { result ≡ (nat_lt 0 digits && not (nat_lt 1 digits && (slice_index line.now 0 == 48))) }

@@ -23,6 +23,7 @@ pub fn parse_line(line: &[u8]) -> Result<Line, BadLine>
     Ok(line)
 }
 
+#[inline(always)]
 fn read(line: &[u8]) -> Option<Line>
     ensures { result ≡ line_of line.now }
 {
@@ -106,6 +107,7 @@ fn named_number<'a>(name: &[u8], most: u32, words: Words<'a>) -> Option<(u32, Wo
     Some((value, words))
 }
 
+#[inline(always)]
 fn load(words: Words<'_>) -> Option<Line>
     ensures { result ≡ load_of words.entry }
 {
@@ -119,6 +121,7 @@ fn load(words: Words<'_>) -> Option<Line>
     }))
 }
 
+#[inline(always)]
 fn store(words: Words<'_>) -> Option<Line>
     ensures { result ≡ store_of words.entry }
 {
@@ -134,6 +137,7 @@ fn store(words: Words<'_>) -> Option<Line>
     }))
 }
 
+#[inline(always)]
 fn deliver(words: Words<'_>) -> Option<Line>
     ensures { result ≡ deliver_of words.entry }
 {

@@ -29,6 +29,7 @@ impl<'a> Model for Words<'a> {
 
 impl<'a> Words<'a> {
     /// All words of a line.
+    #[inline(always)]
     pub fn of(line: &'a [u8]) -> Words<'a>
         ensures { result ≡ words_of line.now }
     {
@@ -36,6 +37,7 @@ impl<'a> Words<'a> {
     }
 
     /// The next word, and those after it.
+    #[inline(always)]
     pub fn word(self) -> Option<(&'a [u8], Words<'a>)>
         ensures some { IfSome result (λ r. next_word self.entry ≡ Some (r.0.now, r.1)) }
         ensures none { IfNone result (next_word self.entry ≡ None) }
@@ -46,6 +48,7 @@ impl<'a> Words<'a> {
     }
 
     /// The next word as a number, and those after it.
+    #[inline(always)]
     pub fn number(self) -> Option<(u32, Words<'a>)>
         ensures { result ≡ next_number self.entry }
     {
@@ -60,6 +63,7 @@ impl<'a> Words<'a> {
     }
 
     /// The next word as a byte, and those after it.
+    #[inline(always)]
     pub fn byte(self) -> Option<(u8, Words<'a>)>
         ensures { result ≡ next_of byte_of self.entry }
     {
@@ -107,6 +111,7 @@ impl<'a> Words<'a> {
     }
 
     /// The line, if no word is left.
+    #[inline(always)]
     pub fn if_closed(self, line: Line) -> Option<Line>
         ensures { result ≡ said.closed line self.entry }
     {
@@ -117,6 +122,7 @@ impl<'a> Words<'a> {
     }
 
     /// Whether no word is left.
+    #[inline(always)]
     pub fn is_empty(&self) -> bool
         ensures { result ≡ is_end self.now }
     {

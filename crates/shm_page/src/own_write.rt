@@ -142,7 +142,7 @@ impl<A: Allocator + Copy> OwnWritePage<A> {
     }
 
     /// The owner asked for itself: only the number is met.
-    pub fn met(&mut self, number: u64)
+    pub fn meet(&mut self, number: u64)
         requires { self.old.seen ≤ number }
         ensures { self.new ≡ record self.old { seen = number } }
     {

@@ -3,12 +3,13 @@ ghost use Rattle.std.specs.Prelude.{◌≡◌, ◌<◌, ℕ, true, false, not, �
 ghost use Rattle.std.proofs.Props.{props};
 ghost use Rattle.shm_parts.specs.Places.{IsPlaced};
 ghost use Rattle.shm_place.specs.declared.page.PageId.{PageId as Page};
+ghost use Rattle.shm_place.specs.Limits.{pages};
 ghost use Rattle.shm_place.specs.Page.{same_page};
 ghost use Rattle.shm_model.specs.Transfer.{without_page};
 
 use crate::page_map::{first_after, put, put_at};
 use indexmap::IndexMap;
-use shm_place::{PAGES, PageId};
+use shm_place::PageId;
 use std::alloc::{AllocError, Allocator, Global};
 use std::collections::BTreeMap;
 use std::hash::{BuildHasherDefault, FoldHasher};
@@ -41,10 +42,10 @@ impl<A: Allocator + Copy> Bookings<A> {
         }
     }
 
-    /// Adds a page as the last one, and marks it. An error: memory is refused, no segment has a page of this index, or 2^64 - 1 pages
-    /// were added.
+    /// Adds a page as the last one, and marks it. An error: memory is refused, or 2^64 - 1 pages were added.
     pub(crate) fn add(&mut self, page: &PageId) -> Result<(), AllocError>
-        requires { is_listed self.old page.now ≡ false }
+        requires fresh { is_listed self.old page.now ≡ false }
+        requires index { page.now.index < pages }
         ensures listed { OnOk result (listed_of self.new ≡ listed_of self.old ++ page.now ∷ []) }
         ensures there { OnOk result ((other : Page) → is_listed self.new other ≡ (if same_page page.now other then true else is_listed self.old other)) }
         ensures marked { OnOk result (is_marked self.new page.now ≡ true) }
@@ -55,9 +56,6 @@ impl<A: Allocator + Copy> Bookings<A> {
         let Some(next) = place.checked_add(1) else {
             return Err(AllocError);
         };
-        if page.index >= PAGES {
-            return Err(AllocError);
-        }
         self.places.reserve(1)?;
         put_at(&mut self.pages, place, *page)?;
         if let Err(error) = put_at(&mut self.marked, place, *page) {

@@ -3,6 +3,7 @@ ghost use Rattle.std.specs.Prelude.{◌≡◌, ℕ, ◌<◌, ◌≤◌, ◌==◌
 ghost use Rattle.shm_parts.specs.Booked.{IsBooked};
 ghost use Rattle.std.specs.Map.{lookup};
 ghost use Rattle.shm_place.specs.declared.page.PageId.{PageId as Page};
+ghost use Rattle.shm_place.specs.Limits.{pages};
 ghost use Rattle.shm_place.specs.Page.{same_page};
 ghost use Rattle.shm_manager.specs.Book.{book_of, due_of, is_ignored, starts};
 ghost use Rattle.shm_model.specs.Book as model;
@@ -45,9 +46,8 @@ impl<A: Allocator + Copy> Books<A> {
         }
     }
 
-    /// A request for a right to the page. One that starts a transaction takes memory: room for its orders, and for the page's mark, and
-    /// the page's first one for its book. Where that is refused nothing changes. It is refused too where no segment has a page of this
-    /// index.
+    /// A request for a right to the page, which a segment may have. One that starts a transaction takes memory: room for its orders, and
+    /// for the page's mark, and the page's first one for its book. Where that is refused nothing changes.
     pub fn ask<O: Outbox<Envelope<A>>>(
         &mut self,
         alloc: A,
@@ -58,7 +58,8 @@ impl<A: Allocator + Copy> Books<A> {
         kind: Kind,
         outbox: &mut O,
     ) -> Result<Outcome, AllocError>
-        requires { from < 16 }
+        requires site { from < 16 }
+        requires index { page.index < pages }
         ensures step { IfOk result (λ outcome. (site : Site)
             → to_book me page (model.on_ask from request kind (books_of me self.old page)) (with_books me self.old site)
             ≡ booked_step me page outcome (with_books me self.new site)) }
@@ -92,6 +93,7 @@ impl<A: Allocator + Copy> Books<A> {
         outbox: &mut O,
     ) -> Result<Outcome, AllocError>
         requires site { from < 16 }
+        requires index { page.index < pages }
         requires absent { lookup (same_page page) self.old.map.entries ≡ None }
         ensures step { IfOk result (λ outcome. (site : Site)
             → to_book me page (model.on_ask from request kind (books_of me self.old page)) (with_books me self.old site)

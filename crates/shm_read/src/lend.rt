@@ -49,7 +49,7 @@ fn lend_first<A: Allocator + Copy>(
         → IsTrue (carries_bytes (model.hand_read me number to (model.OwnWrite page.seen page.bytes)).1) }
 {
     if to == me {
-        page.met(number);
+        page.meet(number);
         return Ok((Entry::OwnWrite(page), Out::Confirm(number)));
     }
     match page.downgrade(number) {
@@ -72,7 +72,7 @@ fn lend_more<A: Allocator + Copy>(
         → IsTrue (carries_bytes (model.hand_read me number to (model.OwnRead page.seen page.bytes)).1) }
 {
     if to == me {
-        page.met(number);
+        page.meet(number);
         return Ok((Entry::OwnRead(page), Out::Confirm(number)));
     }
     match page.lend(number) {

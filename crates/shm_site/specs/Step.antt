@@ -24,9 +24,9 @@ input_of input.Tick = model.Tick
 input_of input.Restart = model.Restart
 
 -- the envelope that an input hands over
-abbrev pub handed_in : model.Input → Option model.Envelope
-handed_in (model.Deliver e) = Some e
-handed_in _ = None
+abbrev pub handed_envelope : model.Input → Option model.Envelope
+handed_envelope (model.Deliver e) = Some e
+handed_envelope _ = None
 
 abbrev pub envelope_if : {A : Type 0} → Option (Envelope A) → Option model.Envelope
 envelope_if None = None

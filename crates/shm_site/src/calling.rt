@@ -27,7 +27,7 @@ impl<A: Allocator + Copy> Site<A> {
         ensures memory { OnErr result (is_refused (model.begin self.old.sites self.old.me request (site_of self.old)).answer ≡ false) }
         ensures refused { OnErr result (Unchanged O.posted self.old self.new outbox.old outbox.new) }
     {
-        if self.calls.outstanding().is_some() {
+        if self.calls.outstanding_call().is_some() {
             return Ok(Answer::Refused(BUSY));
         }
         match request {
@@ -112,7 +112,7 @@ impl<A: Allocator + Copy> Site<A> {
         ensures seat { SameSeat self.old self.new }
     {
         // this only tells how the call ends: an attach that finds no place leaves it outstanding
-        let Some(ending) = self.calls.ended_by(number, &reply) else {
+        let Some(ending) = self.calls.ending_by(number, &reply) else {
             return Ok(Answer::Dropped);
         };
         match ending {

@@ -1,5 +1,6 @@
 //! What a site does with an envelope that is handed to it: one case for each kind of message, and of a note.
 ghost use Rattle.std.specs.Prelude.{◌≡◌, ◌<◌, true, false, IfOk, IfErr, OnErr};
+ghost use Rattle.shm_place.specs.Limits.{pages};
 ghost use Rattle.shm_model.specs.Message.{Of};
 ghost use Rattle.shm_model.specs.Step.{deliver, foreign, is_proper, on_message};
 ghost use Rattle.shm_model.specs.Transfer.{on_note, on_note_of};
@@ -121,7 +122,8 @@ impl<A: Allocator + Copy> Site<A> {
         note: Note<A>,
         outbox: &mut O,
     ) -> Result<Answer, Message<A>>
-        requires { from < 16 }
+        requires from { from < 16 }
+        requires index { page.now.index < pages }
         ensures step { IfOk result (λ answer. StepsTo O.posted self.old self.new outbox.old outbox.new answer
             (on_note_of self.old.sites self.old.me from page.now (note_of note) (site_of self.old))) }
         ensures memory { OnErr result (is_refused (on_note_of self.old.sites self.old.me from page.now (note_of note) (site_of self.old)).answer ≡ false) }
@@ -146,6 +148,7 @@ impl<A: Allocator + Copy> Site<A> {
         outbox: &mut O,
     ) -> Result<Answer, Note<A>>
         requires from { from < 16 }
+        requires index { page.now.index < pages }
         requires alive { purged_of self.old.holdings.purged page.now.seg ≡ false }
         ensures step { IfOk result (λ answer. StepsTo O.posted self.old self.new outbox.old outbox.new answer
             (on_note self.old.sites self.old.me from page.now (note_of note) (site_of self.old))) }

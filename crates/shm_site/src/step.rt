@@ -3,7 +3,7 @@ ghost use Rattle.std.specs.Prelude.{◌≡◌, None, Some, Ok, false, true, IsOk
 ghost use Rattle.shm_model.specs.Step.{step};
 ghost use Rattle.shm_parts.specs.Message.{envelope_of};
 ghost use Rattle.shm_site.specs.Site.{StepsTo, Unchanged, site_of};
-ghost use Rattle.shm_site.specs.Step.{envelope_if, fault_of, handed_in, input_of, is_foreign, may_grow};
+ghost use Rattle.shm_site.specs.Step.{envelope_if, fault_of, handed_envelope, input_of, is_foreign, may_grow};
 ghost use Rattle.shm_site.specs.declared.step_error.StepFault.TheVariants as fault;
 
 use crate::input::Input;
@@ -26,13 +26,13 @@ impl<A: Allocator + Copy> Site<A> {
         ensures taken { IsOk result → is_foreign self.old.sites self.old.me (input_of input) ≡ false }
         ensures fault { IfErr result (λ e. e.fault ≡ fault_of (is_foreign self.old.sites self.old.me (input_of input))) }
         ensures memory { IfErr result (λ e. e.fault ≡ fault.OutOfMemory → may_grow self.old.sites self.old.me (site_of self.old) (input_of input) ≡ true) }
-        ensures back { IfErr result (λ e. envelope_if e.envelope ≡ handed_in (input_of input)) }
+        ensures back { IfErr result (λ e. envelope_if e.envelope ≡ handed_envelope (input_of input)) }
         ensures refused { OnErr result (Unchanged O.posted self.old self.new outbox.old outbox.new) }
     {
         if self.refuses(&input) {
             return Err(StepError {
                 fault: StepFault::Foreign,
-                envelope: handed_in(input),
+                envelope: handed_envelope(input),
             });
         }
         match self.step_proper(input, outbox) {
@@ -66,7 +66,7 @@ impl<A: Allocator + Copy> Site<A> {
         ensures step { IfOk result (λ answer. StepsTo O.posted self.old self.new outbox.old outbox.new answer
             (step self.old.sites self.old.me (site_of self.old) (input_of input))) }
         ensures memory { OnErr result (may_grow self.old.sites self.old.me (site_of self.old) (input_of input) ≡ true) }
-        ensures back { IfErr result (λ back. envelope_if back ≡ handed_in (input_of input)) }
+        ensures back { IfErr result (λ back. envelope_if back ≡ handed_envelope (input_of input)) }
         ensures refused { OnErr result (Unchanged O.posted self.old self.new outbox.old outbox.new) }
     {
         match input {
@@ -81,8 +81,8 @@ impl<A: Allocator + Copy> Site<A> {
 }
 
 /// The envelope that the input hands over.
-fn handed_in<A: Allocator + Copy>(input: Input<A>) -> Option<Envelope<A>>
-    ensures { envelope_if result ≡ handed_in (input_of input) }
+fn handed_envelope<A: Allocator + Copy>(input: Input<A>) -> Option<Envelope<A>>
+    ensures { envelope_if result ≡ handed_envelope (input_of input) }
 {
     match input {
         Input::Deliver(envelope) => Some(envelope),

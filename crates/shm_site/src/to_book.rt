@@ -1,5 +1,6 @@
 //! Notes of a page to its manager's book: each is a row of the book's table (Li and Hudak 1989, §3.2).
 ghost use Rattle.std.specs.Prelude.{◌≡◌, ◌<◌, false, IfOk, OnErr};
+ghost use Rattle.shm_place.specs.Limits.{pages};
 ghost use Rattle.shm_model.specs.Book as book;
 ghost use Rattle.shm_model.specs.Site as model;
 ghost use Rattle.shm_model.specs.Transfer.{on_note, to_book};
@@ -25,7 +26,8 @@ impl<A: Allocator + Copy> Site<A> {
         told: &BookNote,
         outbox: &mut O,
     ) -> Result<Answer, AllocError>
-        requires { from < 16 }
+        requires from { from < 16 }
+        requires index { page.now.index < pages }
         ensures step { IfOk result (λ answer. StepsTo O.posted self.old self.new outbox.old outbox.new answer
             (on_note self.old.sites self.old.me from page.now (book_note_of told.now) (site_of self.old))) }
         ensures memory { OnErr result (is_refused
@@ -48,7 +50,8 @@ impl<A: Allocator + Copy> Site<A> {
         kind: Kind,
         outbox: &mut O,
     ) -> Result<Answer, AllocError>
-        requires { from < 16 }
+        requires from { from < 16 }
+        requires index { page.now.index < pages }
         ensures step { IfOk result (λ answer. StepsTo O.posted self.old self.new outbox.old outbox.new answer
             (to_book self.old.me page.now (book.on_ask from request kind ((site_of self.old).books page.now)) (site_of self.old))) }
         ensures memory { OnErr result (is_refused (to_book self.old.me page.now (book.on_ask from request kind ((site_of self.old).books page.now))

@@ -8,7 +8,7 @@ ghost use Rattle.shm_model.specs.Site as model;
 ghost use Rattle.shm_model.specs.Step.{deliver, foreign, step};
 ghost use Rattle.shm_model.specs.World.{IsOpening, opened_site};
 ghost use Rattle.shm_parts.specs.Message.{envelope_of};
-ghost use Rattle.shm_site.specs.Step.{envelope_if, handed_in, input_of, is_fault, is_foreign, is_refused, may_grow};
+ghost use Rattle.shm_site.specs.Step.{envelope_if, handed_envelope, input_of, is_fault, is_foreign, is_refused, may_grow};
 
 use crate::start::begin;
 use shm_model::{Answer, Opening};
@@ -70,7 +70,7 @@ impl<A: Allocator + Copy> Members<A> {
             → Made O.posted self.old self.new site outbox.old outbox.new answer (step self.old.count site x (input_of input))) }
         ensures memory { OnErr result ((x : model.Site) → slice_get (members_of self.old) site ≡ Some x
             → may_grow self.old.count site x (input_of input) ≡ true) }
-        ensures back { IfErr result (λ back. envelope_if back ≡ handed_in (input_of input)) }
+        ensures back { IfErr result (λ back. envelope_if back ≡ handed_envelope (input_of input)) }
         ensures refused { OnErr result ((members_of self.new ≡ members_of self.old) × O.posted outbox.old outbox.new []) }
         ensures count { self.new.count ≡ self.old.count }
     {

@@ -4,9 +4,9 @@ use Rattle.shm_model.specs.Book.{awaited}
 use Rattle.shm_model.specs.Site.{blank, is_attached, least_free}
 use Rattle.shm_laws.specs.Rows.Invented
 
-pub invented : Invented.AllAnswered Invented.invented
+pub invented_envelopes : Invented.AllAnswered Invented.invented_envelopes
 unfolding Invented.AllAnswered blank awaited least_free is_attached
-invented = refl
+invented_envelopes = refl
 
 pub invented_later : Invented.AllAnswered Invented.invented_later
 unfolding Invented.AllAnswered blank awaited least_free is_attached

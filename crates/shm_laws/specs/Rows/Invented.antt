@@ -42,7 +42,8 @@ envelope_of from destination message = record { from = from; to = destination; m
 
 -- at a site, an envelope from a site to a site
 abbrev pub at : ℕ → ℕ → ℕ → Message → Answer → List Sent → Handing
-at site from destination message answer sent = record { site = site; earlier = []; envelope = envelope_of from destination message; answer = answer; sent = sent }
+at site from destination message answer sent =
+    record { site = site; earlier = []; envelope = envelope_of from destination message; answer = answer; sent = sent }
 
 -- at a site that was handed others before, an envelope to it
 abbrev pub after : ℕ → List Envelope → ℕ → Message → Answer → List Sent → Handing
@@ -52,8 +53,8 @@ after site earlier from message answer sent = record { site = site; earlier = ea
 abbrev pub of_page : ℕ → Note → Message
 of_page index note = Of (record { seg = 0; index = index }) note
 
-abbrev pub invented : List Handing
-invented =
+abbrev pub invented_envelopes : List Handing
+invented_envelopes =
     at 1 0 1 (of_page 0 (Page 5 Write blank)) took (to 0 confirm)
     ∷ at 1 0 1 (of_page 0 (Page 5 Read blank)) took (to 0 confirm)
     ∷ at 0 0 0 (of_page 0 (Page 5 Write blank)) dropped []

@@ -139,7 +139,8 @@ error e = RefusedReply e
 
 -- key, user, group, creator, creator's group, mode, size, attachments, marked or live
 abbrev pub state : ℕ → ℕ → ℕ → ℕ → ℕ → ℕ → ℕ → ℕ → Bool → Reply
-state key uid gid cuid cgid mode size nattch is_marked = StatReply (record { key = key; uid = uid; gid = gid; cuid = cuid; cgid = cgid; mode = mode; size = size; nattch = nattch; marked = is_marked })
+state key uid gid cuid cgid mode size nattch is_marked =
+    StatReply (record { key = key; uid = uid; gid = gid; cuid = cuid; cgid = cgid; mode = mode; size = size; nattch = nattch; marked = is_marked })
 
 abbrev pub marked : Bool
 marked = true

@@ -46,21 +46,15 @@ impl KeptLines {
         let ended = line_feeds(held) as u64;
         let start = open_from(held);
         let count = (self.len - start).min(LINE);
-        for at in 0..count {
-            self.bytes[at] = self.bytes[start + at];
-        }
+        self.bytes.copy_within(start..start + count, 0);
         self.len = count;
         self.first = self.first.saturating_add(ended);
     }
 
     fn append(&mut self, block: &[u8]) {
-        for byte in block {
-            if self.len >= KEPT {
-                return;
-            }
-            self.bytes[self.len] = *byte;
-            self.len += 1;
-        }
+        let count = block.len().min(KEPT - self.len);
+        self.bytes[self.len..self.len + count].copy_from_slice(&block[..count]);
+        self.len += count;
     }
 
     /// The front of the line of this number.

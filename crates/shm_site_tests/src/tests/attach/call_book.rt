@@ -37,12 +37,12 @@ fn a_call_ends_once(rt: HostRuntime) {
     expect_next(&rt, book.next_number(), Some(1));
     book.begin(1, a_detach());
     expect_next(&rt, book.next_number(), Some(2));
-    expect_ending(&rt, book.ended_by(2, &Reply::Ok), None);
-    expect_outstanding(&rt, book.copy().outstanding(), Some((1, a_detach())));
-    expect_ending(&rt, book.ended_by(1, &Reply::Ok), Some(Ending::Replied));
+    expect_ending(&rt, book.ending_by(2, &Reply::Ok), None);
+    expect_outstanding(&rt, book.copy().outstanding_call(), Some((1, a_detach())));
+    expect_ending(&rt, book.ending_by(1, &Reply::Ok), Some(Ending::Replied));
     book.end();
-    expect_ending(&rt, book.ended_by(1, &Reply::Ok), None);
-    expect_outstanding(&rt, book.outstanding(), None);
+    expect_ending(&rt, book.ending_by(1, &Reply::Ok), None);
+    expect_outstanding(&rt, book.outstanding_call(), None);
     expect_next(&rt, book.next_number(), Some(2));
 }
 
@@ -50,10 +50,10 @@ fn a_call_ends_once(rt: HostRuntime) {
 fn a_reply_of_another_form_is_ignored(rt: HostRuntime) {
     let mut book = CallBook::new();
     book.begin(1, an_attach());
-    expect_ending(&rt, book.ended_by(1, &Reply::Ok), None);
+    expect_ending(&rt, book.ending_by(1, &Reply::Ok), None);
     for size in [0, 1_048_577] {
         let reply = Reply::Attached(Attached { size, ro: true });
-        expect_ending(&rt, book.ended_by(1, &reply), None);
+        expect_ending(&rt, book.ending_by(1, &reply), None);
     }
     let attached = Attached {
         size: 1_048_576,
@@ -65,7 +65,7 @@ fn a_reply_of_another_form_is_ignored(rt: HostRuntime) {
     };
     expect_ending(
         &rt,
-        book.ended_by(1, &Reply::Attached(attached)),
+        book.ending_by(1, &Reply::Attached(attached)),
         Some(ending),
     );
 }

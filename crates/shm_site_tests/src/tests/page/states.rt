@@ -98,7 +98,7 @@ fn an_owner_lends_once_more(rt: HostRuntime) -> Result<(), Fail> {
 #[test]
 fn a_lent_page_meets_a_number(rt: HostRuntime) -> Result<(), Fail> {
     let (mut owner, _) = lent(rt.alloc(), 1)?;
-    owner.met(3);
+    owner.meet(3);
     let copy = owner.copy()?;
     expect_page(&rt, of_lender(&copy), (3, 7, 9));
     Ok(())
@@ -117,7 +117,7 @@ fn a_store_leaves_earlier_grants(rt: HostRuntime) -> Result<(), Fail> {
 #[test]
 fn an_owner_meets_numbers(rt: HostRuntime) -> Result<(), Fail> {
     let mut owner = written(rt.alloc())?;
-    owner.met(1);
+    owner.meet(1);
     let owner = owner.upgrade(2);
     let copy = owner.copy()?;
     expect_page(&rt, of_owner(&copy), (2, 7, 9));

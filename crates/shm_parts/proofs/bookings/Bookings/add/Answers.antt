@@ -28,13 +28,12 @@ pub invariant_of-self-2 : goal.invariant_of-self-2
 invariant_of-self-2 g c =
     let old = c.args.self.now in
     let page = c.args.page.now in
-    let absent : place_of old.places.entries page ≡ None = no_place (place_of old.places.entries page) c.requires in
-    let above = c.if-page-ge-PAGES.false in
+    let absent : place_of old.places.entries page ≡ None = no_place (place_of old.places.entries page) c.requires.fresh in
     let more = c.in-Some.ensures in
     record {
       placed = placed_marked c.put.new.map.entries c.put_at.new.pages.entries old.marked.entries c.put_at-2.new.pages.entries c.in-Some.next old.next page
           (placed_more old.places.entries c.put.new.map.entries old.pages.entries c.put_at.new.pages.entries old.marked.entries old.next c.in-Some.next page old.placed
-          absent (grind (arith, nat_tests, above))
+          absent c.requires.index
           (λ q. c.put.ensures.values q ∙ ap (λ es. cond (same_page page q) (Some old.next) (lookup (same_page q) es)) c.in_ok-reserve.ensures.entries)
           c.in_ok-put_at.ensures.entries c.in_ok-put_at.ensures.rising (grind (arith, nat_tests, more)))
           (c.in_ok-put_at.ensures.pages old.next ∙ ap (λ b. cond b (Some page) (page_at old.pages.entries old.next)) (at-itself old.next))
@@ -60,6 +59,6 @@ returns-clause-others g c = λ other was.
     let old = c.args.self.now in
     let page = c.args.page.now in
     marks_stay old.places.entries c.put.new.map.entries old.marked.entries c.put_at-2.new.pages.entries old.next page other
-    (no_place (place_of old.places.entries page) c.requires)
+    (no_place (place_of old.places.entries page) c.requires.fresh)
     (c.put.ensures.values other ∙ ap (λ es. cond (same_page page other) (Some old.next) (lookup (same_page other) es)) c.in_ok-reserve.ensures.entries)
     c.in_default-put_at.ensures.pages was
