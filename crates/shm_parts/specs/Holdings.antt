@@ -24,10 +24,10 @@ use Rattle.shm_parts.specs.declared.change.Change.{Change}
 use Rattle.shm_parts.specs.declared.frames.Frames.{Frames}
 use Rattle.shm_parts.specs.declared.holdings.Holdings.{Holdings}
 use Rattle.shm_parts.specs.declared.message.Envelope.{Envelope}
-use Rattle.shm_parts.specs.declared.reached.Loaded.{Loaded}
-use Rattle.shm_parts.specs.declared.reached.Loaded.TheVariants as loaded
-use Rattle.shm_parts.specs.declared.reached.Kept.{Kept}
-use Rattle.shm_parts.specs.declared.reached.Kept.TheVariants as kept
+use Rattle.shm_parts.specs.declared.reached.LoadOutcome.{LoadOutcome}
+use Rattle.shm_parts.specs.declared.reached.LoadOutcome.TheVariants as loaded
+use Rattle.shm_parts.specs.declared.reached.StoreOutcome.{StoreOutcome}
+use Rattle.shm_parts.specs.declared.reached.StoreOutcome.TheVariants as stored
 
 -- of a purged segment nothing is left
 abbrev pub held_entries : {A : Type 0} → ℕ → ℕ → Holdings A → PageId → model.Entry
@@ -71,20 +71,20 @@ abbrev pub rearranged : Change → PageId → Site → Site
 rearranged change page site = given_up (arranged_frames change page site.frames) site
 
 -- a load's outcome, as a step of the site
-abbrev pub loaded_step : ℕ → ℕ → Result Loaded Denied → Site → Step
+abbrev pub loaded_step : ℕ → ℕ → Result LoadOutcome Denied → Site → Step
 loaded_step sites me (Ok (loaded.Byte byte)) site = still (Byte byte) site
 loaded_step sites me (Ok (loaded.Absent page)) site = ask_for sites me Read page site
 loaded_step sites me (Err denied) site = still (Refused (denied_number denied)) site
 
 -- what an entry gives a load of its page
-abbrev pub read_of : PageId → ℕ → model.Entry → Loaded
+abbrev pub read_of : PageId → ℕ → model.Entry → LoadOutcome
 read_of page within e = if model.readable e then loaded.Byte (slice_index (model.bytes e) within) else loaded.Absent page
 
 -- a store's outcome, as a step of the site
-abbrev pub kept_step : ℕ → ℕ → Result Kept Denied → Site → Step
-kept_step sites me (Ok kept.Stored) site = still Stored site
-kept_step sites me (Ok (kept.Absent page)) site = ask_for sites me Write page site
-kept_step sites me (Err denied) site = still (Refused (denied_number denied)) site
+abbrev pub stored_step : ℕ → ℕ → Result StoreOutcome Denied → Site → Step
+stored_step sites me (Ok stored.Stored) site = still Stored site
+stored_step sites me (Ok (stored.Absent page)) site = ask_for sites me Write page site
+stored_step sites me (Err denied) site = still (Refused (denied_number denied)) site
 
 -- a message that turned an entry, as a step of the site: what goes out, if anything does, and what changed; `hold` gives a site its holdings
 -- after it

@@ -43,4 +43,4 @@ pub use outcome::Outcome;
 pub use pages_in_order::PagesInOrder;
 pub use pendings::Pendings;
 pub use purged::Purged;
-pub use reached::{Kept, Loaded};
+pub use reached::{LoadOutcome, StoreOutcome};

@@ -2,7 +2,7 @@ use shm_place::PageId;
 
 /// What a load through an attachment came to.
 #[derive(Clone, Copy, Debug)]
-pub enum Loaded {
+pub enum LoadOutcome {
     Byte(u8),
     /// The right to read this page isn't here.
     Absent(PageId),
@@ -10,7 +10,7 @@ pub enum Loaded {
 
 /// What a store through an attachment came to.
 #[derive(Clone, Copy, Debug)]
-pub enum Kept {
+pub enum StoreOutcome {
     Stored,
     /// The right to write this page isn't here.
     Absent(PageId),

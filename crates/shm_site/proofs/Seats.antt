@@ -9,26 +9,26 @@ use Rattle.shm_model.specs.Transfer.{to_entry}
 use Rattle.shm_attach.specs.Attachments.{with_attachments}
 use Rattle.shm_attach.specs.declared.fault.Denied.{Denied}
 use Rattle.shm_parts.specs.Entries.{row}
-use Rattle.shm_parts.specs.Holdings.{held_entries, kept_step, loaded_step, turned_step, with_holdings}
+use Rattle.shm_parts.specs.Holdings.{held_entries, stored_step, loaded_step, turned_step, with_holdings}
 use Rattle.shm_parts.specs.declared.change.Change.{Change}
 use Rattle.shm_parts.specs.declared.holdings.Holdings.{Holdings}
 use Rattle.shm_parts.specs.declared.message.Envelope.{Envelope}
-use Rattle.shm_parts.specs.declared.reached.Kept.{Kept}
-use Rattle.shm_parts.specs.declared.reached.Loaded.{Loaded}
+use Rattle.shm_parts.specs.declared.reached.StoreOutcome.{StoreOutcome}
+use Rattle.shm_parts.specs.declared.reached.LoadOutcome.{LoadOutcome}
 use Rattle.shm_parts.proofs.Held.{seated}
 
 module _ {A : Type 0} (sites me sites2 me2 : ℕ) (all : sites2 ≡ sites) (own : me2 ≡ me) (old new : Holdings A) (site : Site) where
-  pub load_here : (at offset : ℕ) (result : Result Loaded Denied)
+  pub load_here : (at offset : ℕ) (result : Result LoadOutcome Denied)
       → load sites2 me2 at offset (with_holdings sites2 me2 old site) ≡ loaded_step sites2 me2 result (with_holdings sites2 me2 old site)
       → load sites me at offset (with_holdings sites me old site) ≡ loaded_step sites me result (with_holdings sites me old site)
   load_here at offset result =
       seated (λ n m. load n m at offset (with_holdings n m old site) ≡ loaded_step n m result (with_holdings n m old site)) sites me sites2 me2 all own
 
-  pub store_here : (at offset byte : ℕ) (result : Result Kept Denied)
-      → store sites2 me2 at offset byte (with_holdings sites2 me2 old site) ≡ kept_step sites2 me2 result (with_holdings sites2 me2 new site)
-      → store sites me at offset byte (with_holdings sites me old site) ≡ kept_step sites me result (with_holdings sites me new site)
+  pub store_here : (at offset byte : ℕ) (result : Result StoreOutcome Denied)
+      → store sites2 me2 at offset byte (with_holdings sites2 me2 old site) ≡ stored_step sites2 me2 result (with_holdings sites2 me2 new site)
+      → store sites me at offset byte (with_holdings sites me old site) ≡ stored_step sites me result (with_holdings sites me new site)
   store_here at offset byte result =
-      seated (λ n m. store n m at offset byte (with_holdings n m old site) ≡ kept_step n m result (with_holdings n m new site)) sites me sites2 me2 all own
+      seated (λ n m. store n m at offset byte (with_holdings n m old site) ≡ stored_step n m result (with_holdings n m new site)) sites me sites2 me2 all own
 
   pub attached_here : (attachments : ℕ → Option Attachment)
       → with_holdings sites2 me2 new site ≡ with_attachments attachments (with_holdings sites2 me2 old site)

@@ -7,7 +7,7 @@ ghost use Rattle.shm_site.specs.Site.{StepsTo, Unchanged, site_of};
 use crate::site::Site;
 use shm_model::refusal::NUMBERS_USED_UP;
 use shm_model::{Answer, Kind, Numbered};
-use shm_parts::{BookNote, Envelope, Kept, Loaded, Outbox, to_manager};
+use shm_parts::{BookNote, Envelope, LoadOutcome, Outbox, StoreOutcome, to_manager};
 use shm_place::PageId;
 use std::alloc::{AllocError, Allocator};
 
@@ -26,8 +26,8 @@ impl<A: Allocator + Copy> Site<A> {
         ensures memory { OnErr result ((model.load self.old.sites self.old.me at offset (site_of self.old)).answer ≡ answer.Fault) }
     {
         match self.holdings.load(at, offset) {
-            Ok(Loaded::Byte(byte)) => Ok(Answer::Byte(byte)),
-            Ok(Loaded::Absent(page)) => self.ask_for(Kind::Read, &page, outbox),
+            Ok(LoadOutcome::Byte(byte)) => Ok(Answer::Byte(byte)),
+            Ok(LoadOutcome::Absent(page)) => self.ask_for(Kind::Read, &page, outbox),
             Err(denied) => Ok(Answer::Refused(denied.number())),
         }
     }
@@ -46,8 +46,8 @@ impl<A: Allocator + Copy> Site<A> {
         ensures memory { OnErr result ((model.store self.old.sites self.old.me at offset byte (site_of self.old)).answer ≡ answer.Fault) }
     {
         match self.holdings.store(at, offset, byte) {
-            Ok(Kept::Stored) => Ok(Answer::Stored),
-            Ok(Kept::Absent(page)) => self.ask_for(Kind::Write, &page, outbox),
+            Ok(StoreOutcome::Stored) => Ok(Answer::Stored),
+            Ok(StoreOutcome::Absent(page)) => self.ask_for(Kind::Write, &page, outbox),
             Err(denied) => Ok(Answer::Refused(denied.number())),
         }
     }

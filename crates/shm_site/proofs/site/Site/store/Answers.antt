@@ -5,7 +5,7 @@ use Rattle.shm_model.specs.Site.{Step, still}
 use Rattle.shm_model.specs.Site as model
 use Rattle.shm_model.specs.declared.answer.Answer.TheVariants.{Fault, Refused}
 use Rattle.shm_model.specs.declared.kind.Kind.TheVariants.{Write}
-use Rattle.shm_parts.specs.Holdings.{kept_step, with_holdings}
+use Rattle.shm_parts.specs.Holdings.{stored_step, with_holdings}
 use Rattle.shm_site.specs.Site.{site_of}
 use Rattle.shm_site.proofs.Seats.{store_here}
 use Rattle.shm_site.proofs.Steps.{if_steps, quietly}
@@ -17,13 +17,13 @@ returns-in-Ok-Stored-clause-step g c =
     let old = c.args.self.now in
     let new : model.Site = with_holdings old.sites old.me c.store.new.self (site_of old) in
     quietly (g.O.Outbox.nothing c.args.outbox.now) (refl, refl)
-    (store_here old.sites old.me old.holdings.sites old.holdings.me old.held_sites old.held_me old.holdings c.store.new.self (site_of old) c.args.at c.args.offset c.args.byte c.store.result (c.store.ensures.step (site_of old)) ∙ ap (λ r. kept_step old.sites old.me r new) (c.in-Ok-Stored.is ∙ ap Ok c.in-Ok-Stored.field-0-is))
+    (store_here old.sites old.me old.holdings.sites old.holdings.me old.held_sites old.held_me old.holdings c.store.new.self (site_of old) c.args.at c.args.offset c.args.byte c.store.result (c.store.ensures.step (site_of old)) ∙ ap (λ r. stored_step old.sites old.me r new) (c.in-Ok-Stored.is ∙ ap Ok c.in-Ok-Stored.field-0-is))
 
 absent : (g : _) (c : goal.After-ask_for g) (site : model.Site) → store c.args.self.now.sites c.args.self.now.me c.args.at c.args.offset c.args.byte (with_holdings c.args.self.now.sites c.args.self.now.me c.args.self.now.holdings site) ≡ ask_for c.args.self.now.sites c.args.self.now.me Write c.in-Ok-Absent.page (with_holdings c.args.self.now.sites c.args.self.now.me c.store.new.self site)
 absent g c site =
     let old = c.args.self.now in
     store_here old.sites old.me old.holdings.sites old.holdings.me old.held_sites old.held_me old.holdings c.store.new.self site c.args.at c.args.offset c.args.byte c.store.result (c.store.ensures.step site)
-    ∙ ap (λ r. kept_step c.args.self.now.sites c.args.self.now.me r (with_holdings c.args.self.now.sites c.args.self.now.me c.store.new.self site)) (c.in-Ok-Absent.is ∙ ap Ok c.in-Ok-Absent.field-0-is)
+    ∙ ap (λ r. stored_step c.args.self.now.sites c.args.self.now.me r (with_holdings c.args.self.now.sites c.args.self.now.me c.store.new.self site)) (c.in-Ok-Absent.is ∙ ap Ok c.in-Ok-Absent.field-0-is)
 
 pub returns-in-Ok-Absent-clause-step : goal.returns-in-Ok-Absent-clause-step
 returns-in-Ok-Absent-clause-step g c =
@@ -44,4 +44,4 @@ returns-in-Err-clause-step g c =
     let old = c.args.self.now in
     let new : model.Site = with_holdings old.sites old.me c.store.new.self (site_of old) in
     quietly (g.O.Outbox.nothing c.args.outbox.now) (refl, refl)
-    (store_here old.sites old.me old.holdings.sites old.holdings.me old.held_sites old.held_me old.holdings c.store.new.self (site_of old) c.args.at c.args.offset c.args.byte c.store.result (c.store.ensures.step (site_of old)) ∙ ap (λ r. kept_step old.sites old.me r new) c.in-Err.is ∙ ap (λ n. still (Refused n) new) (sym c.number.ensures))
+    (store_here old.sites old.me old.holdings.sites old.holdings.me old.held_sites old.held_me old.holdings c.store.new.self (site_of old) c.args.at c.args.offset c.args.byte c.store.result (c.store.ensures.step (site_of old)) ∙ ap (λ r. stored_step old.sites old.me r new) c.in-Err.is ∙ ap (λ n. still (Refused n) new) (sym c.number.ensures))
