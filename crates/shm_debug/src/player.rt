@@ -106,6 +106,7 @@ impl<A: Allocator + Copy> Player<A> {
     }
 
     /// These bytes and a line feed come: the line ends with them.
+    #[inline(always)]
     fn end_line(&mut self, bytes: &[u8], output: &mut Text<A>) -> Result<(), DebugFault>
         requires { All (λ byte. (byte == 10) ≡ false) bytes.now }
         ensures ok { OnOk result (Plays self.old (bytes.now ++ 10 ∷ []) self.new output.old output.new) }
@@ -121,6 +122,7 @@ impl<A: Allocator + Copy> Player<A> {
     }
 
     /// The line that ends with these bytes. They are gathered only where its front was.
+    #[inline(always)]
     fn complete(&mut self, bytes: &[u8]) -> Result<Line, DebugFault>
         requires { All (λ byte. (byte == 10) ≡ false) bytes.now }
         ensures ok { IfOk result (λ line. Completes self.old bytes.now line) }
@@ -165,6 +167,7 @@ impl<A: Allocator + Copy> Player<A> {
     }
 
     /// Goes on to the next line, and tells what is said to this one.
+    #[inline(always)]
     fn pass(&mut self, line: Line, output: &mut Text<A>) -> Result<(), AllocError>
         requires within { self.old.lines < max_lines }
         requires stands { may_stand (self.old.lines + 1) line ≡ true }
@@ -183,6 +186,7 @@ impl<A: Allocator + Copy> Player<A> {
 }
 
 /// What the line of this number says, which has these bytes.
+#[inline(always)]
 fn read_line(number: u64, bytes: &[u8]) -> Result<Line, DebugFault>
     ensures { result ≡ Script.read_line number bytes.now }
 {
@@ -200,6 +204,7 @@ fn read_line(number: u64, bytes: &[u8]) -> Result<Line, DebugFault>
 }
 
 /// Whether a line of this number may have so many bytes. If not, the fault is that of each line which has as many or more.
+#[inline(always)]
 fn check_limits(number: u64, len: usize) -> Result<(), DebugFault>
     ensures number { OnOk result (number ≤ max_lines) }
     ensures len { OnOk result (len ≤ max_line_bytes) }

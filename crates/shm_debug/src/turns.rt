@@ -16,6 +16,7 @@ use shm_model::Event;
 use std::alloc::{AllocError, Allocator};
 
 /// A line that may stand here: the first one opens the session, the others are turns of it.
+#[inline(always)]
 pub fn pass_line<A: Allocator + Copy>(
     session: &mut Option<Session<A>>,
     alloc: A,

@@ -65,6 +65,9 @@ impl<A: Allocator + Copy> Undos<A> {
         ensures { (s : Standing) → AllLeadBack s self.new }
     {
         self.near = self.near.saturating_sub(1);
+        if self.ring.is_empty() {
+            return;
+        }
         self.ring.clear();
     }
 

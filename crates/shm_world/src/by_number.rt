@@ -10,7 +10,7 @@ const FEW: usize = 32;
 
 /// Values under numbers that rise. A value that joins takes the next number; one that is taken out leaves its place empty until the empty
 /// places are swept, which are as many as the others then. So a value joins in constant time, and is found in as many steps as the
-/// logarithm of the number of places has.
+/// logarithm of the number of places has, or at once where no number behind it lacks its place.
 #[derive(Drop)]
 pub struct ByNumber<V: Drop, A: Allocator + Copy = Global> {
     pub(crate) places: Vec<Place<V>, A>,
@@ -201,6 +201,7 @@ impl<V: Drop, A: Allocator + Copy> ByNumber<V, A> {
     }
 
     /// Gives the empty places up, where they are as many as the others.
+    #[inline(always)]
     pub(crate) fn sweep(&mut self)
         ensures value { (k : ℕ) → value_of k self.new.places ≡ value_of k self.old.places }
         ensures next { self.new.next ≡ self.old.next }
@@ -209,12 +210,48 @@ impl<V: Drop, A: Allocator + Copy> ByNumber<V, A> {
         if self.places.len() < FEW || self.empty < self.places.len() / 2 {
             return;
         }
+        self.give_up_empty();
+    }
+
+    /// Gives the empty places up.
+    // Out of line, so that the test before it stays short.
+    #[inline(never)]
+    fn give_up_empty(&mut self)
+        ensures value { (k : ℕ) → value_of k self.new.places ≡ value_of k self.old.places }
+        ensures next { self.new.next ≡ self.old.next }
+        ensures room { self.old.spare ≤ self.new.spare }
+    {
         self.places.retain(|place| place.value.is_some());
         self.empty = 0;
     }
 
     /// The place of this number.
     fn place_of(&self, number: u64) -> Option<usize>
+        ensures some { IfSome result (λ at. StandsAt number at self.now.places) }
+        ensures none { IfNone result ((at : ℕ) → StandsAt number at self.now.places → ⊥) }
+    {
+        if let Some(at) = self.place_from_end(number) {
+            return Some(at);
+        }
+        self.search(number)
+    }
+
+    /// The place of this number, where all numbers behind it have theirs: the place is as far from the end as the number is from the next.
+    fn place_from_end(&self, number: u64) -> Option<usize>
+        ensures { IfSome result (λ at. StandsAt number at self.now.places) }
+    {
+        let behind = self.next.checked_sub(number)?;
+        let at = self.places.len().checked_sub(behind as usize)?;
+        let place = self.places.get(at)?;
+        if place.number == number {
+            Some(at)
+        } else {
+            None
+        }
+    }
+
+    /// The place of this number, by halving.
+    fn search(&self, number: u64) -> Option<usize>
         ensures some { IfSome result (λ at. StandsAt number at self.now.places) }
         ensures none { IfNone result ((at : ℕ) → StandsAt number at self.now.places → ⊥) }
     {

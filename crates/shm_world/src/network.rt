@@ -64,6 +64,7 @@ impl<A: Allocator + Copy> Network<A> {
     }
 
     /// Gives up the places that stand empty, where they are many. What is carried stays.
+    #[inline(always)]
     pub fn sweep(&mut self)
         ensures { (sent : List model.Envelope) (gone : ℕ → Bool) → Carries self.old sent gone → Carries self.new sent gone }
     {

@@ -1,7 +1,7 @@
 use Rattle.std.proofs.Common.{ℕ, ap, sym, ◌∙◌}
 use Rattle.shm_world.specs.ByNumber.{StandsAt, place_for}
 use Rattle.shm_world.proofs.Numbers.{for_none, found, misplaced, stands, unplaced}
-use Rattle.shm_world.proofs.by_number.ByNumber.place_of.Goals as goal
+use Rattle.shm_world.proofs.by_number.ByNumber.search.Goals as goal
 
 pub returns-in_err-place-clause-none : goal.returns-in_err-place-clause-none
 returns-in_err-place-clause-none g c =

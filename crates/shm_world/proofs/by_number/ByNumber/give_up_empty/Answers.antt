@@ -2,7 +2,7 @@ use Rattle.std.proofs.Common.{rules, ◌≡◌, ap, filter, ◌∙◌}
 use Rattle.std.proofs.lemmas.Fn.{filter_same}
 use Rattle.shm_world.specs.ByNumber.{rises, value_of}
 use Rattle.shm_world.proofs.Joining.{is_full, swept-rises, swept-values}
-use Rattle.shm_world.proofs.by_number.ByNumber.sweep.Goals as goal
+use Rattle.shm_world.proofs.by_number.ByNumber.give_up_empty.Goals as goal
 
 pub invariant_of-self : goal.invariant_of-self
 invariant_of-self g c =
