@@ -242,8 +242,8 @@ impl<V: Drop, A: Allocator + Copy> ByNumber<V, A> {
     {
         let behind = self.next.checked_sub(number)?;
         let at = self.places.len().checked_sub(behind as usize)?;
-        let place = self.places.get(at)?;
-        if place.number == number {
+        let guess = self.places.get(at)?;
+        if guess.number == number {
             Some(at)
         } else {
             None
