@@ -88,9 +88,9 @@ impl<A: Allocator + Copy> CopyPage<A> {
         ensures installed { IfOk result (λ page. page ≡ page_of grant.number grant.bytes) }
         ensures refused { IfErr result (λ e. (e.0 ≡ self) × (e.1 ≡ grant)) }
     {
-        match OwnWritePage::from_grant(&grant) {
+        match grant.into_page() {
             Ok(page) => Ok(page),
-            Err(error) => Err((self, grant, error)),
+            Err((grant, error)) => Err((self, grant, error)),
         }
     }
 

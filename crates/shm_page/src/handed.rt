@@ -7,7 +7,7 @@ use crate::nil::NilPage;
 use crate::own_write::OwnWritePage;
 use crate::read_grant::ReadGrant;
 use bytes::Bytes;
-use shm_place::SiteId;
+use shm_place::{PAGE_BYTES, SiteId};
 use std::alloc::{AllocError, Allocator, Global};
 use std::marker::Model;
 
@@ -131,9 +131,9 @@ impl<A: Allocator + Copy> HandedPage<A> {
         ensures installed { IfOk result (λ page. page ≡ page_of grant.number grant.bytes) }
         ensures refused { IfErr result (λ e. (e.0 ≡ self) × (e.1 ≡ grant)) }
     {
-        match OwnWritePage::from_grant(&grant) {
+        match grant.into_page() {
             Ok(page) => Ok(page),
-            Err(error) => Err((self, grant, error)),
+            Err((grant, error)) => Err((self, grant, error)),
         }
     }
 
@@ -166,12 +166,21 @@ impl<A: Allocator + Copy> WriteGrant<A> {
         self.bytes.as_slice()
     }
 
-    /// The bytes in memory of their own, for an owner.
-    pub(crate) fn to_vec(&self) -> Result<Vec<u8, A>, AllocError>
-        ensures value { IfOk result (λ own. own.items ≡ self.now.bytes) }
-        ensures whole { IfOk result (λ own. length own.items ≡ page_bytes) }
+    /// The page of the owner that the grant makes. Where memory is refused, the grant comes back.
+    pub(crate) fn into_page(self) -> Result<OwnWritePage<A>, (WriteGrant<A>, AllocError)>
+        ensures page { IfOk result (λ page. page ≡ page_of self.number self.bytes) }
+        ensures refused { IfErr result (λ e. e.0 ≡ self) }
     {
-        Vec::from_slice(self.alloc, self.bytes.as_slice())
+        let room = match Vec::with_capacity(self.alloc, PAGE_BYTES) {
+            Ok(room) => room,
+            Err(error) => return Err((self, error)),
+        };
+        let WriteGrant {
+            number,
+            bytes,
+            alloc: _,
+        } = self;
+        Ok(OwnWritePage::of(number, bytes, room))
     }
 
     /// An equal grant, as a network makes one when it hands a message over twice.

@@ -103,10 +103,9 @@ impl<A: Allocator + Copy> OwnReadPage<A> {
         let OwnReadPage {
             seen: _,
             shared,
-            mut room,
+            room,
         } = self;
-        let _ = room.extend_from_slice(shared.as_slice());
-        OwnWritePage::of(number, room)
+        OwnWritePage::of(number, shared, room)
     }
 
     /// The owner asked for itself: only the number is met.

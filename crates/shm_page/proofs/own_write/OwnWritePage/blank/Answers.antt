@@ -1,12 +1,12 @@
-use Rattle.std.proofs.Common.{◌≡◌, ℕ, List, ap}
-use Rattle.shm_page.specs.State.{PageView, page_of}
+use Rattle.std.proofs.Common.{◌∙◌, ℕ, None, ap, length}
+use Rattle.std.proofs.lemmas.List.{length-replicate}
+use Rattle.shm_place.specs.Limits.{page_bytes}
 use Rattle.shm_model.specs.Site.{blank}
+use Rattle.shm_page.specs.State.{owned_bytes}
 use Rattle.shm_page.proofs.own_write.OwnWritePage.blank.Goals as goal
 
--- src/own_write.rt:29:5
-pub returns : goal.returns
+pub invariant_of-result : goal.invariant_of-result
 unfolding blank
-returns g c =
-    let zeros : c.in_ok-bytes.bytes.items ≡ blank = c.in_ok-bytes.ensures.items_if_clones_equal (λ y h. h) in
-    let with_bytes : List ℕ → PageView = page_of 0 in
-    ap with_bytes zeros
+invariant_of-result g c =
+    ( ap (λ own. length (owned_bytes None own)) c.in_ok-own.ensures.items ∙ length-replicate {A = ℕ} page_bytes 0,
+      c.in_ok-own.ensures.capacity, tt )
