@@ -1,5 +1,5 @@
 -- How pages stand in their order after a change, and that no index among them has grown.
-use Rattle.std.proofs.Common.{◌≡◌, ℕ, ◌+◌, ◌≤◌, ◌<◌, Bool, true, false, cond, not, ◌&&◌, ◌||◌, ◌==◌, nat_lt, if◌then◌else◌, filter, List, [], ◌∷◌, ◌++◌, drop, Option, None, Some, refl, sym, ap, subst, ◌∙◌, arith}
+use Rattle.std.proofs.Common.{◌≡◌, ℕ, ◌+◌, ◌≤◌, ◌<◌, Bool, true, false, cond, not, ◌&&◌, ◌||◌, ◌==◌, nat_lt, if◌then◌else◌, filter, List, [], ◌∷◌, ◌++◌, drop, Option, None, Some, Result, Ok, Err, OnOk, OnErr, refl, sym, ap, subst, ◌∙◌, arith}
 use Rattle.std.proofs.lemmas.Bool.Decides.{nat_tests}
 use Rattle.std.proofs.lemmas.Option.{none-some, same_Some}
 use Rattle.std.specs.Option.{option_map_or}
@@ -81,6 +81,15 @@ module _ {V : Type 0} where
   pub insert-kept : (page : PageId) (v : V) (es : List (Row V)) → lookup (same_page page) es ≡ Some v → insert_entry same_page es page v ≡ es
   insert-kept page v [] found = absurd (none-some v found)
   insert-kept page v (e ∷ es) found = kept_step (same_page page e.0) e es (insert_entry same_page es page v) page v found (insert-kept page v es)
+
+  inserted_step : (last : ℕ) (es new : List (Row V)) (page : PageId) (v : V) → IsWithin last es → page.index ≤ last → new ≡ insert_entry same_page es page v → IsWithin last new
+  inserted_step last es new page v is le put = subst (IsWithin last) (sym put) (within-insert last es page v le is)
+
+  -- whether or not memory was refused to it
+  pub within-put : {E T : Type 0} (result : Result T E) (last : ℕ) (es new : List (Row V)) (page : PageId) (v : V) → IsWithin last es → page.index ≤ last
+      → OnOk result (new ≡ insert_entry same_page es page v) → OnErr result (new ≡ es) → IsWithin last new
+  within-put (Ok x) last es new page v is le put refused = inserted_step last es new page v is le put
+  within-put (Err e) last es new page v is le put refused = subst (IsWithin last) (sym refused) is
 
 module _ {X : Type 0} (p q r : X → Bool) where
   both_step : (x : X) (b c : Bool) (ys zs : List X) → c ≡ (b && p x) → filter p ys ≡ zs → filter p (cond b (x ∷ ys) ys) ≡ cond c (x ∷ zs) zs
