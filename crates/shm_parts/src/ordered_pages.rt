@@ -5,7 +5,6 @@ ghost use Rattle.indexmap.specs.IndexMap.{insert_entry};
 ghost use Rattle.shm_place.specs.Page.{same_page};
 ghost use Rattle.shm_parts.specs.OrderedPages.{first_page, moved_last, without, without_pages_of};
 
-use crate::page_map::put_again;
 use crate::page_rows::{index, make_room, make_room_for, put_row, sweep};
 use crate::pages_in_order::PagesInOrder;
 use indexmap::IndexMap;
@@ -107,12 +106,12 @@ impl<V: Drop, A: Allocator + Copy> OrderedPages<V, A> {
         ensures order { self.new ≡ moved_last page.now self.old }
         ensures moved { (value : V) → lookup (same_page page.now) self.old ≡ Some value → self.new ≡ without page.now self.old ++ (page.now, value) ∷ [] }
     {
-        let Some(place) = self.places.get(page) else {
+        let Some(place) = self.places.get_mut(page) else {
             return;
         };
         let row = self.rows[*place].take();
         if self.rows.len() < self.rows.capacity() {
-            put_again(&mut self.places, *page, self.rows.len());
+            *place = self.rows.len();
             self.rows.push_reserved(row);
             return;
         }

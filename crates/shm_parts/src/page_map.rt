@@ -1,5 +1,5 @@
 //! Maps from pages, and maps of pages by places.
-ghost use Rattle.std.specs.Prelude.{◌≡◌, ◌+◌, ◌<◌, ◌≤◌, ◌==◌, ℕ, true, false, cond, None, Some, is_some, length, unwrap_or, IfNone, IfOk, IfSome, OnErr, OnOk};
+ghost use Rattle.std.specs.Prelude.{◌≡◌, ◌+◌, ◌<◌, ◌≤◌, ◌==◌, ℕ, true, false, cond, None, Some, is_some, unwrap_or, IfNone, IfOk, IfSome, OnErr, OnOk};
 ghost use Rattle.std.specs.BTreeMap as tree;
 ghost use Rattle.std.specs.List.Sorted.{IsStrictlySortedBy};
 ghost use Rattle.std.specs.Map.{keys_of, lookup};
@@ -28,22 +28,6 @@ pub(crate) fn put<V: Drop, A: Allocator + Copy>(
     ensures values { (other : Page) → lookup (same_page other) map.new.entries
         ≡ cond (same_page page other) (Some value) (lookup (same_page other) map.old.entries) }
     ensures room { spare map.old ≤ spare map.new + 1 }
-{
-    let Ok(_) = map.insert(page, value) else {
-        unreachable!()
-    };
-}
-
-/// Puts another value at a page that has one.
-pub(crate) fn put_again<V: Drop, A: Allocator + Copy>(
-    map: &mut IndexMap<PageId, V, BuildHasherDefault<FoldHasher>, A>,
-    page: PageId,
-    value: V,
-)
-    requires { is_some (lookup (same_page page) map.old.entries) ≡ true }
-    ensures values { (other : Page) → lookup (same_page other) map.new.entries
-        ≡ cond (same_page page other) (Some value) (lookup (same_page other) map.old.entries) }
-    ensures count { length map.new.entries ≡ length map.old.entries }
 {
     let Ok(_) = map.insert(page, value) else {
         unreachable!()
