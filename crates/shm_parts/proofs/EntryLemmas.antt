@@ -1,14 +1,13 @@
 -- What a change of one page's entry does to the entries as a function of the page.
-use Rattle.std.proofs.Common.{◌≡◌, ℕ, zero, suc, ◌+◌, ◌<◌, Bool, true, false, List, [], ◌∷◌, ◌++◌, take, slice_get, get_or, length, position, ◌==◌, Option, Some, None, is_some, Result, Ok, Err, IfOk, OnOk, OnErr, if◌then◌else◌, refl, sym, subst, ◌∙◌, ap, true≢false, arith}
+use Rattle.std.proofs.Common.{◌≡◌, ℕ, zero, suc, ◌+◌, ◌<◌, Bool, true, false, List, [], ◌∷◌, ◌++◌, take, slice_get, length, ◌==◌, Option, Some, None, is_some, Result, Ok, Err, IfOk, OnOk, OnErr, if◌then◌else◌, refl, sym, subst, ◌∙◌, ap, true≢false, arith}
 use Rattle.std.proofs.Math.Path.{fun_ext}
 use Rattle.std.proofs.lemmas.Bool.{and_parts}
 use Rattle.std.proofs.lemmas.Bool.Decides.{nat_tests}
 use Rattle.std.proofs.lemmas.List.{take_more}
-use Rattle.std.proofs.lemmas.List.Quantifiers.{position-Some}
 use Rattle.std.proofs.lemmas.Map.{lookup-none}
 use Rattle.std.proofs.lemmas.Map.Entries.{length-keys_of, lookup_from_place, none_past_head}
 use Rattle.std.proofs.lemmas.Map.Keys.{IsDistinct-tail}
-use Rattle.std.proofs.lemmas.Option.{get_or_from_slice_get, slice_get-get_or, same_Some, slice_get-map, slice_get_within}
+use Rattle.std.proofs.lemmas.Option.{get_or_from_slice_get, same_Some, slice_get-map, slice_get_within}
 use Rattle.std.specs.Cmp.{IsEquivalence}
 use Rattle.std.specs.List.{IsDistinct}
 use Rattle.std.specs.Map.{keys_of, lookup}
@@ -139,29 +138,6 @@ entry-next m es i k v d at is =
     ∙ ap (λ l. l ++ (k, v) ∷ []) is
     ∙ ap (λ x. take i es ++ x ∷ []) (sym (get_or_from_slice_get es i (k, v) (k, v) at))
     ∙ sym (take_more es i (k, v) within)
-
--- where a search among the stored pages ends, there the page stands
-pub stands-found : {A : Type 0} (entries : Entries A) (page : PageId) (place : ℕ) → position (same_page page) (keys_of entries.map.entries) ≡ Some place → StandsAt page place entries
-stands-found entries page place found =
-    let pages : List PageId = keys_of entries.map.entries in
-    let parts = position-Some (same_page page) pages place page found in
-    slice_get-get_or pages place page parts.0 ∙ ap Some (sym (page-same page (get_or pages place page) parts.1))
-
-last-place : {X : Type 0} (es : List (PageId × X)) (e : PageId × X) → slice_get (keys_of (es ++ e ∷ [])) (length es) ≡ Some e.0
-last-place [] e = refl
-last-place (x ∷ es) e = last-place es e
-
-nothing : {X : Type 0} (o : Option X) → is_some o ≡ false → o ≡ None
-nothing None h = refl
-nothing (Some x) h = absurd (true≢false h)
-
--- a page whose entry is stored anew stands last
-pub stands-new : {A : Type 0} (old new : Entries A) (page : PageId) (w : Entry A) → is_stored old page ≡ false
-    → new.map.entries ≡ insert_entry same_page old.map.entries page w → StandsAt page (length old.map.entries) new
-stands-new old new page w fresh put =
-    let es = old.map.entries in
-    ap (λ l. slice_get (keys_of l) (length es)) (put ∙ insert_entry-new same_page old.map page w (nothing (stored_at old page) fresh))
-    ∙ last-place es (page, w)
 
 -- where a page stands is one of so many places
 pub stands-within : {A : Type 0} (entries : Entries A) (page : PageId) (place : ℕ) → StandsAt page place entries → place < length entries.map.entries

@@ -40,6 +40,14 @@ pub unit_from : (o : Option (Unit {0})) → is_some o ≡ true → o ≡ Some tt
 unit_from None h = absurd (true≢false (sym h))
 unit_from (Some x) h = refl
 
+pub was_new : (there joins : Bool) → joins ≡ not there → joins ≡ true → there ≡ false
+was_new true joins is yes_it_joins = absurd (true≢false (sym yes_it_joins ∙ is))
+was_new false joins is yes_it_joins = refl
+
+pub was_there : (there joins : Bool) → joins ≡ not there → joins ≡ false → there ≡ true
+was_there true joins is none = refl
+was_there false joins is none = absurd (true≢false (sym is ∙ none))
+
 -- a copy that stays one stays where it is
 pub arranged-kept : (page : PageId) (change : Change) (old new : model.Frames) → not change.copy ≡ false → installs change ≡ false → new ≡ old
     → new ≡ record old { copies = arranged_by change page old.copies }

@@ -11,6 +11,8 @@ pub mod BookedLemmas
 pub mod EntryLemmas
 pub mod OrderedPagesLemmas
 pub mod PageRowLemmas
+pub mod PutRowLemmas
+pub mod StandsLemmas
 pub mod Held
 pub mod Reaches
 pub mod Turned

@@ -1,7 +1,7 @@
 -- How pages stand in their order after a change, and that no index among them has grown.
-use Rattle.std.proofs.Common.{◌≡◌, ℕ, ◌+◌, ◌≤◌, ◌<◌, Bool, true, false, cond, not, ◌&&◌, ◌||◌, ◌==◌, nat_lt, if◌then◌else◌, filter, List, [], ◌∷◌, ◌++◌, drop, Option, None, Some, refl, sym, ap, subst, ◌∙◌, arith}
+use Rattle.std.proofs.Common.{◌≡◌, ℕ, ◌+◌, ◌≤◌, ◌<◌, Bool, true, false, cond, not, ◌&&◌, ◌||◌, ◌==◌, nat_lt, if◌then◌else◌, filter, List, [], ◌∷◌, ◌++◌, drop, Option, None, Some, Result, Ok, Err, OnOk, OnErr, refl, sym, ap, subst, ◌∙◌, arith}
 use Rattle.std.proofs.lemmas.Bool.Decides.{nat_tests}
-use Rattle.std.proofs.lemmas.Option.{none-some}
+use Rattle.std.proofs.lemmas.Option.{none-some, same_Some}
 use Rattle.std.specs.Option.{option_map_or}
 use Rattle.std.specs.Map.{lookup, remove_entry}
 use Rattle.indexmap.specs.IndexMap.{insert_entry}
@@ -71,6 +71,25 @@ module _ {V : Type 0} where
   pub insert-new : (page : PageId) (v : V) (es : List (Row V)) → lookup (same_page page) es ≡ None → insert_entry same_page es page v ≡ es ++ (page, v) ∷ []
   insert-new page v [] none = refl
   insert-new page v (e ∷ es) none = insert_step (same_page page e.0) e es (insert_entry same_page es page v) page v none (insert-new page v es)
+
+  kept_step : (b : Bool) (e : Row V) (es rest : List (Row V)) (page : PageId) (v : V) → cond b (Some e.1) (lookup (same_page page) es) ≡ Some v
+      → (lookup (same_page page) es ≡ Some v → rest ≡ es) → (if b then (e.0, v) ∷ es else e ∷ rest) ≡ e ∷ es
+  kept_step true e es rest page v found same = ap (λ w. (e.0, w) ∷ es) (sym (same_Some e.1 v found))
+  kept_step false e es rest page v found same = ap (λ l. e ∷ l) (same found)
+
+  -- a page that is given its own value stays
+  pub insert-kept : (page : PageId) (v : V) (es : List (Row V)) → lookup (same_page page) es ≡ Some v → insert_entry same_page es page v ≡ es
+  insert-kept page v [] found = absurd (none-some v found)
+  insert-kept page v (e ∷ es) found = kept_step (same_page page e.0) e es (insert_entry same_page es page v) page v found (insert-kept page v es)
+
+  inserted_step : (last : ℕ) (es new : List (Row V)) (page : PageId) (v : V) → IsWithin last es → page.index ≤ last → new ≡ insert_entry same_page es page v → IsWithin last new
+  inserted_step last es new page v is le put = subst (IsWithin last) (sym put) (within-insert last es page v le is)
+
+  -- whether or not memory was refused to it
+  pub within-put : {E T : Type 0} (result : Result T E) (last : ℕ) (es new : List (Row V)) (page : PageId) (v : V) → IsWithin last es → page.index ≤ last
+      → OnOk result (new ≡ insert_entry same_page es page v) → OnErr result (new ≡ es) → IsWithin last new
+  within-put (Ok x) last es new page v is le put refused = inserted_step last es new page v is le put
+  within-put (Err e) last es new page v is le put refused = subst (IsWithin last) (sym refused) is
 
 module _ {X : Type 0} (p q r : X → Bool) where
   both_step : (x : X) (b c : Bool) (ys zs : List X) → c ≡ (b && p x) → filter p ys ≡ zs → filter p (cond b (x ∷ ys) ys) ≡ cond c (x ∷ zs) zs

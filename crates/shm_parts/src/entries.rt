@@ -12,7 +12,7 @@ use crate::change::Change;
 use crate::message::EntryNote;
 use crate::page_map::{end_of, put};
 use crate::slot::{forget_in, open, store_in, turn_in};
-use indexmap::IndexMap;
+use indexmap::{IndexMap, map};
 use shm_page::{Entry, Out};
 use shm_place::{PageId, SegId, SiteId, Sites};
 use std::alloc::{AllocError, Allocator, Global};
@@ -74,14 +74,16 @@ impl<A: Allocator + Copy> Entries<A> {
         ensures others { (other : Page) → is_stored self.old other ≡ true → is_stored self.new other ≡ true }
         ensures place { IfOk result (λ place. StandsAt page place self.new) }
     {
-        if let Some(place) = self.map.get_index_of(&page) {
-            return Ok(place);
+        let key = page;
+        match self.map.entry(key)? {
+            map::Entry::Occupied(stored) => Ok(stored.index()),
+            map::Entry::Vacant(vacant) => {
+                let place = vacant.index();
+                let entry = open(alloc, sites, me, page)?;
+                vacant.insert(entry);
+                Ok(place)
+            }
         }
-        let place = self.map.len();
-        self.map.reserve(1)?;
-        let entry = open(alloc, sites, me, page)?;
-        put(&mut self.map, page, entry);
-        Ok(place)
     }
 
     /// Stores a byte where the page's entry is stored and may be written, and tells whether it did.

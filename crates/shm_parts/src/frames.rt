@@ -39,11 +39,9 @@ impl<A: Allocator + Copy> Frames<A> {
     {
         self.let_go();
         self.pages.reserve()?;
-        if self.pages.contains(page) {
-            return Ok(());
+        if self.pages.put(*page, ())? {
+            self.awaited = Some(*page);
         }
-        self.pages.put(*page, ())?;
-        self.awaited = Some(*page);
         Ok(())
     }
 

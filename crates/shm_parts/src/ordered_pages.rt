@@ -1,12 +1,11 @@
 //! Pages in the order in which they joined, each with a value.
-ghost use Rattle.std.specs.Prelude.{◌≡◌, ◌++◌, [], ◌∷◌, Some, drop, is_some, length, option_copied, IfOk, OnOk, OnErr};
+ghost use Rattle.std.specs.Prelude.{◌≡◌, ◌++◌, [], ◌∷◌, Some, drop, is_some, length, not, option_copied, IfOk, OnOk, OnErr};
 ghost use Rattle.std.specs.Map.{lookup, remove_entry};
 ghost use Rattle.indexmap.specs.IndexMap.{insert_entry};
 ghost use Rattle.shm_place.specs.Page.{same_page};
 ghost use Rattle.shm_parts.specs.OrderedPages.{first_page, moved_last, without, without_pages_of};
 
-use crate::page_map::put_again;
-use crate::page_rows::{index, join, make_room, sweep};
+use crate::page_rows::{index, make_room, make_room_for, put_row, sweep};
 use crate::pages_in_order::PagesInOrder;
 use indexmap::IndexMap;
 use shm_place::{PageId, SegId};
@@ -74,27 +73,17 @@ impl<V: Drop, A: Allocator + Copy> OrderedPages<V, A> {
         }
     }
 
-    /// Whether the page has joined.
-    pub fn contains(&self, page: &PageId) -> bool
-        ensures { result ≡ is_some (lookup (same_page page.now) self.now) }
-    {
-        self.get(page).is_some()
-    }
-
-    /// Gives the page this value: in its place if it has joined, or else at the end. Where memory is refused nothing changes.
-    pub fn put(&mut self, page: PageId, value: V) -> Result<(), AllocError>
+    /// Gives the page this value: in its place if it has joined, or else at the end; and tells whether it joins. Where memory is refused
+    /// nothing changes.
+    pub fn put(&mut self, page: PageId, value: V) -> Result<bool, AllocError>
         ensures put { OnOk result (self.new ≡ insert_entry same_page self.old page value) }
+        ensures joins { IfOk result (λ joins. joins ≡ not (is_some (lookup (same_page page) self.old))) }
         ensures refused { OnErr result (self.new ≡ self.old) }
     {
         let row = (page, value);
         self.last = self.last.max(page.index);
-        let Some(place) = self.places.get(&page) else {
-            make_room(&mut self.rows, &mut self.places)?;
-            join(&mut self.rows, &mut self.places, row);
-            return Ok(());
-        };
-        self.rows[*place] = Some(row);
-        Ok(())
+        make_room_for(&mut self.rows, &mut self.places, &page)?;
+        put_row(&mut self.rows, &mut self.places, row)
     }
 
     /// Takes the page out. The others keep their order.
@@ -117,12 +106,12 @@ impl<V: Drop, A: Allocator + Copy> OrderedPages<V, A> {
         ensures order { self.new ≡ moved_last page.now self.old }
         ensures moved { (value : V) → lookup (same_page page.now) self.old ≡ Some value → self.new ≡ without page.now self.old ++ (page.now, value) ∷ [] }
     {
-        let Some(place) = self.places.get(page) else {
+        let Some(place) = self.places.get_mut(page) else {
             return;
         };
         let row = self.rows[*place].take();
         if self.rows.len() < self.rows.capacity() {
-            put_again(&mut self.places, *page, self.rows.len());
+            *place = self.rows.len();
             self.rows.push_reserved(row);
             return;
         }

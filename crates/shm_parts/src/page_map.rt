@@ -1,5 +1,5 @@
 //! Maps from pages, and maps of pages by places.
-ghost use Rattle.std.specs.Prelude.{◌≡◌, ◌+◌, ◌<◌, ◌≤◌, ◌==◌, ℕ, true, false, cond, None, Some, is_some, length, IfNone, IfSome, OnErr, OnOk};
+ghost use Rattle.std.specs.Prelude.{◌≡◌, ◌+◌, ◌<◌, ◌≤◌, ◌==◌, ℕ, true, false, cond, None, Some, is_some, unwrap_or, IfNone, IfOk, IfSome, OnErr, OnOk};
 ghost use Rattle.std.specs.BTreeMap as tree;
 ghost use Rattle.std.specs.List.Sorted.{IsStrictlySortedBy};
 ghost use Rattle.std.specs.Map.{keys_of, lookup};
@@ -34,20 +34,19 @@ pub(crate) fn put<V: Drop, A: Allocator + Copy>(
     };
 }
 
-/// Puts another value at a page that has one.
-pub(crate) fn put_again<V: Drop, A: Allocator + Copy>(
-    map: &mut IndexMap<PageId, V, BuildHasherDefault<FoldHasher>, A>,
+/// The page's place, or this one from now on where it has none. Where memory is refused nothing changes.
+pub(crate) fn place_or<A: Allocator + Copy>(
+    places: &mut IndexMap<PageId, usize, BuildHasherDefault<FoldHasher>, A>,
     page: PageId,
-    value: V,
-)
-    requires { is_some (lookup (same_page page) map.old.entries) ≡ true }
-    ensures values { (other : Page) → lookup (same_page other) map.new.entries
-        ≡ cond (same_page page other) (Some value) (lookup (same_page other) map.old.entries) }
-    ensures count { length map.new.entries ≡ length map.old.entries }
+    place: usize,
+) -> Result<usize, AllocError>
+    ensures place { IfOk result (λ found. found ≡ unwrap_or (lookup (same_page page) places.old.entries) place) }
+    ensures entries { IfOk result (λ found. places.new.entries ≡ insert_entry same_page places.old.entries page found) }
+    ensures values { IfOk result (λ found. (other : Page) → lookup (same_page other) places.new.entries
+        ≡ cond (same_page page other) (Some found) (lookup (same_page other) places.old.entries)) }
+    ensures refused { OnErr result (places.new.entries ≡ places.old.entries) }
 {
-    let Ok(_) = map.insert(page, value) else {
-        unreachable!()
-    };
+    Ok(*places.entry(page)?.or_insert(place))
 }
 
 /// The index behind the last of the segment's pages that the map has, or 0; `PAGES` where the map is so large that a look at each of its

@@ -1,31 +1,55 @@
 //! Pages at places of a vector, some of which are empty, and a map that has each page's place.
-ghost use Rattle.std.specs.Prelude.{◌≡◌, ◌+◌, ◌<◌, ◌≤◌, ◌++◌, [], ◌∷◌, true, None, length, vec_capacity, vec_len, OnOk};
+ghost use Rattle.std.specs.Prelude.{◌≡◌, ◌+◌, ◌<◌, ◌≤◌, not, true, None, is_some, vec_capacity, vec_len, IfOk, OnErr, OnOk};
 ghost use Rattle.std.specs.Map.{lookup};
-ghost use Rattle.indexmap.specs.IndexMap.{index_map_len, spare};
+ghost use Rattle.indexmap.specs.IndexMap.{index_map_len, insert_entry, spare};
 ghost use Rattle.shm_place.specs.Page.{same_page};
 ghost use Rattle.shm_parts.specs.OrderedPages.{IsIndexed, is_apart, standing};
 
-use crate::page_map::put;
+use crate::page_map::{place_or, put};
 use indexmap::IndexMap;
 use shm_place::PageId;
 use std::alloc::{AllocError, Allocator};
 use std::hash::{BuildHasherDefault, FoldHasher};
 
-/// A page joins behind the others. There is room for it.
-pub(crate) fn join<V: Drop, A: Allocator + Copy>(
+/// Gives the page its value: in its place if it has joined, or else behind the others, where there is room for it; and tells whether it
+/// joins. Where memory is refused nothing changes.
+pub(crate) fn put_row<V: Drop, A: Allocator + Copy>(
     rows: &mut Vec<Option<(PageId, V)>, A>,
     places: &mut IndexMap<PageId, usize, BuildHasherDefault<FoldHasher>, A>,
     row: (PageId, V),
-)
-    requires room { vec_len rows.old < vec_capacity rows.old }
-    requires room_in_map { 0 < spare places.old }
-    requires absent { lookup (same_page row.0) (standing rows.old.items) ≡ None }
+) -> Result<bool, AllocError>
+    requires room { lookup (same_page row.0) (standing rows.old.items) ≡ None → vec_len rows.old < vec_capacity rows.old }
     requires indexed { IsIndexed places.old.entries rows.old.items }
-    ensures joined { standing rows.new.items ≡ standing rows.old.items ++ row ∷ [] }
+    ensures put { OnOk result (standing rows.new.items ≡ insert_entry same_page (standing rows.old.items) row.0 row.1) }
+    ensures joins { IfOk result (λ joins. joins ≡ not (is_some (lookup (same_page row.0) (standing rows.old.items)))) }
+    ensures refused { OnErr result (standing rows.new.items ≡ standing rows.old.items) }
     ensures indexed { IsIndexed places.new.entries rows.new.items }
 {
-    put(places, row.0, rows.len());
+    let end = rows.len();
+    let place = place_or(places, row.0, end)?;
+    if place < end {
+        rows[place] = Some(row);
+        return Ok(false);
+    }
     rows.push_reserved(Some(row));
+    Ok(true)
+}
+
+/// Makes room for the page, unless it has joined.
+pub(crate) fn make_room_for<V: Drop, A: Allocator + Copy>(
+    rows: &mut Vec<Option<(PageId, V)>, A>,
+    places: &mut IndexMap<PageId, usize, BuildHasherDefault<FoldHasher>, A>,
+    page: &PageId,
+) -> Result<(), AllocError>
+    requires { IsIndexed places.old.entries rows.old.items }
+    ensures room { OnOk result (lookup (same_page page.now) (standing rows.new.items) ≡ None → vec_len rows.new < vec_capacity rows.new) }
+    ensures same { standing rows.new.items ≡ standing rows.old.items }
+    ensures indexed { IsIndexed places.new.entries rows.new.items }
+{
+    if rows.len() < rows.capacity() || places.contains_key(page) {
+        return Ok(());
+    }
+    make_room(rows, places)
 }
 
 /// Makes room for a page more: where more places are empty than not, by giving those up.

@@ -53,7 +53,8 @@ impl<A: Allocator + Copy> Pendings<A> {
         ensures put { OnOk result (pendings_of self.new ≡ put_pending (record { page = page; request = request; kind = kind }) (pendings_of self.old)) }
         ensures refused { OnErr result (pendings_of self.new ≡ pendings_of self.old) }
     {
-        self.pages.put(page, (request, kind))
+        self.pages.put(page, (request, kind))?;
+        Ok(())
     }
 
     /// Drops the page's request where a right has come that serves it: the right to read serves a request to read, the right to

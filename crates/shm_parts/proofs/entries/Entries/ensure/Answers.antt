@@ -1,27 +1,26 @@
-use Rattle.std.proofs.Common.{ap, sym, subst, ◌∙◌, Some, if◌then◌else◌}
+use Rattle.std.proofs.Common.{rules, ◌≡◌, ap, sym, ◌∙◌, true, false, is_some}
 use Rattle.std.specs.Map.{lookup}
-use Rattle.indexmap.specs.IndexMap.{insert_entry}
+use Rattle.indexmap.specs.Entry.{entry_index, entry_map_ref, map_with_value}
 use Rattle.shm_place.specs.Page.{same_page}
-use Rattle.shm_parts.specs.Entries.{StandsAt}
 use Rattle.shm_parts.specs.declared.entries.Entries.{Entries}
-use Rattle.shm_parts.proofs.EntryLemmas.{entries-ensured, stands-found, stands-new}
+use Rattle.shm_parts.proofs.StandsLemmas.{ensured-put, stands-kept, stands-put}
 use Rattle.shm_parts.proofs.entries.Entries.ensure.Goals as goal
 
-pub returns-in-Some-clause-place : goal.returns-in-Some-clause-place
-returns-in-Some-clause-place g c = stands-found c.args.self.now c.args.page c.in-Some.place (sym c.in-Some.ensures.index)
+pub returns-in-Occupied-clause-place : goal.returns-in-Occupied-clause-place
+returns-in-Occupied-clause-place g c =
+    let old = c.args.self.now.map.entries in
+    let there : is_some (lookup (same_page c.args.page) old) ≡ true = search rules in
+    stands-kept _ (entry_map_ref c.in_ok-stored.field-0).now.entries old c.args.page c.index.result (c.index.ensures ∙ ap entry_index (sym c.in-Occupied.is) ∙ c.in_ok-stored.ensures.index) there (search rules) c.in_ok-stored.ensures.unchanged
 
-pub returns-clause-same : goal.returns-clause-same
-returns-clause-same g c =
-    let w = c.in_ok-entry.entry in
-    let new : Entries g.row.A.Denot = record { map = c.put.new.map } in
-    λ rest is. entries-ensured c.args.self.now new c.args.page w
-    (λ q. c.put.ensures.values q ∙ ap (λ es. if same_page c.args.page q then Some w else lookup (same_page q) es) c.in_ok-reserve.ensures.entries)
-    (sym c.in_default.ensures.found) rest (c.in_ok-entry.ensures ∙ sym is)
+pub returns-in_ok-entry-in-Vacant-clause-same : goal.returns-in_ok-entry-in-Vacant-clause-same
+returns-in_ok-entry-in-Vacant-clause-same g c =
+    let w = c.in_ok-entry-in-Vacant.entry in
+    let new : Entries g.row.A.Denot = record { map = map_with_value c.in_ok-stored.field-0 w } in
+    let fresh : is_some (lookup (same_page c.args.page) c.args.self.now.map.entries) ≡ false = search rules in
+    λ rest is. ensured-put c.args.self.now new _ c.args.page w (search rules) ((c.in_ok-stored.ensures.update.0 w).0) fresh rest (c.in_ok-entry-in-Vacant.ensures ∙ sym is)
 
-pub returns-clause-place : goal.returns-clause-place
-returns-clause-place g c =
-    let old = c.args.self.now in
-    let w = c.in_ok-entry.entry in
-    let new : Entries g.row.A.Denot = record { map = c.put.new.map } in
-    subst (λ n. StandsAt c.args.page n new) (sym c.len-place.ensures.len)
-    (stands-new old new c.args.page w (sym c.in_default.ensures.found) (c.put.ensures.entries ∙ ap (λ es. insert_entry same_page es c.args.page w) c.in_ok-reserve.ensures.entries))
+pub returns-in_ok-entry-in-Vacant-clause-place : goal.returns-in_ok-entry-in-Vacant-clause-place
+returns-in_ok-entry-in-Vacant-clause-place g c =
+    let w = c.in_ok-entry-in-Vacant.entry in
+    stands-put _ (map_with_value c.in_ok-stored.field-0 w).entries c.args.self.now.map.entries c.args.page c.index-place.result w
+    (c.index-place.ensures ∙ ap entry_index (sym c.in-Vacant.is) ∙ c.in_ok-stored.ensures.index) (search rules) (c.in_ok-stored.ensures.update.1 w)

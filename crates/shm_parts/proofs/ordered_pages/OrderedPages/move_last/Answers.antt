@@ -11,7 +11,7 @@ use Rattle.shm_parts.proofs.ordered_pages.OrderedPages.move_last.Goals as goal
 pub returns-in_default-clause-order : goal.returns-in_default-clause-order
 returns-in_default-clause-order g c =
     let page = c.args.page.now in
-    moved-none page c.args.self.now
+    c.self.view_is ∙ moved-none page c.args.self.now
     (ap (lookup (same_page page)) (sym c.self.view_is) ∙ absent-lookup page c.self.inside.rows.items (sym (c.self.invariant.0.found page) ∙ sym c.in_default.ensures.value))
 
 pub returns-in_default-clause-moved : goal.returns-in_default-clause-moved
@@ -26,8 +26,8 @@ index_mut-requires g c =
     let counted : vec_len c.self.inside.rows ≡ length c.self.inside.rows.items = search rules in
     omega (arith, counted, place-within page c.in-Some.place.now c.self.inside.rows.items (sym (c.self.invariant.0.found page) ∙ sym c.in-Some.ensures.value))
 
-pub invariant_of-self : goal.invariant_of-self
-invariant_of-self g c =
+pub invariant_of-self-then-len-capacity : goal.invariant_of-self-then-len-capacity
+invariant_of-self-then-len-capacity g c =
     let page = c.args.page.now in
     let items = c.self.inside.rows.items in
     let k = c.in-Some.place.now in
@@ -35,11 +35,14 @@ invariant_of-self g c =
     let at : lookup (same_page page) c.self.inside.places.entries ≡ Some k = sym c.in-Some.ensures.value in
     let here : place_in page items ≡ Some k = sym (c.self.invariant.0.found page) ∙ at in
     let read : row ≡ slice_index_or items k row = subst (λ r. r ≡ slice_index_or items k r) (sym c.take-row.ensures.value) c.index_mut.ensures.value in
+    let n = c.len-then-len-capacity.result in
+    let written = c.get_mut.follows.holds n in
+    let values = (written.3 (ap is_some at)).0 in
     let counted : vec_len c.self.inside.rows ≡ length items = search rules in
     let now : c.push_reserved.new.self.items ≡ slice_set items k None ++ row ∷ [] = c.push_reserved.ensures.items ∙ ap (λ r. slice_set items k r ++ row ∷ []) c.take-row.ensures.after in (
-      subst (λ l. IsIndexed c.put_again.new.map.entries l) (sym now)
-          (indexed-moved page k c.len-then-len-capacity.result row c.self.inside.places.entries c.put_again.new.map.entries items c.self.invariant.0 at read (c.len-then-len-capacity.ensures ∙ counted)
-          c.put_again.ensures.values c.put_again.ensures.count),
+      subst (λ l. IsIndexed (c.get_mut.follows.lender n).entries l) (sym now)
+          (indexed-moved page k n row c.self.inside.places.entries (c.get_mut.follows.lender n).entries items c.self.invariant.0 at read (c.len-then-len-capacity.ensures ∙ counted)
+          values written.2),
       subst (IsWithin c.self.inside.last) (sym (ap standing now ∙ moved-standing page k row (slice_set items k None) items c.self.invariant.0.apart here read refl))
           (within-moved c.self.inside.last page (standing items) c.self.invariant.1),
     )
@@ -98,7 +101,8 @@ index-requires-clause-room g c =
     let fewer : vec_len c.retain.new.self ≡ length c.retain.new.self.items = search rules in
     let few : length c.retain.new.self.items ≡ length (filter is_some (slice_set items k None)) = ap (λ l. length l) left in
     let count = moved-count page k items here in
-    omega (arith, fewer, few, count, c.push_reserved-2.ensures.len, c.self.invariant.0.count)
+    let written = c.get_mut.follows.holds k in
+    omega (arith, fewer, few, count, c.push_reserved-2.ensures.len, c.self.invariant.0.count, written.2)
 
 pub returns-clause-order : goal.returns-clause-order
 returns-clause-order g c =
