@@ -4,6 +4,7 @@ pub mod FrameSteps
 pub mod BookSteps
 pub mod ListLemmas
 pub mod PlaceLemmas
+pub mod RisingLemmas
 pub mod NextLemmas
 pub mod GoneLemmas
 pub mod EndLemmas

@@ -1,5 +1,5 @@
 -- Pages at places that rise as the pages come: each page at one place, and some of the places marked.
-use Rattle.std.specs.Prelude.{◌≡◌, ℕ, ◌<◌, Bool, true, false, List, filter, Option, Some, None, is_some, nat_lt}
+use Rattle.std.specs.Prelude.{◌≡◌, ℕ, suc, ◌<◌, Bool, true, false, cond, List, [], ◌∷◌, filter, Option, Some, None, is_some, nat_lt}
 use Rattle.std.specs.BTreeMap.{is_at}
 use Rattle.std.specs.List.{AllByRecursion}
 use Rattle.std.specs.List.Sorted.{IsStrictlySortedBy}
@@ -19,6 +19,11 @@ place_of places page = lookup (same_page page) places
 abbrev pub is_behind : Option ℕ → ℕ → Bool
 is_behind None place = true
 is_behind (Some last) place = nat_lt last place
+
+-- how many at the front pass a test
+abbrev pub leading : {X : Type 0} → (X → Bool) → List X → ℕ
+leading test [] = 0
+leading test (x ∷ xs) = cond (test x) (suc (leading test xs)) 0
 
 -- the pages behind a place, or all of them
 abbrev pub pages_after : Option ℕ → List (ℕ × PageId) → List PageId

@@ -7,11 +7,11 @@ ghost use Rattle.shm_place.specs.Limits.{pages};
 ghost use Rattle.shm_place.specs.Page.{same_page};
 ghost use Rattle.shm_model.specs.Transfer.{without_page};
 
-use crate::page_map::{first_after, put, put_at};
+use crate::page_map::put;
+use crate::rising_places::RisingPlaces;
 use indexmap::IndexMap;
 use shm_place::PageId;
 use std::alloc::{AllocError, Allocator, Global};
-use std::collections::BTreeMap;
 use std::hash::{BuildHasherDefault, FoldHasher};
 
 /// The pages that have books, in the order of their first transactions, and a mark at each page whose book may have a running
@@ -20,10 +20,10 @@ use std::hash::{BuildHasherDefault, FoldHasher};
 #[derive(Drop)]
 pub struct Bookings<A: Allocator + Copy = Global> {
     pub(crate) places: IndexMap<PageId, u64, BuildHasherDefault<FoldHasher>, A>,
-    pub(crate) pages: BTreeMap<u64, PageId, A>,
-    pub(crate) marked: BTreeMap<u64, PageId, A>,
+    pub(crate) pages: RisingPlaces<A>,
+    pub(crate) marked: RisingPlaces<A>,
     pub(crate) next: u64,
-    ghost placed: { IsPlaced places.entries pages.entries marked.entries next } by { Prim.hlevel props },
+    ghost placed: { IsPlaced places.entries pages marked next } by { Prim.hlevel props },
 }
 
 impl<A: Allocator + Copy> Bookings<A> {
@@ -36,8 +36,8 @@ impl<A: Allocator + Copy> Bookings<A> {
     {
         Bookings {
             places: IndexMap::new(alloc),
-            pages: BTreeMap::new(alloc),
-            marked: BTreeMap::new(alloc),
+            pages: RisingPlaces::new(alloc),
+            marked: RisingPlaces::new(alloc),
             next: 0,
         }
     }
@@ -57,9 +57,9 @@ impl<A: Allocator + Copy> Bookings<A> {
             return Err(AllocError);
         };
         self.places.reserve(1)?;
-        put_at(&mut self.pages, place, *page)?;
-        if let Err(error) = put_at(&mut self.marked, place, *page) {
-            let _ = self.pages.remove(&place);
+        self.pages.put_at(place, *page)?;
+        if let Err(error) = self.marked.put_at(place, *page) {
+            self.pages.remove(place);
             return Err(error);
         }
         put(&mut self.places, *page, place);
@@ -67,17 +67,18 @@ impl<A: Allocator + Copy> Bookings<A> {
         Ok(())
     }
 
-    /// Marks the page. It takes no memory where the page is marked.
+    /// Marks the page.
     pub(crate) fn mark(&mut self, page: &PageId) -> Result<(), AllocError>
         ensures listed { listed_of self.new ≡ listed_of self.old }
         ensures there { is_listed self.new ≡ is_listed self.old }
         ensures marked { OnOk result (is_listed self.old page.now ≡ true → is_marked self.new page.now ≡ true) }
+        ensures unmarked { OnErr result (is_marked self.old page.now ≡ false) }
         ensures others { (other : Page) → is_marked self.old other ≡ true → is_marked self.new other ≡ true }
     {
         let Some(place) = self.places.get(page) else {
             return Ok(());
         };
-        put_at(&mut self.marked, *place, *page)
+        self.marked.put_at(*place, *page)
     }
 
     /// Takes the page's mark away, unless its book's transaction runs.
@@ -92,7 +93,7 @@ impl<A: Allocator + Copy> Bookings<A> {
         let Some(place) = self.places.get(page) else {
             return;
         };
-        let _ = self.marked.remove(place);
+        self.marked.remove(*place);
     }
 
     /// Takes the page out. The others keep their order.
@@ -104,8 +105,8 @@ impl<A: Allocator + Copy> Bookings<A> {
         let Some(place) = self.places.swap_remove(page) else {
             return;
         };
-        let _ = self.pages.remove(&place);
-        let _ = self.marked.remove(&place);
+        self.pages.remove(place);
+        self.marked.remove(place);
     }
 
     /// The next page that is marked, and its place. `last`: the place that it is to come behind, if any.
@@ -114,7 +115,7 @@ impl<A: Allocator + Copy> Bookings<A> {
         ensures rest { IfNone result (NoneMarked self.now (listed_after last self.now)) }
         ensures there { IfSome result (λ r. is_listed self.now r.1 ≡ true) }
     {
-        first_after(&self.marked, last)
+        self.marked.first_after(last)
     }
 
     /// Equal pages in equal order, with equal marks.
@@ -124,8 +125,8 @@ impl<A: Allocator + Copy> Bookings<A> {
         ensures marked { IfOk result (λ copy. (page : Page) → is_marked self.now page ≡ true → is_marked copy page ≡ true) }
     {
         let places = self.places.clone()?;
-        let pages = self.pages.clone()?;
-        let marked = self.marked.clone()?;
+        let pages = self.pages.copy()?;
+        let marked = self.marked.copy()?;
         Ok(Bookings {
             places,
             pages,

@@ -27,6 +27,7 @@ mod purged;
 mod purging;
 mod reached;
 mod reaching;
+mod rising_places;
 mod showing;
 mod slot;
 mod turning;

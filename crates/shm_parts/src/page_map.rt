@@ -1,21 +1,15 @@
-//! Maps from pages, and maps of pages by places.
-ghost use Rattle.std.specs.Prelude.{◌≡◌, ◌+◌, ◌<◌, ◌≤◌, ◌==◌, ℕ, true, false, cond, None, Some, is_some, unwrap_or, IfNone, IfOk, IfSome, OnErr, OnOk};
-ghost use Rattle.std.specs.BTreeMap as tree;
-ghost use Rattle.std.specs.List.Sorted.{IsStrictlySortedBy};
-ghost use Rattle.std.specs.Map.{keys_of, lookup};
-ghost use Rattle.std.specs.Ordering.{nat_cmp};
+//! Maps from pages.
+ghost use Rattle.std.specs.Prelude.{◌≡◌, ◌+◌, ◌<◌, ◌≤◌, true, false, cond, None, Some, unwrap_or, IfOk, OnErr};
+ghost use Rattle.std.specs.Map.{lookup};
 ghost use Rattle.indexmap.specs.IndexMap.{insert_entry, spare};
 ghost use Rattle.shm_place.specs.declared.page.PageId.{PageId as Page};
 ghost use Rattle.shm_place.specs.Page.{same_page};
 ghost use Rattle.shm_parts.specs.Ends.{is_past};
-ghost use Rattle.shm_parts.specs.Places.{is_behind, page_at};
 
 use indexmap::IndexMap;
 use shm_place::{PAGES, PageId, SegId};
 use std::alloc::{AllocError, Allocator};
-use std::collections::BTreeMap;
 use std::hash::{BuildHasherDefault, FoldHasher};
-use std::ops::Bound;
 
 /// Puts a value at a page, for which there is room.
 pub(crate) fn put<V: Drop, A: Allocator + Copy>(
@@ -80,44 +74,5 @@ fn end_with(end: u32, id: SegId, page: PageId) -> u32
         page.index + 1
     } else {
         end
-    }
-}
-
-/// Puts a page at a place.
-pub(crate) fn put_at<A: Allocator + Copy>(
-    pages: &mut BTreeMap<u64, PageId, A>,
-    place: u64,
-    page: PageId,
-) -> Result<(), AllocError>
-    ensures entries { OnOk result (pages.new.entries ≡ tree.insert_entry nat_cmp pages.old.entries place page) }
-    ensures pages { OnOk result ((other : ℕ) → page_at pages.new.entries other
-        ≡ cond (tree.is_at (nat_cmp place) other) (Some page) (page_at pages.old.entries other)) }
-    ensures rising { IsStrictlySortedBy nat_cmp (keys_of pages.new.entries) }
-    ensures refused { OnErr result (pages.new.entries ≡ pages.old.entries) }
-{
-    match pages.insert(place, page) {
-        Ok(_) => Ok(()),
-        Err(_) => Err(AllocError),
-    }
-}
-
-/// The first page behind the place `last`, if that is given, and the page's place.
-pub(crate) fn first_after<A: Allocator>(
-    pages: &BTreeMap<u64, PageId, A>,
-    last: Option<u64>,
-) -> Option<(u64, PageId)>
-    ensures found { IfSome result (λ r. page_at pages.now.entries r.0 ≡ Some r.1) }
-    ensures behind { IfSome result (λ r. is_behind last r.0 ≡ true) }
-    ensures least { IfSome result (λ r. (place : ℕ) → is_behind last place ≡ true → is_some (page_at pages.now.entries place) ≡ true → r.0 ≤ place) }
-    ensures none { IfNone result ((place : ℕ) → is_behind last place ≡ true → page_at pages.now.entries place ≡ None) }
-{
-    let start = match last {
-        None => Bound::Unbounded,
-        Some(place) => Bound::Excluded(place),
-    };
-    let mut behind = pages.range((start, Bound::Unbounded));
-    match behind.next() {
-        None => None,
-        Some((place, page)) => Some((*place, *page)),
     }
 }
