@@ -7,6 +7,8 @@ use Rattle.shm_page.proofs.own_write.OwnWritePage.blank.Goals as goal
 
 pub invariant_of-result : goal.invariant_of-result
 unfolding blank
-invariant_of-result g c =
-    ( ap (λ own. length (owned_bytes None own)) c.in_ok-own.ensures.items ∙ length-replicate {A = ℕ} page_bytes 0,
-      c.in_ok-own.ensures.capacity, tt )
+invariant_of-result g c = (
+  ap (λ own. length (owned_bytes None own)) c.in_ok-own.ensures.items ∙ length-replicate {A = ℕ} page_bytes 0,
+  c.in_ok-own.ensures.capacity,
+  tt,
+)
