@@ -74,6 +74,7 @@ impl<V: Drop, A: Allocator + Copy> ByNumber<V, A> {
     }
 
     /// Takes the value out, and tells at which place it was, which stays.
+    #[inline(always)]
     pub(crate) fn take(&mut self, number: u64) -> Option<(usize, V)>
         ensures some { IfSome result (λ r. value_of number self.old.places ≡ Some r.1) }
         ensures none { IfNone result (value_of number self.old.places ≡ None) }
@@ -105,6 +106,7 @@ impl<V: Drop, A: Allocator + Copy> ByNumber<V, A> {
     }
 
     /// A value joins under the next number. There is room for it.
+    #[inline(always)]
     pub(crate) fn push(&mut self, value: V)
         requires room { 0 < self.old.spare }
         requires numbers { self.old.next < 18446744073709551615 }
@@ -117,6 +119,7 @@ impl<V: Drop, A: Allocator + Copy> ByNumber<V, A> {
     }
 
     /// A value joins under this number. There is room for it.
+    #[inline(always)]
     pub(crate) fn push_at(&mut self, number: u64, value: V)
         requires room { 0 < self.old.spare }
         requires free { self.old.next ≤ number }

@@ -45,6 +45,7 @@ impl<A: Allocator + Copy> Network<A> {
     }
 
     /// Takes the envelope out of its place, which stays, and tells where that is. None: it isn't on its way, and nothing changes.
+    #[inline(always)]
     pub fn take_out(&mut self, number: u64) -> Option<(usize, Envelope<A>)>
         ensures envelope { IfSome result (λ taken. on_way self.old number ≡ Some (envelope_of taken.1)) }
         ensures none { IfNone result (on_way self.old number ≡ None) }
@@ -149,6 +150,7 @@ impl<A: Allocator + Copy> Outbox<Envelope<A>> for Network<A> {
         self.envelopes.reserve(additional)
     }
 
+    #[inline(always)]
     fn push(&mut self, envelope: Envelope<A>) {
         self.envelopes.push(envelope);
     }
