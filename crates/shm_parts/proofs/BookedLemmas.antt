@@ -15,7 +15,7 @@ use Rattle.shm_parts.specs.Booked.{IsBooked, book_or, runs_at}
 use Rattle.shm_parts.specs.Bookings.{is_listed, is_marked, listed_of}
 use Rattle.shm_parts.specs.Books.{viewed}
 use Rattle.shm_parts.specs.Ends.{is_past}
-use Rattle.shm_parts.specs.Places.{place_of}
+use Rattle.shm_parts.specs.Places.{in_order, place_of}
 use Rattle.shm_parts.specs.declared.bookings.Bookings.{Bookings}
 use Rattle.shm_parts.proofs.BookSteps.{as_books, forgotten_books, forgotten_keys, list_any-keys, page-same, same_books, same_keys}
 use Rattle.shm_parts.proofs.GoneLemmas.{gone_below, gone-more, gone-none, gone-past}
@@ -80,7 +80,7 @@ module _ {A B : Type 0} where
 
   -- a page is among those booked if it has a book
   pub any_booked : (books : List (PageId × Book A)) (was : Bookings B) (page : PageId) → IsBooked books was → list_any (same_page page) (listed_of was) ≡ is_some (lookup (same_page page) books)
-  any_booked books was page is = any_placed was.places.entries was.pages was.marked was.next page was.placed ∙ is.listed page
+  any_booked books was page is = any_placed was.places.entries (in_order was.places.entries) was.marked was.next page was.placed ∙ is.listed page
 
 -- ---- without the first pages of a segment
 
@@ -118,14 +118,14 @@ module _ {A B : Type 0} (old : List (PageId × Book A)) (was : Bookings B) (id e
   below : (q : PageId) (b : Bool) → gone_below id index q ≡ b → (id == q.seg) ≡ true → is_some (lookup (same_page q) old) ≡ true → gone_below id index q ≡ true
   below q true e own there = e
   below q false e own there =
-      let small = listed_within was.places.entries was.pages was.marked was.next q was.placed (is.listed q ∙ there) in
+      let small = listed_within was.places.entries (in_order was.places.entries) was.marked was.next q was.placed (is.listed q ∙ there) in
       absurd (false≢true (sym (ap is_some (past q (gone-past id end index q all own small e))) ∙ there))
 
   pub kept-all : kept_below id index (listed_of was) ≡ without_segment id (listed_of was)
   kept-all =
       filter-agree (λ (p : PageId). not (gone_below id index p)) (λ (p : PageId). not (id == p.seg)) (listed_of was)
-      (all-values (λ (p : PageId). not (gone_below id index p) ≡ not (id == p.seg)) was.pages
-      (all-map (λ (e : ℕ × PageId). place_of was.places.entries e.1 ≡ Some e.0) (λ (e : ℕ × PageId). not (gone_below id index e.1) ≡ not (id == e.1.seg)) was.pages
+      (all-values (λ (p : PageId). not (gone_below id index p) ≡ not (id == p.seg)) (in_order was.places.entries)
+      (all-map (λ (e : ℕ × PageId). place_of was.places.entries e.1 ≡ Some e.0) (λ (e : ℕ × PageId). not (gone_below id index e.1) ≡ not (id == e.1.seg)) (in_order was.places.entries)
       (λ e own. kept_all id index e.1 (λ same. below e.1 (gone_below id index e.1) refl same (sym (is.listed e.1) ∙ ap is_some own))) was.placed.own))
 
   pub gone_end : (now : List (PageId × Book A)) (rest : model.Book)

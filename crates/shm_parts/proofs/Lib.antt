@@ -5,6 +5,7 @@ pub mod BookSteps
 pub mod ListLemmas
 pub mod PlaceLemmas
 pub mod RisingLemmas
+pub mod InOrderLemmas
 pub mod NextLemmas
 pub mod GoneLemmas
 pub mod EndLemmas

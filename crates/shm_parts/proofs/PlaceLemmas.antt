@@ -14,7 +14,7 @@ use Rattle.shm_place.specs.declared.page.PageId.{PageId}
 use Rattle.shm_place.specs.Limits as limit
 use Rattle.shm_place.specs.Page.{same_page}
 use Rattle.shm_model.specs.Transfer.{without_page}
-use Rattle.shm_parts.specs.Places.{IsPlaced, is_marked_at, page_at, place_of}
+use Rattle.shm_parts.specs.Places.{IsPlaced, page_at, place_of}
 use Rattle.shm_parts.proofs.BookSteps.{page-same}
 use Rattle.shm_parts.proofs.ListLemmas.{all-filter, all-keys, all-map, all-push, all-values, filter-all, values-filter}
 
@@ -118,22 +118,6 @@ placed_more places places2 pages pages2 marked next next2 page is absent small p
         subst (λ k. page_at (pages ++ (next, page) ∷ []) k ≡ Some q) (same_Some next place h) (page_at-last pages next page fresh ∙ ap (λ (p : PageId). Some p) (page-same page q same))
     there-more q place false same h fresh = page_at-more pages ((next, page) ∷ []) place q (is.there q place h)
 
--- the page that was put last is taken away again
-take_last : (es : List (ℕ × PageId)) (n : ℕ) (page : PageId) → AllByRecursion (λ e. e.0 < n) es → remove_entry (is_at (nat_cmp n)) (es ++ (n, page) ∷ []) ≡ es
-take_last [] n page h = ap (λ b. cond b [] ((n, page) ∷ [])) (at-itself n)
-take_last (e ∷ es) n page h =
-    ap (λ b. cond b (es ++ (n, page) ∷ []) (e ∷ remove_entry (is_at (nat_cmp n)) (es ++ (n, page) ∷ []))) (at-below n e.0 h.0) ∙ ap (λ fs. e ∷ fs) (take_last es n page h.1)
-
-pub taken_back : (pages more less : List (ℕ × PageId)) (next : ℕ) (page : PageId) → AllByRecursion (λ e. e.0 < next) pages
-    → more ≡ insert_entry nat_cmp pages next page → less ≡ remove_entry (is_at (nat_cmp next)) more → less ≡ pages
-taken_back pages more less next page below put taken = taken ∙ ap (remove_entry (is_at (nat_cmp next))) (put ∙ put_last pages next page below) ∙ take_last pages next page below
-
-pub placed_same : (places places2 : List (PageId × ℕ)) (pages pages2 marked marked2 : List (ℕ × PageId)) (next : ℕ) → places2 ≡ places → pages2 ≡ pages → marked2 ≡ marked
-    → IsPlaced places pages marked next → IsPlaced places2 pages2 marked2 next
-placed_same places places2 pages pages2 marked marked2 next a b c is =
-    subst (λ (ps : List (PageId × ℕ)). IsPlaced ps pages2 marked2 next) (sym a)
-    (subst (λ (ps : List (ℕ × PageId)). IsPlaced places ps marked2 next) (sym b) (subst (λ (ms : List (ℕ × PageId)). IsPlaced places pages ms next) (sym c) is))
-
 -- ---- one mark more
 
 pub placed_marked : (places : List (PageId × ℕ)) (pages marked marked2 : List (ℕ × PageId)) (next n : ℕ) (page : PageId) → IsPlaced places pages marked next → page_at pages n ≡ Some page
@@ -150,26 +134,6 @@ placed_marked places pages marked marked2 next n page is here more = record {
     chosen-more : (k : ℕ) (q : PageId) (b : Bool) → is_at (nat_cmp n) k ≡ b → cond b (Some page) (page_at marked k) ≡ Some q → page_at pages k ≡ Some q
     chosen-more k q true at h = ap (page_at pages) (sym (at-same n k at)) ∙ here ∙ h
     chosen-more k q false at h = is.chosen k q h
-
-still_some : (b : Bool) (page : PageId) (o : Option PageId) → is_some o ≡ true → is_some (cond b (Some page) o) ≡ true
-still_some true page o h = refl
-still_some false page o h = h
-
--- a mark stays where a page and a mark are added
-pub marks_stay : (places places2 : List (PageId × ℕ)) (marked marked2 : List (ℕ × PageId)) (next : ℕ) (page other : PageId) → place_of places page ≡ None
-    → place_of places2 other ≡ cond (same_page page other) (Some next) (place_of places other)
-    → ((k : ℕ) → page_at marked2 k ≡ cond (is_at (nat_cmp next) k) (Some page) (page_at marked k))
-    → is_marked_at (place_of places other) marked ≡ true → is_marked_at (place_of places2 other) marked2 ≡ true
-marks_stay places places2 marked marked2 next page other absent put more was =
-    ap (λ (o : Option ℕ). is_marked_at o marked2) put ∙ by (same_page page other) refl
-  where
-    stays : (o : Option ℕ) → is_marked_at o marked ≡ true → is_marked_at o marked2 ≡ true
-    stays None h = absurd (false≢true h)
-    stays (Some k) h = ap (λ (o : Option PageId). is_some o) (more k) ∙ still_some (is_at (nat_cmp next) k) page (page_at marked k) h
-
-    by : (b : Bool) → same_page page other ≡ b → is_marked_at (cond b (Some next) (place_of places other)) marked2 ≡ true
-    by true same = absurd (false≢true (sym (ap (λ (o : Option ℕ). is_marked_at o marked) (ap (place_of places) (sym (page-same page other same)) ∙ absent)) ∙ was))
-    by false same = stays (place_of places other) was
 
 -- ---- one page less
 

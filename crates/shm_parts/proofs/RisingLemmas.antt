@@ -11,6 +11,7 @@ use Rattle.std.specs.List.Sorted.{IsNonDecreasingBy, IsStrictlySortedBy}
 use Rattle.std.specs.Map.{keys_of, remove_entry}
 use Rattle.std.specs.Ordering.{match_ordering}
 use Rattle.shm_place.specs.declared.page.PageId.{PageId}
+use Rattle.shm_parts.proofs.PlaceLemmas.{at-itself, at-same}
 use Rattle.shm_parts.specs.Places.{is_behind, leading, page_at}
 
 abbrev pub Row : Type 0
@@ -32,22 +33,16 @@ leading_none (x ∷ xs) = refl
 
 -- ---- numbers
 
-at_itself : (n : ℕ) → is_at (nat_cmp n) n ≡ true
-at_itself n = grind (arith, nat_tests)
-
-at_same : (n k : ℕ) → is_at (nat_cmp n) k ≡ true → n ≡ k
-at_same n k h = grind (arith, nat_tests)
-
 at_flip : (n k : ℕ) → is_at (nat_cmp n) k ≡ is_at (nat_cmp k) n
 at_flip n k = grind (arith, nat_tests)
 
 at_is_eq : (n k : ℕ) → (k == n) ≡ is_at (nat_cmp n) k
 at_is_eq n k = grind (arith, nat_tests)
 
-less_apart : (n k : ℕ) → nat_cmp n k ≡ Less → is_at (nat_cmp n) k ≡ false
+pub less_apart : (n k : ℕ) → nat_cmp n k ≡ Less → is_at (nat_cmp n) k ≡ false
 less_apart n k h = grind (arith, nat_tests)
 
-equal_same : (n k : ℕ) → nat_cmp n k ≡ Equal → n ≡ k
+pub equal_same : (n k : ℕ) → nat_cmp n k ≡ Equal → n ≡ k
 equal_same n k h = grind (arith, nat_tests)
 
 equal_at : (n k : ℕ) → nat_cmp n k ≡ Equal → is_at (nat_cmp n) k ≡ true
@@ -56,7 +51,7 @@ equal_at n k h = grind (arith, nat_tests)
 greater_apart : (n k : ℕ) → nat_cmp n k ≡ Greater → is_at (nat_cmp n) k ≡ false
 greater_apart n k h = grind (arith, nat_tests)
 
-greater_turned : (n k : ℕ) → nat_cmp n k ≡ Greater → nat_cmp k n ≡ Less
+pub greater_turned : (n k : ℕ) → nat_cmp n k ≡ Greater → nat_cmp k n ≡ Less
 greater_turned n k h = grind (arith, nat_tests)
 
 less_less : (n k j : ℕ) → nat_cmp n k ≡ Less → nat_cmp k j ≡ Less → nat_cmp n j ≡ Less
@@ -77,7 +72,7 @@ not_below_itself n k h i = grind (arith, nat_tests)
 before_le : (n k : ℕ) → nat_lt n k ≡ true → n ≤ k
 before_le n k h = grind (arith, nat_tests)
 
-less_le : (n k : ℕ) → nat_cmp n k ≡ Less → n ≤ k
+pub less_le : (n k : ℕ) → nat_cmp n k ≡ Less → n ≤ k
 less_le n k h = grind (arith, nat_tests)
 
 -- a place that is not behind the last one, and one that is
@@ -100,7 +95,7 @@ each_row P [] h = h
 each_row P (e ∷ es) h = (h.0, each_row P es h.1)
 
 -- no row behind those that rise from a place is at it, or before it
-none_from : (n k : ℕ) (es : List Row) → n ≤ k → AllByRecursion (λ j. nat_cmp k j ≡ Less) (keys_of es) → page_at es n ≡ None
+pub none_from : (n k : ℕ) (es : List Row) → n ≤ k → AllByRecursion (λ j. nat_cmp k j ≡ Less) (keys_of es) → page_at es n ≡ None
 none_from n k es le h = lookup-none (is_at (nat_cmp n)) es (each_row (λ j. is_at (nat_cmp n) j ≡ false) es (each_more (λ j. nat_cmp k j ≡ Less) (λ j. is_at (nat_cmp n) j ≡ false) (keys_of es) (λ j less. apart n k j le less) h))
   where
     apart : (n k j : ℕ) → n ≤ k → nat_cmp k j ≡ Less → is_at (nat_cmp n) j ≡ false
@@ -148,7 +143,7 @@ page_at_insert (e ∷ es) n page k = by (nat_cmp n e.0) refl (page_at_insert es 
 
     passed : (c : Bool) → is_at (nat_cmp k) e.0 ≡ c → nat_cmp n e.0 ≡ Greater → page_at (insert_entry nat_cmp es n page) k ≡ cond (is_at (nat_cmp n) k) (Some page) (page_at es k)
         → cond c (Some e.1) (page_at (insert_entry nat_cmp es n page) k) ≡ cond (is_at (nat_cmp n) k) (Some page) (cond c (Some e.1) (page_at es k))
-    passed true h is rest = sym (ap (λ b. cond b (Some page) (Some e.1)) (ap (λ j. is_at (nat_cmp n) j) (at_same k e.0 h) ∙ greater_apart n e.0 is))
+    passed true h is rest = sym (ap (λ b. cond b (Some page) (Some e.1)) (ap (λ j. is_at (nat_cmp n) j) (at-same k e.0 h) ∙ greater_apart n e.0 is))
     passed false h is rest = rest
 
     by : (o : Ordering) → nat_cmp n e.0 ≡ o → page_at (insert_entry nat_cmp es n page) k ≡ cond (is_at (nat_cmp n) k) (Some page) (page_at es k)
@@ -189,10 +184,10 @@ page_at_remove (e ∷ es) n k h = by (is_at (nat_cmp n) e.0) (is_at (nat_cmp k) 
   where
     by : (b c a : Bool) → is_at (nat_cmp n) e.0 ≡ b → is_at (nat_cmp k) e.0 ≡ c → is_at (nat_cmp n) k ≡ a → page_at (remove_entry (is_at (nat_cmp n)) es) k ≡ cond a None (page_at es k)
         → page_at (cond b es (e ∷ remove_entry (is_at (nat_cmp n)) es)) k ≡ cond a None (cond c (Some e.1) (page_at es k))
-    by true c true at other is rest = none_from k e.0 es (omega (arith, at_same n e.0 at, at_same n k is)) (sorted_head nat_cmp e.0 (keys_of es) h)
-    by true true false at other is rest = absurd (false≢true (sym is ∙ ap (λ j. is_at (nat_cmp n) j) (at_same k e.0 other) ∙ at))
+    by true c true at other is rest = none_from k e.0 es (omega (arith, at-same n e.0 at, at-same n k is)) (sorted_head nat_cmp e.0 (keys_of es) h)
+    by true true false at other is rest = absurd (false≢true (sym is ∙ ap (λ j. is_at (nat_cmp n) j) (at-same k e.0 other) ∙ at))
     by true false false at other is rest = refl
-    by false true true at other is rest = absurd (false≢true (sym at ∙ ap (λ j. is_at (nat_cmp n) j) (sym (at_same k e.0 other)) ∙ is))
+    by false true true at other is rest = absurd (false≢true (sym at ∙ ap (λ j. is_at (nat_cmp n) j) (sym (at-same k e.0 other)) ∙ is))
     by false true false at other is rest = ap (λ c. cond c (Some e.1) (page_at (remove_entry (is_at (nat_cmp n)) es) k)) other
     by false false a at other is rest = ap (λ c. cond c (Some e.1) (page_at (remove_entry (is_at (nat_cmp n)) es) k)) other ∙ rest
 
@@ -249,7 +244,7 @@ set_is (e ∷ es) n page there h = by (nat_lt e.0 n) (is_at (nat_cmp n) e.0) ref
     by true true below at is rest = absurd (false≢true (sym (greater_apart n e.0 (below_greater n e.0 below)) ∙ at))
     by true false below at is rest = ap (λ l. e ∷ l) (rest is) ∙ sym (ap (λ o. match_ordering o ((n, page) ∷ e ∷ es) ((e.0, page) ∷ es) (e ∷ insert_entry nat_cmp es n page)) (below_greater n e.0 below))
     by false true below at is rest =
-        ap (λ k. (k, page) ∷ es) (at_same n e.0 at) ∙ sym (ap (λ o. match_ordering o ((n, page) ∷ e ∷ es) ((e.0, page) ∷ es) (e ∷ insert_entry nat_cmp es n page)) (itself_equal n e.0 (sym (at_same n e.0 at))))
+        ap (λ k. (k, page) ∷ es) (at-same n e.0 at) ∙ sym (ap (λ o. match_ordering o ((n, page) ∷ e ∷ es) ((e.0, page) ∷ es) (e ∷ insert_entry nat_cmp es n page)) (itself_equal n e.0 (sym (at-same n e.0 at))))
     by false false below at is rest =
         absurd (false≢true (sym (ap is_some (none_from n e.0 es (less_le n e.0 (apart_less n e.0 below at)) (sorted_head nat_cmp e.0 (keys_of es) h))) ∙ is))
 
@@ -290,7 +285,7 @@ first_found last (e ∷ es) d lt = by (not (is_behind last e.0)) refl lt (first_
     by true h lt rest back =
         let within : up_to last es < length es = omega (arith, lt) in
         ap (λ c. cond c (Some e.1) (page_at es (slice_index_or es (up_to last es) d).0)) (behind_apart last (slice_index_or es (up_to last es) d).0 e.0 (back within) h) ∙ rest within
-    by false h lt rest back = ap (λ c. cond c (Some e.1) (page_at es e.0)) (at_itself e.0)
+    by false h lt rest back = ap (λ c. cond c (Some e.1) (page_at es e.0)) (at-itself e.0)
 
 pub first_least : (last : Option ℕ) (es : List Row) (d : Row) → IsStrictlySortedBy nat_cmp (keys_of es) → up_to last es < length es
     → (n : ℕ) → is_behind last n ≡ true → is_some (page_at es n) ≡ true → (slice_index_or es (up_to last es) d).0 ≤ n
@@ -305,7 +300,7 @@ first_least last (e ∷ es) d h lt n back there = by (not (is_behind last e.0)) 
         → (up_to last es < length es → is_some (page_at es n) ≡ true → (slice_index_or es (up_to last es) d).0 ≤ n) → (slice_index_or (e ∷ es) (cond b (suc (up_to last es)) 0) d).0 ≤ n
     by true true h at lt t rest = absurd (false≢true (sym (behind_apart last n e.0 back h) ∙ at))
     by true false h at lt t rest = rest (omega (arith, lt)) t
-    by false true h at lt t rest = omega (arith, at_same n e.0 at)
+    by false true h at lt t rest = omega (arith, at-same n e.0 at)
     by false false h at lt t rest = after (nat_lt n e.0) refl t
 
 pub none_behind : (last : Option ℕ) (es : List Row) → length es ≤ up_to last es → (n : ℕ) → is_behind last n ≡ true → page_at es n ≡ None

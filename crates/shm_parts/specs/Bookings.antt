@@ -4,10 +4,10 @@ use Rattle.std.specs.List.{AllByRecursion}
 use Rattle.std.specs.Map.{values_of}
 use Rattle.shm_place.specs.declared.page.PageId.{PageId}
 use Rattle.shm_parts.specs.declared.bookings.Bookings.{Bookings}
-use Rattle.shm_parts.specs.Places.{is_marked_at, pages_after, place_of}
+use Rattle.shm_parts.specs.Places.{in_order, is_marked_at, pages_after, place_of}
 
 abbrev pub listed_of : {A : Type 0} → Bookings A → List PageId
-listed_of b = values_of b.pages
+listed_of b = values_of (in_order b.places.entries)
 
 abbrev pub is_listed : {A : Type 0} → Bookings A → PageId → Bool
 is_listed b page = is_some (place_of b.places.entries page)
@@ -17,7 +17,7 @@ is_marked b page = is_marked_at (place_of b.places.entries page) b.marked
 
 -- the pages behind a place
 abbrev pub listed_after : {A : Type 0} → Option ℕ → Bookings A → List PageId
-listed_after last b = pages_after last b.pages
+listed_after last b = pages_after last (in_order b.places.entries)
 
 -- none of the pages is marked
 abbrev pub NoneMarked : {A : Type 0} → Bookings A → List PageId → Type 0

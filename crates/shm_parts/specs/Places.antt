@@ -1,6 +1,6 @@
 -- Pages at places that rise as the pages come: each page at one place, and some of the places marked.
 use Rattle.std.specs.Prelude.{◌≡◌, ℕ, suc, ◌<◌, Bool, true, false, cond, List, [], ◌∷◌, filter, Option, Some, None, is_some, nat_lt}
-use Rattle.std.specs.BTreeMap.{is_at}
+use Rattle.std.specs.BTreeMap.{insert_entry, is_at}
 use Rattle.std.specs.List.{AllByRecursion}
 use Rattle.std.specs.List.Sorted.{IsStrictlySortedBy}
 use Rattle.std.specs.Map.{keys_of, lookup, values_of}
@@ -14,6 +14,11 @@ page_at pages place = lookup (is_at (nat_cmp place)) pages
 
 abbrev pub place_of : List (PageId × ℕ) → PageId → Option ℕ
 place_of places page = lookup (same_page page) places
+
+-- the pages at their places, in the order of the places
+abbrev pub in_order : List (PageId × ℕ) → List (ℕ × PageId)
+in_order [] = []
+in_order (e ∷ es) = insert_entry nat_cmp (in_order es) e.1 e.0
 
 -- a place comes behind another, or behind none
 abbrev pub is_behind : Option ℕ → ℕ → Bool

@@ -1,7 +1,7 @@
 //! Which pages have books, in which order, and which of them are marked.
 ghost use Rattle.std.specs.Prelude.{◌≡◌, ◌<◌, ℕ, true, false, not, ◌&&◌, if◌then◌else◌, [], ◌∷◌, ◌++◌, IfNone, IfOk, IfSome, OnErr, OnOk};
 ghost use Rattle.std.proofs.Props.{props};
-ghost use Rattle.shm_parts.specs.Places.{IsPlaced};
+ghost use Rattle.shm_parts.specs.Places.{IsPlaced, in_order};
 ghost use Rattle.shm_place.specs.declared.page.PageId.{PageId as Page};
 ghost use Rattle.shm_place.specs.Limits.{pages};
 ghost use Rattle.shm_place.specs.Page.{same_page};
@@ -20,10 +20,9 @@ use std::hash::{BuildHasherDefault, FoldHasher};
 #[derive(Drop)]
 pub struct Bookings<A: Allocator + Copy = Global> {
     pub(crate) places: IndexMap<PageId, u64, BuildHasherDefault<FoldHasher>, A>,
-    pub(crate) pages: RisingPlaces<A>,
     pub(crate) marked: RisingPlaces<A>,
     pub(crate) next: u64,
-    ghost placed: { IsPlaced places.entries pages marked next } by { Prim.hlevel props },
+    ghost placed: { IsPlaced places.entries (in_order places.entries) marked next } by { Prim.hlevel props },
 }
 
 impl<A: Allocator + Copy> Bookings<A> {
@@ -36,7 +35,6 @@ impl<A: Allocator + Copy> Bookings<A> {
     {
         Bookings {
             places: IndexMap::new(alloc),
-            pages: RisingPlaces::new(alloc),
             marked: RisingPlaces::new(alloc),
             next: 0,
         }
@@ -57,11 +55,7 @@ impl<A: Allocator + Copy> Bookings<A> {
             return Err(AllocError);
         };
         self.places.reserve(1)?;
-        self.pages.put_at(place, *page)?;
-        if let Err(error) = self.marked.put_at(place, *page) {
-            self.pages.remove(place);
-            return Err(error);
-        }
+        self.marked.put_at(place, *page)?;
         put(&mut self.places, *page, place);
         self.next = next;
         Ok(())
@@ -105,7 +99,6 @@ impl<A: Allocator + Copy> Bookings<A> {
         let Some(place) = self.places.swap_remove(page) else {
             return;
         };
-        self.pages.remove(place);
         self.marked.remove(place);
     }
 
@@ -125,11 +118,9 @@ impl<A: Allocator + Copy> Bookings<A> {
         ensures marked { IfOk result (λ copy. (page : Page) → is_marked self.now page ≡ true → is_marked copy page ≡ true) }
     {
         let places = self.places.clone()?;
-        let pages = self.pages.copy()?;
         let marked = self.marked.copy()?;
         Ok(Bookings {
             places,
-            pages,
             marked,
             next: self.next,
         })
