@@ -1,7 +1,9 @@
 //! The bytes that a reader remembers.
-ghost use Rattle.std.specs.Prelude.{◌≡◌, ◌≤◌, ◌==◌, [], count_by, length, IfSome};
+ghost use Rattle.std.specs.Prelude.{◌≡◌, ◌≤◌, [], length, IfSome};
+ghost use Rattle.memchr.specs.Find.{is_byte, places};
 
 use crate::split_at;
+use memchr::{memchr_iter, memrchr};
 
 /// How many bytes of a line are kept at most while it isn't ended.
 const LINE: usize = 256;
@@ -76,14 +78,14 @@ impl KeptLines {
 fn open_from(bytes: &[u8]) -> usize
     ensures { result ≤ length bytes.now }
 {
-    match bytes.iter().rev().position(|byte| *byte == b'\n') {
-        Some(behind) => bytes.len() - behind,
+    match memrchr(b'\n', bytes) {
+        Some(at) => at + 1,
         None => 0,
     }
 }
 
 fn line_feeds(bytes: &[u8]) -> usize
-    ensures { result ≡ count_by (λ byte. byte == 10) bytes.now }
+    ensures { result ≡ length (places (is_byte 10) bytes.now) }
 {
-    bytes.iter().filter(|byte| **byte == b'\n').count()
+    memchr_iter(b'\n', bytes).count()
 }
