@@ -20,26 +20,40 @@ impl<A: Allocator + Copy> Session<A> {
         ensures ok { OnOk result (self.new ≡ with_event self.old event) }
         ensures err { OnErr result (self.new ≡ self.old) }
     {
-        let made = self.make(&event);
+        if self.undos.wants_next() {
+            return self.make_kept(&event);
+        }
+        let made = self.make_unkept(&event);
         if made.is_ok() {
             return made;
         }
-        self.give_up_copies();
-        self.make_unkept(&event)
+        self.make_again(&event)
     }
 
-    /// The event; what takes it back is kept where that is wanted.
-    #[inline(always)]
-    fn make(&mut self, event: &Event) -> Result<Answer, AllocError>
+    /// The event, of which is kept what takes it back; where memory is refused, once more.
+    // Out of line, as the next, so that the common way stays short.
+    #[inline(never)]
+    fn make_kept(&mut self, event: &Event) -> Result<Answer, AllocError>
         ensures answered { IfOk result (λ answer. answer ≡ (model.next (world_of self.old) event.now).done.answer) }
         ensures ok { OnOk result (self.new ≡ with_event self.old event.now) }
         ensures err { OnErr result (self.new ≡ self.old) }
     {
-        if self.undos.wants_next() {
-            self.make_and_keep(event)
-        } else {
-            self.make_unkept(event)
+        let made = self.make_and_keep(event);
+        if made.is_ok() {
+            return made;
         }
+        self.make_again(event)
+    }
+
+    /// The event once more, with nothing kept for going back.
+    #[inline(never)]
+    fn make_again(&mut self, event: &Event) -> Result<Answer, AllocError>
+        ensures answered { IfOk result (λ answer. answer ≡ (model.next (world_of self.old) event.now).done.answer) }
+        ensures ok { OnOk result (self.new ≡ with_event self.old event.now) }
+        ensures err { OnErr result (self.new ≡ self.old) }
+    {
+        self.give_up_copies();
+        self.make_unkept(event)
     }
 
     /// The event, of which nothing is kept.
