@@ -158,3 +158,8 @@ module _ {A : Type 0} (old : Entries A) (page : PageId) (place : ℕ) (k : PageI
 
   pub stands-written : (q : PageId) → stored_at (record { map = with_value_at old.map place w }) q ≡ (if same_page page q then Some w else stored_at old q)
   stands-written = (updates-with_value_at old.map place w same_page_equiv unique page v (stands-own old page place k v stands at)).0
+
+-- a page that is found to be the one that stands at a place stands there
+pub stands-found : {A : Type 0} (entries : Entries A) (page : PageId) (place : ℕ) (k : PageId) (v : Entry A) → slice_get entries.map.entries place ≡ Some (k, v) → same_page k page ≡ true → StandsAt page place entries
+stands-found entries page place k v at same =
+    slice_get-map (λ e. e.0) entries.map.entries place ∙ ap (option_map (λ e. e.0)) at ∙ ap Some (page-same k page same)

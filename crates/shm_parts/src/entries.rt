@@ -87,6 +87,8 @@ impl<A: Allocator + Copy> Entries<A> {
     }
 
     /// Stores a byte where the page's entry is stored and may be written, and tells whether it did.
+    // Out of line, so that the short way of `store_near` stays short.
+    #[inline(never)]
     pub fn store(&mut self, page: PageId, within: usize, byte: u8) -> bool
         requires within { within < page_bytes }
         ensures writable { (rest : Page → model.Entry) → (is_stored self.old page ≡ false → model.writable (rest page) ≡ false)
@@ -100,6 +102,26 @@ impl<A: Allocator + Copy> Entries<A> {
             return false;
         };
         store_in(entry, within, byte)
+    }
+
+    /// Stores a byte as [`Entries::store`] does, and sooner where the page's entry stands at this place.
+    #[inline(always)]
+    pub(crate) fn store_near(&mut self, place: usize, page: PageId, within: usize, byte: u8) -> bool
+        requires within { within < page_bytes }
+        ensures writable { (rest : Page → model.Entry) → (is_stored self.old page ≡ false → model.writable (rest page) ≡ false)
+            → result ≡ model.writable (entries_of rest self.old page) }
+        ensures after { (rest : Page → model.Entry) → entries_of rest self.new
+            ≡ (if result then at_page (entries_of rest self.old) page (stored_entry within byte (entries_of rest self.old page))
+            else entries_of rest self.old) }
+        ensures same { is_stored self.new ≡ is_stored self.old }
+    {
+        if let Some((standing, _entry)) = self.map.get_index(place)
+            && *standing == page
+        {
+            let (_page, entry) = self.map.pair_mut(place);
+            return store_in(entry, within, byte);
+        }
+        self.store(page, within, byte)
     }
 
     /// Runs the note's row of the table of the page's entry, which stands at this place. Where memory is refused, the note comes back and

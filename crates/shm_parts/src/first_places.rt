@@ -1,4 +1,4 @@
-//! Where the entries of attached pages probably stand, so that a load need not look them up.
+//! Where the entries of attached pages probably stand, so that loads and stores need not look them up.
 use shm_attach::MAX_ATTACHMENTS;
 use shm_place::Sites;
 

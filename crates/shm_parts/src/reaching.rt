@@ -33,13 +33,17 @@ impl<A: Allocator + Copy> Holdings<A> {
     }
 
     /// A store through an attachment. It takes no memory.
+    #[inline(always)]
     pub fn store(&mut self, at: u32, offset: u32, byte: u8) -> Result<StoreOutcome, Denied>
         ensures step { (site : Site) → store self.old.sites self.old.me at offset byte (with_holdings self.old.sites self.old.me self.old site)
             ≡ stored_step self.old.sites self.old.me result (with_holdings self.old.sites self.old.me self.new site) }
         ensures seat { SameSeat self.old self.new }
     {
         match right(&self.attachments, at, offset, true) {
-            Ok((page, within)) => Ok(self.store_at(&page, within, byte)),
+            Ok((page, within)) => {
+                let place = self.first_places.likely(at, page.index);
+                Ok(self.store_at(place, &page, within, byte))
+            }
             Err(denied) => Err(denied),
         }
     }
@@ -59,7 +63,10 @@ impl<A: Allocator + Copy> Holdings<A> {
         }
     }
 
-    fn store_at(&mut self, page: &PageId, within: usize, byte: u8) -> StoreOutcome
+    /// Stores the byte in a page whose entry probably stands at this place. A page of which nothing is stored is untouched, and another
+    /// site's.
+    #[inline(always)]
+    fn store_at(&mut self, place: usize, page: &PageId, within: usize, byte: u8) -> StoreOutcome
         requires within { within < page_bytes }
         requires stored { manages self.old.sites self.old.me page.now ≡ true → is_stored self.old.entries page.now ≡ true }
         requires alive { purged_of self.old.purged page.now.seg ≡ false }
@@ -68,7 +75,7 @@ impl<A: Allocator + Copy> Holdings<A> {
             ≡ stored_step self.old.sites self.old.me (Ok result) (with_holdings self.old.sites self.old.me self.new site) }
         ensures seat { SameSeat self.old self.new }
     {
-        if self.entries.store(*page, within, byte) {
+        if self.entries.store_near(place, *page, within, byte) {
             return StoreOutcome::Stored;
         }
         StoreOutcome::Absent(*page)
