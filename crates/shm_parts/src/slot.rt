@@ -32,6 +32,7 @@ pub(crate) fn open<A: Allocator + Copy>(
 }
 
 /// Stores a byte where the entry may be written, and tells whether it did.
+#[inline(always)]
 pub(crate) fn store_in<A: Allocator + Copy>(entry: &mut Entry<A>, within: usize, byte: u8) -> bool
     requires { within < page_bytes }
     ensures writable { result ≡ model.writable (entry_of entry.old) }

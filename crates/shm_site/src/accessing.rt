@@ -33,6 +33,7 @@ impl<A: Allocator + Copy> Site<A> {
     }
 
     /// Stores a byte through an attachment. Where the right is here this takes no memory.
+    #[inline(always)]
     pub fn store<O: Outbox<Envelope<A>>>(
         &mut self,
         at: u32,

@@ -34,6 +34,7 @@ impl<A: Allocator + Copy> Site<A> {
     }
 
     /// Takes an envelope that names this site; one that can't be for it all the same is refused. Where memory is refused it comes back.
+    #[inline(always)]
     pub fn deliver_addressed<O: Outbox<Envelope<A>>>(
         &mut self,
         envelope: Envelope<A>,
@@ -53,6 +54,7 @@ impl<A: Allocator + Copy> Site<A> {
     }
 
     /// Takes an envelope that can be for this site. Where memory is refused it comes back.
+    #[inline(always)]
     pub(crate) fn deliver_proper<O: Outbox<Envelope<A>>>(
         &mut self,
         envelope: Envelope<A>,
