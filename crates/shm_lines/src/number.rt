@@ -36,15 +36,12 @@ pub(crate) fn front_number(line: &[u8]) -> Option<(u32, Option<&[u8]>)>
 {
     let mut value: u64 = 0;
     'digits: for (at, digit) in line.iter().enumerate() {
-        if *digit == b' ' {
-            return if is_plain(line, at) {
+        if !digit.is_ascii_digit() {
+            return if *digit == b' ' && is_plain(line, at) {
                 Some((value as u32, Some(&line[at + 1..])))
             } else {
                 None
             };
-        }
-        if !digit.is_ascii_digit() {
-            return None;
         }
         value = value * 10 + (*digit - b'0') as u64;
         if value > u32::MAX as u64 {
