@@ -1,12 +1,11 @@
 -- A map of books, as the definitions see it, after a change of one book or of all; and the step that a row of a book's table is.
-use Rattle.std.proofs.Common.{◌≡◌, ◌==◌, ◌||◌, ◌<◌, ◌≤◌, ℕ, nat_le, zero, suc, Bool, true, false, cond, if◌then◌else◌, List, [], ◌∷◌, ◌++◌, length, map, Option, Some, None, is_some, option_map, unwrap_or, slice_get, Result, Ok, Err, OnErr, refl, sym, ap, ap₂, subst, ◌∙◌, true≢false, append_assoc, append-nil, add-one, ◌+◌, arith}
+use Rattle.std.proofs.Common.{◌≡◌, ◌==◌, ◌||◌, ◌<◌, ◌≤◌, ℕ, nat_le, zero, suc, Bool, true, false, cond, if◌then◌else◌, List, [], ◌∷◌, ◌++◌, length, map, Option, Some, None, is_some, option_map, unwrap_or, slice_get, Result, Ok, Err, OnErr, refl, sym, ap, ap₂, subst, ◌∙◌, true≢false, add-one, ◌+◌, arith}
 use Rattle.std.proofs.Math.Path.{fun_ext}
 use Rattle.std.proofs.lemmas.Bool.{and_parts}
 use Rattle.std.proofs.lemmas.Bool.Decides.{nat_tests}
-use Rattle.std.proofs.lemmas.Map.Keys.{IsDistinct-head, IsDistinct-tail}
-use Rattle.std.specs.List.{AllByRecursion, IsDistinct, list_any}
+use Rattle.std.specs.List.{AllZip, list_any}
 use Rattle.std.specs.Map.{keys_of, lookup, values_of}
-use Rattle.indexmap.specs.IndexMap.{insert_entry, set_value_at}
+use Rattle.indexmap.specs.IndexMap.{set_value_at}
 use Rattle.shm_place.specs.declared.page.PageId.{PageId}
 use Rattle.shm_place.specs.Page.{same_page}
 use Rattle.shm_model.specs.declared.kind.Kind.{Kind}
@@ -35,13 +34,6 @@ page-same p q e =
     let made : ℕ → ℕ → PageId = (λ x y. record { seg = x; index = y }) in
     ap (λ x. made x p.index) seg ∙ ap (λ y. made q.seg y) index
 
-pub same_page-flip : (p q : PageId) → same_page p q ≡ false → same_page q p ≡ false
-same_page-flip p q h = by (same_page q p) refl
-  where
-    by : (b : Bool) → same_page q p ≡ b → same_page q p ≡ false
-    by false e = e
-    by true e = absurd (true≢false (sym e ∙ subst (λ (x : PageId). same_page x p ≡ false) (sym (page-same q p e)) (subst (λ (x : PageId). same_page p x ≡ false) (page-same q p e) h)))
-
 -- ---- lists of entries
 
 pub list_any-keys : {K X : Type 0} (test : K → Bool) (es : List (K × X)) → list_any test (keys_of es) ≡ is_some (lookup test es)
@@ -64,19 +56,6 @@ lookup-values g test (e ∷ es) = by (test e.0) (lookup-values g test es)
 keys-values : {K X Y : Type 0} (g : X → Y) (es : List (K × X)) → keys_of (map (λ e. (e.0, g e.1)) es) ≡ keys_of es
 keys-values g [] = refl
 keys-values g (e ∷ es) = ap (λ ks. e.0 ∷ ks) (keys-values g es)
-
-all-keys_at : {K X : Type 0} (P : K → Type 0) (front back : List (K × X)) (k : K) (x : X) → AllByRecursion P (keys_of (front ++ (k, x) ∷ back)) → P k
-all-keys_at P [] back k x h = h.0
-all-keys_at P (e ∷ es) back k x h = all-keys_at P es back k x h.1
-
--- a page that comes after others, all apart, is inserted last
-pub insert_entry-last : {X : Type 0} (front back : List (PageId × X)) (k : PageId) (x : X) → IsDistinct same_page (keys_of (front ++ (k, x) ∷ back)) → insert_entry same_page front k x ≡ front ++ (k, x) ∷ []
-insert_entry-last [] back k x h = refl
-insert_entry-last (e ∷ es) back k x h =
-    let apart = all-keys_at (λ y. same_page e.0 y ≡ false) es back k x (IsDistinct-head same_page e.0 _ h) in
-    let flipped = same_page-flip e.0 k apart in
-    let rest = insert_entry-last es back k x (IsDistinct-tail same_page e.0 _ h) in
-    ap (λ b. cond b ((e.0, x) ∷ es) (e ∷ insert_entry same_page es k x)) flipped ∙ ap (λ fs. e ∷ fs) rest
 
 -- ---- all books forgotten below a place
 
@@ -157,15 +136,6 @@ module _ {A : Type 0} where
       none_some x h = cc
   viewed_value (e ∷ es) zero b h = ap (option_map book_of) h
   viewed_value (e ∷ es) (suc i) b h = viewed_value es i b h
-
-  pub viewed-insert_entry : (es : List (PageId × Book A)) (page : PageId) (b : Book A) → viewed (insert_entry same_page es page b) ≡ insert_entry same_page (viewed es) page (book_of b)
-  viewed-insert_entry [] page b = refl
-  viewed-insert_entry (e ∷ es) page b = by (same_page page e.0) (viewed-insert_entry es page b)
-    where
-      by : (c : Bool) → viewed (insert_entry same_page es page b) ≡ insert_entry same_page (viewed es) page (book_of b)
-          → viewed (if c then (e.0, b) ∷ es else e ∷ insert_entry same_page es page b) ≡ (if c then (e.0, book_of b) ∷ viewed es else (e.0, book_of e.1) ∷ insert_entry same_page (viewed es) page (book_of b))
-      by true h = refl
-      by false h = ap (λ fs. (e.0, book_of e.1) ∷ fs) h
 
   -- with one book put at its page
   pub put_book : (rest : model.Book) (old new : List (PageId × Book A)) (page : PageId) (b : Book A)
@@ -268,18 +238,12 @@ module _ {A : Type 0} where
       ap (λ (r : model.Outcome). to_book me page r (site_with site (as_books rest old) booked)) (ap (model.on_ask from request kind) had ∙ asked)
       ∙ first_step me page outcome (as_books rest old) (as_books rest new) booked now_booked (book_of b) (book_of next) started (model.orders started) site answered settled (put_book rest old new page next put) joined
 
-  -- ---- a copy, entry by entry
-  pub copy_more : (copy now it rest all : List (PageId × Book A)) (page : PageId) (b : Book A)
-      → IsDistinct same_page (keys_of all) → viewed copy ++ viewed it ≡ viewed all → it ≡ (page, b) ∷ rest
-      → viewed now ≡ insert_entry same_page (viewed copy) page (book_of b) → viewed now ++ viewed rest ≡ viewed all
-  copy_more copy now it rest all page b distinct so_far turn put =
-      let all_is : viewed all ≡ viewed copy ++ (page, book_of b) ∷ viewed rest = sym so_far ∙ ap (λ (es : List (PageId × Book A)). viewed copy ++ viewed es) turn in
-      let apart : IsDistinct same_page (keys_of (viewed copy ++ (page, book_of b) ∷ viewed rest)) = subst (IsDistinct same_page) (sym (keys-viewed all) ∙ ap keys_of all_is) distinct in
-      let last : viewed now ≡ viewed copy ++ (page, book_of b) ∷ [] = put ∙ insert_entry-last (viewed copy) (viewed rest) page (book_of b) apart in
-      ap (λ (es : List (PageId × model.Book)). es ++ viewed rest) last ∙ append_assoc (viewed copy) ((page, book_of b) ∷ []) (viewed rest) ∙ sym all_is
-
-  pub copy_end : (copy it all : List (PageId × Book A)) → viewed copy ++ viewed it ≡ viewed all → it ≡ [] → viewed copy ≡ viewed all
-  copy_end copy it all so_far end = sym (append-nil (viewed copy)) ∙ ap (λ (es : List (PageId × Book A)). viewed copy ++ viewed es) (sym end) ∙ so_far
+  -- the books of a copy of a map, as the definitions see them
+  pub viewed-clones : (es fs : List (PageId × Book A)) → AllZip (λ e f. (f.0 ≡ e.0) × (book_of f.1 ≡ book_of e.1)) es fs → viewed fs ≡ viewed es
+  viewed-clones [] [] h = refl
+  viewed-clones [] (f ∷ fs) h = absurd h
+  viewed-clones (e ∷ es) [] h = absurd h
+  viewed-clones (e ∷ es) (f ∷ fs) h = ap₂ (λ (x : PageId × model.Book) (xs : List (PageId × model.Book)). x ∷ xs) (ap₂ (λ (p : PageId) (b : model.Book). (p, b)) h.0.0 h.0.1) (viewed-clones es fs h.1)
 
   -- ---- all books forgotten, one after the other
   pub forget_more : (n : ℕ) (es now : List (PageId × Book A)) (all : List (PageId × model.Book)) (b next : Book A)

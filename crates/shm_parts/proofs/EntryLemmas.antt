@@ -1,19 +1,15 @@
 -- What a change of one page's entry does to the entries as a function of the page.
-use Rattle.std.proofs.Common.{◌≡◌, ℕ, zero, suc, ◌+◌, ◌<◌, Bool, true, false, List, [], ◌∷◌, ◌++◌, take, slice_get, length, ◌==◌, Option, Some, None, is_some, Result, Ok, Err, IfOk, OnOk, OnErr, if◌then◌else◌, refl, sym, subst, ◌∙◌, ap, true≢false, arith}
+use Rattle.std.proofs.Common.{◌≡◌, ℕ, ◌<◌, Bool, true, false, slice_get, length, ◌==◌, Option, Some, None, is_some, Result, Ok, Err, IfOk, OnOk, OnErr, if◌then◌else◌, refl, sym, subst, ◌∙◌, ap, true≢false, arith}
 use Rattle.std.proofs.Math.Path.{fun_ext}
 use Rattle.std.proofs.lemmas.Bool.{and_parts}
 use Rattle.std.proofs.lemmas.Bool.Decides.{nat_tests}
-use Rattle.std.proofs.lemmas.List.{take_more}
-use Rattle.std.proofs.lemmas.Map.{lookup-none}
-use Rattle.std.proofs.lemmas.Map.Entries.{length-keys_of, lookup_from_place, none_past_head}
-use Rattle.std.proofs.lemmas.Map.Keys.{IsDistinct-tail}
-use Rattle.std.proofs.lemmas.Option.{get_or_from_slice_get, same_Some, slice_get-map, slice_get_within}
+use Rattle.std.proofs.lemmas.Map.Entries.{length-keys_of, lookup_from_place}
+use Rattle.std.proofs.lemmas.Option.{same_Some, slice_get-map, slice_get_within}
 use Rattle.std.specs.Cmp.{IsEquivalence}
-use Rattle.std.specs.List.{IsDistinct}
-use Rattle.std.specs.Map.{keys_of, lookup}
+use Rattle.std.specs.Map.{keys_of}
 use Rattle.std.specs.Option.{option_map}
-use Rattle.indexmap.proofs.CallerLemmas.{insert_entry-new, updates-with_value_at}
-use Rattle.indexmap.specs.IndexMap.{IndexMap, IsUnique, insert_entry, with_value_at}
+use Rattle.indexmap.proofs.CallerLemmas.{updates-with_value_at}
+use Rattle.indexmap.specs.IndexMap.{IsUnique, with_value_at}
 use Rattle.shm_place.specs.declared.page.PageId.{PageId}
 use Rattle.shm_place.specs.Page.{same_page}
 use Rattle.shm_model.specs.Entry as model
@@ -115,29 +111,6 @@ same_page_equiv = record {
   symm = λ p q. grind (arith, nat_tests);
   congr = λ x y z e. ap (λ p. same_page p z) (page-same x y e);
 }
-
--- among distinct pages, one isn't before its place
-absent : {X : Type 0} (es : List (PageId × X)) (i : ℕ) (k : PageId) (v : X) → IsDistinct same_page (keys_of es) → slice_get es i ≡ Some (k, v) → lookup (same_page k) (take i es) ≡ None
-absent [] i k v d at = absurd (true≢false (sym (ap is_some at)))
-absent (e ∷ es) zero k v d at = refl
-absent (e ∷ es) (suc i) k v d at = by (same_page k e.0) refl (absent es i k v (IsDistinct-tail same_page e.0 (keys_of es) d) at)
-  where
-    by : (b : Bool) → same_page k e.0 ≡ b → lookup (same_page k) (take i es) ≡ None → lookup (same_page k) (e ∷ take i es) ≡ None
-    by true h none =
-        let past = lookup-none (same_page k) es (none_past_head same_page_equiv k e es d h) in
-        let there = lookup_from_place same_page_equiv es i k v (IsDistinct-tail same_page e.0 (keys_of es) d) at in
-        absurd (true≢false (ap is_some (sym there ∙ past)))
-    by false h none = ap (λ b. if b then Some e.1 else lookup (same_page k) (take i es)) h ∙ none
-
--- the next of the entries, put behind those before it
-pub entry-next : {X S : Type 0} (m : IndexMap PageId X S) (es : List (PageId × X)) (i : ℕ) (k : PageId) (v : X) → IsDistinct same_page (keys_of es) → slice_get es i ≡ Some (k, v) → m.entries ≡ take i es → insert_entry same_page m.entries k v ≡ take (i + 1) es
-entry-next m es i k v d at is =
-    let fresh = ap (lookup (same_page k)) is ∙ absent es i k v d at in
-    let within = slice_get_within es i (k, v) at in
-    insert_entry-new same_page m k v fresh
-    ∙ ap (λ l. l ++ (k, v) ∷ []) is
-    ∙ ap (λ x. take i es ++ x ∷ []) (sym (get_or_from_slice_get es i (k, v) (k, v) at))
-    ∙ sym (take_more es i (k, v) within)
 
 -- where a page stands is one of so many places
 pub stands-within : {A : Type 0} (entries : Entries A) (page : PageId) (place : ℕ) → StandsAt page place entries → place < length entries.map.entries

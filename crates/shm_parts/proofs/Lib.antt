@@ -3,6 +3,7 @@ pub mod FrameLemmas
 pub mod FrameSteps
 pub mod BookSteps
 pub mod ListLemmas
+pub mod ManagerLemmas
 pub mod PlaceLemmas
 pub mod RisingLemmas
 pub mod InOrderLemmas

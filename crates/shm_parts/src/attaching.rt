@@ -1,6 +1,7 @@
 //! Attachments, and the pages that they reach.
-ghost use Rattle.std.specs.Prelude.{◌≡◌, ℕ, ◌<◌, None, false, true, is_none, IfOk, OnOk, OnErr};
+ghost use Rattle.std.specs.Prelude.{◌≡◌, ℕ, ◌+◌, ◌%◌, ◌<◌, None, false, true, is_none, IfOk, OnOk, OnErr};
 ghost use Rattle.shm_place.specs.declared.page.PageId.{PageId as Page};
+ghost use Rattle.shm_place.specs.Page as place;
 ghost use Rattle.shm_model.specs.Basics.{at};
 ghost use Rattle.shm_model.specs.Site.{Site, least_free, untouched};
 ghost use Rattle.shm_attach.specs.Attachments.{attachments_of, put_at, with_attachments};
@@ -78,13 +79,30 @@ fn store_pages<A: Allocator + Copy>(
     ensures others { (other : Page) → is_stored entries.old other ≡ true → is_stored entries.new other ≡ true }
 {
     let mut first = None;
+    let mut manager = manager_of(sites, PageId { seg: id, index: 0 });
     'pages: for index in 0..pages {
-        let place = store_managed(entries, alloc, sites, me, PageId { seg: id, index })?;
+        let page = PageId { seg: id, index };
+        let place = store_managed(entries, alloc, sites, me, page, manager)?;
         if first.is_none() {
             first = place;
         }
+        manager = behind(sites, manager);
     }
     Ok(first)
+}
+
+/// The site behind this one: the first one behind the last.
+fn behind(sites: Sites, site: SiteId) -> SiteId
+    requires { site < sites }
+    ensures next { result ≡ (site + 1) % sites }
+    ensures below { result < sites }
+{
+    let count = sites.count();
+    let next = site.0 + 1;
+    if next < count {
+        return SiteId(next);
+    }
+    SiteId(0)
 }
 
 /// Stores the page's entry if the site manages it, and tells where it stands then.
@@ -94,16 +112,17 @@ fn store_managed<A: Allocator + Copy>(
     sites: Sites,
     me: SiteId,
     page: PageId,
+    manager: SiteId,
 ) -> Result<Option<usize>, AllocError>
+    requires { manager ≡ place.manager_of sites page }
     ensures same { entries_of (untouched sites me) entries.new ≡ entries_of (untouched sites me) entries.old }
     ensures stored { OnOk result (manages sites me page ≡ true → is_stored entries.new page ≡ true) }
     ensures others { (other : Page) → is_stored entries.old other ≡ true → is_stored entries.new other ≡ true }
 {
-    let page = &page;
-    if manager_of(sites, *page) != me {
+    if manager != me {
         return Ok(None);
     }
-    match entries.ensure(alloc, sites, me, *page) {
+    match entries.ensure(alloc, sites, me, page) {
         Ok(place) => Ok(Some(place)),
         Err(error) => Err(error),
     }

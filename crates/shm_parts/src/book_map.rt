@@ -3,34 +3,30 @@ ghost use Rattle.std.specs.Prelude.{◌≡◌, map as map_list, IfOk};
 ghost use Rattle.shm_model.specs.Book as model;
 ghost use Rattle.shm_parts.specs.Books.{viewed};
 
-use crate::page_map::put;
+use crate::book_row::forget_volatile_in;
+use crate::stored::StoredBook;
 use indexmap::IndexMap;
-use shm_manager::Book;
 use shm_place::PageId;
 use std::alloc::{AllocError, Allocator};
 use std::hash::{BuildHasherDefault, FoldHasher};
 
 /// What a restart of the manager loses of each book.
 pub(crate) fn forget_all<A: Allocator + Copy>(
-    books: &mut IndexMap<PageId, Book<A>, BuildHasherDefault<FoldHasher>, A>,
+    books: &mut IndexMap<PageId, StoredBook<A>, BuildHasherDefault<FoldHasher>, A>,
 )
     ensures { viewed books.new.entries ≡ map_list (λ e. (e.0, model.without_volatile e.1)) (viewed books.old.entries) }
 {
     'books: for place in 0..books.len() {
-        books[place].forget_volatile();
+        forget_volatile_in(&mut books[place]);
     }
 }
 
 /// Equal books in equal order.
 pub(crate) fn copy_all<A: Allocator + Copy>(
-    books: &IndexMap<PageId, Book<A>, BuildHasherDefault<FoldHasher>, A>,
-) -> Result<IndexMap<PageId, Book<A>, BuildHasherDefault<FoldHasher>, A>, AllocError>
+    books: &IndexMap<PageId, StoredBook<A>, BuildHasherDefault<FoldHasher>, A>,
+) -> Result<IndexMap<PageId, StoredBook<A>, BuildHasherDefault<FoldHasher>, A>, AllocError>
     ensures { IfOk result (λ copy. viewed copy.entries ≡ viewed books.now.entries) }
 {
-    let mut copy = IndexMap::with_capacity(*books.allocator(), books.len())?;
-    'books: for (page, book) in books.iter() {
-        let book = book.copy()?;
-        put(&mut copy, *page, book);
-    }
+    let copy = books.clone()?;
     Ok(copy)
 }

@@ -12,12 +12,13 @@ ghost use Rattle.shm_model.specs.Site.{Site};
 ghost use Rattle.shm_model.specs.Transfer.{to_book, without_page};
 
 use crate::book_map::{copy_all, forget_all};
-use crate::book_row::{ask_in, cleared_in, confirm_in, runs};
+use crate::book_row::{ask_in, cleared_in, confirm_in, ending_in, runs};
 use crate::bookings::Bookings;
 use crate::message::Envelope;
 use crate::outbox::Outbox;
 use crate::outcome::Outcome;
 use crate::page_map::{end_of, put};
+use crate::stored::StoredBook;
 use indexmap::IndexMap;
 use shm_manager::{Book, Due, Kind, MOST_ORDERS};
 use shm_place::{PageId, SegId, SiteId};
@@ -27,7 +28,7 @@ use std::hash::{BuildHasherDefault, FoldHasher};
 /// The books of the pages that a site manages and that were asked for, in the order of their first transactions.
 #[derive(Drop)]
 pub struct Books<A: Allocator + Copy = Global> {
-    pub(crate) map: IndexMap<PageId, Book<A>, BuildHasherDefault<FoldHasher>, A>,
+    pub(crate) map: IndexMap<PageId, StoredBook<A>, BuildHasherDefault<FoldHasher>, A>,
     pub(crate) bookings: Bookings<A>,
     ghost booked: { IsBooked map.entries bookings },
 }
@@ -72,7 +73,7 @@ impl<A: Allocator + Copy> Books<A> {
         let Some(book) = self.map.get_mut(&page) else {
             return self.first(alloc, me, page, from, request, kind, outbox);
         };
-        let due = book.due(from, request);
+        let due = book.book.due(from, request);
         if !due.starts() {
             return Ok(ask_in(book, due, from, request, kind));
         }
@@ -109,8 +110,9 @@ impl<A: Allocator + Copy> Books<A> {
         }
         outbox.reserve(MOST_ORDERS)?;
         self.map.reserve(1)?;
-        let mut book = Book::new(alloc, me)?;
+        let book = Book::new(alloc, me)?;
         self.bookings.add(&page)?;
+        let mut book = StoredBook { book };
         let outcome = ask_in(&mut book, due, from, request, kind);
         put(&mut self.map, page, book);
         Ok(outcome)
@@ -150,7 +152,7 @@ impl<A: Allocator + Copy> Books<A> {
         let Some(book) = self.map.get_mut(&page) else {
             return Ok(Outcome::Ignored);
         };
-        let Some(kind) = book.ending(from, number) else {
+        let Some(kind) = ending_in(book, from, number) else {
             return Ok(Outcome::Ignored);
         };
         outbox.reserve(MOST_ORDERS)?;
@@ -193,7 +195,8 @@ impl<A: Allocator + Copy> Books<A> {
     pub fn get(&self, page: PageId) -> Option<&Book<A>>
         ensures { (me : ℕ) → book_or (model.untouched_book me) (option_copied result) ≡ books_of me self.now page }
     {
-        self.map.get(&page)
+        let stored = self.map.get(&page)?;
+        Some(&stored.book)
     }
 
     /// The next page, in the order of the first transactions, whose transaction may run, with its place in that order and its book.
@@ -206,10 +209,10 @@ impl<A: Allocator + Copy> Books<A> {
         let Some((place, page)) = self.bookings.next_marked(last) else {
             return None;
         };
-        let Some(book) = self.map.get(&page) else {
+        let Some(stored) = self.map.get(&page) else {
             unreachable!()
         };
-        Some((place, page, book))
+        Some((place, page, &stored.book))
     }
 
     /// Equal books in equal order.

@@ -10,8 +10,9 @@ ghost use Rattle.shm_page.specs.Out.{out_of};
 
 use crate::change::Change;
 use crate::message::EntryNote;
-use crate::page_map::{end_of, put};
+use crate::page_map::end_of;
 use crate::slot::{forget_in, open, store_in, turn_in};
+use crate::stored::StoredEntry;
 use indexmap::{IndexMap, map};
 use shm_page::{Entry, Out};
 use shm_place::{PageId, SegId, SiteId, Sites};
@@ -21,7 +22,7 @@ use std::hash::{BuildHasherDefault, FoldHasher};
 /// The page entries that a site has stored. A page that isn't among them is untouched.
 #[derive(Drop)]
 pub struct Entries<A: Allocator + Copy = Global> {
-    pub(crate) map: IndexMap<PageId, Entry<A>, BuildHasherDefault<FoldHasher>, A>,
+    pub(crate) map: IndexMap<PageId, StoredEntry<A>, BuildHasherDefault<FoldHasher>, A>,
 }
 
 impl<A: Allocator + Copy> Entries<A> {
@@ -44,7 +45,8 @@ impl<A: Allocator + Copy> Entries<A> {
     pub fn get(&self, page: PageId) -> Option<&Entry<A>>
         ensures { option_copied result ≡ stored_at self.now page }
     {
-        self.map.get(&page)
+        let stored = self.map.get(&page)?;
+        Some(&stored.entry)
     }
 
     /// The page's entry, if one is stored: as [`Entries::get`] tells it, and sooner where it stands at this place.
@@ -52,10 +54,10 @@ impl<A: Allocator + Copy> Entries<A> {
     pub(crate) fn get_near(&self, place: usize, page: PageId) -> Option<&Entry<A>>
         ensures { option_copied result ≡ stored_at self.now page }
     {
-        if let Some((other, entry)) = self.map.get_index(place)
+        if let Some((other, stored)) = self.map.get_index(place)
             && *other == page
         {
-            return Some(entry);
+            return Some(&stored.entry);
         }
         self.get(page)
     }
@@ -176,15 +178,7 @@ impl<A: Allocator + Copy> Entries<A> {
         ensures entries { IfOk result (λ copy. (rest : Page → model.Entry) → entries_of rest copy ≡ entries_of rest self.now) }
         ensures stored { IfOk result (λ copy. is_stored copy ≡ is_stored self.now) }
     {
-        let count = self.map.len();
-        let mut map = IndexMap::with_capacity(*self.map.allocator(), count)?;
-        for index in 0..count {
-            let Some((page, entry)) = self.map.get_index(index) else {
-                unreachable!()
-            };
-            let entry = entry.copy()?;
-            put(&mut map, *page, entry);
-        }
+        let map = self.map.clone()?;
         Ok(Entries { map })
     }
 }

@@ -30,6 +30,7 @@ mod reaching;
 mod rising_places;
 mod showing;
 mod slot;
+mod stored;
 mod turning;
 
 pub use addressing::{to_manager, to_site};

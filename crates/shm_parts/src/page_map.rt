@@ -11,6 +11,9 @@ use shm_place::{PAGES, PageId, SegId};
 use std::alloc::{AllocError, Allocator};
 use std::hash::{BuildHasherDefault, FoldHasher};
 
+/// A look at each page of so large a map is a longer way than a look-up of each page that a segment may have.
+const LARGE: usize = 16 * PAGES as usize;
+
 /// Puts a value at a page, for which there is room.
 pub(crate) fn put<V: Drop, A: Allocator + Copy>(
     map: &mut IndexMap<PageId, V, BuildHasherDefault<FoldHasher>, A>,
@@ -44,7 +47,7 @@ pub(crate) fn place_or<A: Allocator + Copy>(
 }
 
 /// The index behind the last of the segment's pages that the map has, or 0; `PAGES` where the map is so large that a look at each of its
-/// pages is the longer way than one at each that the segment may have.
+/// pages is the longer way than a look-up of each that the segment may have.
 pub(crate) fn end_of<V: Drop, A: Allocator>(
     map: &IndexMap<PageId, V, BuildHasherDefault<FoldHasher>, A>,
     id: SegId,
@@ -52,7 +55,7 @@ pub(crate) fn end_of<V: Drop, A: Allocator>(
     ensures { (page : Page) → is_past id result page ≡ true → lookup (same_page page) map.now.entries ≡ None }
 {
     let count = map.len();
-    if count >= PAGES as usize {
+    if count >= LARGE {
         return PAGES;
     }
     let mut end = 0;

@@ -11,6 +11,7 @@ ghost use Rattle.shm_parts.specs.Message.{entry_note_of};
 
 use crate::change::Change;
 use crate::message::EntryNote;
+use crate::stored::StoredEntry;
 use shm_model::Kind;
 use shm_page::{Entry, NilPage, Out};
 use shm_place::{PageId, SiteId, Sites, manager_of};
@@ -25,20 +26,25 @@ pub(crate) fn open<A: Allocator + Copy>(
     sites: Sites,
     me: SiteId,
     page: PageId,
-) -> Result<Entry<A>, AllocError>
+) -> Result<StoredEntry<A>, AllocError>
     ensures { IfOk result (λ entry. entry_of entry ≡ untouched sites me page) }
 {
-    Entry::opening(alloc, manager_of(sites, page) == me)
+    let entry = Entry::opening(alloc, manager_of(sites, page) == me)?;
+    Ok(StoredEntry { entry })
 }
 
 /// Stores a byte where the entry may be written, and tells whether it did.
 #[inline(always)]
-pub(crate) fn store_in<A: Allocator + Copy>(entry: &mut Entry<A>, within: usize, byte: u8) -> bool
+pub(crate) fn store_in<A: Allocator + Copy>(
+    entry: &mut StoredEntry<A>,
+    within: usize,
+    byte: u8,
+) -> bool
     requires { within < page_bytes }
     ensures writable { result ≡ model.writable (entry_of entry.old) }
     ensures after { entry_of entry.new ≡ (if result then stored_entry within byte (entry_of entry.old) else entry_of entry.old) }
 {
-    let Entry::OwnWrite(page) = entry else {
+    let Entry::OwnWrite(page) = &mut entry.entry else {
         return false;
     };
     page.store(within, byte);
@@ -47,7 +53,7 @@ pub(crate) fn store_in<A: Allocator + Copy>(entry: &mut Entry<A>, within: usize,
 
 /// Runs the note's row of the entry's table. Where memory is refused, the note comes back and nothing changes.
 pub(crate) fn turn_in<A: Allocator + Copy>(
-    entry: &mut Entry<A>,
+    entry: &mut StoredEntry<A>,
     me: SiteId,
     note: EntryNote<A>,
 ) -> Result<(Out<A>, Change), EntryNote<A>>
@@ -57,27 +63,27 @@ pub(crate) fn turn_in<A: Allocator + Copy>(
     ensures back { IfErr result (λ back. entry_note_of back ≡ entry_note_of note) }
     ensures refused { OnErr result (entry_of entry.new ≡ entry_of entry.old) }
 {
-    let seen = entry.seen();
-    let before = mem::replace(entry, Entry::Nil(NilPage::after(0)));
+    let seen = entry.entry.seen();
+    let before = mem::replace(&mut entry.entry, Entry::Nil(NilPage::after(0)));
     match turn(before, me, note) {
         Ok((after, out)) => {
             let change = change_since(seen, &after);
-            *entry = after;
+            entry.entry = after;
             Ok((out, change))
         }
         Err((before, note)) => {
-            *entry = before;
+            entry.entry = before;
             Err(note)
         }
     }
 }
 
 /// Gives the bytes up; what the entry met stays met.
-pub(crate) fn forget_in<A: Allocator + Copy>(entry: &mut Entry<A>)
+pub(crate) fn forget_in<A: Allocator + Copy>(entry: &mut StoredEntry<A>)
     ensures { entry_of entry.new ≡ model.forget (entry_of entry.old) }
 {
-    let seen = entry.seen();
-    *entry = Entry::Nil(NilPage::after(seen));
+    let seen = entry.entry.seen();
+    entry.entry = Entry::Nil(NilPage::after(seen));
 }
 
 /// The entry that the note makes of this one, and what the site sends. Where memory is refused, both come back.

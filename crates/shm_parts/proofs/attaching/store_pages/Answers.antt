@@ -2,6 +2,7 @@ use Rattle.std.proofs.Common.{◌≡◌, ◌∙◌, ℕ, ap, sym, ⊎_elim, arit
 use Rattle.std.proofs.lemmas.Bool.{cases_lt}
 use Rattle.shm_parts.specs.Entries.{is_stored}
 use Rattle.shm_parts.specs.Reach.{manages}
+use Rattle.shm_parts.proofs.ManagerLemmas.{manager_behind}
 use Rattle.shm_parts.proofs.attaching.store_pages.Goals as goal
 
 pub returns-in_err-place-clause-same : goal.returns-in_err-place-clause-same
@@ -18,5 +19,7 @@ pages-preserved g c = record {
       ap (λ (n : ℕ). is_stored c.store_managed.new.entries (record { seg = c.args.id; index = n })) last
       ∙ c.in_ok-place.ensures.stored (ap (λ (n : ℕ). manages c.args.sites c.args.me (record { seg = c.args.id; index = n })) (sym last) ∙ mine))
       (cases_lt index c.pages.index);
+  manager = c.behind-manager.ensures.next ∙ manager_behind c.args.sites c.args.id c.pages.index c.pages.manager c.pages.invariant.manager;
+  below = c.behind-manager.ensures.below;
   others = λ other h. c.store_managed.ensures.others other (c.pages.invariant.others other h);
 }

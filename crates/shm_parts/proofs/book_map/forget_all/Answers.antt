@@ -11,7 +11,7 @@ index_mut-requires g c =
 
 pub books-preserved : goal.books-preserved
 books-preserved g c =
-    forget_more c.books.place c.books.books.entries _ (viewed c.args.books.now.entries) c.index_mut.result.now c.forget_volatile.new.self c.books.invariant c.index_mut.ensures.value c.forget_volatile.ensures refl
+    forget_more c.books.place c.books.books.entries _ (viewed c.args.books.now.entries) c.index_mut.result.now c.forget_volatile_in.new.book c.books.invariant c.index_mut.ensures.value c.forget_volatile_in.ensures refl
 
 pub returns : goal.returns
 returns g c =

@@ -9,14 +9,14 @@ use Rattle.shm_parts.proofs.BookSteps.{present_step, put_back, room_for_all, whe
 use Rattle.shm_parts.proofs.BookedLemmas.{any_booked, booked_put, settled_off}
 use Rattle.shm_parts.proofs.books.Books.confirm.Goals as goal
 
-pub returns-in_default-ending-clause-step : goal.returns-in_default-ending-clause-step
-returns-in_default-ending-clause-step g c = λ me site.
+pub returns-in_default-ending_in-clause-step : goal.returns-in_default-ending_in-clause-step
+returns-in_default-ending_in-clause-step g c = λ me site.
     let old = c.args.self.now in
     let book = c.in-Some.book.now in
     let written = c.get_mut.follows.holds book in
     let found = sym c.in-Some.ensures.value in
     present_step me c.args.page (model.on_confirm c.args.from c.args.number) outcome.Ignored old.map.entries (c.get_mut.follows.lender book).entries (booked_of old) (booked_of old)
-    book book site found (sym c.in_default-ending.ensures.ignored) refl (written.3 (ap is_some found)).0 refl
+    book book site found (sym c.in_default-ending_in.ensures.ignored) refl (written.3 (ap is_some found)).0 refl
     (any_booked old.map.entries old.bookings c.args.page old.booked ∙ ap is_some found)
 
 pub returns-in_err-reserve-clause-refused : goal.returns-in_err-reserve-clause-refused
@@ -37,7 +37,7 @@ invariant_of-self-2 g c =
     record {
       booked = booked_put old.map.entries (c.get_mut.follows.lender next).entries old.bookings c.settle.new.self page c.in-Some.book.now next found (written.3 (ap is_some found)).0 c.settle.ensures.there
           (λ q apart h. c.settle.ensures.others q (ap (λ (b : Bool). b && not c.runs-runs.result) apart) h)
-          (λ h. c.settle.ensures.others page (settled_off (same_page page page) c.runs-runs.result _ c.runs-runs.ensures h) (old.booked.running c.args.page (ap (λ o. is_some (book_or (model.untouched_book 0) o).running) found ∙ ap is_some c.in-Some-ending.ensures.runs))) old.booked;
+          (λ h. c.settle.ensures.others page (settled_off (same_page page page) c.runs-runs.result _ c.runs-runs.ensures h) (old.booked.running c.args.page (ap (λ o. is_some (book_or (model.untouched_book 0) o).running) found ∙ ap is_some c.in-Some-ending_in.ensures.runs))) old.booked;
     }
 
 pub returns-clause-step : goal.returns-clause-step
@@ -47,7 +47,7 @@ returns-clause-step g c = λ me site.
     let written = c.get_mut.follows.holds next in
     let found = sym c.in-Some.ensures.value in
     present_step me c.args.page (model.on_confirm c.args.from c.args.number) c.confirm_in-outcome.result old.map.entries (c.get_mut.follows.lender next).entries (booked_of old) (listed_of c.settle.new.self)
-    c.in-Some.book.now next site found (c.confirm_in-outcome.ensures.row ∙ sym c.in-Some-ending.ensures.row) c.confirm_in-outcome.ensures.settled (written.3 (ap is_some found)).0 c.settle.ensures.listed
+    c.in-Some.book.now next site found (c.confirm_in-outcome.ensures.row ∙ sym c.in-Some-ending_in.ensures.row) c.confirm_in-outcome.ensures.settled (written.3 (ap is_some found)).0 c.settle.ensures.listed
     (any_booked old.map.entries old.bookings c.args.page old.booked ∙ ap is_some found)
 
 pub returns-clause-room : goal.returns-clause-room
