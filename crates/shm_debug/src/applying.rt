@@ -3,10 +3,13 @@ ghost use Rattle.std.specs.Prelude.{◌≡◌, ◌<◌, List, [], ◌∷◌, ◌
 ghost use Rattle.std.specs.Vec.{vec_capacity, vec_len};
 ghost use Rattle.shm_model.specs.World as model;
 ghost use Rattle.shm_model.specs.declared.event.Event.{Event};
+ghost use Rattle.shm_debug.specs.Said.{said_to_event};
 ghost use Rattle.shm_debug.specs.Standing.{with_event, world_of};
+ghost use Rattle.shm_debug.specs.Text.{line_text};
 ghost use Rattle.shm_world.specs.World.{StandsFor, may_grow};
 
 use crate::session::Session;
+use crate::telling::Text;
 use shm_world::{Answer, Event, World};
 use std::alloc::{AllocError, Allocator};
 
@@ -14,7 +17,6 @@ impl<A: Allocator + Copy> Session<A> {
     /// One more event, which stands from then on. Where memory is refused, all that is kept for going back is dropped, and the event is
     /// tried once more with nothing kept of it; what stands is then as it was. A load or store that has the right needs memory for the
     /// list of the events alone, and so does a restart or a loss.
-    #[inline(always)]
     pub fn apply(&mut self, event: Event) -> Result<Answer, AllocError>
         ensures answered { IfOk result (λ answer. answer ≡ (model.next (world_of self.old) event).done.answer) }
         ensures ok { OnOk result (self.new ≡ with_event self.old event) }
@@ -28,6 +30,55 @@ impl<A: Allocator + Copy> Session<A> {
             return made;
         }
         self.make_again(&event)
+    }
+
+    /// One more event, as [`Session::apply`] makes it, and the line that tells its answer.
+    // The answer is told where it was made: handing it on would copy it at each step.
+    #[inline(always)]
+    pub(crate) fn apply_and_tell(
+        &mut self,
+        event: &Event,
+        number: u64,
+        output: &mut Text<A>,
+    ) -> Result<(), AllocError>
+        ensures told { OnOk result (output.new ≡ output.old ++ line_text number (said_to_event self.old event.now)) }
+        ensures next { OnOk result (self.new ≡ with_event self.old event.now) }
+        ensures err { OnErr result (output.new ≡ output.old) }
+    {
+        if self.undos.wants_next() {
+            return self.apply_then_tell(event, number, output);
+        }
+        let Ok(()) = self.events.reserve(1) else {
+            return self.apply_then_tell(event, number, output);
+        };
+        let first = self.world.sent();
+        self.undos.miss();
+        match &self.world.step(*event) {
+            Ok(answer) => {
+                self.events.push_reserved(*event);
+                output.tell_answer(number, answer, &self.world, first)
+            }
+            Err(_) => self.apply_then_tell(event, number, output),
+        }
+    }
+
+    /// One more event, and then the line that tells its answer.
+    #[inline(never)]
+    fn apply_then_tell(
+        &mut self,
+        event: &Event,
+        number: u64,
+        output: &mut Text<A>,
+    ) -> Result<(), AllocError>
+        ensures told { OnOk result (output.new ≡ output.old ++ line_text number (said_to_event self.old event.now)) }
+        ensures next { OnOk result (self.new ≡ with_event self.old event.now) }
+        ensures err { OnErr result (output.new ≡ output.old) }
+    {
+        let first = self.world.sent();
+        match &self.apply(*event) {
+            Ok(answer) => output.tell_answer(number, answer, &self.world, first),
+            Err(_) => Err(AllocError),
+        }
     }
 
     /// The event, of which is kept what takes it back; where memory is refused, once more.

@@ -4,15 +4,13 @@ ghost use Rattle.shm_lines.specs.Line.{is_first};
 ghost use Rattle.shm_lines.specs.Spelling.{IsLine};
 ghost use Rattle.shm_debug.specs.Text.{line_text};
 ghost use Rattle.shm_debug.specs.Replay.{summary_at};
-ghost use Rattle.shm_debug.specs.Said.{said, said_to_back, said_to_event, next, next_back};
-ghost use Rattle.shm_debug.specs.Standing.{with_event};
+ghost use Rattle.shm_debug.specs.Said.{said, said_to_back, next, next_back};
 
 use crate::notice::Notice;
 use crate::outcome::Summary;
 use crate::telling::Text;
 use crate::{BackFault, Session};
 use shm_lines::Line;
-use shm_model::Event;
 use std::alloc::{AllocError, Allocator};
 
 /// A line that may stand here: the first one opens the session, the others are turns of it.
@@ -67,29 +65,10 @@ fn turn<A: Allocator + Copy>(
     ensures err { OnErr result (output.new ≡ output.old) }
 {
     match line {
-        Line::Event(event) => happen(session, number, event, output),
+        Line::Event(event) => session.apply_and_tell(&event, number, output),
         Line::Show(page) => output.tell_page(number, session.world(), page),
         Line::Back(count) => go_back(session, number, count, output),
         Line::Sites(_) => unreachable!(),
-    }
-}
-
-/// An event happens.
-#[inline(always)]
-fn happen<A: Allocator + Copy>(
-    session: &mut Session<A>,
-    number: u64,
-    event: Event,
-    output: &mut Text<A>,
-) -> Result<(), AllocError>
-    ensures told { OnOk result (output.new ≡ output.old ++ line_text number (said_to_event session.old event)) }
-    ensures next { OnOk result (session.new ≡ with_event session.old event) }
-    ensures err { OnErr result (output.new ≡ output.old) }
-{
-    let first = session.world().sent();
-    match &session.apply(event) {
-        Ok(answer) => output.tell_answer(number, answer, session.world(), first),
-        Err(_) => Err(AllocError),
     }
 }
 
