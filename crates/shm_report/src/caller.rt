@@ -15,7 +15,7 @@ pub(crate) fn call_all<R: Wait>(
     client: &Client<'_>,
     accesses: &[WorkloadAccess],
 ) -> Result<Vec<Receipt>, CallFault>
-    ensures served { IfOk result (λ receipts. ServesAll client.now.site accesses.now receipts.items) }
+    ensures served { IfOk result (λ receipts. ServesAll client.now.post.now.number accesses.now receipts.items) }
     ensures place { IfErr result (λ fault. fault.place < length accesses.now) }
 {
     let mut receipts = Vec::new(alloc);
@@ -35,7 +35,7 @@ fn add<R: Wait>(
     access: &WorkloadAccess,
     receipts: &mut Vec<Receipt>,
 ) -> Result<(), ClientFault>
-    ensures { OnOk result (Adds client.now.site access.now receipts.old.items receipts.new.items) }
+    ensures { OnOk result (Adds client.now.post.now.number access.now receipts.old.items receipts.new.items) }
 {
     if access.site != client.site() {
         return Ok(());

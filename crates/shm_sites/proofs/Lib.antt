@@ -1,3 +1,4 @@
 pub mod Audits
 pub mod Pushes
 pub mod Carried
+pub mod Posts

@@ -3,4 +3,5 @@ pub mod Posted
 pub mod Fate
 pub mod Carried
 pub mod Client
+pub mod Posts
 pub mod Sites

@@ -50,7 +50,7 @@ impl<A: Allocator + Copy> Cluster<A> {
     /// A client of this site. It fails where no site has the number.
     pub fn client(&self, site: SiteId) -> Result<Client<'_, A>, NoSuchSite>
         ensures known { IsOk result ↔ site < sites_of self.now }
-        ensures site { IfOk result (λ client. client.site ≡ site) }
+        ensures site { IfOk result (λ client. client.post.now.number ≡ site) }
         ensures own { IfOk result (λ client. IsItemAt (arc_value self.now.shared).posts.items site (Some client.post)) }
         ensures shared { IfOk result (λ client. client.shared.now ≡ arc_value self.now.shared) }
     {

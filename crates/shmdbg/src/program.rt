@@ -4,7 +4,7 @@ ghost use Rattle.shmdbg.specs.Around.{streams};
 ghost use Rattle.shmdbg.specs.Begun.{header_at};
 ghost use Rattle.shmdbg.specs.Done.{Does, IsDone, IsUnrun, has_audit};
 ghost use Rattle.shmdbg.specs.Served.{site_status, IsSite};
-ghost use Rattle.shmdbg.specs.Status.{AsksForAudit, Fails, Pictures, Replays, Reports, Takes};
+ghost use Rattle.shmdbg.specs.Status.{AsksForAudit, Pictures, Replays, Reports, Takes};
 ghost use Rattle.shmdbg.specs.Words.{IsOneOfSites};
 
 use crate::auditing::audit;
@@ -217,8 +217,11 @@ fn run<
     ensures quiet { (result ≡ 1) ⊎ (result ≡ 4) → out.new ≡ out.old }
 {
     match open_wanted(rt, sites, wanted.log) {
-        Ok(()) => run_ready(rt, sites, seed, wanted, reader, out, errors),
-        Err(fault) => tell::logs_fault(&fault, errors),
+        Ok(()) => match tell_run(rt, sites, seed, wanted, reader, out) {
+            Ok(()) => 0,
+            Err(failed) => workload_fault(failed, sites, reader, errors),
+        },
+        Err(unlogged) => tell::logs_fault(&unlogged, errors),
     }
 }
 
@@ -231,34 +234,5 @@ fn open_wanted<R: AllocGlobal + Files>(
     match log {
         Some(folder) => open_logs(rt, folder, sites),
         None => Ok(()),
-    }
-}
-
-/// Runs a workload, and answers the exit status.
-fn run_ready<
-    R: AllocGlobal + Clock + Files + Threads + Wait + Copy + Send + Sync + 'static,
-    I: Read + Recalls,
-    O: Write,
-    E: Write,
->(
-    rt: &R,
-    sites: Sites,
-    seed: u32,
-    wanted: &Wanted<'_>,
-    reader: &mut I,
-    out: &mut O,
-    errors: &mut E,
-) -> u8
-    ensures range { result < 5 }
-    ensures taken { result ≢ 2 }
-    ensures reported { result ≡ 0 →
-        Reports sites wanted.now.summary (I.remaining reader.old) (O.contents out.old) (O.contents out.new) }
-    ensures failed { result ≢ 0 →
-        Fails sites wanted.now.summary (I.remaining reader.old) result (O.contents out.old) (O.contents out.new) }
-    ensures quiet { (result ≡ 1) ⊎ (result ≡ 4) → out.new ≡ out.old }
-{
-    match tell_run(rt, sites, seed, wanted, reader, out) {
-        Ok(()) => 0,
-        Err(fault) => workload_fault(fault, sites, reader, errors),
     }
 }

@@ -28,20 +28,19 @@ const TURNS_OF_A_TICK: u32 = 64;
 pub struct Client<'a, A: Allocator + Copy = Global> {
     pub(crate) shared: &'a Shared<A>,
     pub(crate) post: &'a Post<A>,
-    pub(crate) site: SiteId,
 }
 
 impl<'a, A: Allocator + Copy> Client<'a, A> {
     /// The site.
     pub fn site(&self) -> SiteId
-        ensures { result ≡ self.now.site }
+        ensures { result ≡ self.now.post.now.number }
     {
-        self.site
+        self.post.number
     }
 
     /// One load. The site may answer that it has no right to the page; it has then asked for it.
     pub fn try_load<R: Wait>(&self, rt: &R, at: u32, offset: u32) -> Result<Receipt, ClientFault>
-        ensures tells { IfOk result (TellsOf self.now.site (Load at offset)) }
+        ensures tells { IfOk result (TellsOf self.now.post.now.number (Load at offset)) }
         ensures fault { IfErr result (λ fault. fault ≢ cause.GaveUp) }
     {
         self.step(rt, Asked::Load { at, offset })
@@ -55,7 +54,7 @@ impl<'a, A: Allocator + Copy> Client<'a, A> {
         offset: u32,
         byte: u8,
     ) -> Result<Receipt, ClientFault>
-        ensures tells { IfOk result (TellsOf self.now.site (Store at offset byte)) }
+        ensures tells { IfOk result (TellsOf self.now.post.now.number (Store at offset byte)) }
         ensures fault { IfErr result (λ fault. fault ≢ cause.GaveUp) }
     {
         self.step(rt, Asked::Store { at, offset, byte })
@@ -65,7 +64,7 @@ impl<'a, A: Allocator + Copy> Client<'a, A> {
     /// every 64th turn without such a step each site that has nothing else to hear is told of a tick, since a message may be lost.
     /// `GaveUp` comes after a million turns.
     pub fn load<R: Wait>(&self, rt: &R, at: u32, offset: u32) -> Result<Receipt, ClientFault>
-        ensures tells { IfOk result (TellsOf self.now.site (Load at offset)) }
+        ensures tells { IfOk result (TellsOf self.now.post.now.number (Load at offset)) }
         ensures served { IfOk result IsServed }
     {
         self.serve(rt, Asked::Load { at, offset })
@@ -79,7 +78,7 @@ impl<'a, A: Allocator + Copy> Client<'a, A> {
         offset: u32,
         byte: u8,
     ) -> Result<Receipt, ClientFault>
-        ensures tells { IfOk result (TellsOf self.now.site (Store at offset byte)) }
+        ensures tells { IfOk result (TellsOf self.now.post.now.number (Store at offset byte)) }
         ensures served { IfOk result IsServed }
     {
         self.serve(rt, Asked::Store { at, offset, byte })
@@ -87,12 +86,25 @@ impl<'a, A: Allocator + Copy> Client<'a, A> {
 
     /// The same for this load or store.
     pub fn serve<R: Wait>(&self, rt: &R, asked: Asked) -> Result<Receipt, ClientFault>
-        ensures tells { IfOk result (TellsOf self.now.site (access_of asked)) }
+        ensures tells { IfOk result (TellsOf self.now.post.now.number (access_of asked)) }
+        ensures served { IfOk result IsServed }
+    {
+        self.serve_within(rt, asked, TURNS)
+    }
+
+    /// The same within so many turns.
+    pub(crate) fn serve_within<R: Wait>(
+        &self,
+        rt: &R,
+        asked: Asked,
+        turns: u32,
+    ) -> Result<Receipt, ClientFault>
+        ensures tells { IfOk result (TellsOf self.now.post.now.number (access_of asked)) }
         ensures served { IfOk result IsServed }
     {
         let mut last = None;
         let mut quiet: u32 = 0;
-        'turns: for _ in 0..TURNS {
+        'turns: for _ in 0..turns {
             if self.has_news(rt, last) {
                 let receipt = self.step(rt, asked)?;
                 if !waits(receipt.answer()) {
@@ -131,11 +143,11 @@ impl<'a, A: Allocator + Copy> Client<'a, A> {
 
     /// One step under the site's lock, which is let go before anything is sent. Where memory is refused for what it sent, nothing is.
     fn step<R: Wait>(&self, rt: &R, asked: Asked) -> Result<Receipt, ClientFault>
-        ensures tells { IfOk result (TellsOf self.now.site (access_of asked)) }
+        ensures tells { IfOk result (TellsOf self.now.post.now.number (access_of asked)) }
         ensures fault { IfErr result (λ fault. fault ≢ cause.GaveUp) }
     {
         let mut held = self.post.site.lock(rt);
-        match access(&mut held, self.site, asked) {
+        match access(&mut held, self.post.number, asked) {
             Ok(receipt) => {
                 let posted = copies_of(self.shared.alloc, held.log(), receipt.index());
                 drop(held);

@@ -16,13 +16,13 @@ impl<'a, A: Allocator + Copy> Clients<'a, A> {
     /// A client of this site. It fails where no site has the number.
     pub fn client(&self, site: SiteId) -> Result<Client<'a, A>, NoSuchSite>
         ensures known { IsOk result ↔ site < vec_len self.now.shared.now.posts }
-        ensures site { IfOk result (λ client. client.site ≡ site) }
+        ensures site { IfOk result (λ client. client.post.now.number ≡ site) }
         ensures own { IfOk result (λ client. IsItemAt self.now.shared.now.posts.items site (Some client.post)) }
         ensures shared { IfOk result (λ client. client.shared ≡ self.now.shared) }
     {
         let shared = self.shared;
         match shared.post_of(site) {
-            Some(post) => Ok(Client { shared, post, site }),
+            Some(post) => Ok(Client { shared, post }),
             None => Err(NoSuchSite),
         }
     }

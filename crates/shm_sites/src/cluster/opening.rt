@@ -1,5 +1,6 @@
 //! The sites of a cluster before their threads run.
 ghost use Rattle.std.specs.Prelude.{◌≡◌, ◌≤◌, ◌<◌, IfOk, vec_len};
+ghost use Rattle.shm_sites.specs.Cluster.Posts.{AtTheirNumbers};
 
 use crate::boxes::SiteBox;
 use crate::cluster::shared::Post;
@@ -23,7 +24,8 @@ pub(crate) fn open<A: Allocator + Copy>(
 ) -> Result<Opened<A>, AllocError>
     requires from { 1 ≤ pages }
     requires to { pages ≤ PAGES }
-    ensures { IfOk result (λ opened. vec_len opened.posts ≡ sites) }
+    ensures sites { IfOk result (λ opened. vec_len opened.posts ≡ sites) }
+    ensures numbered { IfOk result (λ opened. AtTheirNumbers opened.posts.items) }
 {
     let mut posts = Vec::new(alloc);
     let mut desks = Vec::new(alloc);
@@ -44,10 +46,12 @@ fn open_site<A: Allocator + Copy>(
     requires below { site < sites }
     requires from { 1 ≤ pages }
     requires to { pages ≤ PAGES }
+    ensures { IfOk result (λ opened. opened.0.number ≡ site) }
 {
     let (sender, mail) = crossbeam_channel::unbounded(alloc)?;
     let new = SiteBox::new(alloc, sites, site, pages)?;
     let post = Post {
+        number: site,
         site: Mutex::new(new),
         mail: sender,
     };

@@ -1,5 +1,7 @@
 //! What the threads and the clients of a cluster share.
+ghost use Rattle.std.specs.Prelude.{◌≡◌, IfSome};
 ghost use Rattle.std.specs.Slice.{IsItemAt};
+ghost use Rattle.shm_sites.specs.Cluster.Posts.{AtTheirNumbers};
 
 use crate::boxes::SiteBox;
 use crate::cluster::mail::Mail;
@@ -9,9 +11,10 @@ use shm_place::SiteId;
 use std::alloc::{AllocError, Allocator, Global};
 use std::sync::{Mutex, Wait};
 
-/// A site in its box, under its lock, and the channel of its thread.
+/// A site's number, the site in its box, under its lock, and the channel of its thread.
 #[derive(Drop)]
 pub(crate) struct Post<A: Allocator + Copy = Global> {
+    pub(crate) number: SiteId,
     pub(crate) site: Mutex<SiteBox<A>>,
     pub(crate) mail: Sender<Mail<A>, A>,
 }
@@ -21,12 +24,14 @@ pub(crate) struct Post<A: Allocator + Copy = Global> {
 pub(crate) struct Shared<A: Allocator + Copy = Global> {
     pub(crate) posts: Vec<Post<A>, A>,
     pub(crate) alloc: A,
+    ghost numbered: { AtTheirNumbers posts.items },
 }
 
 impl<A: Allocator + Copy> Shared<A> {
     /// What is shared of the site of this number, where there is one.
     pub(crate) fn post_of(&self, site: SiteId) -> Option<&Post<A>>
-        ensures { IsItemAt self.now.posts.items site result }
+        ensures item { IsItemAt self.now.posts.items site result }
+        ensures number { IfSome result (λ post. post.now.number ≡ site) }
     {
         self.posts.get(site.0 as usize)
     }

@@ -61,7 +61,7 @@ fn logs<A: Allocator + Copy>(shared: Shared<A>) -> Result<Vec<SiteLog<A>, A>, Al
     let Shared { posts, alloc } = shared;
     let mut logs = Vec::with_capacity(alloc, posts.len())?;
     'sites: for post in posts {
-        let Post { site, mail } = post;
+        let Post { site, mail, .. } = post;
         drop(mail);
         logs.push_reserved(site.into_inner().into_log());
     }

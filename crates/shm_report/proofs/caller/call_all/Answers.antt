@@ -5,5 +5,5 @@ use Rattle.shm_report.proofs.caller.call_all.Goals as goal
 pub accesses-preserved : goal.accesses-preserved
 accesses-preserved g c =
     one_call
-    c.args.client.now.site c.args.accesses.now c.accesses.place c.index-accesses-place.result c.accesses.receipts.items c.add.new.receipts.items
+    c.args.client.now.post.now.number c.args.accesses.now c.accesses.place c.index-accesses-place.result c.accesses.receipts.items c.add.new.receipts.items
     c.accesses-test.true c.index-accesses-place.is c.accesses.invariant c.in-Ok.ensures

@@ -4,4 +4,4 @@ use Rattle.shm_report.specs.Callers.{ServesAll}
 use Rattle.shm_report.proofs.caller.call_all.Given as goal
 
 abbrev pub invariant-accesses : goal.invariant-accesses
-invariant-accesses g l = ServesAll l.client.site (take l.place l.accesses) l.receipts.items
+invariant-accesses g l = ServesAll l.client.post.now.number (take l.place l.accesses) l.receipts.items

@@ -175,8 +175,16 @@ fn sixteen_sites(rt: HostRuntime) -> Result<(), Fail> {
 }
 
 #[test]
-fn twenty_seeds(rt: HostRuntime) -> Result<(), Fail> {
-    for seed in 0..20 {
+fn ten_seeds(rt: HostRuntime) -> Result<(), Fail> {
+    for seed in 0..10 {
+        run(&rt, rt.alloc(), 4, 500, seed)?;
+    }
+    Ok(())
+}
+
+#[test]
+fn ten_further_seeds(rt: HostRuntime) -> Result<(), Fail> {
+    for seed in 10..20 {
         run(&rt, rt.alloc(), 4, 500, seed)?;
     }
     Ok(())

@@ -1,6 +1,7 @@
 //! Ticks for which a channel has no memory, and those of a client that waits.
 use super::{HEAP, Still, filled_but, opened_in};
 use crate::ClientFault;
+use crate::boxes::Asked;
 use crate::cluster::mail::Mail;
 use linked_list_allocator::LocalHeap;
 use shm_place::SiteId;
@@ -81,6 +82,10 @@ fn ticks(still: &Still<'_>) -> Ticks {
 /// An offset in page 1, which site 1 manages.
 const THERE: u32 = 4096;
 
+/// How many turns the client has here, with more than a hundred ticks among them. A load or store of a user has a hundred times as many, which
+/// take a crowded machine a minute.
+const TURNS: u32 = 10_000;
+
 /// Nobody hears what is sent. A client that waits until it gives up has made one step, and each channel has one message: site 1's the Ask,
 /// the others' a tick.
 #[test]
@@ -101,7 +106,11 @@ fn waited<R: Wait>(rt: &R, still: &Still<'_>) -> Result<(Option<ClientFault>, us
     let Ok(client) = still.cluster.client(SiteId(0)) else {
         return Err(Fail::new("no site 0"));
     };
-    let fault = client.load(rt, 0, THERE).err();
+    let asked = Asked::Load {
+        at: 0,
+        offset: THERE,
+    };
+    let fault = client.serve_within(rt, asked, TURNS).err();
     let held = client.post.site.lock(rt);
     Ok((fault, held.log().len(), ticks(still)))
 }
