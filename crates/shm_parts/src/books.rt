@@ -49,7 +49,7 @@ impl<A: Allocator + Copy> Books<A> {
 
     /// A request for a right to the page, which a segment may have. One that starts a transaction takes memory: room for its orders, and
     /// for the page's mark, and the page's first one for its book. Where that is refused nothing changes.
-    pub fn ask<O: Outbox<Envelope<A>>>(
+    pub fn on_ask<O: Outbox<Envelope<A>>>(
         &mut self,
         alloc: A,
         me: SiteId,
@@ -119,7 +119,7 @@ impl<A: Allocator + Copy> Books<A> {
     }
 
     /// A site has given up its copy of the page.
-    pub fn cleared(&mut self, page: PageId, from: SiteId, number: u64) -> Outcome
+    pub fn on_cleared(&mut self, page: PageId, from: SiteId, number: u64) -> Outcome
         requires { from < 16 }
         ensures step { (me : ℕ) (site : Site) → to_book me page (model.on_cleared from number (books_of me self.old page)) (with_books me self.old site)
             ≡ booked_step me page result (with_books me self.new site) }
@@ -133,7 +133,7 @@ impl<A: Allocator + Copy> Books<A> {
 
     /// A site has what it asked for. Where that ends the transaction that runs it takes memory: room for the orders of the next. Where
     /// that is refused nothing changes. Where the Confirm is ignored the page's mark stays as it is.
-    pub fn confirm<O: Outbox<Envelope<A>>>(
+    pub fn on_confirm<O: Outbox<Envelope<A>>>(
         &mut self,
         page: PageId,
         from: SiteId,

@@ -60,7 +60,7 @@ impl<A: Allocator + Copy> Site<A> {
     {
         let outcome = self
             .books
-            .ask(self.alloc, self.me, *page, from, request, kind, outbox)?;
+            .on_ask(self.alloc, self.me, *page, from, request, kind, outbox)?;
         Ok(answer_row(self.me, page, outcome, outbox))
     }
 
@@ -78,7 +78,7 @@ impl<A: Allocator + Copy> Site<A> {
         ensures refused { OnErr result (Unchanged O.posted self.old self.new outbox.old outbox.new) }
     {
         outbox.reserve(1)?;
-        let outcome = self.books.cleared(*page, from, number);
+        let outcome = self.books.on_cleared(*page, from, number);
         Ok(answer_row(self.me, page, outcome, outbox))
     }
 
@@ -95,7 +95,7 @@ impl<A: Allocator + Copy> Site<A> {
             (to_book self.old.me page.now (book.on_confirm from number ((site_of self.old).books page.now)) (site_of self.old))) }
         ensures refused { OnErr result (Unchanged O.posted self.old self.new outbox.old outbox.new) }
     {
-        let outcome = self.books.confirm(*page, from, number, outbox)?;
+        let outcome = self.books.on_confirm(*page, from, number, outbox)?;
         Ok(answer_row(self.me, page, outcome, outbox))
     }
 }

@@ -26,13 +26,13 @@ returns-in_err-outcome-clause-memory g c =
 pub returns-in_err-outcome-clause-refused : goal.returns-in_err-outcome-clause-refused
 returns-in_err-outcome-clause-refused g c =
     let old = c.args.self.now in
-    let same = books_back old.me old.books c.ask.new.self (site_of old) c.in_err-outcome.ensures.refused.0 c.in_err-outcome.ensures.refused.1 in
+    let same = books_back old.me old.books c.on_ask.new.self (site_of old) c.in_err-outcome.ensures.refused.0 c.in_err-outcome.ensures.refused.1 in
     on_err c.from_residual.result (record { site = same; behind = c.in_err-outcome.ensures.same; seat = (refl, refl) })
 
 pub returns-clause-step : goal.returns-clause-step
 returns-clause-step g c =
     let old = c.args.self.now in
     record {
-      makes = with_room g.O.Outbox.joined c.in_ok-outcome.ensures.same (c.in_ok-outcome.ensures.step (site_of old)) (c.answer_row.ensures (with_books old.me c.ask.new.self (site_of old)));
+      makes = with_room g.O.Outbox.joined c.in_ok-outcome.ensures.same (c.in_ok-outcome.ensures.step (site_of old)) (c.answer_row.ensures (with_books old.me c.on_ask.new.self (site_of old)));
       seat = (refl, refl);
     }

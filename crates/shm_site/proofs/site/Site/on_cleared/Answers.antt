@@ -8,6 +8,6 @@ pub returns-clause-step : goal.returns-clause-step
 returns-clause-step g c =
     let old = c.args.self.now in
     record {
-      makes = with_room g.O.Outbox.joined c.reserve.ensures.same (c.cleared-outcome.ensures.step old.me (site_of old)) (c.answer_row.ensures (with_books old.me c.cleared-outcome.new.self (site_of old)));
+      makes = with_room g.O.Outbox.joined c.reserve.ensures.same (c.on_cleared-outcome.ensures.step old.me (site_of old)) (c.answer_row.ensures (with_books old.me c.on_cleared-outcome.new.self (site_of old)));
       seat = (refl, refl);
     }

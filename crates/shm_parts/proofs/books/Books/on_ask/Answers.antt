@@ -5,7 +5,7 @@ use Rattle.shm_parts.specs.Books.{booked_of}
 use Rattle.shm_parts.specs.Bookings.{listed_of}
 use Rattle.shm_parts.proofs.BookSteps.{present_step, put_back, room_for_all, where_refused}
 use Rattle.shm_parts.proofs.BookedLemmas.{any_booked, booked_put, booked_there}
-use Rattle.shm_parts.proofs.books.Books.ask.Goals as goal
+use Rattle.shm_parts.proofs.books.Books.on_ask.Goals as goal
 
 pub returns-then-not-starts-clause-step : goal.returns-then-not-starts-clause-step
 returns-then-not-starts-clause-step g c = λ site.

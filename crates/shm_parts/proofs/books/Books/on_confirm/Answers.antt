@@ -7,7 +7,7 @@ use Rattle.shm_place.specs.Page.{same_page}
 use Rattle.shm_parts.specs.Bookings.{listed_of}
 use Rattle.shm_parts.proofs.BookSteps.{present_step, put_back, room_for_all, where_refused}
 use Rattle.shm_parts.proofs.BookedLemmas.{any_booked, booked_put, settled_off}
-use Rattle.shm_parts.proofs.books.Books.confirm.Goals as goal
+use Rattle.shm_parts.proofs.books.Books.on_confirm.Goals as goal
 
 pub returns-in_default-ending_in-clause-step : goal.returns-in_default-ending_in-clause-step
 returns-in_default-ending_in-clause-step g c = λ me site.

@@ -3,7 +3,7 @@ use Rattle.shm_model.specs.Book as model
 use Rattle.shm_parts.specs.Books.{booked_of}
 use Rattle.shm_parts.proofs.BookSteps.{present_step}
 use Rattle.shm_parts.proofs.BookedLemmas.{any_booked}
-use Rattle.shm_parts.proofs.books.Books.cleared.Goals as goal
+use Rattle.shm_parts.proofs.books.Books.on_cleared.Goals as goal
 
 pub returns-in-Some-clause-step : goal.returns-in-Some-clause-step
 returns-in-Some-clause-step g c = λ me site.
