@@ -1,4 +1,5 @@
 mod blocks;
+mod exchanges;
 mod full_heap;
 mod process;
 

@@ -9,7 +9,7 @@ pub(super) const TRIES: usize = 1600;
 pub(super) type Filling<'a> = Vec<Vec<u8, &'a LocalHeap>>;
 
 /// As many blocks as the heap has room for.
-pub(super) fn filled(alloc: Global, heap: &LocalHeap) -> Result<Filling<'_>, AllocError> {
+pub(super) fn fill_heap(alloc: Global, heap: &LocalHeap) -> Result<Filling<'_>, AllocError> {
     let mut blocks = Vec::new(alloc);
     for _ in 0..heap.free() / 16 {
         let block = Vec::with_capacity(heap, 16)?;

@@ -1,5 +1,8 @@
 //! Two nodes that a test carries lines between.
-use crate::tests::full_heap::{Filling, TRIES, filled};
+use crate::tests::exchanges::{
+    Exchange, Records, asks_waiting, counts, first_astray, new_desks, page_line,
+};
+use crate::tests::full_heap::{Filling, TRIES, fill_heap};
 use crate::tests::{new_node, tells, tells_nobody};
 use linked_list_allocator::LocalHeap;
 use shm_model::Answer;
@@ -91,7 +94,7 @@ fn refusals<'a>(
 fn each_growth_is_refused_in_turn(rt: HostRuntime) -> Result<(), Fail> {
     let heap = LocalHeap::new(rt.alloc(), 1 << 16)?;
     let mut node = new_node(&heap, 2, 1)?;
-    let mut filling = filled(rt.alloc(), &heap)?;
+    let mut filling = fill_heap(rt.alloc(), &heap)?;
     let Some(tries) = refusals(&rt, &mut node, &mut filling) else {
         return Err(Fail::new("no step was made"));
     };
@@ -100,36 +103,60 @@ fn each_growth_is_refused_in_turn(rt: HostRuntime) -> Result<(), Fail> {
     Ok(())
 }
 
+/// Site 1 asks for a byte of site 0's page. Beside that, each is told a line that isn't for it.
 #[test]
 fn an_access_is_answered_when_its_page_comes(rt: HostRuntime) -> Result<(), Fail> {
     let alloc = rt.alloc();
-    let mut owner = Desk::new(alloc, new_node(alloc, 2, 0)?);
-    let mut reader = Desk::new(alloc, new_node(alloc, 2, 1)?);
-    owner.take(b"ask 0 a store 0 5 7\nnot a line of ours\nask 1 b lo")?;
-    assert_eq!(rt; owner.output(), "tell 0 a stored\n");
-    assert_eq!(rt; owner.entries(), b"step 1 ask 0 a store 0 5 7\n".as_slice());
-    reader.take(b"ask 1 b load 0 5\nask 1 c show 0 0\n")?;
-    assert_eq!(rt;
-        reader.output(),
-        "env 1 0 1 0 0 ask 0 0 1 read\ntell 1 c page Nil/0\n"
-    );
-    owner.clear();
-    owner.take(b"ad 0 5\n")?;
-    owner.take(b"env 1 0 1 0 0 ask 0 0 1 read\nenv 0 0 2 1 0 hand 0 0 1 read 1\n")?;
-    assert_eq!(rt; owner.node().lines_passed(), 2);
-    assert_eq!(rt;
-        owner.entries(),
-        b"step 2 env 1 0 1 0 0 ask 0 0 1 read\nstep 3 env 0 0 2 1 0 hand 0 0 1 read 1\n".as_slice()
-    );
-    let lent = String::from_str(alloc, owner.output())?;
-    reader.clear();
-    reader.take(lent.as_bytes())?;
-    assert_eq!(rt;
-        reader.output(),
-        "env 1 0 4 1 0 confirm 0 0 1\ntell 1 b byte 7\n"
-    );
-    assert_eq!(rt; reader.node().asks_waiting(), 0);
+    let mut desks = new_desks(alloc, 2)?;
+    let lent = page_line(
+        alloc,
+        "env 0 0 2 1 0 hand 0 0 1 read 1\nenv 0 1 3 2 0 page 0 0 1 read AAAAAAAH",
+        1363,
+        "AA==\n",
+    )?;
+    let exchanges = for_one_byte(lent.as_str());
+    assert_eq!(rt; first_astray(desks.as_mut_slice(), &exchanges)?, None);
+    assert_eq!(rt; counts(desks.as_slice(), 0), Some((3, 3, 2, 0)));
+    assert_eq!(rt; asks_waiting(desks.as_slice(), 1), Some(0));
     Ok(())
+}
+
+/// What brings the byte to site 1, where the owner tells this of its page.
+fn for_one_byte(lent: &str) -> [Exchange<'_>; 5] {
+    [
+        Exchange {
+            site: 0,
+            lines: "ask 0 a store 0 5 7\nnot a line of ours\nask 1 b lo",
+            output: "tell 0 a stored\n",
+            records: Records::All(b"step 1 ask 0 a store 0 5 7\n"),
+        },
+        Exchange {
+            site: 1,
+            lines: "ask 1 b load 0 5\nask 1 c show 0 0\n",
+            output: "env 1 0 1 0 0 ask 0 0 1 read\ntell 1 c page Nil/0\n",
+            records: Records::All(b"step 1 ask 1 b load 0 5\n"),
+        },
+        Exchange {
+            site: 0,
+            lines: "ad 0 5\n",
+            output: "",
+            records: Records::All(b""),
+        },
+        Exchange {
+            site: 0,
+            lines: "env 1 0 1 0 0 ask 0 0 1 read\nenv 0 0 2 1 0 hand 0 0 1 read 1\n",
+            output: lent,
+            records: Records::All(
+                b"step 2 env 1 0 1 0 0 ask 0 0 1 read\nstep 3 env 0 0 2 1 0 hand 0 0 1 read 1\n",
+            ),
+        },
+        Exchange {
+            site: 1,
+            lines: lent,
+            output: "env 1 0 4 1 0 confirm 0 0 1\ntell 1 b byte 7\n",
+            records: Records::Ending(b"\nstep 5 ask 1 b load 0 5\n"),
+        },
+    ]
 }
 
 #[test]
