@@ -63,7 +63,11 @@ const BODY: &str = "\
 </svg>\n";
 
 /// How a script is drawn, and what is written.
-fn drawn(alloc: Global, script: &[u8], page: Option<PageId>) -> (Result<(), DebugFault>, Vec<u8>) {
+fn draw_script(
+    alloc: Global,
+    script: &[u8],
+    page: Option<PageId>,
+) -> (Result<(), DebugFault>, Vec<u8>) {
     let mut reader = script;
     let mut text = Vec::new(alloc);
     let result = draw(alloc, &mut reader, &mut text, page);
@@ -82,7 +86,7 @@ fn expect(rt: &impl Abort, text: &[u8], parts: [&str; 3]) {
 
 #[test]
 fn each_kind_of_arrow(rt: HostRuntime) {
-    let (result, text) = drawn(rt.alloc(), SCRIPT, None);
+    let (result, text) = draw_script(rt.alloc(), SCRIPT, None);
     assert_eq!(rt; result, Ok(()));
     expect(&rt, text.as_slice(), [HEAD, STYLE, BODY]);
 }
@@ -93,7 +97,7 @@ fn what_was_taken_back_is_not_drawn(rt: HostRuntime) -> Result<(), Fail> {
     let mut script = Vec::new(rt.alloc());
     script.extend_from_slice(SCRIPT)?;
     script.extend_from_slice(b"tick 1\nshow 0 0\nback 1\n".as_slice())?;
-    let (result, text) = drawn(rt.alloc(), script.as_slice(), None);
+    let (result, text) = draw_script(rt.alloc(), script.as_slice(), None);
     assert_eq!(rt; result, Ok(()));
     expect(&rt, text.as_slice(), [HEAD, STYLE, BODY]);
     Ok(())
@@ -106,7 +110,7 @@ fn another_page_has_no_arrows(rt: HostRuntime) {
         seg: SegId(0),
         index: 1,
     };
-    let (result, text) = drawn(rt.alloc(), SCRIPT, Some(page));
+    let (result, text) = draw_script(rt.alloc(), SCRIPT, Some(page));
     assert_eq!(rt; result, Ok(()));
     let text = text.as_slice();
     for absent in ["<text class='m'", "M380", "M270"] {
@@ -139,7 +143,7 @@ fn nothing_is_written_of_a_wrong_script(rt: HostRuntime) {
         (b"sites 1\ntick 0\nnonsense\n", 3),
     ];
     for (script, number) in cases {
-        let (result, text) = drawn(rt.alloc(), script, None);
+        let (result, text) = draw_script(rt.alloc(), script, None);
         assert_eq!(rt; result, Err(DebugFault::BadLine(number)));
         assert!(rt; text.is_empty());
     }

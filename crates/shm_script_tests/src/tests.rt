@@ -25,7 +25,7 @@ use std::process::Abort;
 use std::test::Fail;
 
 /// What a script answers, and the text that it writes.
-fn replayed(alloc: Global, script: &[u8]) -> (Result<Summary, DebugFault>, Vec<u8>) {
+fn replay_script(alloc: Global, script: &[u8]) -> (Result<Summary, DebugFault>, Vec<u8>) {
     let mut reader = script;
     let mut text = Vec::new(alloc);
     let result = replay(alloc, &mut reader, &mut text);
@@ -34,7 +34,7 @@ fn replayed(alloc: Global, script: &[u8]) -> (Result<Summary, DebugFault>, Vec<u
 
 /// Replays a script, and expects its text and its end.
 fn plays(rt: &impl Abort, alloc: Global, script: &Script) {
-    let (result, text) = replayed(alloc, script.input);
+    let (result, text) = replay_script(alloc, script.input);
     assert_eq!(rt; text.as_slice(), script.text, "{}", script.name);
     assert_eq!(rt; result, Ok(summary_of(script)), "{}", script.name);
 }
@@ -76,7 +76,11 @@ fn lines_within(script: &[u8], bytes: usize) -> usize {
 }
 
 /// A session of so many sites; with segment 0 of one page, if it is preset.
-fn opened<A: Allocator + Copy>(alloc: A, sites: u32, preset: bool) -> Result<Session<A>, Fail> {
+fn open_session<A: Allocator + Copy>(
+    alloc: A,
+    sites: u32,
+    preset: bool,
+) -> Result<Session<A>, Fail> {
     let sites = Sites::new(sites).ok().ok_or("1 to 16 sites")?;
     if preset {
         return Ok(Session::new(alloc, Opening::preset(sites, 1))?);

@@ -43,7 +43,7 @@ fn fault_of<A: Allocator + Copy>(alloc: A, bytes: &[u8]) -> Option<JournalFault>
 }
 
 /// What an audit says of the logs that these two journals lead to.
-fn audited<A: Allocator + Copy>(
+fn audit_both<A: Allocator + Copy>(
     alloc: A,
     one: &[u8],
     other: &[u8],
@@ -55,12 +55,12 @@ fn audited<A: Allocator + Copy>(
 }
 
 /// What is counted in them, if an audit accepts them.
-fn counted<A: Allocator + Copy>(
+fn count_both<A: Allocator + Copy>(
     alloc: A,
     one: &[u8],
     other: &[u8],
 ) -> Result<Option<Counts>, Fail> {
-    match audited(alloc, one, other)? {
+    match audit_both(alloc, one, other)? {
         Ok(counts) => Ok(Some(counts)),
         Err(JournalsFault::OutOfMemory) => Ok(None),
         Err(JournalsFault::NotOneSet) => Ok(None),
@@ -78,7 +78,10 @@ fn a_copy_was_lent(rt: HostRuntime) -> Result<(), Fail> {
         accesses: 2,
         envelopes: 4,
     };
-    assert_eq!(rt; counted(alloc, owner(), reader.as_bytes())?, Some(counts));
+    assert_eq!(rt;
+        count_both(alloc, owner(), reader.as_bytes())?,
+        Some(counts)
+    );
     Ok(())
 }
 
@@ -92,7 +95,7 @@ fn a_page_was_never_sent(rt: HostRuntime) -> Result<(), Fail> {
         index: 1,
     };
     assert_eq!(rt;
-        audited(alloc, owner, reader.as_bytes())?,
+        audit_both(alloc, owner, reader.as_bytes())?,
         Err(JournalsFault::Audit(unsent))
     );
     Ok(())
@@ -103,7 +106,10 @@ fn other_openings_are_not_one_set(rt: HostRuntime) -> Result<(), Fail> {
     let alloc = rt.alloc();
     let one = b"journal 2 0 4\n".as_slice();
     let other = b"journal 2 1 8\n".as_slice();
-    assert_eq!(rt; audited(alloc, one, other)?, Err(JournalsFault::NotOneSet));
+    assert_eq!(rt;
+        audit_both(alloc, one, other)?,
+        Err(JournalsFault::NotOneSet)
+    );
     Ok(())
 }
 

@@ -35,7 +35,7 @@ impl Read for Broken<'_> {
 }
 
 /// What site 0 of 2 finds there, where segment 0 has 4 pages.
-fn found<A: Allocator + Copy, R: Read>(
+fn recover_first_site<A: Allocator + Copy, R: Read>(
     alloc: A,
     reader: &mut R,
 ) -> Result<Recovered<A>, RecoveryFault> {
@@ -48,7 +48,7 @@ fn found<A: Allocator + Copy, R: Read>(
 /// Whether the journal is refused so.
 fn is_refused<A: Allocator + Copy>(alloc: A, journal: &[u8], fault: RecoveryFault) -> bool {
     let mut reader = journal;
-    match found(alloc, &mut reader) {
+    match recover_first_site(alloc, &mut reader) {
         Ok(_) => false,
         Err(e) => e == fault,
     }
@@ -57,7 +57,7 @@ fn is_refused<A: Allocator + Copy>(alloc: A, journal: &[u8], fault: RecoveryFaul
 /// How many steps and whole bytes are found, and whether the journal is new.
 fn counts<A: Allocator + Copy>(alloc: A, journal: &[u8]) -> Option<(u64, u64, bool)> {
     let mut reader = journal;
-    match found(alloc, &mut reader) {
+    match recover_first_site(alloc, &mut reader) {
         Ok(recovered) => Some((recovered.node.steps(), recovered.whole, recovered.is_new)),
         Err(_) => None,
     }
@@ -87,7 +87,7 @@ fn lines_are_read_as_they_are_spelled(rt: HostRuntime) -> Result<(), Fail> {
 #[test]
 fn recorded_stores_are_loaded_again(rt: HostRuntime) -> Result<(), Fail> {
     let mut reader = STORES;
-    let Ok(mut recovered) = found(rt.alloc(), &mut reader) else {
+    let Ok(mut recovered) = recover_first_site(rt.alloc(), &mut reader) else {
         return Err(Fail::new("the journal was refused"));
     };
     assert_eq!(rt; (recovered.node.steps(), recovered.node.clock()), (3, 3));
@@ -151,7 +151,7 @@ fn a_line_of_8219_bytes_is_refused(rt: HostRuntime) -> Result<(), Fail> {
 #[test]
 fn a_reader_that_fails_is_a_read_fault(rt: HostRuntime) {
     let mut reader = Broken { rest: STORES };
-    match found(rt.alloc(), &mut reader) {
+    match recover_first_site(rt.alloc(), &mut reader) {
         Ok(_) => assert!(rt; false, "the fault was passed over"),
         Err(fault) => assert_eq!(rt; fault, RecoveryFault::ReadFault),
     }

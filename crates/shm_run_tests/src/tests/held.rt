@@ -187,14 +187,14 @@ fn beside<R: Wait>(
     opened: &AtomicBool,
 ) -> Result<[Receipt; 4], ClientFault> {
     let receipts = match is_set_in_time(started) {
-        true => served(rt, second, third),
+        true => serve_both(rt, second, third),
         false => Err(ClientFault::GaveUp),
     };
     set(opened);
     receipts
 }
 
-fn served<R: Wait>(
+fn serve_both<R: Wait>(
     rt: &R,
     second: &Client<'_>,
     third: &Client<'_>,

@@ -158,7 +158,7 @@ fn each_line_is_answered_before_the_next(rt: HostRuntime) -> Result<(), Fail> {
 /// A byte that no terminal should be told is shown as a question mark.
 #[test]
 fn bytes_that_are_no_text_are_not_told(rt: HostRuntime) {
-    let (result, text, _files) = typed(rt.alloc(), b"load 01 \x1b[2J\xff\n\x1b[2J\n");
+    let (result, text, _files) = type_at_once(rt.alloc(), b"load 01 \x1b[2J\xff\n\x1b[2J\n");
     assert_eq!(rt; result, Ok(()));
     let told = b"load 01 ?[2J?\n      ^ a site's number: digits, with no zero before others\n\
 expected a command: `help` lists them\n";
@@ -166,7 +166,7 @@ expected a command: `help` lists them\n";
 }
 
 /// What is answered to bytes that are typed at once, and what is saved.
-fn typed(alloc: Global, bytes: &[u8]) -> (Result<(), PromptFault>, Vec<u8>, Shelf) {
+fn type_at_once(alloc: Global, bytes: &[u8]) -> (Result<(), PromptFault>, Vec<u8>, Shelf) {
     let mut reader = bytes;
     let mut text = Vec::new(alloc);
     let mut files = empty_shelf(alloc);
@@ -190,7 +190,7 @@ load 1 0 0
 /// What is saved replays to the answers that stand; what was taken back, shown and asked isn't in it.
 #[test]
 fn what_is_saved_replays(rt: HostRuntime) -> Result<(), Fail> {
-    let (result, _text, files) = typed(
+    let (result, _text, files) = type_at_once(
         rt.alloc(),
         b"sites 3\nsites 2 preset 1\nstore 0 0 0 7\ntick 0\nundo\nload 1 0 0\nshow 0 0\nget 1 0 0 5 1 600 c\nsave full\nrun\nsave a b\nload 1 0 0\nsave a\n",
     );
@@ -242,7 +242,7 @@ fn one_call_of_a_dialog_fails(rt: HostRuntime) -> Result<(), Fail> {
 fn a_dialog_runs_out_of_memory(rt: HostRuntime) -> Result<(), Fail> {
     let bytes =
         b"sites 2 preset 1\nload 1 0 0\nflight\nrun\nsites\nsegments\nloud\nload 01\nrun 01\nundo\nhelp\n".as_slice();
-    let (whole, text, _files) = typed(rt.alloc(), bytes);
+    let (whole, text, _files) = type_at_once(rt.alloc(), bytes);
     assert_eq!(rt; whole, Ok(()));
     let mut done = false;
     for step in 1..2000usize {

@@ -10,7 +10,7 @@ use std::test::Fail;
 use std::thread::Threads;
 
 /// What running this workload over so many sites answers, and what it writes.
-fn reported<R: Threads + Wait + Copy + Send + Sync + 'static>(
+fn report_run<R: Threads + Wait + Copy + Send + Sync + 'static>(
     rt: &R,
     alloc: Global,
     sites: u32,
@@ -28,7 +28,7 @@ fn reported<R: Threads + Wait + Copy + Send + Sync + 'static>(
 #[test]
 fn one_site(rt: HostRuntime) -> Result<(), Fail> {
     let workload = b"preset 1\nstore 0 0 7\nload 0 0\n";
-    let (answer, out) = reported(&rt, rt.alloc(), 1, 1, workload)?;
+    let (answer, out) = report_run(&rt, rt.alloc(), 1, 1, workload)?;
     assert_eq!(rt; answer, Ok(()));
     assert_eq!(rt;
         out.as_slice(),

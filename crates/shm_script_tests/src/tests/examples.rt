@@ -12,7 +12,7 @@ mod segments;
 mod three_copies;
 mod two_sites;
 
-use super::replayed;
+use super::replay_script;
 use std::alloc::Global;
 use std::process::Abort;
 
@@ -24,7 +24,7 @@ struct Example {
 }
 
 fn plays(rt: &impl Abort, alloc: Global, example: &Example) {
-    let (result, text) = replayed(alloc, example.script);
+    let (result, text) = replay_script(alloc, example.script);
     assert_eq!(rt; text.as_slice(), example.text, "{}", example.name);
     assert!(rt; result.is_ok(), "{}", example.name);
 }

@@ -6,7 +6,7 @@ use std::alloc::{AllocError, Global};
 pub(super) type Blocks<'a> = Vec<Vec<u8, &'a LocalHeap>>;
 
 /// Blocks of 16 bytes that fill the heap.
-pub(super) fn filled(alloc: Global, heap: &LocalHeap) -> Result<Blocks<'_>, AllocError> {
+pub(super) fn fill_heap(alloc: Global, heap: &LocalHeap) -> Result<Blocks<'_>, AllocError> {
     let mut blocks = Vec::new(alloc);
     for _ in 0..heap.free() / 16 {
         let block = Vec::with_capacity(heap, 16)?;
@@ -16,7 +16,7 @@ pub(super) fn filled(alloc: Global, heap: &LocalHeap) -> Result<Blocks<'_>, Allo
 }
 
 /// Blocks that fill the heap but for one hole of so many bytes.
-pub(super) fn filled_but<'a>(
+pub(super) fn fill_heap_but<'a>(
     alloc: Global,
     heap: &'a LocalHeap,
     bytes: usize,

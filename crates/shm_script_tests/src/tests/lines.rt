@@ -131,8 +131,8 @@ fn segment_calls(rt: HostRuntime) -> Result<(), Fail> {
         return Err("a mode has nine bits".into());
     };
     let cases: [(&str, Op); 7] = [
-        ("get 1 10 20 5 300 640 cx", made(plain, 0o3000)),
-        ("get 1 10 20 5 300 007 -", made(others, 0)),
+        ("get 1 10 20 5 300 640 cx", get_call(plain, 0o3000)),
+        ("get 1 10 20 5 300 007 -", get_call(others, 0)),
         ("attach 1 10 20 3 ro", Op::Attach { cred, id, ro: true }),
         (
             "attach 1 10 20 3 rw",
@@ -168,7 +168,7 @@ fn segment_calls(rt: HostRuntime) -> Result<(), Fail> {
     Ok(())
 }
 
-fn made(mode: Mode, flags: u32) -> Op {
+fn get_call(mode: Mode, flags: u32) -> Op {
     Op::Get {
         cred: Cred { uid: 10, gid: 20 },
         key: Key(5),

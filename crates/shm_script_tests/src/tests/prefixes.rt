@@ -1,4 +1,4 @@
-use super::{is_line_feed, replayed};
+use super::{is_line_feed, replay_script};
 use crate::tests::scripts::{Script, going_back, losses, pages, segments};
 use shm_debug::DebugFault;
 use std::alloc::{AllocError, Global};
@@ -32,7 +32,7 @@ fn ends_amid(
 ) -> Result<(), AllocError> {
     for (at, byte) in line.iter().enumerate() {
         if at > 0 || number == 1 {
-            let (result, text) = replayed(alloc, front);
+            let (result, text) = replay_script(alloc, front);
             assert_eq!(rt; result, Err(DebugFault::BadLine(number)), "at {front:?}");
             assert_eq!(rt; text.as_slice(), told, "at {front:?}");
         }
@@ -42,7 +42,7 @@ fn ends_amid(
 }
 
 fn plays_to(rt: &impl Abort, alloc: Global, script: &[u8], wanted: &[u8]) {
-    let (result, text) = replayed(alloc, script);
+    let (result, text) = replay_script(alloc, script);
     assert_eq!(rt; text.as_slice(), wanted);
     assert!(rt; result.is_ok());
 }

@@ -1,4 +1,4 @@
-use super::replayed;
+use super::replay_script;
 use shm_debug::DebugFault;
 use std::alloc::Global;
 use std::process::Abort;
@@ -43,7 +43,7 @@ const SECOND: [&[u8]; 13] = [
 /// Each script ends with this fault, after this text.
 fn all_end(rt: &impl Abort, alloc: Global, scripts: &[&[u8]], fault: DebugFault, told: &[u8]) {
     for script in scripts {
-        let (result, text) = replayed(alloc, script);
+        let (result, text) = replay_script(alloc, script);
         assert_eq!(rt; result, Err(fault), "at {script:?}");
         assert_eq!(rt; text.as_slice(), told, "at {script:?}");
     }

@@ -1,6 +1,6 @@
 //! What a replay may read at most, and what is told of its faults.
 
-use super::replayed;
+use super::replay_script;
 use shm_debug::{DebugFault, Summary};
 use std::test::Fail;
 
@@ -14,11 +14,11 @@ fn lines_of_many_bytes(rt: HostRuntime) -> Result<(), Fail> {
         for _ in 0..letters {
             script.push(b'a')?;
         }
-        let (result, text) = replayed(rt.alloc(), script.as_slice());
+        let (result, text) = replay_script(rt.alloc(), script.as_slice());
         assert_eq!(rt; result, Err(fault), "open, {letters}");
         assert_eq!(rt; text.as_slice(), b"1 ready\n".as_slice());
         script.push(b'\n')?;
-        let (result, text) = replayed(rt.alloc(), script.as_slice());
+        let (result, text) = replay_script(rt.alloc(), script.as_slice());
         assert_eq!(rt; result, Err(fault), "ended, {letters}");
         assert_eq!(rt; text.as_slice(), b"1 ready\n".as_slice());
     }
@@ -33,7 +33,7 @@ fn as_many_lines_as_may_be(rt: HostRuntime) -> Result<(), Fail> {
         script.extend_from_slice(b"load 0 0 0\n".as_slice())?;
         writeln!(told, "{number} byte 0")?;
     }
-    let (result, text) = replayed(rt.alloc(), script.as_slice());
+    let (result, text) = replay_script(rt.alloc(), script.as_slice());
     assert_eq!(rt;
         result,
         Ok(Summary {
@@ -44,7 +44,7 @@ fn as_many_lines_as_may_be(rt: HostRuntime) -> Result<(), Fail> {
     );
     assert!(rt; text.as_slice() == told.as_bytes());
     script.push(b'x')?;
-    let (result, text) = replayed(rt.alloc(), script.as_slice());
+    let (result, text) = replay_script(rt.alloc(), script.as_slice());
     assert_eq!(rt; result, Err(DebugFault::TooManyLines));
     assert!(rt; text.as_slice() == told.as_bytes());
     Ok(())

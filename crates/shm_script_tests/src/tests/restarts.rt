@@ -1,4 +1,4 @@
-use super::{is_line_feed, opened};
+use super::{is_line_feed, open_session};
 use crate::tests::scripts::{Script, losses, pages};
 use shm_debug::{Line, Session, parse_line};
 use shm_model::State;
@@ -134,7 +134,7 @@ fn heals(
     lines: usize,
     site: u32,
 ) -> Result<(), Fail> {
-    let mut session = opened(alloc, sites, true)?;
+    let mut session = open_session(alloc, sites, true)?;
     let byte = run_first(rt, &mut session, script, lines)?;
     apply(rt, &mut session, &Event::Restart { site: SiteId(site) })?;
     settle(rt, &mut session, sites)?;

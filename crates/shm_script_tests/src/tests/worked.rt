@@ -1,5 +1,5 @@
 use super::scripts::{Script, frames, going_back, losses, pages, purging, segments};
-use super::{plays, replayed};
+use super::{plays, replay_script};
 use shm_debug::Summary;
 use std::alloc::{AllocError, Global};
 use std::process::Abort;
@@ -88,7 +88,7 @@ fn events_are_taken_back_over_checkpoints(rt: HostRuntime) -> Result<(), Fail> {
     let (mut script, mut text) = many_stores(rt.alloc())?;
     script.push_str("back 50\nload 0 0 0\nback 1051\nload 0 0 0\n")?;
     text.push_str("1202 back 1150\n1203 byte 126\n1204 back 100\n1205 byte 100\n")?;
-    let (result, told) = replayed(rt.alloc(), script.as_bytes());
+    let (result, told) = replay_script(rt.alloc(), script.as_bytes());
     assert!(rt; told.as_slice() == text.as_bytes());
     assert_eq!(rt;
         result,

@@ -67,9 +67,9 @@ const EVENTS: [Event; 2] = [
 #[test]
 fn what_was_told_holds(rt: HostRuntime) -> Result<(), Fail> {
     let logs = one_log(rt.alloc(), &SEVEN)?;
-    let told = told(rt.alloc(), 1, 0, &SEVEN)?;
+    let told = receipts_of(rt.alloc(), 1, 0, &SEVEN)?;
     let callers = alone(rt.alloc(), told)?;
-    let audited = audited(rt.alloc(), 1, &logs, &callers);
+    let audited = audit_all(rt.alloc(), 1, &logs, &callers);
     expect(&rt, are_events(&audited, &EVENTS));
     drop(audited);
     drop(callers);
@@ -107,9 +107,9 @@ fn a_receipt_counts_once_and_in_its_order(rt: HostRuntime) -> Result<(), Fail> {
 #[test]
 fn a_receipt_of_a_site_without_a_log_is_forged(rt: HostRuntime) -> Result<(), Fail> {
     let logs = one_log(rt.alloc(), &SEVEN)?;
-    let told = told(rt.alloc(), 2, 1, &SEVEN)?;
+    let told = receipts_of(rt.alloc(), 2, 1, &SEVEN)?;
     let callers = alone(rt.alloc(), told)?;
-    let audited = audited(rt.alloc(), 1, &logs, &callers);
+    let audited = audit_all(rt.alloc(), 1, &logs, &callers);
     expect(
         &rt,
         fault(&audited)
@@ -129,8 +129,8 @@ fn of_two_boxes<A: Allocator + Copy>(
     alloc: A,
     other: &[(Given, Stamp)],
 ) -> Result<Option<AuditFault>, AllocError> {
-    let mut told_here = told(alloc, 1, 0, &SEVEN)?;
-    let told_there = told(alloc, 1, 0, other)?;
+    let mut told_here = receipts_of(alloc, 1, 0, &SEVEN)?;
+    let told_there = receipts_of(alloc, 1, 0, other)?;
     replace_second(&mut told_here, &told_there);
     drop(told_there);
     of_told(alloc, told_here)
@@ -146,7 +146,7 @@ fn replace_second(told: &mut [Receipt], other: &[Receipt]) {
 fn of_told<A: Allocator + Copy>(alloc: A, told: Told<A>) -> Result<Option<AuditFault>, AllocError> {
     let logs = one_log(alloc, &SEVEN)?;
     let callers = alone(alloc, told)?;
-    let audited = audited(alloc, 1, &logs, &callers);
+    let audited = audit_all(alloc, 1, &logs, &callers);
     let fault = fault(&audited);
     drop(audited);
     drop(callers);
@@ -161,11 +161,11 @@ fn of_callers<A: Allocator + Copy, const M: usize, const N: usize>(
     second: [usize; N],
 ) -> Result<Option<AuditFault>, AllocError> {
     let logs = one_log(alloc, &SEVEN)?;
-    let all = told(alloc, 1, 0, &SEVEN)?;
-    let first = chosen(alloc, &all, &first)?;
-    let second = chosen(alloc, &all, &second)?;
+    let all = receipts_of(alloc, 1, 0, &SEVEN)?;
+    let first = choose(alloc, &all, &first)?;
+    let second = choose(alloc, &all, &second)?;
     let callers = pair(alloc, first, second)?;
-    let audited = audited(alloc, 1, &logs, &callers);
+    let audited = audit_all(alloc, 1, &logs, &callers);
     let fault = fault(&audited);
     drop(audited);
     drop(callers);
@@ -174,7 +174,7 @@ fn of_callers<A: Allocator + Copy, const M: usize, const N: usize>(
     Ok(fault)
 }
 
-fn chosen<A: Allocator + Copy>(
+fn choose<A: Allocator + Copy>(
     alloc: A,
     told: &[Receipt],
     indexes: &[usize],
@@ -189,7 +189,7 @@ fn chosen<A: Allocator + Copy>(
 }
 
 /// What the audit says, if the logs are those of so many sites.
-fn audited<A: Allocator + Copy>(
+fn audit_all<A: Allocator + Copy>(
     alloc: A,
     count: u32,
     logs: &[SiteLog<A>],
@@ -207,7 +207,7 @@ fn audited<A: Allocator + Copy>(
 /// What it says where no caller was told anything.
 fn audited_alone<A: Allocator + Copy>(alloc: A, count: u32, logs: &[SiteLog<A>]) -> Verdict<A> {
     let callers = Vec::new(alloc);
-    let audited = audited(alloc, count, logs, &callers);
+    let audited = audit_all(alloc, count, logs, &callers);
     drop(callers);
     audited
 }
@@ -227,7 +227,7 @@ fn fault<A: Allocator + Copy>(audited: &Verdict<A>) -> Option<AuditFault> {
 }
 
 fn one_log<A: Allocator + Copy>(alloc: A, given: &[(Given, Stamp)]) -> Result<Logs<A>, AllocError> {
-    let log = logged(alloc, 1, 0, given)?;
+    let log = log_of(alloc, 1, 0, given)?;
     alone(alloc, log)
 }
 
@@ -237,8 +237,8 @@ fn two_logs<A: Allocator + Copy>(
     at_0: &[(Given, Stamp)],
     at_1: &[(Given, Stamp)],
 ) -> Result<Logs<A>, AllocError> {
-    let at_0 = logged(alloc, 2, 0, at_0)?;
-    let at_1 = logged(alloc, 2, 1, at_1)?;
+    let at_0 = log_of(alloc, 2, 0, at_0)?;
+    let at_1 = log_of(alloc, 2, 1, at_1)?;
     pair(alloc, at_0, at_1)
 }
 
@@ -260,7 +260,7 @@ fn pair<T: Drop, A: Allocator + Copy>(
 }
 
 /// The log of this site of so many that was given these inputs.
-fn logged<A: Allocator + Copy>(
+fn log_of<A: Allocator + Copy>(
     alloc: A,
     count: u32,
     me: u32,
@@ -274,7 +274,7 @@ fn logged<A: Allocator + Copy>(
 }
 
 /// What it is told of its steps.
-fn told<A: Allocator + Copy>(
+fn receipts_of<A: Allocator + Copy>(
     alloc: A,
     count: u32,
     me: u32,

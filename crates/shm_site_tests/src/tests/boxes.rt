@@ -129,10 +129,10 @@ fn give<A: Allocator + Copy>(
     given: &Given,
     source: Stamp,
 ) -> Result<Told, BoxFault> {
-    told(site.take(input_of(given), source))
+    parts_of(site.take(input_of(given), source))
 }
 
-fn told(taken: Result<Receipt, BoxFault>) -> Result<Told, BoxFault> {
+fn parts_of(taken: Result<Receipt, BoxFault>) -> Result<Told, BoxFault> {
     match taken {
         Ok(receipt) => Ok((
             receipt.site().0,

@@ -12,7 +12,7 @@ pub(super) const TRIES: usize = 400;
 pub(super) type Blocks<'a> = Vec<Vec<u8, &'a LocalHeap>>;
 
 /// As many blocks as the heap has room for.
-pub(super) fn filled(alloc: Global, heap: &LocalHeap) -> Result<Blocks<'_>, AllocError> {
+pub(super) fn fill_heap(alloc: Global, heap: &LocalHeap) -> Result<Blocks<'_>, AllocError> {
     let mut blocks = Vec::new(alloc);
     fill(heap, &mut blocks)?;
     Ok(blocks)

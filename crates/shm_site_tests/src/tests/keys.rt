@@ -69,7 +69,7 @@ impl<A: Allocator + Copy> Lone<A> {
         self.table.stat(cred, SegId(id))
     }
 
-    fn purged(&mut self, id: u32) -> bool {
+    fn on_purged(&mut self, id: u32) -> bool {
         self.table.on_purged(SegId(id), SiteId(0))
     }
 

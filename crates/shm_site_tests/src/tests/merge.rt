@@ -146,8 +146,8 @@ fn two_logs<A: Allocator + Copy>(
     ensures rise { IfOk result (λ logs. LogsRise (logs_of logs.items)) }
     ensures matching { IfOk result (λ logs. LogsMatch (logs_of logs.items)) }
 {
-    let first = logged(alloc, first)?;
-    let second = logged(alloc, second)?;
+    let first = log_of(alloc, first)?;
+    let second = log_of(alloc, second)?;
     let mut logs = Vec::with_capacity(alloc, 2)?;
     logs.push(first)?;
     logs.push(second)?;
@@ -155,7 +155,7 @@ fn two_logs<A: Allocator + Copy>(
 }
 
 /// The log of this site, which was given its inputs.
-fn logged<A: Allocator + Copy>(alloc: A, me: u32) -> Result<SiteLog<A>, AllocError>
+fn log_of<A: Allocator + Copy>(alloc: A, me: u32) -> Result<SiteLog<A>, AllocError>
     requires { me ≤ 1 }
     ensures rises { IfOk result (λ log. StampsRise (steps_of log)) }
     ensures matches { IfOk result (λ log. All (λ l. (logs : List (List Logged)) → Matches logs l l.input) (steps_of log)) }

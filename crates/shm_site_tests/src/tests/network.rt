@@ -14,7 +14,7 @@ fn purge(id: u32) -> Envelope {
 }
 
 /// A network that carries one purge of segment 7.
-fn posted(alloc: Global) -> Result<Network, AllocError> {
+fn network_with_purge(alloc: Global) -> Result<Network, AllocError> {
     let mut network = Network::new(alloc);
     network.reserve(1)?;
     network.push(purge(7));
@@ -30,7 +30,7 @@ fn is_of(envelope: Option<&Envelope>, segment: u32) -> bool {
 
 #[test]
 fn what_is_lost_is_gone(rt: HostRuntime) -> Result<(), Fail> {
-    let mut network = posted(rt.alloc())?;
+    let mut network = network_with_purge(rt.alloc())?;
     let copy = network.copy()?;
     assert!(rt; is_of(network.envelope(0), 7));
     assert!(rt; network.lose(0));
@@ -44,7 +44,7 @@ fn what_is_lost_is_gone(rt: HostRuntime) -> Result<(), Fail> {
 
 #[test]
 fn what_is_taken_out_is_put_back(rt: HostRuntime) -> Result<(), Fail> {
-    let mut network = posted(rt.alloc())?;
+    let mut network = network_with_purge(rt.alloc())?;
     let Some((place, envelope)) = network.take_out(0) else {
         return Err(Fail::new("the envelope is on its way"));
     };

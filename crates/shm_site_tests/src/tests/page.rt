@@ -9,7 +9,7 @@ mod refused;
 mod states;
 
 /// A page at its owner, with 7 stored at its first place and 9 at its last.
-fn written<A: Allocator + Copy>(alloc: A) -> Result<OwnWritePage<A>, AllocError>
+fn written_page<A: Allocator + Copy>(alloc: A) -> Result<OwnWritePage<A>, AllocError>
     ensures { IfOk result (λ page. page.seen ≡ 0) }
 {
     match Entry::opening(alloc, true)? {

@@ -1,5 +1,5 @@
 //! A lent copy on its way, and a lending that is refused for memory.
-use crate::tests::full_heap::{PAGE_BLOCKS, TRIES, filled};
+use crate::tests::full_heap::{PAGE_BLOCKS, TRIES, fill_heap};
 use linked_list_allocator::LocalHeap;
 use shm_page::{Entry, Out};
 use shm_place::SiteId;
@@ -8,7 +8,7 @@ use std::alloc::{AllocError, Allocator};
 use std::test::Fail;
 
 /// What site 0 answers that is told to lend its page.
-fn lent<A: Allocator + Copy>(
+fn lend<A: Allocator + Copy>(
     entry: Entry<A>,
     number: u64,
     to: u32,
@@ -21,7 +21,7 @@ fn lent<A: Allocator + Copy>(
 
 #[test]
 fn a_copy_is_lent_and_taken(rt: HostRuntime) -> Result<(), Fail> {
-    let (_, out) = lent(Entry::opening(rt.alloc(), true)?, 1, 2)?;
+    let (_, out) = lend(Entry::opening(rt.alloc(), true)?, 1, 2)?;
     let Out::Read(to, grant) = out else {
         return Err(Fail::new("an owner lends a copy"));
     };
@@ -35,9 +35,9 @@ fn a_copy_is_lent_and_taken(rt: HostRuntime) -> Result<(), Fail> {
 
 #[test]
 fn an_owner_lends_once_more(rt: HostRuntime) -> Result<(), Fail> {
-    let (owner, _) = lent(Entry::opening(rt.alloc(), true)?, 1, 2)?;
+    let (owner, _) = lend(Entry::opening(rt.alloc(), true)?, 1, 2)?;
     assert!(rt; matches!(owner, Entry::OwnRead(_)));
-    let (owner, out) = lent(owner, 2, 1)?;
+    let (owner, out) = lend(owner, 2, 1)?;
     assert!(rt; matches!(out, Out::Read(SiteId(1), _)));
     assert_eq!(rt; owner.seen(), 2);
     Ok(())
@@ -47,7 +47,7 @@ fn an_owner_lends_once_more(rt: HostRuntime) -> Result<(), Fail> {
 fn a_lending_is_refused(rt: HostRuntime) -> Result<(), Fail> {
     let heap = LocalHeap::new(rt.alloc(), 1 << 14)?;
     let mut entry = Entry::opening(&heap, true)?;
-    let mut blocks = filled(rt.alloc(), &heap)?;
+    let mut blocks = fill_heap(rt.alloc(), &heap)?;
     for tries in 0..TRIES {
         match lend_to(entry, 1, SiteId(0), SiteId(2)) {
             Ok((owner, out)) => {
@@ -71,10 +71,10 @@ fn a_lending_is_refused(rt: HostRuntime) -> Result<(), Fail> {
 fn what_lends_nothing_takes_no_memory(rt: HostRuntime) -> Result<(), Fail> {
     let heap = LocalHeap::new(rt.alloc(), 1 << 14)?;
     let entry = Entry::opening(&heap, true)?;
-    let _blocks = filled(rt.alloc(), &heap)?;
-    let (entry, out) = lent(entry, 7, 0)?;
+    let _blocks = fill_heap(rt.alloc(), &heap)?;
+    let (entry, out) = lend(entry, 7, 0)?;
     assert!(rt; matches!(out, Out::Confirm(7)));
-    let (entry, out) = lent(entry, 6, 2)?;
+    let (entry, out) = lend(entry, 6, 2)?;
     assert!(rt; matches!(out, Out::Nothing));
     assert_eq!(rt; entry.seen(), 7);
     Ok(())

@@ -141,7 +141,7 @@ fn give<A: Allocator + Copy>(
         Given::Tick => Input::Tick,
         Given::Restart => Input::Restart,
     };
-    ended(site.step(input, outbox))
+    end_of(site.step(input, outbox))
 }
 
 /// Hands the last envelope over; one that comes back is the last again. With no envelope it fails as no step does.
@@ -214,7 +214,7 @@ fn to_entry<A: Allocator + Copy>(index: u32, told: EntryNote<A>) -> Message<A> {
 }
 
 /// How the step ended.
-fn ended<A: Allocator + Copy>(made: Result<Answer, StepError<A>>) -> Result<Answer, Unmade> {
+fn end_of<A: Allocator + Copy>(made: Result<Answer, StepError<A>>) -> Result<Answer, Unmade> {
     match &made {
         Ok(answer) => Ok(*answer),
         Err(error) => Err((error.fault, ends(&error.envelope))),

@@ -1,5 +1,5 @@
 //! A page on its way to its new owner, and the steps of that refused for memory.
-use crate::tests::full_heap::{PAGE_BLOCKS, TRIES, filled};
+use crate::tests::full_heap::{PAGE_BLOCKS, TRIES, fill_heap};
 use linked_list_allocator::LocalHeap;
 use shm_page::{Entry, Out, WriteGrant};
 use shm_place::SiteId;
@@ -8,7 +8,7 @@ use std::alloc::{AllocError, Allocator};
 use std::test::Fail;
 
 /// What site 0 answers that is told to hand its page over.
-fn handed<A: Allocator + Copy>(
+fn hand_over<A: Allocator + Copy>(
     entry: Entry<A>,
     number: u64,
     to: u32,
@@ -20,8 +20,8 @@ fn handed<A: Allocator + Copy>(
 }
 
 /// The grant of a page that was handed over under number 1.
-fn granted<A: Allocator + Copy>(alloc: A) -> Result<WriteGrant<A>, Fail> {
-    let (_, out) = handed(Entry::opening(alloc, true)?, 1, 2)?;
+fn write_grant<A: Allocator + Copy>(alloc: A) -> Result<WriteGrant<A>, Fail> {
+    let (_, out) = hand_over(Entry::opening(alloc, true)?, 1, 2)?;
     match out {
         Out::Write(_, grant) => Ok(grant),
         _ => Err(Fail::new("an owner hands its page over")),
@@ -30,9 +30,9 @@ fn granted<A: Allocator + Copy>(alloc: A) -> Result<WriteGrant<A>, Fail> {
 
 #[test]
 fn a_page_is_handed_over_again(rt: HostRuntime) -> Result<(), Fail> {
-    let (former, out) = handed(Entry::opening(rt.alloc(), true)?, 1, 2)?;
+    let (former, out) = hand_over(Entry::opening(rt.alloc(), true)?, 1, 2)?;
     assert!(rt; matches!(out, Out::Write(SiteId(2), _)));
-    let (former, out) = handed(former, 1, 2)?;
+    let (former, out) = hand_over(former, 1, 2)?;
     assert!(rt; matches!(out, Out::Write(SiteId(2), _)));
     assert_eq!(rt; former.seen(), 1);
     Ok(())
@@ -40,7 +40,7 @@ fn a_page_is_handed_over_again(rt: HostRuntime) -> Result<(), Fail> {
 
 #[test]
 fn a_handed_page_is_cleared(rt: HostRuntime) -> Result<(), Fail> {
-    let (former, _) = handed(Entry::opening(rt.alloc(), true)?, 1, 2)?;
+    let (former, _) = hand_over(Entry::opening(rt.alloc(), true)?, 1, 2)?;
     let (former, out) = clear(former, 2);
     assert!(rt; matches!(out, Out::Cleared(2)));
     assert!(rt; matches!(former, Entry::Nil(_)));
@@ -50,7 +50,7 @@ fn a_handed_page_is_cleared(rt: HostRuntime) -> Result<(), Fail> {
 
 #[test]
 fn a_page_comes_to_its_new_owner(rt: HostRuntime) -> Result<(), Fail> {
-    let grant = granted(rt.alloc())?;
+    let grant = write_grant(rt.alloc())?;
     let Ok((owner, out)) = take_ownership(Entry::opening(rt.alloc(), false)?, grant) else {
         return Err(Fail::new("memory was refused"));
     };
@@ -64,7 +64,7 @@ fn a_page_comes_to_its_new_owner(rt: HostRuntime) -> Result<(), Fail> {
 fn a_handing_is_refused(rt: HostRuntime) -> Result<(), Fail> {
     let heap = LocalHeap::new(rt.alloc(), 1 << 14)?;
     let mut entry = Entry::opening(&heap, true)?;
-    let mut blocks = filled(rt.alloc(), &heap)?;
+    let mut blocks = fill_heap(rt.alloc(), &heap)?;
     for tries in 0..TRIES {
         match hand_to(entry, 1, SiteId(0), SiteId(2)) {
             Ok((former, out)) => {
@@ -87,9 +87,9 @@ fn a_handing_is_refused(rt: HostRuntime) -> Result<(), Fail> {
 #[test]
 fn an_ownership_is_refused(rt: HostRuntime) -> Result<(), Fail> {
     let heap = LocalHeap::new(rt.alloc(), 1 << 15)?;
-    let mut grant = granted(&heap)?;
+    let mut grant = write_grant(&heap)?;
     let mut entry = Entry::opening(&heap, false)?;
-    let mut blocks = filled(rt.alloc(), &heap)?;
+    let mut blocks = fill_heap(rt.alloc(), &heap)?;
     for tries in 0..TRIES {
         match take_ownership(entry, grant) {
             Ok((owner, out)) => {
@@ -115,10 +115,10 @@ fn an_ownership_is_refused(rt: HostRuntime) -> Result<(), Fail> {
 fn what_sends_no_bytes_takes_no_memory(rt: HostRuntime) -> Result<(), Fail> {
     let heap = LocalHeap::new(rt.alloc(), 1 << 14)?;
     let entry = Entry::opening(&heap, true)?;
-    let _blocks = filled(rt.alloc(), &heap)?;
-    let (entry, out) = handed(entry, 7, 0)?;
+    let _blocks = fill_heap(rt.alloc(), &heap)?;
+    let (entry, out) = hand_over(entry, 7, 0)?;
     assert!(rt; matches!(out, Out::Confirm(7)));
-    let (entry, out) = handed(entry, 6, 2)?;
+    let (entry, out) = hand_over(entry, 6, 2)?;
     assert!(rt; matches!(out, Out::Nothing));
     assert_eq!(rt; entry.seen(), 7);
     Ok(())

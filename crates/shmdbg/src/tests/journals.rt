@@ -38,7 +38,7 @@ where
     run_over(rt, &words, &mut reader)
 }
 
-fn audited<R: AllocGlobal + Clock + Files + Threads + Wait + Copy + Send + Sync + 'static>(
+fn audit_alone<R: AllocGlobal + Clock + Files + Threads + Wait + Copy + Send + Sync + 'static>(
     rt: &R,
     sites: &str,
     name: &str,
@@ -68,7 +68,7 @@ fn a_site_goes_on_from_its_journal(rt: HostRuntime) -> Result<(), Fail> {
     let mut whole = Vec::from_slice(rt.alloc(), STORED)?;
     whole.extend_from_slice(b"step 2 restart\nstep 3 ask 0 b load 0 5\n")?;
     assert_eq!(rt; kept.as_slice(), whole.as_slice());
-    let ran = audited(&rt, "1", JOURNAL);
+    let ran = audit_alone(&rt, "1", JOURNAL);
     let text = b"audit yes\nsteps 3\naccesses 2\nenvelopes 0\n";
     expect(&rt, &ran, 0, text, b"");
     fs::remove_file(&rt, JOURNAL)?;
@@ -110,7 +110,7 @@ fn journals_that_cannot_be_opened(rt: HostRuntime) {
     let name = "no folder/journal";
     let ran = site_kept(&rt, "1", name, b"ask 0 a tick\n");
     expect(&rt, &ran, 3, b"", b"shmdbg: journal: it can't be opened\n");
-    let ran = audited(&rt, "1", name);
+    let ran = audit_alone(&rt, "1", name);
     expect(
         &rt,
         &ran,
@@ -141,7 +141,7 @@ fn journals_that_an_audit_refuses(rt: HostRuntime) -> Result<(), Fail> {
     ];
     for (sites, bytes, status, errors) in cases {
         fs::write(&rt, name, bytes)?;
-        let ran = audited(&rt, sites, name);
+        let ran = audit_alone(&rt, sites, name);
         assert_eq!(rt; ran.status, status);
         assert_eq!(rt; ran.out.as_slice(), b"".as_slice());
         assert!(rt; ran.errors.as_slice().starts_with(errors), "{errors:?}");

@@ -218,7 +218,7 @@ fn the_version(rt: HostRuntime) {
     }
 }
 
-fn repeated(rt: &impl AllocGlobal, letter: &str, count: usize) -> Result<String, AllocError> {
+fn repeat(rt: &impl AllocGlobal, letter: &str, count: usize) -> Result<String, AllocError> {
     let mut word = String::new(rt.alloc());
     for _ in 0..count {
         word.push_str(letter)?;
@@ -231,8 +231,8 @@ fn repeated(rt: &impl AllocGlobal, letter: &str, count: usize) -> Result<String,
 fn long_words(rt: HostRuntime) -> Result<(), Fail> {
     let fronts: [(&str, usize, usize); 3] = [("a", 81, 80), ("a", 100_000, 80), ("€", 27, 26)];
     for (letter, count, told) in fronts {
-        let word = repeated(&rt, letter, count)?;
-        let front = repeated(&rt, letter, told)?;
+        let word = repeat(&rt, letter, count)?;
+        let front = repeat(&rt, letter, told)?;
         let words = ["shmdbg", "--help", word.as_str()];
         let mut reader = b"".as_slice();
         let ran = run_over(&rt, &words, &mut reader);
@@ -249,13 +249,13 @@ fn long_words(rt: HostRuntime) -> Result<(), Fail> {
 /// A word of 80 bytes is told whole, and the program's own name may be longer.
 #[test]
 fn words_that_are_not_too_long(rt: HostRuntime) -> Result<(), Fail> {
-    let word = repeated(&rt, "a", 80)?;
+    let word = repeat(&rt, "a", 80)?;
     let mut reader = b"sites 1\n".as_slice();
     let ran = run_over(&rt, &["shmdbg", word.as_str()], &mut reader);
     let text = format!(in rt.alloc(); "error: unrecognized subcommand '{word}'\n")?;
     assert_eq!(rt; ran.status, 2);
     assert!(rt; ran.errors.as_slice().starts_with(text.as_bytes()));
-    let name = repeated(&rt, "a", 81)?;
+    let name = repeat(&rt, "a", 81)?;
     let ran = run_over(&rt, &[name.as_str(), "replay"], &mut reader);
     expect(&rt, &ran, 0, b"1 ready\n", b"");
     Ok(())

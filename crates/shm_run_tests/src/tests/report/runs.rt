@@ -3,7 +3,7 @@
 //! Each site goes round by four lines: it stores a byte to a place of its own, loads it, stores its number to the common place of a page,
 //! and loads from the common place of another. Its own places lie in pages that all sites use, and so do the common ones. What a site
 //! loads from a place of its own doesn't depend on the schedule; a common place has the number of some site, or 0.
-use super::reported;
+use super::report_run;
 use std::alloc::{AllocError, Global};
 use std::sync::Wait;
 use std::test::Fail;
@@ -159,7 +159,7 @@ fn run<R: Threads + Wait + Copy + Send + Sync + 'static>(
         return Err("so many lines".into());
     }
     let text = workload(alloc, lines.as_slice())?;
-    let (answer, out) = reported(rt, alloc, u32::from(sites), seed, text.as_bytes())?;
+    let (answer, out) = report_run(rt, alloc, u32::from(sites), seed, text.as_bytes())?;
     if answer != Ok(()) {
         return Err("the audit says yes".into());
     }

@@ -1,5 +1,5 @@
 //! Workloads whose text no schedule and no draw of the network can change.
-use super::reported;
+use super::report_run;
 use std::alloc::Global;
 use std::sync::Wait;
 use std::test::Fail;
@@ -17,7 +17,7 @@ fn writes_under_every_seed<R: Threads + Wait + Copy + Send + Sync + 'static>(
     text: &[u8],
 ) -> Result<(), Fail> {
     for seed in SEEDS {
-        let (answer, out) = reported(rt, alloc, sites, seed, workload)?;
+        let (answer, out) = report_run(rt, alloc, sites, seed, workload)?;
         if answer != Ok(()) || out.as_slice() != text {
             return Err("the seed shows".into());
         }

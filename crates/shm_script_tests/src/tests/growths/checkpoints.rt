@@ -1,8 +1,8 @@
 //! Going back keeps copies of the world as it passes, as far as there is memory; what it answers doesn't change.
 
 use super::{Before, PAGE_BYTES};
-use crate::tests::full_heap::filled_but;
-use crate::tests::opened;
+use crate::tests::full_heap::fill_heap_but;
+use crate::tests::open_session;
 use linked_list_allocator::LocalHeap;
 use shm_debug::{BackFault, Session};
 use shm_place::SiteId;
@@ -58,7 +58,7 @@ fn used_after(
     hole: usize,
 ) -> Result<Option<usize>, Fail> {
     let before = Before::new(alloc, session)?;
-    let blocks = filled_but(alloc, heap, hole)?;
+    let blocks = fill_heap_but(alloc, heap, hole)?;
     let answer = session.back(10);
     drop(blocks);
     match answer {
@@ -78,7 +78,7 @@ fn used_after(
 /// Goes back with so small a hole, and then on with room: the answers are the same, whichever copies were kept.
 fn goes_back(rt: &impl Abort, alloc: Global, hole: usize) -> Result<Option<usize>, Fail> {
     let heap = LocalHeap::new(alloc, HEAP)?;
-    let mut session = opened(&heap, 1, true)?;
+    let mut session = open_session(&heap, 1, true)?;
     store_all(rt, &mut session);
     let used = used_after(rt, alloc, &heap, &mut session, hole)?;
     expect_back(rt, &mut session, 0, 130);

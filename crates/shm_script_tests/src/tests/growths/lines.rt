@@ -1,9 +1,9 @@
 //! Each line of a script is refused until there is room for it, and is then told as it stands in the script.
 
 use super::{Before, PAGE_BYTES};
-use crate::tests::full_heap::filled_but;
+use crate::tests::full_heap::fill_heap_but;
 use crate::tests::scripts::{Script, going_back, pages, purging, segments};
-use crate::tests::{is_line_feed, opened};
+use crate::tests::{is_line_feed, open_session};
 use linked_list_allocator::LocalHeap;
 use shm_debug::{BackFault, Line, Session, parse_line, print_answer};
 use shm_place::PageId;
@@ -19,7 +19,7 @@ const HEAP: usize = 1 << 17;
 const TRIES: usize = 4000;
 
 /// How often the event is refused while the hole widens, and its answer.
-fn applied(
+fn apply_at_last(
     rt: &impl Abort,
     alloc: Global,
     heap: &LocalHeap,
@@ -28,7 +28,7 @@ fn applied(
 ) -> Result<(usize, Answer), Fail> {
     let before = Before::new(alloc, session)?;
     for tries in 0..TRIES {
-        let blocks = filled_but(alloc, heap, tries * 16)?;
+        let blocks = fill_heap_but(alloc, heap, tries * 16)?;
         let answer = session.apply(*event).ok();
         drop(blocks);
         if let Some(answer) = answer {
@@ -49,7 +49,7 @@ fn gone_back(
 ) -> Result<(usize, Option<u64>), Fail> {
     let before = Before::new(alloc, session)?;
     for tries in 0..TRIES {
-        let blocks = filled_but(alloc, heap, tries * 16)?;
+        let blocks = fill_heap_but(alloc, heap, tries * 16)?;
         let answer = session.back(count);
         drop(blocks);
         match answer {
@@ -84,7 +84,7 @@ fn shown_within(
     page: &PageId,
     bytes: usize,
 ) -> Result<Vec<u8>, AllocError> {
-    let blocks = filled_but(alloc, heap, bytes)?;
+    let blocks = fill_heap_but(alloc, heap, bytes)?;
     let text = session.show(*page)?;
     drop(blocks);
     text.as_slice().to_vec(alloc)
@@ -100,7 +100,7 @@ fn happens<'a>(
     text: &mut Vec<u8>,
 ) -> Result<usize, Fail> {
     let first = session.world().sent();
-    let (tries, answer) = applied(rt, alloc, heap, session, event)?;
+    let (tries, answer) = apply_at_last(rt, alloc, heap, session, event)?;
     let line = print_answer(heap, number, &answer, session.world(), first)?;
     text.extend_from_slice(&line)?;
     Ok(tries)
@@ -144,7 +144,7 @@ fn told_back(alloc: Global, number: u64, left: Option<u64>) -> Result<String, Al
 }
 
 /// Plays a line on a heap that is full at first.
-fn played<'a>(
+fn play_line<'a>(
     rt: &impl Abort,
     alloc: Global,
     heap: &'a LocalHeap,
@@ -173,7 +173,7 @@ fn refusals<'a>(
     let lines = script.input.split(is_line_feed).skip(1);
     for (number, line) in (2..script.lines.saturating_add(1)).zip(lines) {
         let line = parse_line(line).ok().ok_or("a bad line")?;
-        let tries = played(rt, alloc, heap, session, (number, &line), &mut text)?;
+        let tries = play_line(rt, alloc, heap, session, (number, &line), &mut text)?;
         most = most.max(tries);
     }
     assert_eq!(rt; text.as_slice(), script.text, "{}", script.name);
@@ -189,7 +189,7 @@ fn plays_in_little_memory(
     script: &Script,
 ) -> Result<usize, Fail> {
     let heap = LocalHeap::new(alloc, HEAP)?;
-    let mut session = opened(&heap, sites, preset)?;
+    let mut session = open_session(&heap, sites, preset)?;
     let most = refusals(rt, alloc, &heap, &mut session, script)?;
     drop(session);
     Ok(most)

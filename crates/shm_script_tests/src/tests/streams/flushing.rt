@@ -28,7 +28,7 @@ struct Outcome {
 }
 
 /// Replays a script of which each read gives so many bytes.
-fn replayed(alloc: Global, script: &[u8], most: usize, failing: Failing) -> Outcome {
+fn replay_script(alloc: Global, script: &[u8], most: usize, failing: Failing) -> Outcome {
     let mut reader = Giver {
         bytes: script,
         most,
@@ -73,7 +73,7 @@ fn one_flush_fails(rt: HostRuntime) {
             writes: None,
             flushes: Some(reads),
         };
-        let outcome = replayed(rt.alloc(), script, PIECE, failing);
+        let outcome = replay_script(rt.alloc(), script, PIECE, failing);
         let given = start.saturating_add(PIECE);
         expect_write_fault(&rt, &outcome, lines_within(script, given), given);
     }
@@ -91,7 +91,7 @@ fn one_line_is_not_taken(rt: HostRuntime) {
                 writes: Some(lines),
                 flushes: None,
             };
-            let outcome = replayed(rt.alloc(), script, PIECE, failing);
+            let outcome = replay_script(rt.alloc(), script, PIECE, failing);
             expect_write_fault(&rt, &outcome, lines, given);
         }
     }
@@ -110,7 +110,7 @@ fn the_last_flush_fails(rt: HostRuntime) {
                 writes: None,
                 flushes: Some(flushes),
             };
-            let outcome = replayed(rt.alloc(), script, most, failing);
+            let outcome = replay_script(rt.alloc(), script, most, failing);
             assert_eq!(rt; outcome.result, result);
             assert_eq!(rt; outcome.text.as_slice(), FIRST_READ_FAULT.text);
         }
@@ -134,7 +134,7 @@ fn a_flush_fails_after_a_bad_line(rt: HostRuntime) -> Result<(), Fail> {
             writes: None,
             flushes: Some(flushes),
         };
-        let outcome = replayed(rt.alloc(), &script, most, failing);
+        let outcome = replay_script(rt.alloc(), &script, most, failing);
         assert_eq!(rt;
             outcome.result,
             Err(DebugFault::BadLine(FIRST_READ_FAULT.lines + 1))

@@ -77,7 +77,7 @@ fn each_reply_has_its_text(rt: HostRuntime) -> Result<(), AllocError> {
     )
 }
 
-fn attached() -> Reply {
+fn attach_reply() -> Reply {
     Reply::Attached(Attached {
         size: 10,
         ro: false,
@@ -86,8 +86,20 @@ fn attached() -> Reply {
 
 #[test]
 fn an_attach_has_its_attachment(rt: HostRuntime) -> Result<(), AllocError> {
-    expect_reply(&rt, rt.alloc(), attached(), Some(3), "replied 8 attached 3")?;
-    expect_reply(&rt, rt.alloc(), attached(), None, "replied 8 attached -")
+    expect_reply(
+        &rt,
+        rt.alloc(),
+        attach_reply(),
+        Some(3),
+        "replied 8 attached 3",
+    )?;
+    expect_reply(
+        &rt,
+        rt.alloc(),
+        attach_reply(),
+        None,
+        "replied 8 attached -",
+    )
 }
 
 /// What `stat` tells of a segment with this mode that is attached so often, and marked or not.

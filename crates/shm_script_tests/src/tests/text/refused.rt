@@ -1,5 +1,5 @@
 use super::expect_bytes;
-use crate::tests::full_heap::{Blocks, filled};
+use crate::tests::full_heap::{Blocks, fill_heap};
 use crate::tests::{load, preset};
 use linked_list_allocator::LocalHeap;
 use shm_debug::Text;
@@ -48,7 +48,7 @@ fn told_on_full_heap<'a>(
     text: &mut Text<&'a LocalHeap>,
 ) -> Result<Blocks<'a>, AllocError> {
     text.tell(1, "ready")?;
-    filled(alloc, heap)
+    fill_heap(alloc, heap)
 }
 
 #[test]

@@ -1,5 +1,5 @@
 use super::{Picture, events_of, picture_of};
-use crate::tests::full_heap::{Blocks, filled};
+use crate::tests::full_heap::{Blocks, fill_heap};
 use crate::tests::scripts::pages::FIRST_READ_FAULT;
 use crate::tests::{load, preset, store};
 use linked_list_allocator::LocalHeap;
@@ -24,7 +24,7 @@ const TRIES: usize = 2000;
 /// A world of two pages in which site 1 asked for the first one, and its manager, site 0, told itself to lend it, and again at each of
 /// eight ticks: envelopes 1 to 9 are on their way. Being a copy of a copy, it has no room to spare: the first has a place more, as the
 /// envelope that was delivered had one.
-fn asked(heap: &LocalHeap) -> Result<World<&LocalHeap>, Fail> {
+fn world_with_asks(heap: &LocalHeap) -> Result<World<&LocalHeap>, Fail> {
     let mut world = preset(heap, 2, 2)?;
     world.step(load(1, 0, 0))?;
     world.step(Deliver(0))?;
@@ -55,8 +55,8 @@ fn refusals<'a>(
 /// How often the event is refused while a full heap gets room, and its answer.
 fn refusals_of(rt: &impl Abort, alloc: Global, event: &Event) -> Result<(usize, Answer), Fail> {
     let heap = LocalHeap::new(alloc, HEAP)?;
-    let mut world = asked(&heap)?;
-    let blocks = filled(alloc, &heap)?;
+    let mut world = world_with_asks(&heap)?;
+    let blocks = fill_heap(alloc, &heap)?;
     Ok(refusals(rt, &mut world, blocks, event).ok_or("no step was made")?)
 }
 
@@ -142,10 +142,10 @@ fn other_refusals_come_before_that_for_memory(rt: HostRuntime) -> Result<(), Fai
 #[test]
 fn a_call_at_a_busy_site_is_refused_on_a_full_heap(rt: HostRuntime) -> Result<(), Fail> {
     let heap = LocalHeap::new(rt.alloc(), HEAP)?;
-    let mut calling = asked(&heap)?;
+    let mut calling = world_with_asks(&heap)?;
     assert_eq!(rt; calling.step(begin(1, STAT)), Ok(Began(1)));
     let mut world = calling.copy()?;
-    let blocks = filled(rt.alloc(), &heap)?;
+    let blocks = fill_heap(rt.alloc(), &heap)?;
     let refused = refusals(&rt, &mut world, blocks, &begin(1, STAT));
     assert_eq!(rt; refused, Some((0, Refused(8))));
     Ok(())
@@ -192,7 +192,7 @@ fn run_refusals<'a>(
 }
 
 /// How often a run is refused on a heap that is full at first and gets room.
-fn answered(
+fn count_refusals(
     rt: &impl Abort,
     alloc: Global,
     events: &[Event],
@@ -202,7 +202,7 @@ fn answered(
     let heap = LocalHeap::new(alloc, HEAP)?;
     let mut world = preset(&heap, 2, 1)?;
     let mut answers = Vec::new(&heap);
-    let blocks = filled(alloc, &heap)?;
+    let blocks = fill_heap(alloc, &heap)?;
     let tries = run_refusals(rt, &mut world, blocks, events, &pictures, &mut answers);
     assert_eq!(rt; answers.as_slice(), wanted);
     Ok(tries.ok_or("no run was made")?)
@@ -212,7 +212,7 @@ fn answered(
 fn a_refused_run_stands_after_what_was_answered(rt: HostRuntime) -> Result<(), Fail> {
     let events = events_of(rt.alloc(), &FIRST_READ_FAULT)?;
     let wanted = [Stored, Fault, Took, Took, Took, Took, Byte(7)];
-    let tries = answered(&rt, rt.alloc(), &events, wanted.as_slice())?;
+    let tries = count_refusals(&rt, rt.alloc(), &events, wanted.as_slice())?;
     assert!(rt;
         tries > PAGE_BLOCKS,
         "the copy that is lent was refused too"
@@ -241,8 +241,8 @@ fn copy_refusals<'a>(
 #[test]
 fn a_copy_is_refused_until_there_is_room(rt: HostRuntime) -> Result<(), Fail> {
     let heap = LocalHeap::new(rt.alloc(), HEAP)?;
-    let mut world = asked(&heap)?;
-    let blocks = filled(rt.alloc(), &heap)?;
+    let mut world = world_with_asks(&heap)?;
+    let blocks = fill_heap(rt.alloc(), &heap)?;
     let tries = copy_refusals(&rt, &world, blocks).ok_or("no copy was made")?;
     assert!(rt; tries > PAGE_BLOCKS, "the manager's page was refused too");
     assert_eq!(rt; world.step(Deliver(1)), Ok(Took));

@@ -5,7 +5,7 @@ ghost use Rattle.std.specs.Prelude.{◌≤◌};
 mod looking;
 
 use self::looking::look;
-use crate::tests::full_heap::filled_but;
+use crate::tests::full_heap::fill_heap_but;
 use crate::tests::scripts::{Script, losses, pages, purging, segments};
 use crate::tests::{is_line_feed, preset};
 use linked_list_allocator::LocalHeap;
@@ -35,7 +35,7 @@ fn refusals<'a>(
     let mut hole = 0usize;
     'tries: for tries in 0..TRIES {
         let used = heap.used();
-        let blocks = filled_but(alloc, heap, hole)?;
+        let blocks = fill_heap_but(alloc, heap, hole)?;
         let made = world.step(*event);
         drop(blocks);
         if let Ok(answer) = made {

@@ -1,7 +1,7 @@
 ghost use Rattle.std.specs.Prelude.{◌≡◌};
 
 use crate::tests::expect;
-use crate::tests::full_heap::filled;
+use crate::tests::full_heap::fill_heap;
 use linked_list_allocator::LocalHeap;
 use shm_attach::{Done, Home, Op, Reply};
 use shm_keys::SegTable;
@@ -51,14 +51,14 @@ impl<A: Allocator + Copy> Lone<A> {
     }
 }
 
-fn made() -> Option<Done> {
+fn get_done() -> Option<Done> {
     Some(Done {
         reply: Reply::Id(SegId(0)),
         destroyed: None,
     })
 }
 
-fn removed(destroyed: Option<SegId>) -> Option<Done> {
+fn remove_done(destroyed: Option<SegId>) -> Option<Done> {
     Some(Done {
         reply: Reply::Ok,
         destroyed,
@@ -75,10 +75,10 @@ fn a_call_is_executed_once(rt: HostRuntime) -> Result<(), Fail> {
     let sites = Sites::new(1).ok().ok_or("one site")?;
     let mut lone = make_lone(rt.alloc(), sites);
     expect_done(&rt, lone.make(0)?, None);
-    expect_done(&rt, lone.make(4)?, made());
-    expect_done(&rt, lone.make(4)?, made());
-    expect_done(&rt, lone.remove(5)?, removed(Some(SegId(0))));
-    expect_done(&rt, lone.remove(5)?, removed(None));
+    expect_done(&rt, lone.make(4)?, get_done());
+    expect_done(&rt, lone.make(4)?, get_done());
+    expect_done(&rt, lone.remove(5)?, remove_done(Some(SegId(0))));
+    expect_done(&rt, lone.remove(5)?, remove_done(None));
     expect_done(&rt, lone.make(4)?, None);
     Ok(())
 }
@@ -102,12 +102,12 @@ fn a_refused_call_is_executed_when_it_comes_again(rt: HostRuntime) -> Result<(),
     let heap = LocalHeap::new(rt.alloc(), 1 << 14)?;
     let sites = Sites::new(1).ok().ok_or("one site")?;
     let mut lone = make_lone(&heap, sites);
-    let mut blocks = filled(rt.alloc(), &heap)?;
+    let mut blocks = fill_heap(rt.alloc(), &heap)?;
     for tries in 0..1000 {
         if let Ok(done) = lone.make(1) {
             assert!(rt; tries > 2);
-            expect_done(&rt, done, made());
-            expect_done(&rt, lone.remove(2)?, removed(Some(SegId(0))));
+            expect_done(&rt, done, get_done());
+            expect_done(&rt, lone.remove(2)?, remove_done(Some(SegId(0))));
             return Ok(());
         }
         drop(blocks.pop());
@@ -121,7 +121,7 @@ fn a_copy_is_refused_until_there_is_room(rt: HostRuntime) -> Result<(), Fail> {
     let sites = Sites::new(1).ok().ok_or("one site")?;
     let mut lone = make_lone(&heap, sites);
     lone.make(1)?;
-    let mut blocks = filled(rt.alloc(), &heap)?;
+    let mut blocks = fill_heap(rt.alloc(), &heap)?;
     for tries in 0..1000 {
         if let Ok(copy) = lone.home.copy() {
             assert!(rt; tries > 2);

@@ -1,7 +1,7 @@
 //! What the audit says of receipts that claim to be all.
 use super::{
-    EVENTS, Given, PAGES, SEVEN, Told, Verdict, alone, are_events, audited, chosen, expect,
-    one_log, told, two_logs,
+    EVENTS, Given, PAGES, SEVEN, Told, Verdict, alone, are_events, audit_all, choose, expect,
+    one_log, receipts_of, two_logs,
 };
 use shm_place::{SiteId, Sites};
 use shm_sites::{AuditFault, SiteLog, Stamp, audit_complete, logs_match};
@@ -18,7 +18,7 @@ const STORES: [(Given, Stamp); 2] = [
 const NOTHING: [(Given, Stamp); 0] = [];
 
 /// The step of this index at site 0 is told by nobody.
-const fn untold(index: usize) -> Option<AuditFault> {
+const fn untold_at(index: usize) -> Option<AuditFault> {
     Some(AuditFault::Untold {
         site: SiteId(0),
         index,
@@ -28,7 +28,7 @@ const fn untold(index: usize) -> Option<AuditFault> {
 #[test]
 fn receipts_of_all_accesses_are_complete(rt: HostRuntime) -> Result<(), Fail> {
     let logs = one_log(rt.alloc(), &SEVEN)?;
-    let told = told(rt.alloc(), 1, 0, &SEVEN)?;
+    let told = receipts_of(rt.alloc(), 1, 0, &SEVEN)?;
     let callers = alone(rt.alloc(), told)?;
     let complete = complete(rt.alloc(), 1, &logs, &callers);
     expect(&rt, are_events(&complete, &EVENTS));
@@ -40,9 +40,9 @@ fn receipts_of_all_accesses_are_complete(rt: HostRuntime) -> Result<(), Fail> {
 
 #[test]
 fn an_access_without_a_receipt_is_untold(rt: HostRuntime) -> Result<(), Fail> {
-    expect(&rt, says(rt.alloc(), &SEVEN, [0], untold(1))?);
-    expect(&rt, says(rt.alloc(), &SEVEN, [1], untold(0))?);
-    expect(&rt, says(rt.alloc(), &SEVEN, [], untold(0))?);
+    expect(&rt, says(rt.alloc(), &SEVEN, [0], untold_at(1))?);
+    expect(&rt, says(rt.alloc(), &SEVEN, [1], untold_at(0))?);
+    expect(&rt, says(rt.alloc(), &SEVEN, [], untold_at(0))?);
     Ok(())
 }
 
@@ -50,8 +50,8 @@ fn an_access_without_a_receipt_is_untold(rt: HostRuntime) -> Result<(), Fail> {
 #[test]
 fn equal_accesses_each_need_a_receipt(rt: HostRuntime) -> Result<(), Fail> {
     expect(&rt, says(rt.alloc(), &LOADS, [0, 1], None)?);
-    expect(&rt, says(rt.alloc(), &STORES, [0], untold(1))?);
-    expect(&rt, says(rt.alloc(), &STORES, [1], untold(0))?);
+    expect(&rt, says(rt.alloc(), &STORES, [0], untold_at(1))?);
+    expect(&rt, says(rt.alloc(), &STORES, [1], untold_at(0))?);
     Ok(())
 }
 
@@ -76,10 +76,10 @@ fn says<A: Allocator + Copy, const N: usize>(
     cause: Option<AuditFault>,
 ) -> Result<bool, AllocError> {
     let logs = one_log(alloc, given)?;
-    let all = told(alloc, 1, 0, given)?;
-    let some = chosen(alloc, &all, &steps)?;
+    let all = receipts_of(alloc, 1, 0, given)?;
+    let some = choose(alloc, &all, &steps)?;
     let callers = alone(alloc, some)?;
-    let accepted = audited(alloc, 1, &logs, &callers);
+    let accepted = audit_all(alloc, 1, &logs, &callers);
     let complete = complete(alloc, 1, &logs, &callers);
     let said = is_said(&accepted, given.len(), None) && is_said(&complete, given.len(), cause);
     drop(complete);

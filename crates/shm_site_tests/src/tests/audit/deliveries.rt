@@ -11,7 +11,7 @@ const ASKING: [(Given, Stamp); 1] = [(Given::Load(0), Stamp::NONE)];
 const NOTHING: [(Given, Stamp); 0] = [];
 
 /// The delivery of what site 1 asks, under the stamp that it is said to have been sent with, from this place.
-const fn asked(at: u64, place: usize) -> [(Given, Stamp); 1] {
+const fn delivery_of_ask(at: u64, place: usize) -> [(Given, Stamp); 1] {
     [(
         Given::Ask(1, 0),
         Stamp {
@@ -50,7 +50,7 @@ fn a_delivery_from_another_place_is_unsent(rt: HostRuntime) -> Result<(), Fail> 
     });
     expect(
         &rt,
-        wrong_with(rt.alloc(), &asked(1, 1), &ASKING)? == unsent,
+        wrong_with(rt.alloc(), &delivery_of_ask(1, 1), &ASKING)? == unsent,
     );
     Ok(())
 }
@@ -61,8 +61,11 @@ fn a_delivery_stands_above_its_sender(rt: HostRuntime) -> Result<(), Fail> {
         site: SiteId(0),
         index: 0,
     });
-    expect(&rt, wrong_with(rt.alloc(), &asked(0, 0), &ASKING)? == order);
-    let logs = two_logs(rt.alloc(), &asked(1, 0), &ASKING)?;
+    expect(
+        &rt,
+        wrong_with(rt.alloc(), &delivery_of_ask(0, 0), &ASKING)? == order,
+    );
+    let logs = two_logs(rt.alloc(), &delivery_of_ask(1, 0), &ASKING)?;
     let audited = audited_alone(rt.alloc(), 2, &logs);
     expect(&rt, are_events(&audited, &EVENTS));
     drop(audited);

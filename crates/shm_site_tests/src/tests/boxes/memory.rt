@@ -38,13 +38,13 @@ fn growing<'a>(
 ) {
     'inputs: for (given, answer) in &GROWING {
         expect(rt, fill(heap, blocks).is_ok());
-        let made = widened(rt, site, blocks, given);
+        let made = widen(rt, site, blocks, given);
         expect(rt, made == Some(*answer));
     }
 }
 
 /// Widens the hole until the input is taken. Each refusal leaves log and clock as they were.
-fn widened<'a>(
+fn widen<'a>(
     rt: &impl Abort,
     site: &mut SiteBox<&'a LocalHeap>,
     blocks: &mut Blocks<'a>,

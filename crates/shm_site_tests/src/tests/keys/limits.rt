@@ -56,8 +56,8 @@ fn a_home_makes_so_many_ever(rt: HostRuntime) -> Result<(), Fail> {
         table.get(ROOT, 7, 1, 0o600, 0o1000),
         Err(Errno::Enospc),
     );
-    expect(&rt, table.purged(65_535));
-    expect(&rt, !table.purged(65_535));
+    expect(&rt, table.on_purged(65_535));
+    expect(&rt, !table.on_purged(65_535));
     expect(&rt, table.next_purge(Some(65_534)).is_none());
     Ok(())
 }

@@ -25,9 +25,9 @@ fn purges_come_by_rising_identifier(rt: HostRuntime) -> Result<(), Fail> {
         let next = table.next_purge(after).map(|(id, _)| id);
         assert_eq!(rt; next, expected);
     }
-    expect(&rt, !table.purged(1));
-    expect(&rt, table.purged(0));
-    expect(&rt, !table.purged(0));
+    expect(&rt, !table.on_purged(1));
+    expect(&rt, table.on_purged(0));
+    expect(&rt, !table.on_purged(0));
     let next = table.next_purge(None).map(|(id, _)| id);
     assert_eq!(rt; next, Some(2));
     Ok(())

@@ -1,6 +1,6 @@
 use super::{expect_answer, expect_gone, expect_made, make_lone};
 use crate::tests::expect;
-use crate::tests::full_heap::filled;
+use crate::tests::full_heap::fill_heap;
 use linked_list_allocator::LocalHeap;
 use shm_keys::{Cred, GetFault};
 use shm_place::{SegId, Sites};
@@ -16,7 +16,7 @@ fn a_get_is_refused_until_there_is_room(rt: HostRuntime) -> Result<(), Fail> {
     let heap = LocalHeap::new(rt.alloc(), 1 << 14)?;
     let sites = Sites::new(1).ok().ok_or("one site")?;
     let mut table = make_lone(&heap, sites);
-    let mut blocks = filled(rt.alloc(), &heap)?;
+    let mut blocks = fill_heap(rt.alloc(), &heap)?;
     for tries in 0..TRIES {
         let answer = table.get(ROOT, 5, 1, 0o600, 0o1000);
         if answer != Err(GetFault::OutOfMemory) {
@@ -37,7 +37,7 @@ fn what_was_made_goes_on_without_memory(rt: HostRuntime) -> Result<(), Fail> {
     let sites = Sites::new(1).ok().ok_or("one site")?;
     let mut table = make_lone(&heap, sites);
     expect_made(&rt, table.get(ROOT, 5, 1, 0o600, 0o1000), Ok(0));
-    let _blocks = filled(rt.alloc(), &heap)?;
+    let _blocks = fill_heap(rt.alloc(), &heap)?;
     expect(&rt, table.table.copy().is_err());
     expect_made(&rt, table.get(ROOT, 5, 1, 0o600, 0o1000), Ok(0));
     expect(&rt, table.attach(ROOT, 0, false).is_ok());
@@ -45,6 +45,6 @@ fn what_was_made_goes_on_without_memory(rt: HostRuntime) -> Result<(), Fail> {
     expect_gone(&rt, table.remove(ROOT, 0), Ok(None));
     expect_gone(&rt, table.detach(0), Ok(Some(SegId(0))));
     expect(&rt, table.next_purge(None).is_some());
-    expect(&rt, table.purged(0));
+    expect(&rt, table.on_purged(0));
     Ok(())
 }

@@ -1,5 +1,5 @@
 use super::{gives, lend};
-use crate::tests::full_heap::filled;
+use crate::tests::full_heap::fill_heap;
 use linked_list_allocator::LocalHeap;
 use shm_manager::{Book, Orders};
 use shm_model::Kind;
@@ -12,7 +12,7 @@ const TRIES: usize = 100;
 #[test]
 fn a_book_is_refused_until_there_is_room(rt: HostRuntime) -> Result<(), Fail> {
     let heap = LocalHeap::new(rt.alloc(), 1 << 12)?;
-    let mut blocks = filled(rt.alloc(), &heap)?;
+    let mut blocks = fill_heap(rt.alloc(), &heap)?;
     for tries in 0..TRIES {
         if let Ok(book) = Book::new(&heap, SiteId(3)) {
             assert!(rt; tries > 0);
@@ -30,7 +30,7 @@ fn a_copy_is_refused_until_there_is_room(rt: HostRuntime) -> Result<(), Fail> {
     let heap = LocalHeap::new(rt.alloc(), 1 << 13)?;
     let mut book = Book::at(&heap, SiteId(0), 7)?;
     assert!(rt; gives(book.ask(SiteId(1), 1, Kind::Read)?, lend(1)));
-    let mut blocks = filled(rt.alloc(), &heap)?;
+    let mut blocks = fill_heap(rt.alloc(), &heap)?;
     for tries in 0..TRIES {
         if let Ok(copy) = book.copy() {
             assert!(rt; tries > 0);

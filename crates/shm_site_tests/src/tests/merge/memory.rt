@@ -41,17 +41,17 @@ fn merges_at_last<'a>(
     requires matching { LogsMatch (logs_of logs.now) }
     requires few { sum_by sent_by (logs_of logs.now) ≤ max_sent }
 {
-    let Some(order) = merged(heap, logs, blocks) else {
+    let Some(order) = merge_at_last(heap, logs, blocks) else {
         return false;
     };
-    let told = told(heap, logs, &order, blocks);
+    let told = tells_at_last(heap, logs, &order, blocks);
     let right = told && are_named(&order, &ORDER);
     drop(order);
     right
 }
 
 /// The order, which is refused first.
-fn merged<'a>(
+fn merge_at_last<'a>(
     heap: &'a LocalHeap,
     logs: &[SiteLog<&'a LocalHeap>],
     blocks: &mut Blocks<'a>,
@@ -87,7 +87,7 @@ fn is_merged<'a>(heap: &'a LocalHeap, logs: &[SiteLog<&'a LocalHeap>]) -> bool
 }
 
 /// Whether the events are refused first, and are the right ones then.
-fn told<'a>(
+fn tells_at_last<'a>(
     heap: &'a LocalHeap,
     logs: &[SiteLog<&'a LocalHeap>],
     order: &[StepName],

@@ -1,5 +1,5 @@
-use super::{expect_grant, expect_number, expect_page, of_lender, of_owner, written};
-use crate::tests::full_heap::{Blocks, PAGE_BLOCKS, TRIES, filled};
+use super::{expect_grant, expect_number, expect_page, of_lender, of_owner, written_page};
+use crate::tests::full_heap::{Blocks, PAGE_BLOCKS, TRIES, fill_heap};
 use linked_list_allocator::LocalHeap;
 use shm_page::{Entry, NilPage, OwnWritePage, WriteGrant};
 use shm_place::SiteId;
@@ -9,7 +9,7 @@ use std::test::Fail;
 #[test]
 fn an_opening_page_is_refused(rt: HostRuntime) -> Result<(), Fail> {
     let heap = LocalHeap::new(rt.alloc(), 1 << 13)?;
-    let blocks = filled(rt.alloc(), &heap)?;
+    let blocks = fill_heap(rt.alloc(), &heap)?;
     assert!(rt; Entry::opening(&heap, false).is_ok());
     let tries = opened_after(&heap, blocks).ok_or("no page was made")?;
     assert_eq!(rt; tries, PAGE_BLOCKS);
@@ -30,8 +30,8 @@ fn opened_after<'a>(heap: &'a LocalHeap, mut blocks: Blocks<'a>) -> Option<usize
 #[test]
 fn a_first_copy_is_refused(rt: HostRuntime) -> Result<(), Fail> {
     let heap = LocalHeap::new(rt.alloc(), 1 << 14)?;
-    let page = written(&heap)?;
-    let blocks = filled(rt.alloc(), &heap)?;
+    let page = written_page(&heap)?;
+    let blocks = fill_heap(rt.alloc(), &heap)?;
     let tries = lent_after(&rt, page, blocks).ok_or("no copy was lent")?;
     assert!(rt; tries > PAGE_BLOCKS, "the count of owners was refused too");
     Ok(())
@@ -63,8 +63,8 @@ fn lent_after<'a>(
 #[test]
 fn a_handing_is_refused(rt: HostRuntime) -> Result<(), Fail> {
     let heap = LocalHeap::new(rt.alloc(), 1 << 14)?;
-    let page = written(&heap)?;
-    let blocks = filled(rt.alloc(), &heap)?;
+    let page = written_page(&heap)?;
+    let blocks = fill_heap(rt.alloc(), &heap)?;
     let tries = handed_after(&rt, page, blocks).ok_or("no page was handed over")?;
     assert!(rt; tries > PAGE_BLOCKS, "the count of owners was refused too");
     Ok(())
@@ -96,10 +96,10 @@ fn handed_after<'a>(
 #[test]
 fn an_ownership_is_refused(rt: HostRuntime) -> Result<(), Fail> {
     let heap = LocalHeap::new(rt.alloc(), 1 << 15)?;
-    let Ok((_, grant)) = written(&heap)?.hand(1, SiteId(2)) else {
+    let Ok((_, grant)) = written_page(&heap)?.hand(1, SiteId(2)) else {
         return Err(Fail::new("memory was refused"));
     };
-    let blocks = filled(rt.alloc(), &heap)?;
+    let blocks = fill_heap(rt.alloc(), &heap)?;
     let tries = installed_after(&rt, grant, blocks).ok_or("no page was installed")?;
     assert_eq!(rt; tries, PAGE_BLOCKS);
     Ok(())
@@ -147,9 +147,9 @@ fn refusals<'a>(entry: &Entry<&'a LocalHeap>, mut blocks: Blocks<'a>) -> Option<
 #[test]
 fn a_copy_of_an_owners_page_is_refused(rt: HostRuntime) -> Result<(), Fail> {
     let heap = LocalHeap::new(rt.alloc(), 1 << 14)?;
-    let page = written(&heap)?;
+    let page = written_page(&heap)?;
     let entry = Entry::OwnWrite(page);
-    let blocks = filled(rt.alloc(), &heap)?;
+    let blocks = fill_heap(rt.alloc(), &heap)?;
     assert_eq!(rt; refusals(&entry, blocks), Some(PAGE_BLOCKS));
     Ok(())
 }
@@ -157,11 +157,11 @@ fn a_copy_of_an_owners_page_is_refused(rt: HostRuntime) -> Result<(), Fail> {
 #[test]
 fn a_copy_of_a_lent_page_is_refused(rt: HostRuntime) -> Result<(), Fail> {
     let heap = LocalHeap::new(rt.alloc(), 1 << 14)?;
-    let Ok((owner, _)) = written(&heap)?.downgrade(1) else {
+    let Ok((owner, _)) = written_page(&heap)?.downgrade(1) else {
         return Err(Fail::new("memory was refused"));
     };
     let entry = Entry::OwnRead(owner);
-    let blocks = filled(rt.alloc(), &heap)?;
+    let blocks = fill_heap(rt.alloc(), &heap)?;
     assert_eq!(rt; refusals(&entry, blocks), Some(PAGE_BLOCKS));
     Ok(())
 }

@@ -1,17 +1,17 @@
 ghost use Rattle.std.specs.Prelude.{◌≡◌, ◌<◌, IfOk};
 
-use super::{expect_grant, expect_number, expect_page, of_lender, of_owner, written};
+use super::{expect_grant, expect_number, expect_page, of_lender, of_owner, written_page};
 use shm_page::{CopyPage, Entry, HandedPage, NilPage, OwnReadPage, ReadGrant, WriteGrant};
 use shm_place::SiteId;
 use std::alloc::{AllocError, Global};
 use std::test::Fail;
 
 /// An owner that lent one copy, and that copy.
-fn lent(alloc: Global, number: u64) -> Result<(OwnReadPage, ReadGrant), AllocError>
+fn lent_page(alloc: Global, number: u64) -> Result<(OwnReadPage, ReadGrant), AllocError>
     ensures owner { IfOk result (λ r. r.0.seen ≡ number) }
     ensures grant { IfOk result (λ r. r.1.number ≡ number) }
 {
-    match written(alloc)?.downgrade(number) {
+    match written_page(alloc)?.downgrade(number) {
         Ok(lent) => Ok(lent),
         Err((_, error)) => Err(error),
     }
@@ -21,28 +21,28 @@ fn lent(alloc: Global, number: u64) -> Result<(OwnReadPage, ReadGrant), AllocErr
 fn a_copy(alloc: Global, number: u64) -> Result<ReadGrant, AllocError>
     ensures { IfOk result (λ grant. grant.number ≡ number) }
 {
-    let (_, grant) = lent(alloc, number)?;
+    let (_, grant) = lent_page(alloc, number)?;
     Ok(grant)
 }
 
 /// A page that was handed to site 3, and its grant.
-fn handed(alloc: Global, number: u64) -> Result<(HandedPage, WriteGrant), AllocError>
+fn handed_page(alloc: Global, number: u64) -> Result<(HandedPage, WriteGrant), AllocError>
     requires { 0 < number }
     ensures page { IfOk result (λ r. r.0.seen ≡ number) }
     ensures grant { IfOk result (λ r. r.1.number ≡ number) }
 {
-    match written(alloc)?.hand(number, SiteId(3)) {
+    match written_page(alloc)?.hand(number, SiteId(3)) {
         Ok(handed) => Ok(handed),
         Err((_, error)) => Err(error),
     }
 }
 
 /// What is left of a page that was handed over.
-fn kept(alloc: Global, number: u64) -> Result<HandedPage, AllocError>
+fn what_is_left(alloc: Global, number: u64) -> Result<HandedPage, AllocError>
     requires { 0 < number }
     ensures { IfOk result (λ page. page.seen ≡ number) }
 {
-    let (page, _) = handed(alloc, number)?;
+    let (page, _) = handed_page(alloc, number)?;
     Ok(page)
 }
 
@@ -51,7 +51,7 @@ fn on_its_way(alloc: Global, number: u64) -> Result<WriteGrant, AllocError>
     requires { 0 < number }
     ensures { IfOk result (λ grant. grant.number ≡ number) }
 {
-    let (_, grant) = handed(alloc, number)?;
+    let (_, grant) = handed_page(alloc, number)?;
     Ok(grant)
 }
 
@@ -80,7 +80,7 @@ fn an_opening_page_is_nowhere_else(rt: HostRuntime) -> Result<(), Fail> {
 
 #[test]
 fn an_owner_lends(rt: HostRuntime) -> Result<(), Fail> {
-    let (owner, grant) = lent(rt.alloc(), 1)?;
+    let (owner, grant) = lent_page(rt.alloc(), 1)?;
     expect_page(&rt, of_lender(&owner), (1, 7, 9));
     expect_grant(&rt, grant.number(), grant.bytes(), 1);
     Ok(())
@@ -88,7 +88,7 @@ fn an_owner_lends(rt: HostRuntime) -> Result<(), Fail> {
 
 #[test]
 fn an_owner_lends_once_more(rt: HostRuntime) -> Result<(), Fail> {
-    let (mut owner, _) = lent(rt.alloc(), 1)?;
+    let (mut owner, _) = lent_page(rt.alloc(), 1)?;
     let grant = owner.lend(2)?;
     expect_page(&rt, of_lender(&owner), (2, 7, 9));
     expect_grant(&rt, grant.number(), grant.bytes(), 2);
@@ -97,7 +97,7 @@ fn an_owner_lends_once_more(rt: HostRuntime) -> Result<(), Fail> {
 
 #[test]
 fn a_lent_page_meets_a_number(rt: HostRuntime) -> Result<(), Fail> {
-    let (mut owner, _) = lent(rt.alloc(), 1)?;
+    let (mut owner, _) = lent_page(rt.alloc(), 1)?;
     owner.meet(3);
     let copy = owner.copy()?;
     expect_page(&rt, of_lender(&copy), (3, 7, 9));
@@ -106,7 +106,7 @@ fn a_lent_page_meets_a_number(rt: HostRuntime) -> Result<(), Fail> {
 
 #[test]
 fn a_store_leaves_earlier_grants(rt: HostRuntime) -> Result<(), Fail> {
-    let (owner, grant) = lent(rt.alloc(), 1)?;
+    let (owner, grant) = lent_page(rt.alloc(), 1)?;
     let mut owner = owner.upgrade(2);
     owner.store(0, 8);
     expect_page(&rt, of_owner(&owner), (2, 8, 9));
@@ -116,7 +116,7 @@ fn a_store_leaves_earlier_grants(rt: HostRuntime) -> Result<(), Fail> {
 
 #[test]
 fn an_owner_meets_numbers(rt: HostRuntime) -> Result<(), Fail> {
-    let mut owner = written(rt.alloc())?;
+    let mut owner = written_page(rt.alloc())?;
     owner.meet(1);
     let owner = owner.upgrade(2);
     let copy = owner.copy()?;
@@ -154,7 +154,7 @@ fn a_newer_copy_comes(rt: HostRuntime) -> Result<(), Fail> {
 
 #[test]
 fn a_page_is_handed_over_again(rt: HostRuntime) -> Result<(), Fail> {
-    let page = kept(rt.alloc(), 1)?;
+    let page = what_is_left(rt.alloc(), 1)?;
     expect_number(&rt, page.to().0 as u64, 3);
     let grant = page.again()?;
     let again = grant.copy()?;
@@ -164,7 +164,7 @@ fn a_page_is_handed_over_again(rt: HostRuntime) -> Result<(), Fail> {
 
 #[test]
 fn a_handed_page_is_cleared(rt: HostRuntime) -> Result<(), Fail> {
-    let page = kept(rt.alloc(), 1)?.copy()?;
+    let page = what_is_left(rt.alloc(), 1)?.copy()?;
     expect_number(&rt, page.seen(), 1);
     expect_number(&rt, page.clear(2).seen(), 2);
     Ok(())
@@ -172,7 +172,7 @@ fn a_handed_page_is_cleared(rt: HostRuntime) -> Result<(), Fail> {
 
 #[test]
 fn a_handed_page_comes_back_to_read(rt: HostRuntime) -> Result<(), Fail> {
-    let page = kept(rt.alloc(), 1)?;
+    let page = what_is_left(rt.alloc(), 1)?;
     let page = page.install_read(a_copy(rt.alloc(), 2)?);
     expect_page(&rt, of_copy(&page), (2, 7, 9));
     Ok(())
@@ -180,7 +180,7 @@ fn a_handed_page_comes_back_to_read(rt: HostRuntime) -> Result<(), Fail> {
 
 #[test]
 fn a_handed_page_comes_back_to_write(rt: HostRuntime) -> Result<(), Fail> {
-    let page = kept(rt.alloc(), 1)?;
+    let page = what_is_left(rt.alloc(), 1)?;
     let Ok(owner) = page.install_write(on_its_way(rt.alloc(), 2)?) else {
         return Err(Fail::new("memory was refused"));
     };
@@ -210,7 +210,7 @@ fn a_page_comes_to_its_reader(rt: HostRuntime) -> Result<(), Fail> {
 
 #[test]
 fn a_lent_page_is_handed_over(rt: HostRuntime) -> Result<(), Fail> {
-    let (owner, _) = lent(rt.alloc(), 1)?;
+    let (owner, _) = lent_page(rt.alloc(), 1)?;
     let Ok((page, grant)) = owner.hand(2, SiteId(1)) else {
         return Err(Fail::new("memory was refused"));
     };
@@ -222,7 +222,7 @@ fn a_lent_page_is_handed_over(rt: HostRuntime) -> Result<(), Fail> {
 
 #[test]
 fn an_entry_is_copied(rt: HostRuntime) -> Result<(), Fail> {
-    let page = written(rt.alloc())?;
+    let page = written_page(rt.alloc())?;
     let entry = Entry::OwnWrite(page);
     let Entry::OwnWrite(copied) = entry.copy()? else {
         return Err(Fail::new("a copy is in the state of its source"));

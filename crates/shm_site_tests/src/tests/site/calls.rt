@@ -24,7 +24,7 @@ const GET: Given = Given::Begin(Request::Op(Op::Get {
 }));
 
 /// An attach of this number gave attachment `attachment`.
-fn attached(number: u64, attachment: u32) -> Answer {
+fn attach_answer(number: u64, attachment: u32) -> Answer {
     Answer::Replied {
         number,
         reply: Reply::Attached(Attached {
@@ -71,7 +71,10 @@ fn sixty_four_attachments_are_most(rt: HostRuntime) -> Result<(), Fail> {
     let mut outbox = Vec::new(rt.alloc());
     attach_all(&rt, &mut site, &mut outbox);
     run(&rt, &mut site, &mut outbox, &FULL);
-    let freed = [(Given::Last, Answer::Took), (Given::Last, attached(65, 17))];
+    let freed = [
+        (Given::Last, Answer::Took),
+        (Given::Last, attach_answer(65, 17)),
+    ];
     run(&rt, &mut site, &mut outbox, &freed);
     drop(outbox);
     drop(site);
@@ -85,7 +88,7 @@ fn attach_all<A: Allocator + Copy>(rt: &impl Abort, site: &mut Site<A>, outbox: 
         let inputs = [
             (ATTACH, Answer::Began(call)),
             (Given::Last, Answer::Took),
-            (Given::Last, attached(call, number)),
+            (Given::Last, attach_answer(call, number)),
         ];
         run(rt, site, outbox, &inputs);
     }

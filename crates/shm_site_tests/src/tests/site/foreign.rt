@@ -57,7 +57,7 @@ const IGNORED: [Given; 9] = [
 fn what_cannot_be_for_the_site_comes_back(rt: HostRuntime) -> Result<(), Fail> {
     let mut site = preset_site(rt.alloc(), 2, 1)?;
     let mut outbox = Vec::new(rt.alloc());
-    unchanged(&rt, &mut site, &mut outbox, &FOREIGN, true);
+    expect_unchanged(&rt, &mut site, &mut outbox, &FOREIGN, true);
     drop(outbox);
     drop(site);
     Ok(())
@@ -67,14 +67,14 @@ fn what_cannot_be_for_the_site_comes_back(rt: HostRuntime) -> Result<(), Fail> {
 fn what_nobody_waits_for_is_dropped(rt: HostRuntime) -> Result<(), Fail> {
     let mut site = preset_site(rt.alloc(), 2, 1)?;
     let mut outbox = Vec::new(rt.alloc());
-    unchanged(&rt, &mut site, &mut outbox, &IGNORED, false);
+    expect_unchanged(&rt, &mut site, &mut outbox, &IGNORED, false);
     drop(outbox);
     drop(site);
     Ok(())
 }
 
 /// Each envelope is refused as foreign, or dropped, and nothing changes.
-fn unchanged<A: Allocator + Copy>(
+fn expect_unchanged<A: Allocator + Copy>(
     rt: &impl Abort,
     site: &mut Site<A>,
     outbox: &mut Sent<A>,

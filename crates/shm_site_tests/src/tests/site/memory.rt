@@ -124,13 +124,13 @@ fn refused_first<'a>(
 ) {
     expect(rt, fill(heap, blocks).is_ok());
     let mut outbox = Vec::new(heap);
-    let made = widened(rt, site, &mut outbox, blocks, given);
+    let made = widen(rt, site, &mut outbox, blocks, given);
     expect(rt, made == Some(answer));
     drop(outbox);
 }
 
 /// Widens the hole until the step is made. Each refusal leaves site and outbox as they were.
-fn widened<'a>(
+fn widen<'a>(
     rt: &impl Abort,
     site: &mut Site<&'a LocalHeap>,
     outbox: &mut Sent<&'a LocalHeap>,
@@ -173,7 +173,7 @@ fn a_page_is_refused_until_there_is_room(rt: HostRuntime) -> Result<(), Fail> {
     run_at(&rt, preset_site(&heap, 2, 1), &mut outbox, &HANDED);
     let mut blocks = Vec::new(rt.alloc());
     expect(&rt, fill(&heap, &mut blocks).is_ok());
-    let made = widened(&rt, &mut site, &mut outbox, &mut blocks, &Given::Last);
+    let made = widen(&rt, &mut site, &mut outbox, &mut blocks, &Given::Last);
     expect(&rt, made == Some(Answer::Took));
     run(&rt, &mut site, &mut outbox, &OWNED);
     drop(blocks);

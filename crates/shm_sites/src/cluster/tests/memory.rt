@@ -45,7 +45,7 @@ fn opened_in(heap: &LocalHeap, count: u32) -> Result<Still<'_>, AllocError> {
 }
 
 /// Blocks that fill the heap but for one hole of so many bytes.
-fn filled_but<'a>(
+fn fill_heap_but<'a>(
     alloc: Global,
     heap: &'a LocalHeap,
     bytes: usize,

@@ -1,5 +1,5 @@
 //! Steps of clients for which memory is refused.
-use super::{HEAP, HOLES, Still, filled_but, opened_in};
+use super::{HEAP, HOLES, Still, fill_heap_but, opened_in};
 use crate::{Asked, Client, ClientFault};
 use linked_list_allocator::LocalHeap;
 use shm_model::Answer;
@@ -57,7 +57,7 @@ fn steps<R: Wait + Abort>(
     };
     let mut all = [0; 4];
     for (tries, (asked, answer)) in all.iter_mut().zip(STEPS) {
-        let (refused, made) = stepped(rt, alloc, heap, &client, asked)?;
+        let (refused, made) = step_at_last(rt, alloc, heap, &client, asked)?;
         assert_eq!(rt; made, answer);
         *tries = refused;
     }
@@ -66,7 +66,7 @@ fn steps<R: Wait + Abort>(
 }
 
 /// How often the step is refused while the hole widens, and its answer.
-fn stepped<R: Wait + Abort>(
+fn step_at_last<R: Wait + Abort>(
     rt: &R,
     alloc: Global,
     heap: &LocalHeap,
@@ -75,8 +75,8 @@ fn stepped<R: Wait + Abort>(
 ) -> Result<(usize, Answer), Fail> {
     let before = look(rt, client);
     for tries in 0..HOLES {
-        let blocks = filled_but(alloc, heap, tries * 16)?;
-        let answer = tried(rt, client, asked);
+        let blocks = fill_heap_but(alloc, heap, tries * 16)?;
+        let answer = try_once(rt, client, asked);
         drop(blocks);
         match answer {
             Ok(answer) => return Ok((tries, answer)),
@@ -87,7 +87,7 @@ fn stepped<R: Wait + Abort>(
     Err(Fail::new("no step was made"))
 }
 
-fn tried<R: Wait>(
+fn try_once<R: Wait>(
     rt: &R,
     client: &Client<'_, &LocalHeap>,
     asked: Asked,
@@ -153,8 +153,8 @@ fn asks<R: Wait>(
     let (Ok(client), Some(desk)) = (still.cluster.client(SiteId(1)), still.desks.first()) else {
         return Err(Fail::new("no such sites"));
     };
-    let blocks = filled_but(alloc, heap, bytes)?;
-    let answer = tried(rt, &client, STEPS[2].0).ok();
+    let blocks = fill_heap_but(alloc, heap, bytes)?;
+    let answer = try_once(rt, &client, STEPS[2].0).ok();
     drop(blocks);
     Ok((answer, desk.mail.len()))
 }

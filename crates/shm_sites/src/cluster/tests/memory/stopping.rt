@@ -1,5 +1,5 @@
 //! Clusters for whose end there is too little memory.
-use super::{Blocks, HEAP, HOLES, Still, filled_but, opened_in};
+use super::{Blocks, HEAP, HOLES, Still, fill_heap_but, opened_in};
 use crate::cluster::work::Desk;
 use crate::{Cluster, SiteLog};
 use linked_list_allocator::LocalHeap;
@@ -37,7 +37,7 @@ fn stopped_within<R: Threads + Wait>(rt: &R, alloc: Global, bytes: usize) -> Res
     let Still { mut cluster, desks } = opened_in(&heap, 2)?;
     let blocks = with_threads(rt, alloc, &heap, &mut cluster, bytes);
     let logs = cluster.stop(rt);
-    let told = told(&desks);
+    let told = count_told(&desks);
     drop(desks);
     let count = count(logs);
     drop(blocks?);
@@ -48,7 +48,7 @@ fn count(logs: Result<Vec<SiteLog<&LocalHeap>, &LocalHeap>, AllocError>) -> Opti
     logs.ok().map(|logs| logs.len())
 }
 
-fn told(desks: &[Desk<&LocalHeap>]) -> usize {
+fn count_told(desks: &[Desk<&LocalHeap>]) -> usize {
     desks.iter().filter(|desk| !desk.mail.is_empty()).count()
 }
 
@@ -63,7 +63,7 @@ fn with_threads<'a, R: Threads>(
     for _ in 0..2 {
         add_thread(rt, cluster)?;
     }
-    filled_but(alloc, heap, bytes)
+    fill_heap_but(alloc, heap, bytes)
 }
 
 /// A thread that does nothing.

@@ -1,5 +1,5 @@
 //! Ticks for which a channel has no memory, and those of a client that waits.
-use super::{HEAP, Still, filled_but, opened_in};
+use super::{HEAP, Still, fill_heap_but, opened_in};
 use crate::ClientFault;
 use crate::boxes::Asked;
 use crate::cluster::mail::Mail;
@@ -23,7 +23,7 @@ const TICKS: [(usize, Ticks, Ticks); 3] = [
 #[test]
 fn the_other_sites_have_their_ticks(rt: HostRuntime) -> Result<(), Fail> {
     for (refused, without, with) in TICKS {
-        let (first, second) = ticked(&rt, rt.alloc(), refused)?;
+        let (first, second) = tick_twice(&rt, rt.alloc(), refused)?;
         assert_eq!(rt; first, (false, without));
         assert_eq!(rt; second, (true, with));
     }
@@ -32,7 +32,7 @@ fn the_other_sites_have_their_ticks(rt: HostRuntime) -> Result<(), Fail> {
 
 /// Whether all sites could be told of a tick, and the ticks that they then have: where this site's channel has no memory, and then once
 /// more with memory.
-fn ticked<R: Wait>(
+fn tick_twice<R: Wait>(
     rt: &R,
     alloc: Global,
     refused: usize,
@@ -52,7 +52,7 @@ fn ticked_without_memory<R: Wait>(
     heap: &LocalHeap,
     still: &Still<'_>,
 ) -> Result<(bool, Ticks), AllocError> {
-    let blocks = filled_but(alloc, heap, 0)?;
+    let blocks = fill_heap_but(alloc, heap, 0)?;
     let told = still.cluster.tick_all(rt).is_ok();
     drop(blocks);
     Ok((told, ticks(still)))
@@ -92,7 +92,7 @@ const TURNS: u32 = 10_000;
 fn one_who_waits_fills_neither_log_nor_channels(rt: HostRuntime) -> Result<(), Fail> {
     let heap = LocalHeap::new(rt.alloc(), HEAP)?;
     let still = opened_in(&heap, 3)?;
-    let waited = waited(&rt, &still);
+    let waited = wait_in_vain(&rt, &still);
     drop(still);
     let (fault, steps, ticks) = waited?;
     assert_eq!(rt; fault, Some(ClientFault::GaveUp));
@@ -102,7 +102,10 @@ fn one_who_waits_fills_neither_log_nor_channels(rt: HostRuntime) -> Result<(), F
 }
 
 /// What a load of page 1 at site 0 fails with, how many steps site 0 has made then, and how many messages each channel has.
-fn waited<R: Wait>(rt: &R, still: &Still<'_>) -> Result<(Option<ClientFault>, usize, Ticks), Fail> {
+fn wait_in_vain<R: Wait>(
+    rt: &R,
+    still: &Still<'_>,
+) -> Result<(Option<ClientFault>, usize, Ticks), Fail> {
     let Ok(client) = still.cluster.client(SiteId(0)) else {
         return Err(Fail::new("no site 0"));
     };

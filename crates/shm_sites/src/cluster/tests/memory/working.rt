@@ -1,5 +1,5 @@
 //! Steps of a site's thread for which memory is refused.
-use super::{HEAP, HOLES, PAGES, filled_but};
+use super::{HEAP, HOLES, PAGES, fill_heap_but};
 use crate::boxes::{Envelope, Input, SiteBox, Stamp};
 use crate::cluster::work::give_input;
 use linked_list_allocator::LocalHeap;
@@ -46,7 +46,7 @@ fn takes<'a>(
     site: &mut SiteBox<&'a LocalHeap>,
     bytes: usize,
 ) -> Result<Outcome, AllocError> {
-    let blocks = filled_but(alloc, heap, bytes)?;
+    let blocks = fill_heap_but(alloc, heap, bytes)?;
     let posted = give_input(site, heap, asking(), Stamp::NONE);
     drop(blocks);
     let sent = posted.map_or(0, |posted| posted.len());

@@ -4,7 +4,7 @@ use Rattle.shm_sites.specs.Boxes.SiteLog.{steps_of}
 use Rattle.shm_sites.specs.declared.boxes.site_log.SiteLog.{SiteLog}
 use Rattle.shm_model.specs.Log.{Logged, Matches}
 use Rattle.shm_sites.specs.Auditing.Logs.{StampsRise}
-use Rattle.shm_site_tests.proofs.tests.merge.logged.Goals as goal
+use Rattle.shm_site_tests.proofs.tests.merge.log_of.Goals as goal
 
 pub returns-clause-rises : goal.returns-clause-rises
 returns-clause-rises g c = subst (λ (log : SiteLog g.row.A.Denot). StampsRise (steps_of log)) (sym c.into_log.ensures) c.given.invariant.rises
