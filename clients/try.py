@@ -26,6 +26,7 @@ from leddwyfan import (IPC_CREAT, IPC_EXCL, IPC_RMID, IPC_SET, IPC_STAT, PAGE_BY
 
 PAGES = 2
 TIMES = 20
+LOCKS = 10
 CROWD = 100
 STOPPED_SECONDS = 0.5
 AT_ONCE_SECONDS = 5
@@ -169,6 +170,48 @@ def try_calls(one, other):
     expect_error(errno.EIDRM, lambda: one.shm_at(shmid))
 
 
+def try_lock(sites):
+    """One thread of one site at a time has the lock: what each adds to a counter is not lost."""
+    one, other = sites
+    expect(one.shm_trylock(0, 0) and not other.shm_trylock(0, 0) and not one.shm_trylock(0, 0), 'a lock is taken once')
+    one.shm_unlock(0, 0)
+    one.shm_write(0, 100, b'\0')
+
+    def add(site):
+        for _ in range(LOCKS):
+            site.shm_lock(0, 0)
+            site.shm_write(0, 100, bytes([site.shm_read(0, 100, 1)[0] + 1]))
+            site.shm_unlock(0, 0)
+    threads = [threading.Thread(target=add, args=(site,)) for site in (one, other, other)]
+    for thread in threads:
+        thread.start()
+    for thread in threads:
+        thread.join()
+    expect(one.shm_read(0, 100, 1) == bytes([3 * LOCKS]), f'three threads add {LOCKS} under a lock')
+    expect_error(errno.EFAULT, lambda: one.shm_lock(0, PAGES * PAGE_BYTES))
+
+
+def try_forked(site):
+    """In a process that was forked since the start each call fails at once, and a stop does nothing."""
+    child = os.fork()
+    if child == 0:
+        try:
+            expect_error(errno.ECHILD, lambda: site.shm_read(0, 0, 1))
+            expect_error(errno.ECHILD, lambda: site.shm_get(5, 100))
+            expect_error(errno.ECHILD, lambda: site.leave(0))
+            site.stop()
+            os._exit(0)
+        except BaseException:
+            os._exit(1)
+    expect(os.waitpid(child, 0)[1] == 0, 'a forked process has no site')
+
+
+def try_numbers(options):
+    """There is no site 2 of two, and no seventeen sites."""
+    for sites, me in ((2, 2), (2, -1), (17, 0)):
+        expect_error(errno.EINVAL, lambda: Site.start(options.program, sites, me, PAGES, 0, 1))
+
+
 def try_crowd(writer, reader):
     """More loads and blocks at once than may wait at a site, while the owner of their page is stopped: those that find no place are asked
     again. A byte of a page that is here is read all the same."""
@@ -240,7 +283,8 @@ def try_stopped(site):
 def try_socket(options):
     """Two sites have a socket each as their stream, which they read and write."""
     ends = socket.socketpair()
-    sites = [Site.start(options.program, 2, me, PAGES, end, end) for me, end in enumerate(ends)]
+    # The site keeps the files that it is given: nobody else does here.
+    sites = [Site.start(options.program, 2, me, PAGES, end.makefile('rb', 0), end.makefile('wb', 0)) for me, end in enumerate(ends)]
     data = random.Random(4).randbytes(PAGES * PAGE_BYTES)
     sites[0].shm_write(0, 0, data)
     expect(sites[1].shm_read(0, 0, len(data)) == data, 'what was written is read over one socket')
@@ -257,6 +301,9 @@ def try_library(options, folder):
     try_calls(*sites)
     expect_error(errno.EINVAL, lambda: sites[0].shm_at(100000))
     try_crowd(*sites)
+    try_lock(sites)
+    try_forked(sites[0])
+    try_numbers(options)
     restarts = 0
     if not options.no_journal:
         try_kills(sites)

@@ -6,6 +6,7 @@
 #include <stdio.h>
 #include <stdlib.h>
 #include <string.h>
+#include <sys/wait.h>
 #include <unistd.h>
 
 #define EXPECT(condition) expect(condition, #condition, __LINE__)
@@ -103,6 +104,47 @@ static void try_attached(struct leddwyfan *one, struct leddwyfan *other, int shm
     EXPECT_ERROR(EINVAL, shm_at(one, 100000, 0));
 }
 
+/* A lock is one site's at a time, and is given back. */
+static void try_lock(struct leddwyfan *one, struct leddwyfan *other) {
+    EXPECT(shm_lock(one, 0, 0) == 0);
+    EXPECT_ERROR(EBUSY, shm_trylock(other, 0, 0));
+    EXPECT_ERROR(EBUSY, shm_trylock(one, 0, 0));
+    EXPECT(shm_unlock(one, 0, 0) == 0);
+    EXPECT(shm_trylock(other, 0, 0) == 0);
+    EXPECT_ERROR(EBUSY, shm_trylock(one, 0, 0));
+    EXPECT(shm_unlock(other, 0, 0) == 0 && shm_lock(one, 0, 0) == 0 && shm_unlock(one, 0, 0) == 0);
+    EXPECT_ERROR(EFAULT, shm_lock(one, 0, PAGES * 4096));
+    EXPECT_ERROR(EINVAL, shm_trylock(one, 63, 0));
+}
+
+/* In a process that was forked since the start each call fails at once, and a stop does nothing. */
+static void try_forked(struct leddwyfan *site) {
+    char byte;
+    int status;
+    pid_t child = fork();
+    if (child == 0) {
+        EXPECT_ERROR(ECHILD, shm_read(site, 0, 0, &byte, 1));
+        EXPECT_ERROR(ECHILD, shm_get(site, 5, 100, 0));
+        EXPECT_ERROR(ECHILD, shm_lock(site, 0, 0));
+        leddwyfan_leave(site, 0);
+        leddwyfan_stop(site);
+        _exit(0);
+    }
+    EXPECT(child > 0 && waitpid(child, &status, 0) == child && status == 0);
+    EXPECT(shm_read(site, 0, 0, &byte, 1) == 0);
+}
+
+/* There is no site 2 of two, and no seventeen sites. */
+static void try_numbers(struct leddwyfan_options options) {
+    options.me = options.sites;
+    errno = 0;
+    EXPECT(leddwyfan_start(&options) == NULL && errno == EINVAL);
+    options.me = 0;
+    options.sites = 17;
+    errno = 0;
+    EXPECT(leddwyfan_start(&options) == NULL && errno == EINVAL);
+}
+
 /* That there is no such program is told at the start, or where the system tells it by the process's end alone, at the first call. */
 static void try_nothing(const struct leddwyfan_options *options) {
     char byte;
@@ -133,7 +175,10 @@ int main(int argc, char **argv) {
     try_ends(one);
     try_null(one);
     try_attached(one, other, try_get(one, other));
-    leddwyfan_stop(one);
+    try_lock(one, other);
+    try_forked(one);
+    try_numbers(options);
+    leddwyfan_leave(one, 0);
     leddwyfan_stop(other);
     options.program = nothing;
     try_nothing(&options);

@@ -3,7 +3,7 @@
        counter -n SITES -m ME [-p PROGRAM] [-t TIMES] [-j JOURNAL]
 
    The stream comes in on standard input and goes out on standard output, as for `shmdbg site`; the counter's value is told on standard error.
-   Run one for each site; clients/python/counter.py is the same program, says how the sites take turns, and the two may be mixed. */
+   Run one for each site; clients/python/counter.py is the same program, says what the segment has, and the two may be mixed. */
 #include "leddwyfan.h"
 
 #include <errno.h>
@@ -13,8 +13,8 @@
 #include <time.h>
 #include <unistd.h>
 
-enum { KEY = 77, SEGMENT_BYTES = 4096, DONE = 16, COUNTER = 64, COUNTER_BYTES = 4, MOST_SITES = 16 };
-enum { TRIES = 4, GIVE_UP_SECONDS = 300, LINGER_SECONDS = 3 };
+enum { KEY = 77, PAGE = 4096, MOST_SITES = 16, LOCK = 0, DONE = MOST_SITES * PAGE, COUNTER = DONE + 64, COUNTER_BYTES = 4 };
+enum { SEGMENT_BYTES = DONE + PAGE, TRIES = 4, GIVE_UP_SECONDS = 300, LEAVE_SECONDS = 3 };
 
 /* The counter, as one site sees it. */
 struct counter {
@@ -29,40 +29,24 @@ static void fail(const char *what) {
     exit(1);
 }
 
-static void store(const struct counter *counter, size_t offset, unsigned char byte) {
-    if (shm_write(counter->site, counter->at, offset, &byte, 1) < 0) fail("store");
-}
-
-/* How many of the bytes from `first` to before `end` aren't 0. */
-static unsigned raised(const struct counter *counter, unsigned first, unsigned end) {
-    unsigned char bytes[2 * MOST_SITES];
+/* How many sites are done. */
+static unsigned done(const struct counter *counter) {
+    unsigned char bytes[MOST_SITES];
     unsigned count = 0;
-    if (first >= end) return 0;
-    if (shm_read(counter->site, counter->at, first, bytes, end - first) < 0) fail("load");
-    for (unsigned place = 0; place < end - first; place++) count += bytes[place] != 0;
+    if (shm_read(counter->site, counter->at, DONE, bytes, counter->sites) < 0) fail("load");
+    for (unsigned place = 0; place < counter->sites; place++) count += bytes[place] != 0;
     return count;
 }
 
-/* Waits until so many of these bytes aren't 0. */
-static void wait_until(const struct counter *counter, unsigned first, unsigned end, unsigned count) {
+static void wait_for_all(const struct counter *counter) {
     const struct timespec spin = {0, 2000000};
-    while (raised(counter, first, end) != count) {
+    while (done(counter) != counter->sites) {
         if (time(NULL) > counter->give_up) {
             errno = ETIMEDOUT;
             fail("the other sites took too long");
         }
         nanosleep(&spin, NULL);
     }
-}
-
-static void enter(const struct counter *counter) {
-    store(counter, counter->me, 1);
-    while (raised(counter, 0, counter->me) > 0) {
-        store(counter, counter->me, 0);
-        wait_until(counter, 0, counter->me, 0);
-        store(counter, counter->me, 1);
-    }
-    wait_until(counter, counter->me + 1, counter->sites, 0);
 }
 
 static unsigned long value(const struct counter *counter) {
@@ -75,11 +59,11 @@ static unsigned long value(const struct counter *counter) {
 
 static void add(const struct counter *counter) {
     unsigned char bytes[COUNTER_BYTES];
-    enter(counter);
+    if (shm_lock(counter->site, counter->at, LOCK) < 0) fail("lock");
     unsigned long sum = value(counter) + 1;
     for (int place = 0; place < COUNTER_BYTES; place++) bytes[place] = (unsigned char)(sum >> 8 * place);
     if (shm_write(counter->site, counter->at, COUNTER, bytes, COUNTER_BYTES) < 0) fail("store");
-    store(counter, counter->me, 0);
+    if (shm_unlock(counter->site, counter->at, LOCK) < 0) fail("unlock");
 }
 
 /* Attaches the segment. A call whose site was killed under it may have been executed, and does no harm a second time. */
@@ -96,11 +80,9 @@ static void attach(struct counter *counter) {
 static void count(struct counter *counter, unsigned long times) {
     attach(counter);
     for (unsigned long time = 0; time < times; time++) add(counter);
-    store(counter, DONE + counter->me, 1);
-    wait_until(counter, DONE, DONE + counter->sites, counter->sites);
+    if (shm_write(counter->site, counter->at, DONE + counter->me, "\1", 1) < 0) fail("store");
+    wait_for_all(counter);
     fprintf(stderr, "counter %lu\n", value(counter));
-    /* The others may not have seen yet that all are done, and need this site for it. */
-    sleep(LINGER_SECONDS);
 }
 
 static unsigned number(const char *word, unsigned long most) {
@@ -136,6 +118,7 @@ int main(int argc, char **argv) {
     counter.site = leddwyfan_start(&options);
     if (counter.site == NULL) fail("start");
     count(&counter, times);
-    leddwyfan_stop(counter.site);
+    /* The others may not have seen yet that all are done, and need this site for it. */
+    leddwyfan_leave(counter.site, LEAVE_SECONDS);
     return 0;
 }

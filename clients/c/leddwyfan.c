@@ -20,6 +20,8 @@ extern char **environ;
 
 enum {
     PAGE = 4096,
+    MOST_SITES = 16,
+    SPIN = 2,           /* milliseconds between two looks at a flag */
     TICK = 50,          /* milliseconds, while something waits here or others say something */
     IDLE_TICK = 1000,   /* milliseconds, else */
     STOP = 5000,        /* milliseconds until a process that doesn't end is told to, by SIGTERM and then by SIGKILL */
@@ -64,12 +66,14 @@ struct batch {
 struct leddwyfan {
     pthread_mutex_t lock;  /* of all that stands below `thread` */
     pthread_mutex_t calls; /* a site has one segment call at a time */
+    pthread_mutex_t locking; /* one thread at a time looks at this site's flag of a lock and raises it */
     pthread_cond_t changed;
     pthread_t thread;
     char **words; /* of the process, all copied: it may be started again */
     char numbers[3][12];
-    unsigned me, timeout, restarts;
+    unsigned sites, me, timeout, restarts;
     uint32_t uid, gid;
+    pid_t owner; /* the process that started the site */
     sigset_t signals; /* of the process */
     pid_t process;
     struct channel from_stream, to_stream, from_site, to_site;
@@ -77,7 +81,7 @@ struct leddwyfan {
     char name[8];
     uint64_t batches_made;
     struct batch *batches;
-    int64_t last_tick;
+    int64_t last_tick, last_heard;
     bool heard; /* something came for this site since its last tick */
     int fault; /* 0, or the errno with which all calls fail */
     bool stopping;
@@ -342,6 +346,7 @@ static void take_stream_line(struct leddwyfan *site, const char *line, size_t le
     if (!envelope && !ask) return;
     push_if_room(site, &site->to_site, line, length);
     site->heard = true;
+    site->last_heard = now();
 }
 
 static void take_site_line(struct leddwyfan *site, const char *line, size_t length) {
@@ -518,8 +523,14 @@ static int fault_at(const struct leddwyfan *site, int64_t deadline) {
     return deadline != 0 && now() >= deadline ? ETIMEDOUT : 0;
 }
 
+/* Fails in a process that was forked since the start: neither the thread that carries nor the site's process is its own. */
+static int check_owner(const struct leddwyfan *site) {
+    return getpid() == site->owner ? 0 : failed(ECHILD);
+}
+
 /* Asks all of these at once, and waits for their answers. The site is ticked while they wait. */
 static int exchange(struct leddwyfan *site, struct batch *batch, int64_t deadline) {
+    if (check_owner(site) < 0) return -1;
     pthread_mutex_lock(&site->lock);
     int fault = fault_at(site, deadline);
     if (fault == 0) {
@@ -560,6 +571,7 @@ static int call(struct leddwyfan *site, char reply[ANSWER_BYTES], const char *fo
     va_start(values, format);
     vsnprintf(question, sizeof question, format, values);
     va_end(values);
+    if (check_owner(site) < 0) return -1;
     pthread_mutex_lock(&site->calls);
     int result = ask_call(site, question, reply);
     pthread_mutex_unlock(&site->calls);
@@ -773,6 +785,100 @@ int shm_write(struct leddwyfan *site, int at, size_t offset, const void *bytes, 
     return access_all(site, (struct piece){at, offset, length, bytes, NULL});
 }
 
+/* A lock over sites. Site K's flag is the byte at the lock's offset + 4096 * K, so each lies on a page of its own where the offset is a page's
+   first, and a site alone stores its own (Burns and Lynch 1980; Lamport 1986, "The mutual exclusion problem", the one-bit algorithm). All it
+   takes is that a load gives what was stored last. */
+
+struct flags {
+    struct leddwyfan *site;
+    int at;
+    size_t offset;
+    int64_t deadline;
+};
+
+/* How many of the sites from `first` to before `end` have raised their flag, or -1. */
+static int raised(const struct flags *flags, unsigned first, unsigned end) {
+    int count = 0;
+    for (unsigned site = first; site < end; site++) {
+        unsigned char flag;
+        if (shm_read(flags->site, flags->at, flags->offset + (size_t)PAGE * site, &flag, 1) < 0) return -1;
+        count += flag != 0;
+    }
+    return count;
+}
+
+static int store_flag(const struct flags *flags, unsigned char flag) {
+    return shm_write(flags->site, flags->at, flags->offset + (size_t)PAGE * flags->site->me, &flag, 1);
+}
+
+/* Waits until none of these sites has raised its flag. */
+static int wait_lowered(const struct flags *flags, unsigned first, unsigned end) {
+    int count;
+    while ((count = raised(flags, first, end)) > 0) {
+        if (flags->deadline != 0 && now() >= flags->deadline) return failed(ETIMEDOUT);
+        pause_for(SPIN);
+    }
+    return count;
+}
+
+/* Raises this site's flag, and answers 0; 1: another thread of this site has raised it. */
+static int raise_own(const struct flags *flags) {
+    struct leddwyfan *site = flags->site;
+    pthread_mutex_lock(&site->locking);
+    int result = raised(flags, site->me, site->me + 1);
+    if (result == 0) result = store_flag(flags, 1);
+    pthread_mutex_unlock(&site->locking);
+    return result;
+}
+
+static int wait_raise_own(const struct flags *flags) {
+    int result;
+    while ((result = raise_own(flags)) > 0) {
+        if (flags->deadline != 0 && now() >= flags->deadline) return failed(ETIMEDOUT);
+        pause_for(SPIN);
+    }
+    return result;
+}
+
+/* Goes on from a raised flag until the lock is this site's. */
+static int win(const struct flags *flags) {
+    unsigned me = flags->site->me;
+    int before;
+    while ((before = raised(flags, 0, me)) > 0) {
+        if (store_flag(flags, 0) < 0 || wait_lowered(flags, 0, me) < 0 || store_flag(flags, 1) < 0) return -1;
+    }
+    return before < 0 ? -1 : wait_lowered(flags, me + 1, flags->site->sites);
+}
+
+/* Lowers the flag of a call that fails, where that can be done. */
+static int give_up(const struct flags *flags, int number) {
+    store_flag(flags, 0);
+    return failed(number);
+}
+
+int shm_lock(struct leddwyfan *site, int at, size_t offset) {
+    if (check_owner(site) < 0) return -1;
+    struct flags flags = {site, at, offset, deadline_of(site)};
+    if (wait_raise_own(&flags) < 0) return -1;
+    return win(&flags) < 0 ? give_up(&flags, errno) : 0;
+}
+
+int shm_trylock(struct leddwyfan *site, int at, size_t offset) {
+    if (check_owner(site) < 0) return -1;
+    struct flags flags = {site, at, offset, deadline_of(site)};
+    int result = raise_own(&flags);
+    if (result != 0) return result < 0 ? -1 : failed(EBUSY);
+    int before = raised(&flags, 0, site->me);
+    int behind = before == 0 ? raised(&flags, site->me + 1, site->sites) : 0;
+    if (before < 0 || behind < 0) return give_up(&flags, errno);
+    return before > 0 || behind > 0 ? give_up(&flags, EBUSY) : 0;
+}
+
+int shm_unlock(struct leddwyfan *site, int at, size_t offset) {
+    struct flags flags = {site, at, offset, 0};
+    return store_flag(&flags, 0);
+}
+
 /* Starting and stopping. */
 
 static int make_words(struct leddwyfan *site, const struct leddwyfan_options *options) {
@@ -802,6 +908,7 @@ static void free_site(struct leddwyfan *site) {
     free(site->from_site.bytes.start);
     free(site->to_site.bytes.start);
     pthread_cond_destroy(&site->changed);
+    pthread_mutex_destroy(&site->locking);
     pthread_mutex_destroy(&site->calls);
     pthread_mutex_destroy(&site->lock);
     free(site);
@@ -813,14 +920,16 @@ static struct leddwyfan *new_site(const struct leddwyfan_options *options) {
     if (site == NULL) return NULL;
     struct timespec time;
     clock_gettime(CLOCK_REALTIME, &time);
+    site->sites = options->sites;
     site->me = options->me;
+    site->owner = getpid();
     site->timeout = options->timeout;
     site->restarts = options->journal == NULL ? 0 : RESTARTS;
     site->uid = (uint32_t)getuid();
     site->gid = (uint32_t)getgid();
     site->from_stream.descriptor = options->reader;
     site->to_stream.descriptor = options->writer;
-    site->last_tick = now();
+    site->last_tick = site->last_heard = now();
     /* Tags that no other caller of this site has. */
     unsigned name = ((unsigned)time.tv_nsec ^ (unsigned)time.tv_sec << 4 ^ (unsigned)getpid() << 12) & 0xffffff;
     snprintf(site->name, sizeof site->name, "%06x", name);
@@ -829,6 +938,7 @@ static struct leddwyfan *new_site(const struct leddwyfan_options *options) {
     pthread_condattr_setclock(&monotonic, CLOCK_MONOTONIC);
     pthread_cond_init(&site->changed, &monotonic);
     pthread_condattr_destroy(&monotonic);
+    pthread_mutex_init(&site->locking, NULL);
     pthread_mutex_init(&site->calls, NULL);
     pthread_mutex_init(&site->lock, NULL);
     return site;
@@ -856,6 +966,10 @@ static int start_thread(struct leddwyfan *site) {
 }
 
 struct leddwyfan *leddwyfan_start(const struct leddwyfan_options *options) {
+    if (options->sites > MOST_SITES || options->me >= options->sites) {
+        errno = EINVAL;
+        return NULL;
+    }
     if (set_not_to_block(options->reader) < 0 || set_not_to_block(options->writer) < 0) return NULL;
     struct leddwyfan *site = new_site(options);
     if (site == NULL) return NULL;
@@ -866,7 +980,40 @@ struct leddwyfan *leddwyfan_start(const struct leddwyfan_options *options) {
     return site;
 }
 
+/* Checks that something came for this site since, and it goes on. */
+static bool is_asked(struct leddwyfan *site, int64_t since) {
+    pthread_mutex_lock(&site->lock);
+    bool asked = site->fault == 0 && site->last_heard >= since;
+    pthread_mutex_unlock(&site->lock);
+    return asked;
+}
+
+/* Writes a line that all sites pass over. A carrier that waits for a line to find out that nobody reads it any more, as `mosquitto_sub` does,
+   ends by it. */
+static void say_last_line(struct leddwyfan *site) {
+    char line[16];
+    int length = snprintf(line, sizeof line, "bye %u", site->me);
+    pthread_mutex_lock(&site->lock);
+    if (site->fault == 0) {
+        push(site, &site->to_stream, line, (size_t)length);
+        write_more(&site->to_stream);
+    }
+    pthread_mutex_unlock(&site->lock);
+}
+
+void leddwyfan_leave(struct leddwyfan *site, unsigned seconds) {
+    if (check_owner(site) < 0) return;
+    int64_t begin;
+    do {
+        begin = now();
+        pause_for(1000 * (int)seconds);
+    } while (is_asked(site, begin));
+    say_last_line(site);
+    leddwyfan_stop(site);
+}
+
 void leddwyfan_stop(struct leddwyfan *site) {
+    if (check_owner(site) < 0) return;
     pthread_mutex_lock(&site->lock);
     site->stopping = true;
     fail(site, ESHUTDOWN);

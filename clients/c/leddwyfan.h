@@ -25,7 +25,7 @@ struct leddwyfan;
 struct leddwyfan_options {
     char *const *program; /* the words of the command, ended by NULL, as {"shmdbg", NULL} */
     unsigned sites;       /* how many sites there are, 1 to 16 */
-    unsigned me;          /* which of them this is */
+    unsigned me;          /* which of them this is: below `sites` */
     unsigned pages;       /* how many pages segment 0 has, which is attached as attachment 0 */
     int reader;           /* what others say comes from here: set not to block, and never closed */
     int writer;           /* what goes out goes here: the same */
@@ -42,13 +42,17 @@ struct leddwyfan_status {
     bool marked;
 };
 
-/* NULL, and errno: there is no process, or no memory. */
+/* NULL, and errno: EINVAL where there is no such site, else there is no process, or no memory. */
 struct leddwyfan *leddwyfan_start(const struct leddwyfan_options *options);
 
-/* Ends the site's process. What the site holds is gone, but for its journal. No call may run meanwhile. */
+/* Ends the site's process. What the site holds is gone, but for its journal. No call may run meanwhile. In a process that was forked since
+   the start it does nothing. */
 void leddwyfan_stop(struct leddwyfan *site);
 
-/* These answer -1, and errno, where they fail. */
+/* Serves the other sites until none of them has said anything to this one for so many seconds, and stops as above. */
+void leddwyfan_leave(struct leddwyfan *site, unsigned seconds);
+
+/* These answer -1, and errno, where they fail: ECHILD in a process that was forked since the start. */
 int shm_get(struct leddwyfan *site, uint32_t key, size_t size, int flags);
 int shm_at(struct leddwyfan *site, int shmid, int flags);
 int shm_dt(struct leddwyfan *site, int at);
@@ -58,5 +62,13 @@ int shm_ctl(struct leddwyfan *site, int shmid, int command, struct leddwyfan_sta
    is asked for as one block, and a single byte as a load. */
 int shm_read(struct leddwyfan *site, int at, size_t offset, void *bytes, size_t length);
 int shm_write(struct leddwyfan *site, int at, size_t offset, const void *bytes, size_t length);
+
+/* A lock whose flags begin at this offset of an attached segment: 4,096 bytes for each site, of which the first is site K's flag. At most one
+   site has it, and of a site one thread. shm_lock waits, and fails with ETIMEDOUT behind the options' timeout; sites with lower numbers go
+   first. shm_trylock fails with EBUSY where the lock is taken, or wanted by another. What a program had that ended, the next at its site
+   may unlock. */
+int shm_lock(struct leddwyfan *site, int at, size_t offset);
+int shm_trylock(struct leddwyfan *site, int at, size_t offset);
+int shm_unlock(struct leddwyfan *site, int at, size_t offset);
 
 #endif

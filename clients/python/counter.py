@@ -6,25 +6,25 @@
 The stream comes in on standard input and goes out on standard output, as for `shmdbg site`; the counter's value is told on standard error.
 Run one for each site; clients/c/counter.c is the same program, and the two may be mixed.
 
-The segment's bytes: at 0 to 15 a flag for each site, which it alone stores, at 16 to 31 whether the site is done, and at 64 the counter, four
-bytes with the lowest first. A site that wants the counter raises its flag. If a site before it has raised its own, it lowers it again and
-waits; else it waits for those behind it. Of two sites that both raised theirs, the one that looks last sees the other's: never two have the
-counter at once. All it takes is that a load gives what was stored last."""
+The segment has a page for each site's flag of the lock (shm_lock), and one more page: at 0 to 15 whether each site is done, and at 64 the
+counter, four bytes with the lowest first."""
 import argparse
 import errno
 import sys
 import time
 
-from leddwyfan import IPC_CREAT, Site
+from leddwyfan import IPC_CREAT, MOST_SITES, PAGE_BYTES, Site
 
 KEY = 77
-SEGMENT_BYTES = 4096
-DONE = 16
-COUNTER = 64
+LOCK = 0
+DONE = MOST_SITES * PAGE_BYTES
+COUNTER = DONE + 64
+SEGMENT_BYTES = DONE + PAGE_BYTES
 COUNTER_BYTES = 4
 SPIN_SECONDS = 0.002
 TRIES = 4
 GIVE_UP_SECONDS = 300
+LEAVE_SECONDS = 3
 
 
 def again_if_unknown(call):
@@ -47,41 +47,23 @@ class Counter:
         self.at = again_if_unknown(lambda: site.shm_at(shmid))
         self.give_up = time.monotonic() + GIVE_UP_SECONDS
 
-    def store(self, offset, byte):
-        self.site.shm_write(self.at, offset, bytes([byte]))
-
-    def raised(self, first, end):
-        """Whether one of these sites has raised its flag."""
-        return first < end and any(self.site.shm_read(self.at, first, end - first))
-
     def wait_until(self, condition):
         while not condition():
             if time.monotonic() > self.give_up:
                 raise TimeoutError('the other sites took too long')
             time.sleep(SPIN_SECONDS)
 
-    def enter(self):
-        self.store(self.me, 1)
-        while self.raised(0, self.me):
-            self.store(self.me, 0)
-            self.wait_until(lambda: not self.raised(0, self.me))
-            self.store(self.me, 1)
-        self.wait_until(lambda: not self.raised(self.me + 1, self.sites))
-
-    def leave(self):
-        self.store(self.me, 0)
-
     def value(self):
         return int.from_bytes(self.site.shm_read(self.at, COUNTER, COUNTER_BYTES), 'little')
 
     def add(self):
-        self.enter()
+        self.site.shm_lock(self.at, LOCK)
         self.site.shm_write(self.at, COUNTER, (self.value() + 1).to_bytes(COUNTER_BYTES, 'little'))
-        self.leave()
+        self.site.shm_unlock(self.at, LOCK)
 
     def finish(self):
         """Waits until all sites are done."""
-        self.store(DONE + self.me, 1)
+        self.site.shm_write(self.at, DONE + self.me, b'\1')
         self.wait_until(lambda: all(self.site.shm_read(self.at, DONE, self.sites)))
 
 
@@ -100,7 +82,7 @@ def main():
         counter.finish()
         print(f'counter {counter.value()}', file=sys.stderr)
         # The others may not have seen yet that all are done, and need this site for it.
-        time.sleep(3)
+        site.leave(LEAVE_SECONDS)
 
 
 if __name__ == '__main__':

@@ -42,6 +42,8 @@ MOST_UNWRITTEN = 1 << 22
 LONGEST_LINE = 1 << 16
 NO_ATTACHMENT = 64
 NUMBERS = 1 << 32  # attachments, segments, keys, users, sizes and offsets are below it
+MOST_SITES = 16
+SPIN_SECONDS = 0.002
 
 ERRORS = {
     1: errno.EACCES, 2: errno.EEXIST, 3: errno.EIDRM, 4: errno.EINVAL, 5: errno.ENOENT, 6: errno.ENOSPC, 7: errno.EPERM,
@@ -151,13 +153,16 @@ class Site:
 
     @classmethod
     def start(cls, program, sites, me, pages, reader, writer, journal=None, **options):
-        """Starts site `me`. `program` is a command (a string, or a list of words), `reader` and `writer` are the stream: file objects or
-        descriptors, which the site sets not to block and never closes, and which nobody else may use."""
+        """Starts site `me`, which is below `sites`, at most 16. `program` is a command (a string, or a list of words), `reader` and
+        `writer` are the stream: file objects or descriptors, which the site sets not to block, keeps, and never closes, and which nobody
+        else may use."""
+        if not 0 <= me < sites <= MOST_SITES:
+            raise failure(errno.EINVAL)
         words = shlex.split(program) if isinstance(program, str) else list(program)
         words += ['site', '--sites', str(sites), '--me', str(me), '--preset', str(pages)]
         if journal is not None:
             words += ['--journal', os.fspath(journal)]
-        return cls(words, me, reader, writer, journal is not None, **options)
+        return cls(words, sites, me, reader, writer, journal is not None, **options)
 
     @classmethod
     def over_commands(cls, program, sites, me, pages, hear, say, **options):
@@ -182,20 +187,25 @@ class Site:
         say = ['mosquitto_pub', *broker, '-t', topic, '-l']
         return cls.over_commands(program, sites, me, pages, hear, say, **options)
 
-    def __init__(self, words, me, reader, writer, journaled, uid=None, gid=None, timeout=60, restarts=16, carriers=()):
-        self.me, self.timeout = me, timeout
+    def __init__(self, words, sites, me, reader, writer, journaled, uid=None, gid=None, timeout=60, restarts=16, carriers=()):
+        self.sites, self.me, self.timeout = sites, me, timeout
         self.uid = os.getuid() if uid is None else uid
         self.gid = os.getgid() if gid is None else gid
         check_numbers(self.uid, self.gid)
         self._words, self._carriers = words, carriers
         self._restarts = restarts if journaled else 0
+        # A file object that nobody keeps closes its descriptor.
+        self._stream = (reader, writer)
         self._from_stream, self._to_stream = Incoming(descriptor_of(reader)), Outgoing(descriptor_of(writer))
         self._name, self._asked, self._asks = secrets.token_hex(3), 0, {}
+        self._owner = os.getpid()
         self._calls = threading.Lock()
+        self._locking = threading.Lock()
         self._changed = threading.Condition()
         self._fault = None
         self._stopping = False
         self._last_tick, self._heard = time.monotonic(), False
+        self._last_heard = self._last_tick
         self._wake_reader, self._wake_writer = os.pipe()
         os.set_blocking(self._wake_writer, False)
         self._process = None
@@ -257,8 +267,100 @@ class Site:
         for places in page_by_page(offset, len(data)):
             self._access([f'store {at} {place} {data[place - offset]}' for place in places])
 
+    # A lock over sites. Site K's flag is the byte at the lock's offset + 4096 * K, so each lies on a page of its own where the offset is a
+    # page's first, and a site alone stores its own (Burns and Lynch 1980; Lamport 1986, "The mutual exclusion problem", the one-bit algorithm).
+    # All it takes is that a load gives what was stored last.
+
+    def shm_lock(self, at, offset):
+        """Takes the lock whose flags begin at this offset: 4,096 bytes for each site. At most one site has it, and of a site one thread.
+        Waits for it; sites with lower numbers go first. Raises ETIMEDOUT behind the site's timeout, and has then lowered its flag."""
+        deadline = self._deadline()
+        self._raise_own(at, offset, deadline)
+        try:
+            while self._raised(at, offset, range(self.me)):
+                self._store_flag(at, offset, 0)
+                self._wait_lowered(at, offset, range(self.me), deadline)
+                self._store_flag(at, offset, 1)
+            self._wait_lowered(at, offset, range(self.me + 1, self.sites), deadline)
+        except OSError:
+            self._lower_own(at, offset)
+            raise
+
+    def shm_trylock(self, at, offset):
+        """The same where the lock is free and nobody else wants it. Whether it was taken."""
+        others = [site for site in range(self.sites) if site != self.me]
+        with self._locking:
+            if self._raised(at, offset, [self.me]):
+                return False
+            self._store_flag(at, offset, 1)
+        try:
+            taken = not self._raised(at, offset, others)
+        except OSError:
+            self._lower_own(at, offset)
+            raise
+        if not taken:
+            self._store_flag(at, offset, 0)
+        return taken
+
+    def shm_unlock(self, at, offset):
+        """Gives the lock back. Of a program that ended with it, the next at this site may give it back."""
+        self._store_flag(at, offset, 0)
+
+    def _raise_own(self, at, offset, deadline):
+        """Raises this site's flag once no other thread of this site has it raised."""
+        while True:
+            with self._locking:
+                if not self._raised(at, offset, [self.me]):
+                    self._store_flag(at, offset, 1)
+                    return
+            self._check(deadline)
+            time.sleep(SPIN_SECONDS)
+
+    def _lower_own(self, at, offset):
+        """Lowers the flag of a call that fails, where that can be done."""
+        try:
+            self._store_flag(at, offset, 0)
+        except OSError:
+            pass
+
+    def _wait_lowered(self, at, offset, sites, deadline):
+        while self._raised(at, offset, sites):
+            self._check(deadline)
+            time.sleep(SPIN_SECONDS)
+
+    def _raised(self, at, offset, sites):
+        """Checks for a raised flag among these sites."""
+        return any(self.shm_read(at, offset + PAGE_BYTES * site, 1) != b'\0' for site in sites)
+
+    def _store_flag(self, at, offset, byte):
+        self.shm_write(at, offset + PAGE_BYTES * self.me, bytes([byte]))
+
+    # Ending.
+
+    def leave(self, seconds):
+        """Serves the other sites until none of them has said anything to this one for so many seconds, and stops. What only this site has
+        is then gone for them, but for its journal."""
+        self._check_owner()
+        quiet_since = time.monotonic()
+        while time.monotonic() < quiet_since + seconds and self._fault is None:
+            time.sleep(min(TICK_SECONDS, seconds))
+            quiet_since = max(quiet_since, self._last_heard)
+        self._say_last_line()
+        self.stop()
+
+    def _say_last_line(self):
+        """Writes a line that all sites pass over. A carrier that waits for a line to find out that nobody reads it any more, as
+        `mosquitto_sub` does, ends by it."""
+        with self._changed:
+            if self._fault is None:
+                self._to_stream.push(b'bye %d' % self.me)
+                self._to_stream.write()
+
     def stop(self):
-        """Ends the site's process and what carries for it. What the site holds is gone, but for its journal."""
+        """Ends the site's process and what carries for it. What the site holds is gone, but for its journal. In a process that was forked
+        since the start it does nothing."""
+        if os.getpid() != self._owner:
+            return
         with self._changed:
             if self._stopping:
                 return
@@ -306,6 +408,7 @@ class Site:
     def _call(self, question):
         """Makes a segment call, and gives the words of its reply. A site has one at a time: where another caller's isn't replied to yet, this
         one didn't begin, and is asked again."""
+        self._check_owner()
         with self._calls:
             deadline = self._deadline()
             answer = self._exchange([question], deadline, begins=True)[0]
@@ -323,6 +426,11 @@ class Site:
     def _deadline(self):
         return None if self.timeout is None else time.monotonic() + self.timeout
 
+    def _check_owner(self):
+        """Fails in a process that was forked since the start: neither the thread that carries nor the site's process is its own."""
+        if os.getpid() != self._owner:
+            raise failure(errno.ECHILD)
+
     def _check(self, deadline):
         """Fails where a call of this deadline waits no longer."""
         if self._fault is not None:
@@ -332,6 +440,7 @@ class Site:
 
     def _exchange(self, questions, deadline, begins=False):
         """Asks all of these at once, and waits for their answers, in the same order. The site is ticked while they wait."""
+        self._check_owner()
         batch = Batch(len(questions))
         with self._changed:
             self._check(deadline)
@@ -441,7 +550,7 @@ class Site:
             words = line.split(b' ', 3)
             if (words[0] == b'env' and words[2:3] == [me]) or (words[0] == b'ask' and words[1:2] == [me]):
                 self._to_site.push_if_room(line)
-                self._heard = True
+                self._heard, self._last_heard = True, time.monotonic()
 
     def _take_from_site(self):
         lines = self._from_site.read_lines()
