@@ -173,6 +173,8 @@ def try_calls(one, other):
 def try_lock(sites):
     """One thread of one site at a time has the lock: what each adds to a counter is not lost."""
     one, other = sites
+    for site in sites:
+        site.shm_unlock(0, 0)
     expect(one.shm_trylock(0, 0) and not other.shm_trylock(0, 0) and not one.shm_trylock(0, 0), 'a lock is taken once')
     one.shm_unlock(0, 0)
     one.shm_write(0, 100, b'\0')

@@ -106,6 +106,7 @@ static void try_attached(struct leddwyfan *one, struct leddwyfan *other, int shm
 
 /* A lock is one site's at a time, and is given back. */
 static void try_lock(struct leddwyfan *one, struct leddwyfan *other) {
+    EXPECT(shm_unlock(one, 0, 0) == 0 && shm_unlock(other, 0, 0) == 0);
     EXPECT(shm_lock(one, 0, 0) == 0);
     EXPECT_ERROR(EBUSY, shm_trylock(other, 0, 0));
     EXPECT_ERROR(EBUSY, shm_trylock(one, 0, 0));
