@@ -3,11 +3,16 @@
 
 PROGRAM := crates/shmdbg
 
-.PHONY: replay build pictures examples manners machines crashes clients bench refused test wrong-bodies
+.PHONY: replay try build pictures examples manners machines crashes clients bench refused test wrong-bodies
 
 # Replays an example without proving anything: a minute or two on a fresh machine, most of it compiling.
 replay:
 	cd $(PROGRAM) && rt try -- replay < ../../examples/two-sites.shm
+
+# Replays a script of your own without proving anything: make try SCRIPT=my.shm. It compiles anew each time, as `make replay` does.
+try:
+	@test -r "$(SCRIPT)" || { echo "make try SCRIPT=my.shm: which script?"; exit 2; }
+	script=$$(realpath "$(SCRIPT)"); cd $(PROGRAM) && rt try -- replay < "$$script"
 
 # Proves the program and the crates that it stands on, and leaves it in crates/shmdbg/out/.
 build:

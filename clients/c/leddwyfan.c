@@ -63,10 +63,16 @@ struct batch {
     char *answers;
 };
 
+/* A lock over sites that a thread of this one has or wants. */
+struct claim {
+    struct claim *next;
+    int at;
+    size_t offset;
+};
+
 struct leddwyfan {
     pthread_mutex_t lock;  /* of all that stands below `thread` */
     pthread_mutex_t calls; /* a site has one segment call at a time */
-    pthread_mutex_t locking; /* one thread at a time looks at this site's flag of a lock and raises it */
     pthread_cond_t changed;
     pthread_t thread;
     char **words; /* of the process, all copied: it may be started again */
@@ -81,6 +87,7 @@ struct leddwyfan {
     char name[8];
     uint64_t batches_made;
     struct batch *batches;
+    struct claim *claims;
     int64_t last_tick, last_heard;
     bool heard; /* something came for this site since its last tick */
     int fault; /* 0, or the errno with which all calls fail */
@@ -821,62 +828,89 @@ static int wait_lowered(const struct flags *flags, unsigned first, unsigned end)
     return count;
 }
 
-/* Raises this site's flag, and answers 0; 1: another thread of this site has raised it. */
-static int raise_own(const struct flags *flags) {
+/* The link to what a thread of this site has or wants of this lock, or to NULL. */
+static struct claim **claim_of(const struct flags *flags) {
+    struct claim **link = &flags->site->claims;
+    while (*link != NULL && ((*link)->at != flags->at || (*link)->offset != flags->offset)) link = &(*link)->next;
+    return link;
+}
+
+/* Waits until no other thread of this site has the lock or wants it, or fails at once with EBUSY. */
+static int claim(const struct flags *flags, bool waits) {
     struct leddwyfan *site = flags->site;
-    pthread_mutex_lock(&site->locking);
-    int result = raised(flags, site->me, site->me + 1);
-    if (result == 0) result = store_flag(flags, 1);
-    pthread_mutex_unlock(&site->locking);
-    return result;
-}
-
-static int wait_raise_own(const struct flags *flags) {
-    int result;
-    while ((result = raise_own(flags)) > 0) {
-        if (flags->deadline != 0 && now() >= flags->deadline) return failed(ETIMEDOUT);
-        pause_for(SPIN);
+    struct claim *claim = malloc(sizeof *claim);
+    int fault = 0;
+    if (claim == NULL) return -1;
+    *claim = (struct claim){NULL, flags->at, flags->offset};
+    pthread_mutex_lock(&site->lock);
+    while (*claim_of(flags) != NULL && fault == 0) {
+        fault = waits ? fault_at(site, flags->deadline) : EBUSY;
+        if (fault == 0) wait_for_change(site);
     }
-    return result;
+    if (fault == 0) *claim_of(flags) = claim;
+    pthread_mutex_unlock(&site->lock);
+    if (fault == 0) return 0;
+    free(claim);
+    return failed(fault);
 }
 
-/* Goes on from a raised flag until the lock is this site's. */
+static void disclaim(const struct flags *flags) {
+    struct leddwyfan *site = flags->site;
+    pthread_mutex_lock(&site->lock);
+    struct claim **link = claim_of(flags), *claim = *link;
+    if (claim != NULL) *link = claim->next;
+    pthread_cond_broadcast(&site->changed);
+    pthread_mutex_unlock(&site->lock);
+    free(claim);
+}
+
+/* Goes on until the lock is this site's. */
 static int win(const struct flags *flags) {
     unsigned me = flags->site->me;
     int before;
+    if (store_flag(flags, 1) < 0) return -1;
     while ((before = raised(flags, 0, me)) > 0) {
         if (store_flag(flags, 0) < 0 || wait_lowered(flags, 0, me) < 0 || store_flag(flags, 1) < 0) return -1;
     }
     return before < 0 ? -1 : wait_lowered(flags, me + 1, flags->site->sites);
 }
 
-/* Lowers the flag of a call that fails, where that can be done. */
+/* The lock is this site's where no other one wants it; else the answer is -1. */
+static int win_at_once(const struct flags *flags) {
+    unsigned me = flags->site->me;
+    if (store_flag(flags, 1) < 0) return -1;
+    int before = raised(flags, 0, me);
+    int behind = before == 0 ? raised(flags, me + 1, flags->site->sites) : 0;
+    if (before < 0 || behind < 0) return -1;
+    return before > 0 || behind > 0 ? failed(EBUSY) : 0;
+}
+
+/* A call that fails lowers the site's flag, where that can be done, and leaves the lock to other threads. */
 static int give_up(const struct flags *flags, int number) {
     store_flag(flags, 0);
+    disclaim(flags);
     return failed(number);
 }
 
 int shm_lock(struct leddwyfan *site, int at, size_t offset) {
     if (check_owner(site) < 0) return -1;
     struct flags flags = {site, at, offset, deadline_of(site)};
-    if (wait_raise_own(&flags) < 0) return -1;
+    if (claim(&flags, true) < 0) return -1;
     return win(&flags) < 0 ? give_up(&flags, errno) : 0;
 }
 
 int shm_trylock(struct leddwyfan *site, int at, size_t offset) {
     if (check_owner(site) < 0) return -1;
     struct flags flags = {site, at, offset, deadline_of(site)};
-    int result = raise_own(&flags);
-    if (result != 0) return result < 0 ? -1 : failed(EBUSY);
-    int before = raised(&flags, 0, site->me);
-    int behind = before == 0 ? raised(&flags, site->me + 1, site->sites) : 0;
-    if (before < 0 || behind < 0) return give_up(&flags, errno);
-    return before > 0 || behind > 0 ? give_up(&flags, EBUSY) : 0;
+    if (claim(&flags, false) < 0) return -1;
+    return win_at_once(&flags) < 0 ? give_up(&flags, errno) : 0;
 }
 
 int shm_unlock(struct leddwyfan *site, int at, size_t offset) {
     struct flags flags = {site, at, offset, 0};
-    return store_flag(&flags, 0);
+    if (store_flag(&flags, 0) < 0) return -1;
+    disclaim(&flags);
+    return 0;
 }
 
 /* Starting and stopping. */
@@ -901,6 +935,11 @@ static int make_words(struct leddwyfan *site, const struct leddwyfan_options *op
 
 static void free_site(struct leddwyfan *site) {
     int number = errno;
+    while (site->claims != NULL) {
+        struct claim *claim = site->claims;
+        site->claims = claim->next;
+        free(claim);
+    }
     for (char **copied = site->words; copied != NULL && *copied != NULL; copied++) free(*copied);
     free(site->words);
     free(site->from_stream.bytes.start);
@@ -908,7 +947,6 @@ static void free_site(struct leddwyfan *site) {
     free(site->from_site.bytes.start);
     free(site->to_site.bytes.start);
     pthread_cond_destroy(&site->changed);
-    pthread_mutex_destroy(&site->locking);
     pthread_mutex_destroy(&site->calls);
     pthread_mutex_destroy(&site->lock);
     free(site);
@@ -938,7 +976,6 @@ static struct leddwyfan *new_site(const struct leddwyfan_options *options) {
     pthread_condattr_setclock(&monotonic, CLOCK_MONOTONIC);
     pthread_cond_init(&site->changed, &monotonic);
     pthread_condattr_destroy(&monotonic);
-    pthread_mutex_init(&site->locking, NULL);
     pthread_mutex_init(&site->calls, NULL);
     pthread_mutex_init(&site->lock, NULL);
     return site;

@@ -64,9 +64,9 @@ int shm_read(struct leddwyfan *site, int at, size_t offset, void *bytes, size_t 
 int shm_write(struct leddwyfan *site, int at, size_t offset, const void *bytes, size_t length);
 
 /* A lock whose flags begin at this offset of an attached segment: 4,096 bytes for each site, of which the first is site K's flag. At most one
-   site has it, and of a site one thread. shm_lock waits, and fails with ETIMEDOUT behind the options' timeout; sites with lower numbers go
-   first. shm_trylock fails with EBUSY where the lock is taken, or wanted by another. What a program had that ended, the next at its site
-   may unlock. */
+   site has it, and of a site one thread (all of one site go by the same attachment). shm_lock waits, and fails with ETIMEDOUT behind the
+   options' timeout; sites with lower numbers go first. shm_trylock fails with EBUSY where the lock is taken, or wanted by another. What a
+   program had that ended goes to the next at its site that locks or unlocks. */
 int shm_lock(struct leddwyfan *site, int at, size_t offset);
 int shm_trylock(struct leddwyfan *site, int at, size_t offset);
 int shm_unlock(struct leddwyfan *site, int at, size_t offset);

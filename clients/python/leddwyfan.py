@@ -14,6 +14,7 @@ shmctl(2); one that is refused raises OSError with the system's errno. Threads m
 
 Needs Python 3.9 and nothing else."""
 import base64
+import contextlib
 import errno
 import operator
 import os
@@ -200,7 +201,7 @@ class Site:
         self._name, self._asked, self._asks = secrets.token_hex(3), 0, {}
         self._owner = os.getpid()
         self._calls = threading.Lock()
-        self._locking = threading.Lock()
+        self._locks, self._unlocked = set(), threading.Condition()
         self._changed = threading.Condition()
         self._fault = None
         self._stopping = False
@@ -272,56 +273,63 @@ class Site:
     # All it takes is that a load gives what was stored last.
 
     def shm_lock(self, at, offset):
-        """Takes the lock whose flags begin at this offset: 4,096 bytes for each site. At most one site has it, and of a site one thread.
-        Waits for it; sites with lower numbers go first. Raises ETIMEDOUT behind the site's timeout, and has then lowered its flag."""
+        """Takes the lock whose flags begin at this offset: 4,096 bytes for each site. At most one site has it, and of a site one thread
+        (all of one site go by the same attachment). Waits for it; sites with lower numbers go first. Raises ETIMEDOUT behind the site's
+        timeout, and has then lowered its flag."""
+        self._check_owner()
         deadline = self._deadline()
-        self._raise_own(at, offset, deadline)
-        try:
+        self._claim(at, offset, deadline)
+        with self._disclaims_on_failure(at, offset):
+            self._store_flag(at, offset, 1)
             while self._raised(at, offset, range(self.me)):
                 self._store_flag(at, offset, 0)
                 self._wait_lowered(at, offset, range(self.me), deadline)
                 self._store_flag(at, offset, 1)
             self._wait_lowered(at, offset, range(self.me + 1, self.sites), deadline)
-        except OSError:
-            self._lower_own(at, offset)
-            raise
 
     def shm_trylock(self, at, offset):
         """The same where the lock is free and nobody else wants it. Whether it was taken."""
+        self._check_owner()
         others = [site for site in range(self.sites) if site != self.me]
-        with self._locking:
-            if self._raised(at, offset, [self.me]):
+        with self._unlocked:
+            if (at, offset) in self._locks:
                 return False
+            self._locks.add((at, offset))
+        with self._disclaims_on_failure(at, offset):
             self._store_flag(at, offset, 1)
-        try:
             taken = not self._raised(at, offset, others)
-        except OSError:
-            self._lower_own(at, offset)
-            raise
         if not taken:
-            self._store_flag(at, offset, 0)
+            self.shm_unlock(at, offset)
         return taken
 
     def shm_unlock(self, at, offset):
-        """Gives the lock back. Of a program that ended with it, the next at this site may give it back."""
+        """Gives the lock back. What a program had that ended goes to the next at its site that locks or unlocks."""
         self._store_flag(at, offset, 0)
+        self._disclaim(at, offset)
 
-    def _raise_own(self, at, offset, deadline):
-        """Raises this site's flag once no other thread of this site has it raised."""
-        while True:
-            with self._locking:
-                if not self._raised(at, offset, [self.me]):
-                    self._store_flag(at, offset, 1)
-                    return
-            self._check(deadline)
-            time.sleep(SPIN_SECONDS)
+    def _claim(self, at, offset, deadline):
+        """Waits until no other thread of this site has the lock or wants it."""
+        with self._unlocked:
+            while (at, offset) in self._locks:
+                self._check(deadline)
+                self._unlocked.wait(TICK_SECONDS)
+            self._locks.add((at, offset))
 
-    def _lower_own(self, at, offset):
-        """Lowers the flag of a call that fails, where that can be done."""
+    def _disclaim(self, at, offset):
+        with self._unlocked:
+            self._locks.discard((at, offset))
+            self._unlocked.notify_all()
+
+    @contextlib.contextmanager
+    def _disclaims_on_failure(self, at, offset):
+        """A call that fails lowers the site's flag, where that can be done, and leaves the lock to other threads."""
         try:
-            self._store_flag(at, offset, 0)
+            yield
         except OSError:
-            pass
+            with contextlib.suppress(OSError):
+                self._store_flag(at, offset, 0)
+            self._disclaim(at, offset)
+            raise
 
     def _wait_lowered(self, at, offset, sites, deadline):
         while self._raised(at, offset, sites):
