@@ -47,6 +47,12 @@ examples:
 manners:
 	@completions/check
 
+# Checks the documents: links, commands with what they print, and the pages of examples/. Needs the program that `make build` leaves, and
+# Python 3.
+.PHONY: documents
+documents:
+	@docs/check
+
 # Times a load, a store and a page that is fetched, in nanoseconds. Needs the crates that `make build` leaves built. No part of the gate.
 bench:
 	@bench/run
