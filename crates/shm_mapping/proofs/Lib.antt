@@ -1,0 +1,13 @@
+pub mod Joined
+pub mod Rows
+pub mod Notes
+pub mod Steps
+pub mod Worlds
+pub mod Back
+pub mod Bring
+pub mod Good
+pub mod Happened
+pub mod Mapping
+pub mod GiveUp
+pub mod Processors
+pub mod Hold

@@ -1,0 +1,29 @@
+//! Hosts whose processors load and store at mapped pages are one world without mappings.
+ghost use Rattle.std.specs.Prelude.{List};
+ghost use Rattle.shm_mapping.specs.Hosts.{HostEvent};
+ghost use Rattle.shm_mapping.specs.Programs.{AllMappedHold, RunsAsOne, SitesRun, hosts, joined_world};
+ghost use Rattle.shm_model.specs.Memory.{Coherent, Legal};
+ghost use Rattle.shm_model.specs.World.{IsOpening, Opening};
+
+/// Whatever hosts do, there is a run of the world without mappings in which each processor's load and store is one of its site, at its
+/// place in the list. It has the same answers, the same envelopes, and the machines' memory for the bytes of what is mapped to write.
+pub fn programs_run_as_one_world()
+    ensures { (o : Opening) (events : List HostEvent) → IsOpening o → RunsAsOne o events }
+{}
+
+/// Each load of any processor gives the last store of any processor or site to its place, or 0 (Li and Hudak 1989, §2).
+pub fn processors_share_one_memory()
+    ensures legal { (o : Opening) (events : List HostEvent) → IsOpening o → Legal o (hosts o events).account }
+    ensures coherent { (o : Opening) (events : List HostEvent) → IsOpening o → Coherent (joined_world (hosts o events)) }
+{}
+
+/// What the sites have of it, and so their journals, is a run too: the stores of a mapping come where it is given up, and no envelope
+/// differs.
+pub fn sites_run_beside_what_is_mapped()
+    ensures { (o : Opening) (events : List HostEvent) → IsOpening o → SitesRun o events }
+{}
+
+/// A site has the right to each page that its machine maps, and a page that is mapped to write is mapped by one host.
+pub fn what_is_mapped_is_kept()
+    ensures { (o : Opening) (events : List HostEvent) → IsOpening o → AllMappedHold (hosts o events) }
+{}
