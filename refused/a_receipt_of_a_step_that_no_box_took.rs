@@ -1,7 +1,7 @@
 // Nobody but a box makes a receipt of a step.
 // refused: error[private-item]: associated function `of` is private
-// uses: shm_sites shm_place
-use shm_sites::{Receipt, Step};
+// uses: shm_logs shm_place
+use shm_logs::{Receipt, Step};
 use shm_place::SiteId;
 
 fn forge(step: &Step) -> Receipt {

@@ -1,7 +1,7 @@
 // Nobody but a box writes a receipt.
 // refused: error[private-field]: field `answer` of struct `Receipt` is private
-// uses: shm_sites shm_place shm_model
-use shm_sites::Receipt;
+// uses: shm_logs shm_place shm_model
+use shm_logs::Receipt;
 use shm_model::Answer;
 use shm_place::SiteId;
 

@@ -3,10 +3,10 @@ use Rattle.std.proofs.Common.{◌≡◌, ◌≤◌, ℕ, List, ◌∷◌, ◌++�
 use Rattle.std.specs.Prelude.{⊤, Option, IfErr, IfOk, IfSome}
 use Rattle.std.specs.Io.KnownBytes.{Consumes}
 use Rattle.shm_journal.specs.Found.{max_journal_line}
-use Rattle.shm_sites.specs.Boxes.Box.{Box}
-use Rattle.shm_sites.specs.Boxes.SiteBox.{box_of}
-use Rattle.shm_sites.specs.declared.boxes.site_box.SiteBox.{SiteBox}
-use Rattle.shm_sites.specs.declared.boxes.site_log.SiteLog.{SiteLog}
+use Rattle.shm_logs.specs.Boxes.Box.{Box}
+use Rattle.shm_logs.specs.Boxes.SiteBox.{box_of}
+use Rattle.shm_logs.specs.declared.boxes.site_box.SiteBox.{SiteBox}
+use Rattle.shm_logs.specs.declared.boxes.site_log.SiteLog.{SiteLog}
 use Rattle.shm_audit.specs.Found.{Found, Led, IsFault, IsLed, TellsLog, entered, found, found_behind, opened}
 use Rattle.shm_audit.specs.Leading.{Leads}
 use Rattle.shm_audit.specs.LinesOf.{Unended}

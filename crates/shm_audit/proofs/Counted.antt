@@ -3,13 +3,13 @@ use Rattle.std.proofs.Common.{◌≡◌, ◌∙◌, ℕ, ◌+◌, ◌<◌, cond,
 use Rattle.std.specs.List.{sum_by}
 use Rattle.std.proofs.lemmas.List.{length-map}
 use Rattle.shm_model.specs.Log.{Logged, sent_by}
-use Rattle.shm_sites.proofs.Audits.Prefixes.{sum-more, take-push}
-use Rattle.shm_sites.specs.Auditing.Complete.{completes}
-use Rattle.shm_sites.specs.Auditing.Logs.{logs_of}
-use Rattle.shm_sites.specs.Boxes.Logged.{logged_of}
-use Rattle.shm_sites.specs.Boxes.SiteLog.{steps_of}
-use Rattle.shm_sites.specs.declared.boxes.site_log.SiteLog.{SiteLog}
-use Rattle.shm_sites.specs.declared.boxes.step.Step.{Step}
+use Rattle.shm_logs.proofs.Audits.Prefixes.{sum-more, take-push}
+use Rattle.shm_logs.specs.Auditing.Complete.{completes}
+use Rattle.shm_logs.specs.Auditing.Logs.{logs_of}
+use Rattle.shm_logs.specs.Boxes.Logged.{logged_of}
+use Rattle.shm_logs.specs.Boxes.SiteLog.{steps_of}
+use Rattle.shm_logs.specs.declared.boxes.site_log.SiteLog.{SiteLog}
+use Rattle.shm_logs.specs.declared.boxes.step.Step.{Step}
 use Rattle.shm_audit.specs.Counts.{accesses_of, counts_of, with_log}
 use Rattle.shm_audit.specs.declared.counts.Counts.{Counts}
 

@@ -7,7 +7,7 @@ use Rattle.std.proofs.KnownBytes.{Consumes-nil, Consumes-trans}
 use Rattle.shm_journal.specs.Found.{Lines, lines_behind, lines_of, max_journal_line, with_line}
 use Rattle.shm_journal.proofs.Fronts.{of_all, of_front, of_left}
 use Rattle.shm_journal.proofs.ReadingLemmas.{short-test}
-use Rattle.shm_sites.specs.Boxes.Box.{Box}
+use Rattle.shm_logs.specs.Boxes.Box.{Box}
 use Rattle.shm_audit.specs.Found.{Found, Led, Bad, entered, found, found_behind, found_from, found_in, next_found, opened, unless_long}
 use Rattle.shm_audit.specs.Leading.{Leads}
 use Rattle.shm_audit.specs.LinesOf.{Unended}

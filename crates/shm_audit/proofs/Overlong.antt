@@ -6,7 +6,7 @@ use Rattle.std.proofs.lemmas.Bool.Decides.{nat_tests}
 use Rattle.std.proofs.lemmas.List.{length-append}
 use Rattle.shm_journal.specs.Found.{Lines, lines_behind, max_journal_line, with_line}
 use Rattle.shm_journal.proofs.Fronts.{of_front}
-use Rattle.shm_sites.specs.Boxes.Box.{Box}
+use Rattle.shm_logs.specs.Boxes.Box.{Box}
 use Rattle.shm_audit.specs.Found.{Found, Bad, found, found_behind, found_from, found_in, unless_long}
 use Rattle.shm_audit.specs.Leading.{Leads}
 use Rattle.shm_audit.specs.LinesOf.{Unended}

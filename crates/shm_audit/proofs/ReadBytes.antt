@@ -6,8 +6,8 @@ use Rattle.std.proofs.lemmas.List.{length-drop}
 use Rattle.std.proofs.KnownBytes.{Consumes-kept, Consumes-nil, Consumes-trans}
 use Rattle.shm_journal.specs.Found.{lines_behind, max_journal_line}
 use Rattle.shm_journal.specs.Recovers.{ReadsAll}
-use Rattle.shm_sites.specs.Boxes.Box.{Box}
-use Rattle.shm_sites.specs.declared.boxes.site_box.SiteBox.{SiteBox}
+use Rattle.shm_logs.specs.Boxes.Box.{Box}
+use Rattle.shm_logs.specs.declared.boxes.site_box.SiteBox.{SiteBox}
 use Rattle.shm_audit.specs.Faults.{IsOther}
 use Rattle.shm_audit.specs.Found.{Found, Led, entered, found, found_behind, found_from, opened}
 use Rattle.shm_audit.specs.Leading.{Leads}

@@ -11,8 +11,8 @@ use Rattle.shm_process.specs.Node.{Node, Heard, Said, heard, heard_in, input_ask
 use Rattle.shm_process.specs.Recorded.{Entry, Event, Line, TooLong, Again, Restarted, after_event, entries_of, recorded, said_at}
 use Rattle.shm_process.specs.Waiting.{after_heard, after_unheard, again_at, again_if, joining, joins, ready, restarting, said_restart, after_restart, says_again, says_at, waiting_at}
 use Rattle.shm_site.specs.Step.{is_foreign}
-use Rattle.shm_sites.specs.Boxes.Box.{Box, after, new_box, taken}
-use Rattle.shm_sites.specs.declared.boxes.box_fault.BoxFault.TheVariants as fault
+use Rattle.shm_logs.specs.Boxes.Box.{Box, after, new_box, taken}
+use Rattle.shm_logs.specs.declared.boxes.box_fault.BoxFault.TheVariants as fault
 use Rattle.shm_wire.specs.Asks.{Ask, read_ask}
 use Rattle.shm_wire.specs.Sent.{Sent, read_envelope}
 use Rattle.shm_wire.specs.declared.ask.Question.{Question}

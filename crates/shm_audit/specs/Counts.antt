@@ -3,7 +3,7 @@ use Rattle.std.specs.Prelude.{ℕ, ◌+◌, List, [], ◌∷◌, ◌++◌, codes
 use Rattle.std.specs.Fmt.{decimal}
 use Rattle.std.specs.List.{sum_by}
 use Rattle.shm_model.specs.Log.{Logged, sent_by}
-use Rattle.shm_sites.specs.Auditing.Complete.{completes}
+use Rattle.shm_logs.specs.Auditing.Complete.{completes}
 use Rattle.shm_audit.specs.declared.counts.Counts.{Counts}
 
 abbrev pub accesses_of : List Logged → ℕ

@@ -5,8 +5,8 @@ use Rattle.shm_model.specs.Log.{Stamp}
 use Rattle.shm_model.specs.Message.{Input, Deliver, Restart}
 use Rattle.shm_process.specs.Node.{input_asked}
 use Rattle.shm_process.specs.Recorded.{Entry}
-use Rattle.shm_sites.specs.Boxes.Box.{Box, after, refusal}
-use Rattle.shm_sites.specs.declared.boxes.box_fault.BoxFault.{BoxFault}
+use Rattle.shm_logs.specs.Boxes.Box.{Box, after, refusal}
+use Rattle.shm_logs.specs.declared.boxes.box_fault.BoxFault.{BoxFault}
 use Rattle.shm_wire.specs.Asks.{Ask, read_ask}
 use Rattle.shm_wire.specs.Sent.{Sent, read_envelope}
 

@@ -1,7 +1,7 @@
 -- Why journals lead to no logs, or the logs to no audit, by the numbers of the causes.
 use Rattle.std.specs.Prelude.{⊤, ℕ}
 use Rattle.shm_model.specs.Refusal.{bad_line, other_logs, out_of_memory, read_fault}
-use Rattle.shm_sites.specs.Auditing.Cause.{audit_fault_number}
+use Rattle.shm_logs.specs.Auditing.Cause.{audit_fault_number}
 use Rattle.shm_audit.specs.declared.journal_fault.JournalFault.{JournalFault}
 use Rattle.shm_audit.specs.declared.journal_fault.JournalFault.TheVariants as fault
 use Rattle.shm_audit.specs.declared.journals_fault.JournalsFault.{JournalsFault}

@@ -5,9 +5,9 @@ use Rattle.shm_place.specs.Limits.{max_sites}
 use Rattle.shm_place.specs.Limits as limit
 use Rattle.shm_journal.specs.Found.{is_long, lines_of}
 use Rattle.shm_journal.specs.Lines.{Header, read_entry, read_header}
-use Rattle.shm_sites.specs.Boxes.Box.{Box, new_box}
-use Rattle.shm_sites.specs.Boxes.SiteLog.{steps_of}
-use Rattle.shm_sites.specs.declared.boxes.site_log.SiteLog.{SiteLog}
+use Rattle.shm_logs.specs.Boxes.Box.{Box, new_box}
+use Rattle.shm_logs.specs.Boxes.SiteLog.{steps_of}
+use Rattle.shm_logs.specs.declared.boxes.site_log.SiteLog.{SiteLog}
 use Rattle.shm_audit.specs.Entered.{box_after}
 use Rattle.shm_audit.specs.declared.journal_fault.JournalFault.{JournalFault}
 use Rattle.shm_audit.specs.declared.journal_fault.JournalFault.TheVariants as fault

@@ -1,6 +1,6 @@
 -- What is handed to a box, as the definitions speak of it.
 use Rattle.shm_site.specs.Step.{input_of}
-use Rattle.shm_sites.specs.Boxes.Logged.{stamp_of}
+use Rattle.shm_logs.specs.Boxes.Logged.{stamp_of}
 use Rattle.shm_audit.specs.Entered as spec
 use Rattle.shm_audit.specs.declared.handed.Handed.{Handed}
 

@@ -1,7 +1,7 @@
 -- Where what was read of a journal leads.
 use Rattle.std.specs.Prelude.{◌≡◌, ℕ, List, ◌++◌, Option}
 use Rattle.std.specs.Io.KnownBytes.{Consumes}
-use Rattle.shm_sites.specs.Boxes.Box.{Box}
+use Rattle.shm_logs.specs.Boxes.Box.{Box}
 use Rattle.shm_audit.specs.Found.{Found, found_behind}
 
 -- Bytes were taken of those that there were, and these are left. Whatever follows them, the whole says what it says from the line of this

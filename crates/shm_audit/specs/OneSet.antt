@@ -2,10 +2,10 @@
 use Rattle.std.specs.Prelude.{⊤, ◌≤◌, ℕ, List, []}
 use Rattle.shm_model.specs.declared.event.Event.{Event}
 use Rattle.shm_model.specs.World.{Preset}
-use Rattle.shm_sites.specs.Auditing.Audit.{IsAudited}
-use Rattle.shm_sites.specs.Auditing.Cause.{IsFirstCause}
-use Rattle.shm_sites.specs.Auditing.Logs.{logs_of, AreLogsOf}
-use Rattle.shm_sites.specs.declared.boxes.site_log.SiteLog.{SiteLog}
+use Rattle.shm_logs.specs.Auditing.Audit.{IsAudited}
+use Rattle.shm_logs.specs.Auditing.Cause.{IsFirstCause}
+use Rattle.shm_logs.specs.Auditing.Logs.{logs_of, AreLogsOf}
+use Rattle.shm_logs.specs.declared.boxes.site_log.SiteLog.{SiteLog}
 use Rattle.shm_audit.specs.declared.journals_fault.JournalsFault.{JournalsFault}
 use Rattle.shm_audit.specs.declared.journals_fault.JournalsFault.TheVariants as cause
 

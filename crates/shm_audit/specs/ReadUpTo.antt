@@ -3,7 +3,7 @@ use Rattle.std.specs.Prelude.{◌≡◌, ◌⊎◌, ◌≤◌, ℕ, ◌+◌, Lis
 use Rattle.std.specs.Io.KnownBytes.{Consumes, IsAtEnd}
 use Rattle.shm_journal.specs.Found.{max_journal_line}
 use Rattle.shm_journal.specs.Recovers.{most_at_once}
-use Rattle.shm_sites.specs.Boxes.Box.{Box}
+use Rattle.shm_logs.specs.Boxes.Box.{Box}
 use Rattle.shm_audit.specs.Found.{Found, Led, Bad, found}
 use Rattle.shm_audit.specs.LinesOf.{Unended}
 use Rattle.shm_audit.specs.declared.journal_fault.JournalFault.{JournalFault}

@@ -5,7 +5,7 @@ use Rattle.shm_model.specs.Log.{Logged}
 use Rattle.shm_model.specs.Message.{Envelope}
 use Rattle.shm_process.specs.Node.{Node, Said}
 use Rattle.shm_process.specs.Recorded.{Entry, Event, after_event, said_at}
-use Rattle.shm_sites.specs.Boxes.Box.{Box}
+use Rattle.shm_logs.specs.Boxes.Box.{Box}
 use Rattle.shm_audit.specs.Entered.{box_after}
 
 -- of one step: its stamp, its answer, and the envelopes that it sent

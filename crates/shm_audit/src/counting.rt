@@ -1,12 +1,12 @@
 //! What is counted of logs.
 ghost use Rattle.std.specs.Prelude.{◌≡◌, ◌+◌, if◌then◌else◌, length, map, IfSome};
-ghost use Rattle.shm_sites.specs.Auditing.Complete.{completes};
-ghost use Rattle.shm_sites.specs.Auditing.Logs.{logs_of};
-ghost use Rattle.shm_sites.specs.Boxes.Logged.{logged_of};
+ghost use Rattle.shm_logs.specs.Auditing.Complete.{completes};
+ghost use Rattle.shm_logs.specs.Auditing.Logs.{logs_of};
+ghost use Rattle.shm_logs.specs.Boxes.Logged.{logged_of};
 ghost use Rattle.shm_audit.specs.Counts.{counts_of, with_log};
 
 use crate::counts::Counts;
-use shm_sites::{Answer, SiteLog, Step};
+use shm_logs::{Answer, SiteLog, Step};
 use std::alloc::Allocator;
 
 /// What is counted in these logs. `None`: a number can't hold a count.

@@ -1,7 +1,7 @@
 //! The entries of a journal.
 ghost use Rattle.std.specs.Prelude.{◌≡◌, ◌⊎◌, None, Some, IfErr, OnOk};
 ghost use Rattle.shm_process.specs.Recorded.{Entry};
-ghost use Rattle.shm_sites.specs.Boxes.SiteBox.{box_of};
+ghost use Rattle.shm_logs.specs.Boxes.SiteBox.{box_of};
 ghost use Rattle.shm_audit.specs.Entered.{box_handed};
 ghost use Rattle.shm_audit.specs.Found.{entered};
 ghost use Rattle.shm_audit.specs.HandedOf.{handed_of};
@@ -10,7 +10,7 @@ ghost use Rattle.shm_audit.specs.declared.journal_fault.JournalFault.TheVariants
 use crate::handed::{Handed, handed_input};
 use crate::journal_fault::JournalFault;
 use shm_journal::parse_entry;
-use shm_sites::{BoxFault, SiteBox};
+use shm_logs::{BoxFault, SiteBox};
 use std::alloc::Allocator;
 
 /// The box takes the step that the line of this number records, if it can be its next.

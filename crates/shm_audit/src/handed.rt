@@ -6,9 +6,9 @@ ghost use Rattle.shm_wire.specs.SentOf.{sent_of};
 ghost use Rattle.shm_audit.specs.Entered as spec;
 ghost use Rattle.shm_audit.specs.HandedOf.{handed_of};
 
+use shm_logs::{Input, Stamp};
 use shm_place::SiteId;
 use shm_process::input_asked;
-use shm_sites::{Input, Stamp};
 use shm_wire::{Sent, parse_ask, parse_envelope};
 use std::alloc::{AllocError, Allocator, Global};
 

@@ -1,5 +1,5 @@
+use shm_logs::AuditFault;
 use shm_model::refusal::{self, Numbered};
-use shm_sites::AuditFault;
 use thiserror::Error;
 
 /// Why the journals of all sites aren't those of sites that shared one plain memory.

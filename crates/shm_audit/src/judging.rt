@@ -1,14 +1,14 @@
 //! The audit of the logs that the journals lead to.
 ghost use Rattle.std.specs.Prelude.{◌≡◌, ◌⊎◌, IfErr, IfOk, IsOk};
-ghost use Rattle.shm_sites.specs.Auditing.Logs.{logs_of, AreLogsOf};
+ghost use Rattle.shm_logs.specs.Auditing.Logs.{logs_of, AreLogsOf};
 ghost use Rattle.shm_audit.specs.Counts.{counts_of};
 ghost use Rattle.shm_audit.specs.OneSet.{AreOneRun, IsWhy};
 
 use crate::counting::count;
 use crate::counts::Counts;
 use crate::journals_fault::JournalsFault;
+use shm_logs::{AuditFault, Receipt, SiteLog, audit, logs_match};
 use shm_place::Sites;
-use shm_sites::{AuditFault, Receipt, SiteLog, audit, logs_match};
 use std::alloc::Allocator;
 
 /// How much the sites did whose logs these are, where they shared one plain memory; or why they can't have. There is to be one log for each

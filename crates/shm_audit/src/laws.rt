@@ -2,7 +2,7 @@
 ghost use Rattle.std.specs.Prelude.{◌≡◌, ℕ, List, Some, option_map};
 ghost use Rattle.shm_process.specs.Node.{Said, new_node};
 ghost use Rattle.shm_process.specs.Recorded.{Event, after_events, entries_of, said_at};
-ghost use Rattle.shm_sites.specs.Boxes.Box.{new_box};
+ghost use Rattle.shm_logs.specs.Boxes.Box.{new_box};
 ghost use Rattle.shm_audit.specs.Loads.{IsLoadedBlock, made_by};
 ghost use Rattle.shm_audit.specs.Told.{box_after_all, told_at, told_by_log};
 

@@ -4,8 +4,8 @@ ghost use Rattle.shm_journal.specs.Found.{max_journal_line};
 
 use crate::journal_fault::JournalFault;
 use crate::taken::Taken;
-use shm_debug::read_up_to;
 use shm_journal::MAX_LINE_BYTES;
+use shm_text::read_up_to;
 use std::alloc::{Allocator, Global};
 use std::io::Read;
 

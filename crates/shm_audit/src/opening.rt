@@ -1,13 +1,13 @@
 //! The first line of a journal.
 ghost use Rattle.std.specs.Prelude.{◌≡◌, ◌⊎◌, None, Some, IfErr, IfOk, option_map};
-ghost use Rattle.shm_sites.specs.Boxes.SiteBox.{box_of};
+ghost use Rattle.shm_logs.specs.Boxes.SiteBox.{box_of};
 ghost use Rattle.shm_audit.specs.Found.{opened};
 ghost use Rattle.shm_audit.specs.declared.journal_fault.JournalFault.TheVariants as fault;
 
 use crate::journal_fault::JournalFault;
 use shm_journal::parse_header;
+use shm_logs::SiteBox;
 use shm_place::{PAGES, SiteId, Sites};
-use shm_sites::SiteBox;
 use std::alloc::{AllocError, Allocator};
 
 /// The box of the site that the first line names, in which nothing has happened.

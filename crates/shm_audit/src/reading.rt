@@ -1,7 +1,7 @@
 //! A journal is read: each line is taken as it comes.
 ghost use Rattle.std.specs.Prelude.{◌≡◌, ℕ, IfErr, IfOk, IfSome, OnOk};
 ghost use Rattle.std.specs.Io.KnownBytes.{IsAtEnd};
-ghost use Rattle.shm_sites.specs.Boxes.SiteBox.{box_of};
+ghost use Rattle.shm_logs.specs.Boxes.SiteBox.{box_of};
 ghost use Rattle.shm_audit.specs.Found.{found, found_behind, IsFault, Led, TellsLog};
 ghost use Rattle.shm_audit.specs.LinesOf.{left_of};
 ghost use Rattle.shm_audit.specs.Leading.{Leads};
@@ -13,7 +13,7 @@ use crate::journal_fault::JournalFault;
 use crate::lines::Lines;
 use crate::opening::open_box;
 use crate::taken::Taken;
-use shm_sites::{SiteBox, SiteLog};
+use shm_logs::{SiteBox, SiteLog};
 use std::alloc::Allocator;
 use std::io::Read;
 

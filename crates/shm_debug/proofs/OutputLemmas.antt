@@ -8,7 +8,7 @@ use Rattle.shm_model.specs.declared.event.Event.TheVariants.{Load}
 use Rattle.shm_lines.specs.declared.line.Line.{Line}
 use Rattle.shm_lines.specs.declared.line.Line.TheVariants.{Event as EventLine}
 use Rattle.shm_debug.specs.Standing.{Standing}
-use Rattle.shm_debug.specs.Text.{line_text}
+use Rattle.shm_text.specs.Text.{line_text}
 use Rattle.shm_debug.specs.Promise.{AlwaysTellsLast, TellsLast}
 use Rattle.shm_debug.specs.Replay.{Ends}
 use Rattle.shm_debug.specs.Said.{next, said, said_to_event, standing_after}

@@ -13,7 +13,7 @@ use Rattle.shm_site.specs.Showing.{Shows}
 use Rattle.shm_site.specs.declared.book_view.BookView.{BookView}
 use Rattle.shm_world.specs.Showing.{keeps_book, shown, shown_at}
 use Rattle.shm_debug.specs.Page.{book_text, manager_text, page_text, states_text}
-use Rattle.shm_debug.specs.Text.{answer_text}
+use Rattle.shm_text.specs.Text.{answer_text}
 use Rattle.shm_debug.proofs.Booked.{on_ok-then}
 
 unpurged : (purged : Bool) (x y : List ℕ) → true ≡ not purged → (if purged then x else y) ≡ y

@@ -8,7 +8,7 @@ use Rattle.shm_lines.specs.Spelling.{IsLine, spelling}
 use Rattle.shm_lines.specs.declared.line.Line.{Line}
 use Rattle.shm_lines.specs.declared.line.Line.TheVariants.{Sites, Event as EventLine, Show, Back}
 use Rattle.shm_debug.specs.Standing.{Standing}
-use Rattle.shm_debug.specs.Text.{line_text}
+use Rattle.shm_text.specs.Text.{line_text}
 use Rattle.shm_debug.specs.Said.{next, said}
 use Rattle.shm_debug.specs.Script.{read_line, broken, whole}
 use Rattle.shm_debug.specs.Reading.{Moment, IsBeingRead, rest_of, gathered, passed, Plays, Fails, Completes}

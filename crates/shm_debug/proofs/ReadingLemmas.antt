@@ -6,7 +6,7 @@ use Rattle.std.proofs.lemmas.List.Elements.{All-append}
 use Rattle.shm_lines.specs.Line.{may_stand, line_of}
 use Rattle.shm_lines.specs.Spelling.{IsLine, spelling}
 use Rattle.shm_debug.specs.Standing.{Standing}
-use Rattle.shm_debug.specs.Text.{line_text}
+use Rattle.shm_text.specs.Text.{line_text}
 use Rattle.shm_debug.specs.Script.{Script, after, broken, whole, read_on, read_line, placed, unended, parts_of}
 use Rattle.shm_debug.specs.Said.{next, said, standing_after}
 use Rattle.shm_debug.specs.Output.{text_from}

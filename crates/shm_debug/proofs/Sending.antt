@@ -12,7 +12,7 @@ use Rattle.shm_model.specs.Site.{Site}
 use Rattle.shm_model.specs.Step.{step}
 use Rattle.shm_model.specs.World.{World, Next, deliver, hand_over, is_full, live, lose, next, step_at, step_site, stepped, unstepped, without}
 use Rattle.shm_debug.specs.Tell.{EachEventTells, envelopes_text}
-use Rattle.shm_debug.specs.Text.{live_text, sent_text}
+use Rattle.shm_debug.specs.Sent.{live_text, sent_text}
 
 abbrev NoneGone : World → Type 0
 NoneGone w = (k : ℕ) → length w.sent ≤ k → w.gone k ≡ false

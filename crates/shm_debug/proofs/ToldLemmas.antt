@@ -12,7 +12,8 @@ use Rattle.shm_lines.specs.Spelling.{IsLine}
 use Rattle.shm_lines.specs.declared.line.Line.{Line}
 use Rattle.shm_lines.specs.declared.line.Line.TheVariants.{Event as EventLine}
 use Rattle.shm_debug.specs.Standing.{Standing, with_event, world_of}
-use Rattle.shm_debug.specs.Text.{answer_text, sent_text}
+use Rattle.shm_text.specs.Text.{answer_text}
+use Rattle.shm_debug.specs.Sent.{sent_text}
 use Rattle.shm_model.specs.Promise.{Promised}
 use Rattle.shm_world.proofs.Loads.{gives-last}
 use Rattle.shm_debug.specs.Promise.{AlwaysTellsLast, TellsLast}

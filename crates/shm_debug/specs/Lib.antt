@@ -11,7 +11,7 @@ pub mod Faults
 pub mod Checkpoints
 pub mod Standing
 pub mod BackFaults
-pub mod Text
+pub mod Sent
 pub mod Undos
 pub mod Page
 pub mod Tell

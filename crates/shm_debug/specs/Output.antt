@@ -2,7 +2,7 @@
 use Rattle.std.specs.Prelude.{ℕ, ◌+◌, List, [], ◌∷◌, ◌++◌, Option, None}
 use Rattle.shm_lines.specs.declared.line.Line.{Line}
 use Rattle.shm_debug.specs.Standing.{Standing}
-use Rattle.shm_debug.specs.Text.{line_text}
+use Rattle.shm_text.specs.Text.{line_text}
 use Rattle.shm_debug.specs.Said.{said, next}
 
 -- of the lines from this number on

@@ -7,8 +7,6 @@ use Rattle.shm_place.specs.declared.page.PageId.{PageId}
 use Rattle.shm_place.specs.Page.{in_limits, manager_of}
 use Rattle.shm_model.specs.declared.answer.Answer.TheVariants as answer
 use Rattle.shm_model.specs.declared.answer.Shown.{Shown}
-use Rattle.shm_model.specs.declared.answer.State.{State}
-use Rattle.shm_model.specs.declared.answer.State.TheVariants.{Nil, Copy, OwnRead, OwnWrite, Handed, Purged}
 use Rattle.shm_model.specs.declared.kind.Kind.{Kind}
 use Rattle.shm_model.specs.declared.kind.Kind.TheVariants.{Read, Write}
 use Rattle.shm_model.specs.Book.{Book, Running, max_sites}
@@ -16,15 +14,8 @@ use Rattle.shm_model.specs.Refusal.{foreign_message}
 use Rattle.shm_model.specs.Site.{Site}
 use Rattle.shm_model.specs.World.{World}
 use Rattle.shm_world.specs.Showing.{shown}
-use Rattle.shm_debug.specs.Text.{answer_text}
-
-abbrev pub state_name : State → List ℕ
-state_name Nil = codes "Nil"
-state_name Copy = codes "Copy"
-state_name OwnRead = codes "OwnRead"
-state_name OwnWrite = codes "OwnWrite"
-state_name Handed = codes "Handed"
-state_name Purged = codes "Purged"
+use Rattle.shm_text.specs.Names.{state_name}
+use Rattle.shm_text.specs.Text.{answer_text}
 
 -- a site's state, and the number that it met last
 abbrev pub state_text : ℕ → Option Shown → List ℕ

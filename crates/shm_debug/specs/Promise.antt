@@ -7,7 +7,7 @@ use Rattle.shm_model.specs.World.{run}
 use Rattle.shm_lines.specs.declared.line.Line.{Line}
 use Rattle.shm_lines.specs.declared.line.Line.TheVariants.{Event as EventLine}
 use Rattle.shm_debug.specs.Standing.{Standing, with_event, world_of}
-use Rattle.shm_debug.specs.Text.{sent_text}
+use Rattle.shm_debug.specs.Sent.{sent_text}
 use Rattle.shm_model.specs.Promise.{Promised}
 use Rattle.shm_debug.specs.Said.{said_to_event, standing_after}
 

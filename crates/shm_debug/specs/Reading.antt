@@ -3,7 +3,7 @@ use Rattle.std.specs.Prelude.{◌≡◌, ℕ, ◌+◌, ◌*◌, ◌<◌, ◌≤�
 use Rattle.shm_lines.specs.Line.{may_stand}
 use Rattle.shm_lines.specs.Spelling.{IsLine}
 use Rattle.shm_debug.specs.Limits.{max_line_bytes, max_bytes, max_lines}
-use Rattle.shm_debug.specs.Text.{line_text}
+use Rattle.shm_text.specs.Text.{line_text}
 use Rattle.shm_debug.specs.Script.{Script, after, whole, broken, read_on, parts_of}
 use Rattle.shm_debug.specs.Said.{next, said, standing_after}
 use Rattle.shm_debug.specs.Replay.{summary_at}

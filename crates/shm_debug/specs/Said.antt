@@ -6,7 +6,7 @@ use Rattle.shm_model.specs.World as model
 use Rattle.shm_model.specs.declared.event.Event.{Event}
 use Rattle.shm_lines.specs.declared.line.Line.{Line}
 use Rattle.shm_lines.specs.declared.line.Line.TheVariants as line
-use Rattle.shm_debug.specs.Text.{event_text}
+use Rattle.shm_debug.specs.Sent.{event_text}
 use Rattle.shm_debug.specs.Page.{page_text}
 use Rattle.shm_debug.specs.Notice.{notice_text}
 use Rattle.shm_debug.specs.declared.notice.Notice.TheVariants as notice

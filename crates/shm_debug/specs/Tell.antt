@@ -3,7 +3,7 @@ use Rattle.std.specs.Prelude.{◌≡◌, ℕ, ◌+◌, ◌≤◌, false, List, [
 use Rattle.shm_model.specs.declared.event.Event.{Event}
 use Rattle.shm_model.specs.Message.{Envelope}
 use Rattle.shm_model.specs.World.{World, next}
-use Rattle.shm_debug.specs.Text.{envelope_text, sent_text}
+use Rattle.shm_debug.specs.Sent.{envelope_text, sent_text}
 
 -- these envelopes, numbered from this number on
 abbrev pub envelopes_text : ℕ → List Envelope → List ℕ

@@ -5,11 +5,12 @@ ghost use Rattle.shm_model.specs.World as model;
 ghost use Rattle.shm_model.specs.declared.event.Event.{Event};
 ghost use Rattle.shm_debug.specs.Said.{said_to_event};
 ghost use Rattle.shm_debug.specs.Standing.{with_event, world_of};
-ghost use Rattle.shm_debug.specs.Text.{line_text};
+ghost use Rattle.shm_text.specs.Text.{line_text};
 ghost use Rattle.shm_world.specs.World.{StandsFor, may_grow};
 
 use crate::session::Session;
-use crate::telling::Text;
+use crate::telling::tell_answer_line;
+use shm_text::Text;
 use shm_world::{Answer, Event, World};
 use std::alloc::{AllocError, Allocator};
 
@@ -56,7 +57,7 @@ impl<A: Allocator + Copy> Session<A> {
         match &self.world.step(*event) {
             Ok(answer) => {
                 self.events.push_reserved(*event);
-                output.tell_answer(number, answer, &self.world, first)
+                tell_answer_line(output, number, answer, &self.world, first)
             }
             Err(_) => self.apply_then_tell(event, number, output),
         }
@@ -76,7 +77,7 @@ impl<A: Allocator + Copy> Session<A> {
     {
         let first = self.world.sent();
         match &self.apply(*event) {
-            Ok(answer) => output.tell_answer(number, answer, &self.world, first),
+            Ok(answer) => tell_answer_line(output, number, answer, &self.world, first),
             Err(_) => Err(AllocError),
         }
     }

@@ -25,6 +25,4 @@ pub use player::Player;
 pub use script::replay;
 pub use session::Session;
 pub use shm_lines::{BadLine, Line, parse_line};
-pub use telling::{
-    AnswerText, NotWritten, Text, print_answer, print_page, read_up_to, write_whole,
-};
+pub use telling::{print_answer, print_page, tell_answer_line, tell_page_line};

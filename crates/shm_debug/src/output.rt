@@ -2,7 +2,7 @@
 ghost use Rattle.std.specs.Prelude.{◌≡◌, ℕ, [], OnOk, OnErr, IfOk, take};
 ghost use Rattle.std.specs.Io.KnownBytes.{Appends};
 
-use crate::telling::{NotWritten, Text, write_whole};
+use shm_text::{NotWritten, Text, write_whole};
 use std::alloc::{AllocError, Allocator};
 use std::io::Write;
 

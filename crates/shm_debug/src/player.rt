@@ -3,7 +3,7 @@ ghost use Rattle.std.specs.Prelude.{◌≡◌, ◌==◌, ◌+◌, ◌<◌, ◌�
 ghost use Rattle.std.specs.Option.{option_copied};
 ghost use Rattle.shm_lines.specs.Line.{may_stand};
 ghost use Rattle.shm_lines.specs.Spelling.{IsLine};
-ghost use Rattle.shm_debug.specs.Text.{line_text};
+ghost use Rattle.shm_text.specs.Text.{line_text};
 ghost use Rattle.shm_debug.specs.Limits.{max_bytes, max_line_bytes, max_lines};
 ghost use Rattle.shm_debug.specs.Reading.{start, reach, rest_of, gathered, passed, Plays, Fails, Completes, Ended};
 ghost use Rattle.shm_debug.specs.Said.{said};
@@ -11,10 +11,10 @@ ghost use Rattle.shm_debug.specs.Script;
 
 use crate::Session;
 use crate::outcome::{DebugFault, Summary};
-use crate::telling::Text;
 use crate::turns::{pass_line, summary};
 use memchr::memchr;
 use shm_lines::{Line, laws, parse_line};
+use shm_text::Text;
 use std::alloc::{AllocError, Allocator};
 use std::marker::Model;
 

@@ -12,7 +12,7 @@ use crate::laws;
 use crate::outcome::{DebugFault, Summary};
 use crate::output::{empty_text, write_and_flush, write_told};
 use crate::player::Player;
-use crate::telling::{Text, read_up_to};
+use shm_text::{Text, read_up_to};
 use std::alloc::Allocator;
 use std::io::{Read, Write};
 

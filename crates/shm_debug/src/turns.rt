@@ -2,15 +2,16 @@
 ghost use Rattle.std.specs.Prelude.{◌≡◌, ◌++◌, Some, false, is_some, not, true, IfOk, OnErr, OnOk};
 ghost use Rattle.shm_lines.specs.Line.{is_first};
 ghost use Rattle.shm_lines.specs.Spelling.{IsLine};
-ghost use Rattle.shm_debug.specs.Text.{line_text};
+ghost use Rattle.shm_text.specs.Text.{line_text};
 ghost use Rattle.shm_debug.specs.Replay.{summary_at};
 ghost use Rattle.shm_debug.specs.Said.{said, said_to_back, next, next_back};
 
 use crate::notice::Notice;
 use crate::outcome::Summary;
-use crate::telling::Text;
+use crate::telling::tell_page_line;
 use crate::{BackFault, Session};
 use shm_lines::Line;
+use shm_text::Text;
 use std::alloc::{AllocError, Allocator};
 
 /// A line that may stand here: the first one opens the session, the others are turns of it.
@@ -66,7 +67,7 @@ fn turn<A: Allocator + Copy>(
 {
     match line {
         Line::Event(event) => session.apply_and_tell(&event, number, output),
-        Line::Show(page) => output.tell_page(number, session.world(), page),
+        Line::Show(page) => tell_page_line(output, number, session.world(), page),
         Line::Back(count) => go_back(session, number, count, output),
         Line::Sites(_) => unreachable!(),
     }

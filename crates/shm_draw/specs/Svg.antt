@@ -16,8 +16,8 @@ use Rattle.shm_model.specs.declared.event.Event.TheVariants.{Begin}
 use Rattle.shm_model.specs.World.{World, next}
 use Rattle.shm_lines.specs.declared.line.Line.TheVariants as line
 use Rattle.shm_lines.specs.Spelling.{spelling}
-use Rattle.shm_debug.specs.Page.{state_name}
-use Rattle.shm_debug.specs.Text.{answer_text}
+use Rattle.shm_text.specs.Names.{state_name}
+use Rattle.shm_text.specs.Text.{answer_text}
 use Rattle.shm_world.specs.Showing.{shown}
 use Rattle.shm_draw.specs.declared.style.TheConstants.{STYLE}
 use Rattle.shm_draw.specs.declared.mark.End.{End}

@@ -5,9 +5,9 @@ ghost use Rattle.shm_draw.specs.Svg;
 use crate::geometry::{tip_of, x_of, y_of};
 use crate::mark::{End, Way};
 use crate::word::name_of;
-use shm_debug::AnswerText;
 use shm_model::Answer;
 use shm_place::SiteId;
+use shm_text::AnswerText;
 use std::alloc::{AllocError, Allocator};
 
 /// Tells the arrow that ends at this height, and what was answered there.

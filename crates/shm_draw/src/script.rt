@@ -9,9 +9,10 @@ ghost use Rattle.shm_debug.specs.declared.outcome.Summary.{Summary};
 ghost use Rattle.shm_draw.specs.Drawn.{BeganRight, Draws, LeadsTo, Stopped, drawing};
 
 use crate::picture::picture_of;
-use shm_debug::{DebugFault, Player, Session, Text, read_up_to, write_whole};
+use shm_debug::{DebugFault, Player, Session};
 use shm_lines::laws::lines_have_one_spelling;
 use shm_place::PageId;
+use shm_text::{Text, read_up_to, write_whole};
 use shm_world::World;
 use std::alloc::{AllocError, Allocator};
 use std::io::{Read, Write};

@@ -9,9 +9,9 @@ use crate::header::Header;
 use crate::reading::Reading;
 use crate::recovered::Recovered;
 use crate::recovery_fault::RecoveryFault;
-use shm_debug::read_up_to;
 use shm_place::{PAGES, SiteId, Sites};
 use shm_process::Node;
+use shm_text::read_up_to;
 use std::alloc::Allocator;
 use std::io::Read;
 

@@ -4,8 +4,8 @@ use Rattle.std.specs.Fmt.{decimal}
 use Rattle.shm_model.specs.declared.answer.Answer.TheVariants as answer
 use Rattle.shm_model.specs.declared.answer.Shown.{Shown}
 use Rattle.shm_model.specs.Refusal.{foreign_message}
-use Rattle.shm_debug.specs.Page.{state_name}
-use Rattle.shm_debug.specs.Text.{answer_text}
+use Rattle.shm_text.specs.Names.{state_name}
+use Rattle.shm_text.specs.Text.{answer_text}
 
 abbrev pub shown_text : Option Shown → List ℕ
 shown_text None = answer_text (answer.Refused foreign_message)

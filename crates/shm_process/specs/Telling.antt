@@ -6,7 +6,7 @@ use Rattle.shm_model.specs.declared.answer.Answer.{Answer}
 use Rattle.shm_model.specs.declared.answer.Answer.TheVariants.{Waiting}
 use Rattle.shm_model.specs.declared.answer.Shown.{Shown}
 use Rattle.shm_parts.specs.Holdings.{shown_of}
-use Rattle.shm_debug.specs.Text.{answer_text}
+use Rattle.shm_text.specs.Text.{answer_text}
 use Rattle.shm_wire.specs.Answers.{answer_line, block_text}
 use Rattle.shm_wire.specs.Asks.{Ask, read_ask}
 use Rattle.shm_wire.specs.declared.ask.Question.{Question}

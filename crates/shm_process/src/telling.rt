@@ -6,10 +6,10 @@ ghost use Rattle.shm_wire.specs.declared.ask.Question.TheVariants.{Show};
 
 use crate::node::Node;
 use crate::said::Said;
-use shm_debug::AnswerText;
 use shm_model::refusal::FOREIGN;
 use shm_model::{Answer, Shown, State};
 use shm_place::PageId;
+use shm_text::AnswerText;
 use shm_wire::{Ask, BlockText, Question, parse_ask};
 use std::alloc::{AllocError, Allocator};
 use std::fmt;
@@ -133,7 +133,7 @@ struct StateName(State);
 
 impl fmt::Display for StateName {
     ghost use Rattle.std.specs.Prelude.{Some};
-    ghost use Rattle.shm_debug.specs.Page.{state_name};
+    ghost use Rattle.shm_text.specs.Names.{state_name};
 
     ghost output = { λ name. Some (state_name name.0) };
 

@@ -8,7 +8,7 @@ use Rattle.shm_lines.specs.Line.{is_first}
 use Rattle.shm_lines.specs.declared.line.Line.{Line}
 use Rattle.shm_lines.specs.declared.line.Line.TheVariants as line
 use Rattle.shm_world.proofs.Runs.{run-then}
-use Rattle.shm_debug.specs.Text.{line_text}
+use Rattle.shm_text.specs.Text.{line_text}
 use Rattle.shm_debug.specs.Said.{next}
 use Rattle.shm_debug.specs.Standing.{Standing, with_event, world_of}
 use Rattle.shm_progress.specs.Deliveries.{IsAtRest}

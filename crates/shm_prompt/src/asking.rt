@@ -2,7 +2,7 @@
 use crate::prompt_fault::PromptFault;
 use crate::save_file::SaveFile;
 use crate::typed::Typed;
-use shm_debug::{read_up_to, write_whole};
+use shm_text::{read_up_to, write_whole};
 use std::alloc::Allocator;
 use std::io::{Read, Write};
 

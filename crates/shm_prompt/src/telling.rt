@@ -1,6 +1,6 @@
 //! How something is told: a line of output is its number, a blank, what is said, and a line feed.
 ghost use Rattle.std.specs.Prelude.{◌≡◌, ◌+◌, ◌++◌, OnOk, length};
-ghost use Rattle.shm_debug.specs.Text.{line_text};
+ghost use Rattle.shm_text.specs.Text.{line_text};
 
 use shm_debug::Session;
 use std::alloc::{AllocError, Allocator};

@@ -1,9 +1,9 @@
 -- What is told of an audited run.
 use Rattle.std.specs.Prelude.{◌≡◌, ℕ, Bool, true, false, List, ◌++◌, Option}
-use Rattle.shm_sites.specs.Auditing.Audit.{IsAudited}
-use Rattle.shm_sites.specs.Auditing.Callers.{callers_of}
-use Rattle.shm_sites.specs.Auditing.Complete.{AllTold}
-use Rattle.shm_sites.specs.Auditing.Logs.{logs_of, AreLogsOf}
+use Rattle.shm_logs.specs.Auditing.Audit.{IsAudited}
+use Rattle.shm_logs.specs.Auditing.Callers.{callers_of}
+use Rattle.shm_logs.specs.Auditing.Complete.{AllTold}
+use Rattle.shm_logs.specs.Auditing.Logs.{logs_of, AreLogsOf}
 use Rattle.shm_model.specs.World.{Preset}
 use Rattle.shm_report.specs.Callers.{AllServed}
 use Rattle.shm_report.specs.Counts.{counts_of, summary_text}

@@ -1,10 +1,10 @@
 -- Why nothing was reported, where the workload is wrong or an audit found a cause.
 use Rattle.std.specs.Prelude.{◌≡◌, ◌≤◌, ℕ, ◌+◌, Bool, true, false, List, length, min, IfSome, Err, Ok, Option, None, Some, Vec}
 use Rattle.std.specs.declared.alloc.Global.{Global}
-use Rattle.shm_sites.specs.Auditing.Callers.{callers_of}
-use Rattle.shm_sites.specs.Auditing.Complete.{IsFirstCauseOfAll}
-use Rattle.shm_sites.specs.declared.auditing.audit_fault.AuditFault.{AuditFault}
-use Rattle.shm_sites.specs.declared.boxes.receipt.Receipt.{Receipt}
+use Rattle.shm_logs.specs.Auditing.Callers.{callers_of}
+use Rattle.shm_logs.specs.Auditing.Complete.{IsFirstCauseOfAll}
+use Rattle.shm_logs.specs.declared.auditing.audit_fault.AuditFault.{AuditFault}
+use Rattle.shm_logs.specs.declared.boxes.receipt.Receipt.{Receipt}
 use Rattle.shm_sites.specs.declared.cluster.client_fault.ClientFault.{ClientFault}
 use Rattle.shm_sites.specs.declared.cluster.client_fault.ClientFault.TheVariants as client
 use Rattle.shm_sites.specs.declared.cluster.start_fault.StartFault.TheVariants as start

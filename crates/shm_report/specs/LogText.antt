@@ -6,7 +6,7 @@ use Rattle.shm_lines.specs.declared.line.Line.TheVariants.{Event}
 use Rattle.shm_model.specs.Log.{Logged, Stamp}
 use Rattle.shm_model.specs.Message.{Envelope, Input, Load, Store, Begin, Deliver, Tick, Restart}
 use Rattle.shm_model.specs.declared.event.Event.TheVariants as event
-use Rattle.shm_debug.specs.Text.{answer_text}
+use Rattle.shm_text.specs.Text.{answer_text}
 use Rattle.shm_wire.specs.Sent.{envelope_line}
 
 -- an input, as a script's line has it for the site; or the envelope, with where it was sent

@@ -1,7 +1,7 @@
 -- Why nothing is reported, by the numbers of the causes.
 use Rattle.std.specs.Prelude.{ℕ}
 use Rattle.shm_model.specs.Refusal.{bad_line, clock_end, foreign_message, gave_up, line_too_long, no_thread, other_logs, out_of_memory, read_fault, too_many_lines, write_fault}
-use Rattle.shm_sites.specs.Auditing.Cause.{audit_fault_number}
+use Rattle.shm_logs.specs.Auditing.Cause.{audit_fault_number}
 use Rattle.shm_report.specs.declared.report_fault.ReportFault.{ReportFault}
 use Rattle.shm_report.specs.declared.report_fault.ReportFault.TheVariants as fault
 

@@ -2,17 +2,17 @@
 use Rattle.std.specs.Prelude.{◌≡◌, ℕ, ◌+◌, Bool, true, false, List, [], ◌∷◌, ◌++◌, codes, length, take, IfSome, Ok, Option, Some, Vec, slice_get}
 use Rattle.std.specs.Io.KnownBytes.{Appends}
 use Rattle.std.specs.declared.alloc.Global.{Global}
-use Rattle.shm_sites.specs.Auditing.Audit.{IsAudited}
-use Rattle.shm_sites.specs.Auditing.Callers.{callers_of}
-use Rattle.shm_sites.specs.Auditing.Complete.{AllTold}
-use Rattle.shm_sites.specs.Boxes.Receipt.{receipt_of}
-use Rattle.shm_sites.specs.declared.boxes.receipt.Receipt.{Receipt}
+use Rattle.shm_logs.specs.Auditing.Audit.{IsAudited}
+use Rattle.shm_logs.specs.Auditing.Callers.{callers_of}
+use Rattle.shm_logs.specs.Auditing.Complete.{AllTold}
+use Rattle.shm_logs.specs.Boxes.Receipt.{receipt_of}
+use Rattle.shm_logs.specs.declared.boxes.receipt.Receipt.{Receipt}
 use Rattle.shm_model.specs.declared.event.Event.{Event}
 use Rattle.shm_model.specs.Log.{Logged}
 use Rattle.shm_model.specs.World.{Preset}
 use Rattle.shm_report.specs.Callers.{AllServed, Serves, lines_of}
 use Rattle.shm_report.specs.Counts.{counts_of, summary_text}
-use Rattle.shm_debug.specs.Text.{answer_text, line_text}
+use Rattle.shm_text.specs.Text.{answer_text, line_text}
 use Rattle.shm_lines.specs.Workload.{Whole, workload_of}
 use Rattle.shm_lines.specs.declared.access.WorkloadAccess.{WorkloadAccess}
 use Rattle.shm_lines.specs.declared.workload.Workload.{Workload}

@@ -1,9 +1,9 @@
 //! The audit of what was run.
 ghost use Rattle.std.specs.Prelude.{◌≡◌, ◌≢◌, None, IfErr, IfOk, IfSome, IsOk};
-ghost use Rattle.shm_sites.specs.Auditing.Audit.{IsAudited};
-ghost use Rattle.shm_sites.specs.Auditing.Callers.{callers_of};
-ghost use Rattle.shm_sites.specs.Auditing.Complete.{AllTold, IsFirstCauseOfAll};
-ghost use Rattle.shm_sites.specs.Auditing.Logs.{logs_of, AreLogsOf};
+ghost use Rattle.shm_logs.specs.Auditing.Audit.{IsAudited};
+ghost use Rattle.shm_logs.specs.Auditing.Callers.{callers_of};
+ghost use Rattle.shm_logs.specs.Auditing.Complete.{AllTold, IsFirstCauseOfAll};
+ghost use Rattle.shm_logs.specs.Auditing.Logs.{logs_of, AreLogsOf};
 ghost use Rattle.shm_model.specs.World.{Preset};
 ghost use Rattle.shm_report.specs.Causes.{audit_cause, given_up, input_cause};
 ghost use Rattle.shm_report.specs.declared.report_fault.ReportFault.TheVariants as cause;

@@ -2,9 +2,9 @@
 ghost use Rattle.std.specs.Prelude.{◌≡◌, ◌+◌, ◌<◌, ◌==◌, ◌||◌, ℕ, false, count_by, if◌then◌else◌, length, map, slice_index_or, IfOk, IfSome};
 ghost use Rattle.std.specs.List.{sum_by};
 ghost use Rattle.std.specs.Option.{option_map_or};
-ghost use Rattle.shm_sites.specs.Auditing.Logs.{logs_of};
-ghost use Rattle.shm_sites.specs.Boxes.Logged.{logged_of};
-ghost use Rattle.shm_sites.specs.Boxes.SiteLog.{steps_of};
+ghost use Rattle.shm_logs.specs.Auditing.Logs.{logs_of};
+ghost use Rattle.shm_logs.specs.Boxes.Logged.{logged_of};
+ghost use Rattle.shm_logs.specs.Boxes.SiteLog.{steps_of};
 ghost use Rattle.shm_model.specs.Log.{sent_by};
 ghost use Rattle.shm_report.specs.Counts as spec;
 

@@ -1,7 +1,7 @@
 //! A site's log as text: a line for each step.
 ghost use Rattle.std.specs.Prelude.{◌≡◌, ◌++◌, Some, map, IfErr, IfOk, OnOk, string_bytes};
-ghost use Rattle.shm_sites.specs.Boxes.Logged.{logged_of, stamp_of};
-ghost use Rattle.shm_sites.specs.Boxes.SiteLog.{steps_of};
+ghost use Rattle.shm_logs.specs.Boxes.Logged.{logged_of, stamp_of};
+ghost use Rattle.shm_logs.specs.Boxes.SiteLog.{steps_of};
 ghost use Rattle.shm_lines.specs.Spelling.{spelling};
 ghost use Rattle.shm_lines.specs.declared.line.Line.TheVariants as line;
 ghost use Rattle.shm_model.specs.Log.{Stamp as Source};
@@ -10,11 +10,11 @@ ghost use Rattle.shm_parts.specs.Message.{envelope_of};
 ghost use Rattle.shm_report.specs.LogText as spec;
 ghost use Rattle.shm_site.specs.Step.{input_of};
 
-use shm_debug::AnswerText;
 use shm_lines::Line;
 use shm_model::Event;
 use shm_place::SiteId;
 use shm_sites::{Envelope, Input, SiteLog, Stamp, Step};
+use shm_text::AnswerText;
 use shm_wire::SentLine;
 use std::alloc::{AllocError, Global};
 use std::fmt;

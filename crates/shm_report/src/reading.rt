@@ -5,7 +5,7 @@ ghost use Rattle.shm_report.specs.Causes.{is_after_reading, IsOther};
 ghost use Rattle.shm_report.specs.declared.report_fault.ReportFault.TheVariants as cause;
 
 use crate::report_fault::ReportFault;
-use shm_debug::read_up_to;
+use shm_text::read_up_to;
 use std::alloc::Global;
 use std::io::Read;
 

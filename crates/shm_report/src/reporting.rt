@@ -1,7 +1,7 @@
 //! A whole workload, from a reader to a writer.
 ghost use Rattle.std.specs.Prelude.{◌≡◌, ◌≢◌, ◌≤◌, ◌⊎◌, ℕ, List, None, Ok, false, true, IfErr, IfOk, IfSome, OnOk};
 ghost use Rattle.std.specs.Io.KnownBytes.{Appends};
-ghost use Rattle.shm_sites.specs.Auditing.Logs.{logs_of, AreLogsOf};
+ghost use Rattle.shm_logs.specs.Auditing.Logs.{logs_of, AreLogsOf};
 ghost use Rattle.shm_report.specs.Audited.{IsAccepted};
 ghost use Rattle.shm_report.specs.Callers.{AllServed};
 ghost use Rattle.shm_lines.specs.Workload.{workload_of};

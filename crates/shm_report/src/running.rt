@@ -1,5 +1,5 @@
 ghost use Rattle.std.specs.Prelude.{◌≡◌, ◌≢◌, ◌<◌, ◌≤◌, ℕ, List, Ok, length, map, vec_len, IfErr, IfOk};
-ghost use Rattle.shm_sites.specs.Auditing.Logs.{AreLogsOf};
+ghost use Rattle.shm_logs.specs.Auditing.Logs.{AreLogsOf};
 ghost use Rattle.shm_report.specs.Callers.{AllServed, ServedUnlessEnded, ServesAll};
 ghost use Rattle.shm_report.specs.RunFaults as said;
 ghost use Rattle.shm_report.specs.RunFaults.{FirstIfAny, NamesAccess, NoneFailed, TellsFirst};

@@ -7,10 +7,10 @@ ghost use Rattle.shm_report.specs.Report.{audit_yes, IsCutShort, HasReceipt, Tel
 ghost use Rattle.shm_report.specs.declared.report_fault.ReportFault.TheVariants as cause;
 
 use crate::report_fault::ReportFault;
-use shm_debug::{AnswerText, Text, write_whole};
 use shm_lines::WorkloadAccess;
 use shm_place::MAX_SITES;
 use shm_sites::Receipt;
+use shm_text::{AnswerText, Text, write_whole};
 use std::alloc::Global;
 use std::io::Write;
 

@@ -4,14 +4,14 @@ use Rattle.std.specs.Prelude.{OnErr, OnOk}
 use Rattle.std.specs.List.{All}
 use Rattle.std.proofs.lemmas.List.Elements.{All-push, All-weaker}
 use Rattle.std.proofs.lemmas.List.Quantifiers.{all_pairs_push}
-use Rattle.shm_sites.specs.Boxes.Box.{Box, after, taken}
-use Rattle.shm_sites.specs.Boxes.SiteLog.{steps_of}
-use Rattle.shm_sites.specs.declared.boxes.site_log.SiteLog.{SiteLog}
-use Rattle.shm_sites.specs.declared.boxes.box_fault.BoxFault.{BoxFault}
-use Rattle.shm_sites.specs.declared.boxes.receipt.Receipt.{Receipt}
+use Rattle.shm_logs.specs.Boxes.Box.{Box, after, taken}
+use Rattle.shm_logs.specs.Boxes.SiteLog.{steps_of}
+use Rattle.shm_logs.specs.declared.boxes.site_log.SiteLog.{SiteLog}
+use Rattle.shm_logs.specs.declared.boxes.box_fault.BoxFault.{BoxFault}
+use Rattle.shm_logs.specs.declared.boxes.receipt.Receipt.{Receipt}
 use Rattle.shm_model.specs.Log.{Logged, LogsMatch, Matches, Stamp, log_of}
 use Rattle.shm_model.specs.Message.{Input}
-use Rattle.shm_sites.specs.Auditing.Logs.{logs_of, LogsRise, StampsRise}
+use Rattle.shm_logs.specs.Auditing.Logs.{logs_of, LogsRise, StampsRise}
 
 -- a box whose log rises up to its clock, and matches whatever the logs are
 pub record IsRising (box : Box) : Type 0 where

@@ -1,4 +1,2 @@
-pub mod Audits
-pub mod Pushes
 pub mod Carried
 pub mod Posts

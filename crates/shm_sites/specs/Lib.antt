@@ -1,3 +1,1 @@
-pub mod Boxes
-pub mod Auditing
 pub mod Cluster

@@ -9,8 +9,8 @@ use Rattle.shm_audit.specs.declared.journal_fault.JournalFault.{JournalFault}
 use Rattle.shm_audit.specs.declared.journal_fault.JournalFault.TheVariants as journal
 use Rattle.shm_audit.specs.declared.journals_fault.JournalsFault.{JournalsFault}
 use Rattle.shm_audit.specs.declared.journals_fault.JournalsFault.TheVariants as journals
-use Rattle.shm_sites.specs.Auditing.Logs.{logs_of}
-use Rattle.shm_sites.specs.declared.boxes.site_log.SiteLog.{SiteLog}
+use Rattle.shm_logs.specs.Auditing.Logs.{logs_of}
+use Rattle.shm_logs.specs.declared.boxes.site_log.SiteLog.{SiteLog}
 use Rattle.shmdbg.specs.declared.unaudited.Unaudited.{Unaudited}
 use Rattle.shmdbg.specs.declared.unaudited.Unaudited.TheVariants as cause
 

@@ -2,8 +2,8 @@
 ghost use Rattle.std.specs.Io.KnownBytes.{Appends};
 ghost use Rattle.std.specs.Prelude.{ℕ, OnErr, OnOk, take};
 
-use shm_debug::{read_up_to, write_whole};
 use shm_journal::{Failed, Journal};
+use shm_text::{read_up_to, write_whole};
 use std::fs::OpenFile;
 use std::io::{Read, Write};
 

@@ -1,7 +1,7 @@
 ghost use Rattle.std.specs.Prelude.{◌∷◌, [], IfOk, map};
-ghost use Rattle.shm_sites.specs.Auditing.Audit.{IsAudited};
-ghost use Rattle.shm_sites.specs.Auditing.Callers.{receipts_of};
-ghost use Rattle.shm_sites.specs.Auditing.Logs.{logs_of};
+ghost use Rattle.shm_logs.specs.Auditing.Audit.{IsAudited};
+ghost use Rattle.shm_logs.specs.Auditing.Callers.{receipts_of};
+ghost use Rattle.shm_logs.specs.Auditing.Logs.{logs_of};
 ghost use Rattle.shm_model.specs.World.{Preset};
 
 use crate::boxes::network::{Network, kind_of};

@@ -1,8 +1,8 @@
 ghost use Rattle.std.specs.Prelude.{List, OnOk};
-ghost use Rattle.shm_sites.specs.Auditing.Audit.{IsAudited};
-ghost use Rattle.shm_sites.specs.Auditing.Callers.{callers_of};
-ghost use Rattle.shm_sites.specs.Auditing.Complete.{AllTold};
-ghost use Rattle.shm_sites.specs.Auditing.Logs.{logs_of};
+ghost use Rattle.shm_logs.specs.Auditing.Audit.{IsAudited};
+ghost use Rattle.shm_logs.specs.Auditing.Callers.{callers_of};
+ghost use Rattle.shm_logs.specs.Auditing.Complete.{AllTold};
+ghost use Rattle.shm_logs.specs.Auditing.Logs.{logs_of};
 ghost use Rattle.shm_model.specs.World.{Preset};
 ghost use Rattle.shm_model.specs.declared.event.Event.{Event};
 

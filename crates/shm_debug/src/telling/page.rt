@@ -7,13 +7,13 @@ ghost use Rattle.shm_manager.specs.Book.{kind_and_requester};
 ghost use Rattle.shm_site.specs.Showing.{Shows};
 ghost use Rattle.shm_world.specs.Showing.{keeps_book, shown_at};
 ghost use Rattle.shm_world.specs.World.{StandsFor};
-ghost use Rattle.shm_debug.specs.Page.{book_text, manager_text, page_text, running_text, state_name, state_text, states_text};
+ghost use Rattle.shm_debug.specs.Page.{book_text, manager_text, page_text, running_text, state_text, states_text};
 
-use crate::telling::answer_text::AnswerText;
 use crate::telling::copies::tell_copies;
 use shm_model::refusal::FOREIGN;
-use shm_model::{Answer, Kind, State};
+use shm_model::{Answer, Kind};
 use shm_place::{PageId, SiteId, in_limits, manager_of};
+use shm_text::{AnswerText, state_name};
 use shm_world::{BookView, Shown, World};
 use std::alloc::{AllocError, Allocator};
 
@@ -66,22 +66,9 @@ fn tell_state<A: Allocator>(
     let Some(shown) = shown else {
         return Ok(());
     };
-    let state = name_of(shown.state);
+    let state = state_name(shown.state);
     let seen = shown.seen;
     write!(out, " {site}:{state}/{seen}")
-}
-
-fn name_of(state: State) -> &'static str
-    ensures { result.now ≡ state_name state }
-{
-    match state {
-        State::Nil => "Nil",
-        State::Copy => "Copy",
-        State::OwnRead => "OwnRead",
-        State::OwnWrite => "OwnWrite",
-        State::Handed => "Handed",
-        State::Purged => "Purged",
-    }
 }
 
 /// Tells the manager's book, or that the manager has purged the segment. `shown` is what the manager shows of the page.

@@ -2,11 +2,12 @@
 ghost use Rattle.std.specs.Prelude.{◌≡◌, IfOk};
 ghost use Rattle.shm_model.specs.World as model;
 ghost use Rattle.shm_world.specs.World.{StandsFor};
+ghost use Rattle.shm_text.specs.Text.{line_text};
 ghost use Rattle.shm_debug.specs.Page.{page_text};
-ghost use Rattle.shm_debug.specs.Text.{event_text, line_text};
+ghost use Rattle.shm_debug.specs.Sent.{event_text};
 
+use crate::telling::lines::write_answer;
 use crate::telling::page::tell_page;
-use crate::telling::text::write_answer;
 use shm_model::Answer;
 use shm_place::PageId;
 use shm_world::World;

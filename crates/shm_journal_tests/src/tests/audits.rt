@@ -2,7 +2,7 @@
 use linked_list_allocator::LocalHeap;
 use shm_audit::{Counts, JournalFault, JournalsFault, audit_journals, read_log};
 use shm_place::SiteId;
-use shm_sites::{AuditFault, SiteLog};
+use shm_logs::{AuditFault, SiteLog};
 use std::alloc::{AllocError, Allocator};
 use std::io;
 use std::test::Fail;

@@ -1,8 +1,8 @@
 //! Processes that keep a journal, of which a test holds everything around.
-use shm_debug::{read_up_to, write_whole};
 use shm_journal::{Failed, Journal, ProcessFault, serve};
 use shm_place::{SiteId, Sites};
 use shm_process::{Desk, Node};
+use shm_text::{read_up_to, write_whole};
 use std::alloc::{AllocError, Global};
 use std::io::{Read, Write};
 use std::test::Fail;

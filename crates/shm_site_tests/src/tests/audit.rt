@@ -5,7 +5,7 @@ use super::expect;
 use shm_model::Kind;
 use shm_parts::{BookNote, Message, Note};
 use shm_place::{PageId, SegId, SiteId, Sites};
-use shm_sites::{
+use shm_logs::{
     AuditFault, Envelope, Event, Input, Receipt, SiteBox, SiteLog, Stamp, audit, logs_match,
 };
 use std::alloc::{AllocError, Allocator};

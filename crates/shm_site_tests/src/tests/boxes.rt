@@ -5,7 +5,7 @@ use super::expect;
 use shm_model::Kind;
 use shm_parts::{BookNote, Message, Note};
 use shm_place::{PageId, SegId, SiteId, Sites};
-use shm_sites::{Answer, Asked, BoxFault, Envelope, Input, Receipt, SiteBox, Stamp};
+use shm_logs::{Answer, Asked, BoxFault, Envelope, Input, Receipt, SiteBox, Stamp};
 use std::alloc::{AllocError, Allocator};
 use std::process::Abort;
 use std::test::Fail;

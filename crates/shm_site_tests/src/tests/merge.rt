@@ -3,14 +3,14 @@
 //! Whoever holds logs drops them by name: a drop at the end of its scope is written out there, and takes far longer to prove.
 ghost use Rattle.std.specs.Prelude.{◌≡◌, ◌≤◌, [], List, IfOk, length};
 ghost use Rattle.std.specs.List.{All};
-ghost use Rattle.shm_sites.specs.Boxes.SiteLog.{steps_of};
+ghost use Rattle.shm_logs.specs.Boxes.SiteLog.{steps_of};
 ghost use Rattle.shm_model.specs.Log.{Logged, LogsMatch, Matches};
-ghost use Rattle.shm_sites.specs.Auditing.Logs.{logs_of, LogsRise, StampsRise};
+ghost use Rattle.shm_logs.specs.Auditing.Logs.{logs_of, LogsRise, StampsRise};
 ghost use Rattle.shm_site.specs.Step.{input_of};
 
 use super::expect;
 use shm_place::{SiteId, Sites};
-use shm_sites::{Event, Input, SiteBox, SiteLog, Stamp, StepName, events, logs_match, merge};
+use shm_logs::{Event, Input, SiteBox, SiteLog, Stamp, StepName, events, logs_match, merge};
 use std::alloc::{AllocError, Allocator};
 use std::test::Fail;
 

@@ -3,8 +3,8 @@ use Rattle.std.specs.Prelude.{◌≡◌, ℕ, Bool, true, false, Some}
 use Rattle.shm_model.specs.declared.answer.Answer.{Answer}
 use Rattle.shm_model.specs.declared.answer.Answer.TheVariants.{Fault, Waiting}
 use Rattle.shm_model.specs.Message.{Input}
-use Rattle.shm_sites.specs.Boxes.Receipt.{receipt_of}
-use Rattle.shm_sites.specs.declared.boxes.receipt.Receipt.{Receipt}
+use Rattle.shm_logs.specs.Boxes.Receipt.{receipt_of}
+use Rattle.shm_logs.specs.declared.boxes.receipt.Receipt.{Receipt}
 
 -- a step of this site, which was this access
 abbrev pub TellsOf : ℕ → Input → Receipt → Type 0

@@ -3,9 +3,9 @@ use Rattle.std.specs.Prelude.{ℕ, ◌==◌, if◌then◌else◌, unwrap_or}
 use Rattle.shm_model.specs.Log.{Stamp}
 use Rattle.shm_model.specs.Message.{Input}
 use Rattle.shm_model.specs.Refusal.{clock_end, foreign_message, gave_up, no_thread, out_of_memory}
-use Rattle.shm_sites.specs.Boxes.Box.{Box, refusal}
-use Rattle.shm_sites.specs.declared.boxes.box_fault.BoxFault.{BoxFault}
-use Rattle.shm_sites.specs.declared.boxes.box_fault.BoxFault.TheVariants as box
+use Rattle.shm_logs.specs.Boxes.Box.{Box, refusal}
+use Rattle.shm_logs.specs.declared.boxes.box_fault.BoxFault.{BoxFault}
+use Rattle.shm_logs.specs.declared.boxes.box_fault.BoxFault.TheVariants as box
 use Rattle.shm_sites.specs.declared.cluster.client_fault.ClientFault.{ClientFault}
 use Rattle.shm_sites.specs.declared.cluster.client_fault.ClientFault.TheVariants as client
 use Rattle.shm_sites.specs.declared.cluster.start_fault.StartFault.{StartFault}

@@ -3,7 +3,7 @@ use Rattle.std.specs.Prelude.{ℕ, ◌+◌, List, [], ◌∷◌, Option, Some, N
 use Rattle.shm_model.specs.Log.{Logged, Stamp}
 use Rattle.shm_model.specs.Message.{Envelope}
 use Rattle.shm_parts.specs.Message.{envelope_of}
-use Rattle.shm_sites.specs.Boxes.Logged.{stamp_of}
+use Rattle.shm_logs.specs.Boxes.Logged.{stamp_of}
 use Rattle.shm_sites.specs.declared.cluster.posted.Posted.{Posted}
 
 -- an envelope, and where it was sent

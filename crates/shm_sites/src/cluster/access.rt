@@ -1,14 +1,14 @@
 //! What a client does with the box of its site.
 ghost use Rattle.std.specs.Prelude.{◌≡◌, IfErr, IfOk, OnErr, OnOk};
-ghost use Rattle.shm_sites.specs.Boxes.Box.{after};
-ghost use Rattle.shm_sites.specs.Boxes.Logged.{stamp_of};
-ghost use Rattle.shm_sites.specs.Boxes.SiteBox.{box_of};
+ghost use Rattle.shm_logs.specs.Boxes.Box.{after};
+ghost use Rattle.shm_logs.specs.Boxes.Logged.{stamp_of};
+ghost use Rattle.shm_logs.specs.Boxes.SiteBox.{box_of};
 ghost use Rattle.shm_model.specs.Receipt.{access_of};
 ghost use Rattle.shm_sites.specs.Cluster.Client.{TellsOf};
 ghost use Rattle.shm_sites.specs.Cluster.Faults.{no_access};
 
-use crate::boxes::{Asked, BoxFault, Input, Receipt, SiteBox, Stamp};
 use crate::cluster::client_fault::ClientFault;
+use shm_logs::{Asked, BoxFault, Input, Receipt, SiteBox, Stamp};
 use shm_place::SiteId;
 use std::alloc::Allocator;
 

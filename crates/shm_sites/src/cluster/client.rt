@@ -5,11 +5,11 @@ ghost use Rattle.shm_model.specs.Receipt.{access_of};
 ghost use Rattle.shm_sites.specs.Cluster.Client.{waits as is_waiting, IsServed, TellsOf};
 ghost use Rattle.shm_sites.specs.declared.cluster.client_fault.ClientFault.TheVariants as cause;
 
-use crate::boxes::{Asked, Receipt};
 use crate::cluster::access::access;
 use crate::cluster::client_fault::ClientFault;
 use crate::cluster::copies::copies_of;
 use crate::cluster::shared::{Post, Shared};
+use shm_logs::{Asked, Receipt};
 use shm_model::Answer;
 use shm_place::SiteId;
 use std::alloc::{Allocator, Global};

@@ -1,12 +1,12 @@
 //! What a step sent, copied from the site's log for the channels.
 ghost use Rattle.std.specs.Prelude.{◌≡◌, ◌++◌, ◌∷◌, [], IfOk, OnOk};
 ghost use Rattle.shm_parts.specs.Message.{envelope_of};
-ghost use Rattle.shm_sites.specs.Boxes.Logged.{logged_of, stamp_of};
-ghost use Rattle.shm_sites.specs.Boxes.SiteLog.{steps_of};
+ghost use Rattle.shm_logs.specs.Boxes.Logged.{logged_of, stamp_of};
+ghost use Rattle.shm_logs.specs.Boxes.SiteLog.{steps_of};
 ghost use Rattle.shm_sites.specs.Cluster.Posted.{all_sent, sent_at, sent_by};
 
-use crate::boxes::{Envelope, SiteLog, Stamp, Step};
 use crate::cluster::posted::Posted;
+use shm_logs::{Envelope, SiteLog, Stamp, Step};
 use std::alloc::{AllocError, Allocator};
 
 /// All that the step of this index sent; nothing, where the log has no such step.

@@ -2,9 +2,9 @@
 ghost use Rattle.std.specs.Prelude.{◌≡◌, ◌≤◌, ◌<◌, IfOk, vec_len};
 ghost use Rattle.shm_sites.specs.Cluster.Posts.{AtTheirNumbers};
 
-use crate::boxes::SiteBox;
 use crate::cluster::shared::Post;
 use crate::cluster::work::Desk;
+use shm_logs::SiteBox;
 use shm_place::{PAGES, SiteId, Sites};
 use std::alloc::{AllocError, Allocator, Global};
 use std::sync::Mutex;

@@ -1,4 +1,4 @@
-use crate::boxes::{Envelope, Stamp};
+use shm_logs::{Envelope, Stamp};
 use shm_place::SiteId;
 use std::alloc::{AllocError, Allocator, Global};
 

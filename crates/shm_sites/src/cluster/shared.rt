@@ -3,10 +3,10 @@ ghost use Rattle.std.specs.Prelude.{◌≡◌, IfSome};
 ghost use Rattle.std.specs.Slice.{IsItemAt};
 ghost use Rattle.shm_sites.specs.Cluster.Posts.{AtTheirNumbers};
 
-use crate::boxes::SiteBox;
 use crate::cluster::mail::Mail;
 use crate::cluster::posted::Posted;
 use crossbeam_channel::Sender;
+use shm_logs::SiteBox;
 use shm_place::SiteId;
 use std::alloc::{AllocError, Allocator, Global};
 use std::sync::{Mutex, Wait};

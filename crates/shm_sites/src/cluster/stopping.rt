@@ -2,10 +2,10 @@
 ghost use Rattle.std.specs.Prelude.{◌≡◌, IfOk, vec_len};
 ghost use Rattle.shm_sites.specs.Cluster.Sites.{sites_of};
 
-use crate::boxes::SiteLog;
 use crate::cluster::Cluster;
 use crate::cluster::mail::Mail;
 use crate::cluster::shared::{Post, Shared};
+use shm_logs::SiteLog;
 use std::alloc::{AllocError, Allocator};
 use std::sync::{Arc, Wait};
 use std::thread::{JoinHandle, Threads};

@@ -1,12 +1,11 @@
 //! The thread of a site.
 ghost use Rattle.std.specs.Prelude.{◌≡◌, ◌⊎◌, length, IfOk};
-ghost use Rattle.shm_sites.specs.Boxes.Box.{after};
-ghost use Rattle.shm_sites.specs.Boxes.Logged.{stamp_of};
-ghost use Rattle.shm_sites.specs.Boxes.SiteBox.{box_of};
+ghost use Rattle.shm_logs.specs.Boxes.Box.{after};
+ghost use Rattle.shm_logs.specs.Boxes.Logged.{stamp_of};
+ghost use Rattle.shm_logs.specs.Boxes.SiteBox.{box_of};
 ghost use Rattle.shm_site.specs.Step.{input_of as input_in};
 ghost use Rattle.shm_sites.specs.Cluster.Posted.{all_sent, sent_at};
 
-use crate::boxes::{Input, SiteBox, Stamp};
 use crate::cluster::carrying::{carry, draws_of};
 use crate::cluster::copies::copies_of;
 use crate::cluster::gate::Gate;
@@ -14,6 +13,7 @@ use crate::cluster::mail::Mail;
 use crate::cluster::posted::Posted;
 use crate::cluster::shared::{Post, Shared};
 use crossbeam_channel::Receiver;
+use shm_logs::{Input, SiteBox, Stamp};
 use shm_place::SiteId;
 use std::alloc::{AllocError, Allocator, Global};
 use std::sync::Wait;

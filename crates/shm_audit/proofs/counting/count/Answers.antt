@@ -1,5 +1,5 @@
 use Rattle.std.proofs.Common.{map}
-use Rattle.shm_sites.specs.Boxes.Logged.{logged_of}
+use Rattle.shm_logs.specs.Boxes.Logged.{logged_of}
 use Rattle.shm_audit.proofs.Counted.{log_counted}
 use Rattle.shm_audit.proofs.counting.count.Goals as goal
 

@@ -1,5 +1,5 @@
 use Rattle.std.proofs.Common.{◌≡◌, take}
-use Rattle.shm_sites.specs.Auditing.Logs.{logs_of}
+use Rattle.shm_logs.specs.Auditing.Logs.{logs_of}
 use Rattle.shm_audit.specs.Counts.{counts_of}
 use Rattle.shm_audit.proofs.counting.count.Given as goal
 

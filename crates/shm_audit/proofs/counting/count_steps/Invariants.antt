@@ -1,5 +1,5 @@
 use Rattle.std.proofs.Common.{◌≡◌, map, take}
-use Rattle.shm_sites.specs.Boxes.Logged.{logged_of}
+use Rattle.shm_logs.specs.Boxes.Logged.{logged_of}
 use Rattle.shm_audit.specs.Counts.{with_log}
 use Rattle.shm_audit.proofs.counting.count_steps.Given as goal
 

@@ -1,7 +1,7 @@
 use Rattle.std.proofs.Common.{subst}
 use Rattle.std.specs.Prelude.{IfErr, OnOk}
 use Rattle.shm_journal.specs.Recovers.{ReadsAll}
-use Rattle.shm_sites.specs.Boxes.SiteBox.{box_of}
+use Rattle.shm_logs.specs.Boxes.SiteBox.{box_of}
 use Rattle.shm_audit.specs.LinesOf.{left_of}
 use Rattle.shm_audit.specs.ReadUpTo.{ReadsUpTo}
 use Rattle.shm_audit.proofs.Answering.{whole_journal}

@@ -1,5 +1,5 @@
 use Rattle.std.proofs.Common.{ap, drop, sym, ◌∙◌}
-use Rattle.shm_sites.specs.Boxes.SiteBox.{box_of}
+use Rattle.shm_logs.specs.Boxes.SiteBox.{box_of}
 use Rattle.shm_audit.specs.Found.{entered, found_behind}
 use Rattle.shm_audit.specs.LinesOf.{left_of}
 use Rattle.shm_audit.proofs.Answering.{entry_fault}

@@ -1,4 +1,4 @@
-use Rattle.shm_sites.specs.Boxes.SiteBox.{box_of}
+use Rattle.shm_logs.specs.Boxes.SiteBox.{box_of}
 use Rattle.shm_audit.specs.Found.{found_behind}
 use Rattle.shm_audit.specs.Leading.{Leads}
 use Rattle.shm_audit.specs.LinesOf.{left_of}

@@ -1,6 +1,6 @@
 use Rattle.std.proofs.Common.{◌≡◌, ◌++◌, not, true, is_some, sym, ap, ◌∙◌}
 use Rattle.shm_lines.specs.Line.{is_first}
-use Rattle.shm_debug.specs.Text.{line_text}
+use Rattle.shm_text.specs.Text.{line_text}
 use Rattle.shm_debug.proofs.PlayerLemmas.{said-first}
 use Rattle.shm_debug.proofs.turns.pass_line.Goals as goal
 

@@ -1,8 +1,8 @@
 -- What one more step sent.
 use Rattle.std.proofs.Common.{◌≡◌, ◌+◌, arith, length, map, take}
 use Rattle.std.proofs.lemmas.List.{length-map}
-use Rattle.shm_sites.proofs.Audits.Prefixes.{sum-more}
-use Rattle.shm_sites.specs.Boxes.Logged.{logged_of}
+use Rattle.shm_logs.proofs.Audits.Prefixes.{sum-more}
+use Rattle.shm_logs.specs.Boxes.Logged.{logged_of}
 use Rattle.shm_model.specs.Log.{Logged, sent_by}
 use Rattle.shm_report.proofs.counting.add_sent.Goals as goal
 

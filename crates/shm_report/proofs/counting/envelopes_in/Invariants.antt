@@ -1,6 +1,6 @@
 use Rattle.std.proofs.Common.{◌≡◌, take}
 use Rattle.std.specs.List.{sum_by}
-use Rattle.shm_sites.specs.Auditing.Logs.{logs_of}
+use Rattle.shm_logs.specs.Auditing.Logs.{logs_of}
 use Rattle.shm_model.specs.Log.{sent_by}
 use Rattle.shm_report.proofs.counting.envelopes_in.Given as goal
 

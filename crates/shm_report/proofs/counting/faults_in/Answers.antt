@@ -1,10 +1,10 @@
 -- One more log's faults.
 use Rattle.std.proofs.Common.{◌≡◌, ◌+◌, ap, arith, map, take}
 use Rattle.std.specs.List.{sum_by}
-use Rattle.shm_sites.proofs.Audits.Prefixes.{sum-more}
-use Rattle.shm_sites.specs.Auditing.Logs.{logs_of}
-use Rattle.shm_sites.specs.Boxes.Logged.{logged_of}
-use Rattle.shm_sites.specs.Boxes.SiteLog.{steps_of}
+use Rattle.shm_logs.proofs.Audits.Prefixes.{sum-more}
+use Rattle.shm_logs.specs.Auditing.Logs.{logs_of}
+use Rattle.shm_logs.specs.Boxes.Logged.{logged_of}
+use Rattle.shm_logs.specs.Boxes.SiteLog.{steps_of}
 use Rattle.shm_report.specs.Counts.{faults_of}
 use Rattle.shm_report.proofs.counting.faults_in.Goals as goal
 

@@ -1,7 +1,7 @@
 -- One more step is a fault or none.
 use Rattle.std.proofs.Common.{◌≡◌, ◌+◌, arith, cond, map, take}
-use Rattle.shm_sites.proofs.Audits.Prefixes.{sum-more}
-use Rattle.shm_sites.specs.Boxes.Logged.{logged_of}
+use Rattle.shm_logs.proofs.Audits.Prefixes.{sum-more}
+use Rattle.shm_logs.specs.Boxes.Logged.{logged_of}
 use Rattle.shm_model.specs.Log.{Logged}
 use Rattle.shm_report.specs.Counts.{faults_of, is_fault}
 use Rattle.shm_report.proofs.counting.faults_with.Goals as goal

@@ -1,5 +1,5 @@
 use Rattle.std.proofs.Common.{◌≡◌, ◌+◌, map, take}
-use Rattle.shm_sites.specs.Boxes.Logged.{logged_of}
+use Rattle.shm_logs.specs.Boxes.Logged.{logged_of}
 use Rattle.shm_report.specs.Counts.{faults_of}
 use Rattle.shm_report.proofs.counting.faults_with.Given as goal
 

@@ -1,9 +1,9 @@
 -- One more log's steps.
 use Rattle.std.proofs.Common.{◌≡◌, ◌+◌, arith, length, take}
 use Rattle.std.specs.List.{sum_by}
-use Rattle.shm_sites.proofs.Audits.Prefixes.{sum-more}
-use Rattle.shm_sites.specs.Auditing.Logs.{logs_of}
-use Rattle.shm_sites.specs.Boxes.SiteLog.{steps_of}
+use Rattle.shm_logs.proofs.Audits.Prefixes.{sum-more}
+use Rattle.shm_logs.specs.Auditing.Logs.{logs_of}
+use Rattle.shm_logs.specs.Boxes.SiteLog.{steps_of}
 use Rattle.shm_report.proofs.counting.steps_in.Goals as goal
 
 pub logs-preserved : goal.logs-preserved

@@ -1,6 +1,6 @@
 use Rattle.std.proofs.Common.{◌≡◌, length, take}
 use Rattle.std.specs.List.{sum_by}
-use Rattle.shm_sites.specs.Auditing.Logs.{logs_of}
+use Rattle.shm_logs.specs.Auditing.Logs.{logs_of}
 use Rattle.shm_report.proofs.counting.steps_in.Given as goal
 
 -- so many in the logs so far

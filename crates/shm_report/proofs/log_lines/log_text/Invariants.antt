@@ -1,5 +1,5 @@
 use Rattle.std.proofs.Common.{◌≡◌, map, string_bytes, take}
-use Rattle.shm_sites.specs.Boxes.Logged.{logged_of}
+use Rattle.shm_logs.specs.Boxes.Logged.{logged_of}
 use Rattle.shm_report.specs.LogText.{log_text}
 use Rattle.shm_report.proofs.log_lines.log_text.Given as goal
 

@@ -1,9 +1,10 @@
 use super::{Deliver, expect_bytes};
 use crate::tests::{load, preset, store};
-use shm_debug::{AnswerText, Text, print_answer};
+use shm_debug::{print_answer, tell_answer_line};
 use shm_model::Answer::{Began, Byte, Dropped, Fault, Refused, Replied, Stored, Took, Waiting};
 use shm_model::{Answer, Attached, Errno, Mode, Reply, Stat};
 use shm_place::{Key, SegId};
+use shm_text::{AnswerText, Text};
 use shm_world::Event::Lose;
 use shm_world::{Event, World};
 use std::alloc::{AllocError, Global};
@@ -160,7 +161,7 @@ fn a_line_tells_what_was_sent_and_is_not_gone(rt: HostRuntime) -> Result<(), Fai
 /// Two lines, in a text with room for one.
 fn expect_two(rt: &impl Abort, text: &mut Text, world: &World) -> Result<(), AllocError> {
     text.tell(1, "ready")?;
-    text.tell_answer(2, &Stored, world, 0)?;
+    tell_answer_line(text, 2, &Stored, world, 0)?;
     expect_bytes(rt, text.as_bytes(), "1 ready\n2 stored\n");
     text.clear();
     assert_eq!(rt; text.len(), 0);

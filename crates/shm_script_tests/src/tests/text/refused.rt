@@ -2,8 +2,9 @@ use super::expect_bytes;
 use crate::tests::full_heap::{Blocks, fill_heap};
 use crate::tests::{load, preset};
 use linked_list_allocator::LocalHeap;
-use shm_debug::Text;
+use shm_debug::tell_answer_line;
 use shm_model::Answer;
+use shm_text::Text;
 use shm_world::World;
 use std::alloc::{AllocError, Global};
 use std::process::Abort;
@@ -17,7 +18,7 @@ fn refusals<'a>(
     mut blocks: Blocks<'a>,
 ) -> Option<usize> {
     for tries in 0..100 {
-        if text.tell_answer(2, &Answer::Fault, world, 0).is_ok() {
+        if tell_answer_line(text, 2, &Answer::Fault, world, 0).is_ok() {
             return Some(tries);
         }
         expect_bytes(rt, text.as_bytes(), "1 ready\n");

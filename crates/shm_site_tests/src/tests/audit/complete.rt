@@ -4,7 +4,7 @@ use super::{
     one_log, receipts_of, two_logs,
 };
 use shm_place::{SiteId, Sites};
-use shm_sites::{AuditFault, SiteLog, Stamp, audit_complete, logs_match};
+use shm_logs::{AuditFault, SiteLog, Stamp, audit_complete, logs_match};
 use std::alloc::{AllocError, Allocator};
 use std::test::Fail;
 

@@ -2,7 +2,7 @@
 use super::{EVENTS, SEVEN, are_events, audited_alone, expect, fault, one_log};
 use crate::tests::full_heap::fill;
 use linked_list_allocator::LocalHeap;
-use shm_sites::AuditFault;
+use shm_logs::AuditFault;
 use std::test::Fail;
 
 #[test]

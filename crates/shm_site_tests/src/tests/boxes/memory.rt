@@ -2,7 +2,7 @@
 use super::{Given, expect, give, look, preset_box};
 use crate::tests::full_heap::{Blocks, fill};
 use linked_list_allocator::LocalHeap;
-use shm_sites::{Answer, BoxFault, SiteBox, Stamp};
+use shm_logs::{Answer, BoxFault, SiteBox, Stamp};
 use std::process::Abort;
 use std::test::Fail;
 

@@ -1,8 +1,8 @@
 //! Merging where memory is refused first.
 ghost use Rattle.std.specs.Prelude.{◌≤◌, IfSome, length};
 ghost use Rattle.std.specs.List.{sum_by};
-ghost use Rattle.shm_sites.specs.Auditing.Logs.{logs_of, LogsRise};
-ghost use Rattle.shm_sites.specs.Auditing.Order.{order_of, AllName};
+ghost use Rattle.shm_logs.specs.Auditing.Logs.{logs_of, LogsRise};
+ghost use Rattle.shm_logs.specs.Auditing.Order.{order_of, AllName};
 ghost use Rattle.shm_model.specs.Log.{sent_by, LogsMatch};
 ghost use Rattle.shm_model.specs.Merge.{IsMerged};
 ghost use Rattle.shm_model.specs.Basics.{max_sent};
@@ -10,7 +10,7 @@ ghost use Rattle.shm_model.specs.Basics.{max_sent};
 use super::{EVENTS, ORDER, are_named, both_logs, expect, two_sites};
 use crate::tests::full_heap::{Blocks, fill};
 use linked_list_allocator::LocalHeap;
-use shm_sites::{Event, SiteLog, StepName, events, logs_match, merge};
+use shm_logs::{Event, SiteLog, StepName, events, logs_match, merge};
 use std::alloc::AllocError;
 use std::test::Fail;
 

@@ -3,7 +3,7 @@ use Rattle.std.specs.Prelude.{OnOk, Option, Result}
 use Rattle.std.specs.Io.KnownBytes.{Appends}
 use Rattle.std.specs.declared.alloc.Global.{Global}
 use Rattle.shm_audit.specs.declared.counts.Counts.{Counts}
-use Rattle.shm_sites.specs.declared.boxes.site_log.SiteLog.{SiteLog}
+use Rattle.shm_logs.specs.declared.boxes.site_log.SiteLog.{SiteLog}
 use Rattle.shmdbg.specs.Audited.{IsOfSites, TellsAudit, audit_text}
 use Rattle.shmdbg.proofs.auditing.tell_audit.Goals as goal
 

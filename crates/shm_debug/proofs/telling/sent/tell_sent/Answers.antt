@@ -1,6 +1,6 @@
 use Rattle.std.proofs.Common.{arith, string_bytes}
 use Rattle.shm_model.specs.World as model
-use Rattle.shm_debug.specs.Text.{live_text}
+use Rattle.shm_debug.specs.Sent.{live_text}
 use Rattle.shm_debug.proofs.TellingLemmas.{told_more}
 use Rattle.shm_debug.proofs.telling.sent.tell_sent.Goals as goal
 

@@ -1,7 +1,7 @@
 use Rattle.std.proofs.Common.{◌≤◌, ◌-◌, string_bytes}
 use Rattle.shm_model.specs.World as model
 use Rattle.shm_world.specs.World.{StandsFor}
-use Rattle.shm_debug.specs.Text.{live_text}
+use Rattle.shm_debug.specs.Sent.{live_text}
 use Rattle.shm_debug.proofs.TellingLemmas.{ToldUpTo}
 use Rattle.shm_debug.proofs.telling.sent.tell_sent.Given as goal
 

@@ -1,4 +1,4 @@
-use Rattle.shm_sites.specs.Boxes.SiteBox.{box_of}
+use Rattle.shm_logs.specs.Boxes.SiteBox.{box_of}
 use Rattle.shm_model.specs.Log.{Stamp}
 use Rattle.shm_site.specs.Step.{input_of}
 use Rattle.shm_site_tests.proofs.Rising.{still-rises, IsRising}

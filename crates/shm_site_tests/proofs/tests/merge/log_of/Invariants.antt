@@ -1,8 +1,8 @@
 use Rattle.std.proofs.Common.{◌≤◌, List}
 use Rattle.std.specs.List.{All}
-use Rattle.shm_sites.specs.Boxes.SiteLog.{steps_of}
+use Rattle.shm_logs.specs.Boxes.SiteLog.{steps_of}
 use Rattle.shm_model.specs.Log.{Logged, Matches}
-use Rattle.shm_sites.specs.Auditing.Logs.{StampsRise}
+use Rattle.shm_logs.specs.Auditing.Logs.{StampsRise}
 use Rattle.shm_site_tests.proofs.tests.merge.log_of.Given as goal
 
 abbrev pub invariant-given : goal.invariant-given

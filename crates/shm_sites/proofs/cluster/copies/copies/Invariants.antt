@@ -2,7 +2,7 @@
 use Rattle.std.proofs.Common.{◌≡◌, ◌++◌, drop}
 use Rattle.std.specs.Prelude.{map}
 use Rattle.shm_parts.specs.Message.{envelope_of}
-use Rattle.shm_sites.specs.Boxes.Logged.{logged_of}
+use Rattle.shm_logs.specs.Boxes.Logged.{logged_of}
 use Rattle.shm_sites.specs.Cluster.Posted.{all_sent, sent_by, sent_from}
 use Rattle.shm_sites.proofs.cluster.copies.copies.Given as goal
 

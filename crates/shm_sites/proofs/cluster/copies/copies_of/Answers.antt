@@ -2,8 +2,8 @@ use Rattle.std.proofs.Common.{◌≡◌, List, Some, sym, ap, subst, arith, ◌�
 use Rattle.std.proofs.lemmas.Option.{slice_get-get_or, slice_get-map}
 use Rattle.std.specs.Prelude.{IfOk, option_map}
 use Rattle.shm_model.specs.Log.{Logged}
-use Rattle.shm_sites.specs.Boxes.Logged.{logged_of}
-use Rattle.shm_sites.specs.Boxes.SiteLog.{steps_of}
+use Rattle.shm_logs.specs.Boxes.Logged.{logged_of}
+use Rattle.shm_logs.specs.Boxes.SiteLog.{steps_of}
 use Rattle.shm_sites.specs.Cluster.Posted.{Sent, all_sent, sent_at, sent_by, sent_if}
 use Rattle.shm_sites.proofs.cluster.copies.copies_of.Goals as goal
 

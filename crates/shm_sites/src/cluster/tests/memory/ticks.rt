@@ -1,9 +1,9 @@
 //! Ticks for which a channel has no memory, and those of a client that waits.
 use super::{HEAP, Still, fill_heap_but, opened_in};
 use crate::ClientFault;
-use crate::boxes::Asked;
 use crate::cluster::mail::Mail;
 use linked_list_allocator::LocalHeap;
+use shm_logs::Asked;
 use shm_place::SiteId;
 use std::alloc::{AllocError, Global};
 use std::sync::Wait;

@@ -1,8 +1,8 @@
 //! Steps of a site's thread for which memory is refused.
 use super::{HEAP, HOLES, PAGES, fill_heap_but};
-use crate::boxes::{Envelope, Input, SiteBox, Stamp};
 use crate::cluster::work::give_input;
 use linked_list_allocator::LocalHeap;
+use shm_logs::{Envelope, Input, SiteBox, Stamp};
 use shm_model::Kind;
 use shm_parts::{BookNote, Message, Note};
 use shm_place::{PageId, SegId, SiteId, Sites};

@@ -1,0 +1,12 @@
+//! What sites log, and its audit: a site in its box, which logs every step that it makes (`boxes`), and the audit of what was logged and
+//! of what callers were told (`auditing`). Nothing here needs threads.
+#![tactic(auto)]
+
+mod auditing;
+mod boxes;
+
+pub use auditing::{
+    AuditFault, Event, StepName, audit, audit_complete, events, laws, logs_match, merge,
+};
+pub use boxes::{Answer, Asked, BoxFault, Envelope, Input, Receipt, SiteBox, SiteLog, Stamp, Step};
+pub use shm_place::{NoSuchSite, SiteId, Sites};
