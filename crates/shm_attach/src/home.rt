@@ -64,7 +64,7 @@ impl<A: Allocator + Copy> Home<A> {
         match self.kept.ask(from, number) {
             Recall::Old => Ok(None),
             Recall::Again(reply) => Ok(Some(Done {
-                reply,
+                reply: *reply,
                 destroyed: None,
             })),
             Recall::Fresh => self.serve_fresh(from, number, op),

@@ -1,14 +1,14 @@
 -- The fields that a row changes, against the book that the definitions make.
 use Rattle.std.proofs.Common.{◌≡◌, ℕ, ◌+◌, ◌<◌, Bool, false, Some, max, if◌then◌else◌, ◌==◌, ap, refl, arith, List, true}
 use Rattle.std.proofs.lemmas.Bool.Decides.{nat_tests}
-use Rattle.shm_number.specs.Served.{noted}
+use Rattle.shm_number.specs.Served.{taken}
 use Rattle.shm_model.specs.declared.kind.Kind.{Kind}
 use Rattle.shm_model.specs.Book.{Book, started}
 use Rattle.shm_model.specs.Basics.{at}
 use Rattle.shm_place.specs.SiteSet.{has}
 
-pub noted-fresh : (served : ℕ → ℕ) (site request : ℕ) → served site < request → noted served site request ≡ at served site request
-noted-fresh served site request fresh =
+pub taken-fresh : (served : ℕ → ℕ) (site request : ℕ) → served site < request → taken served site request ≡ at served site request
+taken-fresh served site request fresh =
     let greatest : max (served site) request ≡ request = grind (arith, nat_tests) in
     ap {B = ℕ → ℕ} (λ (m : ℕ) (j : ℕ). if site == j then m else served j) greatest
 

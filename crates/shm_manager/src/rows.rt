@@ -104,7 +104,7 @@ impl<A: Allocator> Book<A> {
         self.number += 1;
         self.running = Some((kind, from));
         self.cleared = SiteSet::empty();
-        self.served.note(from, request);
+        self.served.take(from, request);
         self.orders_for(kind, from)
     }
 

@@ -1,7 +1,13 @@
 -- The last number and reply of each of 16 sites, in the order of the sites, and what they say of a call that comes in.
 use Rattle.std.specs.Prelude.{ℕ, List, Option, Some, None, nat_lt, slice_index_or, if◌then◌else◌, ◌==◌}
 use Rattle.shm_number.specs.declared.kept.Recall.{Recall}
-use Rattle.shm_number.specs.declared.kept.Recall.TheVariants.{Fresh, Again, Old}
+use Rattle.shm_number.specs.declared.kept.Recall.TheVariants as recall
+
+-- what a number says of a call: that it is to be executed; that it is the last one again, which had this reply; that it is older
+pub data Verdict (R : Type 0) : Type 0 where
+  Fresh : Verdict R
+  Again : R → Verdict R
+  Old : Verdict R
 
 module _ {R : Type 0} where
   -- the number and the reply kept for one site, if any
@@ -18,9 +24,15 @@ module _ {R : Type 0} where
   kept_then kept site number reply j = if site == j then Some (number, reply) else kept j
 
   -- what a number says of a call: one above the last is new, the last one itself is that very call again; 0 is never a call's number
-  abbrev pub verdict : Option (ℕ × R) → ℕ → Recall R
+  abbrev pub verdict : Option (ℕ × R) → ℕ → Verdict R
   verdict None number = if number == 0 then Old else Fresh
   verdict (Some last) number =
       if nat_lt number last.0 then Old
       else if number == last.0 then Again last.1
       else Fresh
+
+  -- what a recall says, by the reply that it points to
+  abbrev pub recalled : Recall R → Verdict R
+  recalled recall.Fresh = Fresh
+  recalled (recall.Again reply) = Again reply.now
+  recalled recall.Old = Old

@@ -5,6 +5,6 @@ use Rattle.std.specs.Prelude.{ℕ, List, slice_index, max, if◌then◌else◌, 
 abbrev pub served_of : List ℕ → ℕ → ℕ
 served_of numbers site = slice_index numbers site
 
--- after one more number of a site was noted as served
-abbrev pub noted : (ℕ → ℕ) → ℕ → ℕ → ℕ → ℕ
-noted served site number j = if site == j then max (served site) number else served j
+-- after one more number of a site was taken as served
+abbrev pub taken : (ℕ → ℕ) → ℕ → ℕ → ℕ → ℕ
+taken served site number j = if site == j then max (served site) number else served j

@@ -3,7 +3,10 @@ ghost use Rattle.std.specs.Prelude.{◌≡◌, ◌+◌, if◌then◌else◌, nat
 use shm_model::refusal::{NUMBERS_USED_UP, Numbered};
 use std::marker::Model;
 
-/// Every number was given: nothing comes after the greatest `u64`.
+/// The number of a request or of a call. They rise from 1, and 0 is the number of none; what is repeated has the number that it had.
+pub type Number = u64;
+
+/// Every number was given: nothing comes after the greatest one.
 #[derive(Clone, Copy, Debug, PartialEq, Eq)]
 pub struct UsedUp;
 
@@ -20,7 +23,7 @@ impl Numbered for UsedUp {
 /// Gives numbers in turn, each once.
 #[derive(Drop)]
 pub struct Counter {
-    last: u64,
+    last: Number,
 }
 
 impl Model for Counter {
@@ -41,12 +44,19 @@ impl Counter {
         Counter { last: 0 }
     }
 
+    /// The counter whose last number was this one. It goes on with the next.
+    pub fn after(last: Number) -> Counter
+        ensures { result ≡ last }
+    {
+        Counter { last }
+    }
+
     /// The number after the last one.
-    pub fn next(&mut self) -> Result<u64, UsedUp>
+    pub fn next(&mut self) -> Result<Number, UsedUp>
         ensures number { result ≡ (if nat_lt self.old u64.MAX then Ok (self.old + 1) else Err (record {})) }
         ensures last { self.new ≡ (if nat_lt self.old u64.MAX then self.old + 1 else self.old) }
     {
-        if self.last < u64::MAX {
+        if self.last < Number::MAX {
             self.last += 1;
             return Ok(self.last);
         }

@@ -1,16 +1,17 @@
 ghost use Rattle.std.specs.Prelude.{◌≡◌, ◌<◌};
-ghost use Rattle.shm_number.specs.Kept.{kept_at, kept_then, number_of, verdict};
+ghost use Rattle.shm_number.specs.Kept.{kept_at, kept_then, number_of, recalled, verdict};
 
+use crate::counter::Number;
 use shm_place::SiteId;
 use std::marker::Model;
 
 /// What a call's number says of it.
 #[derive(Clone, Copy, Debug, PartialEq, Eq)]
-pub enum Recall<R> {
+pub enum Recall<'a, R> {
     /// It is to be executed.
     Fresh,
     /// It was executed last; this was the reply.
-    Again(R),
+    Again(&'a R),
     /// It was executed, or given up, before the last one.
     Old,
 }
@@ -18,7 +19,7 @@ pub enum Recall<R> {
 /// The number of each site's last call, and the reply to it. A call that is repeated is so told from a new one.
 #[derive(Drop)]
 pub struct KeptReply<R> {
-    kept: [Option<(u64, R)>; 16],
+    kept: [Option<(Number, R)>; 16],
 }
 
 impl<R> Model for KeptReply<R> {
@@ -42,9 +43,9 @@ impl<R: Copy> KeptReply<R> {
     }
 
     /// What the number says, where `number` comes from `site`. With nothing kept the last number counts as 0.
-    pub fn ask(&self, site: SiteId, number: u64) -> Recall<R>
+    pub fn ask(&self, site: SiteId, number: Number) -> Recall<'_, R>
         requires { site < 16 }
-        ensures { result ≡ verdict (kept_at self.now site) number }
+        ensures { recalled result ≡ verdict (kept_at self.now site) number }
     {
         match &self.kept[site.0 as usize] {
             None => {
@@ -58,7 +59,7 @@ impl<R: Copy> KeptReply<R> {
                     return Recall::Old;
                 }
                 if number == *last {
-                    return Recall::Again(*reply);
+                    return Recall::Again(reply);
                 }
                 Recall::Fresh
             }
@@ -66,7 +67,7 @@ impl<R: Copy> KeptReply<R> {
     }
 
     /// Keeps the reply to the call of this number, in place of what was kept for the site.
-    pub fn keep(&mut self, site: SiteId, number: u64, reply: R)
+    pub fn keep(&mut self, site: SiteId, number: Number, reply: R)
         requires site { site < 16 }
         requires above { number_of (kept_at self.old site) < number }
         ensures { kept_at self.new ≡ kept_then (kept_at self.old) site number reply }

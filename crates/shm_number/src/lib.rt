@@ -7,6 +7,6 @@ mod served;
 #[cfg(test)]
 mod tests;
 
-pub use counter::{Counter, UsedUp};
+pub use counter::{Counter, Number, UsedUp};
 pub use kept::{KeptReply, Recall};
 pub use served::Served;

@@ -1,13 +1,14 @@
 ghost use Rattle.std.specs.Prelude.{◌≡◌, ◌<◌, nat_lt};
-ghost use Rattle.shm_number.specs.Served.{noted, served_of};
+ghost use Rattle.shm_number.specs.Served.{served_of, taken};
 
+use crate::counter::Number;
 use shm_place::SiteId;
 use std::marker::Model;
 
 /// The greatest request number served of each site; 0 where none was. An older request that comes late, or again, is known by it.
 #[derive(Drop)]
 pub struct Served {
-    greatest: [u64; 16],
+    greatest: [Number; 16],
 }
 
 impl Model for Served {
@@ -31,17 +32,17 @@ impl Served {
     }
 
     /// Whether the number is above all that were served of the site.
-    pub fn fresh(&self, site: SiteId, number: u64) -> bool
+    pub fn fresh(&self, site: SiteId, number: Number) -> bool
         requires { site < 16 }
         ensures { result ≡ nat_lt (served_of self.now site) number }
     {
         self.greatest[site.0 as usize] < number
     }
 
-    /// Notes the site's number as served. One that isn't fresh changes nothing.
-    pub fn note(&mut self, site: SiteId, number: u64)
+    /// Takes the site's number as served. One that isn't fresh changes nothing.
+    pub fn take(&mut self, site: SiteId, number: Number)
         requires { site < 16 }
-        ensures { served_of self.new ≡ noted (served_of self.old) site number }
+        ensures { served_of self.new ≡ taken (served_of self.old) site number }
     {
         let index = site.0 as usize;
         self.greatest[index] = self.greatest[index].max(number);

@@ -1,4 +1,5 @@
-use crate::{Counter, KeptReply, Recall, Served};
+use crate::{Counter, KeptReply, Recall, Served, UsedUp};
+use shm_model::Numbered;
 use shm_place::SiteId;
 
 #[test]
@@ -12,12 +13,22 @@ fn numbers_are_given_in_turn(rt: HostRuntime) {
 }
 
 #[test]
+fn nothing_comes_after_the_greatest_number(rt: HostRuntime) {
+    let mut counter = Counter::after(u64::MAX - 1);
+    assert_eq!(rt; counter.next(), Ok(u64::MAX));
+    for _ in 0..2 {
+        assert_eq!(rt; counter.next(), Err(UsedUp));
+    }
+    assert_eq!(rt; UsedUp.number(), 13);
+}
+
+#[test]
 fn only_a_greater_number_is_fresh(rt: HostRuntime) {
     let mut served = Served::new();
     assert!(rt; served.fresh(SiteId(15), 1));
     assert!(rt; !served.fresh(SiteId(15), 0));
-    served.note(SiteId(15), 5);
-    served.note(SiteId(15), 3);
+    served.take(SiteId(15), 5);
+    served.take(SiteId(15), 3);
     let copy = served.copy();
     for (number, fresh) in [(3, false), (5, false), (6, true), (u64::MAX, true)] {
         assert_eq!(rt; served.fresh(SiteId(15), number), fresh, "at {number}");
@@ -38,8 +49,8 @@ fn a_repeated_call_is_told_its_reply(rt: HostRuntime) {
     replies.keep(SiteId(2), 7, 40);
     let copy = replies.copy();
     assert_eq!(rt; replies.ask(SiteId(2), 6), Recall::Old);
-    assert_eq!(rt; replies.ask(SiteId(2), 7), Recall::Again(40));
+    assert_eq!(rt; replies.ask(SiteId(2), 7), Recall::Again(&40));
     assert_eq!(rt; replies.ask(SiteId(2), 8), Recall::Fresh);
     assert_eq!(rt; replies.ask(SiteId(3), 7), Recall::Fresh);
-    assert_eq!(rt; copy.ask(SiteId(2), 7), Recall::Again(40));
+    assert_eq!(rt; copy.ask(SiteId(2), 7), Recall::Again(&40));
 }

@@ -1,13 +1,22 @@
-//! A page's state at one site, and what one site grants another.
+//! A page's state at one site, what one site grants another, and what each message about the page does to the state.
 //!
 //! After Li and Hudak 1989, §3: a site's access to a page is nil, read or write; a page has one owner, and copies where it is read.
+//! The owner of a page that others read has no right to write it, and all copies are invalidated before a site may write.
 //! A state is spent by what changes its kind, so that what can't be done in a state can't be written.
+//!
+//! The rows of an entry's table stand in one file for each kind of message, under the message's name: `on_clear`, `on_hand_read`,
+//! `on_hand_write`, `on_page_read` and `on_page_write`.
 #![tactic(auto)]
 
 mod copy;
 mod entry;
 mod handed;
 mod nil;
+mod on_clear;
+mod on_hand_read;
+mod on_hand_write;
+mod on_page_read;
+mod on_page_write;
 mod out;
 mod own_read;
 mod own_write;
@@ -18,6 +27,11 @@ pub use copy::CopyPage;
 pub use entry::Entry;
 pub use handed::{HandedPage, WriteGrant};
 pub use nil::NilPage;
+pub use on_clear::clear;
+pub use on_hand_read::lend_to;
+pub use on_hand_write::hand_to;
+pub use on_page_read::take_copy;
+pub use on_page_write::take_ownership;
 pub use out::Out;
 pub use own_read::OwnReadPage;
 pub use own_write::OwnWritePage;

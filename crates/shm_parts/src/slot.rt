@@ -13,10 +13,8 @@ use crate::change::Change;
 use crate::message::EntryNote;
 use crate::stored::StoredEntry;
 use shm_model::Kind;
-use shm_page::{Entry, NilPage, Out};
+use shm_page::{Entry, NilPage, Out, clear, hand_to, lend_to, take_copy, take_ownership};
 use shm_place::{PageId, SiteId, Sites, manager_of};
-use shm_read::{lend_to, take_copy};
-use shm_write::{clear, hand_to, take_ownership};
 use std::alloc::{AllocError, Allocator};
 use std::mem;
 

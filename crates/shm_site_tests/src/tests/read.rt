@@ -1,9 +1,8 @@
 //! A lent copy on its way, and a lending that is refused for memory.
 use crate::tests::full_heap::{PAGE_BLOCKS, TRIES, fill_heap};
 use linked_list_allocator::LocalHeap;
-use shm_page::{Entry, Out};
+use shm_page::{Entry, Out, lend_to, take_copy};
 use shm_place::SiteId;
-use shm_read::{lend_to, take_copy};
 use std::alloc::{AllocError, Allocator};
 use std::test::Fail;
 

@@ -1,9 +1,8 @@
 //! A page on its way to its new owner, and the steps of that refused for memory.
 use crate::tests::full_heap::{PAGE_BLOCKS, TRIES, fill_heap};
 use linked_list_allocator::LocalHeap;
-use shm_page::{Entry, Out, WriteGrant};
+use shm_page::{Entry, Out, WriteGrant, clear, hand_to, take_ownership};
 use shm_place::SiteId;
-use shm_write::{clear, hand_to, take_ownership};
 use std::alloc::{AllocError, Allocator};
 use std::test::Fail;
 
