@@ -1,3 +1,4 @@
+pub mod BeginFault
 pub mod CallBook
 pub mod Attachments
 pub mod Right

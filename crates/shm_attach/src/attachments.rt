@@ -100,14 +100,17 @@ impl Attachments {
         Some(attachment.id)
     }
 
-    /// Removes what is attached at the number, if anything.
-    pub fn remove(&mut self, number: u32)
-        ensures { attachments_of self.new ≡ at (attachments_of self.old) number None }
+    /// Takes away what is attached at the number, and gives the segment that it named. None: nothing was attached.
+    pub fn take(&mut self, number: u32) -> Option<SegId>
+        ensures segment { result ≡ segment_of (attachments_of self.old number) }
+        ensures after { attachments_of self.new ≡ at (attachments_of self.old) number None }
     {
+        let segment = self.segment(number);
         let index = number as usize;
         if index < self.slots.len() {
             self.slots[index] = None;
         }
+        segment
     }
 
     /// Whether some attachment names the segment.

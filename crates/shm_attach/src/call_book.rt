@@ -1,20 +1,20 @@
-ghost use Rattle.std.specs.Prelude.{◌≡◌, None, Some};
-ghost use Rattle.shm_model.specs.Calls.{is_size};
-ghost use Rattle.shm_model.specs.declared.call.Reply.TheVariants.{Attached as AttachedReply};
+ghost use Rattle.std.specs.Prelude.{◌≡◌, None, IfNone, IfOk, IfSome, OnErr};
+ghost use Rattle.shm_model.specs.Calls.{fits, is_size};
 ghost use Rattle.shm_model.specs.Site.{Site};
 ghost use Rattle.shm_model.specs.SegmentCalls.{on_reply_to};
-ghost use Rattle.shm_attach.specs.CallBook.{begun_as, ended, ended_as, ending_by, number_after, outstanding_of};
+ghost use Rattle.shm_attach.specs.CallBook.{begun_as, begun_number, call_ended_by, ended, outstanding_of};
 
-use crate::ending::Ending;
-use shm_model::{Attached, Op, Reply};
+use crate::begin_fault::BeginFault;
+use shm_model::{Op, Reply};
+use shm_number::Number;
 use shm_place::MAX_SEGMENT_BYTES;
 use std::marker::Model;
 
 /// A site's segment calls: how many it has begun, and the one whose reply it waits for. The n-th call has the number n.
 #[derive(Drop)]
 pub struct CallBook {
-    begun: u64,
-    outstanding: Option<(u64, Op)>,
+    begun: Number,
+    outstanding: Option<(Number, Op)>,
 }
 
 impl Model for CallBook {
@@ -36,47 +36,60 @@ impl CallBook {
         }
     }
 
-    /// The number that the next call gets. None: the greatest number was given.
-    pub fn next_number(&self) -> Option<u64>
-        ensures { result ≡ number_after self.now.begun }
+    /// The number that `begin` would give a call now, or why it would begin none.
+    pub fn next_number(&self) -> Result<Number, BeginFault>
+        ensures { result ≡ begun_number self.now }
     {
-        if self.begun == u64::MAX {
-            return None;
+        if self.outstanding.is_some() {
+            return Err(BeginFault::Busy);
         }
-        Some(self.begun + 1)
+        if self.begun == Number::MAX {
+            return Err(BeginFault::UsedUp);
+        }
+        Ok(self.begun + 1)
     }
 
-    /// Notes a call as outstanding, under the next number.
-    pub fn begin(&mut self, number: u64, op: Op)
-        requires idle { self.old.outstanding ≡ None }
-        requires next { number_after self.old.begun ≡ Some number }
-        ensures { self.new ≡ begun_as number op }
+    /// Begins a call under the next number: it is outstanding from now on. Where it is refused nothing changes.
+    pub fn begin(&mut self, op: Op) -> Result<Number, BeginFault>
+        ensures number { result ≡ begun_number self.old }
+        ensures begun { IfOk result (λ number. self.new ≡ begun_as number op) }
+        ensures refused { OnErr result (self.new ≡ self.old) }
     {
-        self.begun = number;
-        self.outstanding = Some((number, op));
+        match self.next_number() {
+            Ok(number) => {
+                self.begun = number;
+                self.outstanding = Some((number, op));
+                Ok(number)
+            }
+            Err(fault) => Err(fault),
+        }
     }
 
-    /// How this reply ends the call that is outstanding. None: it doesn't count for it.
-    pub fn ending_by(&self, number: u64, reply: &Reply) -> Option<Ending>
-        ensures ending { result ≡ ending_by number reply.now self.now.outstanding }
+    /// The call that `reply` would end: the outstanding one, where the reply has its number and a form that a reply to it can have.
+    pub fn call_ended_by(&self, number: Number, reply: &Reply) -> Option<Op>
+        ensures call { result ≡ call_ended_by number reply.now self.now.outstanding }
         ensures step { (site : Site) → on_reply_to self.now.outstanding number reply.now site ≡ ended result number reply.now site }
     {
         let (outstanding, op) = self.outstanding?;
-        if number != outstanding {
+        if number != outstanding || !fits(&op, reply) {
             return None;
         }
-        ending(&op, reply)
+        Some(op)
     }
 
-    /// The call has ended: no reply is waited for any longer.
-    pub fn end(&mut self)
-        ensures { self.new ≡ record self.old { outstanding = None } }
+    /// Takes a reply, and gives the call that it ends, which is outstanding no longer. None: it ends no call, and nothing changes.
+    pub fn reply(&mut self, number: Number, reply: &Reply) -> Option<Op>
+        ensures call { result ≡ call_ended_by number reply.now self.old.outstanding }
+        ensures ended { IfSome result (λ _. self.new ≡ record self.old { outstanding = None }) }
+        ensures ignored { IfNone result (self.new ≡ self.old) }
     {
+        let op = self.call_ended_by(number, reply)?;
         self.outstanding = None;
+        Some(op)
     }
 
     /// The call whose reply is waited for, and its number.
-    pub fn outstanding_call(&self) -> Option<(u64, Op)>
+    pub fn outstanding(&self) -> Option<(Number, Op)>
         ensures { outstanding_of result ≡ self.now.outstanding }
     {
         self.outstanding
@@ -93,29 +106,16 @@ impl CallBook {
     }
 }
 
-/// How a reply ends this call. None: its form is that of a reply to another.
-fn ending(op: &Op, reply: &Reply) -> Option<Ending>
-    ensures { result ≡ ended_as op.now reply.now }
+/// Whether a reply to this call can have this form.
+fn fits(op: &Op, reply: &Reply) -> bool
+    ensures { result ≡ fits op.now reply.now }
 {
     match reply {
-        Reply::Refused(_) => Some(Ending::Replied),
-        Reply::Id(_) => matches!(op, Op::Get { .. }).then_some(Ending::Replied),
-        Reply::Attached(attached) => attachment(op, *attached),
-        Reply::Ok => match op {
-            Op::Detach { .. } | Op::Remove { .. } | Op::Set { .. } => Some(Ending::Replied),
-            _ => None,
-        },
-        Reply::Stat(_) => matches!(op, Op::Stat { .. }).then_some(Ending::Replied),
-    }
-}
-
-/// How what an attach gives ends this call.
-fn attachment(op: &Op, attached: Attached) -> Option<Ending>
-    ensures { result ≡ ended_as op.now (AttachedReply attached) }
-{
-    match op {
-        &Op::Attach { id, .. } if is_size(attached.size) => Some(Ending::Attached { id, attached }),
-        _ => None,
+        Reply::Refused(_) => true,
+        Reply::Id(_) => matches!(op, Op::Get { .. }),
+        Reply::Attached(attached) => matches!(op, Op::Attach { .. }) && is_size(attached.size),
+        Reply::Ok => matches!(op, Op::Detach { .. } | Op::Remove { .. } | Op::Set { .. }),
+        Reply::Stat(_) => matches!(op, Op::Stat { .. }),
     }
 }
 

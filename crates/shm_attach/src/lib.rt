@@ -4,18 +4,18 @@
 
 mod access;
 mod attachments;
+mod begin_fault;
 mod call_book;
 mod done;
-mod ending;
 mod fault;
 mod home;
 mod run;
 
 pub use access::right;
 pub use attachments::{Attachments, MAX_ATTACHMENTS};
+pub use begin_fault::BeginFault;
 pub use call_book::CallBook;
 pub use done::Done;
-pub use ending::Ending;
 pub use fault::Denied;
 pub use home::Home;
-pub use shm_model::{Attached, Op, Reply};
+pub use shm_model::{Attached, Op, Reply, Request};

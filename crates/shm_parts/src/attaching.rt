@@ -53,7 +53,7 @@ impl<A: Allocator + Copy> Holdings<A> {
             ≡ with_attachments (at (attachments_of self.old.attachments) number None) (with_holdings sites me self.old site) }
         ensures seat { SameSeat self.old self.new }
     {
-        self.attachments.remove(number);
+        self.attachments.take(number);
     }
 
     /// Whether no attachment number is free.

@@ -1,5 +1,5 @@
 -- The steps of segment calls and purges, out of what the parts of the site say.
-use Rattle.std.proofs.Common.{◌≡◌, ℕ, ◌+◌, ◌≤◌, sym, Bool, true, false, not, List, [], ◌∷◌, Option, Some, None, IfSome, filter, length, map, ◌==◌, if◌then◌else◌, refl, ap, arith, ◌∙◌}
+use Rattle.std.proofs.Common.{◌≡◌, ℕ, ◌+◌, ◌≤◌, sym, Bool, true, false, not, List, [], ◌∷◌, Option, Some, None, Result, Ok, Err, IfOk, IfSome, filter, length, map, ◌==◌, if◌then◌else◌, refl, ap, arith, ◌∙◌}
 use Rattle.std.proofs.lemmas.List.FromFn.{length-map-range_with_len}
 use Rattle.shm_place.specs.Home.{home_of_id}
 use Rattle.shm_place.specs.declared.page.PageId.{PageId}
@@ -12,14 +12,16 @@ use Rattle.shm_model.specs.Site.{Step, dropped, still, Site, Pending, is_attache
 use Rattle.shm_model.specs.Book.{Book, untouched_book}
 use Rattle.shm_model.specs.Basics.{at, greatest}
 use Rattle.shm_model.specs.Entry.{Nil}
-use Rattle.shm_model.specs.Calls.{Attachment, op_home}
+use Rattle.shm_model.specs.Calls.{Attachment, Outstanding, op_home}
 use Rattle.shm_model.specs.Message.{Call, Purged}
 use Rattle.shm_model.specs.Message as message
 use Rattle.shm_model.specs.Refusal.{numbers_used_up}
 use Rattle.shm_model.specs.SegmentCalls.{attached, begin_detach, call_begun, frames_without, numbered, of_segment, on_purge, purge_envelope, purged_site, purges, replied, without_segment}
 use Rattle.shm_attach.specs.Attachments.{segment_of}
 use Rattle.shm_attach.specs.declared.done.Done.{Done}
-use Rattle.shm_attach.specs.CallBook.{Calls, begun_as, number_after, with_calls}
+use Rattle.shm_attach.specs.CallBook.{Calls, begun_as, begun_number, number_after, with_calls}
+use Rattle.shm_attach.specs.declared.begin_fault.BeginFault.{BeginFault}
+use Rattle.shm_attach.specs.declared.begin_fault.BeginFault.TheVariants.{UsedUp}
 use Rattle.shm_attach.specs.Home.{sent_for}
 use Rattle.shm_parts.specs.Message.{envelope_of}
 use Rattle.shm_parts.specs.declared.message.Envelope.{Envelope}
@@ -59,17 +61,22 @@ abbrev called_step : (me number to : ℕ) (op : Op) (calls : Calls) (site : Site
 called_step me number to op calls site = record { site = with_calls calls site; answer = Began number; sent = record { from = me; to = to; message = Call number op } ∷ [] }
 
 call_begins : (b : Bool) (sites me number to : ℕ) (op : Op) (old calls : Calls) (site : Site)
-    → Some number ≡ (if b then None else Some (old.begun + 1)) → calls ≡ begun_as number op → to ≡ op_home sites me op
+    → ◌≡◌ {A = Result ℕ BeginFault} (Ok number) (if b then Err UsedUp else Ok (old.begun + 1)) → calls ≡ begun_as number op → to ≡ op_home sites me op
     → (if b then still (Refused numbers_used_up) (with_calls old site) else call_begun sites me op (with_calls old site)) ≡ called_step me number to op calls site
 call_begins true sites me number to op old calls site n made home = cc
 call_begins false sites me number to op old calls site n made home =
     let is : number ≡ old.begun + 1 = cc in
     rw made (rw home (rw is refl))
 
+-- where none is outstanding, what `begin` gives is what comes after the last number
+next_number_is : (calls : Calls) (r : Result ℕ BeginFault) → calls.outstanding ≡ None → r ≡ begun_number calls → r ≡ number_after calls.begun
+next_number_is calls r idle is = is ∙ ap (λ (o : Option Outstanding). begun_number (record calls { outstanding = o })) idle
+
 pub call_made : (sites me number to : ℕ) (op : Op) (old calls : Calls) (site : Site)
-    → Some number ≡ number_after old.begun → calls ≡ begun_as number op → to ≡ op_home sites me op
+    → old.outstanding ≡ None → Ok number ≡ begun_number old → calls ≡ begun_as number op → to ≡ op_home sites me op
     → numbered (with_calls old site) (call_begun sites me op (with_calls old site)) ≡ record { site = with_calls calls site; answer = Began number; sent = record { from = me; to = to; message = Call number op } ∷ [] }
-call_made sites me number to op old calls site n made home = call_begins (old.begun == greatest) sites me number to op old calls site n made home
+call_made sites me number to op old calls site idle n made home =
+    call_begins (old.begun == greatest) sites me number to op old calls site (next_number_is old (Ok number) idle n) made home
 
 -- ---- detaching
 
@@ -96,6 +103,11 @@ detach_began sites me number id n (Some a) old called new sent f e h =
     rw (← i) (began (old.calls == greatest) sites me number id n old called new sent e h)
 
 -- ---- attaching
+
+-- the same step by another name
+pub if_made : {X : Type 0} (first second : Step) (made : Answer → Step) (r : Result Answer X) → first ≡ second → IfOk r (λ answer. second ≡ made answer) → IfOk r (λ answer. first ≡ made answer)
+if_made first second made (Ok answer) same is = same ∙ is
+if_made first second made (Err e) same is = tt
 
 -- no number is free
 pub attached_none : (number id : ℕ) (reply : Reply) (a : Attachment) (old held : Site) → old.purged id ≡ false → None ≡ least_free old.attachments → held ≡ old → attached number id reply a old ≡ dropped held

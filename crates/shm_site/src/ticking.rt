@@ -105,7 +105,7 @@ impl<A: Allocator + Copy> Site<A> {
         ensures { OnOk result (map envelope_of list.new.items
             ≡ map envelope_of list.old.items ++ model.call_again self.now.sites self.now.me self.now.calls.outstanding) }
     {
-        match self.calls.outstanding_call() {
+        match self.calls.outstanding() {
             None => Ok(()),
             Some((number, op)) => {
                 let to = op_home(self.sites, self.me, &op);

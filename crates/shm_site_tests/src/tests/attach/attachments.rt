@@ -34,8 +34,13 @@ fn sixty_four_stand_under_rising_numbers(rt: HostRuntime) {
 fn the_least_free_number_is_given_again(rt: HostRuntime) {
     let mut attachments = sixty_four();
     expect_number(&rt, attachments.put(SegId(7), 1, false), None);
-    for number in [5, 5, 3, 64] {
-        attachments.remove(number);
+    for (number, segment) in [
+        (5, Some(SegId(105))),
+        (5, None),
+        (3, Some(SegId(103))),
+        (64, None),
+    ] {
+        expect_segment(&rt, attachments.take(number), segment);
         expect_segment(&rt, attachments.segment(number), None);
     }
     let copy = attachments.copy();
