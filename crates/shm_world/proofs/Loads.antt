@@ -1,6 +1,7 @@
--- The bytes that a run gives: each is that of the last store to its place, since the run's account is legal.
-use Rattle.std.proofs.Common.{◌≡◌, ◌∙◌, ℕ, ◌+◌, ◌≤◌, Bool, true, false, List, [], ◌∷◌, ◌++◌, Option, Some, None, Result, Ok, Err, OnErr, ap, if◌then◌else◌, length, refl, slice_get, subst, suc, sym, take, zero}
-use Rattle.std.proofs.lemmas.Option.{same_Some}
+-- What a run answers, and where it leads: each byte is that of the last store to its place, since the run's account is legal.
+use Rattle.std.proofs.Common.{◌≡◌, ◌∙◌, ℕ, ◌+◌, ◌≤◌, Bool, true, false, List, [], ◌∷◌, ◌++◌, Option, Some, None, ap, if◌then◌else◌, length, refl, slice_get, subst, suc, sym, take, zero, arith, length-append, ◌<◌}
+use Rattle.std.proofs.lemmas.List.{length-take-le}
+use Rattle.std.proofs.lemmas.Option.{same_Some, slice_get_within}
 use Rattle.shm_laws.proofs.Log.Lists.{slice_get-append_right}
 use Rattle.shm_laws.proofs.Run.GoesOn.{run_on-append}
 use Rattle.shm_model.specs.declared.answer.Answer.{Answer}
@@ -14,10 +15,11 @@ use Rattle.shm_model.specs.Site.{Site}
 use Rattle.shm_model.specs.Step.{step}
 use Rattle.shm_model.specs.World as model
 use Rattle.shm_model.specs.Promise.{EachGivesLast, GivesLast, Promised}
-use Rattle.shm_world.specs.Stopped.{StoppedAfter}
+use Rattle.shm_world.specs.Led.{Led, LedAlong, LedPartway}
+use Rattle.shm_world.specs.Steps.{Went}
 use Rattle.shm_world.specs.World.{after, answers, StandsFor}
 use Rattle.shm_world.specs.declared.world.World.{World}
-use Rattle.shm_world.proofs.Runs.{Ran, run-then}
+use Rattle.shm_world.proofs.Runs.{Ran, length-answers, run-then}
 
 -- ---- one load
 
@@ -59,33 +61,67 @@ gives-last o before e answer promised is =
 -- ---- runs that go on by a list of events
 
 -- the answers are those of the events, each from where the ones before it led
-answers-each : (w : model.World) (n : ℕ) (events : List Event) (k : ℕ) (e : Event) (answer : Answer) → slice_get events k ≡ Some e
-    → slice_get (answers w (take n events)) k ≡ Some answer → answer ≡ (model.next (after w (take k events)) e).done.answer
-answers-each w zero events k e answer here told = absurd (cc)
-answers-each w (suc n) [] k e answer here told = absurd (cc)
-answers-each w (suc n) (x ∷ events) zero e answer here told = sym (same_Some _ _ told) ∙ ap (λ y. (model.next w y).done.answer) (same_Some _ _ here)
-answers-each w (suc n) (x ∷ events) (suc k) e answer here told = answers-each (model.next w x).world n events k e answer here told
+answers-each : (w : model.World) (events : List Event) (k : ℕ) (e : Event) (answer : Answer) → slice_get events k ≡ Some e → slice_get (answers w events) k ≡ Some answer
+    → answer ≡ (model.next (after w (take k events)) e).done.answer
+answers-each w [] k e answer here told = absurd (cc)
+answers-each w (x ∷ events) zero e answer here told = sym (same_Some _ _ told) ∙ ap (λ y. (model.next w y).done.answer) (same_Some _ _ here)
+answers-each w (x ∷ events) (suc k) e answer here told = answers-each (model.next w x).world events k e answer here told
 
 module _ (promised : (o : model.Opening) (events : List Event) → model.IsOpening o → Promised o events) where
-  -- so each byte that a run has given by then is that of the last store
-  pub each-gives-last : {A : Type 0} (new : World A) (told out : List Answer) (o : model.Opening) (before events : List Event) (n : ℕ) → model.IsOpening o
-      → Ran new told out (model.run o before).world (take n events) → EachGivesLast o before events (length told) out
-  each-gives-last new told out o before events n opening ran = λ k e answer here joined.
-      let w = (model.run o before).world in
-      let joins : slice_get (answers w (take n events)) k ≡ Some answer =
-      sym (slice_get-append_right told (answers w (take n events)) (length told + k) k refl) ∙ ap (λ xs. slice_get xs (length told + k)) (sym ran.answered) ∙ joined in
-      gives-last o (before ++ take k events) e answer (promised o ((before ++ take k events) ++ e ∷ []) opening)
-      (answers-each w n events k e answer here joins ∙ ap (λ v. (model.next v e).done.answer) (sym (run-then o before (take k events))))
+  -- an event leads a world that stood after these events on along their run
+  pub led : {A : Type 0} (new : World A) (o : model.Opening) (before : List Event) (e : Event) (answer : Answer) → Went new (model.next (model.run o before).world e) answer
+      → Led o before e new answer
+  led {A} new o before e answer went = record {
+    stands = subst (λ (w : model.World). StandsFor {A = A} new w) (sym (run-then o before (e ∷ []))) went.stands;
+    answered = went.answered;
+    promised = promised o (before ++ e ∷ []);
+    last = λ opening. gives-last o before e answer (promised o (before ++ e ∷ []) opening) went.answered;
+  }
 
-  -- where a run is stopped it stands after the events that it has answered
-  pub stopped-after : {A X E : Type 0} (result : Result X E) (old new : World A) (told out : List Answer) (o : model.Opening) (before events : List Event) (i : ℕ)
-      → i ≤ length events → model.IsOpening o → Ran old told out (model.run o before).world (take i events) → StandsFor new (after (model.run o before).world (take i events))
-      → OnErr result (StoppedAfter new told out o before events)
-  stopped-after (Ok x) old new told out o before events i within opening ran stands = tt
-  stopped-after {A} (Err e) old new told out o before events i within opening ran stands = record {
+  -- each byte that has joined is that of the last store
+  each-gives-last : (told out : List Answer) (o : model.Opening) (before events : List Event) → model.IsOpening o → out ≡ told ++ answers (model.run o before).world events
+      → EachGivesLast o before events (length told) out
+  each-gives-last told out o before events opening answered = λ k e answer here joined.
+      let w = (model.run o before).world in
+      let joins : slice_get (answers w events) k ≡ Some answer =
+      sym (slice_get-append_right told (answers w events) (length told + k) k refl) ∙ ap (λ xs. slice_get xs (length told + k)) (sym answered) ∙ joined in
+      gives-last o (before ++ take k events) e answer (promised o ((before ++ take k events) ++ e ∷ []) opening)
+      (answers-each w events k e answer here joins ∙ ap (λ v. (model.next v e).done.answer) (sym (run-then o before (take k events))))
+
+  -- so does a list of events
+  pub led-along : {A : Type 0} (new : World A) (told out : List Answer) (o : model.Opening) (before events : List Event) → Ran new told out (model.run o before).world events
+      → LedAlong o before events new told out
+  led-along {A} new told out o before events ran = record {
+    stands = subst (λ (w : model.World). StandsFor {A = A} new w) (sym (run-then o before events)) ran.stands;
+    answered = ran.answered;
+    promised = promised o (before ++ events);
+    last = λ opening. each-gives-last told out o before events opening ran.answered;
+  }
+
+  -- and where it is stopped, those of its events that were answered
+  pub led-partway : {A : Type 0} (old new : World A) (told out : List Answer) (o : model.Opening) (before events : List Event) (i : ℕ) → i ≤ length events
+      → Ran old told out (model.run o before).world (take i events) → StandsFor new (after (model.run o before).world (take i events)) → LedPartway o before events new told out
+  led-partway old new told out o before events i within ran stands = record {
     count = i;
     within = within;
-    stands = subst (λ (v : model.World). StandsFor {A = A} new v) (sym (run-then o before (take i events))) stands;
-    answered = ran.answered;
-    kept = promised o (before ++ take i events) opening;
+    led = led-along new told out o before (take i events) (record { stands = stands; answered = ran.answered });
   }
+
+-- what stands at a place among the first so many
+get-front : (events : List Event) (n k : ℕ) (e : Event) → k < n → slice_get events k ≡ Some e → (slice_get (take n events) k ≡ Some e) × (take k (take n events) ≡ take k events)
+get-front [] n k e low here = absurd (cc)
+get-front (x ∷ events) zero k e low here = absurd (omega arith)
+get-front (x ∷ events) (suc n) zero e low here = (here, refl)
+get-front (x ∷ events) (suc n) (suc k) e low here = let rest = get-front events n k e (omega arith) here in (rest.0, ap (λ es. x ∷ es) rest.1)
+
+-- where a run was stopped too, each byte that joined is that of the last store: the events that weren't made have no answer
+pub partway-gives-last : {A : Type 0} (new : World A) (told out : List Answer) (o : model.Opening) (before events : List Event) → LedPartway o before events new told out → model.IsOpening o
+    → EachGivesLast o before events (length told) out
+partway-gives-last new told out o before events partway opening = λ k e answer here joined.
+    let w = (model.run o before).world in
+    let within = slice_get_within out (length told + k) answer joined in
+    let count = ap length partway.led.answered ∙ length-append told (answers w (take partway.count events)) in
+    let each = length-answers w (take partway.count events) in
+    let most = length-take-le partway.count events partway.within in
+    let front = get-front events partway.count k e (omega (arith, within, count, each, most)) here in
+    subst (λ es. GivesLast o (before ++ es) e answer) front.1 (partway.led.last opening k e answer front.0 joined)

@@ -53,7 +53,7 @@ pub ran-some : {A X E : Type 0} (result : Result X E) (old new : World A) (told 
 ran-some (Ok x) old new told out w events i within ran stands = tt
 ran-some (Err e) old new told out w events i within ran stands = record { count = i; within = within; stands = stands; answered = ran.answered }
 
-length-answers : (w : model.World) (events : List Event) → length (answers w events) ≡ length events
+pub length-answers : (w : model.World) (events : List Event) → length (answers w events) ≡ length events
 length-answers w [] = refl
 length-answers w (e ∷ events) = ap suc (length-answers (model.next w e).world events)
 

@@ -1,8 +1,8 @@
 pub mod ByNumber
+pub mod Led
 pub mod Members
 pub mod Network
 pub mod Posting
-pub mod Stopped
 pub mod Seats
 pub mod Showing
 pub mod Steps

@@ -1,11 +1,10 @@
 //! What is proved of every run: each law is the contract of a function without parameters, which does nothing.
-ghost use Rattle.std.specs.Prelude.{◌≡◌, List, ◌++◌};
+ghost use Rattle.std.specs.Prelude.{List};
 ghost use Rattle.shm_model.specs.declared.event.Event.{Event};
-ghost use Rattle.shm_model.specs.History.{Counted, ExecutedOnce, HomesKeepTheirPart, PurgedDead};
 ghost use Rattle.shm_model.specs.Inputs.{OwnInputs};
 ghost use Rattle.shm_model.specs.Memory.{Coherent, Legal};
 ghost use Rattle.shm_model.specs.Transactions.{BytesAreLast, InvalidatedFirst, NumbersTell, ReadersAreKnown};
-ghost use Rattle.shm_model.specs.World.{IsOpening, Opening, run, run_on};
+ghost use Rattle.shm_model.specs.World.{IsOpening, Opening, run};
 ghost use Rattle.shm_model.specs.Promise.{Promised};
 
 /// Each load gives the last store to its place, or 0; and no page is writable at one site while readable at another (Li and Hudak 1989, §2).
@@ -14,34 +13,6 @@ pub fn every_run_is_legal_and_coherent()
     ensures coherent { (o : Opening) (events : List Event) → IsOpening o → Coherent (run o events).world }
 {
     shm_laws::every_run_is_legal_and_coherent();
-}
-
-/// Each segment call is executed once.
-pub fn each_call_is_executed_once()
-    ensures { (o : Opening) (events : List Event) → IsOpening o → ExecutedOnce o (run o events) }
-{
-    shm_laws::each_call_is_executed_once();
-}
-
-/// Attachments are counted, and none names a destroyed segment.
-pub fn attachments_are_counted()
-    ensures { (o : Opening) (events : List Event) → IsOpening o → Counted o (run o events) }
-{
-    shm_laws::attachments_are_counted();
-}
-
-/// Nothing alive is purged.
-pub fn nothing_alive_is_purged()
-    ensures { (o : Opening) (events : List Event) → IsOpening o → PurgedDead o (run o events) }
-{
-    shm_laws::nothing_alive_is_purged();
-}
-
-/// Homes keep their part of the one kernel's list of segments.
-pub fn homes_keep_their_part()
-    ensures { (o : Opening) (events : List Event) → IsOpening o → HomesKeepTheirPart o (run o events) }
-{
-    shm_laws::homes_keep_their_part();
 }
 
 /// What is above its receiver's number belongs to the transaction that runs at the page's manager.
@@ -77,13 +48,6 @@ pub fn sites_run_on_their_own_inputs()
     ensures { (o : Opening) (events : List Event) → OwnInputs o (run o events) }
 {
     shm_laws::sites_run_on_their_own_inputs();
-}
-
-/// A run goes on from where an earlier one leaves it.
-pub fn runs_go_on()
-    ensures { (o : Opening) (earlier later : List Event) → run o (earlier ++ later) ≡ run_on (run o earlier) later }
-{
-    shm_laws::runs_go_on();
 }
 
 /// What is promised of every run: it is legal and coherent, each call was executed once, attachments are counted, and nothing alive was

@@ -1,10 +1,9 @@
 //! One event of the world, and a list of them: what they answer, what the world is afterwards, and what is promised of it.
-ghost use Rattle.std.specs.Prelude.{◌≡◌, ◌+◌, ◌≤◌, [], ◌∷◌, ◌++◌, List, length, true, IfOk, OnErr, OnOk};
+ghost use Rattle.std.specs.Prelude.{◌≡◌, ◌+◌, ◌≤◌, ◌++◌, List, length, true, IfOk, MatchResult, OnErr, OnOk};
 ghost use Rattle.std.specs.Vec.{vec_capacity, vec_len};
 ghost use Rattle.shm_model.specs.World as model;
 ghost use Rattle.shm_model.specs.declared.event.Event.{Event};
-ghost use Rattle.shm_model.specs.Promise.{EachGivesLast, GivesLast, Promised};
-ghost use Rattle.shm_world.specs.Stopped.{StoppedAfter};
+ghost use Rattle.shm_world.specs.Led.{Led, LedAlong, LedPartway};
 ghost use Rattle.shm_world.specs.Steps.{Went};
 ghost use Rattle.shm_world.specs.World.{after, answers, may_grow, AnsweredSome, StandsFor, StopsAtGrowth};
 
@@ -18,19 +17,16 @@ impl<A: Allocator + Copy> World<A> {
     /// One event. Where memory is refused nothing changes. A load or store that has the right takes no memory, nor does a restart or a loss.
     /// Every other refusal comes before that for memory: what would be refused anyway is never refused for it.
     ///
-    /// The headline: for every list of events that leads from an opening to the world as it was, what is promised holds of that list
-    /// followed by this event, and a byte that this event gives was stored last to its place by the list.
+    /// The headline: for every list of events that leads from an opening to the world as it was, the world as it is now and the answer are
+    /// those of the run of that list followed by this event. What is promised holds of that run, and a byte that is answered was stored
+    /// last to its place by the list.
     #[inline(always)]
     pub fn step(&mut self, event: Event) -> Result<Answer, AllocError>
         ensures next { (w : model.World) → StandsFor self.old w → IfOk result (λ answer. Went self.new (model.next w event) answer) }
         ensures refused { (w : model.World) → StandsFor self.old w → OnErr result (StandsFor self.new w) }
         ensures memory { (w : model.World) → StandsFor self.old w → OnErr result (may_grow event (model.next w event).done.answer ≡ true) }
-        ensures led { (o : model.Opening) (before : List Event) → StandsFor self.old (model.run o before).world
-            → OnOk result (StandsFor self.new (model.run o (before ++ event ∷ [])).world) }
-        ensures headline { (o : model.Opening) (before : List Event) → model.IsOpening o → StandsFor self.old (model.run o before).world
-            → Promised o (before ++ event ∷ []) }
-        ensures last { (o : model.Opening) (before : List Event) → model.IsOpening o → StandsFor self.old (model.run o before).world
-            → IfOk result (λ answer. GivesLast o before event answer) }
+        ensures headline { (o : model.Opening) (before : List Event) → StandsFor self.old (model.run o before).world
+            → IfOk result (λ answer. Led o before event self.new answer) }
     {
         laws::every_run_keeps_the_promise();
         self.apply(&event)
@@ -39,22 +35,19 @@ impl<A: Allocator + Copy> World<A> {
     /// A list of events: their answers join the others. Where memory is refused at an event, the world stands after the events before
     /// it, and the answers that joined are theirs.
     ///
-    /// The headline: for every list of events that leads from an opening to the world as it was, what is promised holds of that list
-    /// followed by the events that were answered, and each byte that joined was stored last to its place by the events before its own.
+    /// The headline: for every list of events that leads from an opening to the world as it was, the world as it is now and the answers
+    /// that joined are those of the run of that list followed by the events that were made: all of them, or where memory was refused the
+    /// first so many. What is promised holds of that run, and each byte that joined was stored last to its place by the events before its
+    /// own.
     pub fn run(&mut self, events: &[Event], out: &mut Vec<Answer, A>) -> Result<(), AllocError>
         ensures whole { (w : model.World) → StandsFor self.old w
             → OnOk result (StandsFor self.new (after w events.now) × (out.new.items ≡ out.old.items ++ answers w events.now)) }
         ensures part { (w : model.World) → StandsFor self.old w → OnErr result (AnsweredSome self.new out.old.items out.new.items w events.now) }
         ensures memory { (w : model.World) → StandsFor self.old w → vec_len out.old + length events.now ≤ vec_capacity out.old
             → OnErr result (StopsAtGrowth out.old.items out.new.items w events.now) }
-        ensures led { (o : model.Opening) (before : List Event) → StandsFor self.old (model.run o before).world
-            → OnOk result (StandsFor self.new (model.run o (before ++ events.now)).world) }
-        ensures headline { (o : model.Opening) (before : List Event) → model.IsOpening o → StandsFor self.old (model.run o before).world
-            → Promised o (before ++ events.now) }
-        ensures last { (o : model.Opening) (before : List Event) → model.IsOpening o → StandsFor self.old (model.run o before).world
-            → EachGivesLast o before events.now (length out.old.items) out.new.items }
-        ensures stopped { (o : model.Opening) (before : List Event) → model.IsOpening o → StandsFor self.old (model.run o before).world
-            → OnErr result (StoppedAfter self.new out.old.items out.new.items o before events.now) }
+        ensures headline { (o : model.Opening) (before : List Event) → StandsFor self.old (model.run o before).world
+            → MatchResult result (λ _. LedAlong o before events.now self.new out.old.items out.new.items)
+            (λ _. LedPartway o before events.now self.new out.old.items out.new.items) }
     {
         laws::every_run_keeps_the_promise();
         out.reserve(events.len())?;

@@ -1,7 +1,7 @@
-ghost use Rattle.std.specs.Prelude.{◌≡◌, [], ◌∷◌, ◌++◌, List, IfOk, OnOk};
+ghost use Rattle.std.specs.Prelude.{◌≡◌, List, IfOk};
 ghost use Rattle.shm_model.specs.World as model;
 ghost use Rattle.shm_model.specs.declared.event.Event.{Event};
-ghost use Rattle.shm_model.specs.Promise.{GivesLast};
+ghost use Rattle.shm_world.specs.Led.{Led};
 ghost use Rattle.shm_world.specs.World.{StandsFor};
 
 use anyhow::Result;
@@ -32,13 +32,11 @@ impl Story {
 
     /// Makes one event of the world, and prints a line: what it is in words, its number, the answer, and the envelopes that were sent.
     ///
-    /// Where a list of events led to the world as it was, that list followed by this event leads to the world as it is now; and a byte
-    /// that is answered was stored last to its place by that list.
+    /// Where a list of events led to the world as it was, the world as it is now and the answer are those of that list followed by this
+    /// event, of which the promise holds; and a byte that is answered was stored last to its place by that list.
     pub fn tell<W: Write>(&mut self, out: &mut W, said: &str, event: Event) -> Result<Answer>
-        ensures led { (o : model.Opening) (before : List Event) → StandsFor self.old.world (model.run o before).world
-            → OnOk result (StandsFor self.new.world (model.run o (before ++ event ∷ [])).world) }
-        ensures last { (o : model.Opening) (before : List Event) → model.IsOpening o → StandsFor self.old.world (model.run o before).world
-            → IfOk result (λ answer. GivesLast o before event answer) }
+        ensures headline { (o : model.Opening) (before : List Event) → StandsFor self.old.world (model.run o before).world
+            → IfOk result (λ answer. Led o before event self.new.world answer) }
     {
         // What is sent from now on has this number, or a later one.
         let first = self.world.sent();

@@ -1,9 +1,9 @@
-use Rattle.std.proofs.Common.{◌++◌, arith, subst, sym}
+use Rattle.std.proofs.Common.{arith}
+use Rattle.std.proofs.lemmas.Result.{MatchResult-from_err}
 use Rattle.shm_model.specs.World as model
 use Rattle.shm_site.proofs.Steps.{on_err}
-use Rattle.shm_world.specs.World.{StandsFor}
-use Rattle.shm_world.proofs.Loads.{each-gives-last, stopped-after}
-use Rattle.shm_world.proofs.Runs.{ran-all, ran-more, ran-none, ran-some, run-then, stops-here}
+use Rattle.shm_world.proofs.Loads.{led-along, led-partway}
+use Rattle.shm_world.proofs.Runs.{ran-all, ran-more, ran-none, ran-some, stops-here}
 use Rattle.shm_world.proofs.world.World.run.Goals as goal
 
 pub events-init : goal.events-init
@@ -25,16 +25,12 @@ returns-in_err-answer-clause-memory g c = λ w stands room.
     (stops-here c.events.self c.args.out.now.items c.events.out.items w c.args.events.now c.events.event-index c.event-item.result c.events-test.true c.event-item.is ran
     (c.in_err-answer.ensures.memory _ ran.stands))
 
-pub returns-in_err-answer-clause-last : goal.returns-in_err-answer-clause-last
-returns-in_err-answer-clause-last g c = λ o before opening stands.
-    each-gives-last c.every_run_keeps_the_promise.ensures c.events.self c.args.out.now.items c.events.out.items o before c.args.events.now c.events.event-index opening
-    (c.events.invariant.ran (model.run o before).world stands)
-
-pub returns-in_err-answer-clause-stopped : goal.returns-in_err-answer-clause-stopped
-returns-in_err-answer-clause-stopped g c = λ o before opening stands.
+pub returns-in_err-answer-clause-headline : goal.returns-in_err-answer-clause-headline
+returns-in_err-answer-clause-headline g c = λ o before stands.
     let ran = c.events.invariant.ran (model.run o before).world stands in
-    stopped-after c.every_run_keeps_the_promise.ensures c.from_residual-in_err-answer.result c.events.self c.apply.new.self c.args.out.now.items c.events.out.items o before
-    c.args.events.now c.events.event-index c.events.auto.event-index-end opening ran (c.in_err-answer.ensures.refused _ ran.stands)
+    MatchResult-from_err c.from_residual-in_err-answer.result _ _ c.from_residual-in_err-answer.ensures.0
+    (λ e. led-partway c.every_run_keeps_the_promise.ensures c.events.self c.apply.new.self c.args.out.now.items c.events.out.items o before c.args.events.now c.events.event-index
+    c.events.auto.event-index-end ran (c.in_err-answer.ensures.refused _ ran.stands))
 
 pub push_reserved-requires : goal.push_reserved-requires
 push_reserved-requires g c = omega (arith, c.events.invariant.room, c.events-test.true)
@@ -53,15 +49,7 @@ returns-clause-whole g c = λ w stands.
     let all = ran-all _ _ _ w c.args.events.now c.events.event-index c.events-test.false (c.events.invariant.ran w stands) in
     (all.stands, all.answered)
 
-pub returns-clause-led : goal.returns-clause-led
-returns-clause-led g c = λ o before stands.
-    let all = ran-all _ _ _ (model.run o before).world c.args.events.now c.events.event-index c.events-test.false (c.events.invariant.ran (model.run o before).world stands) in
-    subst (λ (w : model.World). StandsFor {A = g.row.A.Denot} c.events.self w) (sym (run-then o before c.args.events.now)) all.stands
-
 pub returns-clause-headline : goal.returns-clause-headline
-returns-clause-headline g c = λ o before opening stands. c.every_run_keeps_the_promise.ensures o (before ++ c.args.events.now) opening
-
-pub returns-clause-last : goal.returns-clause-last
-returns-clause-last g c = λ o before opening stands.
-    each-gives-last c.every_run_keeps_the_promise.ensures c.events.self c.args.out.now.items c.events.out.items o before c.args.events.now c.events.event-index opening
-    (c.events.invariant.ran (model.run o before).world stands)
+returns-clause-headline g c = λ o before stands.
+    led-along c.every_run_keeps_the_promise.ensures c.events.self c.args.out.now.items c.events.out.items o before c.args.events.now
+    (ran-all _ _ _ (model.run o before).world c.args.events.now c.events.event-index c.events-test.false (c.events.invariant.ran (model.run o before).world stands))
