@@ -11,3 +11,5 @@ pub mod Mapping
 pub mod GiveUp
 pub mod Processors
 pub mod Hold
+pub mod Dies
+pub mod Dead

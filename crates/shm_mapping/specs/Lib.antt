@@ -1,3 +1,4 @@
 pub mod Mapped
 pub mod Hosts
 pub mod Programs
+pub mod Deaths
