@@ -10,7 +10,7 @@ use Rattle.shm_model.specs.Basics.{at}
 use Rattle.shm_model.specs.Site.{Site}
 use Rattle.shm_model.specs.World.{Done, IsOpening, Opening, next}
 use Rattle.shm_mapping.specs.Mapped.{Mapped, mapped_at, with_memory}
-use Rattle.shm_mapping.specs.Hosts.{GiveUp, Happens, HostEvent, Hosts, Loads, Map, Stores, gives_up, hosts_on, is_held, live_site, moved, own_on}
+use Rattle.shm_mapping.specs.Hosts.{GiveUp, Happens, HostEvent, Hosts, ProcessorLoad, Map, ProcessorStore, gives_up, hosts_on, is_held, live_site, moved, own_on}
 use Rattle.shm_mapping.specs.Deaths.{AreTurns, BringNothing, BringsNothing, Dies, IsBrought, IsTurn, Life, LivesAsOne, Moves, OthersSawNothing, Turn, died, first_life, is_access_at, is_elsewhere, left, lived, lived_on, plain_without, turned}
 use Rattle.shm_mapping.proofs.Worlds.{joined-beyond}
 use Rattle.shm_mapping.proofs.Good.{Good, Holds, Went, changed-good}
@@ -43,30 +43,30 @@ module _ (s : ℕ) (o : Opening) (is : IsOpening o) where
     same-false : (t : ℕ) → t ≢ s → (t == s) ≡ false
     same-false t e = grind (arith, nat_tests)
 
-    load-kept : (t at_a offset : ℕ) → (t ≡ s) ⊎ (t ≢ s) → Kept (Loads t at_a offset)
+    load-kept : (t at_a offset : ℕ) → (t ≡ s) ⊎ (t ≢ s) → Kept (ProcessorLoad t at_a offset)
     load-kept t at_a offset (inl here) =
-        subst (λ i. Kept (Loads i at_a offset)) (sym here)
-        (subst (λ c. Stepped s o is h (moved h (Loads s at_a offset)).hosts (ps ++ (if c then [] else (moved h (Loads s at_a offset)).plain)) (os ++ (moved h (Loads s at_a offset)).own)) (sym (same-true s refl))
+        subst (λ i. Kept (ProcessorLoad i at_a offset)) (sym here)
+        (subst (λ c. Stepped s o is h (moved h (ProcessorLoad s at_a offset)).hosts (ps ++ (if c then [] else (moved h (ProcessorLoad s at_a offset)).plain)) (os ++ (moved h (ProcessorLoad s at_a offset)).own)) (sym (same-true s refl))
         (left-loads-site s o is h a ps os good away at_a offset (live_site h.world s)))
     load-kept t at_a offset (inr there) =
-        subst (λ c. Stepped s o is h (moved h (Loads t at_a offset)).hosts (ps ++ (if c then [] else (moved h (Loads t at_a offset)).plain)) (os ++ (moved h (Loads t at_a offset)).own)) (sym (same-false t there))
-        (loads-site s o is h a ps os good away t there at_a offset (live_site h.world t) (moved-went o is (bare s h a) ps os good (Loads t at_a offset)))
+        subst (λ c. Stepped s o is h (moved h (ProcessorLoad t at_a offset)).hosts (ps ++ (if c then [] else (moved h (ProcessorLoad t at_a offset)).plain)) (os ++ (moved h (ProcessorLoad t at_a offset)).own)) (sym (same-false t there))
+        (loads-site s o is h a ps os good away t there at_a offset (live_site h.world t) (moved-went o is (bare s h a) ps os good (ProcessorLoad t at_a offset)))
 
-    store-kept : (t at_a offset byte : ℕ) → (t ≡ s) ⊎ (t ≢ s) → Kept (Stores t at_a offset byte)
+    store-kept : (t at_a offset byte : ℕ) → (t ≡ s) ⊎ (t ≢ s) → Kept (ProcessorStore t at_a offset byte)
     store-kept t at_a offset byte (inl here) =
-        subst (λ i. Kept (Stores i at_a offset byte)) (sym here)
-        (subst (λ c. Stepped s o is h (moved h (Stores s at_a offset byte)).hosts (ps ++ (if c then [] else (moved h (Stores s at_a offset byte)).plain)) (os ++ (moved h (Stores s at_a offset byte)).own)) (sym (same-true s refl))
+        subst (λ i. Kept (ProcessorStore i at_a offset byte)) (sym here)
+        (subst (λ c. Stepped s o is h (moved h (ProcessorStore s at_a offset byte)).hosts (ps ++ (if c then [] else (moved h (ProcessorStore s at_a offset byte)).plain)) (os ++ (moved h (ProcessorStore s at_a offset byte)).own)) (sym (same-true s refl))
         (left-stores-site s o is h a ps os good away at_a offset byte (live_site h.world s)))
     store-kept t at_a offset byte (inr there) =
-        subst (λ c. Stepped s o is h (moved h (Stores t at_a offset byte)).hosts (ps ++ (if c then [] else (moved h (Stores t at_a offset byte)).plain)) (os ++ (moved h (Stores t at_a offset byte)).own)) (sym (same-false t there))
-        (stores-site s o is h a ps os good away t there at_a offset byte (live_site h.world t) (moved-went o is (bare s h a) ps os good (Stores t at_a offset byte)))
+        subst (λ c. Stepped s o is h (moved h (ProcessorStore t at_a offset byte)).hosts (ps ++ (if c then [] else (moved h (ProcessorStore t at_a offset byte)).plain)) (os ++ (moved h (ProcessorStore t at_a offset byte)).own)) (sym (same-false t there))
+        (stores-site s o is h a ps os good away t there at_a offset byte (live_site h.world t) (moved-went o is (bare s h a) ps os good (ProcessorStore t at_a offset byte)))
 
     event-kept : (e : HostEvent) → BringsNothing s h e → Kept e
     event-kept (Happens event) none = happens-if s o is h a ps os good away event (is_held h (next h.world event)) refl
     event-kept (Map t at_a page kind) none = map-kept t at_a page kind (cases_eq t s)
     event-kept (GiveUp t at_a page left) none = give-kept t at_a page left (cases_eq t s) none
-    event-kept (Loads t at_a offset) none = load-kept t at_a offset (cases_eq t s)
-    event-kept (Stores t at_a offset byte) none = store-kept t at_a offset byte (cases_eq t s)
+    event-kept (ProcessorLoad t at_a offset) none = load-kept t at_a offset (cases_eq t s)
+    event-kept (ProcessorStore t at_a offset byte) none = store-kept t at_a offset byte (cases_eq t s)
 
   events-kept : (later : List HostEvent) (h : Hosts) (a : List Done) (ps os : List Event) → Good o (bare s h a) ps os → filter (is_elsewhere s) a ≡ filter (is_elsewhere s) h.account → BringNothing s h later
       → Stepped s o is h (hosts_on h later) (ps ++ plain_without s h later) (os ++ own_on h later)

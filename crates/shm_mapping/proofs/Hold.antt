@@ -12,7 +12,7 @@ use Rattle.shm_model.specs.World.{IsOpening, Opening, World, run}
 use Rattle.shm_laws.proofs.Headline.{runs-coherent, runs-legal}
 use Rattle.shm_laws.proofs.Page.Entry.{false-true}
 use Rattle.shm_mapping.specs.Mapped.{Mapped, allows, joined, mapped_at}
-use Rattle.shm_mapping.specs.Hosts.{GiveUp, Happens, HostEvent, Hosts, Loads, Map, Stores, gives_up, hosts_on, live_site, loads, maps, moved, opened_hosts, own_on, plain_on, stores}
+use Rattle.shm_mapping.specs.Hosts.{GiveUp, Happens, HostEvent, Hosts, ProcessorLoad, Map, ProcessorStore, gives_up, hosts_on, live_site, loads, maps, moved, opened_hosts, own_on, plain_on, stores}
 use Rattle.shm_mapping.specs.Programs.{AllMappedHold, RunsAsOne, SitesRun, hosts, joined_sites, joined_world, own, plain}
 use Rattle.shm_mapping.proofs.Joined.{readable-memory, writable-memory}
 use Rattle.shm_mapping.proofs.Worlds.{joined-get, joined_found}
@@ -61,8 +61,8 @@ module _ (o : Opening) (is : IsOpening o) where
     moved-went (Happens event) = happens-went o is h ps os good event
     moved-went (Map s a page kind) = map-site s a page kind (live_site h.world s) refl
     moved-went (GiveUp s a page left) = give-site s a page left (live_site h.world s) refl
-    moved-went (Loads s a offset) = load-site s a offset (live_site h.world s) refl
-    moved-went (Stores s a offset byte) = store-site s a offset byte (live_site h.world s) refl
+    moved-went (ProcessorLoad s a offset) = load-site s a offset (live_site h.world s) refl
+    moved-went (ProcessorStore s a offset byte) = store-site s a offset byte (live_site h.world s) refl
 
   pub good-on : (h : Hosts) (ps os : List Event) → Good o h ps os → (events : List HostEvent) → Good o (hosts_on h events) (ps ++ plain_on h events) (os ++ own_on h events)
   good-on h ps os good [] = subst (λ p. Good o h p (os ++ [])) (sym (append-nil ps)) (subst (λ p. Good o h ps p) (sym (append-nil os)) good)

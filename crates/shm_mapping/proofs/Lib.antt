@@ -13,3 +13,4 @@ pub mod Processors
 pub mod Hold
 pub mod Dies
 pub mod Dead
+pub mod Played

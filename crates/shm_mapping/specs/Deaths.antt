@@ -8,7 +8,7 @@ use Rattle.shm_model.specs.Entry.{bytes}
 use Rattle.shm_model.specs.Site.{Site}
 use Rattle.shm_model.specs.World.{Done, Opening, run}
 use Rattle.shm_mapping.specs.Mapped.{Mapped, mapped_at}
-use Rattle.shm_mapping.specs.Hosts.{GiveUp, HostEvent, Hosts, Loads, Stores, hosts_on, is_written, moved, opened_hosts}
+use Rattle.shm_mapping.specs.Hosts.{GiveUp, HostEvent, Hosts, ProcessorLoad, ProcessorStore, hosts_on, is_written, moved, opened_hosts}
 use Rattle.shm_mapping.specs.Programs.{joined_world}
 
 -- all that host s maps has the bytes that its site has: so it is once everything was brought
@@ -26,8 +26,8 @@ BringNothing s h [] = Unit {0}
 BringNothing s h (e ∷ es) = BringsNothing s h e × BringNothing s (moved h e).hosts es
 
 abbrev pub is_access_at : ℕ → HostEvent → Bool
-is_access_at s (Loads t _ _) = t == s
-is_access_at s (Stores t _ _ _) = t == s
+is_access_at s (ProcessorLoad t _ _) = t == s
+is_access_at s (ProcessorStore t _ _ _) = t == s
 is_access_at s _ = false
 
 -- the events of the world without mappings, but for the accesses of the processors of host s

@@ -2,3 +2,4 @@ pub mod Mapped
 pub mod Hosts
 pub mod Programs
 pub mod Deaths
+pub mod Example
