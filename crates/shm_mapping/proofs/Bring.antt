@@ -1,6 +1,5 @@
 -- What is given up is stored by the site, byte by byte: its entry has the machine's bytes then, and nothing was sent.
-use Rattle.std.proofs.Common.{◌≡◌, ℕ, zero, suc, ◌+◌, ◌*◌, ◌/◌, ◌<◌, Bool, true, false, not, ◌==◌, List, [], ◌∷◌, Option, Some, None, Ok, Err, length, map, filter, refl, sym, ap, ◌∙◌, arith, nat_lt, if◌then◌else◌, slice_get, slice_set, slice_index}
-use Rattle.std.specs.List.{range_with_len}
+use Rattle.std.proofs.Common.{◌≡◌, ℕ, zero, suc, ◌+◌, ◌*◌, ◌/◌, ◌<◌, Bool, true, false, List, [], ◌∷◌, Option, Some, None, Ok, Err, length, map, refl, sym, ap, ◌∙◌, arith, nat_lt, if◌then◌else◌, slice_get, slice_set, slice_index}
 use Rattle.std.proofs.Math.Path.{fun_ext}
 use Rattle.std.proofs.lemmas.Bool.{cond-true}
 use Rattle.std.proofs.lemmas.Bool.Decides.{nat_tests}
@@ -26,7 +25,7 @@ use Rattle.shm_laws.proofs.Page.Orders.{Each}
 use Rattle.shm_laws.proofs.Move.Transfer.{at-page-here}
 use Rattle.shm_laws.proofs.Run.GoesOn.{slice_get-set_same}
 use Rattle.shm_mapping.specs.Hosts.{after_events, changed, has_page, is_place_in, store_back, stores_back}
-use Rattle.shm_mapping.proofs.Back.{put-changed, put_all}
+use Rattle.shm_mapping.proofs.Back.{changed-below, put-changed, put_all}
 use Rattle.shm_mapping.proofs.Worlds.{set-same}
 
 index-is : (offset index k : ℕ) → offset ≡ index * page_bytes + k → k < page_bytes → index_of offset ≡ index
@@ -86,18 +85,6 @@ at-same-if f page q false e = refl
 at-same-page : (f : PageId → Entry) (page : PageId) → at_page f page (f page) ≡ f
 at-same-page f page = fun_ext (λ q. at-same-if f page q (same_page page q) refl)
 
-below-if : (p : ℕ → Bool) (a : ℕ) (is : List ℕ) (here : Bool) → a < page_bytes → Each (λ i. i < page_bytes) is → Each (λ i. i < page_bytes) (if here then a ∷ is else is)
-below-if p a is true l e = (l, e)
-below-if p a is false l e = e
-
-below-range : (p : ℕ → Bool) (a n : ℕ) → a + n ≡ page_bytes → Each (λ i. i < page_bytes) (filter p (range_with_len a n))
-below-range p a zero e = tt
-below-range p a (suc n) e = below-if p a (filter p (range_with_len (a + 1) n)) (p a) (omega arith) (below-range p (a + 1) n (omega arith))
-
-changed-below : (old memory : List ℕ) → Each (λ i. i < page_bytes) (changed old memory)
-unfolding changed
-changed-below old memory = below-range (λ i. not (slice_index old i == slice_index memory i)) 0 page_bytes refl
-
 module _ (w : World) (s a : ℕ) (page : PageId) (x : Site) (n : ℕ) (memory : List ℕ) (found : slice_get w.sites s ≡ Some x) (room : is_full w ≡ false) (has : has_page x a page true ≡ true) where
   -- the site, and its world, with these bytes in its page
   abbrev pub written : List ℕ → Site
@@ -141,4 +128,4 @@ module _ (w : World) (s a : ℕ) (page : PageId) (x : Site) (n : ℕ) (memory : 
   stores-bring b e long same =
       ap (λ v. after_events w (stores_back s a page (bytes v) memory)) e
       ∙ (ap (λ v. after_events v (stores_back s a page b memory)) (begin-written b e)
-      ∙ (stores-next (changed b memory) b (changed-below b memory) ∙ ap written_world (put-changed b memory long same)))
+      ∙ (stores-next (changed b memory) b (changed-below b memory long) ∙ ap written_world (put-changed b memory long same)))

@@ -190,7 +190,7 @@ module _ (o : Opening) (is : IsOpening o) (h : Hosts) (plain own : List Event) (
       subst (λ a. now_of o page a (bytes (y.entries page))) good.account
       (now-of-run o plain is page s y (ap (λ (w : World). slice_get w.sites s) good.as_one ∙ e) r)
 
-  happened : (event : Event) → is_held h (next h.world event) ≡ false
+  pub happened : (event : Event) → is_held h (next h.world event) ≡ false
       → Good o (record h { world = (next h.world event).world; account = (next h.world event).done ∷ h.account }) (plain ++ (event ∷ [])) (own ++ (event ∷ []))
   happened event held =
       let n : Next = next h.world event in

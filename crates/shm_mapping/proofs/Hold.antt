@@ -12,7 +12,7 @@ use Rattle.shm_model.specs.World.{IsOpening, Opening, World, run}
 use Rattle.shm_laws.proofs.Headline.{runs-coherent, runs-legal}
 use Rattle.shm_laws.proofs.Page.Entry.{false-true}
 use Rattle.shm_mapping.specs.Mapped.{Mapped, allows, joined, mapped_at}
-use Rattle.shm_mapping.specs.Hosts.{GiveUp, Happens, HostEvent, Hosts, Loads, Map, Stores, gives_up, hosts_on, live_site, loads, maps, moved, opened_hosts, own_on, plain_on, stores}
+use Rattle.shm_mapping.specs.Hosts.{GiveUp, Happens, HostEvent, Hosts, ProcessorLoad, Map, ProcessorStore, gives_up, hosts_on, live_site, loads, maps, moved, opened_hosts, own_on, plain_on, stores}
 use Rattle.shm_mapping.specs.Programs.{AllMappedHold, RunsAsOne, SitesRun, hosts, joined_sites, joined_world, own, plain}
 use Rattle.shm_mapping.proofs.Joined.{readable-memory, writable-memory}
 use Rattle.shm_mapping.proofs.Worlds.{joined-get, joined_found}
@@ -30,7 +30,7 @@ opened-joined : (sites : List Site) → joined_sites (λ _. []) sites ≡ sites
 opened-joined [] = refl
 opened-joined (x ∷ xs) = ap (λ ys. x ∷ ys) (opened-joined xs)
 
-opened-good : (o : Opening) → Good o (opened_hosts o) [] []
+pub opened-good : (o : Opening) → Good o (opened_hosts o) [] []
 opened-good o = record {
   as_one = ap (λ sites. record (opened_hosts o).world { sites = sites }) (sym (opened-joined (opened_hosts o).world.sites));
   account = refl;
@@ -57,21 +57,21 @@ module _ (o : Opening) (is : IsOpening o) where
     store-site s a offset byte None e = nothing-went o h ps os good
     store-site s a offset byte (Some x) e = let live = live-is h.world s x e in stores-went o is h ps os good s a offset x live.1 live.0 byte
 
-    moved-went : (event : HostEvent) → Went o ps os (moved h event)
+    pub moved-went : (event : HostEvent) → Went o ps os (moved h event)
     moved-went (Happens event) = happens-went o is h ps os good event
     moved-went (Map s a page kind) = map-site s a page kind (live_site h.world s) refl
     moved-went (GiveUp s a page left) = give-site s a page left (live_site h.world s) refl
-    moved-went (Loads s a offset) = load-site s a offset (live_site h.world s) refl
-    moved-went (Stores s a offset byte) = store-site s a offset byte (live_site h.world s) refl
+    moved-went (ProcessorLoad s a offset) = load-site s a offset (live_site h.world s) refl
+    moved-went (ProcessorStore s a offset byte) = store-site s a offset byte (live_site h.world s) refl
 
-  good-on : (h : Hosts) (ps os : List Event) → Good o h ps os → (events : List HostEvent) → Good o (hosts_on h events) (ps ++ plain_on h events) (os ++ own_on h events)
+  pub good-on : (h : Hosts) (ps os : List Event) → Good o h ps os → (events : List HostEvent) → Good o (hosts_on h events) (ps ++ plain_on h events) (os ++ own_on h events)
   good-on h ps os good [] = subst (λ p. Good o h p (os ++ [])) (sym (append-nil ps)) (subst (λ p. Good o h ps p) (sym (append-nil os)) good)
   good-on h ps os good (e ∷ es) =
       let went = good-on (moved h e).hosts (ps ++ (moved h e).plain) (os ++ (moved h e).own) (moved-went h ps os good e) es in
       subst (λ p. Good o (hosts_on (moved h e).hosts es) p (os ++ ((moved h e).own ++ own_on (moved h e).hosts es))) (append_assoc ps (moved h e).plain (plain_on (moved h e).hosts es))
       (subst (λ p. Good o (hosts_on (moved h e).hosts es) ((ps ++ (moved h e).plain) ++ plain_on (moved h e).hosts es) p) (append_assoc os (moved h e).own (own_on (moved h e).hosts es)) went)
 
-  hosts-good : (events : List HostEvent) → Good o (hosts o events) (plain o events) (own o events)
+  pub hosts-good : (events : List HostEvent) → Good o (hosts o events) (plain o events) (own o events)
   hosts-good events = good-on (opened_hosts o) [] [] (opened-good o) events
 
   pub run-as-one : (events : List HostEvent) → RunsAsOne o events

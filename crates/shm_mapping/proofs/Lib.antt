@@ -11,3 +11,6 @@ pub mod Mapping
 pub mod GiveUp
 pub mod Processors
 pub mod Hold
+pub mod Dies
+pub mod Dead
+pub mod Played

@@ -38,7 +38,7 @@ own-bytes (OwnRead n b) = refl
 own-bytes (OwnWrite n b) = refl
 own-bytes (Handed n to b) = refl
 
-kind-bytes : (kind : Kind) (memory : List ℕ) (e : Entry) → memory ≡ bytes e → by_kind kind memory e ≡ e
+pub kind-bytes : (kind : Kind) (memory : List ℕ) (e : Entry) → memory ≡ bytes e → by_kind kind memory e ≡ e
 kind-bytes Read memory e is = refl
 kind-bytes Write memory e is = ap (λ b. with_bytes b e) is ∙ own-bytes e
 

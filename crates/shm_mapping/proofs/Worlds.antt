@@ -77,6 +77,16 @@ joined-changed mapped (x ∷ xs) (suc s) new site e =
     suc-zero : (s : ℕ) → suc s ≡ 0 → ⊥
     suc-zero s e = omega arith
 
+pub joined-beyond : (mapped : ℕ → List Mapped) (sites : List Site) (s : ℕ) (new : List Mapped) → slice_get sites s ≡ None → joined_sites (at mapped s new) sites ≡ joined_sites mapped sites
+joined-beyond mapped [] s new e = refl
+joined-beyond mapped (x ∷ xs) zero new e = absurd (none-some x (sym e))
+joined-beyond mapped (x ∷ xs) (suc s) new e =
+    ap (λ m. joined m x ∷ joined_sites (λ t. at mapped (suc s) new (suc t)) xs) (at-other-place mapped (suc s) 0 new (suc-zero s))
+    ∙ (ap (λ f. joined (mapped 0) x ∷ joined_sites f xs) (fun_ext (λ t. at-later mapped s new t)) ∙ ap (λ ys. joined (mapped 0) x ∷ ys) (joined-beyond (λ t. mapped (suc t)) xs s new e))
+  where
+    suc-zero : (s : ℕ) → suc s ≡ 0 → ⊥
+    suc-zero s e = omega arith
+
 pub set-same : {X : Type 0} (xs : List X) (s : ℕ) (x : X) → slice_get xs s ≡ Some x → slice_set xs s x ≡ xs
 set-same [] s x e = refl
 set-same (y ∷ ys) zero x e = ap (λ z. z ∷ ys) (sym (some-same y x e))

@@ -2,8 +2,7 @@
 -- into read, and its processors load and store at mapped pages. One rule keeps the memory one: an event makes no step while the step
 -- would leave the site with less access to a page than what is mapped. It is held, as if the network were slow, until the page is
 -- unmapped. An access of the site itself is held where the machine's memory has the page's bytes, or wouldn't have the byte stored.
-use Rattle.std.specs.Prelude.{ℕ, Bool, true, false, List, [], ◌∷◌, ◌++◌, Option, None, Some, Result, Ok, Err, ◌+◌, ◌*◌, ◌&&◌, ◌||◌, not, ◌==◌, if◌then◌else◌, is_some, map, filter, slice_get, slice_index, slice_set}
-use Rattle.std.specs.List.{range_with_len}
+use Rattle.std.specs.Prelude.{ℕ, Bool, true, false, List, [], ◌∷◌, ◌++◌, Option, None, Some, Result, Ok, Err, ◌+◌, ◌*◌, ◌&&◌, ◌||◌, not, ◌==◌, if◌then◌else◌, is_some, map, slice_get, slice_index, slice_set}
 use Rattle.shm_place.specs.declared.page.PageId.{PageId}
 use Rattle.shm_place.specs.Limits.{page_bytes}
 use Rattle.shm_place.specs.Page.{same_page}
@@ -34,8 +33,8 @@ pub data HostEvent : Type 0 where
   Happens : Event → HostEvent
   Map : ℕ → ℕ → PageId → Kind → HostEvent
   GiveUp : ℕ → ℕ → PageId → Option Kind → HostEvent
-  Loads : ℕ → ℕ → ℕ → HostEvent
-  Stores : ℕ → ℕ → ℕ → ℕ → HostEvent
+  ProcessorLoad : ℕ → ℕ → ℕ → HostEvent
+  ProcessorStore : ℕ → ℕ → ℕ → ℕ → HostEvent
 
 -- What became of an event: the hosts after it; the events that it is in a world without mappings, where processors' accesses are the
 -- sites'; and the events that it is for the sites alone, which know of what is mapped only when it is brought back.
@@ -109,9 +108,14 @@ maps h s a page kind (Some site) =
     }
     else nothing h
 
--- the bytes of the machine's memory that aren't the entry's, and a store for each
-unfoldable pub changed : List ℕ → List ℕ → List ℕ
-changed old memory = filter (λ i. not (slice_index old i == slice_index memory i)) (range_with_len 0 page_bytes)
+-- the places, from this one on, at which bytes differ
+abbrev pub differing : ℕ → List ℕ → List ℕ → List ℕ
+differing i (x ∷ xs) (y ∷ ys) = if x == y then differing (i + 1) xs ys else i ∷ differing (i + 1) xs ys
+differing i _ _ = []
+
+-- where the machine's memory has other bytes than the entry, and a store for each
+abbrev pub changed : List ℕ → List ℕ → List ℕ
+changed old memory = differing 0 old memory
 
 abbrev pub store_back : ℕ → ℕ → PageId → List ℕ → ℕ → Event
 store_back s a page memory i = StoreEvent s a (page.index * page_bytes + i) (slice_index memory i)
@@ -150,7 +154,7 @@ gives_up h s a page left (Some site) (Some m) =
     else if has_page site a page true then gives_up_write h s page left m (stores_back s a page (bytes (site.entries page)) m.memory)
     else nothing h
 
--- A processor's access at a page that is mapped so; anything else faults. Loads and stores are those that reach the memory, in that order.
+-- A processor's access at a page that is mapped so, in the order in which accesses reach the memory; anything else faults.
 abbrev pub loads_from : Hosts → ℕ → ℕ → ℕ → Place → Option Mapped → Moved
 loads_from h s a offset place None = nothing h
 loads_from h s a offset place (Some m) = record {
@@ -193,8 +197,8 @@ abbrev pub moved : Hosts → HostEvent → Moved
 moved h (Happens event) = happens h event (next h.world event)
 moved h (Map s a page kind) = maps h s a page kind (live_site h.world s)
 moved h (GiveUp s a page left) = gives_up h s a page left (live_site h.world s) (mapped_at page (h.mapped s))
-moved h (Loads s a offset) = loads h s a offset (live_site h.world s)
-moved h (Stores s a offset byte) = stores h s a offset byte (live_site h.world s)
+moved h (ProcessorLoad s a offset) = loads h s a offset (live_site h.world s)
+moved h (ProcessorStore s a offset byte) = stores h s a offset byte (live_site h.world s)
 
 abbrev pub hosts_on : Hosts → List HostEvent → Hosts
 hosts_on h [] = h

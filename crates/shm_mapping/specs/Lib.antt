@@ -1,3 +1,5 @@
 pub mod Mapped
 pub mod Hosts
 pub mod Programs
+pub mod Deaths
+pub mod Example

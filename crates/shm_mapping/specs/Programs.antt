@@ -2,6 +2,9 @@
 -- in which each processor's load and store is a load and store of its site at its place in the list, and what was held, mapped and given
 -- up is left out. It has the same account, so each processor's load gave that run's byte, and the same envelopes; its world is that of the
 -- hosts, with the machines' memory for the bytes of the pages that are mapped to write.
+--
+-- The premise is in the events: a machine's memory is touched only at pages that are mapped so, and giving a mapping up brings what stands
+-- there. An access of several bytes is so many accesses with nothing between, and so is one that reads and writes at once.
 use Rattle.std.specs.Prelude.{◌≡◌, ◌≢◌, ℕ, List, [], ◌∷◌, None, Some, IsTrue, slice_get, suc}
 use Rattle.shm_place.specs.declared.page.PageId.{PageId}
 use Rattle.shm_model.specs.declared.event.Event.{Event}

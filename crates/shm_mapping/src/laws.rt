@@ -1,5 +1,7 @@
 //! Hosts whose processors load and store at mapped pages are one world without mappings.
-ghost use Rattle.std.specs.Prelude.{List};
+ghost use Rattle.std.specs.Prelude.{ℕ, List};
+ghost use Rattle.shm_mapping.specs.Deaths.{AreTurns, Dies, IsTurn, LivesAsOne, OthersSawNothing, Turn, first_life, lived};
+ghost use Rattle.shm_mapping.specs.Example.{PlaysSo, held_clear, held_clear_answers, held_clear_own, held_clear_plain, held_hand, held_hand_answers, held_hand_own, held_hand_plain};
 ghost use Rattle.shm_mapping.specs.Hosts.{HostEvent};
 ghost use Rattle.shm_mapping.specs.Programs.{AllMappedHold, RunsAsOne, SitesRun, hosts, joined_world};
 ghost use Rattle.shm_model.specs.Memory.{Coherent, Legal};
@@ -26,4 +28,19 @@ pub fn sites_run_beside_what_is_mapped()
 /// A site has the right to each page that its machine maps, and a page that is mapped to write is mapped by one host.
 pub fn what_is_mapped_is_kept()
     ensures { (o : Opening) (events : List HostEvent) → IsOpening o → AllMappedHold (hosts o events) }
+{}
+
+/// A machine that dies loses an end of what it did, never a middle. Where it brought all that its processors changed before anything was
+/// given up, the hosts go on, through any number of deaths, as the one world in which its processors' accesses since then were never
+/// made; and what other hosts were answered is what they are answered there.
+pub fn a_dead_machine_loses_an_end()
+    ensures one_world { (o : Opening) (turns : List Turn) → IsOpening o → AreTurns o (first_life o) turns → LivesAsOne o (lived o turns) }
+    ensures unseen { (o : Opening) (turns : List Turn) (s : ℕ) (later : List HostEvent) → IsOpening o → AreTurns o (first_life o) turns
+        → IsTurn (lived o turns) (Dies s later) → OthersSawNothing o (lived o turns) s later }
+{}
+
+/// Two worked examples of all definitions together: a Hand is held while a page is mapped to write, a Clear while it is mapped to read.
+pub fn what_is_held_is_late()
+    ensures hand { PlaysSo held_hand held_hand_answers held_hand_plain held_hand_own }
+    ensures clear { PlaysSo held_clear held_clear_answers held_clear_plain held_clear_own }
 {}
