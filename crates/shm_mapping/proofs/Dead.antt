@@ -7,8 +7,10 @@ use Rattle.shm_place.specs.declared.page.PageId.{PageId}
 use Rattle.shm_model.specs.declared.event.Event.{Event}
 use Rattle.shm_model.specs.declared.kind.Kind.{Kind}
 use Rattle.shm_model.specs.Basics.{at}
+use Rattle.shm_model.specs.Memory.{Legal}
 use Rattle.shm_model.specs.Site.{Site}
 use Rattle.shm_model.specs.World.{Done, IsOpening, Opening, next}
+use Rattle.shm_laws.proofs.Headline.{runs-legal}
 use Rattle.shm_mapping.specs.Mapped.{Mapped, mapped_at, with_memory}
 use Rattle.shm_mapping.specs.Hosts.{GiveUp, Happens, HostEvent, Hosts, ProcessorLoad, Map, ProcessorStore, gives_up, hosts_on, is_held, live_site, moved, own_on}
 use Rattle.shm_mapping.specs.Deaths.{AreTurns, BringNothing, BringsNothing, Dies, IsBrought, IsTurn, Life, LivesAsOne, Moves, OthersSawNothing, Turn, died, first_life, is_access_at, is_elsewhere, left, lived, lived_on, plain_without, turned}
@@ -141,3 +143,6 @@ module _ (o : Opening) (is : IsOpening o) where
 
   pub death-unseen : (turns : List Turn) (s : ℕ) (later : List HostEvent) → AreTurns o (first_life o) turns → IsTurn (lived o turns) (Dies s later) → OthersSawNothing o (lived o turns) s later
   death-unseen turns s later are is_turn = let g = lived-good turns are in others-saw s o is (lived o turns) g.own g.good later is_turn.0 is_turn.1
+
+  pub lives-legal : (turns : List Turn) → AreTurns o (first_life o) turns → Legal o (lived o turns).hosts.account
+  lives-legal turns are = subst (Legal o) (lived-good turns are).good.account (runs-legal o (lived o turns).plain is)

@@ -32,9 +32,10 @@ pub fn what_is_mapped_is_kept()
 
 /// A machine that dies loses an end of what it did, never a middle. Where it brought all that its processors changed before anything was
 /// given up, the hosts go on, through any number of deaths, as the one world in which its processors' accesses since then were never
-/// made; and what other hosts were answered is what they are answered there.
+/// made: each load that isn't lost gives the last store that isn't lost, and other hosts were answered what they are answered there.
 pub fn a_dead_machine_loses_an_end()
     ensures one_world { (o : Opening) (turns : List Turn) → IsOpening o → AreTurns o (first_life o) turns → LivesAsOne o (lived o turns) }
+    ensures legal { (o : Opening) (turns : List Turn) → IsOpening o → AreTurns o (first_life o) turns → Legal o (lived o turns).hosts.account }
     ensures unseen { (o : Opening) (turns : List Turn) (s : ℕ) (later : List HostEvent) → IsOpening o → AreTurns o (first_life o) turns
         → IsTurn (lived o turns) (Dies s later) → OthersSawNothing o (lived o turns) s later }
 {}
