@@ -9,6 +9,7 @@ pub mod SitesKept
 pub mod Behind
 pub mod Transfer
 pub mod Request
+pub mod Bounds
 pub mod RoundExists
 pub mod ServedLater
 pub mod Gone

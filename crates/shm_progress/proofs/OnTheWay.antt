@@ -53,7 +53,7 @@ one-goes w k e h j f g = by-number (cases_eq k j)
     by-number (inl here) = let same = same-envelope (live w j) e f (ap (live w) (sym here) ∙ h) g in inr (ap Deliver same, ap (λ (x : Envelope). x.to) (sym same))
     by-number (inr there) = inl (cond-false (k == j) true (w.gone j) (grind (arith, nat_tests)) ∙ (live-parts w j f g).0)
 
-only-one : (w : World) (k : ℕ) (e : Envelope) → live w k ≡ Some e → OnlySent w (without w k).gone
+pub only-one : (w : World) (k : ℕ) (e : Envelope) → live w k ≡ Some e → OnlySent w (without w k).gone
 only-one w k e h j past free =
     let within = slice_get_within w.sent k e (live-parts w k e h).1 in
     let other : (k == j) ≡ false = grind (arith, nat_tests) in
@@ -97,7 +97,7 @@ moved w (Lose k) = lose-moved w k (live w k) refl
 pub record Fresh (w : World) : Type 0 where
   pub fresh : (j : ℕ) → length w.sent ≤ j → w.gone j ≡ false
 
-moved-fresh : (w : World) (v : Event) (u : World) → Moved w v u → Fresh w → Fresh u
+pub moved-fresh : (w : World) (v : Event) (u : World) → Moved w v u → Fresh w → Fresh u
 moved-fresh w v u same fresh = fresh
 moved-fresh w v u (drops k e h why) fresh = record { fresh = λ j past. only-one w k e h j past (fresh.fresh j past) }
 moved-fresh w v u (steps gone s x input found honest takes only restarts) fresh = record {

@@ -1,3 +1,4 @@
+pub mod Bounds
 pub mod Deliveries
 pub mod OnTheWay
 pub mod Purging

@@ -1,5 +1,5 @@
 -- Rounds: every site ticks, and what is on its way is handed over until nothing is. This repository's own.
-use Rattle.std.specs.Prelude.{◌≡◌, ℕ, ◌<◌, ◌⊎◌, Bool, true, false, List, [], ◌∷◌, ◌++◌, Some, None, Contains, slice_get}
+use Rattle.std.specs.Prelude.{◌≡◌, ℕ, ◌<◌, ◌≤◌, ◌⊎◌, Bool, true, false, List, [], ◌∷◌, ◌++◌, Some, None, Contains, length, slice_get}
 use Rattle.shm_place.specs.declared.page.PageId.{PageId}
 use Rattle.shm_model.specs.declared.event.Event.{Event}
 use Rattle.shm_model.specs.declared.event.Event.TheVariants.{Load, Store, Tick}
@@ -7,7 +7,8 @@ use Rattle.shm_model.specs.declared.kind.Kind.{Kind}
 use Rattle.shm_model.specs.declared.kind.Kind.TheVariants.{Read, Write}
 use Rattle.shm_model.specs.Entry.{Entry, readable, writable}
 use Rattle.shm_model.specs.Site.{Pending, Site}
-use Rattle.shm_model.specs.World.{Opening, World, is_full, run, sites_of}
+use Rattle.shm_model.specs.World.{IsOpening, Opening, World, is_full, run, sites_of}
+use Rattle.shm_progress.specs.Bounds.{asked_again, events_to_serve, round_events, round_sent, sent_to_serve}
 use Rattle.shm_progress.specs.Deliveries.{IsAtRest}
 use Rattle.shm_progress.specs.OnTheWay.{NothingLost}
 use Rattle.shm_progress.specs.Transactions.{NotRestarted}
@@ -68,8 +69,8 @@ pub record ManagersSettled (w : World) : Type 0 where
   pub ended : (site : ℕ) (x : Site) (page : PageId) → slice_get w.sites site ≡ Some x → (x.books page).running ≡ None
   pub served : (site : ℕ) (x : Site) (page : PageId) → slice_get w.sites site ≡ Some x → (x.books page).waiting ≡ []
 
--- further events that lose nothing, restart no site and have no load and no store, among which each site ticks and after which nothing is on
--- its way
+-- Further events that lose nothing, restart no site and have no load and no store, among which each site ticks and after which nothing is on
+-- its way. They are at most so many, and so are the envelopes that were sent after them.
 pub record Round (o : Opening) (events : List Event) : Type 0 where
   pub later : List Event
   pub kept : NothingLost later
@@ -77,13 +78,29 @@ pub record Round (o : Opening) (events : List Event) : Type 0 where
   pub calm : NoneAccesses later
   pub ticks : AllTick (sites_of o) later
   pub at_rest : IsAtRest (run o (events ++ later)).world
+  pub few : IsOpening o → length later ≤ round_events (sites_of o) (length (run o events).world.sent) (asked_again (run o events).world)
+  pub few_sent : IsOpening o → length (run o (events ++ later)).world.sent ≤ round_sent (length (run o events).world.sent) (asked_again (run o events).world)
 
--- Further events that lose nothing, restart no site and have no load and no store. If no more envelopes are sent than a world counts, no request
--- is pending after them, and each that was pending before gains its right in them, or its site has purged the segment.
+-- Further events that lose nothing, restart no site and have no load and no store. They are at most so many, and so are the envelopes that were
+-- sent after them. If no more were sent than a world counts, no request is pending after them, and each that was pending before gains its right
+-- in them, or its site has purged the segment.
 pub record ServedLater (o : Opening) (events : List Event) : Type 0 where
   pub later : List Event
   pub kept : NothingLost later
   pub unrestarted : NoneRestarted later
   pub calm : NoneAccesses later
+  pub few : length later ≤ events_to_serve (run o events).world
+  pub few_sent : length (run o (events ++ later)).world.sent ≤ sent_to_serve (run o events).world
   pub none_pending : is_full (run o (events ++ later)).world ≡ false → NonePending (run o (events ++ later)).world
   pub faults : is_full (run o (events ++ later)).world ≡ false → FaultsServed o events later
+
+-- The same where a world counts that many envelopes: it isn't full after them, so that all is served.
+pub record Served (o : Opening) (events : List Event) : Type 0 where
+  pub later : List Event
+  pub kept : NothingLost later
+  pub unrestarted : NoneRestarted later
+  pub calm : NoneAccesses later
+  pub few : length later ≤ events_to_serve (run o events).world
+  pub free : is_full (run o (events ++ later)).world ≡ false
+  pub none_pending : NonePending (run o (events ++ later)).world
+  pub faults : FaultsServed o events later

@@ -1,14 +1,17 @@
 //! Rounds settle what was begun.
-ghost use Rattle.std.specs.Prelude.{◌≡◌, false, List, ◌++◌};
+ghost use Rattle.std.specs.Prelude.{◌≡◌, ◌≤◌, false, List, ◌++◌};
+ghost use Rattle.shm_model.specs.Basics.{max_sent};
 ghost use Rattle.shm_model.specs.World.{IsOpening, Opening, is_full, run, sites_of};
 ghost use Rattle.shm_model.specs.declared.event.Event.{Event};
+ghost use Rattle.shm_progress.specs.Bounds.{sent_to_serve};
 ghost use Rattle.shm_progress.specs.Deliveries.{IsAtRest};
 ghost use Rattle.shm_progress.specs.OnTheWay.{NothingLost};
 ghost use Rattle.shm_progress.specs.Requests.{RequestsSettled};
-ghost use Rattle.shm_progress.specs.Rounds.{AllTick, FaultsServed, ManagersSettled, NoneAccesses, NonePending, NoneRestarted, Round, ServedLater, Settled};
+ghost use Rattle.shm_progress.specs.Rounds.{AllTick, FaultsServed, ManagersSettled, NoneAccesses, NonePending, NoneRestarted, Round, Served, ServedLater, Settled};
 
 /// Rounds exist: from every world that some events lead to, each site's tick and then some deliveries, with no loss, no restart, no load and
-/// no store, leave nothing on its way. So the laws on rounds are about each world, as long as no more envelopes are sent than a world counts.
+/// no store, leave nothing on its way. They are at most `round_events` of the world, and at most `round_sent` envelopes were sent after
+/// them. So the laws on rounds are about each world, as long as no more envelopes are sent than a world counts.
 pub fn rounds_exist()
     ensures { (o : Opening) (events : List Event) → Round o events }
 {}
@@ -57,7 +60,9 @@ pub fn faults_are_served()
 
 /// Nothing stops a site for good: whatever all sites did, and whatever was lost, from each world there are further events, with no loss,
 /// restart, load or store among them, after which no request is pending; and each that was pending gained its right in them, or its site
-/// has purged the segment. No more envelopes are sent than a world counts.
+/// has purged the segment. They are at most `events_to_serve` of the world, and at most `sent_to_serve` envelopes were sent after them:
+/// where a world counts that many, it isn't full then.
 pub fn nothing_stops_a_site_for_good()
-    ensures { (o : Opening) (events : List Event) → IsOpening o → ServedLater o events }
+    ensures later { (o : Opening) (events : List Event) → IsOpening o → ServedLater o events }
+    ensures served { (o : Opening) (events : List Event) → IsOpening o → sent_to_serve (run o events).world ≤ max_sent → Served o events }
 {}
