@@ -6,7 +6,8 @@ pub mod PageWords
 pub mod MessageWords
 pub mod SpelledMessages
 pub mod SentWords
+pub mod TagWords
 pub mod AskWords
 pub mod SpelledAsks
 pub mod AnswerWords
-pub mod Apart
+pub mod LineWords

@@ -129,13 +129,6 @@ took_verb verb says (word ∷ words) x h = go (bytes_eq word verb) refl h
     go true e g = record { others = words; are = ap (λ v. v ∷ words) ((bytes_eq-Decides word verb).0 e); gives = g }
     go false e g = absurd (cc)
 
--- what one verb starts is nothing to another
-pub apart : {A B : Type 0} (verb other : List ℕ) (says : List (List ℕ) → Option A) (others_say : List (List ℕ) → Option B) (words : List (List ℕ)) (x : A)
-    → bytes_eq verb other ≡ false → after_verb verb says words ≡ Some x → after_verb other others_say words ≡ None
-apart verb other says others_say words x differ h =
-    let t = took_verb verb says words x h in
-    ap (after_verb other others_say) t.are ∙ ap (λ b. cond b (others_say t.others) None) differ
-
 -- a verb first, and then what follows it
 pub verb-is : {A : Type 0} (Is : A → Type 0) (print : A → List (List ℕ)) (read : List ℕ → List (List ℕ) → Option A) → SoundReader Is print read
     → (words : List (List ℕ)) (x : A) → (next_word words >>= λ p. read p.0 p.1) ≡ Some x → Reads Is print words x

@@ -1,5 +1,5 @@
 -- Asks: what is spelled so is read.
-use Rattle.std.proofs.Common.{◌≡◌, [], ◌∷◌, Option, Some, refl, ap, ◌∙◌}
+use Rattle.std.proofs.Common.{[], ◌∷◌, Option, Some, refl, ap}
 use Rattle.std.specs.Prelude.{codes}
 use Rattle.std.specs.Fmt.{decimal}
 use Rattle.shm_model.specs.declared.asked.Asked.TheVariants.{Load, Store}
@@ -8,14 +8,14 @@ use Rattle.shm_model.specs.declared.call.Op.TheVariants.{Get, Attach, Detach, Re
 use Rattle.shm_model.specs.declared.call.Request.TheVariants.{Op as OpRequest, DetachAt}
 use Rattle.shm_lines.proofs.NumberWords.{number}
 use Rattle.shm_lines.proofs.OneWord.{byte}
-use Rattle.shm_lines.proofs.StepLemmas.{NoBlanks, NoBlank-test, words_of-join}
+use Rattle.shm_lines.proofs.StepLemmas.{NoBlank-test}
 use Rattle.shm_lines.specs.Spelling as script
 use Rattle.shm_lines.specs.Words.{◌>>=◌}
-use Rattle.shm_wire.proofs.AskWords.{tag}
+use Rattle.shm_wire.proofs.TagWords.{tag}
 use Rattle.shm_wire.proofs.CallWords.{common-spelled}
 use Rattle.shm_wire.proofs.Reading.{prints, Spelled}
 use Rattle.shm_wire.proofs.SpelledMessages.{prints_page}
-use Rattle.shm_wire.specs.Asks.{Ask, IsAsk, IsAsked, ask_line, ask_of_words, asked_of, asked_words, read_ask}
+use Rattle.shm_wire.specs.Asks.{Ask, IsAsk, IsAsked, ask_after, asked_of, asked_words}
 use Rattle.shm_wire.specs.Calls.{call_words}
 use Rattle.shm_wire.specs.declared.ask.Question.{Question}
 use Rattle.shm_wire.specs.declared.ask.Question.TheVariants.{Access, Try, Read, Begin, Tick, Show}
@@ -64,10 +64,10 @@ asked-spelled (Show page) h = record {
   back = rw (prints_page page [] h) refl;
 }
 
-pub ask-is_read : (ask : Ask) → IsAsk ask → read_ask (ask_line ask) ≡ Some ask
-ask-is_read ask h =
+pub ask-spelled : (ask : Ask) → IsAsk ask → Spelled ask_after (decimal ask.site ∷ ask.tag ∷ asked_words ask.asked) ask
+ask-spelled ask h =
     let a = asked-spelled ask.asked h.2 in
-    let others : NoBlanks (ask.tag ∷ asked_words ask.asked) = (tag.unparted ask.tag h.1, a.unparted) in
-    let all : NoBlanks (decimal ask.site ∷ ask.tag ∷ asked_words ask.asked) = (number.unparted ask.site h.0, others) in
-    ap ask_of_words (words_of-join (codes "ask") (decimal ask.site ∷ ask.tag ∷ asked_words ask.asked) (NoBlank-test (codes "ask") refl) all)
-    ∙ rw (prints number ask.site (ask.tag ∷ asked_words ask.asked) h.0, prints tag ask.tag (asked_words ask.asked) h.1, a.back) refl
+    record {
+      unparted = (number.unparted ask.site h.0, (tag.unparted ask.tag h.1, a.unparted));
+      back = rw (prints number ask.site (ask.tag ∷ asked_words ask.asked) h.0, prints tag ask.tag (asked_words ask.asked) h.1, a.back) refl;
+    }

@@ -1,34 +1,23 @@
 -- What a caller asks of a site, under a tag of its own: `ask SITE TAG`, and what a script's line says, less the site; or, in words that no
 -- script has, an access that is tried once (`try-load`, `try-store`), or a block that is read.
-use Rattle.std.specs.Prelude.{⊤, ◌≡◌, ℕ, ◌+◌, ◌^◌, ◌<◌, ◌&&◌, Bool, true, if◌then◌else◌, List, [], ◌∷◌, codes, length, nat_lt, Option, None, Some}
-use Rattle.std.specs.Char.{is_ascii_graphic}
+use Rattle.std.specs.Prelude.{⊤, ◌≡◌, ℕ, ◌+◌, ◌^◌, ◌<◌, ◌&&◌, Bool, true, if◌then◌else◌, List, [], ◌∷◌, codes, nat_lt, Option, None, Some}
 use Rattle.std.specs.Fmt.{decimal}
-use Rattle.std.specs.List.{join_with_byte, list_all}
+use Rattle.std.specs.List.{join_with_byte}
 use Rattle.shm_place.specs.Limits.{page_bytes}
 use Rattle.shm_model.specs.declared.asked.Asked.TheVariants.{Load, Store}
 use Rattle.shm_model.specs.declared.call.Request.TheVariants.{Op as OpRequest, DetachAt}
 use Rattle.shm_model.specs.declared.event.Event.TheVariants as event
-use Rattle.shm_lines.specs.Words.{◌>>=◌, byte_of, words_of, next_word, next_of, next_number}
+use Rattle.shm_lines.specs.Words.{◌>>=◌, byte_of, next_word, next_of, next_number}
 use Rattle.shm_lines.specs.Spelling as script
 use Rattle.shm_lines.specs.Spelling.{IsNumber}
 use Rattle.shm_wire.specs.Calls.{common_of, less_site}
 use Rattle.shm_wire.specs.Messages.{IsPageId, next_page}
-use Rattle.shm_wire.specs.Words.{Verbs, by_verb, ended, nothing}
+use Rattle.shm_wire.specs.Tag.{IsTag, tag_of}
+use Rattle.shm_wire.specs.TagOf.{tag_text}
+use Rattle.shm_wire.specs.Words.{Verbs, by_verb, ended}
 use Rattle.shm_wire.specs.declared.ask.Ask.{Ask as CodeAsk}
 use Rattle.shm_wire.specs.declared.ask.Question.{Question}
 use Rattle.shm_wire.specs.declared.ask.Question.TheVariants.{Access, Try, Read, Begin, Tick, Show}
-
--- ---- tags
-
--- 1 to 32 bytes of printable ASCII without the blank
-abbrev pub is_tag : List ℕ → Bool
-is_tag word = nat_lt 0 (length word) && nat_lt (length word) 33 && list_all is_ascii_graphic word
-
-abbrev pub IsTag : List ℕ → Type 0
-IsTag word = is_tag word ≡ true
-
-abbrev pub tag_of : List ℕ → Option (List ℕ)
-tag_of word = if is_tag word then Some word else None
 
 -- ---- what is asked
 
@@ -133,7 +122,7 @@ pub record Ask : Type 0 where
   pub asked : Question
 
 abbrev pub ask_of : CodeAsk → Ask
-ask_of ask = record { site = ask.site; tag = ask.tag.now; asked = ask.asked }
+ask_of ask = record { site = ask.site; tag = tag_text ask.tag; asked = ask.asked }
 
 -- the asks that have a line
 abbrev pub IsAsk : Ask → Type 0
@@ -152,11 +141,3 @@ ask_after words = do
   (tag, words) ← next_of tag_of words
   asked ← asked_of words
   Some (record { site = site; tag = tag; asked = asked })
-
-abbrev pub ask_of_words : List (List ℕ) → Option Ask
-ask_of_words words = do
-  (verb, words) ← next_word words
-  by_verb ((codes "ask", ask_after) ∷ []) nothing verb words
-
-abbrev pub read_ask : List ℕ → Option Ask
-read_ask line = ask_of_words (words_of line)

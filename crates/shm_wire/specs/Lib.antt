@@ -1,4 +1,6 @@
 pub mod Words
+pub mod Tag
+pub mod TagOf
 pub mod Calls
 pub mod Replies
 pub mod PageWord
@@ -6,4 +8,6 @@ pub mod Messages
 pub mod Sent
 pub mod SentOf
 pub mod Asks
+pub mod Line
+pub mod LineOf
 pub mod Answers
