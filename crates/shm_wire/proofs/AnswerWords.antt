@@ -16,7 +16,7 @@ use Rattle.shm_lines.proofs.ReadLemmas.{onto}
 use Rattle.shm_lines.proofs.StepLemmas.{step, some-is, cond-some, NoBlank-test}
 use Rattle.shm_lines.proofs.WordLemmas.{is_end-parts}
 use Rattle.shm_lines.specs.Words.{words_of}
-use Rattle.shm_wire.proofs.AskWords.{tag}
+use Rattle.shm_wire.proofs.TagWords.{tag}
 use Rattle.shm_wire.proofs.Reading.{took, took_verb, prints}
 use Rattle.shm_wire.specs.Answers.{Answer, IsAnswer, answer_after, answer_line, answer_of_words, is_text, read_answer, text_of, text_of_words}
 

@@ -1,53 +1,20 @@
--- Asks: each line that is read is spelled so, and each that is spelled so is read.
-use Rattle.std.proofs.Common.{◌≡◌, ℕ, ◌<◌, ◌==◌, ◌&&◌, Bool, true, false, List, [], ◌∷◌, length, None, Some, cond, nat_lt, refl, sym, ap, subst, ◌∙◌, arith}
+-- Asks: what is read is spelled so.
+use Rattle.std.proofs.Common.{◌≡◌, ℕ, List, ◌∷◌, Some, ap, subst}
 use Rattle.std.specs.Prelude.{codes}
-use Rattle.std.specs.Char.{is_ascii_graphic}
-use Rattle.std.specs.List.{join_with_byte, list_all}
-use Rattle.std.specs.Str.{IsUtf8}
-use Rattle.std.proofs.lemmas.Bool.Decides.{nat_tests}
-use Rattle.std.proofs.lemmas.List.Elements.{All-weaker}
-use Rattle.std.proofs.lemmas.List.Splits.{join_with_byte-slice_split}
-use Rattle.std.proofs.lemmas.List.Sums.{AllPass-from_list_all}
-use Rattle.std.proofs.lemmas.Str.{IsUtf8-from_ascii}
-use Rattle.std.proofs.lemmas.Str.Ascii.{IsAscii-from_all}
 use Rattle.shm_model.specs.declared.asked.Asked.TheVariants.{Load, Store}
-use Rattle.shm_model.specs.declared.call.Request.TheVariants.{Op as OpRequest, DetachAt}
-use Rattle.shm_lines.proofs.NumberWords.{IsPrinter, number}
+use Rattle.shm_lines.proofs.CallLemmas.{request-is}
+use Rattle.shm_lines.proofs.NumberWords.{number}
 use Rattle.shm_lines.proofs.OneWord.{byte}
 use Rattle.shm_lines.proofs.ReadLemmas.{onto, onto2}
-use Rattle.shm_lines.proofs.StepLemmas.{step, some-is, cond-some}
-use Rattle.shm_lines.specs.Words.{words_of}
-use Rattle.shm_wire.proofs.CallWords.{common-is}
+use Rattle.shm_lines.proofs.StepLemmas.{step, some-is}
+use Rattle.shm_lines.specs.Calls.{request_of}
 use Rattle.shm_wire.proofs.MessageWords.{took_page}
-use Rattle.shm_wire.proofs.Reading.{took, ended-is, cond-of, Reads, Sound, SoundReader, SoundWords, by_verb-is, nothing-is, verb-is}
-use Rattle.shm_wire.specs.Asks.{Ask, IsAsk, IsAsked, IsTag, ask_after, ask_line, ask_of_words, ask_words, asked_of, asked_words, begun_of, detach_of, is_tag, is_block, load_of, own, read_ask, read_of, show_of, store_of, tag_of, try_load_of, try_store_of}
-use Rattle.shm_wire.specs.Calls.{common_of}
-use Rattle.shm_wire.specs.Words.{by_verb, ended, nothing}
+use Rattle.shm_wire.proofs.Reading.{took, ended-is, cond-of, Reads, Sound, SoundReader, SoundWords, by_verb-is, verb-is}
+use Rattle.shm_wire.proofs.TagWords.{tag}
+use Rattle.shm_wire.specs.Asks.{Ask, IsAsk, IsAsked, ask_after, ask_words, asked_of, asked_words, begun_of, is_block, load_of, own, read_of, show_of, store_of, try_load_of, try_store_of}
+use Rattle.shm_wire.specs.Words.{by_verb, ended}
 use Rattle.shm_wire.specs.declared.ask.Question.{Question}
 use Rattle.shm_wire.specs.declared.ask.Question.TheVariants.{Access, Try, Read, Begin, Tick, Show}
-
--- ---- tags
-
-graphic-range : (c : ℕ) → is_ascii_graphic c ≡ true → (c < 128) × ((c == 32) ≡ false)
-graphic-range c h = grind (arith, nat_tests)
-
-pub graphic_is_utf8 : (word : List ℕ) → list_all is_ascii_graphic word ≡ true → IsUtf8 word
-graphic_is_utf8 word h =
-    IsUtf8-from_ascii word (IsAscii-from_all word (All-weaker (λ c. is_ascii_graphic c ≡ true) (λ c. c < 128) (λ c g. (graphic-range c g).0) word (AllPass-from_list_all is_ascii_graphic word h)))
-
-graphic-part : (a b c : Bool) → (a && b && c) ≡ true → c ≡ true
-graphic-part true true true h = refl
-graphic-part true true false h = absurd (cc)
-graphic-part true false c h = absurd (cc)
-graphic-part false b c h = absurd (cc)
-
-pub tag : IsPrinter tag_of IsTag (λ word. word)
-tag = record {
-  reads = λ word t h. let c = cond-some (is_tag word) word t h in (c.1, subst IsTag c.1 c.0);
-  prints = λ t h. ap (λ b. cond b (Some t) None) h;
-  unparted = λ t h. All-weaker (λ c. is_ascii_graphic c ≡ true) (λ c. (c == 32) ≡ false) (λ c g. (graphic-range c g).1) t
-      (AllPass-from_list_all is_ascii_graphic t (graphic-part (nat_lt 0 (length t)) (nat_lt (length t) 33) (list_all is_ascii_graphic t) h));
-}
 
 -- ---- what is read is spelled so
 
@@ -94,12 +61,6 @@ module _ (words : List (List ℕ)) (asked : Question) where
       let e = ended-is (Read a.value o.value l.value) asked l.others c.1 in
       subst (ReadsAsked (codes "read" ∷ words)) e.1 ((a.is, o.is, l.is, c.0), ap (λ l. codes "read" ∷ l) (onto a.are (onto o.are (onto l.are e.0))))
 
-  detach-is : detach_of words ≡ Some asked → ReadsAsked (codes "detach" ∷ words) asked
-  detach-is h =
-      let a = took number words _ asked h in
-      let e = ended-is (Begin (DetachAt a.value)) asked a.others a.gives in
-      subst (ReadsAsked (codes "detach" ∷ words)) e.1 (a.is, ap (λ l. codes "detach" ∷ l) (onto a.are e.0))
-
   tick-is : ended Tick words ≡ Some asked → ReadsAsked (codes "tick" ∷ words) asked
   tick-is h =
       let e = ended-is Tick asked words h in
@@ -113,31 +74,21 @@ module _ (words : List (List ℕ)) (asked : Question) where
 
 begun-is : SoundReader IsAsked asked_words begun_of
 begun-is word words asked h =
-    let s = step (common_of word words) _ asked h in
-    let r = common-is word words s.value s.gave in
-    subst (ReadsAsked (word ∷ words)) (some-is (Begin (OpRequest s.value)) asked s.gives) (r.0, r.1)
+    let s = step (request_of word words) _ asked h in
+    let r = request-is word words s.value s.gave in
+    subst (ReadsAsked (word ∷ words)) (some-is (Begin s.value) asked s.gives) r
 
 sound : Sound IsAsked asked_words own
-sound = (load-is, (store-is, (try_load-is, (try_store-is, (read-is, (detach-is, (tick-is, (show-is, tt))))))))
+sound = (load-is, (store-is, (try_load-is, (try_store-is, (read-is, (tick-is, (show-is, tt)))))))
 
 asked-is : (words : List (List ℕ)) (asked : Question) → asked_of words ≡ Some asked → ReadsAsked words asked
 asked-is words asked h = verb-is IsAsked asked_words (by_verb own begun_of) (by_verb-is IsAsked asked_words own begun_of sound begun-is) words asked h
 
-after-is : SoundWords IsAsk ask_words (codes "ask") ask_after
-after-is words ask h =
+pub ask-is : SoundWords IsAsk ask_words (codes "ask") ask_after
+ask-is words ask h =
     let s = took number words _ ask h in
     let t = took tag s.others _ ask s.gives in
     let a = step (asked_of t.others) _ ask t.gives in
     let r = asked-is t.others a.value a.gave in
     let made : Ask = record { site = s.value; tag = t.value; asked = a.value } in
     subst (Reads IsAsk ask_words (codes "ask" ∷ words)) (some-is made ask a.gives) ((s.is, t.is, r.0), ap (λ l. codes "ask" ∷ l) (onto s.are (onto t.are r.1)))
-
-words-are : (words : List (List ℕ)) (ask : Ask) → ask_of_words words ≡ Some ask → Reads IsAsk ask_words words ask
-words-are words ask h =
-    verb-is IsAsk ask_words (by_verb ((codes "ask", ask_after) ∷ []) nothing)
-    (by_verb-is IsAsk ask_words ((codes "ask", ask_after) ∷ []) nothing (after-is, tt) (nothing-is IsAsk ask_words)) words ask h
-
-pub ask-is_spelled : (bytes : List ℕ) (ask : Ask) → read_ask bytes ≡ Some ask → IsAsk ask × (bytes ≡ ask_line ask)
-ask-is_spelled bytes ask h =
-    let r = words-are (words_of bytes) ask h in
-    (r.0, sym (join_with_byte-slice_split 32 bytes) ∙ ap (join_with_byte 32) r.1)

@@ -1,12 +1,12 @@
 pub mod NameWords
 pub mod Reading
-pub mod CallWords
 pub mod ReplyWords
 pub mod PageWords
 pub mod MessageWords
 pub mod SpelledMessages
 pub mod SentWords
+pub mod TagWords
 pub mod AskWords
 pub mod SpelledAsks
 pub mod AnswerWords
-pub mod Apart
+pub mod LineWords

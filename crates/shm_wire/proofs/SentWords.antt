@@ -1,20 +1,17 @@
--- Envelopes: each line that is read is spelled so, and each that is spelled so is read.
-use Rattle.std.proofs.Common.{◌≡◌, ℕ, List, [], ◌∷◌, Option, Some, refl, sym, ap, subst, ◌∙◌}
+-- Envelopes: what is read is spelled so, and what is spelled so is read.
+use Rattle.std.proofs.Common.{◌≡◌, ℕ, List, ◌∷◌, Option, Some, refl, ap, subst, ◌∙◌}
 use Rattle.std.specs.Prelude.{codes}
 use Rattle.std.specs.Fmt.{decimal}
-use Rattle.std.specs.List.{join_with_byte}
-use Rattle.std.proofs.lemmas.List.Splits.{join_with_byte-slice_split}
 use Rattle.shm_model.specs.Log.{Stamp}
 use Rattle.shm_lines.proofs.NumberWords.{number, wide}
 use Rattle.shm_lines.proofs.ReadLemmas.{onto}
-use Rattle.shm_lines.proofs.StepLemmas.{step, some-is, NoBlanks, NoBlank-test, words_of-join}
-use Rattle.shm_lines.specs.Words.{◌>>=◌, words_of}
+use Rattle.shm_lines.proofs.StepLemmas.{step, some-is}
+use Rattle.shm_lines.specs.Words.{◌>>=◌}
 use Rattle.shm_wire.proofs.MessageWords.{message-is}
-use Rattle.shm_wire.proofs.Reading.{took, prints, Reads, SoundWords, by_verb-is, nothing-is, verb-is}
+use Rattle.shm_wire.proofs.Reading.{took, prints, Reads, SoundWords, Spelled}
 use Rattle.shm_wire.proofs.SpelledMessages.{message-spelled}
 use Rattle.shm_wire.specs.Messages.{message_of, message_words}
-use Rattle.shm_wire.specs.Sent.{Sent, IsSent, IsStamp, envelope_line, envelope_words, next_stamp, read_envelope, read_words, sent_of}
-use Rattle.shm_wire.specs.Words.{by_verb, nothing}
+use Rattle.shm_wire.specs.Sent.{Sent, IsSent, IsStamp, envelope_words, next_stamp, sent_of}
 
 -- where an envelope was sent, as it was read
 record TookStamp {B : Type 0} (words : List (List ℕ)) (f : Stamp × List (List ℕ) → Option B) (y : B) : Type 0 where
@@ -42,7 +39,7 @@ took_stamp words f y h =
 onto3 : {one two three : List ℕ} {words first others : List (List ℕ)} → first ≡ one ∷ two ∷ three ∷ words → words ≡ others → first ≡ one ∷ two ∷ three ∷ others
 onto3 {one} {two} {three} e h = e ∙ ap (λ l. one ∷ two ∷ three ∷ l) h
 
-sent-is : SoundWords IsSent envelope_words (codes "env") sent_of
+pub sent-is : SoundWords IsSent envelope_words (codes "env") sent_of
 sent-is words sent h =
     let f = took number words _ sent h in
     let t = took number f.others _ sent f.gives in
@@ -53,16 +50,6 @@ sent-is words sent h =
     subst (Reads IsSent envelope_words (codes "env" ∷ words)) (some-is made sent m.gives)
     ((f.is, t.is, a.is, r.0), ap (λ l. codes "env" ∷ l) (onto f.are (onto t.are (onto3 a.are r.1))))
 
-words-are : (words : List (List ℕ)) (sent : Sent) → read_words words ≡ Some sent → Reads IsSent envelope_words words sent
-words-are words sent h =
-    verb-is IsSent envelope_words (by_verb ((codes "env", sent_of) ∷ []) nothing)
-    (by_verb-is IsSent envelope_words ((codes "env", sent_of) ∷ []) nothing (sent-is, tt) (nothing-is IsSent envelope_words)) words sent h
-
-pub read-is_spelled : (bytes : List ℕ) (sent : Sent) → read_envelope bytes ≡ Some sent → IsSent sent × (bytes ≡ envelope_line sent)
-read-is_spelled bytes sent h =
-    let r = words-are (words_of bytes) sent h in
-    (r.0, sym (join_with_byte-slice_split 32 bytes) ∙ ap (join_with_byte 32) r.1)
-
 prints_stamp : (stamp : Stamp) (words : List (List ℕ)) → IsStamp stamp → next_stamp (decimal stamp.at ∷ decimal stamp.index ∷ decimal stamp.place ∷ words) ≡ Some (stamp, words)
 prints_stamp stamp words h =
     rw (
@@ -71,15 +58,22 @@ prints_stamp stamp words h =
       prints wide stamp.place words h.2,
     ) refl
 
-pub spelled-is_read : (sent : Sent) → IsSent sent → read_envelope (envelope_line sent) ≡ Some sent
-spelled-is_read sent h =
+-- the words after the first
+abbrev pub sent_words : Sent → List (List ℕ)
+sent_words sent =
+    decimal sent.envelope.from ∷ decimal sent.envelope.to ∷ decimal sent.source.at ∷ decimal sent.source.index ∷ decimal sent.source.place
+    ∷ message_words sent.envelope.message
+
+pub sent-spelled : (sent : Sent) → IsSent sent → Spelled sent_of (sent_words sent) sent
+sent-spelled sent h =
     let e = sent.envelope in
     let s = sent.source in
     let m = message-spelled e.message h.3 in
     let stamp = decimal s.at ∷ decimal s.index ∷ decimal s.place ∷ message_words e.message in
-    let others : NoBlanks (decimal e.from ∷ decimal e.to ∷ stamp) = (
-      number.unparted e.from h.0,
-      (number.unparted e.to h.1, (wide.unparted s.at h.2.0, (wide.unparted s.index h.2.1, (wide.unparted s.place h.2.2, m.unparted)))),
-    ) in
-    ap read_words (words_of-join (codes "env") (decimal e.from ∷ decimal e.to ∷ stamp) (NoBlank-test (codes "env") refl) others)
-    ∙ rw (prints number e.from (decimal e.to ∷ stamp) h.0, prints number e.to stamp h.1, prints_stamp s (message_words e.message) h.2, m.back) refl
+    record {
+      unparted = (
+        number.unparted e.from h.0,
+        (number.unparted e.to h.1, (wide.unparted s.at h.2.0, (wide.unparted s.index h.2.1, (wide.unparted s.place h.2.2, m.unparted)))),
+      );
+      back = rw (prints number e.from (decimal e.to ∷ stamp) h.0, prints number e.to stamp h.1, prints_stamp s (message_words e.message) h.2, m.back) refl;
+    }

@@ -7,7 +7,8 @@ use Rattle.base64.specs.Engines.{standard}
 use Rattle.base64.specs.GeneralPurpose.{encode_of}
 use Rattle.shm_lines.specs.Words.{◌>>=◌, words_of, next_word, next_of, next_number, is_end}
 use Rattle.shm_lines.specs.Spelling.{IsNumber}
-use Rattle.shm_wire.specs.Asks.{IsTag, tag_of}
+use Rattle.shm_wire.specs.Tag.{IsTag, tag_of}
+use Rattle.shm_wire.specs.TagOf.{tag_text}
 use Rattle.shm_wire.specs.Words.{by_verb, nothing}
 use Rattle.shm_wire.specs.declared.answer.Answer.{Answer as CodeAnswer}
 
@@ -28,7 +29,7 @@ pub record Answer : Type 0 where
   pub text : List ℕ
 
 abbrev pub answer_of : CodeAnswer → Answer
-answer_of answer = record { site = answer.site; tag = answer.tag.now; text = answer.text.now }
+answer_of answer = record { site = answer.site; tag = tag_text answer.tag; text = answer.text.now }
 
 -- the answers that have a line
 abbrev pub IsAnswer : Answer → Type 0

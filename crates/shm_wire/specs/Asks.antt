@@ -1,34 +1,22 @@
 -- What a caller asks of a site, under a tag of its own: `ask SITE TAG`, and what a script's line says, less the site; or, in words that no
 -- script has, an access that is tried once (`try-load`, `try-store`), or a block that is read.
-use Rattle.std.specs.Prelude.{⊤, ◌≡◌, ℕ, ◌+◌, ◌^◌, ◌<◌, ◌&&◌, Bool, true, if◌then◌else◌, List, [], ◌∷◌, codes, length, nat_lt, Option, None, Some}
-use Rattle.std.specs.Char.{is_ascii_graphic}
+use Rattle.std.specs.Prelude.{⊤, ◌≡◌, ℕ, ◌+◌, ◌^◌, ◌<◌, ◌&&◌, Bool, true, if◌then◌else◌, List, [], ◌∷◌, codes, nat_lt, Option, None, Some}
 use Rattle.std.specs.Fmt.{decimal}
-use Rattle.std.specs.List.{join_with_byte, list_all}
+use Rattle.std.specs.List.{join_with_byte}
 use Rattle.shm_place.specs.Limits.{page_bytes}
 use Rattle.shm_model.specs.declared.asked.Asked.TheVariants.{Load, Store}
-use Rattle.shm_model.specs.declared.call.Request.TheVariants.{Op as OpRequest, DetachAt}
 use Rattle.shm_model.specs.declared.event.Event.TheVariants as event
-use Rattle.shm_lines.specs.Words.{◌>>=◌, byte_of, words_of, next_word, next_of, next_number}
+use Rattle.shm_lines.specs.Calls.{IsRequest, request_of, request_words}
+use Rattle.shm_lines.specs.Words.{◌>>=◌, byte_of, next_word, next_of, next_number}
 use Rattle.shm_lines.specs.Spelling as script
 use Rattle.shm_lines.specs.Spelling.{IsNumber}
-use Rattle.shm_wire.specs.Calls.{common_of, less_site}
 use Rattle.shm_wire.specs.Messages.{IsPageId, next_page}
-use Rattle.shm_wire.specs.Words.{Verbs, by_verb, ended, nothing}
+use Rattle.shm_wire.specs.Tag.{IsTag, tag_of}
+use Rattle.shm_wire.specs.TagOf.{tag_text}
+use Rattle.shm_wire.specs.Words.{Verbs, by_verb, ended}
 use Rattle.shm_wire.specs.declared.ask.Ask.{Ask as CodeAsk}
 use Rattle.shm_wire.specs.declared.ask.Question.{Question}
 use Rattle.shm_wire.specs.declared.ask.Question.TheVariants.{Access, Try, Read, Begin, Tick, Show}
-
--- ---- tags
-
--- 1 to 32 bytes of printable ASCII without the blank
-abbrev pub is_tag : List ℕ → Bool
-is_tag word = nat_lt 0 (length word) && nat_lt (length word) 33 && list_all is_ascii_graphic word
-
-abbrev pub IsTag : List ℕ → Type 0
-IsTag word = is_tag word ≡ true
-
-abbrev pub tag_of : List ℕ → Option (List ℕ)
-tag_of word = if is_tag word then Some word else None
 
 -- ---- what is asked
 
@@ -45,9 +33,14 @@ IsAsked (Access (Store at offset byte)) = IsNumber at × IsNumber offset × (byt
 IsAsked (Try (Load at offset)) = IsNumber at × IsNumber offset
 IsAsked (Try (Store at offset byte)) = IsNumber at × IsNumber offset × (byte < 256)
 IsAsked (Read at offset count) = IsNumber at × IsNumber offset × IsNumber count × IsBlock offset count
-IsAsked (Begin request) = script.IsRequest request
+IsAsked (Begin request) = IsRequest request
 IsAsked Tick = ⊤
 IsAsked (Show page) = IsPageId page
+
+-- a script's words without the site, which is their second
+abbrev pub less_site : List (List ℕ) → List (List ℕ)
+less_site (verb ∷ site ∷ words) = verb ∷ words
+less_site words = words
 
 abbrev pub asked_words : Question → List (List ℕ)
 asked_words (Access (Load at offset)) = less_site (script.event_words (event.Load 0 at offset))
@@ -55,7 +48,7 @@ asked_words (Access (Store at offset byte)) = less_site (script.event_words (eve
 asked_words (Try (Load at offset)) = codes "try-load" ∷ decimal at ∷ decimal offset ∷ []
 asked_words (Try (Store at offset byte)) = codes "try-store" ∷ decimal at ∷ decimal offset ∷ decimal byte ∷ []
 asked_words (Read at offset count) = codes "read" ∷ decimal at ∷ decimal offset ∷ decimal count ∷ []
-asked_words (Begin request) = less_site (script.request_words 0 request)
+asked_words (Begin request) = request_words request
 asked_words Tick = less_site (script.event_words (event.Tick 0))
 asked_words (Show page) = codes "show" ∷ decimal page.seg ∷ decimal page.index ∷ []
 
@@ -97,28 +90,22 @@ read_of words = do
   (count, words) ← next_number words
   if is_block offset count then ended (Read at offset count) words else None
 
--- `detach attachment`
-abbrev pub detach_of : List (List ℕ) → Option Question
-detach_of words = do
-  (at, words) ← next_number words
-  ended (Begin (DetachAt at)) words
-
 -- `show segment index`
 abbrev pub show_of : List (List ℕ) → Option Question
 show_of words = do
   (page, words) ← next_page words
   ended (Show page) words
 
--- the other segment calls
+-- segment calls
 abbrev pub begun_of : List ℕ → List (List ℕ) → Option Question
 begun_of verb words = do
-  op ← common_of verb words
-  Some (Begin (OpRequest op))
+  request ← request_of verb words
+  Some (Begin request)
 
 abbrev pub own : Verbs Question
 own =
     (codes "load", load_of) ∷ (codes "store", store_of) ∷ (codes "try-load", try_load_of) ∷ (codes "try-store", try_store_of)
-    ∷ (codes "read", read_of) ∷ (codes "detach", detach_of) ∷ (codes "tick", ended Tick) ∷ (codes "show", show_of) ∷ []
+    ∷ (codes "read", read_of) ∷ (codes "tick", ended Tick) ∷ (codes "show", show_of) ∷ []
 
 abbrev pub asked_of : List (List ℕ) → Option Question
 asked_of words = do
@@ -133,7 +120,7 @@ pub record Ask : Type 0 where
   pub asked : Question
 
 abbrev pub ask_of : CodeAsk → Ask
-ask_of ask = record { site = ask.site; tag = ask.tag.now; asked = ask.asked }
+ask_of ask = record { site = ask.site; tag = tag_text ask.tag; asked = ask.asked }
 
 -- the asks that have a line
 abbrev pub IsAsk : Ask → Type 0
@@ -152,11 +139,3 @@ ask_after words = do
   (tag, words) ← next_of tag_of words
   asked ← asked_of words
   Some (record { site = site; tag = tag; asked = asked })
-
-abbrev pub ask_of_words : List (List ℕ) → Option Ask
-ask_of_words words = do
-  (verb, words) ← next_word words
-  by_verb ((codes "ask", ask_after) ∷ []) nothing verb words
-
-abbrev pub read_ask : List ℕ → Option Ask
-read_ask line = ask_of_words (words_of line)

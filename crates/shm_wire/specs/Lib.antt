@@ -1,9 +1,12 @@
 pub mod Words
-pub mod Calls
+pub mod Tag
+pub mod TagOf
 pub mod Replies
 pub mod PageWord
 pub mod Messages
 pub mod Sent
 pub mod SentOf
 pub mod Asks
+pub mod Line
+pub mod LineOf
 pub mod Answers

@@ -1,13 +1,12 @@
 -- The line of an envelope: `env`, its sites, where it was sent, and its message. One spelling for each.
-use Rattle.std.specs.Prelude.{ℕ, List, [], ◌∷◌, codes, Option, Some}
+use Rattle.std.specs.Prelude.{ℕ, List, ◌∷◌, codes, Option, Some}
 use Rattle.std.specs.Fmt.{decimal}
 use Rattle.std.specs.List.{join_with_byte}
 use Rattle.shm_model.specs.Log.{Stamp}
 use Rattle.shm_model.specs.Message.{Envelope}
-use Rattle.shm_lines.specs.Words.{◌>>=◌, words_of, next_word, next_of, next_number, IsWide, wide_of}
+use Rattle.shm_lines.specs.Words.{◌>>=◌, next_of, next_number, IsWide, wide_of}
 use Rattle.shm_lines.specs.Spelling.{IsNumber}
 use Rattle.shm_wire.specs.Messages.{IsMessage, message_of, message_words}
-use Rattle.shm_wire.specs.Words.{by_verb, nothing}
 
 -- an envelope, and where it was sent
 pub record Sent : Type 0 where
@@ -47,11 +46,3 @@ sent_of words = do
   (source, words) ← next_stamp words
   message ← message_of words
   Some (record { source = source; envelope = record { from = from; to = to; message = message } })
-
-abbrev pub read_words : List (List ℕ) → Option Sent
-read_words words = do
-  (verb, words) ← next_word words
-  by_verb ((codes "env", sent_of) ∷ []) nothing verb words
-
-abbrev pub read_envelope : List ℕ → Option Sent
-read_envelope line = read_words (words_of line)

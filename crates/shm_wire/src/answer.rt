@@ -1,4 +1,5 @@
 //! What a caller is answered, under its tag.
+use crate::tag::Tag;
 use base64::display::Base64Display;
 use base64::engine::general_purpose::STANDARD;
 use shm_place::SiteId;
@@ -8,7 +9,7 @@ use std::fmt;
 #[derive(Clone, Copy, Debug, PartialEq, Eq)]
 pub struct Answer<'a> {
     pub site: SiteId,
-    pub tag: &'a str,
+    pub tag: Tag,
     pub text: &'a str,
 }
 

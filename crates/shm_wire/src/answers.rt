@@ -6,7 +6,7 @@ ghost use Rattle.shm_wire.specs.Answers.{answer_after, answer_of, is_text, read_
 ghost use Rattle.std.specs.Int.{is_in_range};
 
 use crate::answer::Answer;
-use crate::asks::tag;
+use crate::tag::Tag;
 use shm_lines::{Words, split_at};
 use shm_place::SiteId;
 use std::str;
@@ -28,7 +28,7 @@ fn answer(line: &[u8]) -> Option<Answer<'_>>
 {
     let (site, words) = Words::of(line).number()?;
     let (word, _) = words.word()?;
-    let tag = tag(word)?;
+    let tag = Tag::new(word)?;
     let text = text_after_two(line)?;
     Some(Answer {
         site: SiteId(site),

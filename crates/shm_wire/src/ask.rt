@@ -1,5 +1,6 @@
 //! What a caller asks of a site, under a tag of its own.
-use crate::spelling_calls::CallWords;
+use crate::tag::Tag;
+use shm_lines::RequestWords;
 use shm_model::{Asked, Request};
 use shm_place::{PageId, SiteId};
 use std::fmt;
@@ -19,15 +20,15 @@ pub enum Question {
     Show(PageId),
 }
 
-/// What a caller asks of a site. The tag is the caller's own, 1 to 32 bytes of printable ASCII without the blank.
+/// What a caller asks of a site.
 #[derive(Clone, Copy, Debug, PartialEq, Eq)]
-pub struct Ask<'a> {
+pub struct Ask {
     pub site: SiteId,
-    pub tag: &'a str,
+    pub tag: Tag,
     pub asked: Question,
 }
 
-impl<'a> fmt::Display for Ask<'a> {
+impl fmt::Display for Ask {
     ghost use Rattle.std.specs.Prelude.{Some};
     ghost use Rattle.shm_wire.specs.Asks as spelled;
 
@@ -60,8 +61,7 @@ impl fmt::Display for Question {
                 write!(f, "try-store {at} {offset} {byte}")
             }
             Question::Read { at, offset, length } => write!(f, "read {at} {offset} {length}"),
-            Question::Begin(Request::Op(op)) => write!(f, "{}", CallWords(*op)),
-            Question::Begin(Request::DetachAt(at)) => write!(f, "detach {at}"),
+            Question::Begin(request) => write!(f, "{}", RequestWords(*request)),
             Question::Tick => write!(f, "tick"),
             Question::Show(page) => write!(f, "show {} {}", page.seg.0, page.index),
         }

@@ -1,63 +1,29 @@
-//! How the line of a caller is read.
+//! How the words of a caller are read.
 ghost use Rattle.std.specs.Prelude.{◌≡◌, option_map};
-ghost use Rattle.std.specs.Char.{is_ascii_graphic};
-ghost use Rattle.std.specs.List.{list_all};
 ghost use Rattle.shm_wire.specs.Words.{ended};
 ghost use Rattle.shm_wire.specs.Asks as said;
-ghost use Rattle.shm_wire.specs.Asks.{ask_of, asked_of, begun_of, detach_of, load_of, read_ask, read_of, show_of, store_of, tag_of, try_load_of, try_store_of};
+ghost use Rattle.shm_wire.specs.Asks.{ask_of, asked_of, begun_of, load_of, read_of, show_of, store_of, try_load_of, try_store_of};
 
 use crate::ask::{Ask, Question};
-use crate::calls::common;
 use crate::messages::page_id;
-use shm_lines::Words;
-use shm_model::{Asked, Request};
+use crate::tag::Tag;
+use shm_lines::{Words, parse_request};
+use shm_model::Asked;
 use shm_place::{PAGE_BYTES, SiteId};
-use std::str;
-
-/// What this line asks, which stands without its line feed; `None` where it is no ask. It takes no memory.
-pub fn parse_ask(line: &[u8]) -> Option<Ask<'_>>
-    ensures { option_map ask_of result ≡ read_ask line.now }
-{
-    let (verb, words) = Words::of(line).word()?;
-    if verb != b"ask".as_slice() {
-        return None;
-    }
-    ask(words)
-}
 
 /// What is asked, of which site and under which tag.
-fn ask(words: Words<'_>) -> Option<Ask<'_>>
+pub fn ask(words: Words<'_>) -> Option<Ask>
     ensures { option_map ask_of result ≡ said.ask_after words.entry }
 {
     let (site, words) = words.number()?;
     let (word, words) = words.word()?;
-    let tag = tag(word)?;
+    let tag = Tag::new(word)?;
     let asked = ask_of_words(words)?;
     Some(Ask {
         site: SiteId(site),
         tag,
         asked,
     })
-}
-
-/// The tag that a word is, if it is one.
-#[tactic(auto, using(crate::proofs::AskWords::graphic_is_utf8))]
-pub fn tag(word: &[u8]) -> Option<&str>
-    ensures { option_map (λ tag. tag.now) result ≡ tag_of word.now }
-{
-    if word.is_empty() || word.len() > 32 || !is_graphic(word) {
-        return None;
-    }
-    let Ok(text) = str::from_utf8(word) else {
-        unreachable!();
-    };
-    Some(text)
-}
-
-fn is_graphic(word: &[u8]) -> bool
-    ensures { result ≡ list_all is_ascii_graphic word.now }
-{
-    word.iter().all(|byte| byte.is_ascii_graphic())
 }
 
 fn ask_of_words(words: Words<'_>) -> Option<Question>
@@ -78,9 +44,6 @@ fn ask_of_words(words: Words<'_>) -> Option<Question>
     }
     if verb == b"read".as_slice() {
         return read(words);
-    }
-    if verb == b"detach".as_slice() {
-        return detach(words);
     }
     if verb == b"tick".as_slice() {
         return tick(words);
@@ -156,16 +119,6 @@ fn is_block(offset: u32, length: u32) -> bool
     length > 0 && length <= PAGE_BYTES as u32 && u64::from(offset) + u64::from(length) <= 1 << 32
 }
 
-fn detach(words: Words<'_>) -> Option<Question>
-    ensures { result ≡ detach_of words.entry }
-{
-    let (at, words) = words.number()?;
-    if !words.is_empty() {
-        return None;
-    }
-    Some(Question::Begin(Request::DetachAt(at)))
-}
-
 fn tick(words: Words<'_>) -> Option<Question>
     ensures { result ≡ ended Question.Tick words.entry }
 {
@@ -188,6 +141,6 @@ fn show(words: Words<'_>) -> Option<Question>
 fn begin_of_words(verb: &[u8], words: Words<'_>) -> Option<Question>
     ensures { result ≡ begun_of verb.now words.entry }
 {
-    let op = common(verb, words)?;
-    Some(Question::Begin(Request::Op(op)))
+    let request = parse_request(verb, words)?;
+    Some(Question::Begin(request))
 }

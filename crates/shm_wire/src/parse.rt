@@ -1,11 +1,17 @@
-//! How an envelope is read: `env`, its sites, where it was sent, and its message.
+//! How a line of the stream is read: its first word says whether it is an envelope or what a caller asks.
 ghost use Rattle.std.specs.Prelude.{◌≡◌, Some, None, IfOk, IfSome, IfNone, option_map};
 ghost use Rattle.shm_parts.specs.Message as parts;
-ghost use Rattle.shm_wire.specs.Sent.{next_stamp, read_envelope};
+ghost use Rattle.shm_wire.specs.Sent.{next_stamp};
 ghost use Rattle.shm_wire.specs.Sent as said;
+ghost use Rattle.shm_wire.specs.Asks.{ask_after};
+ghost use Rattle.shm_wire.specs.Line as stream;
+ghost use Rattle.shm_wire.specs.Line.{IsLine, line_of_words, line_text, read_line};
+ghost use Rattle.shm_wire.specs.LineOf.{line_of};
 ghost use Rattle.shm_wire.specs.SentOf.{sent_of, stamp_of};
 ghost use Rattle.shm_wire.specs.Messages.{message_of};
 
+use crate::asks::ask;
+use crate::line::Line;
 use crate::messages::plain;
 use crate::pages::page;
 use crate::sent::{Sent, Stamp};
@@ -15,21 +21,43 @@ use shm_parts::{Envelope, Message};
 use shm_place::SiteId;
 use std::alloc::{AllocError, Allocator};
 
-/// The envelope that this line spells, which stands without its line feed; `None` where it spells none. Only a page's bytes take
-/// memory.
-pub fn parse_envelope<A: Allocator + Copy>(
-    alloc: A,
-    line: &[u8],
-) -> Result<Option<Sent<A>>, AllocError>
-    ensures { IfOk result (λ sent. option_map sent_of sent ≡ read_envelope line.now) }
+/// What this line tells a site, which stands without its line feed; `None` where it tells none anything. Only a page's bytes take memory.
+pub fn parse_line<A: Allocator + Copy>(alloc: A, line: &[u8]) -> Result<Option<Line<A>>, AllocError>
+    ensures read { IfOk result (λ read. option_map line_of read ≡ read_line line.now) }
+    ensures spelled { IfOk result (λ read. IfSome read (λ is. IsLine (line_of is) × (line.now ≡ line_text (line_of is)))) }
 {
-    let Some((verb, words)) = Words::of(line).word() else {
+    read(alloc, Words::of(line))
+}
+
+fn read<A: Allocator + Copy>(alloc: A, words: Words<'_>) -> Result<Option<Line<A>>, AllocError>
+    ensures { IfOk result (λ read. option_map line_of read ≡ line_of_words words.entry) }
+{
+    let Some((verb, words)) = words.word() else {
         return Ok(None);
     };
-    if verb != b"env".as_slice() {
-        return Ok(None);
+    if verb == b"ask".as_slice() {
+        return Ok(asked(words));
     }
-    envelope_of_words(alloc, words)
+    if verb == b"env".as_slice() {
+        return sent(alloc, words);
+    }
+    Ok(None)
+}
+
+fn asked<A: Allocator + Copy>(words: Words<'_>) -> Option<Line<A>>
+    ensures { option_map line_of result ≡ option_map stream.Ask (ask_after words.entry) }
+{
+    let ask = ask(words)?;
+    Some(Line::Ask(ask))
+}
+
+fn sent<A: Allocator + Copy>(alloc: A, words: Words<'_>) -> Result<Option<Line<A>>, AllocError>
+    ensures { IfOk result (λ read. option_map line_of read ≡ option_map stream.Envelope (said.sent_of words.entry)) }
+{
+    match envelope_of_words(alloc, words)? {
+        Some(sent) => Ok(Some(Line::Envelope(sent))),
+        None => Ok(None),
+    }
 }
 
 fn envelope_of_words<A: Allocator + Copy>(
