@@ -1,7 +1,10 @@
 pub mod NumberLemmas
 pub mod NumberWords
 pub mod OneWord
-pub mod ReadCalls
+pub mod Reading
+pub mod CallLemmas
+pub mod CallTexts
+pub mod ReadLines
 pub mod ReadLemmas
 pub mod SpelledLemmas
 pub mod StepLemmas

@@ -11,8 +11,7 @@ use Rattle.std.proofs.lemmas.Str.Parse.{IsNumeralModel, numerals_by_value}
 use Rattle.std.proofs.lemmas.Fmt.{decimal-digits_value, digits_decimal, digits_value-decimal, decimal_digit, first_decimal, decimal_nonempty}
 use Rattle.shm_lines.proofs.NumberLemmas.{digit_at}
 use Rattle.shm_lines.proofs.StepLemmas.{NoBlank, lt-true, lt-test}
-use Rattle.shm_lines.specs.Spelling.{IsNumber}
-use Rattle.shm_lines.specs.Words.{IsWide, is_plain, number_below, number_of, wide_of}
+use Rattle.shm_lines.specs.Words.{IsNumber, IsWide, is_plain, number_below, number_of, wide_of}
 
 -- what is read is printed so, and what is printed so is read
 pub record IsPrinter {A : Type 0} (read : List ℕ → Option A) (Is : A → Type 0) (print : A → List ℕ) : Type 0 where

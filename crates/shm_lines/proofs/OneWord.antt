@@ -13,9 +13,8 @@ use Rattle.std.proofs.lemmas.Slice.Eq.{bytes_eq-Decides}
 use Rattle.shm_model.specs.declared.mode.GetFlags.{GetFlags}
 use Rattle.shm_lines.proofs.NumberWords.{IsPrinter, number}
 use Rattle.shm_lines.proofs.StepLemmas.{step, step-is, some-is, cond-some, and-parts, lt-true, lt-test, NoBlank, NoBlank-test}
-use Rattle.shm_lines.specs.Words.{number_of, byte_of, mode_of, flags_of, access_of}
+use Rattle.shm_lines.specs.Words.{IsMode, IsFlags, number_of, byte_of, mode_of, flags_of, access_of, flags_word, access_word}
 use Rattle.shm_model.specs.Mode.{mode_word}
-use Rattle.shm_lines.specs.Spelling.{IsMode, IsFlags, flags_word, access_word}
 
 -- ---- bytes
 

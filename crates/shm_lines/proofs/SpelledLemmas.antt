@@ -7,28 +7,22 @@ use Rattle.std.specs.Int.{IsInRange}
 use Rattle.std.proofs.lemmas.Bool.Decides.{nat_tests}
 use Rattle.shm_place.specs.Limits.{max_frames, pages}
 use Rattle.shm_model.specs.Book.{max_sites}
-use Rattle.shm_model.specs.declared.call.Cred.{Cred}
-use Rattle.shm_model.specs.declared.call.Op.{Op}
 use Rattle.shm_model.specs.declared.call.Op.TheVariants.{Get, Attach, Detach, Remove, Set, Stat}
+use Rattle.shm_model.specs.declared.call.Request.{Request}
 use Rattle.shm_model.specs.declared.call.Request.TheVariants.{Op as OpRequest, DetachAt}
 use Rattle.shm_model.specs.declared.event.Event.{Event}
 use Rattle.shm_model.specs.declared.event.Event.TheVariants.{Load, Store, Begin, Tick, Restart, Deliver, Repeat, Lose}
-use Rattle.shm_lines.proofs.NumberWords.{IsPrinter, number}
-use Rattle.shm_lines.proofs.OneWord.{byte, mode, flags, access}
-use Rattle.shm_lines.proofs.StepLemmas.{step-is, NoBlanks, NoBlank-test, has_none, words_of-join}
-use Rattle.shm_lines.specs.Words.{next_of, next_number, next_cred, is_from_1_to}
-use Rattle.shm_lines.specs.Line.{line_of, line_of_words, sites_line, call}
-use Rattle.shm_model.specs.Mode.{mode_word}
-use Rattle.shm_lines.specs.Spelling.{IsNumber, IsCred, IsCall, IsEvent, IsOpened, IsLine, flags_word, access_word, call_words, event_words, first_words, spelling}
+use Rattle.shm_lines.proofs.CallLemmas.{request-spelled}
+use Rattle.shm_lines.proofs.NumberWords.{number}
+use Rattle.shm_lines.proofs.OneWord.{byte}
+use Rattle.shm_lines.proofs.Reading.{prints}
+use Rattle.shm_lines.proofs.StepLemmas.{NoBlanks, NoBlank-test, has_none, words_of-join}
+use Rattle.shm_lines.specs.Calls.{IsRequest, request_verb, words_of_request}
+use Rattle.shm_lines.specs.Words.{IsNumber, is_from_1_to}
+use Rattle.shm_lines.specs.Line.{line_of, line_of_words, call_of, sites_line}
+use Rattle.shm_lines.specs.Spelling.{IsEvent, IsOpened, IsLine, event_words, first_words, spelling}
 use Rattle.shm_lines.specs.declared.line.Line.{Line}
 use Rattle.shm_lines.specs.declared.line.Line.TheVariants.{Sites, Event as EventLine, Show, Back}
-
-prints : {A : Type 0} {read : List ℕ → Option A} {Is : A → Type 0} {print : A → List ℕ} (p : IsPrinter read Is print)
-    (x : A) (words : List (List ℕ)) → Is x → next_of read (print x ∷ words) ≡ Some (x, words)
-prints {read} p x words h = step-is (read _) (λ y. Some (y, words)) x (p.prints x h)
-
-prints_cred : (cred : Cred) (words : List (List ℕ)) → IsCred cred → next_cred (decimal cred.uid ∷ decimal cred.gid ∷ words) ≡ Some (cred, words)
-prints_cred cred words h = rw (prints number cred.uid (decimal cred.gid ∷ words) h.0, prints number cred.gid words h.1) refl
 
 -- words without blanks are read as they stand
 stands : (verb : List ℕ) (others : List (List ℕ)) (line : Line) → has_none verb ≡ true → NoBlanks others → line_of_words (verb ∷ others) ≡ Some line
@@ -70,58 +64,23 @@ first-read count (Some size) (Some frames) n h =
 
 -- ---- segment calls
 
-module _ (site : ℕ) (s : IsNumber site) (cred : Cred) (c : IsCred cred) where
-  -- the words of a caller, and others
-  from : List (List ℕ) → List (List ℕ)
-  from words = decimal site ∷ decimal cred.uid ∷ decimal cred.gid ∷ words
+-- the verb of a call is none of the others
+to_call : (request : Request) (words : List (List ℕ)) → line_of_words (request_verb request ∷ words) ≡ call_of (request_verb request) words
+to_call (OpRequest (Get _ _ _ _ _)) words = refl
+to_call (OpRequest (Attach _ _ _)) words = refl
+to_call (OpRequest (Detach _)) words = refl
+to_call (OpRequest (Remove _ _)) words = refl
+to_call (OpRequest (Set _ _ _ _ _)) words = refl
+to_call (OpRequest (Stat _ _)) words = refl
+to_call (DetachAt _) words = refl
 
-  unparted_from : (words : List (List ℕ)) → NoBlanks words → NoBlanks (decimal site ∷ decimal cred.uid ∷ decimal cred.gid ∷ words)
-  unparted_from words h = (number.unparted site s, (number.unparted cred.uid c.0, (number.unparted cred.gid c.1, h)))
-
-  site-read : (words : List (List ℕ)) → next_number (decimal site ∷ decimal cred.uid ∷ decimal cred.gid ∷ words) ≡ Some (site, decimal cred.uid ∷ decimal cred.gid ∷ words)
-  site-read words = prints number site (decimal cred.uid ∷ decimal cred.gid ∷ words) s
-
-call-read : (site : ℕ) (op : Op) → IsNumber site → IsCall op → line_of (join_with_byte 32 (call_words site op)) ≡ Some (call site op)
-call-read site (Get cred key size m f) s h =
-    let words = decimal key ∷ decimal size ∷ mode_word m ∷ flags_word f ∷ [] in
-    stands (codes "get") (decimal site ∷ decimal cred.uid ∷ decimal cred.gid ∷ words) (call site (Get cred key size m f)) refl
-    (unparted_from site s cred h.0 words (number.unparted key h.1, (number.unparted size h.2, (mode.unparted m h.3, (flags.unparted f h.4, tt)))))
-    (rw (
-      site-read site s cred h.0 words,
-      prints_cred cred words h.0,
-      prints number key (decimal size ∷ mode_word m ∷ flags_word f ∷ []) h.1,
-      prints number size (mode_word m ∷ flags_word f ∷ []) h.2,
-      prints mode m (flags_word f ∷ []) h.3,
-      prints flags f [] h.4,
-    ) refl)
-call-read site (Attach cred id ro) s h =
-    let words = decimal id ∷ access_word ro ∷ [] in
-    stands (codes "attach") (decimal site ∷ decimal cred.uid ∷ decimal cred.gid ∷ words) (call site (Attach cred id ro)) refl
-    (unparted_from site s cred h.0 words (number.unparted id h.1, (access.unparted ro tt, tt)))
-    (rw (site-read site s cred h.0 words, prints_cred cred words h.0, prints number id (access_word ro ∷ []) h.1, prints access ro [] tt) refl)
-call-read site (Detach id) s h = absurd h
-call-read site (Remove cred id) s h =
-    let words = decimal id ∷ [] in
-    stands (codes "remove") (decimal site ∷ decimal cred.uid ∷ decimal cred.gid ∷ words) (call site (Remove cred id)) refl
-    (unparted_from site s cred h.0 words (number.unparted id h.1, tt))
-    (rw (site-read site s cred h.0 words, prints_cred cred words h.0, prints number id [] h.1) refl)
-call-read site (Set cred id uid gid m) s h =
-    let words = decimal id ∷ decimal uid ∷ decimal gid ∷ mode_word m ∷ [] in
-    stands (codes "set") (decimal site ∷ decimal cred.uid ∷ decimal cred.gid ∷ words) (call site (Set cred id uid gid m)) refl
-    (unparted_from site s cred h.0 words (number.unparted id h.1, (number.unparted uid h.2, (number.unparted gid h.3, (mode.unparted m h.4, tt)))))
-    (rw (
-      site-read site s cred h.0 words,
-      prints_cred cred words h.0,
-      prints number id (decimal uid ∷ decimal gid ∷ mode_word m ∷ []) h.1,
-      prints number uid (decimal gid ∷ mode_word m ∷ []) h.2,
-      prints number gid (mode_word m ∷ []) h.3,
-      prints mode m [] h.4,
-    ) refl)
-call-read site (Stat cred id) s h =
-    let words = decimal id ∷ [] in
-    stands (codes "stat") (decimal site ∷ decimal cred.uid ∷ decimal cred.gid ∷ words) (call site (Stat cred id)) refl
-    (unparted_from site s cred h.0 words (number.unparted id h.1, tt))
-    (rw (site-read site s cred h.0 words, prints_cred cred words h.0, prints number id [] h.1) refl)
+request-read : (site : ℕ) (request : Request) → IsNumber site → IsRequest request → line_of (join_with_byte 32 (event_words (Begin site request))) ≡ Some (EventLine (Begin site request))
+request-read site request s h =
+    let r = request-spelled request h in
+    let words = words_of_request request in
+    ap line_of_words (words_of-join (request_verb request) (decimal site ∷ words) r.unparted.0 (number.unparted site s, r.unparted.1))
+    ∙ to_call request (decimal site ∷ words)
+    ∙ rw (prints number site words s, r.back) refl
 
 -- ---- events
 
@@ -139,11 +98,7 @@ event-read (Store site at offset b) h =
       prints number offset (decimal b ∷ []) h.2,
       prints byte b [] h.3,
     ) refl)
-event-read (Begin site (OpRequest op)) h = call-read site op h.0 h.1
-event-read (Begin site (DetachAt at)) h =
-    stands (codes "detach") (decimal site ∷ decimal at ∷ []) (EventLine (Begin site (DetachAt at))) refl
-    (number.unparted site h.0, (number.unparted at h.1, tt))
-    (rw (prints number site (decimal at ∷ []) h.0, prints number at [] h.1) refl)
+event-read (Begin site request) h = request-read site request h.0 h.1
 event-read (Tick site) h = stands (codes "tick") (decimal site ∷ []) (EventLine (Tick site)) refl (number.unparted site h, tt) (rw (prints number site [] h) refl)
 event-read (Restart site) h = stands (codes "restart") (decimal site ∷ []) (EventLine (Restart site)) refl (number.unparted site h, tt) (rw (prints number site [] h) refl)
 event-read (Deliver k) h = stands (codes "deliver") (decimal k ∷ []) (EventLine (Deliver k)) refl (number.unparted k h, tt) (rw (prints number k [] h) refl)

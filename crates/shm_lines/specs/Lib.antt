@@ -1,4 +1,5 @@
 pub mod Words
+pub mod Calls
 pub mod Line
 pub mod Spelling
 pub mod Limits

@@ -1,6 +1,6 @@
 -- The words of a line, which one blank parts, and what single words stand for. A number is decimal, with no sign and no leading zero; a
 -- mode has exactly three octal digits.
-use Rattle.std.specs.Prelude.{ℕ, ◌+◌, ◌^◌, ◌<◌, ◌==◌, ◌&&◌, Bool, true, false, not, if◌then◌else◌, List, [], ◌∷◌, length, codes, slice_index, nat_lt, Option, None, Some, option_and_then}
+use Rattle.std.specs.Prelude.{◌≡◌, ℕ, ◌+◌, ◌%◌, ◌^◌, ◌<◌, ◌==◌, ◌&&◌, Bool, true, false, not, if◌then◌else◌, List, [], ◌∷◌, length, codes, slice_index, nat_lt, Option, None, Some, option_and_then}
 use Rattle.std.specs.List.{slice_split, list_all}
 use Rattle.std.specs.Char.{is_ascii_digit, is_digit}
 use Rattle.std.specs.Str.{bytes_eq}
@@ -30,6 +30,9 @@ number_below most word = if is_plain word then (if nat_lt (digits_value 10 word)
 
 abbrev pub number_of : List ℕ → Option ℕ
 number_of = number_below (2 ^ 32)
+
+abbrev pub IsNumber : ℕ → Type 0
+IsNumber n = n < 2 ^ 32
 
 -- the numbers of transactions and calls, and clocks
 abbrev pub IsWide : ℕ → Type 0
@@ -62,6 +65,26 @@ access_of word =
     else if bytes_eq word (codes "rw") then Some false
     else None
 
+-- ---- which values have words, and the words
+
+abbrev pub IsCred : Cred → Type 0
+IsCred cred = IsNumber cred.uid × IsNumber cred.gid
+
+-- nine bits
+abbrev pub IsMode : ℕ → Type 0
+IsMode mode = mode < 512
+
+-- no bit but those of IPC_CREAT and IPC_EXCL
+abbrev pub IsFlags : GetFlags → Type 0
+IsFlags flags = (flags.0 % 512 ≡ 0) × (flags.0 < 2048)
+
+abbrev pub flags_word : GetFlags → List ℕ
+flags_word flags =
+    if flags.0 == 0 then codes "-" else if flags.0 == 512 then codes "c" else if flags.0 == 1024 then codes "x" else codes "cx"
+
+abbrev pub access_word : Bool → List ℕ
+access_word ro = if ro then codes "ro" else codes "rw"
+
 -- ---- what the first words stand for, and the others
 
 abbrev pub next_word : List (List ℕ) → Option (List ℕ × List (List ℕ))
@@ -93,3 +116,21 @@ next_named name most words = do
   (word, words) ← next_word words
   (n, words) ← next_number words
   if bytes_eq word name && is_from_1_to most n then Some (n, words) else None
+
+-- ---- several words
+
+-- what was read, if no word is left
+abbrev pub ended : {A : Type 0} → A → List (List ℕ) → Option A
+ended x words = if is_end words then Some x else None
+
+-- names, and what the words after each say
+abbrev pub Verbs : Type 0 → Type 0
+Verbs A = List (List ℕ × (List (List ℕ) → Option A))
+
+-- by the first word; what no name is of, the other reader has
+abbrev pub by_verb : {A : Type 0} → Verbs A → (List ℕ → List (List ℕ) → Option A) → List ℕ → List (List ℕ) → Option A
+by_verb [] other word words = other word words
+by_verb ((verb, says) ∷ rest) other word words = if bytes_eq word verb then says words else by_verb rest other word words
+
+abbrev pub nothing : {A : Type 0} → List ℕ → List (List ℕ) → Option A
+nothing word words = None

@@ -1,7 +1,8 @@
-//! The lines of a debugger's script: how each is read, and how it is spelled; and the lines of a workload, which say what each caller does.
+//! The lines of a debugger's script: how each is read, and how it is spelled; and the lines of a workload, which say what each caller does. And the words of a segment call, which are the same wherever one is spelled.
 #![tactic(auto)]
 
 mod access;
+mod calls;
 mod hints;
 pub mod laws;
 mod line;
@@ -9,7 +10,6 @@ mod mode;
 mod number;
 mod options;
 mod parse;
-mod parse_calls;
 mod spelling;
 mod spelling_calls;
 mod spelling_first;
@@ -19,6 +19,7 @@ mod workload_fault;
 mod workload_line;
 
 pub use access::WorkloadAccess;
+pub use calls::{parse_call, parse_request};
 pub use hints::{
     Expected, Hint, Recalling, Word, hint_of_access_line, hint_of_first_line, hint_of_script_line,
     write_hint,
@@ -27,6 +28,7 @@ pub use line::Line;
 pub use number::wide_number;
 pub use options::{AccessWord, FlagsWord};
 pub use parse::{BadLine, parse_line};
+pub use spelling_calls::{CallWords, RequestWords};
 pub use words::{Words, split_at};
 pub use workload::{Workload, parse_workload};
 pub use workload_fault::WorkloadFault;

@@ -8,7 +8,7 @@ pub struct FlagsWord(pub GetFlags);
 
 impl fmt::Display for FlagsWord {
     ghost use Rattle.std.specs.Prelude.{Some};
-    ghost use Rattle.shm_lines.specs.Spelling as spelled;
+    ghost use Rattle.shm_lines.specs.Words as spelled;
 
     ghost output = { λ word. Some (spelled.flags_word word.0) };
 
@@ -33,7 +33,7 @@ pub struct AccessWord(pub bool);
 
 impl fmt::Display for AccessWord {
     ghost use Rattle.std.specs.Prelude.{Some};
-    ghost use Rattle.shm_lines.specs.Spelling as spelled;
+    ghost use Rattle.shm_lines.specs.Words as spelled;
 
     ghost output = { λ word. Some (spelled.access_word word.0) };
 

@@ -1,10 +1,10 @@
 //! How a line is read: its first word says which line it is, and those behind it what it holds.
 ghost use Rattle.std.specs.Prelude.{◌≡◌, ℕ, List, ok_or, codes};
-ghost use Rattle.shm_lines.specs.Words.{next_named};
-ghost use Rattle.shm_lines.specs.Line.{line_of, by_verb, others, sites_of, preset_of, frames_of, load_of, store_of, deliver_of, repeat_of, lose_of, tick_of, restart_of, show_of, back_of};
+ghost use Rattle.shm_lines.specs.Words.{by_verb, next_named};
+ghost use Rattle.shm_lines.specs.Line.{line_of, call_of, others, sites_of, preset_of, frames_of, load_of, store_of, deliver_of, repeat_of, lose_of, tick_of, restart_of, show_of, back_of};
 
+use crate::calls::parse_request;
 use crate::line::Line;
-use crate::parse_calls::call;
 use crate::words::Words;
 use shm_model::{Event, Opening};
 use shm_place::{MAX_FRAMES, PAGES, PageId, SegId, SiteId, Sites};
@@ -47,7 +47,7 @@ fn read(line: &[u8]) -> Option<Line>
 }
 
 fn other(verb: &[u8], words: Words<'_>) -> Option<Line>
-    ensures { result ≡ by_verb others verb.now words.entry }
+    ensures { result ≡ by_verb others call_of verb.now words.entry }
 {
     if verb == b"tick".as_slice() {
         return tick(words);
@@ -65,6 +65,18 @@ fn other(verb: &[u8], words: Words<'_>) -> Option<Line>
         return sites(words);
     }
     call(verb, words)
+}
+
+/// The line of a segment call: behind the site stand the words that the call has everywhere.
+fn call(verb: &[u8], words: Words<'_>) -> Option<Line>
+    ensures { result ≡ call_of verb.now words.entry }
+{
+    let (site, words) = words.number()?;
+    let request = parse_request(verb, words)?;
+    Some(Line::Event(Event::Begin {
+        site: SiteId(site),
+        request,
+    }))
 }
 
 fn sites(words: Words<'_>) -> Option<Line>

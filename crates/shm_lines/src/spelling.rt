@@ -1,8 +1,8 @@
 //! How a line is spelled: the one spelling that is read back as it.
 use crate::line::Line;
-use crate::spelling_calls::Call;
+use crate::spelling_calls::BehindRequest;
 use crate::spelling_first::First;
-use shm_model::{Event, Request};
+use shm_model::Event;
 use std::fmt;
 
 impl fmt::Display for Line {
@@ -43,6 +43,7 @@ impl fmt::Display for Happening {
 
     ghost output = { λ event. Some (join_with_byte 32 (spelled.event_words event.0)) };
 
+    #[tactic(auto, using(crate::proofs::CallTexts::before_request))]
     fn fmt<W: fmt::Write>(&self, f: &mut fmt::Formatter<W>) -> fmt::Result {
         match self.0 {
             Event::Load { site, at, offset } => {
@@ -59,11 +60,9 @@ impl fmt::Display for Happening {
                 write!(f, "store {site} {at} {offset} {byte}")
             }
             Event::Begin { site, request } => {
-                let request = RequestWords {
-                    site: site.0,
-                    request,
-                };
-                write!(f, "{request}")
+                let site = site.0;
+                let behind = BehindRequest(request);
+                write!(f, "{} {site} {behind}", behind.verb())
             }
             Event::Tick { site } => {
                 let site = site.0;
@@ -76,32 +75,6 @@ impl fmt::Display for Happening {
             Event::Deliver(number) => write!(f, "deliver {number}"),
             Event::Repeat(number) => write!(f, "repeat {number}"),
             Event::Lose(number) => write!(f, "lose {number}"),
-        }
-    }
-}
-
-/// What a site is asked to begin, as its line spells it.
-#[derive(Clone, Copy)]
-struct RequestWords {
-    site: u32,
-    request: Request,
-}
-
-impl fmt::Display for RequestWords {
-    ghost use Rattle.std.specs.Prelude.{Some};
-    ghost use Rattle.std.specs.List.{join_with_byte};
-    ghost use Rattle.shm_lines.specs.Spelling as spelled;
-
-    ghost output = { λ words. Some (join_with_byte 32 (spelled.request_words words.site words.request)) };
-
-    fn fmt<W: fmt::Write>(&self, f: &mut fmt::Formatter<W>) -> fmt::Result {
-        let site = self.site;
-        match self.request {
-            Request::Op(op) => {
-                let call = Call { site, op };
-                write!(f, "{call}")
-            }
-            Request::DetachAt(at) => write!(f, "detach {site} {at}"),
         }
     }
 }

@@ -2,8 +2,7 @@
 ghost use Rattle.std.specs.List.{slice_split};
 ghost use Rattle.std.specs.Prelude.{◌≡◌, ◌==◌, ◌<◌, [], ◌∷◌, length, IfSome, IfNone};
 ghost use Rattle.std.specs.Option.{option_map_or};
-ghost use Rattle.shm_lines.specs.Line as said;
-ghost use Rattle.shm_lines.specs.Words.{words_of, byte_of, mode_of, flags_of, access_of, next_word, next_of, next_number, next_cred, is_end};
+ghost use Rattle.shm_lines.specs.Words.{words_of, byte_of, mode_of, flags_of, access_of, next_word, next_of, next_number, next_cred, is_end, ended};
 
 use crate::line::Line;
 use crate::mode::{access, flags, mode};
@@ -113,7 +112,7 @@ impl<'a> Words<'a> {
     /// The line, if no word is left.
     #[inline(always)]
     pub fn if_closed(self, line: Line) -> Option<Line>
-        ensures { result ≡ said.closed line self.entry }
+        ensures { result ≡ ended line self.entry }
     {
         if !self.is_empty() {
             return None;

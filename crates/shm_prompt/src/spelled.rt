@@ -1,7 +1,9 @@
 //! Whether a line has a spelling that is read back as it, and the spelling.
 ghost use Rattle.std.specs.Prelude.{◌≡◌, ◌≤◌, ◌==◌, [], ◌∷◌, ◌++◌, true, not, OnOk, length};
 ghost use Rattle.std.specs.List.{list_all};
-ghost use Rattle.shm_lines.specs.Spelling.{IsCall, IsEvent, IsLine, IsOpened, IsRequest};
+ghost use Rattle.shm_model.specs.declared.call.Request.TheVariants.{Op as OpRequest};
+ghost use Rattle.shm_lines.specs.Calls.{IsRequest};
+ghost use Rattle.shm_lines.specs.Spelling.{IsEvent, IsLine, IsOpened};
 ghost use Rattle.shm_prompt.specs.Spelled.{IsSpelled, line_bytes, max_line_bytes};
 
 use crate::save_refusal::SaveRefusal;
@@ -112,7 +114,7 @@ fn is_request(request: Request) -> bool
 }
 
 fn is_call(op: Op) -> bool
-    ensures { result ≡ true → IsCall op }
+    ensures { result ≡ true → IsRequest (OpRequest op) }
 {
     match op {
         Op::Get { flags, .. } => flags.0 % 512 == 0 && flags.0 < 2048,

@@ -2,17 +2,16 @@
 use Rattle.std.proofs.Common.{◌≡◌, ℕ, List, ◌∷◌, Some, ap, subst}
 use Rattle.std.specs.Prelude.{codes}
 use Rattle.shm_model.specs.declared.asked.Asked.TheVariants.{Load, Store}
-use Rattle.shm_model.specs.declared.call.Request.TheVariants.{Op as OpRequest, DetachAt}
+use Rattle.shm_lines.proofs.CallLemmas.{request-is}
 use Rattle.shm_lines.proofs.NumberWords.{number}
 use Rattle.shm_lines.proofs.OneWord.{byte}
 use Rattle.shm_lines.proofs.ReadLemmas.{onto, onto2}
 use Rattle.shm_lines.proofs.StepLemmas.{step, some-is}
-use Rattle.shm_wire.proofs.CallWords.{common-is}
+use Rattle.shm_lines.specs.Calls.{request_of}
 use Rattle.shm_wire.proofs.MessageWords.{took_page}
 use Rattle.shm_wire.proofs.Reading.{took, ended-is, cond-of, Reads, Sound, SoundReader, SoundWords, by_verb-is, verb-is}
 use Rattle.shm_wire.proofs.TagWords.{tag}
-use Rattle.shm_wire.specs.Asks.{Ask, IsAsk, IsAsked, ask_after, ask_words, asked_of, asked_words, begun_of, detach_of, is_block, load_of, own, read_of, show_of, store_of, try_load_of, try_store_of}
-use Rattle.shm_wire.specs.Calls.{common_of}
+use Rattle.shm_wire.specs.Asks.{Ask, IsAsk, IsAsked, ask_after, ask_words, asked_of, asked_words, begun_of, is_block, load_of, own, read_of, show_of, store_of, try_load_of, try_store_of}
 use Rattle.shm_wire.specs.Words.{by_verb, ended}
 use Rattle.shm_wire.specs.declared.ask.Question.{Question}
 use Rattle.shm_wire.specs.declared.ask.Question.TheVariants.{Access, Try, Read, Begin, Tick, Show}
@@ -62,12 +61,6 @@ module _ (words : List (List ℕ)) (asked : Question) where
       let e = ended-is (Read a.value o.value l.value) asked l.others c.1 in
       subst (ReadsAsked (codes "read" ∷ words)) e.1 ((a.is, o.is, l.is, c.0), ap (λ l. codes "read" ∷ l) (onto a.are (onto o.are (onto l.are e.0))))
 
-  detach-is : detach_of words ≡ Some asked → ReadsAsked (codes "detach" ∷ words) asked
-  detach-is h =
-      let a = took number words _ asked h in
-      let e = ended-is (Begin (DetachAt a.value)) asked a.others a.gives in
-      subst (ReadsAsked (codes "detach" ∷ words)) e.1 (a.is, ap (λ l. codes "detach" ∷ l) (onto a.are e.0))
-
   tick-is : ended Tick words ≡ Some asked → ReadsAsked (codes "tick" ∷ words) asked
   tick-is h =
       let e = ended-is Tick asked words h in
@@ -81,12 +74,12 @@ module _ (words : List (List ℕ)) (asked : Question) where
 
 begun-is : SoundReader IsAsked asked_words begun_of
 begun-is word words asked h =
-    let s = step (common_of word words) _ asked h in
-    let r = common-is word words s.value s.gave in
-    subst (ReadsAsked (word ∷ words)) (some-is (Begin (OpRequest s.value)) asked s.gives) (r.0, r.1)
+    let s = step (request_of word words) _ asked h in
+    let r = request-is word words s.value s.gave in
+    subst (ReadsAsked (word ∷ words)) (some-is (Begin s.value) asked s.gives) r
 
 sound : Sound IsAsked asked_words own
-sound = (load-is, (store-is, (try_load-is, (try_store-is, (read-is, (detach-is, (tick-is, (show-is, tt))))))))
+sound = (load-is, (store-is, (try_load-is, (try_store-is, (read-is, (tick-is, (show-is, tt)))))))
 
 asked-is : (words : List (List ℕ)) (asked : Question) → asked_of words ≡ Some asked → ReadsAsked words asked
 asked-is words asked h = verb-is IsAsked asked_words (by_verb own begun_of) (by_verb-is IsAsked asked_words own begun_of sound begun-is) words asked h

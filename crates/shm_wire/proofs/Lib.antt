@@ -1,6 +1,5 @@
 pub mod NameWords
 pub mod Reading
-pub mod CallWords
 pub mod ReplyWords
 pub mod PageWords
 pub mod MessageWords

@@ -9,12 +9,12 @@ use Rattle.shm_lines.proofs.NumberWords.{number, wide}
 use Rattle.shm_lines.proofs.ReadLemmas.{onto, onto2}
 use Rattle.shm_lines.proofs.StepLemmas.{step, some-is, lt-true}
 use Rattle.shm_lines.specs.Words.{◌>>=◌}
-use Rattle.shm_wire.proofs.CallWords.{call-is}
+use Rattle.shm_lines.proofs.CallLemmas.{call-is}
 use Rattle.shm_wire.proofs.NameWords.{kind}
 use Rattle.shm_wire.proofs.PageWords.{page}
 use Rattle.shm_wire.proofs.Reading.{took, ended-is, cond-of, Reads, Sound, SoundReader, by_verb-is, nothing-is, verb-is}
 use Rattle.shm_wire.proofs.ReplyWords.{reply-is}
-use Rattle.shm_wire.specs.Calls.{call_of}
+use Rattle.shm_lines.specs.Calls.{call_of}
 use Rattle.shm_wire.specs.Messages.{IsPageId, IsMessage, message_words, next_page, ask_of, numbered_of, hand_of, page_of, called_of, replied_of, of_segment, plain, plain_of, message_of}
 use Rattle.shm_wire.specs.Replies.{reply_of}
 use Rattle.shm_wire.specs.Words.{by_verb, ended, nothing}

@@ -3,34 +3,35 @@ use Rattle.std.proofs.Common.{[], ◌∷◌, Option, Some, refl, ap}
 use Rattle.std.specs.Prelude.{codes}
 use Rattle.std.specs.Fmt.{decimal}
 use Rattle.shm_model.specs.declared.asked.Asked.TheVariants.{Load, Store}
-use Rattle.shm_model.specs.declared.call.Op.{Op}
 use Rattle.shm_model.specs.declared.call.Op.TheVariants.{Get, Attach, Detach, Remove, Set, Stat}
+use Rattle.shm_model.specs.declared.call.Request.{Request}
 use Rattle.shm_model.specs.declared.call.Request.TheVariants.{Op as OpRequest, DetachAt}
+use Rattle.shm_lines.proofs.CallLemmas.{request-spelled}
 use Rattle.shm_lines.proofs.NumberWords.{number}
 use Rattle.shm_lines.proofs.OneWord.{byte}
 use Rattle.shm_lines.proofs.StepLemmas.{NoBlank-test}
-use Rattle.shm_lines.specs.Spelling as script
+use Rattle.shm_lines.specs.Calls.{IsRequest, request_words}
 use Rattle.shm_lines.specs.Words.{◌>>=◌}
 use Rattle.shm_wire.proofs.TagWords.{tag}
-use Rattle.shm_wire.proofs.CallWords.{common-spelled}
 use Rattle.shm_wire.proofs.Reading.{prints, Spelled}
 use Rattle.shm_wire.proofs.SpelledMessages.{prints_page}
 use Rattle.shm_wire.specs.Asks.{Ask, IsAsk, IsAsked, ask_after, asked_of, asked_words}
-use Rattle.shm_wire.specs.Calls.{call_words}
 use Rattle.shm_wire.specs.declared.ask.Question.{Question}
 use Rattle.shm_wire.specs.declared.ask.Question.TheVariants.{Access, Try, Read, Begin, Tick, Show}
 
-begins : Option Op → Option Question
-begins o = o >>= λ op. Some (Begin (OpRequest op))
+begins : Option Request → Option Question
+begins o = o >>= λ request. Some (Begin request)
 
-begun-spelled : (op : Op) → script.IsCall op → Spelled asked_of (call_words op) (Begin (OpRequest op))
+-- the verb of a call is none of those of other asks
+begun-spelled : (request : Request) → IsRequest request → Spelled asked_of (request_words request) (Begin request)
 unfolding begins
-begun-spelled (Get cred key size m f) h = let s = common-spelled (Get cred key size m f) h in record { unparted = s.unparted; back = ap begins s.back }
-begun-spelled (Attach cred id ro) h = let s = common-spelled (Attach cred id ro) h in record { unparted = s.unparted; back = ap begins s.back }
-begun-spelled (Detach id) h = absurd h
-begun-spelled (Remove cred id) h = let s = common-spelled (Remove cred id) h in record { unparted = s.unparted; back = ap begins s.back }
-begun-spelled (Set cred id uid gid m) h = let s = common-spelled (Set cred id uid gid m) h in record { unparted = s.unparted; back = ap begins s.back }
-begun-spelled (Stat cred id) h = let s = common-spelled (Stat cred id) h in record { unparted = s.unparted; back = ap begins s.back }
+begun-spelled (OpRequest (Get cred key size m f)) h = let s = request-spelled (OpRequest (Get cred key size m f)) h in record { unparted = s.unparted; back = ap begins s.back }
+begun-spelled (OpRequest (Attach cred id ro)) h = let s = request-spelled (OpRequest (Attach cred id ro)) h in record { unparted = s.unparted; back = ap begins s.back }
+begun-spelled (OpRequest (Detach id)) h = absurd h
+begun-spelled (OpRequest (Remove cred id)) h = let s = request-spelled (OpRequest (Remove cred id)) h in record { unparted = s.unparted; back = ap begins s.back }
+begun-spelled (OpRequest (Set cred id uid gid m)) h = let s = request-spelled (OpRequest (Set cred id uid gid m)) h in record { unparted = s.unparted; back = ap begins s.back }
+begun-spelled (OpRequest (Stat cred id)) h = let s = request-spelled (OpRequest (Stat cred id)) h in record { unparted = s.unparted; back = ap begins s.back }
+begun-spelled (DetachAt at) h = let s = request-spelled (DetachAt at) h in record { unparted = s.unparted; back = ap begins s.back }
 
 asked-spelled : (asked : Question) → IsAsked asked → Spelled asked_of (asked_words asked) asked
 asked-spelled (Access (Load at offset)) h = record {
@@ -53,11 +54,7 @@ asked-spelled (Read at offset count) h = record {
   unparted = (NoBlank-test (codes "read") refl, (number.unparted at h.0, (number.unparted offset h.1, (number.unparted count h.2, tt))));
   back = rw (prints number at (decimal offset ∷ decimal count ∷ []) h.0, prints number offset (decimal count ∷ []) h.1, prints number count [] h.2, h.3) refl;
 }
-asked-spelled (Begin (OpRequest op)) h = begun-spelled op h
-asked-spelled (Begin (DetachAt at)) h = record {
-  unparted = (NoBlank-test (codes "detach") refl, (number.unparted at h, tt));
-  back = rw (prints number at [] h) refl;
-}
+asked-spelled (Begin request) h = begun-spelled request h
 asked-spelled Tick h = record { unparted = (NoBlank-test (codes "tick") refl, tt); back = refl }
 asked-spelled (Show page) h = record {
   unparted = (NoBlank-test (codes "show") refl, (number.unparted page.seg h.0, (number.unparted page.index h.1, tt)));

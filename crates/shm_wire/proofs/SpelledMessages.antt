@@ -7,12 +7,12 @@ use Rattle.shm_model.specs.Entry.{Note, Ask, Clear, Cleared, Hand, Page, Confirm
 use Rattle.shm_model.specs.Message.{Message, Of, Call, Replies, Purge, Purged}
 use Rattle.shm_lines.proofs.NumberWords.{number, wide}
 use Rattle.shm_lines.proofs.StepLemmas.{NoBlanks, NoBlank-test, lt-test}
-use Rattle.shm_wire.proofs.CallWords.{call-spelled}
+use Rattle.shm_lines.proofs.CallLemmas.{call-spelled}
 use Rattle.shm_wire.proofs.NameWords.{kind}
 use Rattle.shm_wire.proofs.PageWords.{page}
 use Rattle.shm_wire.proofs.Reading.{prints, Spelled}
 use Rattle.shm_wire.proofs.ReplyWords.{reply-spelled}
-use Rattle.shm_wire.specs.Calls.{call_words}
+use Rattle.shm_lines.specs.Calls.{call_words}
 use Rattle.shm_wire.specs.Messages.{IsPageId, IsNote, IsMessage, message_words, message_of, next_page, note_words, of_page}
 use Rattle.shm_wire.specs.PageWord.{page_word}
 use Rattle.shm_wire.specs.Replies.{reply_words}

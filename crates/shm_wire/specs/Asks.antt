@@ -5,12 +5,11 @@ use Rattle.std.specs.Fmt.{decimal}
 use Rattle.std.specs.List.{join_with_byte}
 use Rattle.shm_place.specs.Limits.{page_bytes}
 use Rattle.shm_model.specs.declared.asked.Asked.TheVariants.{Load, Store}
-use Rattle.shm_model.specs.declared.call.Request.TheVariants.{Op as OpRequest, DetachAt}
 use Rattle.shm_model.specs.declared.event.Event.TheVariants as event
+use Rattle.shm_lines.specs.Calls.{IsRequest, request_of, request_words}
 use Rattle.shm_lines.specs.Words.{◌>>=◌, byte_of, next_word, next_of, next_number}
 use Rattle.shm_lines.specs.Spelling as script
 use Rattle.shm_lines.specs.Spelling.{IsNumber}
-use Rattle.shm_wire.specs.Calls.{common_of, less_site}
 use Rattle.shm_wire.specs.Messages.{IsPageId, next_page}
 use Rattle.shm_wire.specs.Tag.{IsTag, tag_of}
 use Rattle.shm_wire.specs.TagOf.{tag_text}
@@ -34,9 +33,14 @@ IsAsked (Access (Store at offset byte)) = IsNumber at × IsNumber offset × (byt
 IsAsked (Try (Load at offset)) = IsNumber at × IsNumber offset
 IsAsked (Try (Store at offset byte)) = IsNumber at × IsNumber offset × (byte < 256)
 IsAsked (Read at offset count) = IsNumber at × IsNumber offset × IsNumber count × IsBlock offset count
-IsAsked (Begin request) = script.IsRequest request
+IsAsked (Begin request) = IsRequest request
 IsAsked Tick = ⊤
 IsAsked (Show page) = IsPageId page
+
+-- a script's words without the site, which is their second
+abbrev pub less_site : List (List ℕ) → List (List ℕ)
+less_site (verb ∷ site ∷ words) = verb ∷ words
+less_site words = words
 
 abbrev pub asked_words : Question → List (List ℕ)
 asked_words (Access (Load at offset)) = less_site (script.event_words (event.Load 0 at offset))
@@ -44,7 +48,7 @@ asked_words (Access (Store at offset byte)) = less_site (script.event_words (eve
 asked_words (Try (Load at offset)) = codes "try-load" ∷ decimal at ∷ decimal offset ∷ []
 asked_words (Try (Store at offset byte)) = codes "try-store" ∷ decimal at ∷ decimal offset ∷ decimal byte ∷ []
 asked_words (Read at offset count) = codes "read" ∷ decimal at ∷ decimal offset ∷ decimal count ∷ []
-asked_words (Begin request) = less_site (script.request_words 0 request)
+asked_words (Begin request) = request_words request
 asked_words Tick = less_site (script.event_words (event.Tick 0))
 asked_words (Show page) = codes "show" ∷ decimal page.seg ∷ decimal page.index ∷ []
 
@@ -86,28 +90,22 @@ read_of words = do
   (count, words) ← next_number words
   if is_block offset count then ended (Read at offset count) words else None
 
--- `detach attachment`
-abbrev pub detach_of : List (List ℕ) → Option Question
-detach_of words = do
-  (at, words) ← next_number words
-  ended (Begin (DetachAt at)) words
-
 -- `show segment index`
 abbrev pub show_of : List (List ℕ) → Option Question
 show_of words = do
   (page, words) ← next_page words
   ended (Show page) words
 
--- the other segment calls
+-- segment calls
 abbrev pub begun_of : List ℕ → List (List ℕ) → Option Question
 begun_of verb words = do
-  op ← common_of verb words
-  Some (Begin (OpRequest op))
+  request ← request_of verb words
+  Some (Begin request)
 
 abbrev pub own : Verbs Question
 own =
     (codes "load", load_of) ∷ (codes "store", store_of) ∷ (codes "try-load", try_load_of) ∷ (codes "try-store", try_store_of)
-    ∷ (codes "read", read_of) ∷ (codes "detach", detach_of) ∷ (codes "tick", ended Tick) ∷ (codes "show", show_of) ∷ []
+    ∷ (codes "read", read_of) ∷ (codes "tick", ended Tick) ∷ (codes "show", show_of) ∷ []
 
 abbrev pub asked_of : List (List ℕ) → Option Question
 asked_of words = do

@@ -1,7 +1,6 @@
 pub mod Words
 pub mod Tag
 pub mod TagOf
-pub mod Calls
 pub mod Replies
 pub mod PageWord
 pub mod Messages

@@ -6,7 +6,7 @@ use Rattle.shm_model.specs.Entry.{Note, Ask, Clear, Cleared, Hand, Page, Confirm
 use Rattle.shm_model.specs.Message.{Message, Of, Call, Replies, Purge, Purged}
 use Rattle.shm_lines.specs.Words.{◌>>=◌, next_word, next_of, next_number, IsWide, wide_of}
 use Rattle.shm_lines.specs.Spelling.{IsNumber}
-use Rattle.shm_wire.specs.Calls.{IsCall, call_of, call_words}
+use Rattle.shm_lines.specs.Calls.{IsCall, call_of, call_words}
 use Rattle.shm_wire.specs.PageWord.{IsPage, page_word, bytes_of}
 use Rattle.shm_wire.specs.Replies.{IsReply, reply_of, reply_words}
 use Rattle.shm_wire.specs.Words.{Verbs, by_verb, ended, kind_of, kind_word, nothing}

@@ -5,7 +5,7 @@ use Rattle.shm_model.specs.declared.call.Errno.{Errno}
 use Rattle.shm_model.specs.declared.call.Errno.TheVariants.{Eacces, Eexist, Eidrm, Einval, Enoent, Enospc, Eperm}
 use Rattle.shm_model.specs.declared.kind.Kind.{Kind}
 use Rattle.shm_model.specs.declared.kind.Kind.TheVariants.{Read, Write}
-use Rattle.shm_lines.specs.Words.{is_end}
+pub use Rattle.shm_lines.specs.Words.{Verbs, by_verb, ended, nothing}
 
 -- names, and what each stands for
 abbrev pub Names : Type 0 → Type 0
@@ -52,21 +52,3 @@ errnos =
 
 abbrev pub errno_of : List ℕ → Option Errno
 errno_of = by_name errnos
-
--- ---- several words
-
--- what was read, if no word is left
-abbrev pub ended : {A : Type 0} → A → List (List ℕ) → Option A
-ended x words = if is_end words then Some x else None
-
--- names, and what the words after each say
-abbrev pub Verbs : Type 0 → Type 0
-Verbs A = List (List ℕ × (List (List ℕ) → Option A))
-
--- by the first word; what no name is of, the other reader has
-abbrev pub by_verb : {A : Type 0} → Verbs A → (List ℕ → List (List ℕ) → Option A) → List ℕ → List (List ℕ) → Option A
-by_verb [] other word words = other word words
-by_verb ((verb, says) ∷ rest) other word words = if bytes_eq word verb then says words else by_verb rest other word words
-
-abbrev pub nothing : {A : Type 0} → List ℕ → List (List ℕ) → Option A
-nothing word words = None

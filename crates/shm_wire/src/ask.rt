@@ -1,6 +1,6 @@
 //! What a caller asks of a site, under a tag of its own.
-use crate::spelling_calls::CallWords;
 use crate::tag::Tag;
+use shm_lines::RequestWords;
 use shm_model::{Asked, Request};
 use shm_place::{PageId, SiteId};
 use std::fmt;
@@ -61,8 +61,7 @@ impl fmt::Display for Question {
                 write!(f, "try-store {at} {offset} {byte}")
             }
             Question::Read { at, offset, length } => write!(f, "read {at} {offset} {length}"),
-            Question::Begin(Request::Op(op)) => write!(f, "{}", CallWords(*op)),
-            Question::Begin(Request::DetachAt(at)) => write!(f, "detach {at}"),
+            Question::Begin(request) => write!(f, "{}", RequestWords(*request)),
             Question::Tick => write!(f, "tick"),
             Question::Show(page) => write!(f, "show {} {}", page.seg.0, page.index),
         }

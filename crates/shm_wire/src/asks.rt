@@ -2,14 +2,13 @@
 ghost use Rattle.std.specs.Prelude.{◌≡◌, option_map};
 ghost use Rattle.shm_wire.specs.Words.{ended};
 ghost use Rattle.shm_wire.specs.Asks as said;
-ghost use Rattle.shm_wire.specs.Asks.{ask_of, asked_of, begun_of, detach_of, load_of, read_of, show_of, store_of, try_load_of, try_store_of};
+ghost use Rattle.shm_wire.specs.Asks.{ask_of, asked_of, begun_of, load_of, read_of, show_of, store_of, try_load_of, try_store_of};
 
 use crate::ask::{Ask, Question};
-use crate::calls::common;
 use crate::messages::page_id;
 use crate::tag::Tag;
-use shm_lines::Words;
-use shm_model::{Asked, Request};
+use shm_lines::{Words, parse_request};
+use shm_model::Asked;
 use shm_place::{PAGE_BYTES, SiteId};
 
 /// What is asked, of which site and under which tag.
@@ -45,9 +44,6 @@ fn ask_of_words(words: Words<'_>) -> Option<Question>
     }
     if verb == b"read".as_slice() {
         return read(words);
-    }
-    if verb == b"detach".as_slice() {
-        return detach(words);
     }
     if verb == b"tick".as_slice() {
         return tick(words);
@@ -123,16 +119,6 @@ fn is_block(offset: u32, length: u32) -> bool
     length > 0 && length <= PAGE_BYTES as u32 && u64::from(offset) + u64::from(length) <= 1 << 32
 }
 
-fn detach(words: Words<'_>) -> Option<Question>
-    ensures { result ≡ detach_of words.entry }
-{
-    let (at, words) = words.number()?;
-    if !words.is_empty() {
-        return None;
-    }
-    Some(Question::Begin(Request::DetachAt(at)))
-}
-
 fn tick(words: Words<'_>) -> Option<Question>
     ensures { result ≡ ended Question.Tick words.entry }
 {
@@ -155,6 +141,6 @@ fn show(words: Words<'_>) -> Option<Question>
 fn begin_of_words(verb: &[u8], words: Words<'_>) -> Option<Question>
     ensures { result ≡ begun_of verb.now words.entry }
 {
-    let op = common(verb, words)?;
-    Some(Question::Begin(Request::Op(op)))
+    let request = parse_request(verb, words)?;
+    Some(Question::Begin(request))
 }

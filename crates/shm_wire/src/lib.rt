@@ -12,7 +12,6 @@ mod answer;
 mod answers;
 mod ask;
 mod asks;
-mod calls;
 pub mod laws;
 mod line;
 mod messages;
@@ -21,7 +20,7 @@ mod parse;
 mod replies;
 mod sent;
 mod spelling;
-mod spelling_calls;
+mod spelling_replies;
 mod tag;
 mod words;
 

@@ -5,10 +5,9 @@ ghost use Rattle.shm_model.specs.Message.{Purge, Purged};
 ghost use Rattle.shm_parts.specs.Message.{message_of};
 ghost use Rattle.shm_wire.specs.Messages.{next_page, plain_of, ask_of, numbered_of, hand_of, called_of, replied_of, of_segment};
 
-use crate::calls::call;
 use crate::replies::reply;
 use crate::words::{kind, wide};
-use shm_lines::Words;
+use shm_lines::{Words, parse_call};
 use shm_parts::{BookNote, EntryNote, Message, Note};
 use shm_place::{PageId, SegId, SiteId};
 use std::alloc::Allocator;
@@ -141,7 +140,7 @@ fn call_message<A: Allocator + Copy>(words: Words<'_>) -> Option<Message<A>>
     ensures { option_map message_of result ≡ called_of words.entry }
 {
     let (number, words) = wide(words)?;
-    let op = call(words)?;
+    let op = parse_call(words)?;
     Some(Message::Call { number, op })
 }
 

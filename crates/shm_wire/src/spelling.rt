@@ -1,8 +1,9 @@
 //! How an envelope is spelled: the one line that is read back as it.
 use crate::sent::{Sent, SentLine};
-use crate::spelling_calls::{CallWords, ReplyWords};
+use crate::spelling_replies::ReplyWords;
 use base64::display::Base64Display;
 use base64::engine::general_purpose::STANDARD;
+use shm_lines::CallWords;
 use shm_model::Kind;
 use shm_parts::{BookNote, EntryNote, Message, Note};
 use shm_place::PageId;

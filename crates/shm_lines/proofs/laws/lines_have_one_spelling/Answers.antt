@@ -1,4 +1,4 @@
-use Rattle.shm_lines.proofs.ReadCalls.{read-is_spelled}
+use Rattle.shm_lines.proofs.ReadLines.{read-is_spelled}
 use Rattle.shm_lines.proofs.SpelledLemmas.{spelled-is_read}
 use Rattle.shm_lines.proofs.laws.lines_have_one_spelling.Goals as goal
 

@@ -1,14 +1,25 @@
-//! How segment calls are read: as in a script, less the site.
+//! How the words of a segment call are read: those behind its verb, and in a script behind its site.
 ghost use Rattle.std.specs.Prelude.{◌≡◌};
-ghost use Rattle.shm_wire.specs.Calls.{call_of, common_of, detach_of, get_of, attach_of, remove_of, set_of, stat_of};
+ghost use Rattle.shm_lines.specs.Calls.{attach_of, call_of, common_of, detach_at_of, detach_of, get_of, remove_of, request_of, set_of, stat_of};
+ghost use Rattle.shm_lines.specs.Words.{ended};
 
-use crate::words::if_ended;
-use shm_lines::Words;
-use shm_model::Op;
+use crate::words::Words;
+use shm_model::{Op, Request};
 use shm_place::{Key, SegId};
 
-/// The segment call of a site to another.
-pub fn call(words: Words<'_>) -> Option<Op>
+/// What a site is asked to begin, by its verb and the words behind it. A detach names the attachment: `detach ATTACHMENT`.
+pub fn parse_request(verb: &[u8], words: Words<'_>) -> Option<Request>
+    ensures { result ≡ request_of verb.now words.entry }
+{
+    if verb == b"detach".as_slice() {
+        return detach_at(words);
+    }
+    let op = common(verb, words)?;
+    Some(Request::Op(op))
+}
+
+/// The segment call that a site sends to another, by all its words. A detach names the segment: `detach id SEGMENT`.
+pub fn parse_call(words: Words<'_>) -> Option<Op>
     ensures { result ≡ call_of words.entry }
 {
     let (verb, words) = words.word()?;
@@ -18,20 +29,8 @@ pub fn call(words: Words<'_>) -> Option<Op>
     common(verb, words)
 }
 
-fn detach(words: Words<'_>) -> Option<Op>
-    ensures { result ≡ detach_of words.entry }
-{
-    let (word, words) = words.word()?;
-    let (id, words) = words.number()?;
-    if word != b"id".as_slice() {
-        return None;
-    }
-    let op = Op::Detach { id: SegId(id) };
-    if_ended(op, words)
-}
-
 /// The segment call of this verb, but for a detach.
-pub fn common(verb: &[u8], words: Words<'_>) -> Option<Op>
+fn common(verb: &[u8], words: Words<'_>) -> Option<Op>
     ensures { result ≡ common_of verb.now words.entry }
 {
     if verb == b"get".as_slice() {
@@ -50,6 +49,27 @@ pub fn common(verb: &[u8], words: Words<'_>) -> Option<Op>
         return stat(words);
     }
     None
+}
+
+fn detach_at(words: Words<'_>) -> Option<Request>
+    ensures { result ≡ detach_at_of words.entry }
+{
+    let (at, words) = words.number()?;
+    if !words.is_empty() {
+        return None;
+    }
+    Some(Request::DetachAt(at))
+}
+
+fn detach(words: Words<'_>) -> Option<Op>
+    ensures { result ≡ detach_of words.entry }
+{
+    let (word, words) = words.word()?;
+    let (id, words) = words.number()?;
+    if word != b"id".as_slice() {
+        return None;
+    }
+    if_ended(Op::Detach { id: SegId(id) }, words)
 }
 
 fn get(words: Words<'_>) -> Option<Op>
@@ -124,4 +144,14 @@ fn stat(words: Words<'_>) -> Option<Op>
         id: SegId(id),
     };
     if_ended(op, words)
+}
+
+/// The call, if no word is left.
+fn if_ended(op: Op, words: Words<'_>) -> Option<Op>
+    ensures { result ≡ ended op words.entry }
+{
+    if !words.is_empty() {
+        return None;
+    }
+    Some(op)
 }
