@@ -9,7 +9,6 @@ mod site_box;
 mod site_log;
 mod stamp;
 mod step;
-mod taking;
 
 pub use box_fault::BoxFault;
 pub use receipt::Receipt;

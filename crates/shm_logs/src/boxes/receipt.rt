@@ -1,3 +1,6 @@
+//! What a caller is told of a step. Receipts are made in `taking`, where a box takes the step, and nowhere else.
+mod taking;
+
 use crate::boxes::step::Step;
 use shm_model::{Answer, Asked};
 use shm_place::SiteId;
@@ -19,7 +22,7 @@ impl Receipt {
     ghost use Rattle.shm_logs.specs.Boxes.Receipt.{receipt_of};
 
     /// Of the step of this index in the site's log.
-    pub(crate) fn of<A: Allocator + Copy>(site: SiteId, index: usize, step: &Step<A>) -> Receipt
+    fn of<A: Allocator + Copy>(site: SiteId, index: usize, step: &Step<A>) -> Receipt
         ensures { receipt_of result ≡ record { site = site; index = index; asked = access (input_of step.now.input); answer = step.now.answer } }
     {
         Receipt {
