@@ -2,8 +2,9 @@
 use Rattle.std.proofs.Common.{◌≡◌, inl, inr, ℕ, suc, ◌+◌, List, [], ◌∷◌, ◌++◌, length, refl, ap, ◌∙◌, arith}
 use Rattle.shm_model.specs.declared.answer.Answer.TheVariants.{Byte}
 use Rattle.shm_model.specs.declared.asked.Asked.TheVariants.{Load}
-use Rattle.shm_wire.specs.Asks.{ask_line}
-use Rattle.shm_wire.specs.declared.ask.Question.TheVariants as question
+use Rattle.shm_wire.specs.Line as stream
+use Rattle.shm_process.specs.Access.{access_ask}
+use Rattle.shm_process.specs.Cause.{OfLine}
 use Rattle.shm_audit.specs.Loads.{Among, Made, loads}
 
 pub among-more : (xs steps more : List Made) → Among xs steps → Among xs (steps ++ more)
@@ -20,7 +21,7 @@ among-push (x ∷ xs) (s ∷ steps) step (inl h) = inl (h.0, among-push xs steps
 among-push (x ∷ xs) (s ∷ steps) step (inr h) = inr (among-push (x ∷ xs) steps step h)
 
 abbrev pub load_made : ℕ → List ℕ → ℕ → ℕ → ℕ → Made
-load_made me tag at offset byte = record { line = ask_line (record { site = me; tag = tag; asked = question.Access (Load at offset) }); answer = Byte byte }
+load_made me tag at offset byte = record { cause = OfLine (stream.Ask (access_ask me tag (Load at offset))); answer = Byte byte }
 
 pub loads-push : (me : ℕ) (tag : List ℕ) (at offset : ℕ) (bytes : List ℕ) (byte : ℕ)
     → loads me tag at offset (bytes ++ byte ∷ []) ≡ loads me tag at offset bytes ++ load_made me tag at (offset + length bytes) byte ∷ []

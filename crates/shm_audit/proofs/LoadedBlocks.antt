@@ -1,6 +1,7 @@
 -- What a block that waits has so far was loaded since it was asked for, by steps that its site's process made.
-use Rattle.std.proofs.Common.{◌≡◌, ◌⊎◌, inl, inr, ℕ, suc, ◌+◌, ◌<◌, ◌≤◌, ◌==◌, Bool, true, false, List, [], ◌∷◌, ◌++◌, Some, None, length, set, take, drop, cond, refl, ap, sym, subst, ◌∙◌, append-nil, append_assoc, arith}
-use Rattle.std.specs.Prelude.{Option, ◌^◌, nat_lt, option_and_then, option_map}
+use Rattle.std.proofs.Common.{◌≡◌, ◌⊎◌, inl, inr, ℕ, suc, ◌+◌, ◌<◌, ◌≤◌, ◌==◌, ◌||◌, Bool, true, false, List, [], ◌∷◌, ◌++◌, Some, None, length, set, take, drop, cond, refl, ap, sym, subst, ◌∙◌, append-nil, append_assoc, arith}
+use Rattle.std.specs.Prelude.{Option, nat_lt, option_map}
+use Rattle.std.specs.Option.{option_map_or}
 use Rattle.std.specs.List.{All, remove}
 use Rattle.std.proofs.lemmas.Bool.{cases_lt}
 use Rattle.std.proofs.lemmas.Bool.Decides.{nat_tests}
@@ -8,27 +9,28 @@ use Rattle.std.proofs.lemmas.List.{get_or_past, length-append}
 use Rattle.std.proofs.lemmas.List.Elements.{All-nil, All-append, All-drop, All-get_or, All-push, All-set, All-take, All-weaker}
 use Rattle.shm_model.specs.declared.answer.Answer.{Answer}
 use Rattle.shm_model.specs.declared.answer.Answer.TheVariants.{Byte, Stored, Fault, Waiting, Began, Replied, Took, Dropped, Refused}
+use Rattle.shm_model.specs.declared.asked.Asked.TheVariants.{Load}
+use Rattle.shm_model.specs.Message.{Begin, Deliver, Tick}
+use Rattle.shm_model.specs.Receipt.{access_of}
+use Rattle.shm_model.specs.Step.{foreign}
 use Rattle.shm_lines.proofs.StepLemmas.{lt-true}
-use Rattle.shm_lines.specs.Spelling.{IsNumber}
-use Rattle.shm_wire.proofs.AskWords.{ask-is_spelled}
-use Rattle.shm_wire.specs.Asks.{Ask, IsAsked, IsTag, is_block, read_ask}
+use Rattle.shm_wire.proofs.LineWords.{line-is_spelled}
+use Rattle.shm_wire.specs.Asks.{Ask, IsAsked, is_block}
+use Rattle.shm_wire.specs.Line as stream
+use Rattle.shm_wire.specs.Line.{read_line}
 use Rattle.shm_wire.specs.declared.ask.Question.{Question}
 use Rattle.shm_wire.specs.declared.ask.Question.TheVariants as question
 use Rattle.shm_process.specs.Blocks.{Block}
-use Rattle.shm_process.specs.WaitingAsks.{Access, Reads, WaitingAsk, after_answer, ask_in, goes_on, next_line, waiting_after}
-use Rattle.shm_process.specs.Node.{Node, Heard, Said, answer_to, heard, is_late}
+use Rattle.shm_process.specs.Cause.{OfLine}
+use Rattle.shm_process.specs.WaitingAsks.{Access, Reads, WaitingAsk, after_answer, ask_in, goes_on, waiting_after}
+use Rattle.shm_process.specs.Node.{Node, Heard, Said, answer_to, heard, input_asked, is_late, under_tag, waits_for}
 use Rattle.shm_process.specs.Recorded.{Event, Line, TooLong, Again, Restarted, after_event, after_events, said_at}
-use Rattle.shm_process.specs.Waiting.{after_heard, after_restart, after_unheard, again_at, again_if, block_here, block_in, has_room, joins, ready, says_again, says_at, waiting_at}
+use Rattle.shm_process.specs.Waiting.{after_heard, after_read, after_restart, after_unheard, again_at, block_here, block_in, has_room, joining, joins, next_heard, next_line, ready, says_at, with_ask}
 use Rattle.shm_audit.proofs.Among.{loads-push}
 use Rattle.shm_audit.proofs.Since.{after-both, since-more, since-push}
 use Rattle.shm_audit.specs.Loads.{MadeSince, Made, loads, made_by}
 
 -- ---- asks that wait
-
--- a block's next load has a line
-abbrev pub CanLoad : ℕ → Block → Type 0
-CanLoad me block =
-    IsNumber me × IsTag block.tag × IsNumber block.at × (block.offset + block.count ≤ 2 ^ 32) × (length block.bytes < block.count)
 
 -- what a caller of this site asked for
 abbrev pub ask_of : ℕ → Block → Ask
@@ -36,16 +38,16 @@ ask_of me block = record { site = me; tag = block.tag; asked = question.Read blo
 
 -- what a block has so far was loaded since it was asked for
 abbrev pub HasLoaded : ℕ → Node → List Event → WaitingAsk → Type 0
-HasLoaded me first events (Access line) = Unit {0}
+HasLoaded me first events (Access tag asked) = Unit {0}
 HasLoaded me first events (Reads block) =
-    MadeSince first events (ask_of me block) (loads me block.tag block.at block.offset block.bytes) × CanLoad me block
+    MadeSince first events (ask_of me block) (loads me block.tag block.at block.offset block.bytes) × (length block.bytes < block.count)
 
 abbrev AllLoaded : ℕ → Node → List Event → List WaitingAsk → Type 0
 AllLoaded me first events waiting = All (HasLoaded me first events) waiting
 
 loaded-more : (me : ℕ) (first : Node) (events : List Event) (event : Event) (ask : WaitingAsk) → HasLoaded me first events ask
     → HasLoaded me first (events ++ event ∷ []) ask
-loaded-more me first events event (Access line) h = tt
+loaded-more me first events event (Access tag asked) h = tt
 loaded-more me first events event (Reads block) h =
     (since-more first events event (ask_of me block) (loads me block.tag block.at block.offset block.bytes) h.0, h.1)
 
@@ -59,13 +61,13 @@ pub ask-loaded : (me : ℕ) (first : Node) (events : List Event) (waiting : List
 ask-loaded me first events waiting at h = go (cases_lt at (length waiting))
   where
     go : (at < length waiting) ⊎ (length waiting ≤ at) → HasLoaded me first events (ask_in waiting at)
-    go (inl lt) = All-get_or (HasLoaded me first events) waiting at (Access []) lt h
-    go (inr ge) = subst (HasLoaded me first events) (sym (get_or_past waiting at (Access []) ge)) tt
+    go (inl lt) = All-get_or (HasLoaded me first events) waiting at (Access [] (Load 0 0)) lt h
+    go (inr ge) = subst (HasLoaded me first events) (sym (get_or_past waiting at (Access [] (Load 0 0)) ge)) tt
 
 -- ---- a step that is made of one of them
 
 abbrev pub step_of : ℕ → WaitingAsk → Answer → Made
-step_of me ask answer = record { line = next_line me ask; answer = answer }
+step_of me ask answer = record { cause = OfLine (next_line me ask); answer = answer }
 
 -- this event makes this step
 abbrev Makes : Node → List Event → Event → Made → Type 0
@@ -87,9 +89,9 @@ more-to-load bytes byte count on = subst (λ n. n < count) (sym (length-append b
 
 after-loaded : (me : ℕ) (first : Node) (events : List Event) (event : Event) (ask : WaitingAsk) (answer : Answer) → Makes first events event (step_of me ask answer)
     → HasLoaded me first events ask → goes_on ask answer ≡ true → HasLoaded me first (events ++ event ∷ []) (after_answer ask answer)
-after-loaded me first events event (Access line) answer makes h on = tt
+after-loaded me first events event (Access tag asked) answer makes h on = tt
 after-loaded me first events event (Reads block) (Byte byte) makes h on =
-    (block-loads me first events event block byte makes h, (h.1.0, h.1.1, h.1.2, h.1.3, more-to-load block.bytes byte block.count on))
+    (block-loads me first events event block byte makes h, more-to-load block.bytes byte block.count on)
 after-loaded me first events event (Reads block) Stored makes h on = loaded-more me first events event (Reads block) h
 after-loaded me first events event (Reads block) Fault makes h on = loaded-more me first events event (Reads block) h
 after-loaded me first events event (Reads block) Waiting makes h on = loaded-more me first events event (Reads block) h
@@ -98,11 +100,6 @@ after-loaded me first events event (Reads block) (Replied number reply attachmen
 after-loaded me first events event (Reads block) Took makes h on = loaded-more me first events event (Reads block) h
 after-loaded me first events event (Reads block) Dropped makes h on = loaded-more me first events event (Reads block) h
 after-loaded me first events event (Reads block) (Refused refusal) makes h on = loaded-more me first events event (Reads block) h
-
-cond-all : (me : ℕ) (first : Node) (events : List Event) (b : Bool) (xs ys : List WaitingAsk) → AllLoaded me first events xs → AllLoaded me first events ys
-    → AllLoaded me first events (cond b xs ys)
-cond-all me first events true xs ys p q = p
-cond-all me first events false xs ys p q = q
 
 left-case : (me : ℕ) (first : Node) (events : List Event) (ask : WaitingAsk) (answer : Answer) (b : Bool) (xs ys : List WaitingAsk) → goes_on ask answer ≡ b
     → (goes_on ask answer ≡ true → AllLoaded me first events xs) → AllLoaded me first events ys → AllLoaded me first events (cond b xs ys)
@@ -143,18 +140,12 @@ goes-same me first events event node next own waiting h = record {
 }
 
 -- what the test of a block says
-block-bounds : (offset count : ℕ) → is_block offset count ≡ true → (0 < count) × (offset + count ≤ 2 ^ 32)
-block-bounds offset count h = grind (arith, nat_tests)
-
--- a block that is asked for can be loaded
-asked-block : (me : ℕ) (site at offset count : ℕ) (tag : List ℕ) → site ≡ me → IsNumber site × IsTag tag × IsAsked (question.Read at offset count)
-    → CanLoad me (record { tag = tag; at = at; offset = offset; count = count; bytes = [] })
-asked-block me site at offset count tag here is =
-    let bounds = block-bounds offset count is.2.3 in (subst IsNumber here is.0, is.1, is.2.0, bounds.1, bounds.0)
+block-some : (offset count : ℕ) → is_block offset count ≡ true → 0 < count
+block-some offset count h = grind (arith, nat_tests)
 
 -- what is known of a line that asks
 abbrev AsksBy : Node → List ℕ → ℕ → List ℕ → Question → Type 0
-AsksBy node line site tag q = (has_room node ≡ true) × (read_ask line ≡ Some (record { site = site; tag = tag; asked = q })) × (IsNumber site × IsTag tag × IsAsked q)
+AsksBy node line site tag q = (has_room node ≡ true) × (read_line line ≡ Some (stream.Ask (record { site = site; tag = tag; asked = q }))) × IsAsked q
 
 block-in : (me : ℕ) (first : Node) (events : List Event) (node : Node) (line : List ℕ) (here late : Bool) (site : ℕ) (tag : List ℕ) (q : Question)
     → Holds me first events node → (here ≡ true → site ≡ me) → AsksBy node line site tag q
@@ -170,13 +161,13 @@ block-in me first events node line true false site tag (question.Read at offset 
       since = [];
       are = refl;
       room = subst (λ n. has_room n ≡ true) h.here is.0;
-      asked = subst (λ s. read_ask line ≡ Some (record { site = s; tag = tag; asked = question.Read at offset count })) (own refl) is.1;
+      asked = subst (λ s. read_line line ≡ Some (stream.Ask (record { site = s; tag = tag; asked = question.Read at offset count }))) (own refl) is.1;
       made = tt;
     } in
     record {
       own = h.own;
       all = All-push (HasLoaded me first now) node.waiting (Reads block) (all-more me first events (Line line) node.waiting h.all)
-          (asked, asked-block me site at offset count tag (own refl) is.2);
+          (asked, block-some offset count is.2.3);
     }
 block-in me first events node line true false site tag (question.Access asked) h own is = goes-same me first events (Line line) node (after_unheard node None) refl refl h
 block-in me first events node line true false site tag (question.Try asked) h own is = goes-same me first events (Line line) node (after_unheard node None) refl refl h
@@ -187,44 +178,83 @@ block-in me first events node line true false site tag (question.Show page) h ow
 site-is : (a b me : ℕ) → b ≡ me → (a == b) ≡ true → a ≡ me
 site-is a b me own same = grind (arith, nat_tests)
 
-unheard-goes : (me : ℕ) (first : Node) (events : List Event) (node : Node) (line : List ℕ) (room : Bool) (ask : Option Ask) → Holds me first events node
-    → has_room node ≡ room → read_ask line ≡ ask → Goes me first events (Line line) (after_unheard node (cond room (option_and_then (block_here node) ask) None))
-unheard-goes me first events node line false ask h room read = goes-same me first events (Line line) node (after_unheard node None) refl refl h
-unheard-goes me first events node line true None h room read = goes-same me first events (Line line) node (after_unheard node None) refl refl h
-unheard-goes me first events node line true (Some ask) h room read =
+ask-goes : (me : ℕ) (first : Node) (events : List Event) (node : Node) (line : List ℕ) (room : Bool) (ask : Ask) → Holds me first events node
+    → has_room node ≡ room → read_line line ≡ Some (stream.Ask ask)
+    → Goes me first events (Line line) (after_unheard node (cond room (block_here node ask) None))
+ask-goes me first events node line false ask h room read = goes-same me first events (Line line) node (after_unheard node None) refl refl h
+ask-goes me first events node line true ask h room read =
     block-in me first events node line (ask.site == node.me) (is_late node 0) ask.site ask.tag ask.asked h (site-is ask.site node.me me h.own)
-    (room, read, (ask-is_spelled line ask read).0)
+    (room, read, (line-is_spelled line (stream.Ask ask) read).0.2)
 
-line-goes : (me : ℕ) (first : Node) (events : List Event) (node : Node) (line : List ℕ) (o : Option Heard) → Holds me first events node
-    → Goes me first events (Line line) (after_heard node line o)
-line-goes me first events node line None h = unheard-goes me first events node line (has_room node) (read_ask line) h refl refl
-line-goes me first events node line (Some x) h =
+unheard-goes : (me : ℕ) (first : Node) (events : List Event) (node : Node) (line : List ℕ) (is : stream.Line) → Holds me first events node
+    → read_line line ≡ Some is → Goes me first events (Line line) (after_unheard node (joining node is))
+unheard-goes me first events node line (stream.Envelope sent) h read = goes-same me first events (Line line) node (after_unheard node None) refl refl h
+unheard-goes me first events node line (stream.Ask ask) h read = ask-goes me first events node line (has_room node) ask h refl read
+
+-- what joins is an access
+abbrev IsAccess : Option WaitingAsk → Type 0
+IsAccess None = Unit {0}
+IsAccess (Some (Access tag asked)) = Unit {0}
+IsAccess (Some (Reads block)) = ⊥
+
+with-loaded : (me : ℕ) (first : Node) (events : List Event) (waiting : List WaitingAsk) (ask : Option WaitingAsk) (joins : Bool) → IsAccess ask
+    → AllLoaded me first events waiting → AllLoaded me first events (with_ask waiting ask joins)
+with-loaded me first events waiting None joins is h = h
+with-loaded me first events waiting (Some (Access tag asked)) true is h = All-push (HasLoaded me first events) waiting (Access tag asked) h tt
+with-loaded me first events waiting (Some (Access tag asked)) false is h = h
+with-loaded me first events waiting (Some (Reads block)) joins is h = absurd is
+
+some-is : {A : Type 0} (a b : A) → Some a ≡ Some b → a ≡ b
+some-is a b h = cc
+
+made-access : (lost : Bool) (made x : Heard) → IsAccess made.waits → cond lost None (Some made) ≡ Some x → IsAccess x.waits
+made-access true made x is e = absurd (cc)
+made-access false made x is e = subst (λ (h : Heard). IsAccess h.waits) (some-is made x e) is
+
+asked-access : (tag : List ℕ) (q : Question) (x : Heard) (here late : Bool)
+    → cond here (cond late None (option_map (under_tag tag (waits_for tag q)) (input_asked q))) None ≡ Some x → IsAccess x.waits
+asked-access tag q x false late e = absurd (cc)
+asked-access tag q x true true e = absurd (cc)
+asked-access tag (question.Access asked) x true false e = made-access false (under_tag tag (Some (Access tag asked)) (access_of asked)) x tt e
+asked-access tag (question.Try asked) x true false e = made-access false (under_tag tag None (access_of asked)) x tt e
+asked-access tag (question.Read at offset count) x true false e = absurd (cc)
+asked-access tag (question.Begin request) x true false e = made-access false (under_tag tag None (Begin request)) x tt e
+asked-access tag question.Tick x true false e = made-access false (under_tag tag None Tick) x tt e
+asked-access tag (question.Show page) x true false e = absurd (cc)
+
+heard-access : (node : Node) (is : stream.Line) (x : Heard) → heard node is ≡ Some x → IsAccess x.waits
+heard-access node (stream.Envelope sent) x e =
+    made-access (foreign node.sites node.me sent.envelope || is_late node sent.source.at)
+    (record { input = Deliver sent.envelope; source = sent.source.at; tag = None; waits = None }) x tt e
+heard-access node (stream.Ask ask) x e = asked-access ask.tag ask.asked x (ask.site == node.me) (is_late node 0) e
+
+line-goes : (me : ℕ) (first : Node) (events : List Event) (node : Node) (line : List ℕ) (is : stream.Line) (o : Option Heard) → Holds me first events node
+    → read_line line ≡ Some is → heard node is ≡ o → Goes me first events (Line line) (after_heard node (joining node is) o)
+line-goes me first events node line is None h read e = unheard-goes me first events node line is h read
+line-goes me first events node line is (Some x) h read e =
     let now = events ++ Line line ∷ [] in
-    let all : AllLoaded me first now node.waiting = all-more me first events (Line line) node.waiting h.all in
     record {
       own = h.own;
-      all = cond-all me first now (joins node x) (node.waiting ++ Access line ∷ []) node.waiting
-          (All-push (HasLoaded me first now) node.waiting (Access line) all tt) all;
+      all = with-loaded me first now node.waiting x.waits (joins node x) (heard-access node is x e) (all-more me first events (Line line) node.waiting h.all);
     }
 
-again-goes : (me : ℕ) (first : Node) (events : List Event) (node : Node) (at : ℕ) (o : Option Heard) → Holds me first events node
-    → said_at node Again ≡ option_map (says_again node at) o → Goes me first events Again (again_at node at o)
-again-goes me first events node at None h e = goes-same me first events Again node node refl refl h
-again-goes me first events node at (Some x) h e =
+read-goes : (me : ℕ) (first : Node) (events : List Event) (node : Node) (line : List ℕ) (read : Option stream.Line) → Holds me first events node
+    → read_line line ≡ read → Goes me first events (Line line) (after_read node read)
+read-goes me first events node line None h e = goes-same me first events (Line line) node (after_unheard node None) refl refl h
+read-goes me first events node line (Some is) h e = line-goes me first events node line is (heard node is) h e refl
+
+again-goes : (me : ℕ) (first : Node) (events : List Event) (node : Node) (p : Option ℕ) → Holds me first events node → ready node ≡ p
+    → Goes me first events Again (option_map_or (again_at node) p node)
+again-goes me first events node None h e = goes-same me first events Again node node refl refl h
+again-goes me first events node (Some at) h e =
     let ask = ask_in node.waiting at in
-    let answer = answer_to node x in
+    let answer = answer_to node (next_heard ask) in
     let makes : Makes first events Again (step_of node.me ask answer) =
-    (says_again node at x, subst (λ n. said_at n Again ≡ Some (says_again node at x)) h.here e, refl) in
+    (says_at node at, subst (λ n. said_at n Again ≡ Some (says_at node at)) h.here (ap (option_map (says_at node)) e), refl) in
     record {
       own = h.own;
       all = left-loaded me first events Again node.waiting at answer (subst (λ m. Makes first events Again (step_of m ask answer)) h.own makes) h.all;
     }
-
-ready-goes : (me : ℕ) (first : Node) (events : List Event) (node : Node) (p : Option ℕ) → Holds me first events node → ready node ≡ p
-    → Goes me first events Again (again_if node p)
-ready-goes me first events node None h e = goes-same me first events Again node node refl refl h
-ready-goes me first events node (Some at) h e =
-    again-goes me first events node at (heard node (waiting_at node at)) h (ap (option_and_then (says_at node)) e)
 
 restart-goes : (me : ℕ) (first : Node) (events : List Event) (node : Node) (late : Bool) → Holds me first events node
     → Goes me first events Restarted (cond late node (after_restart node))
@@ -232,9 +262,9 @@ restart-goes me first events node true h = goes-same me first events Restarted n
 restart-goes me first events node false h = record { own = h.own; all = All-nil (HasLoaded me first (events ++ Restarted ∷ [])) }
 
 event-goes : (me : ℕ) (first : Node) (events : List Event) (node : Node) (event : Event) → Holds me first events node → Goes me first events event (after_event node event)
-event-goes me first events node (Line line) h = line-goes me first events node line (heard node line) h
+event-goes me first events node (Line line) h = read-goes me first events node line (read_line line) h refl
 event-goes me first events node TooLong h = goes-same me first events TooLong node (after_event node TooLong) refl refl h
-event-goes me first events node Again h = ready-goes me first events node (ready node) h refl
+event-goes me first events node Again h = again-goes me first events node (ready node) h refl
 event-goes me first events node Restarted h = restart-goes me first events node (is_late node 0) h
 
 event-holds : (me : ℕ) (first : Node) (events : List Event) (node : Node) (event : Event) → Holds me first events node

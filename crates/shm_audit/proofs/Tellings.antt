@@ -1,23 +1,30 @@
 -- What a process says of its steps, and what the log of a box tells that takes them.
 use Rattle.std.proofs.Common.{◌≡◌, ℕ, ◌==◌, ◌||◌, Bool, true, false, List, [], ◌∷◌, ◌++◌, Some, None, cond, refl, ap, sym, subst, ◌∙◌, append-nil, arith, map}
-use Rattle.std.specs.Prelude.{Option, IfSome, codes, option_and_then, option_map, unwrap_or}
+use Rattle.std.specs.List.{position_from}
+use Rattle.std.specs.Prelude.{Option, IfSome, option_and_then, option_map, unwrap_or}
+use Rattle.std.specs.Option.{option_map_or}
 use Rattle.std.proofs.lemmas.Bool.Decides.{nat_tests}
 use Rattle.shm_model.specs.Log.{Logged, Stamp}
 use Rattle.shm_model.specs.declared.asked.Asked.TheVariants as asked
 use Rattle.shm_model.specs.Message.{Input, Deliver, Restart}
 use Rattle.shm_model.specs.Step.{foreign}
 use Rattle.shm_process.specs.Blocks.{Block}
-use Rattle.shm_process.specs.Node.{Node, Heard, Said, heard, heard_in, input_asked, is_late, new_node, next_clock, says, stepped, under_tag, waits_for}
+use Rattle.shm_process.specs.Cause.{Cause, OfLine, OfRestart}
+use Rattle.shm_process.specs.Node.{Node, Heard, Said, heard, input_asked, is_late, new_node, next_clock, says, stepped, under_tag, waits_for}
 use Rattle.shm_process.specs.Recorded.{Entry, Event, Line, TooLong, Again, Restarted, after_event, entries_of, recorded, said_at}
-use Rattle.shm_process.specs.Waiting.{after_heard, after_unheard, again_at, again_if, joining, joins, ready, restarting, said_restart, after_restart, says_again, says_at, waiting_at}
+use Rattle.shm_process.specs.Waiting.{after_heard, after_read, after_unheard, again_at, can_be_made, joining, joins, next_heard, next_line, ready, restarting, said_read, said_restart, after_restart, says_at}
+use Rattle.shm_process.specs.WaitingAsks.{WaitingAsk, ask_in}
+use Rattle.shm_process.proofs.Replays.{hear-next}
+use Rattle.shm_process.proofs.Tests.{unless-some}
 use Rattle.shm_site.specs.Step.{is_foreign}
 use Rattle.shm_logs.specs.Boxes.Box.{Box, after, new_box, taken}
 use Rattle.shm_logs.specs.declared.boxes.box_fault.BoxFault.TheVariants as fault
-use Rattle.shm_wire.specs.Asks.{Ask, read_ask}
-use Rattle.shm_wire.specs.Sent.{Sent, read_envelope}
+use Rattle.shm_wire.specs.Line as stream
+use Rattle.shm_wire.specs.Line.{read_line}
+use Rattle.shm_wire.specs.Sent.{Sent}
 use Rattle.shm_wire.specs.declared.ask.Question.{Question}
 use Rattle.shm_wire.specs.declared.ask.Question.TheVariants as question
-use Rattle.shm_audit.specs.Entered.{Handed, at_clock, box_handed, delivered, handed, handed_in, or_restart, unless_refused, unsent}
+use Rattle.shm_audit.specs.Entered.{Handed, at_clock, box_handed, delivered, handed, unless_refused, unsent}
 use Rattle.shm_audit.specs.Told.{ToldStep, box_after_all, told_at, told_by_log, told_by_said, told_by_step, all_said, said_first}
 
 -- the box of a node's site, which has this log
@@ -25,10 +32,10 @@ abbrev box_at : Node → ℕ → List Logged → Box
 box_at node pages log = record { sites = node.sites; me = node.me; pages = pages; site = node.site; log = log; clock = node.clock }
 
 -- the box takes what a node heard, and tells of its step what the node says
-record Takes (node : Node) (pages : ℕ) (log : List Logged) (line : List ℕ) (h : Heard) (given : Option Handed) : Type 0 where
+record Takes (node : Node) (pages : ℕ) (log : List Logged) (cause : Cause) (h : Heard) (given : Option Handed) : Type 0 where
   logged : Logged
   goes : box_handed (next_clock node h.source) (box_at node pages log) given ≡ Some (box_at (stepped node h) pages (log ++ logged ∷ []))
-  tells : told_by_step logged ≡ told_by_said (says node line h false)
+  tells : told_by_step logged ≡ told_by_said (says node cause h false)
 
 -- ---- one step
 
@@ -38,10 +45,10 @@ same a b e = ap (λ o. unwrap_or o a) e
 same-is : (n : ℕ) → (n == n) ≡ true
 same-is n = grind (arith, nat_tests)
 
-takes : (node : Node) (pages : ℕ) (log : List Logged) (line : List ℕ) (input : Input) (stamp : Stamp) (tag : Option (List ℕ)) (waits : Bool)
+takes : (node : Node) (pages : ℕ) (log : List Logged) (cause : Cause) (input : Input) (stamp : Stamp) (tag : Option (List ℕ)) (waits : Option WaitingAsk)
     → is_foreign node.sites node.me input ≡ false → is_late node stamp.at ≡ false
-    → Takes node pages log line (record { input = input; source = stamp.at; tag = tag; waits = waits }) (Some (record { input = input; source = stamp }))
-takes node pages log line input stamp tag waits own early =
+    → Takes node pages log cause (record { input = input; source = stamp.at; tag = tag; waits = waits }) (Some (record { input = input; source = stamp }))
+takes node pages log cause input stamp tag waits own early =
     record {
       logged = taken (box_at node pages log) input stamp;
       goes =
@@ -55,15 +62,16 @@ or_cases : (a b : Bool) → (a || b) ≡ false → (a ≡ false) × (b ≡ false
 or_cases true b h = absurd (cc)
 or_cases false b h = (refl, h)
 
-sent_by : (node : Node) (pages : ℕ) (log : List Logged) (line : List ℕ) (sent : Sent) (h : Heard) (other : Bool)
+sent_by : (node : Node) (pages : ℕ) (log : List Logged) (cause : Cause) (sent : Sent) (h : Heard) (other : Bool)
     → (foreign node.sites node.me sent.envelope || is_late node sent.source.at) ≡ other
-    → cond other None (Some (record { input = Deliver sent.envelope; source = sent.source.at; tag = None; waits = false })) ≡ Some h
-    → Takes node pages log line h (Some (delivered sent))
-sent_by node pages log line sent h true o e = absurd (cc)
-sent_by node pages log line sent h false o e =
+    → cond other None (Some (record { input = Deliver sent.envelope; source = sent.source.at; tag = None; waits = None })) ≡ Some h
+    → Takes node pages log cause h (Some (delivered sent))
+sent_by node pages log cause sent h true o e = absurd (cc)
+sent_by node pages log cause sent h false o e =
     let both = or_cases (foreign node.sites node.me sent.envelope) (is_late node sent.source.at) o in
-    let is : record { input = Deliver sent.envelope; source = sent.source.at; tag = None; waits = false } ≡ h = same (record { input = Deliver sent.envelope; source = sent.source.at; tag = None; waits = false }) h e in
-    subst (λ x. Takes node pages log line x (Some (delivered sent))) is (takes node pages log line (Deliver sent.envelope) sent.source None false both.0 both.1)
+    let made : Heard = record { input = Deliver sent.envelope; source = sent.source.at; tag = None; waits = None } in
+    subst (λ x. Takes node pages log cause x (Some (delivered sent))) (same made h e)
+    (takes node pages log cause (Deliver sent.envelope) sent.source None None both.0 both.1)
 
 -- a caller asks for no delivery
 asked_own : (sites me : ℕ) (q : Question) → IfSome (input_asked q) (λ input. is_foreign sites me input ≡ false)
@@ -79,29 +87,24 @@ asked_own sites me (question.Show page) = tt
 abbrev no_stamp : Stamp
 no_stamp = record { at = 0; index = 0; place = 0 }
 
-asked_by : (node : Node) (pages : ℕ) (log : List Logged) (line tag : List ℕ) (waits : Bool) (h : Heard) (o : Option Input) (here late : Bool)
+asked_by : (node : Node) (pages : ℕ) (log : List Logged) (cause : Cause) (tag : List ℕ) (waits : Option WaitingAsk) (h : Heard) (o : Option Input) (here late : Bool)
     → IfSome o (λ input. is_foreign node.sites node.me input ≡ false) → is_late node 0 ≡ late
     → cond here (cond late None (option_map (under_tag tag waits) o)) None ≡ Some h
-    → Takes node pages log line h (or_restart line (cond here (option_map unsent o) None))
-asked_by node pages log line tag waits h o false late own l e = absurd (cc)
-asked_by node pages log line tag waits h o true true own l e = absurd (cc)
-asked_by node pages log line tag waits h None true false own l e = absurd (cc)
-asked_by node pages log line tag waits h (Some input) true false own l e =
-    let is : under_tag tag waits input ≡ h = same (under_tag tag waits input) h e in
-    subst (λ x. Takes node pages log line x (Some (unsent input))) is (takes node pages log line input no_stamp (Some tag) waits own l)
+    → Takes node pages log cause h (cond here (option_map unsent o) None)
+asked_by node pages log cause tag waits h o false late own l e = absurd (cc)
+asked_by node pages log cause tag waits h o true true own l e = absurd (cc)
+asked_by node pages log cause tag waits h None true false own l e = absurd (cc)
+asked_by node pages log cause tag waits h (Some input) true false own l e =
+    subst (λ x. Takes node pages log cause x (Some (unsent input))) (same (under_tag tag waits input) h e)
+    (takes node pages log cause input no_stamp (Some tag) waits own l)
 
-heard_by : (node : Node) (pages : ℕ) (log : List Logged) (line : List ℕ) (h : Heard) (sent : Option Sent) (ask : Option Ask) → heard_in node sent ask ≡ Some h
-    → Takes node pages log line h (handed_in node.me line sent ask)
-heard_by node pages log line h (Some sent) ask e =
-    sent_by node pages log line sent h (foreign node.sites node.me sent.envelope || is_late node sent.source.at) refl e
-heard_by node pages log line h None None e = absurd (cc)
-heard_by node pages log line h None (Some ask) e =
-    asked_by node pages log line ask.tag (waits_for ask.asked) h (input_asked ask.asked) (ask.site == node.me) (is_late node 0)
+line_taken : (node : Node) (pages : ℕ) (log : List Logged) (line : stream.Line) (h : Heard) → heard node line ≡ Some h
+    → Takes node pages log (OfLine line) h (handed node.me (OfLine line))
+line_taken node pages log (stream.Envelope sent) h e =
+    sent_by node pages log (OfLine (stream.Envelope sent)) sent h (foreign node.sites node.me sent.envelope || is_late node sent.source.at) refl e
+line_taken node pages log (stream.Ask ask) h e =
+    asked_by node pages log (OfLine (stream.Ask ask)) ask.tag (waits_for ask.tag ask.asked) h (input_asked ask.asked) (ask.site == node.me) (is_late node 0)
     (asked_own node.sites node.me ask.asked) refl e
-
-line_taken : (node : Node) (pages : ℕ) (log : List Logged) (line : List ℕ) (h : Heard) → heard node line ≡ Some h
-    → Takes node pages log line h (handed node.me line)
-line_taken node pages log line h e = heard_by node pages log line h (read_envelope line) (read_ask line) e
 
 -- ---- one step after another
 
@@ -120,10 +123,10 @@ told_more : (said : Option Said) (all : List Said) → map told_by_said (said_fi
 told_more None all = refl
 told_more (Some said) all = refl
 
-one_step : (node : Node) (pages : ℕ) (log : List Logged) (line : List ℕ) (h : Heard) (entries : List Entry) (told : List ToldStep)
-    → (t : Takes node pages log line h (handed node.me line)) → Follows (box_at (stepped node h) pages (log ++ t.logged ∷ [])) entries (log ++ t.logged ∷ []) told
-    → Follows (box_at node pages log) (record { clock = next_clock node h.source; line = line } ∷ entries) log (told_by_said (says node line h false) ∷ told)
-one_step node pages log line h entries told t rest =
+one_step : (node : Node) (pages : ℕ) (log : List Logged) (cause : Cause) (h : Heard) (entries : List Entry) (told : List ToldStep)
+    → (t : Takes node pages log cause h (handed node.me cause)) → Follows (box_at (stepped node h) pages (log ++ t.logged ∷ [])) entries (log ++ t.logged ∷ []) told
+    → Follows (box_at node pages log) (record { clock = next_clock node h.source; cause = cause } ∷ entries) log (told_by_said (says node cause h false) ∷ told)
+one_step node pages log cause h entries told t rest =
     ap (λ o. option_map told_by_log (option_and_then (λ next. box_after_all next entries) o)) t.goes
     ∙ rest
     ∙ ap Some (map_more log t.logged told ∙ ap (λ x. map told_by_step log ++ (x ∷ told)) t.tells)
@@ -133,29 +136,30 @@ unheard_box : (node : Node) (pages : ℕ) (log : List Logged) (block : Option Bl
 unheard_box node pages log None = refl
 unheard_box node pages log (Some block) = refl
 
-line_law : (node : Node) (pages : ℕ) (log : List Logged) (line : List ℕ) (entries : List Entry) (told : List ToldStep) (o : Option Heard) → heard node line ≡ o
-    → ((log : List Logged) → Follows (box_at (after_heard node line o) pages log) entries log told)
-    → Follows (box_at node pages log) (recorded (option_map (λ h. says node line h (joins node h)) o) entries) log
-    (told_first (option_map (λ h. says node line h (joins node h)) o) told)
+line_law : (node : Node) (pages : ℕ) (log : List Logged) (line : stream.Line) (entries : List Entry) (told : List ToldStep) (o : Option Heard) → heard node line ≡ o
+    → ((log : List Logged) → Follows (box_at (after_heard node (joining node line) o) pages log) entries log told)
+    → Follows (box_at node pages log) (recorded (option_map (λ h. says node (OfLine line) h (joins node h)) o) entries) log
+    (told_first (option_map (λ h. says node (OfLine line) h (joins node h)) o) told)
 line_law node pages log line entries told None e rest =
     subst (λ box. Follows box entries log told) (unheard_box node pages log (joining node line)) (rest log)
 line_law node pages log line entries told (Some h) e rest =
-    let t = line_taken node pages log line h e in one_step node pages log line h entries told t (rest (log ++ t.logged ∷ []))
+    let t = line_taken node pages log line h e in one_step node pages log (OfLine line) h entries told t (rest (log ++ t.logged ∷ []))
 
-again_law : (node : Node) (pages : ℕ) (log : List Logged) (at : ℕ) (entries : List Entry) (told : List ToldStep) (o : Option Heard) → heard node (waiting_at node at) ≡ o
-    → ((log : List Logged) → Follows (box_at (again_at node at o) pages log) entries log told)
-    → Follows (box_at node pages log) (recorded (option_map (says_again node at) o) entries) log
-    (told_first (option_map (says_again node at) o) told)
-again_law node pages log at entries told None e rest = rest log
-again_law node pages log at entries told (Some h) e rest =
-    let t = line_taken node pages log (waiting_at node at) h e in
-    one_step node pages log (waiting_at node at) h entries told t (rest (log ++ t.logged ∷ []))
+read_law : (node : Node) (pages : ℕ) (log : List Logged) (read : Option stream.Line) (entries : List Entry) (told : List ToldStep)
+    → ((log : List Logged) → Follows (box_at (after_read node read) pages log) entries log told)
+    → Follows (box_at node pages log) (recorded (said_read node read) entries) log (told_first (said_read node read) told)
+read_law node pages log None entries told rest = rest log
+read_law node pages log (Some line) entries told rest = line_law node pages log line entries told (heard node line) refl rest
 
-ready_law : (node : Node) (pages : ℕ) (log : List Logged) (entries : List Entry) (told : List ToldStep) (p : Option ℕ)
-    → ((log : List Logged) → Follows (box_at (again_if node p) pages log) entries log told)
-    → Follows (box_at node pages log) (recorded (option_and_then (says_at node) p) entries) log (told_first (option_and_then (says_at node) p) told)
-ready_law node pages log entries told None rest = rest log
-ready_law node pages log entries told (Some at) rest = again_law node pages log at entries told (heard node (waiting_at node at)) refl rest
+again_law : (node : Node) (pages : ℕ) (log : List Logged) (entries : List Entry) (told : List ToldStep) (p : Option ℕ) → ready node ≡ p
+    → ((log : List Logged) → Follows (box_at (option_map_or (again_at node) p node) pages log) entries log told)
+    → Follows (box_at node pages log) (recorded (option_map (says_at node) p) entries) log (told_first (option_map (says_at node) p) told)
+again_law node pages log entries told None e rest = rest log
+again_law node pages log entries told (Some at) e rest =
+    let ask = ask_in node.waiting at in
+    let early = (unless-some (is_late node 0) (position_from (can_be_made node) 0 node.waiting) at e).0 in
+    let t = line_taken node pages log (next_line node.me ask) (next_heard ask) (hear-next node ask early) in
+    one_step node pages log (OfLine (next_line node.me ask)) (next_heard ask) entries told t (rest (log ++ t.logged ∷ []))
 
 restart_law : (node : Node) (pages : ℕ) (log : List Logged) (entries : List Entry) (told : List ToldStep) (late : Bool) → is_late node 0 ≡ late
     → ((log : List Logged) → Follows (box_at (cond late node (after_restart node)) pages log) entries log told)
@@ -163,19 +167,19 @@ restart_law : (node : Node) (pages : ℕ) (log : List Logged) (entries : List En
     (told_first (cond late None (Some (said_restart node))) told)
 restart_law node pages log entries told true e rest = rest log
 restart_law node pages log entries told false e rest =
-    let t : Takes node pages log (codes "restart") restarting (handed node.me (codes "restart")) = takes node pages log (codes "restart") Restart no_stamp None false refl e in
-    one_step node pages log (codes "restart") restarting entries told t (rest (log ++ t.logged ∷ []))
+    let t : Takes node pages log OfRestart restarting (handed node.me OfRestart) = takes node pages log OfRestart Restart no_stamp None None refl e in
+    one_step node pages log OfRestart restarting entries told t (rest (log ++ t.logged ∷ []))
 
 follows : (node : Node) (pages : ℕ) (log : List Logged) (events : List Event) → Follows (box_at node pages log) (entries_of node events) log (told_at node events)
 follows node pages log [] = ap Some (sym (append-nil (map told_by_step log)))
 follows node pages log (Line line ∷ events) =
     subst (Follows (box_at node pages log) (entries_of node (Line line ∷ events)) log) (sym (told_more (said_at node (Line line)) (all_said (after_event node (Line line)) events)))
-    (line_law node pages log line (entries_of (after_event node (Line line)) events) (told_at (after_event node (Line line)) events) (heard node line) refl
+    (read_law node pages log (read_line line) (entries_of (after_event node (Line line)) events) (told_at (after_event node (Line line)) events)
     (λ log. follows (after_event node (Line line)) pages log events))
 follows node pages log (TooLong ∷ events) = follows (after_event node TooLong) pages log events
 follows node pages log (Again ∷ events) =
     subst (Follows (box_at node pages log) (entries_of node (Again ∷ events)) log) (sym (told_more (said_at node Again) (all_said (after_event node Again) events)))
-    (ready_law node pages log (entries_of (after_event node Again) events) (told_at (after_event node Again) events) (ready node)
+    (again_law node pages log (entries_of (after_event node Again) events) (told_at (after_event node Again) events) (ready node) refl
     (λ log. follows (after_event node Again) pages log events))
 follows node pages log (Restarted ∷ events) =
     subst (Follows (box_at node pages log) (entries_of node (Restarted ∷ events)) log) (sym (told_more (said_at node Restarted) (all_said (after_event node Restarted) events)))

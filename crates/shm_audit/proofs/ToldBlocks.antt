@@ -1,29 +1,23 @@
 -- What a block is told with was loaded since it was asked for, by steps that its site's process made, under the tag that is told.
 use Rattle.std.proofs.Common.{◌≡◌, ℕ, ◌+◌, ◌<◌, ◌≤◌, ◌==◌, Bool, true, false, List, [], ◌∷◌, ◌++◌, Some, None, length, cond, refl, ap, sym, subst, ◌∙◌, arith}
-use Rattle.std.specs.Prelude.{Option, ◌^◌, nat_lt, option_and_then, option_map}
+use Rattle.std.specs.Prelude.{Option, nat_lt, option_map}
 use Rattle.std.proofs.lemmas.Bool.Decides.{nat_tests}
 use Rattle.std.proofs.lemmas.List.{length-append}
 use Rattle.std.proofs.lemmas.List.Elements.{All-nil}
 use Rattle.shm_model.specs.declared.answer.Answer.{Answer}
 use Rattle.shm_model.specs.declared.answer.Answer.TheVariants.{Byte, Stored, Fault, Waiting, Began, Replied, Took, Dropped, Refused}
-use Rattle.shm_model.specs.declared.asked.Asked.TheVariants.{Load}
-use Rattle.shm_model.specs.Receipt.{access_of}
-use Rattle.shm_wire.proofs.Apart.{ask-alone}
-use Rattle.shm_wire.proofs.SpelledAsks.{ask-is_read}
-use Rattle.shm_wire.specs.Asks.{Ask, IsAsk, ask_line, read_ask}
-use Rattle.shm_wire.specs.Sent.{read_envelope}
+use Rattle.shm_wire.specs.Line as stream
+use Rattle.shm_wire.specs.Line.{read_line}
 use Rattle.shm_wire.specs.declared.ask.Question.TheVariants as question
 use Rattle.shm_process.specs.Blocks.{Block, whole_after, goes_on as block_goes_on}
-use Rattle.shm_process.specs.WaitingAsks.{Access, Reads, WaitingAsk, all_bytes, ask_in, goes_on, next_line}
-use Rattle.shm_process.specs.Node.{Node, Heard, Said, answer_to, asked_here, heard, heard_in, input_asked, is_late, new_node, says, tag_told, under_tag}
+use Rattle.shm_process.specs.Cause.{OfLine}
+use Rattle.shm_process.specs.WaitingAsks.{Access, Reads, WaitingAsk, all_bytes, ask_in, goes_on, tag_of}
+use Rattle.shm_process.specs.Node.{Node, Heard, Said, answer_to, heard, is_late, new_node, says, tag_told}
 use Rattle.shm_process.specs.Recorded.{Event, Line, TooLong, Again, Restarted, after_events, said_at}
-use Rattle.shm_process.specs.Waiting.{joins, ready, said_restart, says_again, says_at, waiting_at}
+use Rattle.shm_process.specs.Waiting.{joins, next_heard, ready, said_read, said_restart, says_at}
 use Rattle.shm_audit.specs.Loads.{IsLoadedBlock, MadeSince, loads, made_by}
 use Rattle.shm_audit.proofs.Among.{loads-push}
-use Rattle.shm_audit.proofs.LoadedBlocks.{CanLoad, HasLoaded, Holds, ask-loaded, events-hold, step_of}
-
-offset-is : (offset count n : ℕ) → offset + count ≤ 2 ^ 32 → n < count → offset + n < 2 ^ 32
-offset-is offset count n whole here = omega (arith, whole, here)
+use Rattle.shm_audit.proofs.LoadedBlocks.{HasLoaded, Holds, ask-loaded, events-hold, step_of}
 
 some-is : {A : Type 0} (a b : A) → Some a ≡ Some b → a ≡ b
 some-is a b h = cc
@@ -41,7 +35,7 @@ told-by-byte me first events block byte asked caller bytes false h last tag e =
     let same : block.bytes ++ byte ∷ [] ≡ bytes = some-is (block.bytes ++ byte ∷ []) bytes e in
     let others = loads me block.tag block.at block.offset block.bytes in
     let count : block.count ≡ length bytes =
-    count-is (length block.bytes) block.count last h.1.4 ∙ sym (length-append block.bytes (byte ∷ [])) ∙ ap length same in
+    count-is (length block.bytes) block.count last h.1 ∙ sym (length-append block.bytes (byte ∷ [])) ∙ ap length same in
     record {
       tag = block.tag;
       at = block.at;
@@ -67,65 +61,44 @@ told-by-answer me first events block Took asked caller bytes h tag e = absurd (c
 told-by-answer me first events block Dropped asked caller bytes h tag e = absurd (cc)
 told-by-answer me first events block (Refused refusal) asked caller bytes h tag e = absurd (cc)
 
--- the tag of a load is its caller's
-tag-is : (node : Node) (tag : List ℕ) (at offset : ℕ) (h : Heard) (here late : Bool)
-    → cond here (cond late None (option_map (under_tag tag true) (input_asked (question.Access (Load at offset))))) None ≡ Some h → h.tag ≡ Some tag
-tag-is node tag at offset h false late e = absurd (cc)
-tag-is node tag at offset h true true e = absurd (cc)
-tag-is node tag at offset h true false e =
-    ap (λ (x : Heard). x.tag) (sym (some-is (under_tag tag true (access_of (Load at offset))) h e))
-
-heard-tag : (me : ℕ) (node : Node) (block : Block) (h : Heard) → CanLoad me block → heard node (next_line me (Reads block)) ≡ Some h → h.tag ≡ Some block.tag
-heard-tag me node block h can e =
-    let offset = block.offset + length block.bytes in
-    let ask : Ask = record { site = me; tag = block.tag; asked = question.Access (Load block.at offset) } in
-    let is : IsAsk ask = (can.0, can.1, (can.2, offset-is block.offset block.count (length block.bytes) can.3 can.4)) in
-    let read : read_ask (ask_line ask) ≡ Some ask = ask-is_read ask is in
-    let alone : read_envelope (ask_line ask) ≡ None = (ask-alone (ask_line ask) ask read).0 in
-    let here : heard node (ask_line ask) ≡ asked_here node ask =
-    ap (λ o. heard_in node o (read_ask (ask_line ask))) alone ∙ ap (heard_in node None) read in
-    tag-is node block.tag block.at offset h (me == node.me) (is_late node 0) (sym here ∙ e)
-
-told-by-ask : (me : ℕ) (first : Node) (events : List Event) (node : Node) (ask : WaitingAsk) (answer : Answer) (caller : Option (List ℕ)) (bytes : List ℕ) (h : Heard)
-    → HasLoaded me first events ask → heard node (next_line me ask) ≡ Some h
-    → all_bytes ask answer ≡ Some bytes → IsLoadedBlock me first events (tag_told (goes_on ask answer) h.tag caller answer) (step_of me ask answer) bytes
-told-by-ask me first events node (Access line) answer caller bytes h has e w = absurd (cc)
-told-by-ask me first events node (Reads block) answer caller bytes h has e w =
-    told-by-answer me first events block answer h.tag caller bytes has (heard-tag me node block h has.1 e) w
+told-by-ask : (me : ℕ) (first : Node) (events : List Event) (ask : WaitingAsk) (answer : Answer) (caller : Option (List ℕ)) (bytes : List ℕ)
+    → HasLoaded me first events ask → all_bytes ask answer ≡ Some bytes
+    → IsLoadedBlock me first events (tag_told (goes_on ask answer) (Some (tag_of ask)) caller answer) (step_of me ask answer) bytes
+told-by-ask me first events (Access tag asked) answer caller bytes has w = absurd (cc)
+told-by-ask me first events (Reads block) answer caller bytes has w =
+    told-by-answer me first events block answer (Some block.tag) caller bytes has refl w
 
 -- if a step is made, and told with a block, its bytes are what its loads were answered
 abbrev SaysLoaded : ℕ → Node → List Event → Option Said → Type 0
 SaysLoaded me first events None = Unit {0}
 SaysLoaded me first events (Some said) = (bytes : List ℕ) → said.block ≡ Some bytes → IsLoadedBlock me first events said.tag (made_by said) bytes
 
-told-by-line : (me : ℕ) (first : Node) (events : List Event) (node : Node) (line : List ℕ) (o : Option Heard)
-    → SaysLoaded me first events (option_map (λ x. says node line x (joins node x)) o)
+told-by-line : (me : ℕ) (first : Node) (events : List Event) (node : Node) (line : stream.Line) (o : Option Heard)
+    → SaysLoaded me first events (option_map (λ x. says node (OfLine line) x (joins node x)) o)
 told-by-line me first events node line None = tt
 told-by-line me first events node line (Some x) = λ bytes e. absurd (cc)
 
-told-again : (me : ℕ) (first : Node) (events : List Event) (node : Node) (at : ℕ) (o : Option Heard) → Holds me first events node
-    → heard node (waiting_at node at) ≡ o → SaysLoaded me first events (option_map (says_again node at) o)
-told-again me first events node at None h e = tt
-told-again me first events node at (Some x) h e = λ bytes w.
-    let ask = ask_in node.waiting at in
-    let answer = answer_to node x in
-    subst (λ m. IsLoadedBlock me first events (tag_told (goes_on ask answer) x.tag node.caller answer) (step_of m ask answer) bytes) (sym h.own)
-    (told-by-ask me first events node ask answer node.caller bytes x (ask-loaded me first events node.waiting at h.all)
-    (subst (λ m. heard node (next_line m ask) ≡ Some x) h.own e) w)
+told-read : (me : ℕ) (first : Node) (events : List Event) (node : Node) (read : Option stream.Line) → SaysLoaded me first events (said_read node read)
+told-read me first events node None = tt
+told-read me first events node (Some line) = told-by-line me first events node line (heard node line)
 
-told-ready : (me : ℕ) (first : Node) (events : List Event) (node : Node) (p : Option ℕ) → Holds me first events node
-    → SaysLoaded me first events (option_and_then (says_at node) p)
-told-ready me first events node None h = tt
-told-ready me first events node (Some at) h = told-again me first events node at (heard node (waiting_at node at)) h refl
+told-again : (me : ℕ) (first : Node) (events : List Event) (node : Node) (p : Option ℕ) → Holds me first events node
+    → SaysLoaded me first events (option_map (says_at node) p)
+told-again me first events node None h = tt
+told-again me first events node (Some at) h = λ bytes w.
+    let ask = ask_in node.waiting at in
+    let answer = answer_to node (next_heard ask) in
+    subst (λ m. IsLoadedBlock me first events (tag_told (goes_on ask answer) (Some (tag_of ask)) node.caller answer) (step_of m ask answer) bytes) (sym h.own)
+    (told-by-ask me first events ask answer node.caller bytes (ask-loaded me first events node.waiting at h.all) w)
 
 told-restart : (me : ℕ) (first : Node) (events : List Event) (node : Node) (late : Bool) → SaysLoaded me first events (cond late None (Some (said_restart node)))
 told-restart me first events node true = tt
 told-restart me first events node false = λ bytes e. absurd (cc)
 
 told-at : (me : ℕ) (first : Node) (events : List Event) (node : Node) (event : Event) → Holds me first events node → SaysLoaded me first events (said_at node event)
-told-at me first events node (Line line) h = told-by-line me first events node line (heard node line)
+told-at me first events node (Line line) h = told-read me first events node (read_line line)
 told-at me first events node TooLong h = tt
-told-at me first events node Again h = told-ready me first events node (ready node) h
+told-at me first events node Again h = told-again me first events node (ready node) h
 told-at me first events node Restarted h = told-restart me first events node (is_late node 0)
 
 pub block_is_loaded : (sites me pages : ℕ) (events : List Event) (event : Event) (said : Said) (bytes : List ℕ)

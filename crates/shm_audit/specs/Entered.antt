@@ -1,16 +1,17 @@
 -- What an entry of a journal hands to its site's box, and the box after it.
-use Rattle.std.specs.Prelude.{ℕ, List, codes, Option, Some, None, ◌==◌, if◌then◌else◌, option_and_then, option_map}
-use Rattle.std.specs.Str.{bytes_eq}
+use Rattle.std.specs.Prelude.{ℕ, Option, Some, None, ◌==◌, if◌then◌else◌, option_and_then, option_map}
 use Rattle.shm_model.specs.Log.{Stamp}
 use Rattle.shm_model.specs.Message.{Input, Deliver, Restart}
+use Rattle.shm_process.specs.Cause.{Cause, OfLine, OfRestart}
 use Rattle.shm_process.specs.Node.{input_asked}
 use Rattle.shm_process.specs.Recorded.{Entry}
 use Rattle.shm_logs.specs.Boxes.Box.{Box, after, refusal}
 use Rattle.shm_logs.specs.declared.boxes.box_fault.BoxFault.{BoxFault}
-use Rattle.shm_wire.specs.Asks.{Ask, read_ask}
-use Rattle.shm_wire.specs.Sent.{Sent, read_envelope}
+use Rattle.shm_wire.specs.Asks.{Ask}
+use Rattle.shm_wire.specs.Line as stream
+use Rattle.shm_wire.specs.Sent.{Sent}
 
--- ---- what a line hands over
+-- ---- what is handed over
 
 -- an input, and where it was sent, if it is an envelope
 pub record Handed : Type 0 where
@@ -28,17 +29,11 @@ delivered sent = record { input = Deliver sent.envelope; source = sent.source }
 abbrev pub asked_here : ℕ → Ask → Option Handed
 asked_here me ask = if (ask.site == me) then option_map unsent (input_asked ask.asked) else None
 
-abbrev pub or_restart : List ℕ → Option Handed → Option Handed
-or_restart line (Some handed) = Some handed
-or_restart line None = if bytes_eq line (codes "restart") then Some (unsent Restart) else None
-
-abbrev pub handed_in : ℕ → List ℕ → Option Sent → Option Ask → Option Handed
-handed_in me line (Some sent) ask = Some (delivered sent)
-handed_in me line None ask = or_restart line (option_and_then (asked_here me) ask)
-
--- what the line of an entry hands to this site
-abbrev pub handed : ℕ → List ℕ → Option Handed
-handed me line = handed_in me line (read_envelope line) (read_ask line)
+-- what made the step of an entry hands to this site
+abbrev pub handed : ℕ → Cause → Option Handed
+handed me (OfLine (stream.Envelope sent)) = Some (delivered sent)
+handed me (OfLine (stream.Ask ask)) = asked_here me ask
+handed me OfRestart = Some (unsent Restart)
 
 -- ---- the box
 
@@ -56,4 +51,4 @@ box_handed clock box (Some h) = option_and_then (at_clock clock) (unless_refused
 
 -- the box after the step that this entry records, if it can be its next
 abbrev pub box_after : Box → Entry → Option Box
-box_after box entry = box_handed entry.clock box (handed box.me entry.line)
+box_after box entry = box_handed entry.clock box (handed box.me entry.cause)

@@ -1,21 +1,25 @@
--- The steps of a site's process, each by the line that made it and what the site answered; and the loads of a block among them.
+-- The steps of a site's process, each by what made it and what the site answered; and the loads of a block among them.
 use Rattle.std.specs.Prelude.{⊤, ◌≡◌, ◌⊎◌, ℕ, ◌+◌, true, List, [], ◌∷◌, ◌++◌, length, map, Option, Some}
 use Rattle.shm_model.specs.declared.answer.Answer.{Answer}
 use Rattle.shm_model.specs.declared.answer.Answer.TheVariants.{Byte}
 use Rattle.shm_model.specs.declared.asked.Asked.TheVariants.{Load}
-use Rattle.shm_wire.specs.Asks.{Ask, ask_line, read_ask}
-use Rattle.shm_wire.specs.declared.ask.Question.TheVariants.{Access, Read}
+use Rattle.shm_wire.specs.Asks.{Ask}
+use Rattle.shm_wire.specs.Line as stream
+use Rattle.shm_wire.specs.Line.{read_line}
+use Rattle.shm_wire.specs.declared.ask.Question.TheVariants.{Read}
+use Rattle.shm_process.specs.Access.{access_ask}
+use Rattle.shm_process.specs.Cause.{Cause, OfLine}
 use Rattle.shm_process.specs.Node.{Node, Said}
 use Rattle.shm_process.specs.Recorded.{Event, Line, after_events}
 use Rattle.shm_process.specs.Waiting.{has_room}
 use Rattle.shm_audit.specs.Told.{all_said}
 
 pub record Made : Type 0 where
-  pub line : List ℕ
+  pub cause : Cause
   pub answer : Answer
 
 abbrev pub made_by : Said → Made
-made_by said = record { line = said.line; answer = said.answer }
+made_by said = record { cause = said.cause; answer = said.answer }
 
 -- the steps that a node makes at these events, one after another
 abbrev pub made_at : Node → List Event → List Made
@@ -25,7 +29,7 @@ made_at node events = map made_by (all_said node events)
 abbrev pub loads : ℕ → List ℕ → ℕ → ℕ → List ℕ → List Made
 loads me tag at offset [] = []
 loads me tag at offset (byte ∷ bytes) =
-    record { line = ask_line (record { site = me; tag = tag; asked = Access (Load at offset) }); answer = Byte byte }
+    record { cause = OfLine (stream.Ask (access_ask me tag (Load at offset))); answer = Byte byte }
     ∷ loads me tag at (offset + 1) bytes
 
 -- these stand among those, in this order
@@ -41,7 +45,7 @@ pub record MadeSince (first : Node) (events : List Event) (ask : Ask) (steps : L
   pub since : List Event
   pub are : events ≡ before ++ Line line ∷ since
   pub room : has_room (after_events first before) ≡ true
-  pub asked : read_ask line ≡ Some ask
+  pub asked : read_line line ≡ Some (stream.Ask ask)
   pub made : Among steps (made_at (after_events first (before ++ Line line ∷ [])) since)
 
 -- A block of these bytes, told of this step after these events: a caller of this site asked, under the tag that is told, for as many bytes,

@@ -1,15 +1,15 @@
 //! The entries of a journal.
 ghost use Rattle.std.specs.Prelude.{◌≡◌, ◌⊎◌, None, Some, IfErr, OnOk};
-ghost use Rattle.shm_process.specs.Recorded.{Entry};
+ghost use Rattle.shm_journal.specs.EntryOf.{entry_of};
 ghost use Rattle.shm_logs.specs.Boxes.SiteBox.{box_of};
-ghost use Rattle.shm_audit.specs.Entered.{box_handed};
+ghost use Rattle.shm_audit.specs.Entered.{box_after, box_handed};
 ghost use Rattle.shm_audit.specs.Found.{entered};
 ghost use Rattle.shm_audit.specs.HandedOf.{handed_of};
 ghost use Rattle.shm_audit.specs.declared.journal_fault.JournalFault.TheVariants as fault;
 
 use crate::handed::{Handed, handed_input};
 use crate::journal_fault::JournalFault;
-use shm_journal::parse_entry;
+use shm_journal::{Entry, parse_entry};
 use shm_logs::{BoxFault, SiteBox};
 use std::alloc::Allocator;
 
@@ -23,13 +23,26 @@ pub(crate) fn enter<A: Allocator + Copy>(
     ensures ok { OnOk result (entered (box_of site_box.old) line.now ≡ Some (box_of site_box.new)) }
     ensures err { IfErr result (λ f. (f ≡ fault.OutOfMemory) ⊎ ((f ≡ fault.BadLine number) × (entered (box_of site_box.old) line.now ≡ None))) }
 {
-    let Some((clock, made_by)) = parse_entry(line) else {
-        return Err(JournalFault::BadLine(number));
-    };
-    match handed_input(alloc, site_box.log().site(), made_by) {
-        Ok(Some(handed)) => take(number, site_box, clock, handed),
+    match parse_entry(alloc, line) {
+        Ok(Some(entry)) => enter_step(number, site_box, entry),
         Ok(None) => Err(JournalFault::BadLine(number)),
         Err(_) => Err(JournalFault::OutOfMemory),
+    }
+}
+
+/// The box takes the step that the entry of this number records, if it can be its next.
+fn enter_step<A: Allocator + Copy>(
+    number: u64,
+    site_box: &mut SiteBox<A>,
+    entry: Entry<A>,
+) -> Result<(), JournalFault>
+    ensures ok { OnOk result (box_after (box_of site_box.old) (entry_of entry) ≡ Some (box_of site_box.new)) }
+    ensures err { IfErr result (λ f. (f ≡ fault.OutOfMemory) ⊎ ((f ≡ fault.BadLine number) × (box_after (box_of site_box.old) (entry_of entry) ≡ None))) }
+{
+    let Entry { clock, cause } = entry;
+    match handed_input(site_box.log().site(), cause) {
+        Some(handed) => take(number, site_box, clock, handed),
+        None => Err(JournalFault::BadLine(number)),
     }
 }
 

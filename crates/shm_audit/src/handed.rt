@@ -1,16 +1,17 @@
 //! What an entry hands to the box of its site.
-ghost use Rattle.std.specs.Prelude.{◌≡◌, IfOk, option_and_then, option_map};
+ghost use Rattle.std.specs.Prelude.{◌≡◌, option_map};
 ghost use Rattle.shm_site.specs.Step.{input_of};
-ghost use Rattle.shm_wire.specs.Asks.{read_ask};
+ghost use Rattle.shm_process.specs.CauseOf.{cause_of};
+ghost use Rattle.shm_wire.specs.Asks.{ask_of};
 ghost use Rattle.shm_wire.specs.SentOf.{sent_of};
 ghost use Rattle.shm_audit.specs.Entered as spec;
 ghost use Rattle.shm_audit.specs.HandedOf.{handed_of};
 
-use shm_logs::{Input, Stamp};
 use shm_place::SiteId;
-use shm_process::input_asked;
-use shm_wire::{Sent, parse_ask, parse_envelope};
-use std::alloc::{AllocError, Allocator, Global};
+use shm_process::{Cause, input_asked};
+use shm_logs::{Input, Stamp};
+use shm_wire::{Ask, Line, Sent};
+use std::alloc::{Allocator, Global};
 
 /// An input, and where it was sent.
 #[derive(Drop)]
@@ -19,17 +20,14 @@ pub(crate) struct Handed<A: Allocator + Copy = Global> {
     pub(crate) source: Stamp,
 }
 
-/// What the line of an entry hands to this site. Only a page's bytes take memory.
-pub(crate) fn handed_input<A: Allocator + Copy>(
-    alloc: A,
-    me: SiteId,
-    line: &[u8],
-) -> Result<Option<Handed<A>>, AllocError>
-    ensures { IfOk result (λ handed. option_map handed_of handed ≡ spec.handed me line.now) }
+/// What made the step of an entry hands to this site.
+pub(crate) fn handed_input<A: Allocator + Copy>(me: SiteId, cause: Cause<A>) -> Option<Handed<A>>
+    ensures { option_map handed_of result ≡ spec.handed me (cause_of cause) }
 {
-    match parse_envelope(alloc, line)? {
-        Some(sent) => Ok(Some(delivered_input(sent))),
-        None => Ok(ask_or_restart(me, line)),
+    match cause {
+        Cause::Line(Line::Envelope(sent)) => Some(delivered_input(sent)),
+        Cause::Line(Line::Ask(ask)) => asked_input(me, ask),
+        Cause::Restart => Some(unsent_input(Input::Restart)),
     }
 }
 
@@ -47,38 +45,15 @@ fn delivered_input<A: Allocator + Copy>(sent: Sent<A>) -> Handed<A>
     }
 }
 
-/// What a caller asked of this site, or its restart.
-fn ask_or_restart<A: Allocator + Copy>(me: SiteId, line: &[u8]) -> Option<Handed<A>>
-    ensures { option_map handed_of result ≡ spec.or_restart line.now (option_and_then (spec.asked_here me) (read_ask line.now)) }
+/// What a caller asked of this site.
+fn asked_input<A: Allocator + Copy>(me: SiteId, ask: Ask) -> Option<Handed<A>>
+    ensures { option_map handed_of result ≡ spec.asked_here me (ask_of ask) }
 {
-    match ask_here(me, line) {
-        Some(handed) => Some(handed),
-        None => restart_input(line),
-    }
-}
-
-fn restart_input<A: Allocator + Copy>(line: &[u8]) -> Option<Handed<A>>
-    ensures { option_map handed_of result ≡ spec.or_restart line.now None }
-{
-    if line != b"restart".as_slice() {
-        return None;
-    }
-    Some(unsent_input(Input::Restart))
-}
-
-fn ask_here<A: Allocator + Copy>(me: SiteId, line: &[u8]) -> Option<Handed<A>>
-    ensures { option_map handed_of result ≡ option_and_then (spec.asked_here me) (read_ask line.now) }
-{
-    let Some(ask) = parse_ask(line) else {
-        return None;
-    };
     if ask.site != me {
         return None;
     }
-    match input_asked(ask.asked) {
-        Some(input) => Some(unsent_input(input)),
-        None => None,
-    }
+    let input = input_asked(ask.asked)?;
+    Some(unsent_input(input))
 }
 
 /// What is no envelope.

@@ -55,7 +55,7 @@ unless_long number line says = if is_long line then Bad number else says
 
 unfoldable pub replayed_entry : Node → Option Entry → Option Node
 replayed_entry node None = None
-replayed_entry node (Some entry) = replayed node entry.clock entry.line
+replayed_entry node (Some entry) = replayed node entry.clock entry.cause
 
 abbrev pub next_found : ℕ → Option Node → (Node → Found) → Found
 next_found number None onward = Bad number

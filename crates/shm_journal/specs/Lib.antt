@@ -1,5 +1,6 @@
 pub mod Lines
 pub mod HeaderOf
+pub mod EntryOf
 pub mod Found
 pub mod Reading
 pub mod ReadingOf

@@ -3,8 +3,7 @@ ghost use Rattle.std.specs.Prelude.{◌≡◌, ℕ, List, Some};
 ghost use Rattle.shm_journal.specs.Crash.{KeepsBeforeTelling};
 ghost use Rattle.shm_journal.specs.Lines.{Header, IsHeader, header_line, read_entry, read_header};
 ghost use Rattle.shm_process.specs.Desk.{Desk};
-ghost use Rattle.shm_process.specs.Recorded.{Entry, entry_line};
-ghost use Rattle.shm_lines.specs.Words.{IsWide};
+ghost use Rattle.shm_process.specs.Recorded.{Entry, IsEntry, entry_line};
 
 /// Each header has one spelling: what is read is spelled so, and what is spelled so is read.
 pub fn headers_have_one_spelling()
@@ -14,8 +13,8 @@ pub fn headers_have_one_spelling()
 
 /// Each entry has one spelling: what is read is spelled so, and what is spelled so is read.
 pub fn entries_have_one_spelling()
-    ensures read { (line : List ℕ) (entry : Entry) → read_entry line ≡ Some entry → IsWide entry.clock × (line ≡ entry_line entry) }
-    ensures spelled { (entry : Entry) → IsWide entry.clock → read_entry (entry_line entry) ≡ Some entry }
+    ensures read { (line : List ℕ) (entry : Entry) → read_entry line ≡ Some entry → IsEntry entry × (line ≡ entry_line entry) }
+    ensures spelled { (entry : Entry) → IsEntry entry → read_entry (entry_line entry) ≡ Some entry }
 {}
 
 /// Nothing is told before the entries of all steps that it tells of are durable in the journal: so a crash at any moment leaves them there.

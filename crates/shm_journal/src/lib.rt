@@ -2,6 +2,7 @@
 //! keeps it.
 #![tactic(auto)]
 
+mod entry;
 mod header;
 mod journal;
 pub mod laws;
@@ -14,6 +15,7 @@ mod recovery;
 mod recovery_fault;
 mod serving;
 
+pub use entry::Entry;
 pub use header::Header;
 pub use journal::{Failed, Journal};
 pub use opening::{OpeningFault, open_desk};

@@ -1,10 +1,16 @@
 //! How the lines of a journal are read.
-ghost use Rattle.std.specs.Prelude.{◌≡◌, None, Some, IfNone, IfSome, option_map};
+ghost use Rattle.std.specs.Prelude.{◌≡◌, None, Some, IfNone, IfOk, IfSome, option_map};
+ghost use Rattle.shm_process.specs.CauseOf.{cause_of};
+ghost use Rattle.shm_journal.specs.EntryOf.{entry_of};
 ghost use Rattle.shm_journal.specs.HeaderOf.{header_of};
-ghost use Rattle.shm_journal.specs.Lines.{read_entry, read_header};
+ghost use Rattle.shm_journal.specs.Lines.{or_restart, read_cause, read_entry, read_header, read_written};
 
+use crate::entry::Entry;
 use crate::header::Header;
 use shm_lines::{Words, split_at, wide_number};
+use shm_process::Cause;
+use shm_wire::parse_line;
+use std::alloc::{AllocError, Allocator};
 
 /// The header that this line spells, which stands without its line feed; `None` where it spells none.
 pub fn parse_header(line: &[u8]) -> Option<Header>
@@ -23,10 +29,26 @@ pub fn parse_header(line: &[u8]) -> Option<Header>
     Some(Header { sites, me, pages })
 }
 
-/// The clock of the step that this line records, and the line that made it, both without a line feed; `None` where it is no entry.
-pub fn parse_entry(line: &[u8]) -> Option<(u64, &[u8])>
-    ensures some { IfSome result (λ entry. read_entry line.now ≡ Some (record { clock = entry.0; line = entry.1.now })) }
-    ensures none { IfNone result (read_entry line.now ≡ None) }
+/// The step that this line records, which stands without its line feed; `None` where it is no entry. Only a page's bytes take memory.
+pub fn parse_entry<A: Allocator + Copy>(
+    alloc: A,
+    line: &[u8],
+) -> Result<Option<Entry<A>>, AllocError>
+    ensures { IfOk result (λ entry. option_map entry_of entry ≡ read_entry line.now) }
+{
+    let Some((clock, text)) = split_entry(line) else {
+        return Ok(None);
+    };
+    match parse_cause(alloc, text)? {
+        Some(cause) => Ok(Some(Entry { clock, cause })),
+        None => Ok(None),
+    }
+}
+
+/// The clock of the step that this line records, and the text of what made it.
+fn split_entry(line: &[u8]) -> Option<(u64, &[u8])>
+    ensures some { IfSome result (λ entry. read_written line.now ≡ Some (record { clock = entry.0; text = entry.1.now })) }
+    ensures none { IfNone result (read_written line.now ≡ None) }
 {
     let (verb, rest) = split_at(line, b' ');
     if verb != b"step".as_slice() {
@@ -34,6 +56,25 @@ pub fn parse_entry(line: &[u8]) -> Option<(u64, &[u8])>
     }
     let (word, rest) = split_at(rest?, b' ');
     let clock = wide_number(word)?;
-    let made_by = rest?;
-    Some((clock, made_by))
+    let text = rest?;
+    Some((clock, text))
+}
+
+/// What made a step: a line, or the site's restart.
+fn parse_cause<A: Allocator + Copy>(alloc: A, text: &[u8]) -> Result<Option<Cause<A>>, AllocError>
+    ensures { IfOk result (λ cause. option_map cause_of cause ≡ read_cause text.now) }
+{
+    match parse_line(alloc, text)? {
+        Some(line) => Ok(Some(Cause::Line(line))),
+        None => Ok(parse_restart(text)),
+    }
+}
+
+fn parse_restart<A: Allocator + Copy>(text: &[u8]) -> Option<Cause<A>>
+    ensures { option_map cause_of result ≡ or_restart text.now None }
+{
+    if text != b"restart".as_slice() {
+        return None;
+    }
+    Some(Cause::Restart)
 }

@@ -5,6 +5,7 @@ ghost use Rattle.shm_journal.specs.Lines.{header_line, read_entry};
 ghost use Rattle.shm_journal.specs.Found.{replayed_entry};
 ghost use Rattle.shm_process.specs.NodeOf.{node_of};
 
+use crate::entry::Entry;
 use crate::header::Header;
 use crate::parsing::{parse_entry, parse_header};
 use crate::recovered::Recovered;
@@ -140,7 +141,7 @@ impl<A: Allocator + Copy> Reading<A> {
         ensures err { IfErr result (λ fault. FaultsIn fault (reading_of self.old) (10 ∷ [])) }
     {
         let number = self.lines + 1;
-        match replay_entry(&mut self.node, self.line.as_slice()) {
+        match replay_entry(self.alloc, &mut self.node, self.line.as_slice()) {
             Ok(true) => Ok(()),
             Ok(false) => Err(RecoveryFault::BadLine(number)),
             Err(_) => Err(RecoveryFault::OutOfMemory),
@@ -206,12 +207,16 @@ fn own_line<A: Allocator + Copy>(alloc: A, header: Header) -> Result<String<A>, 
 
 /// Makes the step that this line records again; `false`: it records none that can be the site's next, and nothing changed.
 #[tactic(auto, unfolding(crate::specs::Found::replayed_entry))]
-fn replay_entry<A: Allocator + Copy>(node: &mut Node<A>, line: &[u8]) -> Result<bool, AllocError>
+fn replay_entry<A: Allocator + Copy>(
+    alloc: A,
+    node: &mut Node<A>,
+    line: &[u8],
+) -> Result<bool, AllocError>
     ensures made { IfOk result (λ made. made ≡ is_some (replayed_entry (node_of node.old) (read_entry line.now))) }
     ensures after { OnOk result (node_of node.new ≡ unwrap_or (replayed_entry (node_of node.old) (read_entry line.now)) (node_of node.old)) }
 {
-    let Some((clock, made_by)) = parse_entry(line) else {
+    let Some(Entry { clock, cause }) = parse_entry(alloc, line)? else {
         return Ok(false);
     };
-    node.replay(clock, made_by)
+    node.replay(clock, cause)
 }

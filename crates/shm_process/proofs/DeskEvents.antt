@@ -2,6 +2,7 @@
 use Rattle.std.proofs.Common.{◌≡◌, ℕ, zero, suc, Bool, true, false, List, [], ◌∷◌, ◌++◌, cond, length, refl, ap, sym, ◌∙◌, append-nil}
 use Rattle.std.specs.Prelude.{Option, Some, None, is_some, nat_lt, ◌==◌}
 use Rattle.std.proofs.lemmas.List.{append_assoc}
+use Rattle.shm_wire.specs.Line.{read_line}
 use Rattle.shm_process.specs.Desk.{Desk, after_line, grown, made_again, max_line_bytes, on_byte, on_bytes, settled, step_entry, taken}
 use Rattle.shm_process.specs.DeskEvents.{DidEvents}
 use Rattle.shm_process.specs.Node.{Node, Said}
@@ -58,9 +59,9 @@ did-settled (suc n) d =
     (did-both d (made_again d) (settled n (made_again d)) (did-one d (made_again d) Again refl refl) (did-settled n (made_again d)))
     (did-nothing d d refl refl)
 
-did-taken : (d : Desk) (line : List ℕ) → DidEvents d (taken d line)
+did-taken : (d : Desk) (line : List ℕ) → DidEvents d (taken d (read_line line))
 unfolding taken
-did-taken d line = did-one d (taken d line) (Line line) refl refl
+did-taken d line = did-one d (taken d (read_line line)) (Line line) refl refl
 
 did-too-long : (d : Desk) → DidEvents d (record d { node = passed_over d.node })
 did-too-long d = record { events = TooLong ∷ []; node = refl; recorded = sym (append-nil d.recorded) }
@@ -68,8 +69,9 @@ did-too-long d = record { events = TooLong ∷ []; node = refl; recorded = sym (
 did-line : (d : Desk) (line : List ℕ) → DidEvents d (after_line d line)
 unfolding after_line
 did-line d line =
-    did-cond (nat_lt max_line_bytes (length line)) d (record d { node = passed_over d.node }) (settled most_steps (taken d line))
-    (did-too-long d) (did-both d (taken d line) (settled most_steps (taken d line)) (did-taken d line) (did-settled most_steps (taken d line)))
+    let next = taken d (read_line line) in
+    did-cond (nat_lt max_line_bytes (length line)) d (record d { node = passed_over d.node }) (settled most_steps next)
+    (did-too-long d) (did-both d next (settled most_steps next) (did-taken d line) (did-settled most_steps next))
 
 did-byte : (d : Desk) (byte : ℕ) → DidEvents d (on_byte d byte)
 unfolding on_byte

@@ -1,27 +1,15 @@
--- A desk step by step: a byte after the others, an ask after the others. What a desk told before stands before all that it tells after.
-use Rattle.std.proofs.Common.{◌≡◌, ℕ, zero, suc, ◌+◌, ◌<◌, ◌≤◌, ◌==◌, Bool, true, false, List, [], ◌∷◌, ◌++◌, length, drop, get_or, cond, refl, ap, ap₂, sym, ◌∙◌, append-nil}
+-- A desk step by step: an ask after the others. What a desk told before stands before all that it tells after.
+use Rattle.std.proofs.Common.{◌≡◌, ℕ, zero, suc, ◌==◌, Bool, true, false, List, [], ◌∷◌, ◌++◌, length, cond, refl, ap, ap₂, sym, ◌∙◌, append-nil}
 use Rattle.std.specs.Prelude.{Option, Some, None, is_some, nat_lt, option_and_then, option_map}
-use Rattle.std.proofs.lemmas.List.{append_assoc, drop_all, drop_more}
+use Rattle.std.specs.Option.{option_map_or}
+use Rattle.std.proofs.lemmas.List.{append_assoc}
+use Rattle.shm_wire.specs.Line.{Line, read_line}
 use Rattle.shm_process.specs.Desk.{Desk, after_line, cleared, grown, made_again, max_line_bytes, line_text, on_byte, on_bytes, settled, step_entry, step_text, taken, tell, with_step}
-use Rattle.shm_process.specs.Node.{Node, Heard, Said, heard}
+use Rattle.shm_process.specs.Node.{Node, Said}
 use Rattle.shm_process.specs.Telling.{shown_line}
-use Rattle.shm_process.specs.Waiting.{after, after_again, again_at, again_if, most_steps, passed_over, ready, said, said_again, says_again, says_at, waiting_at}
+use Rattle.shm_process.specs.Waiting.{after_again, after_read, again_at, most_steps, passed_over, ready, said_again, said_read, says_at}
 
 -- ---- loops
-
--- a byte is taken after those before it
-pub byte_taken : (bytes : List ℕ) (i : ℕ) (d next whole : Desk) → i < length bytes → next ≡ on_byte d (get_or bytes i 0)
-    → on_bytes d (drop i bytes) ≡ whole → on_bytes next (drop (i + 1) bytes) ≡ whole
-unfolding on_bytes
-byte_taken bytes i d next whole within step before =
-    let later = drop (i + 1) bytes in
-    let split : drop i bytes ≡ get_or bytes i 0 ∷ later = drop_more bytes i 0 within in
-    ap (λ x. on_bytes x later) step ∙ sym (ap (on_bytes d) split) ∙ before
-
--- all bytes are taken
-pub no_more : (bytes : List ℕ) (i : ℕ) (d whole : Desk) → length bytes ≤ i → on_bytes d (drop i bytes) ≡ whole → d ≡ whole
-unfolding on_bytes
-no_more bytes i d whole over before = sym (ap (on_bytes d) (drop_all i bytes over)) ∙ before
 
 -- a desk after one round
 abbrev pub after_round : Desk → Desk
@@ -42,17 +30,12 @@ none_made n m d next whole more none step before =
     ∙ sym (ap (λ k. settled k d) more ∙ ap (λ b. cond b (settled m (made_again d)) d) none) ∙ before
 
 -- where no ask can be made, the node stays as it is
-none_heard : (node : Node) (at : ℕ) (h : Option Heard)
-    → option_map (says_again node at) h ≡ None → again_at node at h ≡ node
-none_heard node at None e = refl
-none_heard node at (Some h) e = absurd (cc)
-
-none_ready : (node : Node) (p : Option ℕ) → option_and_then (says_at node) p ≡ None → again_if node p ≡ node
-none_ready node None e = refl
-none_ready node (Some at) e = none_heard node at (heard node (waiting_at node at)) e
+none-ready : (node : Node) (p : Option ℕ) → option_map (says_at node) p ≡ None → option_map_or (again_at node) p node ≡ node
+none-ready node None e = refl
+none-ready node (Some at) e = absurd (cc)
 
 pub none_again : (node : Node) → said_again node ≡ None → after_again node ≡ node
-none_again node e = none_ready node (ready node) e
+none_again node e = none-ready node (ready node) e
 
 -- all rounds are made
 pub rounds_over : (n : ℕ) (d whole : Desk) → n ≡ 0 → settled n d ≡ whole → d ≡ whole
@@ -85,20 +68,21 @@ settled-behind (suc n) r t d =
     cond-behind (is_some (said_again d.node)) r t (settled n (made_again d)) (settled n (made_again (behind r t d))) d (behind r t d)
     (ap (settled n) (made_again-behind r t d) ∙ settled-behind n r t (made_again d)) refl
 
-taken-behind : (r t : List ℕ) (d : Desk) (line : List ℕ) → taken (behind r t d) line ≡ behind r t (taken d line)
+taken-behind : (r t : List ℕ) (d : Desk) (read : Option Line) → taken (behind r t d) read ≡ behind r t (taken d read)
 unfolding taken
-taken-behind r t d line =
-    let shown = line_text (shown_line d.node line) in
-    ap (λ told. with_step (record d { node = after d.node line; recorded = r ++ d.recorded; told = told }) (said d.node line)) (append_assoc t d.told shown)
-    ∙ with_step-behind r t (record (tell d shown) { node = after d.node line }) (said d.node line)
+taken-behind r t d read =
+    let shown = line_text (option_and_then (shown_line d.node) read) in
+    let node = after_read d.node read in
+    ap (λ told. with_step (record d { node = node; recorded = r ++ d.recorded; told = told }) (said_read d.node read)) (append_assoc t d.told shown)
+    ∙ with_step-behind r t (record (tell d shown) { node = node }) (said_read d.node read)
 
 after_line-behind : (r t : List ℕ) (d : Desk) (line : List ℕ) → after_line (behind r t d) line ≡ behind r t (after_line d line)
 unfolding after_line
 after_line-behind r t d line =
     cond-behind (nat_lt max_line_bytes (length line)) r t
     (record d { node = passed_over d.node }) (record (behind r t d) { node = passed_over d.node })
-    (settled most_steps (taken d line)) (settled most_steps (taken (behind r t d) line))
-    refl (ap (settled most_steps) (taken-behind r t d line) ∙ settled-behind most_steps r t (taken d line))
+    (settled most_steps (taken d (read_line line))) (settled most_steps (taken (behind r t d) (read_line line)))
+    refl (ap (settled most_steps) (taken-behind r t d (read_line line)) ∙ settled-behind most_steps r t (taken d (read_line line)))
 
 on_byte-behind : (r t : List ℕ) (d : Desk) (byte : ℕ) → on_byte (behind r t d) byte ≡ behind r t (on_byte d byte)
 unfolding on_byte

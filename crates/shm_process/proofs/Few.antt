@@ -1,17 +1,19 @@
 -- At most so many asks wait at a node.
-use Rattle.std.proofs.Common.{◌≡◌, ℕ, zero, suc, ◌+◌, ◌<◌, ◌≤◌, ◌==◌, ◌&&◌, Bool, true, false, List, [], ◌∷◌, ◌++◌, Option, Some, None, length, set, cond, refl, sym, subst, arith}
+use Rattle.std.proofs.Common.{◌≡◌, ℕ, zero, suc, ◌+◌, ◌≤◌, ◌==◌, ◌&&◌, Bool, true, false, List, [], ◌∷◌, ◌++◌, Option, Some, None, length, set, cond, refl, sym, subst, arith}
 use Rattle.std.specs.List.{remove}
-use Rattle.std.specs.Prelude.{nat_lt, option_and_then, option_map}
+use Rattle.std.specs.Prelude.{is_some, nat_lt}
+use Rattle.std.specs.Option.{option_map_or}
 use Rattle.std.proofs.lemmas.Bool.Decides.{nat_tests}
 use Rattle.std.proofs.lemmas.List.{length-append, length-set}
 use Rattle.shm_model.specs.declared.answer.Answer.{Answer}
-use Rattle.shm_wire.specs.Asks.{Ask, read_ask}
+use Rattle.shm_wire.specs.Line as stream
+use Rattle.shm_wire.specs.Line.{read_line}
 use Rattle.shm_wire.specs.declared.ask.Question.{Question}
 use Rattle.shm_wire.specs.declared.ask.Question.TheVariants as question
-use Rattle.shm_process.specs.WaitingAsks.{Access, Reads, WaitingAsk, after_answer, ask_in, goes_on, waiting_after}
+use Rattle.shm_process.specs.WaitingAsks.{Reads, WaitingAsk, after_answer, ask_in, goes_on, waiting_after}
 use Rattle.shm_process.specs.Node.{Node, Heard, answer_to, heard, is_late, new_node}
 use Rattle.shm_process.specs.Recorded.{Event, Line, TooLong, Again, Restarted, after_event, after_events}
-use Rattle.shm_process.specs.Waiting.{after_heard, after_restart, after_unheard, again_at, again_if, block_here, block_in, has_room, joins, most_waiting, ready, waiting_at}
+use Rattle.shm_process.specs.Waiting.{after_heard, after_read, after_restart, after_unheard, again_at, block_in, has_room, joining, joins, most_waiting, next_heard, ready, with_ask}
 
 abbrev Few : Node → Type 0
 Few node = length node.waiting ≤ most_waiting
@@ -53,44 +55,48 @@ block-few node true false tag (question.Begin request) room few = few
 block-few node true false tag question.Tick room few = few
 block-few node true false tag (question.Show page) room few = few
 
-unheard-few : (node : Node) (room : Bool) (ask : Option Ask) → has_room node ≡ room → Few node
-    → Few (after_unheard node (cond room (option_and_then (block_here node) ask) None))
-unheard-few node false ask room few = few
-unheard-few node true None room few = few
-unheard-few node true (Some ask) room few = block-few node (ask.site == node.me) (is_late node 0) ask.tag ask.asked room few
+ask-few : (node : Node) (room here late : Bool) (tag : List ℕ) (q : Question) → has_room node ≡ room → Few node
+    → Few (after_unheard node (cond room (cond here (cond late None (block_in tag q)) None) None))
+ask-few node false here late tag q room few = few
+ask-few node true here late tag q room few = block-few node here late tag q room few
+
+unheard-few : (node : Node) (line : stream.Line) → Few node → Few (after_unheard node (joining node line))
+unheard-few node (stream.Envelope sent) few = few
+unheard-few node (stream.Ask ask) few = ask-few node (has_room node) (ask.site == node.me) (is_late node 0) ask.tag ask.asked refl few
 
 joins-room : (a b c : Bool) → ((a && b) && c) ≡ true → b ≡ true
 joins-room true true c h = refl
 joins-room true false c h = absurd (cc)
 joins-room false b c h = absurd (cc)
 
-joined-few : (node : Node) (line : List ℕ) (x : Heard) (joining : Bool) → joins node x ≡ joining → Few node
-    → length (cond joining (node.waiting ++ Access line ∷ []) node.waiting) ≤ most_waiting
-joined-few node line x true e few = room-for-one node.waiting (Access line) (joins-room x.waits (has_room node) _ e)
-joined-few node line x false e few = few
+with-few : (node : Node) (ask : Option WaitingAsk) (joins : Bool) → (joins ≡ true → has_room node ≡ true) → Few node
+    → length (with_ask node.waiting ask joins) ≤ most_waiting
+with-few node None joins room few = few
+with-few node (Some ask) true room few = room-for-one node.waiting ask (room refl)
+with-few node (Some ask) false room few = few
 
-line-few : (node : Node) (line : List ℕ) (o : Option Heard) → Few node → Few (after_heard node line o)
-line-few node line None few = unheard-few node (has_room node) (read_ask line) refl few
-line-few node line (Some x) few = joined-few node line x (joins node x) refl few
+line-few : (node : Node) (line : stream.Line) (o : Option Heard) → Few node → Few (after_heard node (joining node line) o)
+line-few node line None few = unheard-few node line few
+line-few node line (Some x) few = with-few node x.waits (joins node x) (joins-room (is_some x.waits) (has_room node) _) few
+
+read-few : (node : Node) (read : Option stream.Line) → Few node → Few (after_read node read)
+read-few node None few = few
+read-few node (Some line) few = line-few node line (heard node line) few
 
 -- ---- any event
 
-again-few : (node : Node) (at : ℕ) (o : Option Heard) → Few node → Few (again_at node at o)
-again-few node at None few = few
-again-few node at (Some x) few = after-few node.waiting at (answer_to node x) few
-
-ready-few : (node : Node) (p : Option ℕ) → Few node → Few (again_if node p)
-ready-few node None few = few
-ready-few node (Some at) few = again-few node at (heard node (waiting_at node at)) few
+again-few : (node : Node) (p : Option ℕ) → Few node → Few (option_map_or (again_at node) p node)
+again-few node None few = few
+again-few node (Some at) few = after-few node.waiting at (answer_to node (next_heard (ask_in node.waiting at))) few
 
 restart-few : (node : Node) (late : Bool) → Few node → Few (cond late node (after_restart node))
 restart-few node true few = few
 restart-few node false few = omega arith
 
 event-few : (node : Node) (event : Event) → Few node → Few (after_event node event)
-event-few node (Line line) few = line-few node line (heard node line) few
+event-few node (Line bytes) few = read-few node (read_line bytes) few
 event-few node TooLong few = few
-event-few node Again few = ready-few node (ready node) few
+event-few node Again few = again-few node (ready node) few
 event-few node Restarted few = restart-few node (is_late node 0) few
 
 events-few : (events : List Event) (node : Node) → Few node → Few (after_events node events)

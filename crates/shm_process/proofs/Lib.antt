@@ -5,11 +5,14 @@ pub mod Replays
 pub mod Asks
 pub mod AskedBlock
 pub mod Few
-pub mod Kept
-pub mod HeardAccesses
-pub mod SmallBlocks
+pub mod Tests
 pub mod Totals
+pub mod Proper
+pub mod Callers
+pub mod Made
 pub mod Lasting
 pub mod Enough
+pub mod Pushed
 pub mod DeskLemmas
+pub mod DeskBytes
 pub mod DeskEvents

@@ -1,5 +1,5 @@
 -- What numbers come to over a list, where one of them falls and none rises; and what a search finds.
-use Rattle.std.proofs.Common.{◌≡◌, ℕ, zero, suc, ◌+◌, ◌*◌, ◌<◌, ◌≤◌, Bool, true, false, List, [], ◌∷◌, Option, Some, None, length, set, get_or, cond, refl, ap, sym, subst, ◌∙◌, arith}
+use Rattle.std.proofs.Common.{◌≡◌, ℕ, zero, suc, ◌+◌, ◌*◌, ◌<◌, ◌≤◌, Bool, true, false, List, [], ◌∷◌, Some, length, set, get_or, cond, refl, arith}
 use Rattle.std.specs.List.{All, position_from, remove}
 use Rattle.std.proofs.lemmas.List.Elements.{All-head, All-tail}
 

@@ -1,5 +1,5 @@
 -- An ask that waits, of the code, as the definitions speak of it.
-use Rattle.std.specs.Prelude.{string_bytes}
+use Rattle.shm_wire.specs.TagOf.{tag_text}
 use Rattle.shm_process.specs.Blocks as spec
 use Rattle.shm_process.specs.WaitingAsks as asks
 use Rattle.shm_process.specs.declared.block.Block.{Block}
@@ -7,8 +7,8 @@ use Rattle.shm_process.specs.declared.waiting_ask.WaitingAsk.{WaitingAsk}
 use Rattle.shm_process.specs.declared.waiting_ask.WaitingAsk.TheVariants as code
 
 abbrev pub block_of : {A : Type 0} → Block A → spec.Block
-block_of block = record { tag = string_bytes block.tag; at = block.at; offset = block.offset; count = block.length; bytes = block.bytes.items }
+block_of block = record { tag = tag_text block.tag; at = block.at; offset = block.offset; count = block.length; bytes = block.bytes.items }
 
 abbrev pub ask_of : {A : Type 0} → WaitingAsk A → asks.WaitingAsk
-ask_of (code.Access line) = asks.Access line.items
+ask_of (code.Access tag asked) = asks.Access (tag_text tag) asked
 ask_of (code.Reads block) = asks.Reads (block_of block)

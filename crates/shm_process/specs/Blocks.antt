@@ -3,9 +3,9 @@
 use Rattle.std.specs.Prelude.{ℕ, ◌+◌, Bool, List, [], ◌∷◌, ◌++◌, Option, Some, None, if◌then◌else◌, length, nat_lt}
 use Rattle.shm_model.specs.declared.answer.Answer.{Answer}
 use Rattle.shm_model.specs.declared.answer.Answer.TheVariants.{Byte}
+use Rattle.shm_model.specs.declared.asked.Asked.{Asked}
 use Rattle.shm_model.specs.declared.asked.Asked.TheVariants.{Load}
-use Rattle.shm_wire.specs.Asks.{ask_line}
-use Rattle.shm_process.specs.Access.{access_ask, is_open}
+use Rattle.shm_process.specs.Access.{is_open}
 
 -- the tag of the caller, through which attachment and from which offset on so many bytes are loaded, and those that were
 pub record Block : Type 0 where
@@ -15,9 +15,9 @@ pub record Block : Type 0 where
   pub count : ℕ
   pub bytes : List ℕ
 
--- the line of a block's next load
-abbrev pub next_load : ℕ → Block → List ℕ
-next_load me block = ask_line (access_ask me block.tag (Load block.at (block.offset + length block.bytes)))
+-- its next load: of the first byte that isn't here
+abbrev pub next_load : Block → Asked
+next_load block = Load block.at (block.offset + length block.bytes)
 
 -- ---- what becomes of it when a load is answered
 

@@ -1,11 +1,12 @@
 -- What a process records and tells: its node, what was read of a line, the entries of the steps that it made, and what callers and other
 -- sites are told of them.
-use Rattle.std.specs.Prelude.{ℕ, zero, suc, ◌==◌, List, [], ◌∷◌, ◌++◌, Option, Some, None, if◌then◌else◌, is_some, length, nat_lt}
+use Rattle.std.specs.Prelude.{ℕ, zero, suc, ◌==◌, List, [], ◌∷◌, ◌++◌, Option, Some, None, if◌then◌else◌, is_some, length, nat_lt, option_and_then}
+use Rattle.shm_wire.specs.Line.{Line, read_line}
 use Rattle.shm_process.specs.Lines.{sent_lines}
 use Rattle.shm_process.specs.Node.{Node, Said}
 use Rattle.shm_process.specs.Recorded.{entries_text, recorded}
 use Rattle.shm_process.specs.Telling.{answer_line_of, shown_line}
-use Rattle.shm_process.specs.Waiting.{after, after_again, after_restart, most_steps, passed_over, said, said_again, said_restart}
+use Rattle.shm_process.specs.Waiting.{after_again, after_read, after_restart, most_steps, passed_over, said_again, said_read, said_restart}
 
 pub record Desk : Type 0 where
   pub node : Node
@@ -45,11 +46,11 @@ unfoldable pub settled : ℕ → Desk → Desk
 settled zero desk = desk
 settled (suc n) desk = if is_some (said_again desk.node) then settled n (made_again desk) else desk
 
--- a line is taken
-unfoldable pub taken : Desk → List ℕ → Desk
-taken desk line =
-    let shown = tell desk (line_text (shown_line desk.node line)) in
-    with_step (record shown { node = after desk.node line }) (said desk.node line)
+-- a line is taken, as what was read of it
+unfoldable pub taken : Desk → Option Line → Desk
+taken desk read =
+    let shown = tell desk (line_text (option_and_then (shown_line desk.node) read)) in
+    with_step (record shown { node = after_read desk.node read }) (said_read desk.node read)
 
 -- the bytes that a line has at most, less its line feed; a longer one is passed over
 abbrev pub max_line_bytes : ℕ
@@ -58,7 +59,7 @@ max_line_bytes = 8192
 unfoldable pub after_line : Desk → List ℕ → Desk
 after_line desk line =
     if nat_lt max_line_bytes (length line) then record desk { node = passed_over desk.node }
-    else settled most_steps (taken desk line)
+    else settled most_steps (taken desk (read_line line))
 
 -- one more byte of a line; of a line that is too long the rest is not kept
 abbrev pub grown : List ℕ → ℕ → List ℕ

@@ -1,4 +1,6 @@
 pub mod Access
+pub mod Cause
+pub mod CauseOf
 pub mod Blocks
 pub mod WaitingAsks
 pub mod AskOf

@@ -1,7 +1,7 @@
 -- A site as a process. Lines come on one stream, which all sites and callers share; each that is for this site makes one step of it, and
 -- the others are passed over. A step's clock is above those of the steps before it, and above that of the step which sent what it is
 -- handed.
-use Rattle.std.specs.Prelude.{ℕ, ◌+◌, Bool, true, false, ◌||◌, List, [], Option, Some, None, ◌==◌, if◌then◌else◌, max, option_map, option_and_then}
+use Rattle.std.specs.Prelude.{ℕ, ◌+◌, Bool, true, false, ◌||◌, List, [], Option, Some, None, ◌==◌, if◌then◌else◌, max, option_map}
 use Rattle.shm_model.specs.declared.answer.Answer.{Answer}
 use Rattle.shm_model.specs.declared.answer.Answer.TheVariants.{Began, Replied}
 use Rattle.shm_model.specs.Basics.{greatest}
@@ -10,11 +10,13 @@ use Rattle.shm_model.specs.Receipt.{access_of}
 use Rattle.shm_model.specs.Site.{Site}
 use Rattle.shm_model.specs.Step.{foreign, step}
 use Rattle.shm_model.specs.World.{Preset, opened_site}
-use Rattle.shm_wire.specs.Asks.{Ask, read_ask}
-use Rattle.shm_wire.specs.Sent.{Sent, read_envelope}
+use Rattle.shm_wire.specs.Asks.{Ask}
+use Rattle.shm_wire.specs.Line as stream
+use Rattle.shm_wire.specs.Sent.{Sent}
 use Rattle.shm_wire.specs.declared.ask.Question.{Question}
 use Rattle.shm_wire.specs.declared.ask.Question.TheVariants as question
-use Rattle.shm_process.specs.WaitingAsks.{WaitingAsk}
+use Rattle.shm_process.specs.Cause.{Cause}
+use Rattle.shm_process.specs.WaitingAsks.{Access, WaitingAsk}
 
 -- how many sites there are, and which one this is; the site as it stands, its clock, and how many steps it made; how many lines made
 -- a step or brought a block that found room, and how many were passed over; the tag of the caller whose segment call is outstanding;
@@ -46,13 +48,13 @@ new_node sites me pages = record {
 
 -- ---- what a line is to a node
 
--- what a line hands to the site: an input, the clock of the step which sent it, or 0, the tag of the caller who asks, and whether the
--- ask is one that waits
+-- what a line hands to the site: an input, the clock of the step which sent it, or 0, the tag of the caller who asks, and the ask, if it is
+-- one that waits
 pub record Heard : Type 0 where
   pub input : Input
   pub source : ℕ
   pub tag : Option (List ℕ)
-  pub waits : Bool
+  pub waits : Option WaitingAsk
 
 -- no stamp is above this clock, or above the sender's
 abbrev pub is_late : Node → ℕ → Bool
@@ -62,7 +64,7 @@ is_late node source = max node.clock source == greatest
 abbrev pub handed : Node → Sent → Option Heard
 handed node sent =
     if foreign node.sites node.me sent.envelope || is_late node sent.source.at then None
-    else Some (record { input = Deliver sent.envelope; source = sent.source.at; tag = None; waits = false })
+    else Some (record { input = Deliver sent.envelope; source = sent.source.at; tag = None; waits = None })
 
 -- what a site is made to do; a page is only shown, and a block is loaded byte by byte
 abbrev pub input_asked : Question → Option Input
@@ -74,26 +76,23 @@ input_asked question.Tick = Some Tick
 input_asked (question.Show page) = None
 
 -- a load and a store wait for their right, unless they are only tried
-abbrev pub waits_for : Question → Bool
-waits_for (question.Access asked) = true
-waits_for _ = false
+abbrev pub waits_for : List ℕ → Question → Option WaitingAsk
+waits_for tag (question.Access asked) = Some (Access tag asked)
+waits_for tag _ = None
 
-abbrev pub under_tag : List ℕ → Bool → Input → Heard
+abbrev pub under_tag : List ℕ → Option WaitingAsk → Input → Heard
 under_tag tag waits input = record { input = input; source = 0; tag = Some tag; waits = waits }
 
 -- what a caller asks of this site
 abbrev pub asked_here : Node → Ask → Option Heard
 asked_here node ask =
     if (ask.site == node.me)
-    then (if is_late node 0 then None else option_map (under_tag ask.tag (waits_for ask.asked)) (input_asked ask.asked))
+    then (if is_late node 0 then None else option_map (under_tag ask.tag (waits_for ask.tag ask.asked)) (input_asked ask.asked))
     else None
 
-abbrev pub heard_in : Node → Option Sent → Option Ask → Option Heard
-heard_in node (Some sent) ask = handed node sent
-heard_in node None ask = option_and_then (asked_here node) ask
-
-abbrev pub heard : Node → List ℕ → Option Heard
-heard node line = heard_in node (read_envelope line) (read_ask line)
+abbrev pub heard : Node → stream.Line → Option Heard
+heard node (stream.Envelope sent) = handed node sent
+heard node (stream.Ask ask) = asked_here node ask
 
 -- ---- one step
 
@@ -123,7 +122,7 @@ stepped node heard =
 -- ---- what it says
 
 -- of one step: which site made it, its clock and its index, the envelopes that the site sent, what it answers, all bytes of the block whose
--- last load it was, the tag of the caller who is told that; and the line that made it
+-- last load it was, the tag of the caller who is told that; and what made it
 pub record Said : Type 0 where
   pub site : ℕ
   pub clock : ℕ
@@ -132,7 +131,7 @@ pub record Said : Type 0 where
   pub tag : Option (List ℕ)
   pub answer : Answer
   pub block : Option (List ℕ)
-  pub line : List ℕ
+  pub cause : Cause
 
 -- each ask is answered once: a segment call when it is replied to, unless it is refused, and an ask that still waits not yet
 abbrev pub tag_told : Bool → Option (List ℕ) → Option (List ℕ) → Answer → Option (List ℕ)
@@ -141,8 +140,8 @@ tag_told false tag caller (Began number) = None
 tag_told false tag caller (Replied number reply attachment) = caller
 tag_told false tag caller answer = tag
 
-abbrev pub says : Node → List ℕ → Heard → Bool → Said
-says node line heard stays =
+abbrev pub says : Node → Cause → Heard → Bool → Said
+says node cause heard stays =
     let done = step node.sites node.me node.site heard.input in
     record {
       site = node.me;
@@ -152,5 +151,5 @@ says node line heard stays =
       tag = tag_told stays heard.tag node.caller done.answer;
       answer = done.answer;
       block = None;
-      line = line;
+      cause = cause;
     }

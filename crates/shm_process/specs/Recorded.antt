@@ -1,8 +1,11 @@
--- What is recorded of a node's steps, each as its clock and the line that made it; and the node that they lead to again.
+-- What is recorded of a node's steps, each as its clock and what made it; and the node that they lead to again.
 use Rattle.std.specs.Prelude.{ℕ, List, [], ◌∷◌, ◌++◌, codes, Option, Some, None, if◌then◌else◌, option_and_then}
 use Rattle.std.specs.Fmt.{decimal}
+use Rattle.shm_lines.specs.Words.{IsWide}
+use Rattle.shm_wire.specs.Line.{read_line}
+use Rattle.shm_process.specs.Cause.{Cause, IsCause, cause_text}
 use Rattle.shm_process.specs.Node.{Node, Said, is_late}
-use Rattle.shm_process.specs.Waiting.{after, after_again, after_restart, passed_over, replayed, said, said_again, said_restart}
+use Rattle.shm_process.specs.Waiting.{after_again, after_read, after_restart, passed_over, replayed, said_again, said_read, said_restart}
 
 -- a line that is taken, one that is too long to be, an ask that waits and is made again, and a restart, as long as there is a clock for it
 pub data Event : Type 0 where
@@ -12,27 +15,31 @@ pub data Event : Type 0 where
   Restarted : Event
 
 abbrev pub after_event : Node → Event → Node
-after_event node (Line line) = after node line
+after_event node (Line bytes) = after_read node (read_line bytes)
 after_event node TooLong = passed_over node
 after_event node Again = after_again node
 after_event node Restarted = if is_late node 0 then node else after_restart node
 
 abbrev pub said_at : Node → Event → Option Said
-said_at node (Line line) = said node line
+said_at node (Line bytes) = said_read node (read_line bytes)
 said_at node TooLong = None
 said_at node Again = said_again node
 said_at node Restarted = if is_late node 0 then None else Some (said_restart node)
 
 pub record Entry : Type 0 where
   pub clock : ℕ
-  pub line : List ℕ
+  pub cause : Cause
+
+-- those that have a line
+abbrev pub IsEntry : Entry → Type 0
+IsEntry entry = IsWide entry.clock × IsCause entry.cause
 
 -- the line that records it
 abbrev pub entry_line : Entry → List ℕ
-entry_line entry = codes "step " ++ (decimal entry.clock ++ 32 ∷ entry.line)
+entry_line entry = codes "step " ++ (decimal entry.clock ++ 32 ∷ cause_text entry.cause)
 
 abbrev pub entry_of : Said → Entry
-entry_of said = record { clock = said.clock; line = said.line }
+entry_of said = record { clock = said.clock; cause = said.cause }
 
 -- each step is recorded
 abbrev pub recorded : Option Said → List Entry → List Entry
@@ -55,7 +62,7 @@ after_events node (event ∷ events) = after_events (after_event node event) eve
 -- the steps that were recorded so, one after another
 abbrev pub replayed_all : Node → List Entry → Option Node
 replayed_all node [] = Some node
-replayed_all node (entry ∷ entries) = option_and_then (λ next. replayed_all next entries) (replayed node entry.clock entry.line)
+replayed_all node (entry ∷ entries) = option_and_then (λ next. replayed_all next entries) (replayed node entry.clock entry.cause)
 
 -- the node less the asks that wait, and less its counts of lines
 abbrev pub kept : Node → Node

@@ -1,5 +1,5 @@
 -- The lines that callers are told: a step's answer in the script's words, a block, and what a page holds.
-use Rattle.std.specs.Prelude.{ℕ, List, Option, Some, None, ◌==◌, ◌||◌, if◌then◌else◌, option_and_then, option_map}
+use Rattle.std.specs.Prelude.{ℕ, List, Option, Some, None, ◌==◌, ◌||◌, if◌then◌else◌, option_map}
 use Rattle.shm_place.specs.declared.page.PageId.{PageId}
 use Rattle.shm_place.specs.Page.{in_limits}
 use Rattle.shm_model.specs.declared.answer.Answer.{Answer}
@@ -8,7 +8,8 @@ use Rattle.shm_model.specs.declared.answer.Shown.{Shown}
 use Rattle.shm_parts.specs.Holdings.{shown_of}
 use Rattle.shm_text.specs.Text.{answer_text}
 use Rattle.shm_wire.specs.Answers.{answer_line, block_text}
-use Rattle.shm_wire.specs.Asks.{Ask, read_ask}
+use Rattle.shm_wire.specs.Asks.{Ask}
+use Rattle.shm_wire.specs.Line as stream
 use Rattle.shm_wire.specs.declared.ask.Question.{Question}
 use Rattle.shm_wire.specs.declared.ask.Question.TheVariants as question
 use Rattle.shm_process.specs.Node.{Node, Said, is_late}
@@ -42,5 +43,6 @@ abbrev pub shown_here : Node → Ask → Option (List ℕ)
 shown_here node ask = if (ask.site == node.me) then shown_for node ask.tag ask.asked else None
 
 -- what is told at once of a line
-abbrev pub shown_line : Node → List ℕ → Option (List ℕ)
-shown_line node line = option_and_then (shown_here node) (read_ask line)
+abbrev pub shown_line : Node → stream.Line → Option (List ℕ)
+shown_line node (stream.Envelope sent) = None
+shown_line node (stream.Ask ask) = shown_here node ask

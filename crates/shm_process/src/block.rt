@@ -1,15 +1,15 @@
 ghost use Rattle.std.specs.Prelude.{◌+◌, ◌^◌, ◌<◌, ◌≤◌, vec_capacity, vec_len};
 
+use crate::waiting_ask::Ended;
 use shm_model::{Answer, Asked};
-use shm_place::SiteId;
-use shm_wire::{Ask, Question};
+use shm_wire::Tag;
 use std::alloc::{AllocError, Allocator, Global};
 
 /// A block that a caller asks for: so many loads of bytes one after another. Not all of them are made yet, and there is room for all their
 /// bytes.
 #[derive(Drop)]
 pub(crate) struct Block<A: Allocator + Copy = Global> {
-    pub(crate) tag: String<A>,
+    pub(crate) tag: Tag,
     pub(crate) at: u32,
     pub(crate) offset: u32,
     pub(crate) length: u32,
@@ -25,19 +25,19 @@ impl<A: Allocator + Copy> Block<A> {
     ghost use Rattle.shm_process.specs.AskOf.{block_of};
     ghost use Rattle.shm_process.specs.Blocks.{bytes_after, goes_on, next_load, whole_after};
     ghost use Rattle.shm_wire.specs.Asks.{is_block};
+    ghost use Rattle.shm_wire.specs.TagOf.{tag_text};
 
     /// A block of which nothing was loaded yet.
     pub(crate) fn new(
         alloc: A,
-        tag: &str,
+        tag: Tag,
         at: u32,
         offset: u32,
         length: u32,
     ) -> Result<Block<A>, AllocError>
         requires { is_block offset length ≡ true }
-        ensures { IfOk result (λ block. block_of block ≡ record { tag = tag.now; at = at; offset = offset; count = length; bytes = [] }) }
+        ensures { IfOk result (λ block. block_of block ≡ record { tag = tag_text tag; at = at; offset = offset; count = length; bytes = [] }) }
     {
-        let tag = String::from_str(alloc, tag)?;
         let bytes = Vec::with_capacity(alloc, length as usize)?;
         Ok(Block {
             tag,
@@ -48,20 +48,14 @@ impl<A: Allocator + Copy> Block<A> {
         })
     }
 
-    /// The line of its next load.
-    pub(crate) fn next_line(&self, alloc: A, site: SiteId) -> Result<Vec<u8, A>, AllocError>
-        ensures { IfOk result (λ line. line.items ≡ next_load site (block_of self.now)) }
+    /// Its next load: of the first byte that isn't here.
+    pub(crate) fn next_load(&self) -> Asked
+        ensures { result ≡ next_load (block_of self.now) }
     {
-        let ask = Ask {
-            site,
-            tag: self.tag.as_str(),
-            asked: Question::Access(Asked::Load {
-                at: self.at,
-                offset: self.offset + self.bytes.len() as u32,
-            }),
-        };
-        let line = format!(in alloc; "{ask}")?;
-        Ok(line.into_bytes())
+        Asked::Load {
+            at: self.at,
+            offset: self.offset + self.bytes.len() as u32,
+        }
     }
 
     /// Whether it goes on waiting when its load is answered so.
@@ -85,16 +79,20 @@ impl<A: Allocator + Copy> Block<A> {
         }
     }
 
-    /// All its bytes, if this is the last of them.
-    pub(crate) fn into_whole(self, answer: &Answer) -> Option<Vec<u8, A>>
+    /// Its tag, and all its bytes if this is the last of them.
+    pub(crate) fn end(self, answer: &Answer) -> Ended<A>
         requires { goes_on (block_of self) answer.now ≡ false }
-        ensures { option_map (λ bytes. bytes.items) result ≡ whole_after (block_of self) answer.now }
+        ensures tag { tag_text result.tag ≡ (block_of self).tag }
+        ensures bytes { option_map (λ bytes. bytes.items) result.bytes ≡ whole_after (block_of self) answer.now }
     {
+        let Block { tag, mut bytes, .. } = self;
         let Answer::Byte(byte) = answer else {
-            return None;
+            return Ended { tag, bytes: None };
         };
-        let mut bytes = self.bytes;
         bytes.push_reserved(*byte);
-        Some(bytes)
+        Ended {
+            tag,
+            bytes: Some(bytes),
+        }
     }
 }

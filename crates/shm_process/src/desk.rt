@@ -1,16 +1,25 @@
 //! Bytes that come, and what is recorded and told of the lines that they end.
-ghost use Rattle.std.specs.Prelude.{◌≡◌, ◌<◌, ◌++◌, ◌∷◌, [], if◌then◌else◌, is_some, option_map, string_bytes, IfOk, OnOk};
+ghost use Rattle.std.specs.Prelude.{◌≡◌, ◌<◌, ◌==◌, ◌++◌, ◌∷◌, [], All, codes, false, if◌then◌else◌, is_some, string_bytes, IfNone, IfOk, IfSome, OnOk};
+ghost use Rattle.std.specs.Fmt.{decimal};
 ghost use Rattle.shm_model.specs.Basics.{greatest};
-ghost use Rattle.shm_process.specs.Desk.{after_line, cleared, desk_at, grown, made_again, on_byte, on_bytes, restarted, settled, step_entry, step_text, taken, tell, line_text, with_step};
+ghost use Rattle.shm_process.specs.Cause.{Cause, OfRestart, cause_text};
+ghost use Rattle.shm_process.specs.Desk.{after_line, cleared, desk_at, made_again, on_bytes, restarted, settled, step_text, taken, tell, line_text, with_step};
 ghost use Rattle.shm_process.specs.DeskOf.{desk_of};
-ghost use Rattle.shm_process.specs.NodeOf.{node_of, said_of};
+ghost use Rattle.shm_process.specs.NodeOf.{again_of, node_of, said_of};
 ghost use Rattle.shm_process.specs.Telling.{shown_line};
-ghost use Rattle.shm_process.specs.Waiting.{most_steps, said_again};
+ghost use Rattle.shm_process.specs.Waiting.{most_steps, passed_over, said_again};
+ghost use Rattle.shm_wire.specs.Line as stream;
+ghost use Rattle.shm_wire.specs.Line.{IsLine};
+ghost use Rattle.shm_wire.specs.LineOf.{line_of};
 
+use crate::again::Again;
 use crate::node::Node;
 use crate::said::Said;
 use crate::taking::MOST_STEPS;
+use memchr::memchr;
+use shm_wire::{Line, parse_line};
 use std::alloc::{AllocError, Allocator, Global};
+use std::mem;
 
 /// How many bytes a line has at most, less its line feed. A longer one is passed over.
 const MAX_LINE_BYTES: usize = 8192;
@@ -84,7 +93,7 @@ impl<A: Allocator + Copy> Desk<A> {
         ensures { OnOk result (desk_of self.new ≡ restarted (desk_of self.old)) }
     {
         let said = self.node.restart()?;
-        self.push_step(&said)
+        self.push_step(b"restart".as_slice(), &said)
     }
 
     /// These bytes come: each line that they end is taken, and the asks that wait are made again after it, as far as they can. Where
@@ -92,63 +101,92 @@ impl<A: Allocator + Copy> Desk<A> {
     pub fn take(&mut self, bytes: &[u8]) -> Result<(), AllocError>
         ensures { OnOk result (desk_of self.new ≡ on_bytes (desk_of self.old) bytes.now) }
     {
-        'bytes: for byte in bytes {
-            self.take_byte(*byte)?;
+        let mut rest = bytes;
+        'lines: loop {
+            let Some((front, behind)) = cut_line(rest) else {
+                return self.keep(rest);
+            };
+            self.end_line(front)?;
+            rest = behind;
         }
-        Ok(())
     }
 
-    #[tactic(auto, unfolding(crate::specs::Desk::on_byte))]
-    fn take_byte(&mut self, byte: u8) -> Result<(), AllocError>
-        ensures { OnOk result (desk_of self.new ≡ on_byte (desk_of self.old) byte) }
+    /// These bytes of a line come, whose end is still to come. Of a line that is too long the rest isn't kept.
+    fn keep(&mut self, bytes: &[u8]) -> Result<(), AllocError>
+        requires { All (λ byte. (byte == 10) ≡ false) bytes.now }
+        ensures { OnOk result (desk_of self.new ≡ on_bytes (desk_of self.old) bytes.now) }
     {
-        if byte != b'\n' {
-            return self.grow(byte);
-        }
-        self.end_line()?;
-        self.line.clear();
+        let room = (MAX_LINE_BYTES + 1).saturating_sub(self.line.len());
+        let count = room.min(bytes.len());
+        self.line.extend_from_slice(&bytes[..count])?;
         Ok(())
     }
 
-    /// One more byte of a line. Of a line that is too long the rest isn't kept.
-    fn grow(&mut self, byte: u8) -> Result<(), AllocError>
-        ensures { OnOk result (desk_of self.new ≡ record (desk_of self.old) { line = grown (desk_of self.old).line byte }) }
+    /// A line ends with these bytes. They are copied only where its front was.
+    fn end_line(&mut self, bytes: &[u8]) -> Result<(), AllocError>
+        requires { All (λ byte. (byte == 10) ≡ false) bytes.now }
+        ensures { OnOk result (desk_of self.new ≡ on_bytes (desk_of self.old) (bytes.now ++ 10 ∷ [])) }
     {
-        if self.line.len() > MAX_LINE_BYTES {
-            return Ok(());
+        if self.line.is_empty() {
+            return self.take_line(bytes);
         }
-        self.line.push(byte)?;
-        Ok(())
+        self.keep(bytes)?;
+        self.take_kept()
     }
 
-    /// The line that was read is taken.
+    /// The line that was kept is taken.
+    fn take_kept(&mut self) -> Result<(), AllocError>
+        ensures { OnOk result (desk_of self.new ≡ after_line (record (desk_of self.old) { line = [] }) (desk_of self.old).line) }
+    {
+        let line = mem::replace(&mut self.line, Vec::new(self.alloc));
+        self.take_line(line.as_slice())
+    }
+
+    /// A whole line is taken, unless it is too long.
     #[tactic(auto, unfolding(crate::specs::Desk::after_line))]
-    fn end_line(&mut self) -> Result<(), AllocError>
-        ensures { OnOk result (desk_of self.new ≡ after_line (desk_of self.old) (desk_of self.old).line) }
+    fn take_line(&mut self, line: &[u8]) -> Result<(), AllocError>
+        ensures { OnOk result (desk_of self.new ≡ after_line (desk_of self.old) line.now) }
     {
-        if self.line.len() > MAX_LINE_BYTES {
+        if line.len() > MAX_LINE_BYTES {
             self.node.pass_over();
             return Ok(());
         }
-        self.take_line()?;
+        match parse_line(self.alloc, line)? {
+            Some(read) => {
+                self.take_read(line, read)?;
+                self.settle()
+            }
+            None => self.pass_line(),
+        }
+    }
+
+    /// A line that tells a site nothing is passed over.
+    fn pass_line(&mut self) -> Result<(), AllocError>
+        ensures { OnOk result (desk_of self.new ≡ settled most_steps (record (desk_of self.old) { node = passed_over (desk_of self.old).node })) }
+    {
+        self.node.pass_over();
         self.settle()
     }
 
-    /// Takes the line, and tells what is told of it.
+    /// Takes what the line is, and tells what is told of it. What is recorded of a step is the line itself: each has one spelling.
     #[tactic(auto, unfolding(crate::specs::Desk::taken))]
-    fn take_line(&mut self) -> Result<(), AllocError>
-        ensures { OnOk result (desk_of self.new ≡ taken (desk_of self.old) (desk_of self.old).line) }
+    fn take_read(&mut self, line: &[u8], read: Line<A>) -> Result<(), AllocError>
+        requires is_line { IsLine (line_of read) }
+        requires spelled { line.now ≡ stream.line_text (line_of read) }
+        ensures { OnOk result (desk_of self.new ≡ taken (desk_of self.old) (Some (line_of read))) }
     {
-        self.show()?;
-        let said = self.node.take(self.line.as_slice())?;
-        self.push_said(said)
+        self.show(&read)?;
+        match self.node.take(read)? {
+            Some(said) => self.push_step(line, &said),
+            None => Ok(()),
+        }
     }
 
     /// Tells what is told of the line at once: of a page, or that a block finds no room.
-    fn show(&mut self) -> Result<(), AllocError>
-        ensures { OnOk result (desk_of self.new ≡ tell (desk_of self.old) (line_text (shown_line (desk_of self.old).node (desk_of self.old).line))) }
+    fn show(&mut self, read: &Line<A>) -> Result<(), AllocError>
+        ensures { OnOk result (desk_of self.new ≡ tell (desk_of self.old) (line_text (shown_line (desk_of self.old).node (line_of read.now)))) }
     {
-        match self.node.line_at_once(self.line.as_slice())? {
+        match self.node.line_at_once(read)? {
             Some(shown) => push_line(&mut self.told, shown.as_str()),
             None => Ok(()),
         }
@@ -174,29 +212,27 @@ impl<A: Allocator + Copy> Desk<A> {
         ensures made { OnOk result (desk_of self.new ≡ (if is_some (said_again (desk_of self.old).node) then made_again
             (desk_of self.old) else desk_of self.old)) }
     {
-        let Some(said) = self.node.again()? else {
+        let Some(again) = self.node.again()? else {
             return Ok(false);
         };
-        self.push_step(&said)?;
+        self.push_again(&again)?;
         Ok(true)
     }
 
-    /// Records a step, if one was made, and tells what is told of it.
-    #[tactic(auto, unfolding(crate::specs::Desk::step_text, crate::specs::Desk::step_entry))]
-    fn push_said(&mut self, said: Option<Said<A>>) -> Result<(), AllocError>
-        ensures { OnOk result (desk_of self.new ≡ with_step (desk_of self.old) (option_map said_of said)) }
+    /// Records a step of an ask that waited, and tells what is told of it.
+    fn push_again(&mut self, again: &Again<A>) -> Result<(), AllocError>
+        ensures { OnOk result (desk_of self.new ≡ with_step (desk_of self.old) (Some (again_of again.now))) }
     {
-        match said {
-            Some(said) => self.push_step(&said),
-            None => Ok(()),
-        }
+        let ask = again.ask;
+        let line = format!(in self.alloc; "{ask}")?;
+        self.push_step(line.as_bytes(), &again.said)
     }
 
-    /// Records a step, and tells what is told of it.
-    fn push_step(&mut self, said: &Said<A>) -> Result<(), AllocError>
-        ensures { OnOk result (desk_of self.new ≡ with_step (desk_of self.old) (Some (said_of said.now))) }
+    /// Records the step that this line made, and tells what is told of it.
+    fn push_step(&mut self, line: &[u8], said: &Said<A>) -> Result<(), AllocError>
+        ensures { (cause : Cause) → cause_text cause ≡ line.now → OnOk result (desk_of self.new ≡ with_step (desk_of self.old) (Some (said_of cause said.now))) }
     {
-        push_entry(self.alloc, &mut self.recorded, said)?;
+        push_entry(self.alloc, &mut self.recorded, said.clock, line)?;
         push_text(self.alloc, &mut self.told, said)
     }
 }
@@ -209,19 +245,18 @@ fn push_line<A: Allocator + Copy>(told: &mut String<A>, line: &str) -> Result<()
     told.push_str("\n")
 }
 
-/// Appends the entry of a step.
-#[tactic(auto, unfolding(crate::specs::Desk::step_entry))]
+/// Appends the entry of a step: `step CLOCK LINE`, and a line feed.
 fn push_entry<A: Allocator + Copy>(
     alloc: A,
     recorded: &mut Vec<u8, A>,
-    said: &Said<A>,
+    clock: u64,
+    line: &[u8],
 ) -> Result<(), AllocError>
-    ensures { OnOk result (recorded.new.items ≡ recorded.old.items ++ step_entry (Some (said_of said.now))) }
+    ensures { OnOk result (recorded.new.items ≡ recorded.old.items ++ ((codes "step " ++ (decimal clock ++ 32 ∷ line.now)) ++ 10 ∷ [])) }
 {
-    let clock = said.clock;
     let head = format!(in alloc; "step {clock} ")?;
     recorded.extend_from_slice(head.as_bytes())?;
-    recorded.extend_from_slice(said.line.as_slice())?;
+    recorded.extend_from_slice(line)?;
     recorded.push(b'\n')?;
     Ok(())
 }
@@ -233,11 +268,21 @@ fn push_text<A: Allocator + Copy>(
     told: &mut String<A>,
     said: &Said<A>,
 ) -> Result<(), AllocError>
-    ensures { OnOk result (string_bytes told.new ≡ string_bytes told.old ++ step_text (Some (said_of said.now))) }
+    ensures { OnOk result (string_bytes told.new ≡ string_bytes told.old ++ step_text (Some (said_of OfRestart said.now))) }
 {
     if let Some(line) = said.answer_line(alloc)? {
         push_line(told, line.as_str())?;
     }
     let sent = said.envelopes(alloc)?;
     told.push_str(sent.as_str())
+}
+
+/// What stands before the first line feed, and what stands after it.
+fn cut_line(bytes: &[u8]) -> Option<(&[u8], &[u8])>
+    ensures cut { IfSome result (λ cut. bytes.now ≡ cut.0.now ++ 10 ∷ cut.1.now) }
+    ensures first { IfSome result (λ cut. All (λ byte. (byte == 10) ≡ false) cut.0.now) }
+    ensures none { IfNone result (All (λ byte. (byte == 10) ≡ false) bytes.now) }
+{
+    let at = memchr(b'\n', bytes)?;
+    Some((&bytes[..at], &bytes[at + 1..]))
 }

@@ -1,4 +1,6 @@
+use shm_model::Asked;
 use shm_site::Input;
+use shm_wire::Tag;
 use std::alloc::{Allocator, Global};
 
 /// What a line hands to a site.
@@ -8,7 +10,7 @@ pub(crate) struct Heard<A: Allocator + Copy = Global> {
     /// The clock of the step that sent an envelope; 0 for what a caller asks.
     pub(crate) source: u64,
     /// The tag of the caller who asks.
-    pub(crate) tag: Option<String<A>>,
-    /// Whether it is an access that waits for its right.
-    pub(crate) waits: bool,
+    pub(crate) tag: Option<Tag>,
+    /// The access, if it is one that waits for its right.
+    pub(crate) waits: Option<Asked>,
 }

@@ -1,38 +1,38 @@
 //! What a line is to a node: an envelope for its site, what a caller asks of it, or nothing.
-ghost use Rattle.std.specs.Prelude.{◌≡◌, ◌<◌, ℕ, false, true, max, IfOk, IfSome, option_and_then, option_map};
+ghost use Rattle.std.specs.Prelude.{◌≡◌, ◌<◌, ℕ, List, false, max, IfSome, Some, option_map};
 ghost use Rattle.shm_model.specs.Basics.{greatest};
-ghost use Rattle.shm_process.specs.Access.{is_access};
 ghost use Rattle.shm_process.specs.Node as spec;
-ghost use Rattle.shm_process.specs.NodeOf.{heard_of, node_of};
+ghost use Rattle.shm_process.specs.NodeOf.{access_under, heard_of, node_of};
 ghost use Rattle.shm_site.specs.Step.{input_of, is_foreign};
-ghost use Rattle.shm_wire.specs.Asks.{read_ask};
+ghost use Rattle.shm_wire.specs.Asks.{ask_of};
+ghost use Rattle.shm_wire.specs.LineOf.{line_of};
 ghost use Rattle.shm_wire.specs.SentOf.{sent_of};
 
 use crate::heard::Heard;
 use crate::node::Node;
+use shm_model::Asked;
 use shm_site::Input;
-use shm_wire::{Question, Sent, parse_ask, parse_envelope};
-use std::alloc::{AllocError, Allocator};
+use shm_wire::{Ask, Line, Question, Sent};
+use std::alloc::Allocator;
 
 impl<A: Allocator + Copy> Node<A> {
-    /// What the line hands to the site, if it is for this site. A page's bytes and a caller's tag take memory.
-    pub(crate) fn heard_input(&self, line: &[u8]) -> Result<Option<Heard<A>>, AllocError>
-        ensures heard { IfOk result (λ heard. option_map heard_of heard ≡ spec.heard (node_of self.now) line.now) }
-        ensures proper { IfOk result (λ heard. IfSome heard (λ h. is_foreign self.now.sites self.now.me (input_of h.input) ≡ false)) }
-        ensures early { IfOk result (λ heard. IfSome heard (λ h. max self.now.clock h.source < greatest)) }
-        ensures access { IfOk result (λ heard. IfSome heard (λ h. h.waits ≡ true → is_access (input_of h.input) ≡ true)) }
+    /// What the line hands to the site, if it is for this site.
+    pub(crate) fn hear(&self, line: Line<A>) -> Option<Heard<A>>
+        ensures heard { option_map heard_of result ≡ spec.heard (node_of self.now) (line_of line) }
+        ensures proper { IfSome result (λ h. is_foreign self.now.sites self.now.me (input_of h.input) ≡ false) }
+        ensures early { IfSome result (λ h. max self.now.clock h.source < greatest) }
     {
-        match parse_envelope(self.alloc, line)? {
-            Some(sent) => Ok(self.hear_envelope(sent)),
-            None => self.hear_caller(line),
+        match line {
+            Line::Envelope(sent) => self.hear_envelope(sent),
+            Line::Ask(ask) => self.hear_ask(&ask),
         }
     }
 
-    fn hear_envelope(&self, sent: Sent<A>) -> Option<Heard<A>>
+    /// What an envelope hands to the site, unless it can't be for this site.
+    pub(crate) fn hear_envelope(&self, sent: Sent<A>) -> Option<Heard<A>>
         ensures heard { option_map heard_of result ≡ spec.handed (node_of self.now) (sent_of sent) }
         ensures proper { IfSome result (λ h. is_foreign self.now.sites self.now.me (input_of h.input) ≡ false) }
         ensures early { IfSome result (λ h. max self.now.clock h.source < greatest) }
-        ensures access { IfSome result (λ h. h.waits ≡ true → is_access (input_of h.input) ≡ true) }
     {
         let Sent { source, envelope } = sent;
         if self.site.foreign(&envelope) || self.is_late(source.clock) {
@@ -42,34 +42,27 @@ impl<A: Allocator + Copy> Node<A> {
             input: Input::Deliver(envelope),
             source: source.clock,
             tag: None,
-            waits: false,
+            waits: None,
         })
     }
 
     /// What a caller asks of this site.
-    fn hear_caller(&self, line: &[u8]) -> Result<Option<Heard<A>>, AllocError>
-        ensures heard { IfOk result (λ heard. option_map heard_of heard ≡ option_and_then (spec.asked_here (node_of self.now)) (read_ask line.now)) }
-        ensures proper { IfOk result (λ heard. IfSome heard (λ h. is_foreign self.now.sites self.now.me (input_of h.input) ≡ false)) }
-        ensures early { IfOk result (λ heard. IfSome heard (λ h. max self.now.clock h.source < greatest)) }
-        ensures access { IfOk result (λ heard. IfSome heard (λ h. h.waits ≡ true → is_access (input_of h.input) ≡ true)) }
+    pub(crate) fn hear_ask(&self, ask: &Ask) -> Option<Heard<A>>
+        ensures heard { option_map heard_of result ≡ spec.asked_here (node_of self.now) (ask_of ask.now) }
+        ensures proper { IfSome result (λ h. is_foreign self.now.sites self.now.me (input_of h.input) ≡ false) }
+        ensures early { IfSome result (λ h. max self.now.clock h.source < greatest) }
     {
-        let Some(ask) = parse_ask(line) else {
-            return Ok(None);
-        };
         if ask.site != self.me || self.is_late(0) {
-            return Ok(None);
+            return None;
         }
-        let waits = waits_for_right(&ask.asked);
-        let Some(input) = input_asked(ask.asked) else {
-            return Ok(None);
-        };
-        let tag = String::from_str(self.alloc, ask.tag)?;
-        Ok(Some(Heard {
+        let waits = waits_for_right(ask.asked);
+        let input = input_asked(ask.asked)?;
+        Some(Heard {
             input,
             source: 0,
-            tag: Some(tag),
+            tag: Some(ask.tag),
             waits,
-        }))
+        })
     }
 
     /// No stamp is above this site's clock, or above the sender's.
@@ -84,7 +77,6 @@ impl<A: Allocator + Copy> Node<A> {
 /// What the site is made to do. A page is only shown, and a block is loaded byte by byte.
 pub fn input_asked<A: Allocator + Copy>(question: Question) -> Option<Input<A>>
     ensures input { option_map input_of result ≡ spec.input_asked question }
-    ensures access { IfSome result (λ input. spec.waits_for question ≡ true → is_access (input_of input) ≡ true) }
     ensures proper { (sites me : ℕ) → IfSome result (λ input. is_foreign sites me (input_of input) ≡ false) }
 {
     match question {
@@ -95,9 +87,12 @@ pub fn input_asked<A: Allocator + Copy>(question: Question) -> Option<Input<A>>
     }
 }
 
-/// Whether it is an access that waits for its right.
-fn waits_for_right(question: &Question) -> bool
-    ensures { result ≡ spec.waits_for question.now }
+/// The access, if it is one that waits for its right.
+fn waits_for_right(question: Question) -> Option<Asked>
+    ensures { (tag : List ℕ) → access_under (Some tag) result ≡ spec.waits_for tag question }
 {
-    matches!(question, Question::Access(_))
+    match question {
+        Question::Access(asked) => Some(asked),
+        _ => None,
+    }
 }

@@ -4,7 +4,9 @@
 //! or a store waits for its right, and is made again when it may be there. A block is loaded byte by byte.
 #![tactic(auto)]
 
+mod again;
 mod block;
+mod cause;
 mod desk;
 mod heard;
 mod hearing;
@@ -19,6 +21,8 @@ mod telling;
 mod waiting;
 mod waiting_ask;
 
+pub use again::Again;
+pub use cause::Cause;
 pub use desk::Desk;
 pub use hearing::input_asked;
 pub use node::Node;

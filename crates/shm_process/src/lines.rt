@@ -1,7 +1,6 @@
 //! The lines that carry what a step sent.
 ghost use Rattle.std.specs.Prelude.{◌≡◌, ◌++◌, [], ◌∷◌, map, string_bytes, IfOk, OnOk};
-ghost use Rattle.shm_process.specs.Lines.{envelope_lines, sent_lines};
-ghost use Rattle.shm_process.specs.NodeOf.{said_of};
+ghost use Rattle.shm_process.specs.Lines.{envelope_lines};
 ghost use Rattle.shm_parts.specs.Message.{envelope_of};
 ghost use Rattle.shm_wire.specs.Sent.{envelope_line};
 ghost use Rattle.shm_wire.specs.SentOf.{stamp_of};
@@ -14,7 +13,7 @@ use std::alloc::{AllocError, Allocator};
 impl<A: Allocator + Copy> Said<A> {
     /// A line for each envelope that the step sent, in their order: with the step's clock and index, and the envelope's place.
     pub fn envelopes(&self, alloc: A) -> Result<String<A>, AllocError>
-        ensures { IfOk result (λ text. string_bytes text ≡ sent_lines (said_of self.now)) }
+        ensures { IfOk result (λ text. string_bytes text ≡ envelope_lines self.now.clock self.now.index 0 (map envelope_of self.now.sent.items)) }
     {
         let mut text = String::new(alloc);
         'sent: for (place, envelope) in self.sent.iter().enumerate() {

@@ -3,6 +3,7 @@ ghost use Rattle.std.specs.Prelude.{◌≡◌, ◌≤◌};
 use crate::waiting_ask::WaitingAsk;
 use shm_place::{PAGES, SiteId, Sites};
 use shm_site::Site;
+use shm_wire::Tag;
 use std::alloc::{AllocError, Allocator, Global};
 
 /// A site as a process: it takes line after line, and holds the site, and the asks that wait: at most 64.
@@ -15,7 +16,7 @@ pub struct Node<A: Allocator + Copy = Global> {
     pub(crate) steps: u64,
     pub(crate) taken: u64,
     pub(crate) passed: u64,
-    pub(crate) caller: Option<String<A>>,
+    pub(crate) caller: Option<Tag>,
     pub(crate) waiting: Vec<WaitingAsk<A>, A>,
     pub(crate) alloc: A,
     ghost all_sites: { site.sites ≡ sites },

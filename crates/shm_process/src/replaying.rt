@@ -1,11 +1,14 @@
 //! Restarts, and steps that are made again from what was recorded of them.
-ghost use Rattle.std.specs.Prelude.{◌≡◌, ◌<◌, false, is_some, max, None, option_map, unwrap_or, IfOk, IfSome, OnErr, OnOk};
+ghost use Rattle.std.specs.Prelude.{◌≡◌, ◌<◌, false, is_some, max, option_map, unwrap_or, IfOk, IfSome, OnErr, OnOk};
 ghost use Rattle.shm_model.specs.Basics.{greatest};
-ghost use Rattle.shm_process.specs.Node.{heard, stepped};
+ghost use Rattle.shm_process.specs.Cause.{OfRestart};
+ghost use Rattle.shm_process.specs.CauseOf.{cause_of};
+ghost use Rattle.shm_process.specs.Node.{stepped};
 ghost use Rattle.shm_process.specs.NodeOf.{heard_of, node_of, said_of};
-ghost use Rattle.shm_process.specs.Waiting.{after_restart, or_restart, replayed, said_restart};
+ghost use Rattle.shm_process.specs.Waiting.{after_restart, heard_again, replayed, said_restart};
 ghost use Rattle.shm_site.specs.Step.{input_of, is_foreign};
 
+use crate::cause::Cause;
 use crate::heard::Heard;
 use crate::node::Node;
 use crate::said::Said;
@@ -18,25 +21,24 @@ impl<A: Allocator + Copy> Node<A> {
     /// call that is outstanding stays so, and its caller is told.
     pub fn restart(&mut self) -> Result<Said<A>, AllocError>
         requires { (node_of self.old).clock < greatest }
-        ensures said { IfOk result (λ said. said_of said ≡ said_restart (node_of self.old)) }
+        ensures said { IfOk result (λ said. said_of OfRestart said ≡ said_restart (node_of self.old)) }
         ensures after { OnOk result (node_of self.new ≡ after_restart (node_of self.old)) }
         ensures refused { OnErr result (node_of self.new ≡ node_of self.old) }
     {
-        let line = Vec::from_slice(self.alloc, b"restart".as_slice())?;
         let clock = self.next_clock(0);
         let made = self.site.step_spending(Input::Restart)?;
         self.waiting.clear();
-        Ok(self.say(clock, None, false, made, line))
+        Ok(self.say(clock, None, false, made, None))
     }
 
-    /// Makes the step that was recorded under this clock with this line, and says nothing. `false`: no such step can be the site's next,
+    /// Makes the step that was recorded under this clock and of this cause, and says nothing. `false`: no such step can be the site's next,
     /// and nothing changed. Asks don't wait here, and no line is counted.
-    pub fn replay(&mut self, clock: u64, line: &[u8]) -> Result<bool, AllocError>
-        ensures made { IfOk result (λ made. made ≡ is_some (replayed (node_of self.old) clock line.now)) }
-        ensures after { OnOk result (node_of self.new ≡ unwrap_or (replayed (node_of self.old) clock line.now) (node_of self.old)) }
+    pub fn replay(&mut self, clock: u64, cause: Cause<A>) -> Result<bool, AllocError>
+        ensures made { IfOk result (λ made. made ≡ is_some (replayed (node_of self.old) clock (cause_of cause))) }
+        ensures after { OnOk result (node_of self.new ≡ unwrap_or (replayed (node_of self.old) clock (cause_of cause)) (node_of self.old)) }
         ensures refused { OnErr result (node_of self.new ≡ node_of self.old) }
     {
-        let Some(heard) = self.recorded_input(line)? else {
+        let Some(heard) = self.hear_again(cause) else {
             return Ok(false);
         };
         if self.next_clock(heard.source) != clock {
@@ -46,31 +48,31 @@ impl<A: Allocator + Copy> Node<A> {
         Ok(true)
     }
 
-    /// What a recorded line handed to the site.
-    fn recorded_input(&self, line: &[u8]) -> Result<Option<Heard<A>>, AllocError>
-        ensures heard { IfOk result (λ h. option_map heard_of h ≡ or_restart (node_of self.now) line.now (heard (node_of self.now) line.now)) }
-        ensures proper { IfOk result (λ heard. IfSome heard (λ h. is_foreign self.now.sites self.now.me (input_of h.input) ≡ false)) }
-        ensures early { IfOk result (λ heard. IfSome heard (λ h. max self.now.clock h.source < greatest)) }
-    {
-        match self.heard_input(line)? {
-            Some(heard) => Ok(Some(heard)),
-            None => Ok(self.recorded_restart(line)),
-        }
-    }
-
-    fn recorded_restart(&self, line: &[u8]) -> Option<Heard<A>>
-        ensures heard { option_map heard_of result ≡ or_restart (node_of self.now) line.now None }
+    /// What the cause of a recorded step handed to the site.
+    fn hear_again(&self, cause: Cause<A>) -> Option<Heard<A>>
+        ensures heard { option_map heard_of result ≡ heard_again (node_of self.now) (cause_of cause) }
         ensures proper { IfSome result (λ h. is_foreign self.now.sites self.now.me (input_of h.input) ≡ false) }
         ensures early { IfSome result (λ h. max self.now.clock h.source < greatest) }
     {
-        if line != b"restart".as_slice() || self.is_late(0) {
+        match cause {
+            Cause::Line(line) => self.hear(line),
+            Cause::Restart => self.hear_restart(),
+        }
+    }
+
+    fn hear_restart(&self) -> Option<Heard<A>>
+        ensures heard { option_map heard_of result ≡ heard_again (node_of self.now) OfRestart }
+        ensures proper { IfSome result (λ h. is_foreign self.now.sites self.now.me (input_of h.input) ≡ false) }
+        ensures early { IfSome result (λ h. max self.now.clock h.source < greatest) }
+    {
+        if self.is_late(0) {
             return None;
         }
         Some(Heard {
             input: Input::Restart,
             source: 0,
             tag: None,
-            waits: false,
+            waits: None,
         })
     }
 
@@ -91,7 +93,7 @@ impl<A: Allocator + Copy> Node<A> {
         let Made { answer, sent: _ } = self.site.step_spending(input)?;
         self.clock = clock;
         self.steps += 1;
-        drop(take_tag(false, tag, &mut self.caller, &answer));
+        take_tag(false, tag, &mut self.caller, &answer);
         Ok(())
     }
 }

@@ -1,6 +1,7 @@
 use shm_model::Answer;
 use shm_parts::Envelope;
 use shm_place::SiteId;
+use shm_wire::Tag;
 use std::alloc::{Allocator, Global};
 
 /// What a node says of a step.
@@ -15,12 +16,9 @@ pub struct Said<A: Allocator + Copy = Global> {
     /// What the step sent, the first envelope first.
     pub sent: Vec<Envelope<A>, A>,
     /// The tag of the caller who is told the answer; `None`: nobody is, or the ask still waits.
-    pub tag: Option<String<A>>,
+    pub tag: Option<Tag>,
     /// What the site answers. For an ask it stands under the ask's tag, but that a segment call is answered when it is replied to.
     pub answer: Answer,
     /// All bytes of a block, where the step is its last load. They are told in place of the answer.
     pub block: Option<Vec<u8, A>>,
-    /// The line that made the step, without its line feed: what is recorded of it beside the clock. Of a block's load it is the line that would
-    /// ask for that load alone.
-    pub line: Vec<u8, A>,
 }

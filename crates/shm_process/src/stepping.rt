@@ -1,14 +1,17 @@
 //! What is said of a step: who is told its answer, and what an access's answer means for it.
-ghost use Rattle.std.specs.Prelude.{◌≡◌, ◌+◌, ◌<◌, if◌then◌else◌, map, None, option_map, string_bytes};
+ghost use Rattle.std.specs.Prelude.{◌≡◌, ◌+◌, ◌<◌, if◌then◌else◌, map, None, option_map};
 ghost use Rattle.shm_parts.specs.Message.{envelope_of};
+ghost use Rattle.shm_process.specs.Cause.{Cause};
 ghost use Rattle.shm_process.specs.Node.{caller_after, tag_told};
 ghost use Rattle.shm_process.specs.NodeOf.{node_of, said_of};
 ghost use Rattle.shm_process.specs.Access.{is_open, is_waiting};
+ghost use Rattle.shm_wire.specs.TagOf.{tag_text};
 
 use crate::node::Node;
 use crate::said::Said;
 use shm_model::Answer;
 use shm_site::Made;
+use shm_wire::Tag;
 use std::alloc::Allocator;
 
 impl<A: Allocator + Copy> Node<A> {
@@ -16,26 +19,26 @@ impl<A: Allocator + Copy> Node<A> {
     pub(crate) fn say(
         &mut self,
         clock: u64,
-        tag: Option<String<A>>,
+        tag: Option<Tag>,
         stays: bool,
         made: Made<A>,
-        line: Vec<u8, A>,
+        block: Option<Vec<u8, A>>,
     ) -> Said<A>
         requires { self.old.clock < clock }
-        ensures said { said_of result ≡ record {
+        ensures said { (cause : Cause) → said_of cause result ≡ record {
           site = self.old.me;
           clock = clock;
           index = self.old.steps;
           sent = map envelope_of made.sent.items;
-          tag = tag_told stays (option_map string_bytes tag) (option_map string_bytes self.old.caller) made.answer;
+          tag = tag_told stays (option_map tag_text tag) (option_map tag_text self.old.caller) made.answer;
           answer = made.answer;
-          block = None;
-          line = line.items;
+          block = option_map (λ bytes. bytes.items) block;
+          cause = cause;
         } }
         ensures after { node_of self.new ≡ record (node_of self.old) {
           clock = clock;
           steps = self.old.steps + 1;
-          caller = caller_after (option_map string_bytes tag) (option_map string_bytes self.old.caller) made.answer;
+          caller = caller_after (option_map tag_text tag) (option_map tag_text self.old.caller) made.answer;
         } }
     {
         let Made { answer, sent } = made;
@@ -50,21 +53,20 @@ impl<A: Allocator + Copy> Node<A> {
             sent,
             tag,
             answer,
-            block: None,
-            line,
+            block,
         }
     }
 }
 
 /// Who is told the answer, unless the ask stays among those that wait. A segment call that begins has its caller until it is replied to.
-pub(crate) fn take_tag<A: Allocator + Copy>(
+pub(crate) fn take_tag(
     stays: bool,
-    tag: Option<String<A>>,
-    caller: &mut Option<String<A>>,
+    tag: Option<Tag>,
+    caller: &mut Option<Tag>,
     answer: &Answer,
-) -> Option<String<A>>
-    ensures told { option_map string_bytes result ≡ tag_told stays (option_map string_bytes tag) (option_map string_bytes caller.old) answer.now }
-    ensures caller { option_map string_bytes caller.new ≡ caller_after (option_map string_bytes tag) (option_map string_bytes caller.old) answer.now }
+) -> Option<Tag>
+    ensures told { option_map tag_text result ≡ tag_told stays (option_map tag_text tag) (option_map tag_text caller.old) answer.now }
+    ensures caller { option_map tag_text caller.new ≡ caller_after (option_map tag_text tag) (option_map tag_text caller.old) answer.now }
 {
     match answer {
         Answer::Began(_) => {
@@ -77,8 +79,8 @@ pub(crate) fn take_tag<A: Allocator + Copy>(
 }
 
 /// The tag, unless its ask stays.
-fn unless<A: Allocator + Copy>(stays: bool, tag: Option<String<A>>) -> Option<String<A>>
-    ensures { option_map string_bytes result ≡ (if stays then None else option_map string_bytes tag) }
+fn unless(stays: bool, tag: Option<Tag>) -> Option<Tag>
+    ensures { option_map tag_text result ≡ (if stays then None else option_map tag_text tag) }
 {
     if stays {
         return None;

@@ -1,7 +1,10 @@
 //! What callers are told: answers, blocks, and what a page holds.
 ghost use Rattle.std.specs.Prelude.{◌≡◌, option_map, string_bytes, IfOk};
+ghost use Rattle.shm_process.specs.Cause.{OfRestart};
 ghost use Rattle.shm_process.specs.NodeOf.{node_of, said_of};
 ghost use Rattle.shm_process.specs.Telling.{answer_line_of, crowded_out, shown_for, shown_line};
+ghost use Rattle.shm_wire.specs.LineOf.{line_of};
+ghost use Rattle.shm_wire.specs.TagOf.{tag_text};
 ghost use Rattle.shm_wire.specs.declared.ask.Question.TheVariants.{Show};
 
 use crate::node::Node;
@@ -10,14 +13,14 @@ use shm_model::refusal::FOREIGN;
 use shm_model::{Answer, Shown, State};
 use shm_place::PageId;
 use shm_text::AnswerText;
-use shm_wire::{Ask, BlockText, Question, parse_ask};
+use shm_wire::{Ask, BlockText, Line, Question, Tag};
 use std::alloc::{AllocError, Allocator};
 use std::fmt;
 
 impl<A: Allocator + Copy> Said<A> {
     /// The line that tells the answer, without a line feed, if somebody is told.
     pub fn answer_line(&self, alloc: A) -> Result<Option<String<A>>, AllocError>
-        ensures { IfOk result (λ line. option_map string_bytes line ≡ answer_line_of (said_of self.now)) }
+        ensures { IfOk result (λ line. option_map string_bytes line ≡ answer_line_of (said_of OfRestart self.now)) }
     {
         let Some(tag) = &self.tag else {
             return Ok(None);
@@ -67,13 +70,13 @@ impl<A: Allocator + Copy> Node<A> {
     /// The line that is told at once of this one, without a line feed: what the site has of a page, where that is asked of it, and that a
     /// block finds no room to wait. It makes no step, and is to be asked for before the line is taken: a block that has joined may have
     /// taken the last room.
-    pub fn line_at_once(&self, line: &[u8]) -> Result<Option<String<A>>, AllocError>
-        ensures { IfOk result (λ told. option_map string_bytes told ≡ shown_line (node_of self.now) line.now) }
+    pub fn line_at_once(&self, line: &Line<A>) -> Result<Option<String<A>>, AllocError>
+        ensures { IfOk result (λ told. option_map string_bytes told ≡ shown_line (node_of self.now) (line_of line.now)) }
     {
-        let Some(ask) = parse_ask(line) else {
+        let Line::Ask(ask) = line else {
             return Ok(None);
         };
-        let Ask { site, tag, asked } = ask;
+        let Ask { site, tag, asked } = *ask;
         if site != self.me {
             return Ok(None);
         }
@@ -84,8 +87,8 @@ impl<A: Allocator + Copy> Node<A> {
         }
     }
 
-    fn show_page(&self, tag: &str, page: PageId) -> Result<Option<String<A>>, AllocError>
-        ensures { IfOk result (λ told. option_map string_bytes told ≡ shown_for (node_of self.now) tag.now (Show page)) }
+    fn show_page(&self, tag: Tag, page: PageId) -> Result<Option<String<A>>, AllocError>
+        ensures { IfOk result (λ told. option_map string_bytes told ≡ shown_for (node_of self.now) (tag_text tag) (Show page)) }
     {
         let site = self.me.0;
         let shown = ShownText(self.site.shown(page));
@@ -94,8 +97,8 @@ impl<A: Allocator + Copy> Node<A> {
     }
 
     /// A block is told that it finds no room to wait.
-    fn crowd_out(&self, tag: &str) -> Result<Option<String<A>>, AllocError>
-        ensures { IfOk result (λ told. option_map string_bytes told ≡ crowded_out (node_of self.now) tag.now) }
+    fn crowd_out(&self, tag: Tag) -> Result<Option<String<A>>, AllocError>
+        ensures { IfOk result (λ told. option_map string_bytes told ≡ crowded_out (node_of self.now) (tag_text tag)) }
     {
         if self.has_room() || self.is_late(0) {
             return Ok(None);

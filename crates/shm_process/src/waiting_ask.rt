@@ -1,29 +1,49 @@
 use crate::block::Block;
 use crate::stepping::is_open;
-use shm_model::Answer;
-use shm_place::SiteId;
-use std::alloc::{AllocError, Allocator, Global};
+use shm_model::{Answer, Asked};
+use shm_wire::Tag;
+use std::alloc::{Allocator, Global};
 
 /// An ask that waits.
 #[derive(Drop)]
 pub(crate) enum WaitingAsk<A: Allocator + Copy = Global> {
-    /// An access, by its line.
-    Access(Vec<u8, A>),
+    /// An access, under the tag of its caller.
+    Access { tag: Tag, asked: Asked },
     Reads(Block<A>),
 }
 
-impl<A: Allocator + Copy> WaitingAsk<A> {
-    ghost use Rattle.std.specs.Prelude.{◌≡◌, false, true, option_map, IfOk};
-    ghost use Rattle.shm_process.specs.AskOf.{ask_of};
-    ghost use Rattle.shm_process.specs.WaitingAsks.{after_answer, all_bytes, goes_on, next_line};
+/// An ask that was answered.
+#[derive(Drop)]
+pub(crate) struct Ended<A: Allocator + Copy = Global> {
+    /// The tag of the caller who is told.
+    pub(crate) tag: Tag,
+    /// All bytes of a block.
+    pub(crate) bytes: Option<Vec<u8, A>>,
+}
 
-    /// The line that makes its next step.
-    pub(crate) fn next_line(&self, alloc: A, site: SiteId) -> Result<Vec<u8, A>, AllocError>
-        ensures { IfOk result (λ line. line.items ≡ next_line site (ask_of self.now)) }
+impl<A: Allocator + Copy> WaitingAsk<A> {
+    ghost use Rattle.std.specs.Prelude.{◌≡◌, false, true, option_map};
+    ghost use Rattle.shm_wire.specs.TagOf.{tag_text};
+    ghost use Rattle.shm_process.specs.AskOf.{ask_of};
+    ghost use Rattle.shm_process.specs.WaitingAsks.{after_answer, all_bytes, goes_on, next_access, tag_of};
+
+    /// The tag of its caller.
+    pub(crate) fn tag(&self) -> Tag
+        ensures { tag_text result ≡ tag_of (ask_of self.now) }
     {
         match self {
-            WaitingAsk::Access(line) => Vec::from_slice(alloc, line.as_slice()),
-            WaitingAsk::Reads(block) => block.next_line(alloc, site),
+            WaitingAsk::Access { tag, asked: _ } => *tag,
+            WaitingAsk::Reads(block) => block.tag,
+        }
+    }
+
+    /// The access that makes its next step.
+    pub(crate) fn next_access(&self) -> Asked
+        ensures { result ≡ next_access (ask_of self.now) }
+    {
+        match self {
+            WaitingAsk::Access { tag: _, asked } => *asked,
+            WaitingAsk::Reads(block) => block.next_load(),
         }
     }
 
@@ -32,7 +52,7 @@ impl<A: Allocator + Copy> WaitingAsk<A> {
         ensures { result ≡ goes_on (ask_of self.now) answer.now }
     {
         match self {
-            WaitingAsk::Access(_) => is_open(answer),
+            WaitingAsk::Access { .. } => is_open(answer),
             WaitingAsk::Reads(block) => block.goes_on(answer),
         }
     }
@@ -43,19 +63,20 @@ impl<A: Allocator + Copy> WaitingAsk<A> {
         ensures { ask_of self.new ≡ after_answer (ask_of self.old) answer.now }
     {
         match self {
-            WaitingAsk::Access(_) => {}
+            WaitingAsk::Access { .. } => {}
             WaitingAsk::Reads(block) => block.take(answer),
         }
     }
 
-    /// It ends with this answer: all bytes of a block, if this is the last of them.
-    pub(crate) fn end(self, answer: &Answer) -> Option<Vec<u8, A>>
+    /// It ends with this answer, which is the last of a block's if it gives all its bytes.
+    pub(crate) fn end(self, answer: &Answer) -> Ended<A>
         requires { goes_on (ask_of self) answer.now ≡ false }
-        ensures { option_map (λ bytes. bytes.items) result ≡ all_bytes (ask_of self) answer.now }
+        ensures tag { tag_text result.tag ≡ tag_of (ask_of self) }
+        ensures bytes { option_map (λ bytes. bytes.items) result.bytes ≡ all_bytes (ask_of self) answer.now }
     {
         match self {
-            WaitingAsk::Access(_) => None,
-            WaitingAsk::Reads(block) => block.into_whole(answer),
+            WaitingAsk::Access { tag, asked: _ } => Ended { tag, bytes: None },
+            WaitingAsk::Reads(block) => block.end(answer),
         }
     }
 }

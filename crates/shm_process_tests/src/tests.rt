@@ -5,7 +5,8 @@ mod process;
 
 use shm_model::Answer;
 use shm_place::{SiteId, Sites};
-use shm_process::{Node, Said};
+use shm_process::{Again, Node, Said};
+use shm_wire::parse_line;
 use std::alloc::{AllocError, Allocator};
 
 /// A site of so many, where segment 0 has 4 pages and is attached.
@@ -14,6 +15,27 @@ fn new_node<A: Allocator + Copy>(alloc: A, sites: u32, me: u32) -> Result<Node<A
         Ok(sites) if me < sites.count() => Node::new(alloc, sites, SiteId(me), 4),
         _ => Err(AllocError),
     }
+}
+
+/// The node takes this line.
+fn take_line<A: Allocator + Copy>(
+    alloc: A,
+    node: &mut Node<A>,
+    line: &[u8],
+) -> Result<Option<Said<A>>, AllocError> {
+    match parse_line(alloc, line)? {
+        Some(read) => node.take(read),
+        None => {
+            node.pass_over();
+            Ok(None)
+        }
+    }
+}
+
+/// What is said of a step of an ask that waited.
+fn said_again<A: Allocator + Copy>(again: Option<Again<A>>) -> Option<Said<A>> {
+    let Again { said, ask: _ } = again?;
+    Some(said)
 }
 
 /// Whether a step was made of which no caller is told.

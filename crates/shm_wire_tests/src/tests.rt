@@ -1,7 +1,7 @@
 //! Lines that others spelled, and lines that are none.
 use linked_list_allocator::LocalHeap;
 use shm_parts::{EntryNote, Message, Note};
-use shm_wire::{Sent, parse_answer, parse_ask, parse_envelope};
+use shm_wire::{Line, Sent, parse_answer, parse_line};
 use std::alloc::{AllocError, Allocator, Global};
 use std::process::Abort;
 use std::test::Fail;
@@ -75,17 +75,16 @@ const NO_ASKS: [&[u8]; 11] = [
 fn messages_are_printed_as_they_were_read(rt: HostRuntime) -> Result<(), Fail> {
     let alloc = rt.alloc();
     for line in PLAIN {
-        let Some(sent) = parse_envelope(alloc, line.as_bytes())? else {
+        let Some(Line::Envelope(sent)) = parse_line(alloc, line.as_bytes())? else {
             return Err(Fail::new("an envelope's line"));
         };
         let printed = format!(in alloc; "{sent}")?;
         assert_eq!(rt; printed.as_str(), line);
-        assert!(rt; parse_ask(line.as_bytes()).is_none(), "at {line}");
         assert!(rt; parse_answer(line.as_bytes()).is_none(), "at {line}");
     }
     for line in BAD {
-        let sent = parse_envelope(alloc, line.as_bytes())?;
-        assert!(rt; sent.is_none(), "at {line}");
+        let read = parse_line(alloc, line.as_bytes())?;
+        assert!(rt; read.is_none(), "at {line}");
     }
     Ok(())
 }
@@ -94,7 +93,7 @@ fn messages_are_printed_as_they_were_read(rt: HostRuntime) -> Result<(), Fail> {
 fn asks_are_printed_as_they_were_read(rt: HostRuntime) -> Result<(), Fail> {
     let alloc = rt.alloc();
     for line in ASKS {
-        let Some(ask) = parse_ask(line.as_bytes()) else {
+        let Some(Line::Ask(ask)) = parse_line(alloc, line.as_bytes())? else {
             return Err(Fail::new("an ask's line"));
         };
         let printed = format!(in alloc; "{ask}")?;
@@ -102,7 +101,8 @@ fn asks_are_printed_as_they_were_read(rt: HostRuntime) -> Result<(), Fail> {
         assert!(rt; parse_answer(line.as_bytes()).is_none(), "at {line}");
     }
     for line in NO_ASKS {
-        assert!(rt; parse_ask(line).is_none(), "at {line:?}");
+        let read = parse_line(alloc, line)?;
+        assert!(rt; read.is_none(), "at {line:?}");
     }
     Ok(())
 }
@@ -115,12 +115,13 @@ fn answers_are_printed_as_they_were_read(rt: HostRuntime) -> Result<(), Fail> {
         return Err(Fail::new("an answer's line"));
     };
     assert_eq!(rt;
-        (answer.site.0, answer.tag, answer.text),
+        (answer.site.0, answer.tag.as_str(), answer.text),
         (3, "t", "replied 1  id 0 ")
     );
     let printed = format!(in alloc; "{answer}")?;
     assert_eq!(rt; printed.as_str(), line);
-    assert!(rt; parse_ask(line.as_bytes()).is_none());
+    let read = parse_line(alloc, line.as_bytes())?;
+    assert!(rt; read.is_none());
     let bad: [&[u8]; 4] = [
         b"tell 3 t",
         b"tell 3 t stored\r",
@@ -173,7 +174,7 @@ fn a_page_is_read_as_others_spell_it(rt: HostRuntime) -> Result<(), Fail> {
     let alloc = rt.alloc();
     for kind in ["read", "write"] {
         let line = page_line(alloc, kind)?;
-        let Some(sent) = parse_envelope(alloc, line.as_bytes())? else {
+        let Some(Line::Envelope(sent)) = parse_line(alloc, line.as_bytes())? else {
             return Err(Fail::new("an envelope's line"));
         };
         assert!(rt; brings_the_page(&sent, kind), "at {kind}");
@@ -185,12 +186,12 @@ fn a_page_is_read_as_others_spell_it(rt: HostRuntime) -> Result<(), Fail> {
 
 /// Whether the page that comes to write to is read with this heap's memory.
 fn is_read(rt: &impl Abort, heap: &LocalHeap, line: &str) -> Result<bool, Fail> {
-    match parse_envelope(heap, line.as_bytes()) {
-        Ok(Some(sent)) => {
+    match parse_line(heap, line.as_bytes()) {
+        Ok(Some(Line::Envelope(sent))) => {
             assert!(rt; brings_the_page(&sent, "write"));
             Ok(true)
         }
-        Ok(None) => Err(Fail::new("refused memory isn't a bad line")),
+        Ok(_) => Err(Fail::new("refused memory isn't a bad line")),
         Err(_) => Ok(false),
     }
 }

@@ -1,8 +1,10 @@
 //! Journals that were written by hand, and what is found in them.
 use linked_list_allocator::LocalHeap;
-use shm_journal::{Header, Recovered, RecoveryFault, parse_entry, parse_header, recover};
+use shm_journal::{Entry, Header, Recovered, RecoveryFault, parse_entry, parse_header, recover};
 use shm_model::Answer;
 use shm_place::{SiteId, Sites};
+use shm_process::Cause;
+use shm_wire::parse_line;
 use std::alloc::Allocator;
 use std::io::{self, ErrorKind, Read};
 use std::test::Fail;
@@ -74,13 +76,22 @@ fn lines_are_read_as_they_are_spelled(rt: HostRuntime) -> Result<(), Fail> {
     assert_eq!(rt; line.as_str(), "journal 2 0 4");
     assert_eq!(rt; parse_header(line.as_bytes()), Some(header));
     assert_eq!(rt; parse_header(b"journal 2 0 4 ".as_slice()), None);
-    let entry = parse_entry(b"step 18446744073709551615 a  b".as_slice());
-    assert_eq!(rt; entry, Some((u64::MAX, b"a  b".as_slice())));
-    assert_eq!(rt;
-        parse_entry(b"step 18446744073709551616 a".as_slice()),
-        None
-    );
-    assert_eq!(rt; parse_entry(b"step 1".as_slice()), None);
+    let Some(Entry { clock, cause }) = parse_entry(rt.alloc(), b"step 18446744073709551615 restart")? else {
+        return Err(Fail::new("a restart's entry"));
+    };
+    assert_eq!(rt; clock, u64::MAX);
+    assert!(rt; matches!(cause, Cause::Restart));
+    let bad: [&[u8]; 5] = [
+        b"step 18446744073709551616 restart",
+        b"step 1",
+        b"step 1 restart ",
+        b"step 1 a  b",
+        b"step 1 tell 0 a stored",
+    ];
+    for line in bad {
+        let entry = parse_entry(rt.alloc(), line)?;
+        assert!(rt; entry.is_none(), "at {line:?}");
+    }
     Ok(())
 }
 
@@ -92,8 +103,10 @@ fn recorded_stores_are_loaded_again(rt: HostRuntime) -> Result<(), Fail> {
     };
     assert_eq!(rt; (recovered.node.steps(), recovered.node.clock()), (3, 3));
     assert_eq!(rt; (recovered.whole, recovered.is_new), (92, false));
-    let said = recovered.node.take(b"ask 0 c load 0 6".as_slice())?;
-    match said {
+    let Some(line) = parse_line(rt.alloc(), b"ask 0 c load 0 6")? else {
+        return Err(Fail::new("an ask's line"));
+    };
+    match recovered.node.take(line)? {
         Some(said) => assert_eq!(rt; (said.clock, said.answer), (4, Answer::Byte(9))),
         None => return Err(Fail::new("no step was made")),
     }

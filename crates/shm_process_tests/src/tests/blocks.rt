@@ -1,11 +1,12 @@
 //! Blocks: many loads that one caller asks for at once, and is told of once.
 use crate::tests::exchanges::{Exchange, Records, counts, first_astray, new_desks, page_line};
 use crate::tests::full_heap::{Filling, TRIES, fill_heap};
-use crate::tests::{new_node, tells};
+use crate::tests::{new_node, said_again, take_line, tells};
 use linked_list_allocator::LocalHeap;
 use shm_model::Answer;
 use shm_process::Node;
-use std::alloc::AllocError;
+use shm_wire::parse_line;
+use std::alloc::{AllocError, Global};
 use std::process::Abort;
 use std::test::Fail;
 
@@ -114,17 +115,17 @@ fn over_two_pages<'a>(first: &'a str, second: &'a str) -> [Exchange<'a>; 7] {
 fn a_block_that_is_refused_is_told_so_once(rt: HostRuntime) -> Result<(), Fail> {
     let alloc = rt.alloc();
     let mut node = new_node(alloc, 1, 0)?;
-    assert!(rt; node.take(b"ask 0 b read 1 0 4")?.is_none());
-    let said = node.again()?;
+    assert!(rt; take_line(alloc, &mut node, b"ask 0 b read 1 0 4")?.is_none());
+    let said = said_again(node.again()?);
     assert!(rt; tells(&said, "b", Answer::Refused(9)));
     assert_eq!(rt; (node.steps(), node.asks_waiting()), (1, 0));
     Ok(())
 }
 
 /// 64 loads wait for one page.
-fn crowd(node: &mut Node) -> Result<(), AllocError> {
+fn crowd(alloc: Global, node: &mut Node) -> Result<(), AllocError> {
     'asks: for _ in 0..64 {
-        drop(node.take(b"ask 1 a load 0 2")?);
+        drop(take_line(alloc, node, b"ask 1 a load 0 2")?);
     }
     Ok(())
 }
@@ -140,10 +141,13 @@ fn is_line(told: &Option<String>, line: &str) -> bool {
 fn a_block_that_finds_no_room_is_told_so_and_passed_over(rt: HostRuntime) -> Result<(), Fail> {
     let alloc = rt.alloc();
     let mut node = new_node(alloc, 2, 1)?;
-    crowd(&mut node)?;
-    let told = node.line_at_once(b"ask 1 b read 0 2 1")?;
+    crowd(alloc, &mut node)?;
+    let Some(line) = parse_line(alloc, b"ask 1 b read 0 2 1")? else {
+        return Err(Fail::new("an ask's line"));
+    };
+    let told = node.line_at_once(&line)?;
     assert!(rt; is_line(&told, "tell 1 b waiting"));
-    assert!(rt; node.take(b"ask 1 b read 0 2 1")?.is_none());
+    assert!(rt; node.take(line)?.is_none());
     assert_eq!(rt;
         (
             node.steps(),
@@ -157,8 +161,8 @@ fn a_block_that_finds_no_room_is_told_so_and_passed_over(rt: HostRuntime) -> Res
 }
 
 /// Whether the node takes the ask for a page's bytes. Where memory is refused it is as before.
-fn takes<'a>(rt: &impl Abort, node: &mut Node<&'a LocalHeap>) -> bool {
-    match node.take(b"ask 0 b read 0 0 4096") {
+fn takes<'a>(rt: &impl Abort, heap: &'a LocalHeap, node: &mut Node<&'a LocalHeap>) -> bool {
+    match take_line(heap, node, b"ask 0 b read 0 0 4096") {
         Ok(said) => {
             assert!(rt; said.is_none(), "a block that joins makes no step");
             true
@@ -181,11 +185,12 @@ fn takes<'a>(rt: &impl Abort, node: &mut Node<&'a LocalHeap>) -> bool {
 /// How often the ask is refused memory while the hole in a full heap widens.
 fn refusals<'a>(
     rt: &impl Abort,
+    heap: &'a LocalHeap,
     node: &mut Node<&'a LocalHeap>,
     filling: &mut Filling<'a>,
 ) -> Option<usize> {
     'tries: for tries in 0..TRIES {
-        if takes(rt, node) {
+        if takes(rt, heap, node) {
             return Some(tries);
         }
         drop(filling.pop());
@@ -193,17 +198,17 @@ fn refusals<'a>(
     None
 }
 
-/// The tag needs a hole of 16 bytes, and the bytes one of 4,096 beside it: 257 times 16.
+/// The bytes need a hole of 4,096: 256 times 16.
 #[test]
 fn each_growth_of_a_block_is_refused_in_turn(rt: HostRuntime) -> Result<(), Fail> {
     let heap = LocalHeap::new(rt.alloc(), 1 << 16)?;
     let mut node = new_node(&heap, 2, 0)?;
     let mut filling = fill_heap(rt.alloc(), &heap)?;
-    let Some(tries) = refusals(&rt, &mut node, &mut filling) else {
+    let Some(tries) = refusals(&rt, &heap, &mut node, &mut filling) else {
         return Err(Fail::new("the block never joined"));
     };
     assert!(rt;
-        tries > 257,
+        tries > 256,
         "the place among those that wait was refused too"
     );
     assert_eq!(rt;

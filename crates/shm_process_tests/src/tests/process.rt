@@ -3,7 +3,7 @@ use crate::tests::exchanges::{
     Exchange, Records, asks_waiting, counts, first_astray, new_desks, page_line,
 };
 use crate::tests::full_heap::{Filling, TRIES, fill_heap};
-use crate::tests::{new_node, tells, tells_nobody};
+use crate::tests::{new_node, said_again, take_line, tells, tells_nobody};
 use linked_list_allocator::LocalHeap;
 use shm_model::Answer;
 use shm_process::{Desk, Node, Said};
@@ -27,23 +27,24 @@ fn a_copy_is_lent(rt: HostRuntime) -> Result<(), Fail> {
     let alloc = rt.alloc();
     let mut owner = new_node(alloc, 2, 0)?;
     let mut reader = new_node(alloc, 2, 1)?;
-    let stored = owner.take(b"ask 0 a store 0 5 7")?;
+    let stored = take_line(alloc, &mut owner, b"ask 0 a store 0 5 7")?;
     assert!(rt; tells(&stored, "a", Answer::Stored));
-    let fault = reader.take(b"ask 1 b load 0 5")?;
+    let fault = take_line(alloc, &mut reader, b"ask 1 b load 0 5")?;
     assert!(rt; tells_nobody(&fault));
     assert!(rt; reader.again()?.is_none(), "it waits for what was asked");
     let ask = sent_line(alloc, fault)?;
     assert_eq!(rt; ask.as_str(), "env 1 0 1 0 0 ask 0 0 1 read\n");
-    let handed = owner.take(ask.as_str().trim_end().as_bytes())?;
+    let handed = take_line(alloc, &mut owner, ask.as_str().trim_end().as_bytes())?;
     let hand = sent_line(alloc, handed)?;
     assert_eq!(rt; hand.as_str(), "env 0 0 2 1 0 hand 0 0 1 read 1\n");
-    assert!(rt; reader.take(hand.as_str().trim_end().as_bytes())?.is_none());
-    let lent = owner.take(hand.as_str().trim_end().as_bytes())?;
+    let passed = take_line(alloc, &mut reader, hand.as_str().trim_end().as_bytes())?;
+    assert!(rt; passed.is_none());
+    let lent = take_line(alloc, &mut owner, hand.as_str().trim_end().as_bytes())?;
     let page = sent_line(alloc, lent)?;
-    let taken = reader.take(page.as_str().trim_end().as_bytes())?;
+    let taken = take_line(alloc, &mut reader, page.as_str().trim_end().as_bytes())?;
     let confirm = sent_line(alloc, taken)?;
     assert_eq!(rt; confirm.as_str(), "env 1 0 4 1 0 confirm 0 0 1\n");
-    let loaded = reader.again()?;
+    let loaded = said_again(reader.again()?);
     assert!(rt; tells(&loaded, "b", Answer::Byte(7)));
     assert!(rt; reader.again()?.is_none(), "it was answered");
     assert_eq!(rt;
@@ -59,8 +60,8 @@ fn a_copy_is_lent(rt: HostRuntime) -> Result<(), Fail> {
 }
 
 /// Whether the node makes the step of a load that is tried. Where memory is refused it is as before.
-fn tries_load<'a>(rt: &impl Abort, node: &mut Node<&'a LocalHeap>) -> bool {
-    match node.take(b"ask 1 b try-load 0 5") {
+fn tries_load<'a>(rt: &impl Abort, heap: &'a LocalHeap, node: &mut Node<&'a LocalHeap>) -> bool {
+    match take_line(heap, node, b"ask 1 b try-load 0 5") {
         Ok(said) => {
             assert!(rt; tells(&said, "b", Answer::Fault));
             true
@@ -78,11 +79,12 @@ fn tries_load<'a>(rt: &impl Abort, node: &mut Node<&'a LocalHeap>) -> bool {
 /// How often the load is refused memory while the hole in a full heap widens.
 fn refusals<'a>(
     rt: &impl Abort,
+    heap: &'a LocalHeap,
     node: &mut Node<&'a LocalHeap>,
     filling: &mut Filling<'a>,
 ) -> Option<usize> {
     'tries: for tries in 0..TRIES {
-        if tries_load(rt, node) {
+        if tries_load(rt, heap, node) {
             return Some(tries);
         }
         drop(filling.pop());
@@ -95,10 +97,10 @@ fn each_growth_is_refused_in_turn(rt: HostRuntime) -> Result<(), Fail> {
     let heap = LocalHeap::new(rt.alloc(), 1 << 16)?;
     let mut node = new_node(&heap, 2, 1)?;
     let mut filling = fill_heap(rt.alloc(), &heap)?;
-    let Some(tries) = refusals(&rt, &mut node, &mut filling) else {
+    let Some(tries) = refusals(&rt, &heap, &mut node, &mut filling) else {
         return Err(Fail::new("no step was made"));
     };
-    assert!(rt; tries > 1, "the tag and what is sent were refused too");
+    assert!(rt; tries > 1, "the place to wait and what is sent were refused too");
     assert_eq!(rt; (node.steps(), node.lines_taken()), (1, 1));
     Ok(())
 }

@@ -4,12 +4,12 @@ use Rattle.std.specs.Option.{option_map_or}
 use Rattle.std.proofs.lemmas.Slice.Eq.{bytes_eq-Decides}
 use Rattle.shm_lines.specs.Words.{words_of, wide_of}
 use Rattle.shm_journal.proofs.EntryWords.{entry-read}
-use Rattle.shm_journal.proofs.parsing.parse_entry.Goals as goal
+use Rattle.shm_journal.proofs.parsing.split_entry.Goals as goal
 
 pub returns-clause-some : goal.returns-clause-some
 returns-clause-some c =
     let rest = c.in_ok-rest.field-0 in
-    let made_by = c.in_ok-made_by.made_by in
+    let made_by = c.in_ok-text.text in
     let verb = c.split_at.result.0.now in
     let word = c.split_at-2.result.0.now in
     let one : c.split_at.result.1 ≡ Some rest = search rules in
