@@ -22,4 +22,3 @@ took_verb verb says (word ∷ words) x h = go (bytes_eq word verb) refl h
     go : (b : Bool) → bytes_eq word verb ≡ b → cond b (says words) None ≡ Some x → TookVerb verb says (word ∷ words) x
     go true e g = record { others = words; are = ap (λ v. v ∷ words) ((bytes_eq-Decides word verb).0 e); gives = g }
     go false e g = absurd (cc)
-
