@@ -2,12 +2,12 @@
 //!
 //! Whoever holds logs drops them by name: a drop at the end of its scope is written out there, and takes far longer to prove.
 use super::expect;
-use shm_model::Kind;
-use shm_parts::{BookNote, Message, Note};
-use shm_place::{PageId, SegId, SiteId, Sites};
 use shm_logs::{
     AuditFault, Envelope, Event, Input, Receipt, SiteBox, SiteLog, Stamp, audit, logs_match,
 };
+use shm_model::Kind;
+use shm_parts::{BookNote, Message, Note};
+use shm_place::{PageId, SegId, SiteId, Sites};
 use std::alloc::{AllocError, Allocator};
 use std::test::Fail;
 

@@ -2,10 +2,10 @@
 //!
 //! Whoever holds a box drops it by name: a drop at the end of its scope is written out there, and takes far longer to prove.
 use super::expect;
+use shm_logs::{Answer, Asked, BoxFault, Envelope, Input, Receipt, SiteBox, Stamp};
 use shm_model::Kind;
 use shm_parts::{BookNote, Message, Note};
 use shm_place::{PageId, SegId, SiteId, Sites};
-use shm_logs::{Answer, Asked, BoxFault, Envelope, Input, Receipt, SiteBox, Stamp};
 use std::alloc::{AllocError, Allocator};
 use std::process::Abort;
 use std::test::Fail;

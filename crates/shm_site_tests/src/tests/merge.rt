@@ -9,8 +9,8 @@ ghost use Rattle.shm_logs.specs.Auditing.Logs.{logs_of, LogsRise, StampsRise};
 ghost use Rattle.shm_site.specs.Step.{input_of};
 
 use super::expect;
-use shm_place::{SiteId, Sites};
 use shm_logs::{Event, Input, SiteBox, SiteLog, Stamp, StepName, events, logs_match, merge};
+use shm_place::{SiteId, Sites};
 use std::alloc::{AllocError, Allocator};
 use std::test::Fail;
 

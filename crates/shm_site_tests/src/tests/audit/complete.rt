@@ -3,8 +3,8 @@ use super::{
     EVENTS, Given, PAGES, SEVEN, Told, Verdict, alone, are_events, audit_all, choose, expect,
     one_log, receipts_of, two_logs,
 };
-use shm_place::{SiteId, Sites};
 use shm_logs::{AuditFault, SiteLog, Stamp, audit_complete, logs_match};
+use shm_place::{SiteId, Sites};
 use std::alloc::{AllocError, Allocator};
 use std::test::Fail;
 

@@ -1,7 +1,7 @@
 //! What the audit says of deliveries between two sites.
 use super::{Given, are_events, audited_alone, expect, fault, two_logs};
-use shm_place::SiteId;
 use shm_logs::{AuditFault, Event, Stamp};
+use shm_place::SiteId;
 use std::alloc::{AllocError, Allocator};
 use std::test::Fail;
 
