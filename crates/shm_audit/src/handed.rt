@@ -7,9 +7,9 @@ ghost use Rattle.shm_wire.specs.SentOf.{sent_of};
 ghost use Rattle.shm_audit.specs.Entered as spec;
 ghost use Rattle.shm_audit.specs.HandedOf.{handed_of};
 
+use shm_logs::{Input, Stamp};
 use shm_place::SiteId;
 use shm_process::{Cause, input_asked};
-use shm_logs::{Input, Stamp};
 use shm_wire::{Ask, Line, Sent};
 use std::alloc::{Allocator, Global};
 

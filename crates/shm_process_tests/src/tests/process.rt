@@ -100,7 +100,10 @@ fn each_growth_is_refused_in_turn(rt: HostRuntime) -> Result<(), Fail> {
     let Some(tries) = refusals(&rt, &heap, &mut node, &mut filling) else {
         return Err(Fail::new("no step was made"));
     };
-    assert!(rt; tries > 1, "the place to wait and what is sent were refused too");
+    assert!(rt;
+        tries > 1,
+        "the place to wait and what is sent were refused too"
+    );
     assert_eq!(rt; (node.steps(), node.lines_taken()), (1, 1));
     Ok(())
 }
