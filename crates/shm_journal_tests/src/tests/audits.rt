@@ -1,8 +1,8 @@
 //! The journals of two sites, and what is said of them.
 use linked_list_allocator::LocalHeap;
 use shm_audit::{Counts, JournalFault, JournalsFault, audit_journals, read_log};
-use shm_place::SiteId;
 use shm_logs::{AuditFault, SiteLog};
+use shm_place::SiteId;
 use std::alloc::{AllocError, Allocator};
 use std::io;
 use std::test::Fail;

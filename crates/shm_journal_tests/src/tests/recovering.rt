@@ -76,7 +76,11 @@ fn lines_are_read_as_they_are_spelled(rt: HostRuntime) -> Result<(), Fail> {
     assert_eq!(rt; line.as_str(), "journal 2 0 4");
     assert_eq!(rt; parse_header(line.as_bytes()), Some(header));
     assert_eq!(rt; parse_header(b"journal 2 0 4 ".as_slice()), None);
-    let Some(Entry { clock, cause }) = parse_entry(rt.alloc(), b"step 18446744073709551615 restart")? else {
+    let Some(Entry { clock, cause }) = parse_entry(
+        rt.alloc(),
+        b"step 18446744073709551615 restart",
+    )?
+    else {
         return Err(Fail::new("a restart's entry"));
     };
     assert_eq!(rt; clock, u64::MAX);
