@@ -176,6 +176,7 @@ static void stop_carrier(void) {
     from_carrier.length = to_carrier.length = 0;
 }
 
+/* A daemon whose own standard input has ended goes on for the programs that are there. */
 static void carrier_ended(void) {
     stop_carrier();
     complain("%s", carriers[0] == NULL ? "the stream has ended" : "the carrier has ended, and is started again");
@@ -199,6 +200,7 @@ static void take_event(const struct epoll_event *event) {
 
 static void tick(void) {
     if (carrier_due != 0 && now() > carrier_due) start_carrier();
+    if (carrier_due == INT64_MAX && !segments_here()) ending = 1;
     bool waits = heard || site_waits() || pages_wait();
     if (now() < last_tick + (waits ? TICK : IDLE_TICK)) return;
     last_tick = now();
@@ -231,7 +233,7 @@ static void end(int signal) {
 
 /* All that programs stored goes to the site, and its journal. Programs that go on wait at their next fault. */
 static void finish(void) {
-    segments_leave();
+    each_page(page_leaves);
     site_end();
     write_lines(&to_carrier);
     stop_carrier();

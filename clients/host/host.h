@@ -56,6 +56,7 @@ struct page {
     enum { IDLE, SHOWING, READING } asking; /* what of the page the site is asked */
     bool requested; /* the site was asked for the right that is wanted */
     bool stored;    /* to the site's page since `brought` came */
+    bool opened;    /* to write, in some program, since it was last brought back */
     bool busy;           /* it is in the list of pages with work */
     size_t sleepers;     /* so many bytes from its start on, sleepers of futexes are to be woken */
     struct page *next_busy;
@@ -164,14 +165,17 @@ void protect_page(const struct page *page);
 
 /* segments.c: the programs' calls. */
 extern struct segment segments[MOST_SEGMENTS];
+#define EACH_SEGMENT(segment)                                                                            \
+    for (struct segment *segment = segments; segment < segments + MOST_SEGMENTS; segment++) \
+        if (segment->used)
 void listen_to_programs(void);
 void accept_program(void);
 void connection_ready(int connection);
 struct segment *segment_of(int id);
 void segment_attached(int segment, int by);
 void segments_turn(void);
-void segments_leave(void);     /* all pages */
-void segments_ask_again(void); /* the same, of a new site */
+bool segments_here(void);
+void each_page(void (*change)(struct page *));
 void detach_leftovers(void);
 
 #endif

@@ -4,8 +4,8 @@
    has (`show`). With the right its bytes are put into the segment's memory, and the page is opened; without it the site asks for the right, and
    is asked again when an envelope has come that may have brought it.
 
-   A right is taken back in this order: the page is protected in every program, so that each store is either seen here or waits; what changed
-   is stored at the site; the page is punched out of the segment's memory, which unmaps it everywhere; the envelope passes, behind the stores;
+   A right is taken back in this order: the page is protected in every program, so that each store is either seen here or waits; what changed is
+   stored at the site; the page is punched out of the segment's memory, which unmaps it everywhere; the envelope passes, behind the stores;
    and who sleeps in futexes of the page is woken, to look again and fault: whoever stores next is elsewhere, and wakes nobody here. */
 #include "host.h"
 
@@ -61,11 +61,19 @@ static void write_back(struct page *page) {
     given[given_bit(page) / 8] |= (uint8_t)(1u << given_bit(page) % 8);
 }
 
+/* Brings back what programs stored to a page. Who stores to it now faults again. */
+static void bring_back(struct page *page) {
+    if (!page->opened) return;
+    if (options.broken != DOES_NOT_PROTECT) protect_page(page);
+    page->opened = false;
+    write_back(page);
+}
+
+/* Where there is a journal, all other pages are brought back as well before one leaves: so a machine that dies loses an end of what it did, and
+   never a middle. */
 static void unmap_to(struct page *page, enum right right) {
-    if (page->mapped == WRITE) {
-        if (options.broken != DOES_NOT_PROTECT) protect_page(page);
-        write_back(page);
-    }
+    if (page->mapped == WRITE && options.journal != NULL) each_page(bring_back);
+    else if (page->mapped == WRITE) bring_back(page);
     page->mapped = right;
     if (right != NONE) return;
     int mode = FALLOC_FL_PUNCH_HOLE | FALLOC_FL_KEEP_SIZE;
@@ -109,6 +117,11 @@ static void ask_site(struct page *page) {
     if (page->asking == IDLE && page->wanted > page->mapped && !page->requested) ask_show(page);
 }
 
+static void open_for(struct page *page, const struct fault *fault) {
+    if (page->mapped == WRITE) page->opened = true;
+    open_page(fault, page->mapped);
+}
+
 static void open_for_all(struct page *page, enum right right) {
     page->mapped = right;
     page->wanted = NONE;
@@ -123,7 +136,7 @@ static void open_for_all(struct page *page, enum right right) {
             continue;
         }
         *place = fault->next;
-        open_page(fault, right);
+        open_for(page, fault);
         free(fault);
     }
     set_busy(page);
@@ -200,7 +213,7 @@ void page_begins_again(struct page *page) {
 
 void page_fault(struct page *page, const struct fault *fault) {
     if (page->mapped >= fault->needed) {
-        open_page(fault, page->mapped);
+        open_for(page, fault);
         return;
     }
     for (const struct fault *other = page->faults; other != NULL; other = other->next) {

@@ -36,6 +36,11 @@ static int attached_count;
 static struct record listed[MOST_LISTED];
 static int listed_count;
 
+static int failed(int error) {
+    errno = error;
+    return -1;
+}
+
 /* Descriptors stand high, where programs seldom close what they don't know. */
 static int raised(int descriptor) {
     int high = fcntl(descriptor, F_DUPFD_CLOEXEC, HIGH);
@@ -53,12 +58,8 @@ static int talk(const struct ask *ask, int given, struct answer *answer, int *ta
     }
     if (taken != NULL) *taken = other;
     else if (other >= 0) close(other);
-    if (length != sizeof *answer) {
-        errno = EIDRM;
-        return -1;
-    }
-    if (answer->result < 0) errno = answer->error;
-    return answer->result;
+    if (length != sizeof *answer) return failed(EIDRM);
+    return answer->result < 0 ? failed(answer->error) : answer->result;
 }
 
 /* Whether the connection is still the one that was made: a program may have closed it, and have opened another file in its place. */
@@ -83,36 +84,30 @@ static bool connect_host(void) {
     if (connected()) return true;
     snprintf(address.sun_path, sizeof address.sun_path, "%s", path == NULL ? DEFAULT_SOCKET : path);
     int made = socket(AF_UNIX, SOCK_SEQPACKET | SOCK_CLOEXEC, 0);
-    if (made < 0 || connect(made, (struct sockaddr *)&address, sizeof address) < 0 || fstat(made, &file) < 0) {
-        if (made >= 0) close(made);
-        errno = ENOSYS;
-        return false;
-    }
+    bool connects = made >= 0 && connect(made, (struct sockaddr *)&address, sizeof address) == 0 && fstat(made, &file) == 0;
+    if (!connects && made >= 0) close(made);
+    if (!connects) return failed(ENOSYS) == 0;
     host_file = file.st_ino;
     host = raised(made);
     if (names != NULL) tell_name();
     return true;
 }
 
+/* A userfaultfd, which the daemon gets, and the lock, which it gives. */
 static bool make_faults(void) {
     struct ask ask = {.kind = ASK_DEVICE};
     struct answer answer;
     int device, made = -1;
     if (names != NULL) return true;
     if (talk(&ask, -1, &answer, &device) < 0) return false;
-    if (device >= 0) {
-        made = ioctl(device, USERFAULTFD_IOC_NEW, O_CLOEXEC | O_NONBLOCK);
-        close(device);
-    }
+    if (device >= 0) made = ioctl(device, USERFAULTFD_IOC_NEW, O_CLOEXEC | O_NONBLOCK), close(device);
     if (made < 0) made = (int)syscall(SYS_userfaultfd, O_CLOEXEC | O_NONBLOCK);
-    if (made < 0) return false;
-    faults = raised(made);
-    ask.kind = ASK_LOCK;
-    if (talk(&ask, -1, &answer, &lock) < 0) return false;
-    lock = raised(lock);
     void *page = mmap(NULL, PAGE, PROT_READ, MAP_PRIVATE | MAP_ANONYMOUS, -1, 0);
+    if (made < 0 || page == MAP_FAILED) return false;
+    faults = raised(made);
     ask = (struct ask){.kind = ASK_FAULTS, .address = (uintptr_t)page};
-    if (page == MAP_FAILED || talk(&ask, faults, &answer, NULL) < 0) return false;
+    if (talk(&ask, faults, &answer, &lock) < 0) return false;
+    lock = raised(lock);
     names = page;
     return true;
 }
@@ -142,10 +137,7 @@ EXPORTED int shmget(key_t key, size_t size, int flags) {
     struct ask ask = {.kind = ASK_GET, .key = (uint32_t)key, .size = size, .mode = (uint32_t)flags & 0777};
     struct answer answer;
     ask.flags = (flags & IPC_CREAT ? CREATE : 0) | (flags & IPC_EXCL ? EXCLUSIVE : 0);
-    if (size > UINT32_MAX) {
-        errno = EINVAL;
-        return -1;
-    }
+    if (size > UINT32_MAX) return failed(EINVAL);
     pthread_mutex_lock(&mutex);
     int id = connect_host() ? talk(&ask, -1, &answer, NULL) : -1;
     pthread_mutex_unlock(&mutex);
@@ -161,37 +153,33 @@ static void forget_between(const char *start, const char *end) {
     attached_count = kept;
 }
 
-/* Maps the segment's memory, and has the daemon serve its faults before anybody knows the address. */
-static void *map(int id, uintptr_t wanted, int flags, size_t length, int memory) {
+/* Maps the segment's memory, and has the daemon serve its faults before anybody knows the address. MAP_FAILED is what shmat fails with. */
+static void *map(uintptr_t wanted, int flags, size_t length, int memory) {
     int protection = PROT_READ | (flags & SHM_RDONLY ? 0 : PROT_WRITE) | (flags & SHM_EXEC ? PROT_EXEC : 0);
     int fixed = wanted == 0 ? 0 : flags & SHM_REMAP ? MAP_FIXED : MAP_FIXED_NOREPLACE;
     void *address = mmap((void *)wanted, length, protection, MAP_SHARED | fixed, memory, 0);
     int error = errno == EEXIST ? EINVAL : errno;
-    bool maps = address != MAP_FAILED;
-    struct ask ask = {.kind = ASK_MAPPED, .id = id, .address = maps ? (uintptr_t)address : 0};
+    struct ask ask = {.kind = ASK_MAPPED, .address = address == MAP_FAILED ? 0 : (uintptr_t)address};
     struct answer answer;
-    if (talk(&ask, -1, &answer, NULL) < 0) {
-        error = errno;
-        if (maps) munmap(address, length);
-        maps = false;
-    }
-    errno = maps ? errno : error;
-    return maps ? address : (void *)-1;
+    bool served = talk(&ask, -1, &answer, NULL) == 0;
+    if (address == MAP_FAILED) errno = error;
+    if (served || address == MAP_FAILED) return address;
+    error = errno;
+    munmap(address, length);
+    errno = error;
+    return MAP_FAILED;
 }
 
 static void *attach(int id, uintptr_t wanted, int flags) {
     struct ask ask = {.kind = ASK_ATTACH, .id = id, .read_only = flags & SHM_RDONLY ? 1 : 0};
     struct answer answer;
     int memory;
-    if (!connect_host() || !make_faults()) return (void *)-1;
-    if (attached_count == MOST_ATTACHED) {
-        errno = EMFILE;
-        return (void *)-1;
-    }
-    if (talk(&ask, -1, &answer, &memory) < 0) return (void *)-1;
-    char *address = map(id, wanted, flags, answer.size, memory);
+    if (!connect_host() || !make_faults()) return MAP_FAILED;
+    if (attached_count == MOST_ATTACHED) return failed(EMFILE), MAP_FAILED;
+    if (talk(&ask, -1, &answer, &memory) < 0) return MAP_FAILED;
+    char *address = map(wanted, flags, answer.size, memory);
     close(memory);
-    if (address == (void *)-1) return address;
+    if (address == MAP_FAILED) return address;
     forget_between(address, address + answer.size);
     attached[attached_count++] = (struct attached){address, answer.size};
     return address;
@@ -200,10 +188,7 @@ static void *attach(int id, uintptr_t wanted, int flags) {
 EXPORTED void *shmat(int id, const void *address, int flags) {
     uintptr_t wanted = (uintptr_t)address;
     if (flags & SHM_RND) wanted &= ~(uintptr_t)(PAGE - 1);
-    if (wanted % PAGE != 0 || id < 0 || (flags & SHM_REMAP && wanted == 0)) {
-        errno = EINVAL;
-        return (void *)-1;
-    }
+    if (wanted % PAGE != 0 || id < 0 || (flags & SHM_REMAP && wanted == 0)) return failed(EINVAL), MAP_FAILED;
     pthread_mutex_lock(&mutex);
     void *at = attach(id, wanted, flags);
     pthread_mutex_unlock(&mutex);
@@ -212,14 +197,12 @@ EXPORTED void *shmat(int id, const void *address, int flags) {
 
 /* The daemon hears of it by what is unmapped. */
 EXPORTED int shmdt(const void *address) {
-    int result = -1;
-    errno = EINVAL;
+    int result = failed(EINVAL);
     pthread_mutex_lock(&mutex);
-    for (int index = 0; index < attached_count; index++) {
+    for (int index = 0; result < 0 && index < attached_count; index++) {
         if (attached[index].address != address) continue;
         result = munmap(attached[index].address, attached[index].length);
         attached[index] = attached[--attached_count];
-        break;
     }
     pthread_mutex_unlock(&mutex);
     return result;
@@ -228,13 +211,8 @@ EXPORTED int shmdt(const void *address) {
 static void fill(struct shmid_ds *status, const struct record *record) {
     *status = (struct shmid_ds){.shm_segsz = record->size, .shm_nattch = record->attached, .shm_atime = record->attach_time,
                                 .shm_dtime = record->detach_time, .shm_ctime = record->change_time, .shm_cpid = record->creator, .shm_lpid = record->last};
-    struct ipc_perm *permission = &status->shm_perm;
-    permission->__key = (key_t)record->key;
-    permission->uid = record->uid;
-    permission->gid = record->gid;
-    permission->cuid = record->cuid;
-    permission->cgid = record->cgid;
-    permission->mode = (unsigned short)(record->mode | (record->marked ? SHM_DEST : 0));
+    status->shm_perm = (struct ipc_perm){.__key = (key_t)record->key, .uid = record->uid, .gid = record->gid, .cuid = record->cuid, .cgid = record->cgid};
+    status->shm_perm.mode = (unsigned short)(record->mode | (record->marked ? SHM_DEST : 0));
 }
 
 static bool list(void) {
@@ -253,34 +231,23 @@ static bool list(void) {
 static int show_all(int index, int command, void *buffer) {
     bool stats = command == SHM_STAT || command == SHM_STAT_ANY_;
     if ((!stats || listed_count == 0) && !list()) return -1;
-    if (stats && (index < 0 || index >= listed_count)) {
-        errno = EINVAL;
-        return -1;
-    }
-    if (stats) {
-        fill(buffer, &listed[index]);
-        return listed[index].id;
-    }
+    if (stats && (index < 0 || index >= listed_count)) return failed(EINVAL);
+    if (stats) fill(buffer, &listed[index]);
+    if (stats) return listed[index].id;
     if (command == IPC_INFO) *(struct shminfo *)buffer = (struct shminfo){.shmmax = 1 << 20, .shmmin = 1, .shmmni = 64, .shmseg = 64, .shmall = 1 << 14};
     if (command == SHM_INFO) *(struct shm_info *)buffer = (struct shm_info){.used_ids = listed_count};
     return listed_count > 0 ? listed_count - 1 : 0;
 }
 
 static int control(int id, int command, struct shmid_ds *buffer) {
-    struct ask ask = {.kind = ASK_STAT, .id = id};
+    struct ask ask = {.kind = command == IPC_RMID ? ASK_REMOVE : command == IPC_SET ? ASK_SET : ASK_STAT, .id = id};
     struct answer answer;
     bool by_id = command == IPC_STAT || command == IPC_SET || command == IPC_RMID;
     if (command == SHM_LOCK || command == SHM_UNLOCK) return 0;
     if (command == IPC_INFO || command == SHM_INFO || command == SHM_STAT || command == SHM_STAT_ANY_) return show_all(id, command, buffer);
-    errno = !by_id || id < 0 ? EINVAL : EFAULT;
-    if (!by_id || id < 0 || (command != IPC_RMID && buffer == NULL)) return -1;
-    if (command == IPC_RMID) ask.kind = ASK_REMOVE;
-    if (command == IPC_SET) {
-        ask.kind = ASK_SET;
-        ask.uid = buffer->shm_perm.uid;
-        ask.gid = buffer->shm_perm.gid;
-        ask.mode = buffer->shm_perm.mode & 0777u;
-    }
+    if (!by_id || id < 0) return failed(EINVAL);
+    if (command != IPC_RMID && buffer == NULL) return failed(EFAULT);
+    if (command == IPC_SET) ask.uid = buffer->shm_perm.uid, ask.gid = buffer->shm_perm.gid, ask.mode = buffer->shm_perm.mode & 0777u;
     int result = talk(&ask, -1, &answer, NULL);
     if (result == 0 && command == IPC_STAT) fill(buffer, &answer.record);
     return result;
@@ -299,10 +266,7 @@ EXPORTED FILE *fopen(const char *name, const char *mode) {
         void *symbol;
         FILE *(*call)(const char *, const char *);
     } real;
-    if (strcmp(name, "/proc/sysvipc/shm") == 0) {
-        errno = ENOENT;
-        return NULL;
-    }
+    if (strcmp(name, "/proc/sysvipc/shm") == 0) return failed(ENOENT), NULL;
     if (real.symbol == NULL) real.symbol = dlsym(RTLD_NEXT, "fopen");
     return real.call(name, mode);
 }

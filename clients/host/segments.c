@@ -40,8 +40,8 @@ static int listener, lock;
 static uint64_t generations;
 
 struct segment *segment_of(int id) {
-    for (struct segment *segment = segments; segment < segments + MOST_SEGMENTS; segment++) {
-        if (segment->used && segment->id == id) return segment;
+    EACH_SEGMENT(segment) {
+        if (segment->id == id) return segment;
     }
     return NULL;
 }
@@ -64,35 +64,35 @@ static void detach(int attachment) {
     make_call(call, "detach %d", attachment);
 }
 
+static void give_back(struct segment *segment) {
+    for (size_t index = 0; index < segment->length / PAGE; index++) {
+        page_leaves(&segment->pages[index]);
+        drop_page(&segment->pages[index]);
+    }
+    detach(segment->reading);
+    detach(segment->writing);
+    munmap(segment->bytes, segment->length);
+    close(segment->memory);
+    free(segment->pages);
+    segment->used = false;
+}
+
 /* Gives the segments that nobody here has any more back to the site: after a while, as who detaches often attaches again. */
 void segments_turn(void) {
-    for (struct segment *segment = segments; segment < segments + MOST_SEGMENTS; segment++) {
-        if (!segment->used || segment->attached > 0 || (!segment->removed && now() < segment->left + SECOND)) continue;
-        for (size_t index = 0; index < segment->length / PAGE; index++) {
-            page_leaves(&segment->pages[index]);
-            drop_page(&segment->pages[index]);
-        }
-        detach(segment->reading);
-        detach(segment->writing);
-        munmap(segment->bytes, segment->length);
-        close(segment->memory);
-        free(segment->pages);
-        segment->used = false;
+    EACH_SEGMENT(segment) {
+        if (segment->attached == 0 && (segment->removed || now() > segment->left + SECOND)) give_back(segment);
     }
 }
 
-static void each_page(void (*change)(struct page *)) {
-    for (struct segment *segment = segments; segment < segments + MOST_SEGMENTS; segment++) {
-        for (size_t index = 0; segment->used && index < segment->length / PAGE; index++) change(&segment->pages[index]);
+bool segments_here(void) {
+    EACH_SEGMENT(segment) return true;
+    return false;
+}
+
+void each_page(void (*change)(struct page *)) {
+    EACH_SEGMENT(segment) {
+        for (size_t index = 0; index < segment->length / PAGE; index++) change(&segment->pages[index]);
     }
-}
-
-void segments_leave(void) {
-    each_page(page_leaves);
-}
-
-void segments_ask_again(void) {
-    each_page(page_begins_again);
 }
 
 /* Those of an earlier daemon, which its journal has. */
@@ -277,8 +277,7 @@ static void answer_at_once(struct connection *connection, const struct ask *ask,
     struct answer told = {0};
     int given = -1, opened = -1;
     if (ask->kind == ASK_DEVICE) given = opened = open("/dev/userfaultfd", O_RDWR | O_CLOEXEC);
-    if (ask->kind == ASK_LOCK) given = lock;
-    if (ask->kind == ASK_FAULTS) told.error = take_faults(connection, descriptor, ask->address);
+    if (ask->kind == ASK_FAULTS) told.error = take_faults(connection, descriptor, ask->address), given = lock;
     if (ask->kind == ASK_MAPPED) told.error = take_mapping(connection, ask);
     if (ask->kind == ASK_NAMED) {
         connection->program = program_named(ask->size);

@@ -1,7 +1,7 @@
 /* semget, semop, semtimedop and semctl, over a segment of their own for each set: so they work over machines as the memory does. Sleepers wait
    in a futex of the set's page, which the daemon wakes when another machine takes the page.
 
-   SEM_UNDO is made where a program ends by exit, and not where it is killed. Operations ask for no permission beyond the segment's. */
+   SEM_UNDO is made where a program ends by exit, and not where it is killed; GETNCNT and GETZCNT tell 0. */
 #include <errno.h>
 #include <linux/futex.h>
 #include <pthread.h>
@@ -21,22 +21,17 @@
 
 enum { KEYS = 0x5e3a0000, MADE = 0x53454d31, MOST_SETS = 64, MOST = 200, GREATEST = 32767, SPINS = 50, PAUSE = 200000, NAP = 20000000, IPC_64_ = 0x100 };
 
-struct semaphore {
-    int value, last, waits_for_more, waits_for_zero;
-};
-
 struct set {
     uint32_t made, count, lock, changes, removed;
     int64_t operated, changed;
-    struct semaphore semaphores[MOST];
+    int values[MOST], last[MOST]; /* who operated last */
 };
 
 static struct known {
     int id;
     struct set *set;
     short undo[MOST];
-} known[MOST_SETS];
-static int known_count;
+} known[MOST_SETS], *known_end = known;
 static pthread_mutex_t mutex = PTHREAD_MUTEX_INITIALIZER;
 
 static int failed(int error) {
@@ -44,14 +39,10 @@ static int failed(int error) {
     return -1;
 }
 
-static void nap(long nanoseconds) {
-    nanosleep(&(struct timespec){0, nanoseconds}, NULL);
-}
-
 static void lock_set(struct set *set) {
     for (int turn = 0; __atomic_exchange_n(&set->lock, 1, __ATOMIC_ACQUIRE) != 0; turn++) {
         if (turn < SPINS) sched_yield();
-        else nap(PAUSE);
+        else nanosleep(&(struct timespec){0, PAUSE}, NULL);
     }
 }
 
@@ -62,20 +53,19 @@ static void unlock_set(struct set *set, bool changed) {
 }
 
 static void undo_all(void) {
-    for (struct known *one = known; one < known + known_count; one++) {
+    for (struct known *one = known; one < known_end; one++) {
         if (one->set->removed) continue;
         lock_set(one->set);
         for (uint32_t index = 0; index < one->set->count; index++) {
-            int value = one->set->semaphores[index].value + one->undo[index];
-            one->set->semaphores[index].value = value < 0 ? 0 : value;
-            one->undo[index] = 0;
+            int value = one->set->values[index] + one->undo[index];
+            one->set->values[index] = value < 0 ? 0 : value;
         }
         unlock_set(one->set, true);
     }
 }
 
 static void in_child(void) {
-    for (struct known *one = known; one < known + known_count; one++) memset(one->undo, 0, sizeof one->undo);
+    for (struct known *one = known; one < known_end; one++) memset(one->undo, 0, sizeof one->undo);
 }
 
 __attribute__((constructor)) static void begin(void) {
@@ -83,15 +73,13 @@ __attribute__((constructor)) static void begin(void) {
     atexit(undo_all);
 }
 
+/* Attaches a set, which its maker may not have made ready yet. */
 static struct known *attach(int id) {
-    if (id < 0 || known_count == MOST_SETS) errno = id < 0 ? EINVAL : ENOSPC;
-    struct set *set = id < 0 || known_count == MOST_SETS ? (void *)-1 : shmat(id, NULL, 0);
+    struct set *set = known_end == known + MOST_SETS ? (errno = ENOSPC, (void *)-1) : shmat(id, NULL, 0);
     if (set == (void *)-1) return NULL;
-    for (int turn = 0; turn < 100 && __atomic_load_n(&set->made, __ATOMIC_ACQUIRE) != MADE; turn++) nap(NAP);
-    if (set->made == MADE && !set->removed) {
-        known[known_count] = (struct known){.id = id, .set = set};
-        return &known[known_count++];
-    }
+    for (int turn = 0; turn < 100 && __atomic_load_n(&set->made, __ATOMIC_ACQUIRE) != MADE; turn++) nanosleep(&(struct timespec){0, NAP}, NULL);
+    *known_end = (struct known){.id = id, .set = set};
+    if (set->made == MADE && !set->removed) return known_end++;
     errno = set->made == MADE ? EIDRM : EINVAL;
     shmdt(set);
     return NULL;
@@ -100,7 +88,7 @@ static struct known *attach(int id) {
 static struct known *find(int id) {
     struct known *found = NULL;
     pthread_mutex_lock(&mutex);
-    for (struct known *one = known; one < known + known_count; one++) {
+    for (struct known *one = known; one < known_end; one++) {
         if (one->id == id && !one->set->removed) found = one;
     }
     if (found == NULL) found = attach(id);
@@ -123,136 +111,93 @@ EXPORTED int semget(key_t key, int count, int flags) {
     key_t own = key == IPC_PRIVATE ? IPC_PRIVATE : key == KEYS ? 1 : key ^ KEYS;
     if (count < 0 || count > MOST) return failed(EINVAL);
     int id = key == IPC_PRIVATE ? failed(ENOENT) : shmget(own, 0, flags & 0777);
+    if (id >= 0 && flags & IPC_CREAT && flags & IPC_EXCL) return failed(EEXIST);
     if (id >= 0) {
-        if (flags & IPC_CREAT && flags & IPC_EXCL) return failed(EEXIST);
         const struct known *one = find(id);
         return one == NULL ? -1 : count > (int)one->set->count ? failed(EINVAL) : id;
     }
     if (key != IPC_PRIVATE && (errno != ENOENT || !(flags & IPC_CREAT))) return -1;
-    if (count == 0) return failed(EINVAL);
-    id = make(own, count, flags);
+    id = count == 0 ? failed(EINVAL) : make(own, count, flags);
     return id < 0 && errno == EEXIST && !(flags & IPC_EXCL) ? semget(key, count, flags) : id;
 }
 
-/* The first operation that can't be made now, or `count`; `error` where it never can. The set stays as it was. */
-static size_t first_refused(const struct set *set, const struct sembuf *operations, size_t count, int *error) {
-    int values[MOST];
-    for (uint32_t index = 0; index < set->count; index++) values[index] = set->semaphores[index].value;
-    for (size_t index = 0; index < count; index++) {
-        const struct sembuf *one = &operations[index];
-        int *value = &values[one->sem_num];
-        if (one->sem_op == 0 ? *value != 0 : *value + one->sem_op < 0) return index;
-        *value += one->sem_op;
-        if (*value > GREATEST) *error = ERANGE;
-    }
-    return count;
-}
-
-static void operate(struct known *one, const struct sembuf *operations, size_t count) {
-    for (size_t index = 0; index < count; index++) {
-        struct semaphore *semaphore = &one->set->semaphores[operations[index].sem_num];
-        semaphore->value += operations[index].sem_op;
-        semaphore->last = getpid();
-        if (operations[index].sem_flg & SEM_UNDO) one->undo[operations[index].sem_num] = (short)(one->undo[operations[index].sem_num] - operations[index].sem_op);
-    }
-    one->set->operated = time(NULL);
-}
-
-static void count_waiter(struct set *set, const struct sembuf *operation, int by) {
-    struct semaphore *semaphore = &set->semaphores[operation->sem_num];
-    *(operation->sem_op == 0 ? &semaphore->waits_for_zero : &semaphore->waits_for_more) += by;
-}
-
-/* One try. 1: it has to wait, and did so a while. */
-static int try_once(struct known *one, const struct sembuf *operations, size_t count) {
+/* Makes the operations, all or none. 1: they have to wait. */
+static int operate(struct known *one, const struct sembuf *operations, size_t count) {
     struct set *set = one->set;
-    int error = 0;
-    lock_set(set);
-    size_t refused = set->removed ? count : first_refused(set, operations, count, &error);
-    if (set->removed) error = EIDRM;
-    else if (error == 0 && refused < count && operations[refused].sem_flg & IPC_NOWAIT) error = EAGAIN;
-    bool made = error == 0 && refused == count, waits = error == 0 && refused < count;
-    if (made) operate(one, operations, count);
-    if (waits) count_waiter(set, &operations[refused], 1);
-    uint32_t seen = set->changes;
-    unlock_set(set, made);
-    if (!waits) return error == 0 ? 0 : failed(error);
-    long slept = syscall(SYS_futex, &set->changes, FUTEX_WAIT, seen, &(struct timespec){0, NAP}, NULL, 0);
-    error = slept < 0 && errno == EINTR ? EINTR : 0;
-    lock_set(set);
-    count_waiter(set, &operations[refused], -1);
-    unlock_set(set, false);
-    return error == 0 ? 1 : failed(error);
+    int values[MOST];
+    memcpy(values, set->values, sizeof values);
+    if (set->removed) return failed(EIDRM);
+    for (size_t index = 0; index < count; index++) {
+        int *value = &values[operations[index].sem_num], by = operations[index].sem_op;
+        if (by == 0 ? *value != 0 : *value + by < 0) return operations[index].sem_flg & IPC_NOWAIT ? failed(EAGAIN) : 1;
+        if ((*value += by) > GREATEST) return failed(ERANGE);
+    }
+    memcpy(set->values, values, sizeof values);
+    for (size_t index = 0; index < count; index++) {
+        unsigned short number = operations[index].sem_num;
+        set->last[number] = getpid();
+        if (operations[index].sem_flg & SEM_UNDO) one->undo[number] = (short)(one->undo[number] - operations[index].sem_op);
+    }
+    set->operated = time(NULL);
+    return 0;
 }
 
 EXPORTED int semtimedop(int id, struct sembuf *operations, size_t count, const struct timespec *limit) {
-    struct known *one = find(id);
     struct timespec begun, passed;
-    int result = 1;
+    struct known *one = find(id);
     if (one == NULL) return -1;
     if (count == 0 || count > MOST) return failed(count == 0 ? EINVAL : E2BIG);
     for (size_t index = 0; index < count; index++) {
         if (operations[index].sem_num >= one->set->count) return failed(EFBIG);
     }
     clock_gettime(CLOCK_MONOTONIC, &begun);
-    while ((result = try_once(one, operations, count)) == 1) {
-        if (limit == NULL) continue;
+    for (;;) {
+        lock_set(one->set);
+        uint32_t seen = one->set->changes;
+        int result = operate(one, operations, count);
+        unlock_set(one->set, result == 0);
+        if (result != 1) return result;
         clock_gettime(CLOCK_MONOTONIC, &passed);
-        int64_t most = limit->tv_sec * 1000000000 + limit->tv_nsec;
-        if ((passed.tv_sec - begun.tv_sec) * 1000000000 + passed.tv_nsec - begun.tv_nsec > most) return failed(EAGAIN);
+        int64_t nanoseconds = (passed.tv_sec - begun.tv_sec) * 1000000000 + passed.tv_nsec - begun.tv_nsec;
+        if (limit != NULL && nanoseconds > limit->tv_sec * 1000000000 + limit->tv_nsec) return failed(EAGAIN);
+        if (syscall(SYS_futex, &one->set->changes, FUTEX_WAIT, seen, &(struct timespec){0, NAP}, NULL, 0) < 0 && errno == EINTR) return -1;
     }
-    return result;
 }
 
 EXPORTED int semop(int id, struct sembuf *operations, size_t count) {
     return semtimedop(id, operations, count, NULL);
 }
 
-union argument {
-    int value;
-    struct semid_ds *status;
-    unsigned short *array;
-};
-
 /* What the segment's record says. */
 static int control_record(const struct known *one, int command, struct semid_ds *status) {
     struct shmid_ds record;
-    if (command == IPC_RMID) return shmctl(one->id, IPC_RMID, NULL);
     if (shmctl(one->id, IPC_STAT, &record) < 0) return -1;
-    if (command == IPC_SET) {
-        record.shm_perm = status->sem_perm;
-        return shmctl(one->id, IPC_SET, &record);
-    }
+    if (command == IPC_SET) record.shm_perm = status->sem_perm;
+    if (command == IPC_SET) return shmctl(one->id, IPC_SET, &record);
     *status = (struct semid_ds){.sem_perm = record.shm_perm, .sem_otime = one->set->operated, .sem_ctime = one->set->changed, .sem_nsems = one->set->count};
     return 0;
 }
 
-static int control_values(struct set *set, int number, int command, union argument argument) {
-    struct semaphore *semaphore = &set->semaphores[number];
-    switch (command) {
-    case GETVAL: return semaphore->value;
-    case GETPID: return semaphore->last;
-    case GETNCNT: return semaphore->waits_for_more;
-    case GETZCNT: return semaphore->waits_for_zero;
-    case GETALL:
-        for (uint32_t index = 0; index < set->count; index++) argument.array[index] = (unsigned short)set->semaphores[index].value;
-        return 0;
-    case SETALL:
-        for (uint32_t index = 0; index < set->count; index++) set->semaphores[index].value = argument.array[index];
-        break;
-    case SETVAL:
-        if (argument.value < 0 || argument.value > GREATEST) return failed(ERANGE);
-        semaphore->value = argument.value;
-        semaphore->last = getpid();
-        break;
-    default: return failed(EINVAL);
-    }
-    set->changed = time(NULL);
+static int control_values(struct set *set, int number, int command, unsigned short *array, int value) {
+    bool sets = command == SETVAL || command == SETALL;
+    if (command == GETVAL) return set->values[number];
+    if (command == GETPID) return set->last[number];
+    if (command == GETNCNT || command == GETZCNT) return 0;
+    if (!sets && command != GETALL) return failed(EINVAL);
+    if (command == SETVAL && (value < 0 || value > GREATEST)) return failed(ERANGE);
+    if (command == SETVAL) set->values[number] = value, set->last[number] = getpid();
+    for (uint32_t index = 0; command == GETALL && index < set->count; index++) array[index] = (unsigned short)set->values[index];
+    for (uint32_t index = 0; command == SETALL && index < set->count; index++) set->values[index] = array[index];
+    if (sets) set->changed = time(NULL);
     return 0;
 }
 
 EXPORTED int semctl(int id, int number, int command, ...) {
-    union argument argument;
+    union {
+        int value;
+        struct semid_ds *status;
+        unsigned short *array;
+    } argument;
     va_list arguments;
     va_start(arguments, command);
     argument.array = va_arg(arguments, unsigned short *);
@@ -260,13 +205,13 @@ EXPORTED int semctl(int id, int number, int command, ...) {
     command &= ~IPC_64_;
     struct known *one = find(id);
     if (one == NULL) return -1;
-    bool record = command == IPC_STAT || command == IPC_SET || command == IPC_RMID, all = command == GETALL || command == SETALL;
-    if (!record && !all && (number < 0 || number >= (int)one->set->count)) return failed(EINVAL);
-    int result = record ? control_record(one, command, argument.status) : 0;
-    if (result < 0 || (record && command != IPC_RMID)) return result;
+    if (command == IPC_STAT || command == IPC_SET) return control_record(one, command, argument.status);
+    bool removes = command == IPC_RMID, all = removes || command == GETALL || command == SETALL;
+    if (!all && (number < 0 || number >= (int)one->set->count)) return failed(EINVAL);
+    if (removes && shmctl(one->id, IPC_RMID, NULL) < 0) return -1;
     lock_set(one->set);
-    if (command == IPC_RMID) one->set->removed = 1;
-    else result = control_values(one->set, all ? 0 : number, command, argument);
-    unlock_set(one->set, command == SETVAL || command == SETALL || command == IPC_RMID);
+    if (removes) one->set->removed = 1;
+    int result = removes ? 0 : control_values(one->set, all ? 0 : number, command, argument.array, argument.value);
+    unlock_set(one->set, true);
     return result;
 }

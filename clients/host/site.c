@@ -226,24 +226,19 @@ void site_start(void) {
     watch(from_site.descriptor, SITE, 0);
 }
 
-static int stop(void) {
+static void start_again(void) {
     int status = 0;
     close(to_site.descriptor);
     close(from_site.descriptor);
     waitpid(process, &status, 0);
     to_site.length = from_site.length = 0;
-    return status;
-}
-
-static void start_again(void) {
-    int status = stop();
     if (WIFEXITED(status)) FAIL("the site's process has ended, status %d", WEXITSTATUS(status));
     if (options.journal == NULL) FAIL("the site's process was killed, and has no journal: stop all hosts, and begin anew");
     complain("the site's process was killed: it goes on from its journal, and %zu stores are said again", made - answered);
     site_start();
     said_again = made - answered;
     for (size_t index = answered; index < made; index++) say_store(&stores[index]);
-    segments_ask_again();
+    each_page(page_begins_again);
     if (calls != NULL) calls->doubtful = calls->said;
     site_tick();
 }
@@ -259,9 +254,10 @@ void site_ready(void) {
 
 /* Lets the site make what it was told, and ends it. */
 void site_end(void) {
-    for (int64_t until = now() + 5 * SECOND; (to_site.length > 0 || answered < made) && now() < until; usleep(100)) {
-        site_flush();
-        if (!read_lines(&from_site, take_site_line)) break;
-    }
-    stop();
+    int64_t until = now() + 5 * SECOND;
+    while (!site_flush() && now() < until) usleep(100);
+    close(to_site.descriptor);
+    while (read_lines(&from_site, take_site_line) && now() < until) usleep(100);
+    kill(process, SIGTERM);
+    waitpid(process, NULL, 0);
 }

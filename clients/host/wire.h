@@ -14,8 +14,7 @@ enum { PAGE = 4096 };
 
 enum {
     ASK_DEVICE = 1, /* answered with the descriptor of /dev/userfaultfd, or with none where the daemon has none */
-    ASK_LOCK,       /* answered with the descriptor of the daemon's lock */
-    ASK_FAULTS,     /* hands over the program's userfaultfd; `address` is its page of names */
+    ASK_FAULTS,     /* hands over the program's userfaultfd, and `address`, its page of names; answered with the daemon's lock */
     ASK_NAMED,      /* this is the program that reads `size` in its page of names; answered with its userfaultfd */
     ASK_GET,
     ASK_ATTACH, /* answered with the segment's memory and length: the program maps it, and says so: */
