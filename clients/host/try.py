@@ -1,7 +1,7 @@
 #!/usr/bin/env python3
 """Tries programs that know nothing of sites, over two and three hosts on this machine, with a carrier that loses, repeats and delays.
 
-    try.py [--program PROGRAM] [--only NAME] [--seconds SECONDS] [--speed]
+    try.py [--program PROGRAM] [--only NAME] [--times N] [--seconds SECONDS] [--speed [--journals]]
 
 Builds what is here. Some of what is tried needs Debian packages, which it names where they are missing. The status is 1 where something isn't
 as expected. Needs what leddwyfan-host needs: root, or what docs/programs.md says.
@@ -383,20 +383,59 @@ def go_on(options):
             print(f'  {seed}: {line}', flush=True)
 
 
+def medians(rows):
+    return ' '.join(f'{statistics.median(float(row[place]) for row in rows):.1f}' for place in range(len(rows[0])))
+
+
+def time_all(options):
+    """Medians of five turns, one after the other: what a page that is here costs beside the system's segment, and what one that comes costs."""
+    seen = {}
+    cluster = Cluster(options, 2, journals=options.journals)
+    try:
+        for _ in range(5):
+            key, own, other = next(keys), next(keys), next(keys)
+            plain = subprocess.run([os.path.join(options.build, 'try', 'speed'), str(key), 'loads'], stdout=subprocess.PIPE, text=True).stdout
+            subprocess.run(['ipcrm', '-M', str(key)])
+            seen.setdefault("the system's segment: million loads, stores, atomic adds a second", []).append(plain.split())
+            seen.setdefault('a page that is here: the same', []).append(cluster.told(0, './speed', key, 'loads').split())
+            holder = cluster.on(0, './speed', own, 'write', 32, 3)
+            time.sleep(1)
+            seen.setdefault('a fault that the own host serves, microseconds', []).append([cluster.told(0, './speed', own, 'write', 32)])
+            holder.wait()
+            cluster.told(0, './speed', other, 'write', 32)
+            seen.setdefault('a page moves to be read, microseconds', []).append([cluster.told(1, './speed', other, 'read', 32)])
+            seen.setdefault('a page moves to be written, microseconds', []).append([cluster.told(1, './speed', own, 'write', 32)])
+            word = next(keys)
+            rounds = cluster.together(*[(me, './ring', word, one, options.times) for me, one in enumerate(('ping', 'pong'))])
+            seen.setdefault('ping-pong, rounds a second', []).append([rounds[0].split()[1]])
+            for kind in ('spin', 'near', 'peterson', 'mutex', 'turns'):
+                lock = next(keys)
+                told = cluster.together(*[(me, './lock', lock, kind, me, 2, options.times) for me in range(2)])
+                seen.setdefault(f'{kind}, rounds a second of each host', []).append([line.split()[1] for line in told])
+    finally:
+        cluster.stop()
+    for says, rows in seen.items():
+        print(f'  {says}: {medians(rows)}')
+
+
 def main():
     parser = argparse.ArgumentParser()
     parser.add_argument('--program', default=os.path.join(HERE, '..', '..', 'crates', 'shmdbg', 'out', 'shmdbg'))
     parser.add_argument('--only', choices=sorted(TRIES))
     parser.add_argument('--times', type=int, default=500, help='rounds of a lock; of the others as many, or more')
     parser.add_argument('--seconds', type=int, default=0)
+    parser.add_argument('--build', help='a folder for what is built, in place of a new one')
+    parser.add_argument('--speed', action='store_true')
+    parser.add_argument('--journals', action='store_true', help='with --speed: the sites have journals')
     options = parser.parse_args()
     options.program = os.path.abspath(options.program)
     signal.signal(signal.SIGTERM, lambda *_: sys.exit(1))
     begin = time.monotonic()
-    with tempfile.TemporaryDirectory(prefix='programs-') as options.build:
+    with tempfile.TemporaryDirectory(prefix='programs-') as folder:
+        options.build = options.build or folder
         subprocess.run(['make', '-s', '-C', HERE, f'BUILD={options.build}', 'tried'], check=True)
         try:
-            go_on(options) if options.seconds else run_tries(options)
+            time_all(options) if options.speed else go_on(options) if options.seconds else run_tries(options)
         except AssertionError as fault:
             sys.exit(f'try.py: not so: {fault}')
     print(f'{time.monotonic() - begin:.0f} seconds')
