@@ -214,10 +214,11 @@ static void turn(void) {
     static bool idle;
     struct epoll_event events[EVENTS];
     programs_turn();
-    int64_t due = pages_turn(idle), wait = due == INT64_MAX ? TICK : due - now();
+    int64_t due = pages_turn(), wait = due == INT64_MAX ? TICK : due - now();
     segments_turn();
     bool unwritten = !site_flush();
     if (carrier_due == 0) write_lines(&to_carrier);
+    pages_wake(idle);
     if ((unwritten || to_carrier.length > 0) && wait > UNWRITTEN_WAIT) wait = UNWRITTEN_WAIT;
     wait = wait < 0 ? 0 : wait < TICK ? wait : TICK;
     int count = epoll_pwait2(poller, events, EVENTS, &(struct timespec){0, wait}, NULL);

@@ -29,7 +29,7 @@ extern struct options options;
 
 #define FAULT_FEATURES                                                                                                                         \
     (UFFD_FEATURE_EVENT_FORK | UFFD_FEATURE_EVENT_UNMAP | UFFD_FEATURE_EVENT_REMAP | UFFD_FEATURE_MISSING_SHMEM | UFFD_FEATURE_MINOR_SHMEM | \
-     UFFD_FEATURE_PAGEFAULT_FLAG_WP | UFFD_FEATURE_WP_HUGETLBFS_SHMEM)
+     UFFD_FEATURE_PAGEFAULT_FLAG_WP | UFFD_FEATURE_WP_HUGETLBFS_SHMEM | UFFD_FEATURE_THREAD_ID)
 
 /* A line `env`, whose words behind NUMBER may be missing. */
 struct envelope {
@@ -45,6 +45,7 @@ struct fault {
     int program;
     uint64_t generation, address;
     enum right needed;
+    pid_t thread;
 };
 
 struct segment;
@@ -63,6 +64,8 @@ struct page {
     enum right shown;
     uint64_t ask; /* the number of the ask whose answer counts */
     int64_t since, left; /* when it was opened, and when it was taken away */
+    pid_t thread;        /* for which it was opened last, and how often that one had run before */
+    uint64_t runs;
     uint8_t *twin; /* its bytes as the site has them, while it is mapped */
     char *brought; /* the page that an envelope brought, in base64, and its transaction */
     uint64_t transaction;
@@ -147,7 +150,8 @@ void page_told(struct page *page, uint64_t ask, const char *text);
 void page_begins_again(struct page *page);
 void page_leaves(struct page *page);
 void drop_page(struct page *page);
-int64_t pages_turn(bool idle); /* when to turn again */
+int64_t pages_turn(void); /* when to turn again */
+void pages_wake(bool idle);
 bool pages_wait(void); /* for a right, or until an envelope may pass */
 void pages_tick(void); /* asks again for what is waited for */
 uint64_t page_offset(const struct page *page);

@@ -18,7 +18,8 @@
 
 enum { WOKEN_AT_ONCE = 512 }; /* bytes, which are so many futexes of four */
 
-static const int64_t PATIENCE = 2000000; /* nanoseconds until sleepers are woken though there is other work */
+/* Nanoseconds: until sleepers are woken though there is other work; for which a page stays at most, and until it is looked at again. */
+static const int64_t PATIENCE = 2000000, LONGEST_STAY = 100000000, LOOK_AGAIN = 50000;
 
 static struct page *busy_pages;
 
@@ -117,8 +118,22 @@ static void ask_site(struct page *page) {
     if (page->asking == IDLE && page->wanted > page->mapped && !page->requested) ask_show(page);
 }
 
+/* How often a thread has run on a processor; 0 where that can't be known. */
+static uint64_t runs_of(pid_t thread) {
+    char name[32], text[80] = "";
+    uint64_t runs = 0;
+    snprintf(name, sizeof name, "/proc/%d/schedstat", thread);
+    int file = open(name, O_RDONLY | O_CLOEXEC);
+    if (file < 0) return 0;
+    if (read(file, text, sizeof text - 1) > 0) sscanf(text, "%*s %*s %lu", &runs);
+    close(file);
+    return runs;
+}
+
 static void open_for(struct page *page, const struct fault *fault) {
     if (page->mapped == WRITE) page->opened = true;
+    page->thread = fault->thread;
+    page->runs = runs_of(fault->thread);
     open_page(fault, page->mapped);
 }
 
@@ -245,16 +260,23 @@ static void let_in(struct page *page, const struct envelope *envelope) {
     if (brings || envelope->site == options.me) ask_again(page);
 }
 
+/* Until when a page stays: for a while, and longer where the thread that it was opened for hasn't run yet, or on busy machines two hosts would
+   take it from one another before either's instruction is repeated. */
+static int64_t stays_until(struct page *page) {
+    if (page->thread == 0 || now() < page->since + options.stay) return page->since + options.stay;
+    if (now() < page->since + LONGEST_STAY && page->runs > 0 && runs_of(page->thread) == page->runs) return now() + LOOK_AGAIN;
+    page->thread = 0;
+    return 0;
+}
+
 /* Takes the first of the held envelopes that may pass. False: it has to wait, until the time that is given. */
 static bool let_first_in(struct page *page, int64_t *due) {
     struct envelope envelope;
     parse_stamped(page->held[0], &envelope);
     enum verdict verdict = site_recovers() ? WAIT : verdict_on(&envelope, page->mapped, page->asking != IDLE);
     if (verdict == WAIT) return false;
-    if (verdict != TAKE && now() < page->since + options.stay) {
-        *due = page->since + options.stay;
-        return false;
-    }
+    if (verdict != TAKE && (*due = stays_until(page)) > now()) return false;
+    *due = INT64_MAX;
     if (verdict != TAKE) unmap_to(page, verdict == UNMAP ? NONE : READ);
     char *line = page->held[0];
     memmove(page->held, page->held + 1, sizeof *page->held * (size_t)--page->held_count);
@@ -277,15 +299,14 @@ void page_envelope(struct page *page, const struct envelope *envelope) {
     set_busy(page);
 }
 
-static bool turn(struct page *page, bool idle, int64_t *due) {
+static bool turn(struct page *page, int64_t *due) {
     while (page->held_count > 0 && let_first_in(page, due)) continue;
     ask_site(page);
-    if (page->sleepers > 0 && (idle || now() > page->left + PATIENCE)) wake_sleepers(page);
     if (page->sleepers > 0) *due = 0;
     return page->held_count > 0 || page->sleepers > 0 || page->wanted > page->mapped;
 }
 
-int64_t pages_turn(bool idle) {
+int64_t pages_turn(void) {
     int64_t due = INT64_MAX;
     struct page *pages = busy_pages;
     busy_pages = NULL;
@@ -293,12 +314,18 @@ int64_t pages_turn(bool idle) {
         int64_t page_due = INT64_MAX;
         pages = page->next_busy;
         page->busy = false;
-        size_t sleepers = page->sleepers;
-        if (turn(page, idle, &page_due)) set_busy(page);
-        idle = idle && page->sleepers == sleepers;
+        if (turn(page, &page_due)) set_busy(page);
         if (page_due < due) due = page_due;
     }
     return due;
+}
+
+void pages_wake(bool idle) {
+    for (struct page *page = busy_pages; page != NULL; page = page->next_busy) {
+        if (page->sleepers == 0 || (!idle && now() < page->left + PATIENCE)) continue;
+        wake_sleepers(page);
+        return;
+    }
 }
 
 bool pages_wait(void) {

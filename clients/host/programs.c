@@ -115,13 +115,13 @@ static void moved(struct program *program, uint64_t from, uint64_t to) {
     }
 }
 
-static void keep_fault(int program, uint64_t address, uint64_t flags) {
+static void keep_fault(int program, uint64_t address, uint64_t flags, pid_t thread) {
     if (pending_count == pending_room) {
         pending_room = 2 * pending_room + 64;
         pending = room(pending, pending_room * sizeof *pending);
     }
     enum right needed = flags & (UFFD_PAGEFAULT_FLAG_WRITE | UFFD_PAGEFAULT_FLAG_WP) ? WRITE : READ;
-    pending[pending_count++] = (struct fault){NULL, program, programs[program].generation, address & ~(uint64_t)(PAGE - 1), needed};
+    pending[pending_count++] = (struct fault){NULL, program, programs[program].generation, address & ~(uint64_t)(PAGE - 1), needed, thread};
 }
 
 /* Takes what changes a program's memory at once, and keeps its faults for later. */
@@ -129,8 +129,8 @@ void program_ready(int index) {
     struct program *program = &programs[index];
     struct uffd_msg message;
     while (program->used && read(program->faults, &message, sizeof message) == sizeof message) {
-        if (message.event == UFFD_EVENT_PAGEFAULT) keep_fault(index, message.arg.pagefault.address, message.arg.pagefault.flags);
-        else changes++;
+        if (message.event != UFFD_EVENT_PAGEFAULT) changes++;
+        else keep_fault(index, message.arg.pagefault.address, message.arg.pagefault.flags, (pid_t)message.arg.pagefault.feat.ptid);
         if (message.event == UFFD_EVENT_FORK) forked(program, (int)message.arg.fork.ufd);
         if (message.event == UFFD_EVENT_UNMAP) unmapped(program, message.arg.remove.start, message.arg.remove.end);
         if (message.event == UFFD_EVENT_REMAP) moved(program, message.arg.remap.from, message.arg.remap.to);

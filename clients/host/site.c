@@ -29,6 +29,7 @@ static struct store *stores; /* those from `answered` to `made` have no answer *
 static size_t answered, made, most_stores, said_again;
 static struct call *calls;
 static uint64_t calls_made, asks;
+static bool ticking; /* a tick has no answer yet */
 
 __attribute__((format(printf, 1, 2))) static void say(const char *format, ...) {
     char line[LINE];
@@ -151,8 +152,10 @@ bool site_waits(void) {
     return calls != NULL;
 }
 
+/* One tick at a time: a site that has none of the processor isn't given more to do. */
 void site_tick(void) {
-    say("t tick");
+    if (!ticking) say("t tick");
+    ticking = true;
     if (calls != NULL && calls->doubtful) say("q detach %d", NO_ATTACHMENT);
     say_call();
 }
@@ -201,6 +204,7 @@ static void hear(char *line) {
     case 's': store_answered(text); break;
     case 'c': call_answered(strtoull(tag + 2, NULL, 10), text); break;
     case 'q': probe_answered(text); break;
+    case 't': ticking = false; break;
     case 'r':
         if (strcmp(text, "stored") == 0) FAIL("the site stored where it should have asked for a right");
     }
@@ -240,6 +244,7 @@ static void start_again(void) {
     for (size_t index = answered; index < made; index++) say_store(&stores[index]);
     each_page(page_begins_again);
     if (calls != NULL) calls->doubtful = calls->said;
+    ticking = false;
     site_tick();
 }
 

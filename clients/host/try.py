@@ -247,19 +247,20 @@ def try_smooth(options):
 def kill_sites(cluster, ended, seed):
     draw = random.Random(seed)
     cluster.kills = 0
-    while not ended.wait(draw.uniform(0.3, 1.5)):
+    while not ended.wait(draw.uniform(0.3, 1.5) * cluster.options.between_kills):
         site = cluster.site_of(draw.randrange(cluster.hosts))
         if site is not None:
             os.kill(site, signal.SIGKILL)
             cluster.kills += 1
 
 
-def try_kills(options, seed=1, times=100):
+def try_kills(options, seed=1):
     """A carrier that loses, and sites that are killed and go on from their journals; then the audit."""
     cluster = Cluster(options, 3, rough=ROUGH, journals=True, seed=seed)
     ended = threading.Event()
     killer = threading.Thread(target=kill_sites, args=(cluster, ended, seed))
     killer.start()
+    times = options.times // 5
     try:
         yield try_counts(cluster, times)
         yield try_locks(cluster, times // 5)
@@ -379,7 +380,7 @@ def go_on(options):
     for seed in itertools.count(1):
         if time.monotonic() > until:
             return
-        for line in try_kills(options, seed, options.times):
+        for line in try_kills(options, seed):
             print(f'  {seed}: {line}', flush=True)
 
 
@@ -424,6 +425,7 @@ def main():
     parser.add_argument('--only', choices=sorted(TRIES))
     parser.add_argument('--times', type=int, default=500, help='rounds of a lock; of the others as many, or more')
     parser.add_argument('--seconds', type=int, default=0)
+    parser.add_argument('--between-kills', type=float, default=1, help='seconds; more for a program that was compiled with checks')
     parser.add_argument('--build', help='a folder for what is built, in place of a new one')
     parser.add_argument('--speed', action='store_true')
     parser.add_argument('--journals', action='store_true', help='with --speed: the sites have journals')
