@@ -1,9 +1,9 @@
-# Everything here needs the command `rt` of the Rattle toolchain, and nothing else but `machines`, `crashes` and `clients`, which need Python;
-# the first and the last need a C compiler too, and the first mosquitto.
+# Everything here needs the command `rt` of the Rattle toolchain, and nothing else but `machines`, `crashes`, `clients`, `programs` and
+# `documents`, which need Python; all but the second and the last need a C compiler too, and the first mosquitto.
 
 PROGRAM := crates/shmdbg
 
-.PHONY: replay try build pictures examples manners machines crashes clients bench refused test wrong-bodies
+.PHONY: replay try build pictures examples manners documents machines crashes clients programs bench refused test wrong-bodies
 
 # Replays an example without proving anything: a minute or two on a fresh machine, most of it compiling.
 replay:
@@ -72,6 +72,12 @@ crashes:
 # The libraries of clients/: each call, over a stream that loses. Needs the program that `make build` leaves, Python 3 and a C compiler.
 clients:
 	@clients/try.py --program $(PROGRAM)/out/shmdbg
+
+# Programs of one machine's segments, unchanged, over two and three hosts on this machine, with carriers that lose, sites that are killed, and
+# daemons that leave out a part of their rule. Needs the program that `make build` leaves, root, Linux 6.4 or later, Python 3, a C compiler and
+# perl; what needs mosquitto, mosquitto-clients or stress-ng is left out where that isn't there. Some minutes; no part of the gate.
+programs:
+	@clients/host/try.py --program $(PROGRAM)/out/shmdbg
 
 # Programs that the types alone must refuse, each with the words of its refusal. Within a minute; nothing is proved.
 refused:
