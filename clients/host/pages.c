@@ -19,7 +19,7 @@
 enum { WOKEN_AT_ONCE = 512 }; /* bytes, which are so many futexes of four */
 
 /* Nanoseconds: until sleepers are woken though there is other work; for which a page stays at most, and until it is looked at again. */
-static const int64_t PATIENCE = 2000000, LONGEST_STAY = 100000000, LOOK_AGAIN = 50000;
+static const int64_t PATIENCE = 2000000, LONGEST_STAY = 20000000, LOOK_AGAIN = 50000;
 
 static struct page *busy_pages;
 
@@ -132,8 +132,6 @@ static uint64_t runs_of(pid_t thread) {
 
 static void open_for(struct page *page, const struct fault *fault) {
     if (page->mapped == WRITE) page->opened = true;
-    page->thread = fault->thread;
-    page->runs = runs_of(fault->thread);
     open_page(fault, page->mapped);
 }
 
@@ -151,6 +149,8 @@ static void open_for_all(struct page *page, enum right right) {
             continue;
         }
         *place = fault->next;
+        page->thread = fault->thread;
+        page->runs = runs_of(fault->thread);
         open_for(page, fault);
         free(fault);
     }
