@@ -237,7 +237,7 @@ def try_smooth(options):
             if has('perl'):
                 yield try_perl(cluster)
             if has('stress-ng'):
-                cluster.told(0, 'stress-ng', '--shm-sysv', 1, '--shm-sysv-ops', 2, '--shm-sysv-bytes', 65536, '--shm-sysv-segs', 4, '--verify', '-q')
+                cluster.told(0, 'stress-ng', '--shm-sysv', 1, '--shm-sysv-ops', 2, '--shm-sysv-bytes', '1m', '--shm-sysv-segs', 4, '--verify', '-q')
                 yield 'stress-ng'
         finally:
             complaints = cluster.stop()
