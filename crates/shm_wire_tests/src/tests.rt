@@ -93,7 +93,8 @@ fn messages_are_printed_as_they_were_read(rt: HostRuntime) -> Result<(), Fail> {
 fn asks_are_printed_as_they_were_read(rt: HostRuntime) -> Result<(), Fail> {
     let alloc = rt.alloc();
     for line in ASKS {
-        let Some(Line::Ask(ask)) = parse_line(alloc, line.as_bytes())? else {
+        let read = parse_line(alloc, line.as_bytes())?;
+        let Some(Line::Ask(ask)) = &read else {
             return Err(Fail::new("an ask's line"));
         };
         let printed = format!(in alloc; "{ask}")?;
