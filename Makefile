@@ -21,10 +21,8 @@ build:
 	@echo "The proved program is $(PROGRAM)/out/shmdbg. It replays a script from standard input:"
 	@echo "    $(PROGRAM)/out/shmdbg replay < examples/two-sites.shm"
 
-# Draws a script: with the page that it shows, where it shows one alone.
-DRAW = pages=$$(sed -n 's/^show //p' "$$script" | sort -u); \
-	case $$pages in '' | *' '*' '*) set -- ;; *) set -- --page $$pages ;; esac; \
-	$(PROGRAM)/out/shmdbg draw "$$@" < "$$script"
+# Draws a script.
+DRAW = $(PROGRAM)/out/shmdbg draw < "$$script"
 
 # Draws each script of examples/ anew. Needs the program that `make build` leaves.
 pictures:

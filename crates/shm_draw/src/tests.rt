@@ -1,4 +1,4 @@
-//! A small run against its picture as a second implementation of the definitions wrote it.
+//! A small run against its picture as the definitions give it, worked out by hand; and which pages are drawn.
 
 use crate::draw;
 use crate::style::STYLE;
@@ -12,54 +12,61 @@ use std::test::Fail;
 const SCRIPT: &[u8] =
     b"sites 2 preset 1\nload 1 0 0\nrepeat 0\ndeliver 1\nlose 2\ndeliver 2\ntick 0\nrestart 1\nload 1 0 0\n";
 
-const HEAD: &str = "<svg xmlns='http://www.w3.org/2000/svg' width='830' height='364'>\n";
+const HEAD: &str = "<svg xmlns='http://www.w3.org/2000/svg' width='680' height='352'>\n";
 
 const BODY: &str = "\
-<text class='s' x='270' y='70'>site 0</text>\n\
-<text class='s' x='380' y='70'>site 1</text>\n\
+<g transform='translate(0 0)'>\n\
 <use href='#OwnWrite' x='270' y='78'/>\n\
 <use href='#Untouched' x='380' y='78'/>\n\
 <use href='#OwnWrite' x='270' y='100'/>\n\
 <use href='#Untouched' x='380' y='100'/>\n\
-<text class='l' x='8' y='100' dy='4'>2 load 1 0 0</text>\n\
-<use href='#Request' x='380' y='100'/><text class='t' x='380' y='100' dy='4' dx='10'> fault</text>\n\
+<use href='#Request' x='380' y='100'/>\n\
 <use href='#OwnWrite' x='270' y='122'/>\n\
 <use href='#Untouched' x='380' y='122'/>\n\
-<text class='l' x='8' y='122' dy='4'>3 repeat 0</text>\n\
 <path class='again' d='M380 100L270 122'/>\n\
-<text class='m' x='270' y='122' dy='4' dx='-12' text-anchor='end'>m0 Ask again</text><text class='t' x='270' y='122' dy='4' dx='24'></text>\n\
 <use href='#OwnRead' x='270' y='144'/>\n\
 <use href='#Untouched' x='380' y='144'/>\n\
-<text class='l' x='8' y='144' dy='4'>4 deliver 1</text>\n\
-<path class='over' d='M270 122C320 122 320 144 270 144'/>\n\
-<text class='m' x='270' y='144' dy='4' dx='42'>m1 Hand</text>\n\
+<path class='over' d='M270 122C305 122 305 144 270 144'/>\n\
 <use href='#OwnRead' x='270' y='166'/>\n\
 <use href='#Untouched' x='380' y='166'/>\n\
-<text class='l' x='8' y='166' dy='4'>5 lose 2</text>\n\
 <path class='lost' d='M270 144L325 166'/>\n\
-<text class='m' x='325' y='166' dy='4' dx='12'>m2 Page lost</text>\n\
 <use href='#OwnRead' x='270' y='188'/>\n\
 <use href='#Untouched' x='380' y='188'/>\n\
-<text class='l' x='8' y='188' dy='4'>6 deliver 2</text>\n\
-<text class='t' x='258' y='188' dy='4' text-anchor='end'> refused 15</text>\n\
 <use href='#OwnRead' x='270' y='210'/>\n\
 <use href='#Untouched' x='380' y='210'/>\n\
-<text class='l' x='8' y='210' dy='4'>7 tick 0</text>\n\
-<use href='#Tick' x='270' y='210'/><text class='t' x='270' y='210' dy='4' dx='10'></text>\n\
+<use href='#Tick' x='270' y='210'/>\n\
 <use href='#OwnRead' x='270' y='232'/>\n\
 <use href='#Untouched' x='380' y='232'/>\n\
-<text class='l' x='8' y='232' dy='4'>8 restart 1</text>\n\
-<use href='#Restart' x='380' y='232'/><text class='t' x='380' y='232' dy='4' dx='10'></text>\n\
+<use href='#Restart' x='380' y='232'/>\n\
 <use href='#OwnRead' x='270' y='254'/>\n\
 <use href='#Untouched' x='380' y='254'/>\n\
-<text class='l' x='8' y='254' dy='4'>9 load 1 0 0</text>\n\
-<use href='#Request' x='380' y='254'/><text class='t' x='380' y='254' dy='4' dx='10'> fault</text>\n\
+<use href='#Request' x='380' y='254'/>\n\
 <path class='fly' d='M380 100L270 276'/>\n\
-<text class='m' x='270' y='276' dy='4' dx='-12' text-anchor='end'>m0 Ask</text><text class='t' x='270' y='276' dy='4' dx='24'></text>\n\
-<path class='fly' d='M270 210C320 210 320 298 270 298'/>\n\
-<text class='m' x='270' y='298' dy='4' dx='42'>m3 Hand</text>\n\
+<path class='fly' d='M270 210C338 210 338 298 270 298'/>\n\
 <path class='fly' d='M380 254L270 320'/>\n\
-<text class='m' x='270' y='320' dy='4' dx='-12' text-anchor='end'>m4 Ask</text><text class='t' x='270' y='320' dy='4' dx='24'></text>\n\
+<text class='h' x='8' y='70'>page 0 of segment 0</text>\n\
+<text class='s' x='270' y='70'>site 0</text>\n\
+<text class='s' x='380' y='70'>site 1</text>\n\
+<text class='l' x='8' y='100' dy='4'>2 load 1 0 0</text>\n\
+<text class='t' x='380' y='100' dy='4' dx='10'> fault</text>\n\
+<text class='l' x='8' y='122' dy='4'>3 repeat 0</text>\n\
+<text class='m' x='270' y='122' dy='4' dx='-12' text-anchor='end'>m0 Ask again</text><text class='t' x='294' y='122' dy='4'></text>\n\
+<text class='l' x='8' y='144' dy='4'>4 deliver 1</text>\n\
+<text class='m' x='270' y='144' dy='4' dx='-12' text-anchor='end'>m1 Hand</text><text class='t' x='305' y='144' dy='4'></text>\n\
+<text class='l' x='8' y='166' dy='4'>5 lose 2</text>\n\
+<text class='m' x='325' y='166' dy='4' dx='12'>m2 Page lost</text>\n\
+<text class='l' x='8' y='188' dy='4'>6 deliver 2</text>\n\
+<text class='t' x='258' y='188' dy='4' text-anchor='end'> refused 15</text>\n\
+<text class='l' x='8' y='210' dy='4'>7 tick 0</text>\n\
+<text class='t' x='270' y='210' dy='4' dx='10'></text>\n\
+<text class='l' x='8' y='232' dy='4'>8 restart 1</text>\n\
+<text class='t' x='380' y='232' dy='4' dx='10'></text>\n\
+<text class='l' x='8' y='254' dy='4'>9 load 1 0 0</text>\n\
+<text class='t' x='380' y='254' dy='4' dx='10'> fault</text>\n\
+<text class='m' x='270' y='276' dy='4' dx='-12' text-anchor='end'>m0 Ask</text><text class='t' x='294' y='276' dy='4'></text>\n\
+<text class='m' x='270' y='298' dy='4' dx='-12' text-anchor='end'>m3 Hand</text><text class='t' x='338' y='298' dy='4'></text>\n\
+<text class='m' x='270' y='320' dy='4' dx='-12' text-anchor='end'>m4 Ask</text><text class='t' x='294' y='320' dy='4'></text>\n\
+</g>\n\
 </svg>\n";
 
 /// How a script is drawn, and what is written.
@@ -103,9 +110,9 @@ fn what_was_taken_back_is_not_drawn(rt: HostRuntime) -> Result<(), Fail> {
     Ok(())
 }
 
-/// Of another page nothing is drawn but the lines and the marks at the sites.
+/// On the picture of another page there is no ring, no arrow and no answer of this one's accesses and envelopes.
 #[test]
-fn another_page_has_no_arrows(rt: HostRuntime) {
+fn another_page_is_only_named(rt: HostRuntime) {
     let page = PageId {
         seg: SegId(0),
         index: 1,
@@ -113,25 +120,48 @@ fn another_page_has_no_arrows(rt: HostRuntime) {
     let (result, text) = draw_script(rt.alloc(), SCRIPT, Some(page));
     assert_eq!(rt; result, Ok(()));
     let text = text.as_slice();
-    for absent in ["<text class='m'", "M380", "M270"] {
-        assert!(rt; !has(text, absent.as_bytes()), "{absent}");
+    for absent in ["<text class='m'", "M380", "M270", " fault", "page 0 of"] {
+        assert!(rt; at(text, absent.as_bytes()).is_none(), "{absent}");
     }
     for present in [
-        "9 load 1 0 0</text>",
+        "page 1 of segment 0</text>",
+        "<text class='e' x='8' y='254' dy='4'>9 load 1 0 0</text>",
+        "<text class='e' x='258' y='254' dy='4' text-anchor='end'>page 0 0</text>",
         "refused 15</text>",
         "<use href='#Restart' x='380' y='232'/>",
     ] {
-        assert!(rt; has(text, present.as_bytes()), "{present}");
+        assert!(rt; at(text, present.as_bytes()).is_some(), "{present}");
     }
 }
 
-fn has(text: &[u8], part: &[u8]) -> bool {
-    for at in 0..text.len() {
-        if text[at..].starts_with(part) {
-            return true;
-        }
+/// Each page that is touched has its picture, in the order in which they are first touched.
+#[test]
+fn pages_stand_one_below_the_other(rt: HostRuntime) -> Result<(), Fail> {
+    let script: &[u8] =
+        b"sites 2 preset 3\nload 0 0 8192\nload 1 0 4096\nload 0 0 8192\nload 1 0 12288\n";
+    let (result, text) = draw_script(rt.alloc(), script, None);
+    assert_eq!(rt; result, Ok(()));
+    let text = text.as_slice();
+    let mut from = 0usize;
+    for part in [
+        "height='396'>",
+        "<g transform='translate(0 0)'>",
+        "page 2 of segment 0</text>",
+        "<g transform='translate(0 198)'>",
+        "page 1 of segment 0</text>",
+    ] {
+        let Some(found) = at(&text[from..], part.as_bytes()) else {
+            return Err(Fail::new(part));
+        };
+        from = from.saturating_add(found);
     }
-    false
+    assert!(rt; at(&text[from..], b"<g ").is_none());
+    Ok(())
+}
+
+/// Where the part first stands in the text.
+fn at(text: &[u8], part: &[u8]) -> Option<usize> {
+    (0..text.len()).find(|at| text[*at..].starts_with(part))
 }
 
 /// Of a script that has a fault nothing is written.
