@@ -1,12 +1,14 @@
 -- What the picture of a page says of the run: each row is one event's; each mark, each arrow and each colour is of this page, or of no one page;
 -- each arrow is one hand-over or loss of an envelope that its site sent earlier, and none is missing.
-use Rattle.std.specs.Prelude.{◌≡◌, ℕ, ◌+◌, ◌≤◌, ◌<◌, true, false, List, [], ◌∷◌, ◌++◌, length, Option, Some, Contains}
+use Rattle.std.specs.Prelude.{◌≡◌, ℕ, ◌+◌, ◌≤◌, ◌<◌, true, false, List, [], ◌∷◌, ◌++◌, length, Option, Some, None, slice_get, Contains}
 use Rattle.shm_place.specs.declared.page.PageId.{PageId}
 use Rattle.shm_place.specs.Page.{same_page}
 use Rattle.shm_model.specs.declared.event.Event.{Event}
 use Rattle.shm_model.specs.declared.event.Event.TheVariants.{Deliver, Repeat, Lose}
 use Rattle.shm_model.specs.Message.{Envelope}
-use Rattle.shm_model.specs.World.{Opening, live, next, opened, run}
+use Rattle.shm_model.specs.Site.{Site}
+use Rattle.shm_model.specs.World.{Opening, World, live, next, opened, run}
+use Rattle.shm_world.specs.Showing.{shown}
 use Rattle.shm_draw.specs.declared.mark.End.{End}
 use Rattle.shm_draw.specs.declared.mark.End.TheVariants.{HandedOver, Repeated, Lost, OnItsWay}
 use Rattle.shm_draw.specs.declared.mark.Mark.{Mark}
@@ -72,6 +74,15 @@ BelongsTo page of (Elsewhere other) = (of ≡ Some other) × (same_page page oth
 -- each ring, clock, jagged line and arrow is of an event about the page, or about none; any other event only names the page that it is about
 abbrev pub MarksAreOfThePage : PageId → Opening → Type 0
 MarksAreOfThePage page o = (events : List Event) (event : Event) → BelongsTo page (about (run o events).world event) (mark_after page o events event)
+
+-- no site has to give up a copy for a frame
+abbrev pub HaveNoFrames : World → Type 0
+HaveNoFrames w = (number : ℕ) (site : Site) → slice_get w.sites number ≡ Some site → site.frames ≡ None
+
+-- where that is so, an event about another page leaves what each site shows of this one
+abbrev pub ColoursAreOfThePage : PageId → Type 0
+ColoursAreOfThePage page = (w : World) (event : Event) (other : PageId) (site : ℕ) → HaveNoFrames w → about w event ≡ Some other → same_page page other ≡ false
+    → shown (next w event).world site page ≡ shown w site page
 
 -- the texts of these rows, one for each event, in their order; each shows the run as far as there
 abbrev pub InOrder : (Scene → Event → List ℕ) → Opening → List Event → List Event → Event → Type 0

@@ -3,7 +3,7 @@ ghost use Rattle.std.specs.Prelude.{List};
 ghost use Rattle.shm_place.specs.declared.page.PageId.{PageId};
 ghost use Rattle.shm_model.specs.World.{Opening};
 ghost use Rattle.shm_model.specs.declared.event.Event.{Event};
-ghost use Rattle.shm_draw.specs.Arrows.{ArrowsAreHandOvers, FlyingAreLive, HandOversHaveArrows, MarksAreOfThePage, RowsInOrder};
+ghost use Rattle.shm_draw.specs.Arrows.{ArrowsAreHandOvers, ColoursAreOfThePage, FlyingAreLive, HandOversHaveArrows, MarksAreOfThePage, RowsInOrder};
 
 /// Each event has one row, in their order. Each arrow in a row is one hand-over or loss, by that row's event, of an envelope of the page, or
 /// of no one page, that its site sent in the row where the arrow begins, above this one; and each hand-over or loss of these has one arrow.
@@ -15,7 +15,9 @@ pub fn arrows_are_hand_overs()
     ensures flying { (page : PageId) (o : Opening) → FlyingAreLive page o }
 {}
 
-/// On the picture of a page each mark is of an event about this page, or about none. Of any other event there is only the name of its page.
+/// On the picture of a page each mark is of an event about this page, or about none. Of any other event there is only the name of its page;
+/// and it changes no colour, but where a site gives up a copy for a frame.
 pub fn marks_are_of_the_page()
-    ensures { (page : PageId) (o : Opening) → MarksAreOfThePage page o }
+    ensures marks { (page : PageId) (o : Opening) → MarksAreOfThePage page o }
+    ensures colours { (page : PageId) → ColoursAreOfThePage page }
 {}

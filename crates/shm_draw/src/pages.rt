@@ -1,5 +1,5 @@
 //! Which pages are drawn.
-ghost use Rattle.std.specs.Prelude.{◌≡◌, [], ◌∷◌, IfOk, OnOk};
+ghost use Rattle.std.specs.Prelude.{◌≡◌, [], ◌∷◌, Some, IfOk, OnOk};
 ghost use Rattle.std.specs.List.{list_any};
 ghost use Rattle.shm_place.specs.Page.{same_page};
 ghost use Rattle.shm_model.specs.World as model;
@@ -72,20 +72,29 @@ fn touch<A: Allocator + Copy>(
 ) -> Result<(), AllocError>
     ensures { OnOk result (pages.new.items ≡ Picture.with_page about pages.old.items) }
 {
-    let Some(page) = about else {
-        return Ok(());
-    };
+    match about {
+        Some(page) => touch_page(pages, &page),
+        None => Ok(()),
+    }
+}
+
+fn touch_page<A: Allocator + Copy>(
+    pages: &mut Vec<PageId, A>,
+    page: &PageId,
+) -> Result<(), AllocError>
+    ensures { OnOk result (pages.new.items ≡ Picture.with_page (Some page.now) pages.old.items) }
+{
     if has(pages.as_slice(), page) {
         return Ok(());
     }
-    pages.push(page)?;
+    pages.push(*page)?;
     Ok(())
 }
 
-fn has(pages: &[PageId], page: PageId) -> bool
-    ensures { result ≡ list_any (same_page page) pages.now }
+fn has(pages: &[PageId], page: &PageId) -> bool
+    ensures { result ≡ list_any (same_page page.now) pages.now }
 {
-    pages.iter().any(|other| page == *other)
+    pages.iter().any(|other| *page == *other)
 }
 
 /// Where there is no page, notes the first of segment 0.

@@ -161,7 +161,12 @@ fn pages_stand_one_below_the_other(rt: HostRuntime) -> Result<(), Fail> {
 
 /// Where the part first stands in the text.
 fn at(text: &[u8], part: &[u8]) -> Option<usize> {
-    (0..text.len()).find(|at| text[*at..].starts_with(part))
+    for at in 0..text.len() {
+        if text[at..].starts_with(part) {
+            return Some(at);
+        }
+    }
+    None
 }
 
 /// Of a script that has a fault nothing is written.

@@ -5,4 +5,4 @@ use Rattle.shm_draw.proofs.pages.touch_all.Given as goal
 
 abbrev pub invariant-events : goal.invariant-events
 invariant-events g l =
-    (w : model.World) → StandsFor l.initial.world w → Touching w l.events l.initial.pages.items l.pages.items l.world l.index
+    (w : model.World) → StandsFor l.initial.world w → Touching w l.events l.initial.pages.items l.pages.items l.world l.event-index

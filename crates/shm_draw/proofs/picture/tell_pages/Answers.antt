@@ -11,14 +11,14 @@ pages-init g c = λ w stands. paging_none c.args.pages.now w c.args.events.now (
 pub pages-preserved : goal.pages-preserved
 pages-preserved g c = λ w stands.
     let pages = c.args.pages.now in
-    let page : PageId = c.index-pages-index.result in
-    let dropped : drop c.pages.index pages ≡ page ∷ drop (c.pages.index + 1) pages =
-    drop_more pages c.pages.index page (omega (arith, c.pages-test.true)) ∙ ap (λ x. x ∷ drop (c.pages.index + 1) pages) (sym c.index-pages-index.is) in
+    let page : PageId = c.page-item.result in
+    let dropped : drop c.pages.page-index pages ≡ page ∷ drop (c.pages.page-index + 1) pages =
+    drop_more pages c.pages.page-index page (omega (arith, c.pages-test.true)) ∙ ap (λ x. x ∷ drop (c.pages.page-index + 1) pages) (sym c.page-item.is) in
     paging_more pages w c.args.events.now (string_bytes c.args.out.now) (string_bytes c.pages.out) (string_bytes c.tell_page.new.out)
-    c.pages.index c.pages.top c.in_ok-depth.depth c.in_ok-next_top.next page
+    c.pages.page-index c.pages.top c.in_ok-depth.depth c.in_ok-next_top.next page
     (c.pages.invariant w stands) dropped (c.in_ok-depth.ensures w (c.in_ok-copy.ensures w stands)) c.in_ok-next_top.ensures
 
 pub returns : goal.returns
 returns g c = λ w stands.
-    paging_all c.args.pages.now w c.args.events.now (string_bytes c.args.out.now) (string_bytes c.pages.out) c.pages.index c.pages.top
+    paging_all c.args.pages.now w c.args.events.now (string_bytes c.args.out.now) (string_bytes c.pages.out) c.pages.page-index c.pages.top
     (drop_of_length-le c.args.pages.now (omega (arith, c.pages-test.false))) (c.pages.invariant w stands)

@@ -6,4 +6,4 @@ use Rattle.shm_draw.proofs.picture.tell_pages.Given as goal
 
 abbrev pub invariant-pages : goal.invariant-pages
 invariant-pages g l =
-    (w : model.World) → StandsFor l.world w → Paging l.pages w l.events (string_bytes l.initial.out) (string_bytes l.out) l.index l.top
+    (w : model.World) → StandsFor l.world w → Paging l.pages w l.events (string_bytes l.initial.out) (string_bytes l.out) l.page-index l.top
