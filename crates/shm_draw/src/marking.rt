@@ -67,12 +67,7 @@ fn at_site<A: Allocator + Copy>(world: &World<A>, site: SiteId, symbol: Symbol) 
 }
 
 /// The arrow of the envelope of this number, if it is on its way.
-fn passed<A: Allocator + Copy>(
-    world: &World<A>,
-    origins: &[u64],
-    number: u64,
-    end: End,
-) -> Mark
+fn passed<A: Allocator + Copy>(world: &World<A>, origins: &[u64], number: u64, end: End) -> Mark
     ensures { (w : model.World) → StandsFor world.now w → result ≡ Picture.passed origins.now number (model.live w number) end }
 {
     match world.envelope(number) {

@@ -18,7 +18,10 @@ pub(crate) fn about<A: Allocator + Copy>(world: &World<A>, event: &Event) -> Opt
     match event {
         Event::Load { site, at, offset } => about_access(world, *site, *at, *offset),
         Event::Store {
-            site, at, offset, ..
+            site,
+            at,
+            offset,
+            ..
         } => about_access(world, *site, *at, *offset),
         Event::Begin { .. } | Event::Tick { .. } | Event::Restart { .. } => None,
         Event::Deliver(number) => about_envelope(world, *number),

@@ -38,7 +38,14 @@ pub(crate) fn tell_page<A: Allocator + Copy>(
     tell_cells(&mut shapes, &world, *page, 0)?;
     tell_heading(&mut labels, *page)?;
     tell_names(&mut labels, sites)?;
-    tell_events(&mut shapes, &mut labels, &mut world, &mut origins, events, page)?;
+    tell_events(
+        &mut shapes,
+        &mut labels,
+        &mut world,
+        &mut origins,
+        events,
+        page,
+    )?;
     let ways = on_their_way(alloc, &world, origins.as_slice(), page)?;
     let flying = ways.as_slice();
     draw_on_their_way(&mut shapes, last, flying)?;
@@ -68,10 +75,18 @@ fn tell_events<A: Allocator + Copy>(
     requires { origins.old.items ≡ [] }
     ensures { (w : model.World) → StandsFor world.old w → OnOk result
         (DrewEvents page.now (Picture.first_scene w) events.now (sheet (string_bytes shapes.old) (string_bytes labels.old))
-            (sheet (string_bytes shapes.new) (string_bytes labels.new)) world.new origins.new.items) }
+        (sheet (string_bytes shapes.new) (string_bytes labels.new)) world.new origins.new.items) }
 {
     'events: for (index, event) in events.iter().enumerate() {
-        tell_event(shapes, labels, world, origins, page, index as u64 + 1, *event)?;
+        tell_event(
+            shapes,
+            labels,
+            world,
+            origins,
+            page,
+            index as u64 + 1,
+            *event,
+        )?;
     }
     Ok(())
 }
@@ -88,7 +103,7 @@ fn tell_event<A: Allocator + Copy>(
 ) -> Result<(), AllocError>
     ensures { (w : model.World) → StandsFor world.old w → OnOk result
         (DrewEvent page.now (scene w number origins.old.items) event (sheet (string_bytes shapes.old) (string_bytes labels.old))
-            (sheet (string_bytes shapes.new) (string_bytes labels.new)) world.new origins.new.items) }
+        (sheet (string_bytes shapes.new) (string_bytes labels.new)) world.new origins.new.items) }
 {
     let mark = mark_of(world, origins.as_slice(), page, &event);
     let answer = world.step(event)?;
