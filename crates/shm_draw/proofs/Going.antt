@@ -9,9 +9,10 @@ use Rattle.shm_world.specs.Steps.{Went}
 use Rattle.shm_world.specs.World.{StandsFor}
 use Rattle.shm_world.specs.declared.world.World.{World}
 use Rattle.shm_draw.specs.Drawing.{DrewEvent, DrewEvents, DrewPage, DrewPages, Sheet, sheet}
-use Rattle.shm_draw.specs.Picture.{Scene, first_scene, scene, scene_after, last_scene, mark}
+use Rattle.shm_draw.specs.Picture.{Scene, first_scene, scene, scene_after, last_scene, mark, pages_drawn}
 use Rattle.shm_draw.specs.Svg
 use Rattle.shm_draw.specs.Svg.{bottom_of, cells_text, depth, flying_label, flying_shape, flying_text, group_text, heading_text, line_text, mark_label, mark_shape, names_text, page_text, pages_text, row_labels, row_shapes, rows_text, ways_after}
+use Rattle.shm_draw.specs.declared.style.TheConstants.{STYLE}
 use Rattle.shm_draw.specs.declared.mark.Way.{Way}
 use Rattle.shm_draw.specs.declared.mark.Mark.{Mark}
 
@@ -166,6 +167,21 @@ paging_all pages w events old new index top none had = record {
   text = sym (append-nil new) ∙ ap (λ xs. new ++ pages_text xs w events top) (sym none) ∙ had.text;
   deep = ap (λ xs. bottom_of xs w events top) (sym none) ∙ had.bottom;
 }
+
+-- the whole from the texts of its parts
+pub picture_told : (asked : Option PageId) (w : model.World) (events : List Event) (count room bottom : ℕ) (pages : List PageId) (b0 b1 t0 t1 t2 t3 t4 : List ℕ)
+    → count ≡ w.count → room ≡ Svg.room_of events → pages ≡ pages_drawn asked w events → b0 ≡ [] → DrewPages pages w events b0 b1 bottom
+    → t0 ≡ [] → t1 ≡ t0 ++ Svg.head_text count room bottom → t2 ≡ t1 ++ STYLE.now → t3 ≡ t2 ++ b1 → t4 ≡ t3 ++ codes "</svg>\n" → t4 ≡ Svg.svg_text asked w events
+picture_told asked w events count room bottom pages b0 b1 t0 t1 t2 t3 t4 sites wide are none drew z p q r s =
+    let foot = codes "</svg>\n" in
+    let body : b1 ≡ pages_text (pages_drawn asked w events) w events 0 =
+    drew.text ∙ ap (λ b. b ++ pages_text pages w events 0) none ∙ ap (λ ps. pages_text ps w events 0) are in
+    let deep : bottom ≡ bottom_of (pages_drawn asked w events) w events 0 = drew.deep ∙ ap (λ ps. bottom_of ps w events 0) are in
+    four_told t0 t1 t2 t3 t4 (Svg.head_text count room bottom) STYLE.now b1 foot z p q r s
+    ∙ ap (λ n. Svg.head_text n room bottom ++ (STYLE.now ++ (b1 ++ foot))) sites
+    ∙ ap (λ n. Svg.head_text w.count n bottom ++ (STYLE.now ++ (b1 ++ foot))) wide
+    ∙ ap (λ n. Svg.head_text w.count (Svg.room_of events) n ++ (STYLE.now ++ (b1 ++ foot))) deep
+    ∙ ap (λ t. Svg.head_text w.count (Svg.room_of events) (bottom_of (pages_drawn asked w events) w events 0) ++ (STYLE.now ++ (t ++ foot))) body
 
 -- ---- one event
 

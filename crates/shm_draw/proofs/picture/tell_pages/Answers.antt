@@ -15,8 +15,8 @@ pages-preserved g c = λ w stands.
     let dropped : drop c.pages.page-index pages ≡ page ∷ drop (c.pages.page-index + 1) pages =
     drop_more pages c.pages.page-index page (omega (arith, c.pages-test.true)) ∙ ap (λ x. x ∷ drop (c.pages.page-index + 1) pages) (sym c.page-item.is) in
     paging_more pages w c.args.events.now (string_bytes c.args.out.now) (string_bytes c.pages.out) (string_bytes c.tell_page.new.out)
-    c.pages.page-index c.pages.top c.in_ok-depth.depth c.in_ok-next_top.next page
-    (c.pages.invariant w stands) dropped (c.in_ok-depth.ensures w (c.in_ok-copy.ensures w stands)) c.in_ok-next_top.ensures
+    c.pages.page-index c.pages.top c.in_ok-depth.depth c.in_ok-top.top page
+    (c.pages.invariant w stands) dropped (c.in_ok-depth.ensures w (c.in_ok-copy.ensures w stands)) c.in_ok-top.ensures
 
 pub returns : goal.returns
 returns g c = λ w stands.
