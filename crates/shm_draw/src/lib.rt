@@ -18,8 +18,6 @@ mod room;
 mod row;
 mod script;
 mod style;
-#[cfg(test)]
-mod tests;
 mod ways;
 mod word;
 

