@@ -165,7 +165,7 @@ def see_broken(cluster):
         for one in tries:
             one()
     except AssertionError as seen:
-        return (cluster.complaints() or str(seen)).splitlines()[0].replace(cluster.options.build, '..')[:100]
+        return str(seen).splitlines()[0].replace(cluster.options.build, '..')[:100]
     finally:
         patience[0] = before
     return None
