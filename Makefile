@@ -74,8 +74,9 @@ clients:
 	@clients/try.py --program $(PROGRAM)/out/shmdbg
 
 # Programs of one machine's segments, unchanged, over two and three hosts on this machine, with carriers that lose, sites that are killed, and
-# daemons that leave out a part of their rule. Needs the program that `make build` leaves, root, Linux 6.4 or later, Python 3, a C compiler and
-# perl; what needs mosquitto, mosquitto-clients or stress-ng is left out where that isn't there. Some minutes; no part of the gate.
+# daemons that leave out a part of their rule. Needs the program that `make build` leaves, root, Linux 6.4 or later, Python 3 and a C compiler
+# with its sanitizers; what needs the Debian packages mosquitto, mosquitto-clients, perl, postgresql, stress-ng or valgrind is left out where they
+# aren't there. Some minutes; no part of the gate.
 programs:
 	@clients/host/try.py --program $(PROGRAM)/out/shmdbg
 

@@ -147,7 +147,7 @@ def try_kills(options, seed=1):
 def try_broken(options):
     """Each broken rule is seen: something counts wrong, has an outcome that must not be, or goes on and on."""
     for rule, says in BROKEN.items():
-        cluster = Cluster(options, 3, words=('--break', str(rule)))
+        cluster = Cluster(options, 3, rough=('0', '20', '20'), words=('--break', str(rule)))
         try:
             seen = see_broken(cluster)
         finally:
@@ -157,13 +157,12 @@ def try_broken(options):
 
 
 def see_broken(cluster):
-    """What shows it: first where each answer is known, then where a program may go on and on."""
-    tries = [lambda: try_words(cluster, 200), lambda: try_counts(cluster, 300), lambda: try_lock(cluster, 'peterson', 200)]
-    tries += [lambda: try_lock(cluster, 'mutex', 200), lambda: try_litmus(cluster, 'sb', 200), lambda: try_ring(cluster, 2000)]
+    """What shows it: programs whose every answer is known. What needs two to meet in a moment needs some turns."""
     before, patience[0] = patience[0], 20
     try:
-        for one in tries:
-            one()
+        for turn in range(30):
+            try_words(cluster, 200, turn)
+            try_counts(cluster, 300)
     except AssertionError as seen:
         return str(seen).splitlines()[0].replace(cluster.options.build, '..')[:100]
     finally:
@@ -283,13 +282,27 @@ print(sum(words[number] == number for number in range(2000)))
 '''
 
 
+def kill_early(cluster, times):
+    """Programs that are killed while they ask, attach and fork. Afterwards nobody has their segment attached."""
+    draw, key = random.Random(1), next(keys)
+    for _ in range(times):
+        program = cluster.on(draw.randrange(cluster.hosts), './count', key, 2, 20)
+        time.sleep(draw.uniform(0, 0.03))
+        program.kill()
+        program.wait()
+    time.sleep(3)
+    lines = [line.split() for line in cluster.told(0, 'ipcs', '-m').splitlines() if line.startswith(f'0x{key:08x}')]
+    expect([line[5] for line in lines] == ['0'], f'nobody has attached it: {lines}')
+    return f'{times} programs killed early'
+
+
 def try_many(options):
     """2,000 children of one program at a time, each of which stores to a page."""
     cluster = Cluster(options, 2)
     try:
         told = cluster.told(1, sys.executable, '-c', BOMB, next(keys))
         expect(told == '2000', f'2,000 children stored, and {told} words are right')
-        yield f'2,000 children at a time; {try_counts(cluster, 50)}'
+        yield f'2,000 children at a time; {kill_early(cluster, 100)}; {try_counts(cluster, 50)}'
     finally:
         complaints = cluster.stop()
     expect(complaints == '', complaints)
@@ -351,8 +364,10 @@ def soak(options):
     until, times = time.monotonic() + options.seconds, options.times // 10
     try:
         for turn in itertools.count(1):
+            first = next(keys)
             told = [try_counts(cluster, times), try_words(cluster, times, turn), try_lock(cluster, 'mutex', times), try_ring(cluster, times)]
             print(f'  {turn}: {", ".join(told)}; memory {cluster.memory()}', flush=True)
+            cluster.told(0, 'ipcrm', *[word for key in range(first + 1, next(keys)) for word in ('-M', key)])
             if time.monotonic() > until:
                 break
     finally:
