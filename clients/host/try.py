@@ -8,6 +8,7 @@ as expected. Needs what leddwyfan-host needs: root, or what docs/programs.md say
 
 With --seconds it goes on so long, with kills and losses; with --speed it times, and tries nothing."""
 import argparse
+import contextlib
 import copy
 import itertools
 import os
@@ -122,25 +123,32 @@ def kill_sites(cluster, ended, seed):
             cluster.kills += 1
 
 
-def try_kills(options, seed=1):
-    """A carrier that loses, and sites that are killed and go on from their journals; then the audit."""
+@contextlib.contextmanager
+def rough_cluster(options, seed):
+    """Three hosts, a carrier that loses, repeats and delays, and sites that are killed and go on from their journals."""
     cluster = Cluster(options, 3, rough=ROUGH, journals=True, seed=seed)
     ended = threading.Event()
     killer = threading.Thread(target=kill_sites, args=(cluster, ended, seed))
     killer.start()
-    times = options.times // 5
     try:
-        yield try_counts(cluster, times)
-        yield try_locks(cluster, times // 5)
-        yield try_ring(cluster, times)
-        yield try_litmus(cluster, 'sb', times // 5)
-        yield try_litmus(cluster, 'iriw', times // 5)
+        yield cluster
     finally:
         ended.set()
         killer.join()
         complaints = cluster.stop()
     odd = [line for line in complaints.splitlines() if 'was killed' not in line]
     expect(not odd, '\n'.join(odd))
+
+
+def try_kills(options):
+    times = options.times // 5
+    with rough_cluster(options, 1) as cluster:
+        yield try_counts(cluster, times)
+        yield try_words(cluster, times)
+        yield try_locks(cluster, times // 5)
+        yield try_ring(cluster, times)
+        yield try_litmus(cluster, 'sb', times // 5)
+        yield try_litmus(cluster, 'iriw', times // 5)
     yield f'{cluster.kills} sites killed; {cluster.audit()}'
 
 
@@ -356,13 +364,9 @@ def run_tries(options):
 
 
 def soak(options):
-    """One cluster for so long, with losses and kills: what its processes hold of memory, in kilobytes, after each turn; then the audit."""
-    cluster = Cluster(options, 3, rough=ROUGH, journals=True)
-    ended = threading.Event()
-    killer = threading.Thread(target=kill_sites, args=(cluster, ended, 1))
-    killer.start()
+    """One cluster for so long: what its processes hold of memory, in kilobytes, after each turn; then the audit."""
     until, times = time.monotonic() + options.seconds, options.times // 10
-    try:
+    with rough_cluster(options, 1) as cluster:
         for turn in itertools.count(1):
             first = next(keys)
             told = [try_counts(cluster, times), try_words(cluster, times, turn), try_lock(cluster, 'mutex', times), try_ring(cluster, times)]
@@ -370,17 +374,14 @@ def soak(options):
             cluster.told(0, 'ipcrm', *[word for key in range(first + 1, next(keys)) for word in ('-M', key)])
             if time.monotonic() > until:
                 break
-    finally:
-        ended.set()
-        killer.join()
-        complaints = cluster.stop()
-    odd = [line for line in complaints.splitlines() if 'was killed' not in line]
-    expect(not odd, '\n'.join(odd))
     print(f'  {cluster.kills} sites killed; {cluster.audit()}')
 
 
 def medians(rows):
     return ' '.join(f'{statistics.median(float(row[place]) for row in rows):.1f}' for place in range(len(rows[0])))
+
+
+LOCKS = {'spin': 400, 'near': 400, 'mutex': 400, 'peterson': 1, 'turns': 1}  # so that the hosts meet for a second each
 
 
 def time_all(options):
@@ -404,9 +405,12 @@ def time_all(options):
             word = next(keys)
             rounds = cluster.together(*[(me, './ring', word, one, options.times) for me, one in enumerate(('ping', 'pong'))])
             seen.setdefault('ping-pong, rounds a second', []).append([rounds[0].split()[1]])
-            for kind in ('spin', 'near', 'peterson', 'mutex', 'turns'):
+            records = next(keys)
+            rounds = cluster.together((0, './ring', records, 'put', 20 * options.times), (1, './ring', records, 'get', 20 * options.times))
+            seen.setdefault('ring, records a second', []).append([rounds[1].split()[1]])
+            for kind, times in LOCKS.items():
                 lock = next(keys)
-                told = cluster.together(*[(me, './lock', lock, kind, me, 2, options.times) for me in range(2)])
+                told = cluster.together(*[(me, './lock', lock, kind, me, 2, times * options.times) for me in range(2)])
                 seen.setdefault(f'{kind}, rounds a second of each host', []).append([line.split()[1] for line in told])
     finally:
         cluster.stop()
