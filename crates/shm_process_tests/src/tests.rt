@@ -2,6 +2,7 @@ mod blocks;
 mod exchanges;
 mod full_heap;
 mod process;
+mod wire;
 
 use shm_model::Answer;
 use shm_place::{SiteId, Sites};
