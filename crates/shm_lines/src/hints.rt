@@ -19,6 +19,3 @@ pub use recalling::Recalling;
 pub use script::hint_of_script_line;
 pub use show::write_hint;
 pub use workload::{hint_of_access_line, hint_of_first_line};
-
-#[cfg(test)]
-mod tests;
