@@ -1,9 +1,10 @@
 # Everything here needs the command `rt` of the Rattle toolchain, and nothing else but `machines`, `crashes`, `clients`, `programs` and
-# `documents`, which need Python; all but the second and the last need a C compiler too, and the first mosquitto.
+# `documents`, which need Python; all but the second and the last need a C compiler too, and the first mosquitto. CONTRIBUTING.md says how
+# long each takes.
 
 PROGRAM := crates/shmdbg
 
-.PHONY: replay try build pictures examples manners documents machines crashes clients programs bench refused test wrong-bodies
+.PHONY: replay try build quick pictures examples manners documents machines crashes clients programs bench refused test wrong-bodies
 
 # Replays an example without proving anything: a minute or two on a fresh machine, most of it compiling.
 replay:
@@ -14,12 +15,13 @@ try:
 	@test -r "$(SCRIPT)" || { echo "make try SCRIPT=my.shm: which script?"; exit 2; }
 	script=$$(realpath "$(SCRIPT)"); cd $(PROGRAM) && rt try -- replay < "$$script"
 
-# Proves the program and the crates that it stands on, and leaves it in crates/shmdbg/out/.
+# Proves the program and the crates that it stands on, and leaves it in crates/shmdbg/out/. Says what is proved, crate by crate.
 build:
-	cd $(PROGRAM) && rt run -- replay < stdin > /dev/null
-	@echo
-	@echo "The proved program is $(PROGRAM)/out/shmdbg. It replays a script from standard input:"
-	@echo "    $(PROGRAM)/out/shmdbg replay < examples/two-sites.shm"
+	@gate/build
+
+# Runs every test and every program without proving anything.
+quick:
+	@gate/quick
 
 # Draws a script: with the page that it shows, where it shows one alone.
 DRAW = pages=$$(sed -n 's/^show //p' "$$script" | sort -u); \
