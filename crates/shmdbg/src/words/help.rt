@@ -128,8 +128,8 @@ opened, another process has it, or its site's clock ended.";
 pub const AUDIT: &str = "\
 Reads the journals of all N sites, one file for each, in the order of the sites.
 Finds one order of all recorded steps in which each load gives the byte that was
-stored last, or tells the cause why there is none. Standard input isn't read. A file whose name begins with a hyphen
-comes after --, behind the options.
+stored last, or tells the cause why there is none. Standard input isn't read. A
+file whose name begins with a hyphen comes after --, behind the options.
 Output: that the audit is yes, and how many steps, loads and stores, and
 envelopes there were:
   $ shmdbg audit --sites 2 site-0.journal site-1.journal
