@@ -381,7 +381,7 @@ def medians(rows):
     return ' '.join(f'{statistics.median(float(row[place]) for row in rows):.1f}' for place in range(len(rows[0])))
 
 
-LOCKS = {'spin': 400, 'near': 400, 'mutex': 400, 'peterson': 1, 'turns': 1}  # so that the hosts meet for a second each
+LOCKS = {'spin': 10000, 'near': 10000, 'mutex': 4000, 'peterson': 1, 'turns': 1}  # so that the hosts meet for a while
 
 
 def time_all(options):
@@ -440,6 +440,8 @@ def main():
     parser.add_argument('--journals', action='store_true', help='with --speed: the sites have journals')
     options = parser.parse_args()
     options.program = os.path.abspath(options.program)
+    if not os.path.isfile(options.program):
+        sys.exit(f'try.py: no {options.program}: `make build` makes it')
     signal.signal(signal.SIGTERM, lambda *_: sys.exit(1))
     begin = time.monotonic()
     with tempfile.TemporaryDirectory(prefix='programs-') as folder:
