@@ -152,6 +152,21 @@ def try_kills(options):
     yield f'{cluster.kills} sites killed; {cluster.audit()}'
 
 
+def try_repeats(options):
+    """A carrier that repeats most of what it carries, and late: what comes again must not undo what programs stored meanwhile."""
+    cluster = Cluster(options, 3, rough=('0', '70', '70'), journals=True)
+    try:
+        for turn in range(30):
+            first = next(keys)
+            try_counts(cluster, 100)
+            try_words(cluster, 30, turn)
+            cluster.told(0, 'ipcrm', *[word for key in range(first + 1, next(keys)) for word in ('-M', key)])
+    finally:
+        complaints = cluster.stop()
+    expect(complaints == '', complaints)
+    yield f'30 turns of counts and words; {cluster.audit()}'
+
+
 def try_broken(options):
     """Each broken rule is seen: something counts wrong, has an outcome that must not be, or goes on and on."""
     for rule, says in BROKEN.items():
@@ -351,7 +366,8 @@ def try_refusals(options):
 
 
 TRIES = {'smooth': try_smooth, 'carriers': try_carriers, 'postgres': try_database, 'nobody': try_nobody, 'checked': try_checked,
-         'many': try_many, 'refusals': try_refusals, 'death': try_daemon_death, 'kills': try_kills, 'broken': try_broken}
+         'many': try_many, 'refusals': try_refusals, 'death': try_daemon_death, 'kills': try_kills,
+         'repeats': try_repeats, 'broken': try_broken}
 
 
 def run_tries(options):
