@@ -152,6 +152,21 @@ def try_kills(options):
     yield f'{cluster.kills} sites killed; {cluster.audit()}'
 
 
+def try_repeats(options):
+    """A carrier that repeats most of what it carries, and late: what comes again must not undo what programs stored meanwhile."""
+    cluster = Cluster(options, 3, rough=('0', '70', '70'), journals=True)
+    try:
+        for turn in range(30):
+            first = next(keys)
+            try_counts(cluster, 100)
+            try_words(cluster, 30, turn)
+            cluster.told(0, 'ipcrm', *[word for key in range(first + 1, next(keys)) for word in ('-M', key)])
+    finally:
+        complaints = cluster.stop()
+    expect(complaints == '', complaints)
+    yield f'30 turns of counts and words; {cluster.audit()}'
+
+
 def try_broken(options):
     """Each broken rule is seen: something counts wrong, has an outcome that must not be, or goes on and on."""
     for rule, says in BROKEN.items():
@@ -351,7 +366,8 @@ def try_refusals(options):
 
 
 TRIES = {'smooth': try_smooth, 'carriers': try_carriers, 'postgres': try_database, 'nobody': try_nobody, 'checked': try_checked,
-         'many': try_many, 'refusals': try_refusals, 'death': try_daemon_death, 'kills': try_kills, 'broken': try_broken}
+         'many': try_many, 'refusals': try_refusals, 'death': try_daemon_death, 'kills': try_kills,
+         'repeats': try_repeats, 'broken': try_broken}
 
 
 def run_tries(options):
@@ -381,7 +397,7 @@ def medians(rows):
     return ' '.join(f'{statistics.median(float(row[place]) for row in rows):.1f}' for place in range(len(rows[0])))
 
 
-LOCKS = {'spin': 400, 'near': 400, 'mutex': 400, 'peterson': 1, 'turns': 1}  # so that the hosts meet for a second each
+LOCKS = {'spin': 10000, 'near': 10000, 'mutex': 4000, 'peterson': 1, 'turns': 1}  # so that the hosts meet for a while
 
 
 def time_all(options):
@@ -440,6 +456,8 @@ def main():
     parser.add_argument('--journals', action='store_true', help='with --speed: the sites have journals')
     options = parser.parse_args()
     options.program = os.path.abspath(options.program)
+    if not os.path.isfile(options.program):
+        sys.exit(f'try.py: no {options.program}: `make build` makes it')
     signal.signal(signal.SIGTERM, lambda *_: sys.exit(1))
     begin = time.monotonic()
     with tempfile.TemporaryDirectory(prefix='programs-') as folder:

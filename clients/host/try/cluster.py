@@ -139,9 +139,10 @@ class Cluster:
 
 
 def resident(process):
+    """Without what it maps of files and segments."""
     try:
         with open(f'/proc/{process}/status') as status:
-            return next(int(line.split()[1]) for line in status if line.startswith('VmRSS'))
+            return next(int(line.split()[1]) for line in status if line.startswith('RssAnon'))
     except (OSError, StopIteration):
         return 0
 
