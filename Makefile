@@ -1,9 +1,10 @@
 # Everything here needs the command `rt` of the Rattle toolchain, and nothing else but `machines`, `crashes`, `clients`, `programs` and
-# `documents`, which need Python; all but the second and the last need a C compiler too, and the first mosquitto.
+# `documents`, which need Python; all but the second and the last need a C compiler too, and the first mosquitto. CONTRIBUTING.md says how
+# long each takes.
 
 PROGRAM := crates/shmdbg
 
-.PHONY: replay try build pictures examples manners documents machines crashes clients programs bench refused test wrong-bodies
+.PHONY: replay try build quick pictures examples manners documents machines crashes clients programs bench refused test wrong-bodies
 
 # Replays an example without proving anything: a minute or two on a fresh machine, most of it compiling.
 replay:
@@ -14,12 +15,13 @@ try:
 	@test -r "$(SCRIPT)" || { echo "make try SCRIPT=my.shm: which script?"; exit 2; }
 	script=$$(realpath "$(SCRIPT)"); cd $(PROGRAM) && rt try -- replay < "$$script"
 
-# Proves the program and the crates that it stands on, and leaves it in crates/shmdbg/out/.
+# Proves the program and the crates that it stands on, and leaves it in crates/shmdbg/out/. Says what is proved, crate by crate.
 build:
-	cd $(PROGRAM) && rt run -- replay < stdin > /dev/null
-	@echo
-	@echo "The proved program is $(PROGRAM)/out/shmdbg. It replays a script from standard input:"
-	@echo "    $(PROGRAM)/out/shmdbg replay < examples/two-sites.shm"
+	@gate/build
+
+# Runs every test and every program without proving anything.
+quick:
+	@gate/quick
 
 # Draws a script.
 DRAW = $(PROGRAM)/out/shmdbg draw < "$$script"
@@ -72,8 +74,9 @@ clients:
 	@clients/try.py --program $(PROGRAM)/out/shmdbg
 
 # Programs of one machine's segments, unchanged, over two and three hosts on this machine, with carriers that lose, sites that are killed, and
-# daemons that leave out a part of their rule. Needs the program that `make build` leaves, root, Linux 6.4 or later, Python 3, a C compiler and
-# perl; what needs mosquitto, mosquitto-clients or stress-ng is left out where that isn't there. Some minutes; no part of the gate.
+# daemons that leave out a part of their rule. Needs the program that `make build` leaves, root, Linux 6.4 or later, Python 3 and a C compiler
+# with its sanitizers; what needs the Debian packages mosquitto, mosquitto-clients, perl, postgresql, stress-ng or valgrind is left out where they
+# aren't there. Some minutes; no part of the gate.
 programs:
 	@clients/host/try.py --program $(PROGRAM)/out/shmdbg
 

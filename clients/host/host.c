@@ -12,11 +12,13 @@
 #include <fcntl.h>
 #include <getopt.h>
 #include <linux/userfaultfd.h>
+#include <poll.h>
 #include <signal.h>
 #include <stdarg.h>
 #include <stdio.h>
 #include <sys/epoll.h>
 #include <sys/ioctl.h>
+#include <sys/resource.h>
 #include <sys/stat.h>
 #include <sys/syscall.h>
 #include <sys/utsname.h>
@@ -35,7 +37,7 @@ static char **carriers[2]; /* the commands' words */
 static pid_t processes[2];
 static int64_t carrier_due, last_tick; /* when ended commands are started again, or 0 */
 static int poller;
-static bool heard; /* something came since the last tick */
+static bool heard, carried; /* something came since the last tick, and since the carrier was started */
 static volatile sig_atomic_t ending;
 
 int64_t now(void) {
@@ -61,7 +63,9 @@ void complain(const char *format, ...) {
 
 void watch(int descriptor, enum source source, int index) {
     struct epoll_event event = {.events = EPOLLIN, .data.u64 = (uint64_t)source << 32 | (unsigned)index};
-    if (epoll_ctl(poller, EPOLL_CTL_ADD, descriptor, &event) < 0) FAIL("can't wait for a descriptor: %s", strerror(errno));
+    if (epoll_ctl(poller, EPOLL_CTL_ADD, descriptor, &event) == 0) return;
+    if (errno == EPERM) FAIL("nothing can be awaited from standard input: give a carrier behind --");
+    FAIL("nothing more can be awaited: %s", strerror(errno));
 }
 
 /* Lines. */
@@ -122,7 +126,7 @@ void carry(const char *line) {
 }
 
 static void hear_line(char *line) {
-    heard = true;
+    heard = carried = true;
     take_stream_line(line);
 }
 
@@ -156,6 +160,7 @@ pid_t start_process(char *const *words, int *input, int *output) {
 static void start_carrier(void) {
     static int unused[2] = {-1, -1};
     carrier_due = 0;
+    if (options.sites == 1 && carriers[0] == NULL) return;
     if (carriers[0] == NULL) set_up(0), set_up(1);
     else if (carriers[1] == NULL) processes[0] = start_process(carriers[0], &to_carrier.descriptor, &from_carrier.descriptor);
     else {
@@ -178,8 +183,11 @@ static void stop_carrier(void) {
 
 /* A daemon whose own standard input has ended goes on for the programs that are there. */
 static void carrier_ended(void) {
+    static bool said;
     stop_carrier();
-    complain("%s", carriers[0] == NULL ? "the stream has ended" : "the carrier has ended, and is started again");
+    if (!said || carried) complain("%s", carriers[0] == NULL ? "the stream has ended" : "the carrier has ended, and is started again each second");
+    said = true;
+    carried = false;
     carrier_due = carriers[0] == NULL ? INT64_MAX : now() + SECOND;
 }
 
@@ -221,7 +229,8 @@ static void turn(void) {
     pages_wake(idle);
     if ((unwritten || to_carrier.length > 0) && wait > UNWRITTEN_WAIT) wait = UNWRITTEN_WAIT;
     wait = wait < 0 ? 0 : wait < TICK ? wait : TICK;
-    int count = epoll_pwait2(poller, events, EVENTS, &(struct timespec){0, wait}, NULL);
+    ppoll(&(struct pollfd){.fd = poller, .events = POLLIN}, 1, &(struct timespec){0, wait}, NULL);
+    int count = epoll_wait(poller, events, EVENTS, 0);
     for (int index = 0; index < count; index++) take_event(&events[index]);
     idle = count == 0;
     tick();
@@ -286,9 +295,18 @@ static void take_options(int argc, char **argv) {
     }
 }
 
+/* Each program here costs two descriptors. */
+static void allow_descriptors(void) {
+    struct rlimit limit;
+    getrlimit(RLIMIT_NOFILE, &limit);
+    limit.rlim_cur = limit.rlim_max;
+    setrlimit(RLIMIT_NOFILE, &limit);
+}
+
 int main(int argc, char **argv) {
     struct stat journal;
     take_options(argc, argv);
+    allow_descriptors();
     check_kernel();
     signal(SIGPIPE, SIG_IGN);
     sigaction(SIGTERM, &(struct sigaction){.sa_handler = end}, NULL);

@@ -248,10 +248,12 @@ void page_fault(struct page *page, const struct fault *fault) {
 
 /* Envelopes. */
 
+/* The bytes that an envelope brings count only where the site just told that it lacks the right. A repeated one that comes later has what stood
+   there before programs here stored. */
 static void let_in(struct page *page, const struct envelope *envelope) {
     bool brings = strcmp(envelope->kind, "page") == 0;
     pass_line(envelope->line);
-    if (brings) {
+    if (brings && page->requested && page->shown < page->wanted) {
         free(page->brought);
         page->brought = strdup(strrchr(envelope->line, ' ') + 1);
         page->transaction = envelope->number;

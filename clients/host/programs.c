@@ -15,7 +15,7 @@
 #define UFFDIO_CONTINUE_MODE_WP ((__u64)1 << 1)
 #endif
 
-enum { MOST_PROGRAMS = 1024, MOST_RANGES = 128 };
+enum { MOST_RANGES = 128 };
 
 /* Part of a program's address space: `length` bytes of a segment, from `offset` on. */
 struct range {
@@ -23,30 +23,31 @@ struct range {
     int segment;
 };
 
+/* There are as many as there ever were at a time: each keeps its place until it has ended, and then another may have it. */
 static struct program {
     bool used;
     int faults, count;
     uint64_t generation, names;
     struct range ranges[MOST_RANGES];
-} programs[MOST_PROGRAMS];
+} **programs;
+static int program_count;
 
 static struct fault *pending; /* faults that were read, and not yet looked at */
 static size_t pending_count, pending_room;
 static uint64_t generations, changes; /* programs ever made; events that changed ranges */
 
-static struct program *new_program(int faults, uint64_t names) {
-    struct program *program = programs;
-    while (program < programs + MOST_PROGRAMS && program->used) program++;
-    if (program == programs + MOST_PROGRAMS) FAIL("more than %d programs", MOST_PROGRAMS);
-    program->used = true;
-    program->faults = faults;
-    program->names = names;
-    program->generation = ++generations;
-    program->count = 0;
+static int new_program(int faults, uint64_t names) {
+    int place = 0;
+    while (place < program_count && programs[place]->used) place++;
+    if (place == program_count) {
+        programs = room(programs, (size_t)++program_count * sizeof *programs);
+        programs[place] = room(NULL, sizeof **programs);
+    }
+    *programs[place] = (struct program){.used = true, .faults = faults, .names = names, .generation = ++generations};
     fcntl(faults, F_SETFL, O_NONBLOCK);
     fcntl(faults, F_SETFD, FD_CLOEXEC);
-    watch(faults, FAULTS, (int)(program - programs));
-    return program;
+    watch(faults, FAULTS, place);
+    return place;
 }
 
 static bool serves(const struct program *program, uint64_t address, uint64_t length, uint64_t mode) {
@@ -54,21 +55,22 @@ static bool serves(const struct program *program, uint64_t address, uint64_t len
 }
 
 int program_new(int faults, uint64_t names) {
-    struct program *program = new_program(faults, names);
-    if (serves(program, names, PAGE, UFFDIO_REGISTER_MODE_MISSING)) return (int)(program - programs);
+    int program = new_program(faults, names);
+    if (serves(programs[program], names, PAGE, UFFDIO_REGISTER_MODE_MISSING)) return program;
     close(faults);
-    program->used = false;
+    programs[program]->used = false;
     return -1;
 }
 
-/* A name is a generation and a place. */
+/* A name is a generation. */
 int program_named(uint64_t name) {
-    uint64_t place = name % MOST_PROGRAMS;
-    return programs[place].used && programs[place].generation == name / MOST_PROGRAMS ? (int)place : -1;
+    int place = program_count - 1;
+    while (place >= 0 && !(programs[place]->used && programs[place]->generation == name)) place--;
+    return place;
 }
 
 int program_faults(int program) {
-    return programs[program].faults;
+    return programs[program]->faults;
 }
 
 static bool add_range(struct program *program, struct range range) {
@@ -81,13 +83,14 @@ static bool add_range(struct program *program, struct range range) {
 bool program_maps(int program, uint64_t address, uint64_t length, int segment) {
     uint64_t mode = UFFDIO_REGISTER_MODE_MISSING | UFFDIO_REGISTER_MODE_MINOR | UFFDIO_REGISTER_MODE_WP;
     struct range range = {address, length, 0, segment};
-    return programs[program].used && serves(&programs[program], address, length, mode) && add_range(&programs[program], range);
+    return programs[program]->used && serves(programs[program], address, length, mode) && add_range(programs[program], range);
 }
 
 /* Events. */
 
 static void forked(const struct program *parent, int faults) {
-    struct program *child = new_program(faults, parent->names);
+    int place = new_program(faults, parent->names);
+    struct program *child = programs[place];
     for (int index = 0; index < parent->count; index++) add_range(child, parent->ranges[index]);
 }
 
@@ -121,12 +124,12 @@ static void keep_fault(int program, uint64_t address, uint64_t flags, pid_t thre
         pending = room(pending, pending_room * sizeof *pending);
     }
     enum right needed = flags & (UFFD_PAGEFAULT_FLAG_WRITE | UFFD_PAGEFAULT_FLAG_WP) ? WRITE : READ;
-    pending[pending_count++] = (struct fault){NULL, program, programs[program].generation, address & ~(uint64_t)(PAGE - 1), needed, thread};
+    pending[pending_count++] = (struct fault){NULL, program, programs[program]->generation, address & ~(uint64_t)(PAGE - 1), needed, thread};
 }
 
 /* Takes what changes a program's memory at once, and keeps its faults for later. */
 void program_ready(int index) {
-    struct program *program = &programs[index];
+    struct program *program = programs[index];
     struct uffd_msg message;
     while (program->used && read(program->faults, &message, sizeof message) == sizeof message) {
         if (message.event != UFFD_EVENT_PAGEFAULT) changes++;
@@ -141,7 +144,7 @@ void program_ready(int index) {
 
 /* Changes a program's memory, which is refused with EAGAIN while there is an event to be read. */
 static bool change(int program, unsigned long request, void *range) {
-    while (ioctl(programs[program].faults, request, range) < 0) {
+    while (ioctl(programs[program]->faults, request, range) < 0) {
         if (errno != EAGAIN) return false;
         program_ready(program);
     }
@@ -154,7 +157,7 @@ static void set_protected(int program, uint64_t address, uint64_t mode) {
 
 /* Opens a page, whose bytes are in the segment's memory, for the program that faults. To read, it stays protected. */
 void open_page(const struct fault *fault, enum right right) {
-    const struct program *program = &programs[fault->program];
+    const struct program *program = programs[fault->program];
     struct uffdio_continue range = {.range = {fault->address, PAGE}, .mode = right == WRITE ? 0 : UFFDIO_CONTINUE_MODE_WP};
     if (!program->used || program->generation != fault->generation || change(fault->program, UFFDIO_CONTINUE, &range)) return;
     if (errno == EEXIST && right == WRITE) set_protected(fault->program, fault->address, 0);
@@ -163,8 +166,8 @@ void open_page(const struct fault *fault, enum right right) {
 
 static void protect_in(int program, const struct page *page) {
     uint64_t offset = page_offset(page);
-    for (int index = 0; index < programs[program].count; index++) {
-        const struct range *range = &programs[program].ranges[index];
+    for (int index = 0; index < programs[program]->count; index++) {
+        const struct range *range = &programs[program]->ranges[index];
         if (&segments[range->segment] != page->segment || offset < range->offset || offset >= range->offset + range->length) continue;
         set_protected(program, range->address + offset - range->offset, UFFDIO_WRITEPROTECT_MODE_WP);
     }
@@ -175,20 +178,20 @@ void protect_page(const struct page *page) {
     uint64_t before;
     do {
         before = changes;
-        for (int program = 0; program < MOST_PROGRAMS; program++) {
-            if (programs[program].used) protect_in(program, page);
+        for (int program = 0; program < program_count; program++) {
+            if (programs[program]->used) protect_in(program, page);
         }
     } while (changes != before);
 }
 
 static void give_name(int program) {
     static uint64_t page[PAGE / sizeof(uint64_t)];
-    page[0] = programs[program].generation * MOST_PROGRAMS + (uint64_t)program;
-    change(program, UFFDIO_COPY, &(struct uffdio_copy){.dst = programs[program].names, .src = (uintptr_t)page, .len = PAGE});
+    page[0] = programs[program]->generation;
+    change(program, UFFDIO_COPY, &(struct uffdio_copy){.dst = programs[program]->names, .src = (uintptr_t)page, .len = PAGE});
 }
 
 static void look_at(struct fault fault) {
-    const struct program *program = &programs[fault.program];
+    const struct program *program = programs[fault.program];
     if (!program->used || program->generation != fault.generation) return;
     for (int index = 0; index < program->count; index++) {
         const struct range *range = &program->ranges[index];
@@ -208,7 +211,8 @@ void programs_turn(void) {
 /* Programs that have ended. A range that isn't registered is refused where the program lives, and with ESRCH where its memory is gone. */
 void programs_reap(void) {
     struct uffdio_writeprotect nothing = {.range = {16 * PAGE, PAGE}, .mode = UFFDIO_WRITEPROTECT_MODE_DONTWAKE};
-    for (struct program *program = programs; program < programs + MOST_PROGRAMS; program++) {
+    for (int place = 0; place < program_count; place++) {
+        struct program *program = programs[place];
         if (!program->used || ioctl(program->faults, UFFDIO_WRITEPROTECT, &nothing) == 0 || errno != ESRCH) continue;
         program->used = false;
         close(program->faults);

@@ -18,7 +18,7 @@
 #include <time.h>
 #include <unistd.h>
 
-enum { MOST_CONNECTIONS = 1024, MADE = 1024, CREATE = 1, READS = 4, WRITES = 2 };
+enum { MADE = 1024, CREATE = 1, READS = 4, WRITES = 2 };
 
 struct segment segments[MOST_SEGMENTS];
 
@@ -27,7 +27,8 @@ static struct connection {
     int socket, program, promised; /* the segment that it was handed and hasn't mapped yet, or -1 */
     uint64_t generation;
     struct ucred peer;
-} connections[MOST_CONNECTIONS];
+} *connections;
+static int connection_count;
 
 /* Who made a segment here, and when: of the last ones that were made. */
 static struct made {
@@ -338,17 +339,15 @@ void connection_ready(int index) {
 }
 
 void accept_program(void) {
-    int socket = accept4(listener, NULL, NULL, SOCK_CLOEXEC | SOCK_NONBLOCK);
-    struct connection *connection = connections;
-    while (connection < connections + MOST_CONNECTIONS && connection->used) connection++;
-    if (socket < 0 || connection == connections + MOST_CONNECTIONS) {
-        if (socket >= 0) close(socket);
-        return;
-    }
+    int place = 0, socket = accept4(listener, NULL, NULL, SOCK_CLOEXEC | SOCK_NONBLOCK);
+    if (socket < 0) return;
+    while (place < connection_count && connections[place].used) place++;
+    if (place == connection_count) connections = room(connections, (size_t)++connection_count * sizeof *connections);
+    struct connection *connection = &connections[place];
     *connection = (struct connection){.used = true, .socket = socket, .program = -1, .promised = -1, .generation = ++generations};
     socklen_t length = sizeof connection->peer;
     getsockopt(socket, SOL_SOCKET, SO_PEERCRED, &connection->peer, &length);
-    watch(socket, CONNECTION, (int)(connection - connections));
+    watch(socket, CONNECTION, place);
 }
 
 /* The lock is held by the daemon and by each program that it hands it to: while one of them lives, no other daemon begins, as such a program
@@ -356,7 +355,8 @@ void accept_program(void) {
 void listen_to_programs(void) {
     struct sockaddr_un address = {.sun_family = AF_UNIX};
     char name[sizeof address.sun_path + 8];
-    snprintf(address.sun_path, sizeof address.sun_path, "%s", options.socket);
+    if (strlen(options.socket) >= sizeof address.sun_path) FAIL("%s is too long for a socket's name", options.socket);
+    strcpy(address.sun_path, options.socket);
     snprintf(name, sizeof name, "%s.lock", address.sun_path);
     lock = open(name, O_RDWR | O_CREAT | O_CLOEXEC, 0600);
     if (lock < 0) FAIL("%s can't be made: %s", name, strerror(errno));

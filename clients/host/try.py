@@ -8,12 +8,15 @@ as expected. Needs what leddwyfan-host needs: root, or what docs/programs.md say
 
 With --seconds it goes on so long, with kills and losses; with --speed it times, and tries nothing."""
 import argparse
+import contextlib
+import copy
 import itertools
 import os
 import random
 import shutil
 import signal
 import socket
+import stat
 import statistics
 import subprocess
 import sys
@@ -22,104 +25,13 @@ import threading
 import time
 
 HERE = os.path.dirname(os.path.abspath(__file__))
-PACKAGES = {'mosquitto_sub': 'mosquitto-clients', 'mosquitto': 'mosquitto', 'perl': 'perl', 'ipcs': 'util-linux', 'stress-ng': 'stress-ng'}
+sys.path.insert(0, os.path.join(HERE, 'try'))
+from cluster import Cluster, Words, answer_of, expect, has, keys, patience
+from others import try_others, try_postgres
+
 ROUGH = ('5', '10', '30')
 BROKEN = {1: 'passes a clear of what is read', 2: 'passes a hand to read of what is written', 3: 'passes a hand to write of what is written',
           4: 'passes a hand to write of what is read', 5: 'passes envelopes while the site is asked', 6: "doesn't protect before it writes back"}
-keys = itertools.count(1000)
-patience = [240]  # seconds until a program counts as one that goes on and on
-
-
-def expect(condition, text):
-    if not condition:
-        raise AssertionError(text)
-
-
-class Cluster:
-    """So many hosts, each with a daemon of its own, and the carrier between them."""
-
-    def __init__(self, options, hosts, rough=(), journals=False, words=(), seed=1):
-        self.options, self.hosts = options, hosts
-        self.folder = tempfile.mkdtemp(prefix='cluster-', dir=options.build)
-        self.journals = [os.path.join(self.folder, f'journal-{me}') for me in range(hosts)] if journals else []
-        pairs = [socket.socketpair() for _ in range(hosts)]
-        ends = [pair[1].fileno() for pair in pairs]
-        hub = [os.path.join(options.build, 'try', 'hub'), *(rough or ('0', '0', '0')), str(seed)]
-        self.carrier = subprocess.Popen(hub + [str(end) for end in ends], pass_fds=ends)
-        self.log = open(os.path.join(self.folder, 'log'), 'w+')
-        self.daemons = [self.start(me, words, pairs[me][0]) for me in range(hosts)]
-        for end in itertools.chain(*pairs):
-            end.close()
-        self.wait_for_sockets()
-
-    def start(self, me, words, stream):
-        command = [os.path.join(self.options.build, 'leddwyfan-host'), '--sites', str(self.hosts), '--me', str(me), '--socket', self.socket(me)]
-        command += ['--program', self.options.program, *words]
-        command += ['--journal', self.journals[me]] if self.journals else []
-        return subprocess.Popen(command, stdin=stream, stdout=stream, stderr=self.log)
-
-    def wait_for_sockets(self):
-        until = time.monotonic() + 10
-        while not all(os.path.exists(self.socket(me)) for me in range(self.hosts)):
-            expect(time.monotonic() < until, f'the daemons start: {self.complaints()}')
-            time.sleep(0.02)
-
-    def socket(self, me):
-        return os.path.join(self.folder, f'socket-{me}')
-
-    def complaints(self):
-        self.log.seek(0)
-        return self.log.read()
-
-    def on(self, me, *words):
-        run = [os.path.join(HERE, 'leddwyfan-run'), '--socket', self.socket(me)]
-        words = [os.path.join(self.options.build, 'try', words[0][2:]), *words[1:]] if words[0].startswith('./') else words
-        environment = dict(os.environ, LEDDWYFAN_LIBRARY=os.path.join(self.options.build, 'libleddwyfan.so'))
-        return subprocess.Popen(run + [str(word) for word in words], env=environment, stdout=subprocess.PIPE, stderr=subprocess.PIPE, text=True)
-
-    def told(self, me, *words):
-        return answer_of(self.on(me, *words))
-
-    def together(self, *programs):
-        """Each is a host and words: all run at once. What each told."""
-        processes = [self.on(me, *words) for me, *words in programs]
-        try:
-            return [answer_of(process) for process in processes]
-        finally:
-            for process in processes:
-                process.kill()
-
-    def site_of(self, me):
-        listed = subprocess.run(['ps', '-o', 'pid=,args=', '--ppid', str(self.daemons[me].pid)], stdout=subprocess.PIPE, text=True).stdout
-        sites = [int(line.split()[0]) for line in listed.splitlines() if ' site --sites ' in line]
-        return sites[0] if sites else None
-
-    def stop(self):
-        for daemon in self.daemons:
-            daemon.terminate()
-        for daemon in self.daemons:
-            daemon.wait(30)
-        self.carrier.terminate()
-        self.carrier.wait()
-        complaints = self.complaints()
-        self.log.close()
-        return complaints
-
-    def audit(self):
-        words = [self.options.program, 'audit', '--sites', str(self.hosts), *self.journals]
-        told = subprocess.run(words, stdout=subprocess.PIPE, stderr=subprocess.STDOUT, text=True).stdout
-        expect(told.startswith('audit yes'), told)
-        return ', '.join(told.splitlines())
-
-
-def answer_of(process):
-    try:
-        told, complaint = process.communicate(timeout=patience[0])
-    except subprocess.TimeoutExpired:
-        process.kill()
-        raise AssertionError(f'{process.args[3:]} goes on and on') from None
-    expect(process.returncode == 0, f'{process.args[3:]}: status {process.returncode}, {told} {complaint}')
-    return told.strip()
 
 
 def try_counts(cluster, times=500):
@@ -129,6 +41,20 @@ def try_counts(cluster, times=500):
     expected = 6 * times * cluster.hosts + 2
     expect(told == f'{expected} {expected}', f'{expected} adds are {told}')
     return f'{expected} adds of {6 * cluster.hosts} threads'
+
+
+def try_words(cluster, rounds, seed=1):
+    """One host after the other adds to words of two pages, or looks; then all at once, each to a word of its own beside the others'."""
+    draw, hosts, words = random.Random(seed), cluster.hosts, Words(cluster)
+    try:
+        for _ in range(rounds):
+            words.ask((draw.randrange(hosts), draw.choice((0, 1024)), draw.randrange(2)))
+        for _ in range(rounds // 5):
+            words.ask(*[(me, 8 + me, 2000) for me in range(hosts)])
+            words.ask(*[(me, 8 + (me + 1) % hosts, 0) for me in range(hosts)])
+    finally:
+        words.end()
+    return f'words {rounds} times one, {rounds // 5} times all'
 
 
 def try_lock(cluster, kind, times):
@@ -165,58 +91,6 @@ def try_locks(cluster, times):
     return '; '.join(try_lock(cluster, kind, times) for kind in ('spin', 'near', 'peterson', 'mutex', 'turns'))
 
 
-def has(*names):
-    missing = sorted({PACKAGES[name] for name in names if shutil.which(name) is None})
-    if missing:
-        print(f'  left out: this needs the Debian packages {" ".join(missing)}')
-    return not missing
-
-
-def try_ipc(cluster):
-    """ipcmk, ipcs and ipcrm, each on another host."""
-    last = cluster.hosts - 1
-    made = cluster.told(0, 'ipcmk', '-M', '5000').split()[-1]
-    line = [line.split() for line in cluster.told(last, 'ipcs', '-m').splitlines() if line.split()[1:2] == [made]]
-    expect(line and line[0][4:6] == ['5000', '0'], f'ipcs tells of segment {made}: {line}')
-    cluster.told(last, 'ipcrm', '-m', made)
-    gone = [line for line in cluster.told(0, 'ipcs', '-m').splitlines() if line.split()[1:2] == [made]]
-    expect(not gone, f'segment {made} is removed: {gone}')
-    semaphores = cluster.told(0, 'ipcmk', '-S', '3').split()[-1]
-    cluster.told(last, 'ipcrm', '-s', semaphores)
-    return 'ipcmk, ipcs, ipcrm'
-
-
-PERL = '''
-use IPC::SysV qw(IPC_CREAT S_IRUSR S_IWUSR SEM_UNDO IPC_RMID); $| = 1;
-my ($do, $key, $times) = @ARGV;
-my $id = shmget($key, 8192, IPC_CREAT | 0600); defined $id or die "shmget $!";
-if ($do eq "write") { shmwrite($id, "written by perl", 4096, 15) or die "shmwrite $!"; print "ok" }
-elsif ($do eq "read") { my $text; shmread($id, $text, 4096, 15) or die "shmread $!"; print $text }
-else {
-    my $sem = semget($key, 1, IPC_CREAT | 0600); defined $sem or die "semget $!";
-    for (1 .. $times) {
-        semop($sem, pack("s!3", 0, -1, 0)) or die "semop $!"; my $text;
-        shmread($id, $text, 0, 8) or die; shmwrite($id, pack("q", unpack("q", $text) + 1), 0, 8) or die;
-        semop($sem, pack("s!3", 0, 1, 0)) or die "semop $!";
-    }
-    print "ok";
-}
-'''
-
-
-def try_perl(cluster):
-    key, times, last = next(keys), 20, cluster.hosts - 1
-    cluster.told(0, 'perl', '-e', PERL, 'write', key)
-    told = cluster.told(last, 'perl', '-e', PERL, 'read', key)
-    expect(told == 'written by perl', f'shmread gives {told}')
-    setval = 'use IPC::SysV qw(IPC_CREAT SETVAL); my $s = semget(shift, 1, IPC_CREAT | 0600); semctl($s, 0, SETVAL, 1) or die $!;'
-    cluster.told(0, 'perl', '-e', setval, key)
-    cluster.together(*[(me, 'perl', '-e', PERL, 'count', key, times) for me in range(cluster.hosts)])
-    told = cluster.told(0, 'perl', '-e', 'my $t; shmread(shmget(shift, 8192, 0), $t, 0, 8); print unpack("q", $t)', key)
-    expect(told == str(times * cluster.hosts), f'{cluster.hosts} times {times} under a semaphore is {told}')
-    return 'shmread, shmwrite, semop'
-
-
 def try_calls(cluster):
     for me in range(cluster.hosts):
         cluster.told(me, './calls')
@@ -228,17 +102,12 @@ def try_smooth(options):
         cluster = Cluster(options, hosts)
         try:
             yield try_counts(cluster)
+            yield try_words(cluster, options.times // 5)
             yield try_locks(cluster, options.times)
             yield try_ring(cluster, 10 * options.times)
             yield try_all_litmus(cluster, 2 * options.times)
             yield try_calls(cluster)
-            if has('ipcs'):
-                yield try_ipc(cluster)
-            if has('perl'):
-                yield try_perl(cluster)
-            if has('stress-ng'):
-                cluster.told(0, 'stress-ng', '--shm-sysv', 1, '--shm-sysv-ops', 2, '--shm-sysv-bytes', '1m', '--shm-sysv-segs', 4, '--verify', '-q')
-                yield 'stress-ng'
+            yield from try_others(cluster)
         finally:
             complaints = cluster.stop()
         expect(complaints == '', complaints)
@@ -254,32 +123,54 @@ def kill_sites(cluster, ended, seed):
             cluster.kills += 1
 
 
-def try_kills(options, seed=1):
-    """A carrier that loses, and sites that are killed and go on from their journals; then the audit."""
+@contextlib.contextmanager
+def rough_cluster(options, seed):
+    """Three hosts, a carrier that loses, repeats and delays, and sites that are killed and go on from their journals."""
     cluster = Cluster(options, 3, rough=ROUGH, journals=True, seed=seed)
     ended = threading.Event()
     killer = threading.Thread(target=kill_sites, args=(cluster, ended, seed))
     killer.start()
-    times = options.times // 5
     try:
-        yield try_counts(cluster, times)
-        yield try_locks(cluster, times // 5)
-        yield try_ring(cluster, times)
-        yield try_litmus(cluster, 'sb', times // 5)
-        yield try_litmus(cluster, 'iriw', times // 5)
+        yield cluster
     finally:
         ended.set()
         killer.join()
         complaints = cluster.stop()
     odd = [line for line in complaints.splitlines() if 'was killed' not in line]
     expect(not odd, '\n'.join(odd))
+
+
+def try_kills(options):
+    times = options.times // 5
+    with rough_cluster(options, 1) as cluster:
+        yield try_counts(cluster, times)
+        yield try_words(cluster, times)
+        yield try_locks(cluster, times // 5)
+        yield try_ring(cluster, times)
+        yield try_litmus(cluster, 'sb', times // 5)
+        yield try_litmus(cluster, 'iriw', times // 5)
     yield f'{cluster.kills} sites killed; {cluster.audit()}'
+
+
+def try_repeats(options):
+    """A carrier that repeats most of what it carries, and late: what comes again must not undo what programs stored meanwhile."""
+    cluster = Cluster(options, 3, rough=('0', '70', '70'), journals=True)
+    try:
+        for turn in range(30):
+            first = next(keys)
+            try_counts(cluster, 100)
+            try_words(cluster, 30, turn)
+            cluster.told(0, 'ipcrm', *[word for key in range(first + 1, next(keys)) for word in ('-M', key)])
+    finally:
+        complaints = cluster.stop()
+    expect(complaints == '', complaints)
+    yield f'30 turns of counts and words; {cluster.audit()}'
 
 
 def try_broken(options):
     """Each broken rule is seen: something counts wrong, has an outcome that must not be, or goes on and on."""
     for rule, says in BROKEN.items():
-        cluster = Cluster(options, 3, words=('--break', str(rule)))
+        cluster = Cluster(options, 3, rough=('0', '20', '20'), words=('--break', str(rule)))
         try:
             seen = see_broken(cluster)
         finally:
@@ -289,12 +180,12 @@ def try_broken(options):
 
 
 def see_broken(cluster):
-    tries = [lambda: try_counts(cluster, 300), lambda: try_lock(cluster, 'peterson', 200), lambda: try_lock(cluster, 'spin', 200)]
-    tries += [lambda: try_lock(cluster, 'mutex', 200), lambda: try_litmus(cluster, 'sb', 200), lambda: try_ring(cluster, 2000)]
+    """What shows it: programs whose every answer is known. What needs two to meet in a moment needs some turns."""
     before, patience[0] = patience[0], 20
     try:
-        for one in tries:
-            one()
+        for turn in range(30):
+            try_words(cluster, 200, turn)
+            try_counts(cluster, 300)
     except AssertionError as seen:
         return str(seen).splitlines()[0].replace(cluster.options.build, '..')[:100]
     finally:
@@ -310,9 +201,7 @@ def try_daemon_death(options):
 c = ctypes.CDLL(None); c.shmat.restype = ctypes.c_void_p
 p = c.shmat(c.shmget(77, 8192, 0o1666), None, 0); b = (ctypes.c_char * 8192).from_address(p)
 b[0] = b"a"; print("here", flush=True); sys.stdin.readline(); b[1] = b"b"; print(b[0:2].decode(), flush=True); print(b[4096], flush=True)'''
-    program = subprocess.Popen([os.path.join(HERE, 'leddwyfan-run'), '--socket', cluster.socket(0), sys.executable, '-c', code], text=True,
-                               stdin=subprocess.PIPE, stdout=subprocess.PIPE, bufsize=1,
-                               env=dict(os.environ, LEDDWYFAN_LIBRARY=os.path.join(options.build, 'libleddwyfan.so')))
+    program = cluster.on(0, sys.executable, '-c', code, stdin=subprocess.PIPE, bufsize=1)
     try:
         expect(program.stdout.readline() == 'here\n', 'the program has a page')
         cluster.daemons[0].kill()
@@ -321,7 +210,7 @@ b[0] = b"a"; print("here", flush=True); sys.stdin.readline(); b[1] = b"b"; print
         expect(program.stdout.readline() == 'ab\n', 'it goes on with it')
         time.sleep(0.5)
         expect(program.poll() is None, 'it waits at its next fault')
-        again = cluster.start(0, (), subprocess.DEVNULL)
+        again = cluster.start(0, subprocess.DEVNULL)
         expect(again.wait(10) == 1 and 'still run' in cluster.complaints(), 'no other daemon begins')
     finally:
         program.kill()
@@ -332,38 +221,153 @@ b[0] = b"a"; print("here", flush=True); sys.stdin.readline(); b[1] = b"b"; print
 
 def try_carriers(options):
     """One command as the carrier, as ssh would be, and two, as a broker's are."""
-    host = os.path.join(options.build, 'leddwyfan-host')
-    words = lambda me, folder: [host, '--sites', '2', '--me', str(me), '--socket', f'{folder}/socket-{me}', '--program', options.program]
-    cluster = Cluster.__new__(Cluster)
-    cluster.options, cluster.hosts, cluster.journals, cluster.folder = options, 2, [], tempfile.mkdtemp(dir=options.build)
-    cluster.log = open(os.path.join(cluster.folder, 'log'), 'w+')
-    cluster.carrier = subprocess.Popen(['sleep', '1000'])
-    cluster.daemons = [subprocess.Popen(words(0, cluster.folder) + ['--'] + words(1, cluster.folder), stderr=cluster.log)]
-    cluster.wait_for_sockets()
-    try:
-        yield 'one command: ' + try_counts(cluster, 200)
-    finally:
-        cluster.stop()
-    if not has('mosquitto', 'mosquitto_sub'):
-        return
     with socket.socket() as free:
         free.bind(('127.0.0.1', 0))
         port = str(free.getsockname()[1])
-    cluster.log = open(os.path.join(cluster.folder, 'log'), 'w+')
-    cluster.carrier = subprocess.Popen(['mosquitto', '-p', port], stdout=subprocess.DEVNULL, stderr=subprocess.DEVNULL)
-    time.sleep(1)
     at = ['-h', '127.0.0.1', '-p', port, '-t', 'cluster']
-    cluster.daemons = [subprocess.Popen(words(me, cluster.folder) + ['--', 'mosquitto_sub', *at, '--', 'mosquitto_pub', *at, '-l'],
-                                        stdin=subprocess.DEVNULL, stderr=cluster.log) for me in range(2)]
-    cluster.wait_for_sockets()
-    time.sleep(1)
+    one, two = Cluster(options, 2, hub=False), Cluster(options, 2, hub=False)
     try:
-        yield 'mosquitto: ' + try_counts(cluster, 200)
+        one.begin(['sleep', '1000'], one.command(1))
+        yield 'one command: ' + try_counts(one, 200)
+    finally:
+        one.stop()
+    if not has('mosquitto', 'mosquitto_sub'):
+        return
+    try:
+        two.begin(['mosquitto', '-p', port], *[['mosquitto_sub', *at, '--', 'mosquitto_pub', *at, '-l']] * 2)
+        yield 'mosquitto: ' + try_counts(two, 200)
+    finally:
+        two.stop()
+
+
+def try_database(options):
+    if not has('pg_lsclusters', 'setpriv'):
+        return
+    cluster = Cluster(options, 2)
+    try:
+        yield try_postgres(cluster)
+    finally:
+        complaints = cluster.stop()
+    expect(complaints == '', complaints)
+
+
+def try_nobody(options):
+    """Programs of a user without privilege, whose segments are their own; then a daemon that is that user's, with what docs/programs.md
+    names: CAP_SYS_PTRACE, and a /dev/userfaultfd that it may open."""
+    if not has('setpriv'):
+        return
+    device = os.path.join(options.build, 'userfaultfd')
+    if not os.path.exists(device):
+        os.mknod(device, 0o666 | stat.S_IFCHR, os.stat('/dev/userfaultfd').st_rdev)
+        os.chmod(device, 0o666)
+    own = ['setpriv', '--reuid=nobody', '--regid=nogroup', '--clear-groups', '--inh-caps=+sys_ptrace', '--ambient-caps=+sys_ptrace']
+    private = ['unshare', '--mount', 'sh', '-c', f'mount --bind {device} /dev/userfaultfd && exec "$@"', 'sh']
+    for says, before in (('with a daemon of root', ()), ('with a daemon of their own', private + own)):
+        cluster = Cluster(options, 2, before=before)
+        try:
+            for me in range(2):
+                cluster.told(me, './calls', user='nobody', group='nogroup', extra_groups=[])
+            made = cluster.told(0, 'ipcmk', '-M', '5000', '-p', '0600').split()[-1]
+            removed = cluster.on(1, 'ipcrm', '-m', made, user='nobody', group='nogroup', extra_groups=[])
+            expect('not permitted' in removed.communicate()[1].lower() or removed.returncode != 0, 'nobody removes a segment of root')
+            yield f'programs of nobody {says}'
+        finally:
+            complaints = cluster.stop()
+        expect(complaints == '', complaints)
+
+
+def try_checked(options):
+    """The daemon as the compiler's sanitizers check it, and under valgrind."""
+    checks = copy.copy(options)
+    checks.build = os.path.join(options.build, 'checked')
+    build(checks, 'SANITIZE=-g -fsanitize=address,undefined -fno-sanitize-recover=all')
+    for says, chosen, before in (('sanitizers', checks, ()), ('valgrind', options, ('valgrind', '-q', '--leak-check=full'))):
+        if not (before == () or has('valgrind')):
+            return
+        cluster = Cluster(chosen, 2, before=before)
+        try:
+            told = [try_counts(cluster, 20), try_words(cluster, 20), try_calls(cluster), *try_others(cluster)]
+            yield f'{says}: {", ".join(told)}'
+        finally:
+            complaints = cluster.stop()
+        odd = [line for line in complaints.splitlines() if '==' not in line or any(word in line for word in ('Invalid', 'ninitialised', 'lost', 'ERROR'))]
+        expect(not odd, complaints)
+
+
+BOMB = '''
+import ctypes, os, sys, time
+c = ctypes.CDLL(None); c.shmat.restype = ctypes.c_void_p
+words = (ctypes.c_uint16 * 2048).from_address(c.shmat(c.shmget(int(sys.argv[1]), 8192, 0o1600), None, 0))
+for number in range(2000):
+    if os.fork() == 0: words[number] = number; time.sleep(5); os._exit(0)
+for number in range(2000): os.wait()
+print(sum(words[number] == number for number in range(2000)))
+'''
+
+
+def kill_early(cluster, times):
+    """Programs that are killed while they ask, attach and fork. Afterwards nobody has their segment attached."""
+    draw, key = random.Random(1), next(keys)
+    for _ in range(times):
+        program = cluster.on(draw.randrange(cluster.hosts), './count', key, 2, 20)
+        time.sleep(draw.uniform(0, 0.03))
+        program.kill()
+        program.wait()
+    time.sleep(3)
+    lines = [line.split() for line in cluster.told(0, 'ipcs', '-m').splitlines() if line.startswith(f'0x{key:08x}')]
+    expect([line[5] for line in lines] == ['0'], f'nobody has attached it: {lines}')
+    return f'{times} programs killed early'
+
+
+def try_many(options):
+    """2,000 children of one program at a time, each of which stores to a page."""
+    cluster = Cluster(options, 2)
+    try:
+        told = cluster.told(1, sys.executable, '-c', BOMB, next(keys))
+        expect(told == '2000', f'2,000 children stored, and {told} words are right')
+        yield f'2,000 children at a time; {kill_early(cluster, 100)}; {try_counts(cluster, 50)}'
+    finally:
+        complaints = cluster.stop()
+    expect(complaints == '', complaints)
+
+
+def refusal(options, *words, **how):
+    """What a daemon says that can't begin."""
+    command = [os.path.join(options.build, 'leddwyfan-host'), '--me', '0', '--program', options.program, *words]
+    told = subprocess.run(command, stdin=subprocess.DEVNULL, stdout=subprocess.DEVNULL, stderr=subprocess.PIPE, text=True, timeout=20, **how)
+    return told.stderr
+
+
+def try_refusals(options):
+    """Whatever a daemon lacks it says in a sentence."""
+    cluster = Cluster(options, 2)
+    at = lambda name: ('--socket', os.path.join(cluster.folder, name))
+    one = ('--sites', '1')
+    try:
+        told = {'another daemon has': refusal(options, *one, '--socket', cluster.socket(0)),
+                'too long': refusal(options, *one, *at('x' * 120)),
+                "can't be made": refusal(options, *one, '--socket', '/nowhere/socket'),
+                "can't be started": refusal(options, *one, *at('a'), '--program', '/nowhere/shmdbg'),
+                'journal': refusal(options, *one, *at('b'), '--journal', '/nowhere/journal'),
+                'give a carrier': refusal(options, '--sites', '2', *at('c')),
+                'run the daemon as root': refusal(options, *one, *at('d'), user='nobody')}
+        for words, said in told.items():
+            expect(words in said, f'not "{words}": {said}')
+        cluster.daemons[0].kill()
+        cluster.daemons[0].wait()
+        again = cluster.start(0, subprocess.DEVNULL, '--', 'sleep', '1000')
+        time.sleep(1)
+        expect(again.poll() is None, 'a socket that is left over is in nobody\'s way')
+        again.terminate()
+        expect(again.wait(20) == 0, 'the daemon ends')
     finally:
         cluster.stop()
+    yield f'{len(told)} refusals, and a socket that was left over'
 
 
-TRIES = {'smooth': try_smooth, 'carriers': try_carriers, 'death': try_daemon_death, 'kills': try_kills, 'broken': try_broken}
+TRIES = {'smooth': try_smooth, 'carriers': try_carriers, 'postgres': try_database, 'nobody': try_nobody, 'checked': try_checked,
+         'many': try_many, 'refusals': try_refusals, 'death': try_daemon_death, 'kills': try_kills,
+         'repeats': try_repeats, 'broken': try_broken}
 
 
 def run_tries(options):
@@ -375,17 +379,25 @@ def run_tries(options):
             print(f'  {line}', flush=True)
 
 
-def go_on(options):
-    until = time.monotonic() + options.seconds
-    for seed in itertools.count(1):
-        if time.monotonic() > until:
-            return
-        for line in try_kills(options, seed):
-            print(f'  {seed}: {line}', flush=True)
+def soak(options):
+    """One cluster for so long: what its processes hold of memory, in kilobytes, after each turn; then the audit."""
+    until, times = time.monotonic() + options.seconds, options.times // 10
+    with rough_cluster(options, 1) as cluster:
+        for turn in itertools.count(1):
+            first = next(keys)
+            told = [try_counts(cluster, times), try_words(cluster, times, turn), try_lock(cluster, 'mutex', times), try_ring(cluster, times)]
+            print(f'  {turn}: {", ".join(told)}; memory {cluster.memory()}', flush=True)
+            cluster.told(0, 'ipcrm', *[word for key in range(first + 1, next(keys)) for word in ('-M', key)])
+            if time.monotonic() > until:
+                break
+    print(f'  {cluster.kills} sites killed; {cluster.audit()}')
 
 
 def medians(rows):
     return ' '.join(f'{statistics.median(float(row[place]) for row in rows):.1f}' for place in range(len(rows[0])))
+
+
+LOCKS = {'spin': 10000, 'near': 10000, 'mutex': 4000, 'peterson': 1, 'turns': 1}  # so that the hosts meet for a while
 
 
 def time_all(options):
@@ -409,14 +421,27 @@ def time_all(options):
             word = next(keys)
             rounds = cluster.together(*[(me, './ring', word, one, options.times) for me, one in enumerate(('ping', 'pong'))])
             seen.setdefault('ping-pong, rounds a second', []).append([rounds[0].split()[1]])
-            for kind in ('spin', 'near', 'peterson', 'mutex', 'turns'):
+            records = next(keys)
+            rounds = cluster.together((0, './ring', records, 'put', 20 * options.times), (1, './ring', records, 'get', 20 * options.times))
+            seen.setdefault('ring, records a second', []).append([rounds[1].split()[1]])
+            for kind, times in LOCKS.items():
                 lock = next(keys)
-                told = cluster.together(*[(me, './lock', lock, kind, me, 2, options.times) for me in range(2)])
+                told = cluster.together(*[(me, './lock', lock, kind, me, 2, times * options.times) for me in range(2)])
                 seen.setdefault(f'{kind}, rounds a second of each host', []).append([line.split()[1] for line in told])
     finally:
         cluster.stop()
     for says, rows in seen.items():
         print(f'  {says}: {medians(rows)}')
+
+
+def build(options, *words):
+    """All that is tried, in a folder that every user may read."""
+    os.makedirs(options.build, exist_ok=True)
+    os.chmod(options.build, 0o755)
+    subprocess.run(['make', '-s', '-C', HERE, f'BUILD={options.build}', *words, 'tried'], check=True)
+    shutil.copy(os.path.join(HERE, 'leddwyfan-run'), options.build)
+    options.program = shutil.copy(options.program, os.path.join(options.build, 'shmdbg'))
+    os.chmod(options.program, 0o755)
 
 
 def main():
@@ -431,13 +456,15 @@ def main():
     parser.add_argument('--journals', action='store_true', help='with --speed: the sites have journals')
     options = parser.parse_args()
     options.program = os.path.abspath(options.program)
+    if not os.path.isfile(options.program):
+        sys.exit(f'try.py: no {options.program}: `make build` makes it')
     signal.signal(signal.SIGTERM, lambda *_: sys.exit(1))
     begin = time.monotonic()
     with tempfile.TemporaryDirectory(prefix='programs-') as folder:
         options.build = options.build or folder
-        subprocess.run(['make', '-s', '-C', HERE, f'BUILD={options.build}', 'tried'], check=True)
+        build(options)
         try:
-            time_all(options) if options.speed else go_on(options) if options.seconds else run_tries(options)
+            time_all(options) if options.speed else soak(options) if options.seconds else run_tries(options)
         except AssertionError as fault:
             sys.exit(f'try.py: not so: {fault}')
     print(f'{time.monotonic() - begin:.0f} seconds')

@@ -23,7 +23,7 @@ use Rattle.shm_wire.specs.declared.ask.Question.TheVariants as question
 use Rattle.shm_process.specs.Blocks.{Block}
 use Rattle.shm_process.specs.Cause.{OfLine}
 use Rattle.shm_process.specs.WaitingAsks.{Access, Reads, WaitingAsk, after_answer, ask_in, goes_on, waiting_after}
-use Rattle.shm_process.specs.Node.{Node, Heard, Said, answer_to, heard, input_asked, is_late, under_tag, waits_for}
+use Rattle.shm_process.specs.Node.{Node, Heard, Said, answer_to, heard, input_asked, is_beyond, is_late, under_tag, waits_for}
 use Rattle.shm_process.specs.Recorded.{Event, Line, TooLong, Again, Restarted, after_event, after_events, said_at}
 use Rattle.shm_process.specs.Waiting.{after_heard, after_read, after_restart, after_unheard, again_at, block_here, block_in, has_room, joining, joins, next_heard, next_line, ready, says_at, with_ask}
 use Rattle.shm_audit.proofs.Among.{loads-push}
@@ -224,7 +224,7 @@ asked-access tag (question.Show page) x true false e = absurd (cc)
 
 heard-access : (node : Node) (is : stream.Line) (x : Heard) → heard node is ≡ Some x → IsAccess x.waits
 heard-access node (stream.Envelope sent) x e =
-    made-access (foreign node.sites node.me sent.envelope || is_late node sent.source.at)
+    made-access (foreign node.sites node.me sent.envelope || (is_late node sent.source.at || is_beyond node sent))
     (record { input = Deliver sent.envelope; source = sent.source.at; tag = None; waits = None }) x tt e
 heard-access node (stream.Ask ask) x e = asked-access ask.tag ask.asked x (ask.site == node.me) (is_late node 0) e
 

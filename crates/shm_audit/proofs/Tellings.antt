@@ -10,7 +10,7 @@ use Rattle.shm_model.specs.Message.{Input, Deliver, Restart}
 use Rattle.shm_model.specs.Step.{foreign}
 use Rattle.shm_process.specs.Blocks.{Block}
 use Rattle.shm_process.specs.Cause.{Cause, OfLine, OfRestart}
-use Rattle.shm_process.specs.Node.{Node, Heard, Said, heard, input_asked, is_late, new_node, next_clock, says, stepped, under_tag, waits_for}
+use Rattle.shm_process.specs.Node.{Node, Heard, Said, heard, input_asked, is_beyond, is_late, new_node, next_clock, says, stepped, under_tag, waits_for}
 use Rattle.shm_process.specs.Recorded.{Entry, Event, Line, TooLong, Again, Restarted, after_event, entries_of, recorded, said_at}
 use Rattle.shm_process.specs.Waiting.{after_heard, after_read, after_unheard, again_at, can_be_made, joining, joins, next_heard, next_line, ready, restarting, said_read, said_restart, after_restart, says_at}
 use Rattle.shm_process.specs.WaitingAsks.{WaitingAsk, ask_in}
@@ -63,15 +63,16 @@ or_cases true b h = absurd (cc)
 or_cases false b h = (refl, h)
 
 sent_by : (node : Node) (pages : ℕ) (log : List Logged) (cause : Cause) (sent : Sent) (h : Heard) (other : Bool)
-    → (foreign node.sites node.me sent.envelope || is_late node sent.source.at) ≡ other
+    → (foreign node.sites node.me sent.envelope || (is_late node sent.source.at || is_beyond node sent)) ≡ other
     → cond other None (Some (record { input = Deliver sent.envelope; source = sent.source.at; tag = None; waits = None })) ≡ Some h
     → Takes node pages log cause h (Some (delivered sent))
 sent_by node pages log cause sent h true o e = absurd (cc)
 sent_by node pages log cause sent h false o e =
-    let both = or_cases (foreign node.sites node.me sent.envelope) (is_late node sent.source.at) o in
+    let own = or_cases (foreign node.sites node.me sent.envelope) (is_late node sent.source.at || is_beyond node sent) o in
+    let early = or_cases (is_late node sent.source.at) (is_beyond node sent) own.1 in
     let made : Heard = record { input = Deliver sent.envelope; source = sent.source.at; tag = None; waits = None } in
     subst (λ x. Takes node pages log cause x (Some (delivered sent))) (same made h e)
-    (takes node pages log cause (Deliver sent.envelope) sent.source None None both.0 both.1)
+    (takes node pages log cause (Deliver sent.envelope) sent.source None None own.0 early.0)
 
 -- a caller asks for no delivery
 asked_own : (sites me : ℕ) (q : Question) → IfSome (input_asked q) (λ input. is_foreign sites me input ≡ false)
@@ -101,7 +102,7 @@ asked_by node pages log cause tag waits h (Some input) true false own l e =
 line_taken : (node : Node) (pages : ℕ) (log : List Logged) (line : stream.Line) (h : Heard) → heard node line ≡ Some h
     → Takes node pages log (OfLine line) h (handed node.me (OfLine line))
 line_taken node pages log (stream.Envelope sent) h e =
-    sent_by node pages log (OfLine (stream.Envelope sent)) sent h (foreign node.sites node.me sent.envelope || is_late node sent.source.at) refl e
+    sent_by node pages log (OfLine (stream.Envelope sent)) sent h (foreign node.sites node.me sent.envelope || (is_late node sent.source.at || is_beyond node sent)) refl e
 line_taken node pages log (stream.Ask ask) h e =
     asked_by node pages log (OfLine (stream.Ask ask)) ask.tag (waits_for ask.tag ask.asked) h (input_asked ask.asked) (ask.site == node.me) (is_late node 0)
     (asked_own node.sites node.me ask.asked) refl e

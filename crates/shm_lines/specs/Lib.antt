@@ -5,3 +5,4 @@ pub mod Spelling
 pub mod Limits
 pub mod Workload
 pub mod WorkloadFaults
+pub mod Remarks

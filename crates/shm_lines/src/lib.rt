@@ -1,4 +1,5 @@
-//! The lines of a debugger's script: how each is read, and how it is spelled; and the lines of a workload, which say what each caller does. And the words of a segment call, which are the same wherever one is spelled.
+//! Reads and spells the lines of a debugger's script, reads the lines of a workload, and has the words of a segment call, which are the same
+//! everywhere.
 #![tactic(auto)]
 
 mod access;
@@ -21,8 +22,8 @@ mod workload_line;
 pub use access::WorkloadAccess;
 pub use calls::{parse_call, parse_request};
 pub use hints::{
-    Expected, Hint, Recalling, Word, hint_of_access_line, hint_of_first_line, hint_of_script_line,
-    write_hint,
+    Expected, Hint, Recalling, Remark, Word, hint_of_access_line, hint_of_first_line,
+    hint_of_script_line, remark_on_script_line, remark_on_workload_line, write_hint,
 };
 pub use line::Line;
 pub use number::wide_number;

@@ -18,7 +18,7 @@ impl Line {
     ghost use Rattle.std.specs.Prelude.{◌≡◌};
     ghost use Rattle.shm_lines.specs.Line as said;
 
-    /// Whether a script may have this line under this number, from 1: it begins with a `sites` line, and has no other.
+    /// Checks that a script may have this line under this number, from 1: it begins with a `sites` line, and has no other.
     pub fn may_stand(&self, number: u64) -> bool
         ensures { result ≡ said.may_stand number self.now }
     {
@@ -28,7 +28,7 @@ impl Line {
         !self.is_first()
     }
 
-    /// Whether the line says how the sites begin.
+    /// Checks that the line says how the sites begin.
     pub fn is_first(&self) -> bool
         ensures { result ≡ said.is_first self.now }
     {
@@ -38,7 +38,7 @@ impl Line {
         }
     }
 
-    /// Whether the line is an event of the run: something that happens at a site or on the network.
+    /// Checks that the line is an event of the run: something that happens at a site or on the network.
     pub fn is_event(&self) -> bool
         ensures { result ≡ said.is_event self.now }
     {

@@ -50,7 +50,7 @@ pub fn flags(word: &[u8]) -> Option<GetFlags>
     None
 }
 
-/// Whether an attachment is to be read-only, of `ro` or `rw`.
+/// Reads `ro` or `rw`: says whether an attachment is to be read-only.
 pub fn access(word: &[u8]) -> Option<bool>
     ensures { result ≡ Words.access_of word.now }
 {

@@ -1,4 +1,4 @@
-//! How a line is read: its first word says which line it is, and those behind it what it holds.
+//! Reads a line: its first word says which line it is, and those behind it what it holds.
 ghost use Rattle.std.specs.Prelude.{◌≡◌, ℕ, List, ok_or, codes};
 ghost use Rattle.shm_lines.specs.Words.{by_verb, next_named};
 ghost use Rattle.shm_lines.specs.Line.{line_of, call_of, others, sites_of, preset_of, frames_of, load_of, store_of, deliver_of, repeat_of, lose_of, tick_of, restart_of, show_of, back_of};
@@ -13,7 +13,7 @@ use shm_place::{MAX_FRAMES, PAGES, PageId, SegId, SiteId, Sites};
 #[derive(Clone, Copy, Debug, PartialEq, Eq)]
 pub struct BadLine;
 
-/// The line that is spelled so, without its line feed. It takes no memory.
+/// Reads a line, which is given without its line feed. Takes no memory.
 pub fn parse_line(line: &[u8]) -> Result<Line, BadLine>
     ensures { result ≡ ok_or (line_of line.now) (record {}) }
 {
@@ -24,7 +24,7 @@ pub fn parse_line(line: &[u8]) -> Result<Line, BadLine>
 }
 
 #[inline(always)]
-fn read(line: &[u8]) -> Option<Line>
+pub(crate) fn read(line: &[u8]) -> Option<Line>
     ensures { result ≡ line_of line.now }
 {
     let (verb, words) = Words::of(line).word()?;

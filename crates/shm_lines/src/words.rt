@@ -1,4 +1,4 @@
-//! The words of a line, taken one after another.
+//! Takes the words of a line one after another.
 ghost use Rattle.std.specs.List.{slice_split};
 ghost use Rattle.std.specs.Prelude.{◌≡◌, ◌==◌, ◌<◌, [], ◌∷◌, length, IfSome, IfNone};
 ghost use Rattle.std.specs.Option.{option_map_or};
@@ -91,7 +91,7 @@ impl<'a> Words<'a> {
         Some((value, words))
     }
 
-    /// Whether the next word asks for a read-only attachment, and those after it.
+    /// The next word as `ro` (true) or `rw`, and those after it.
     pub fn access(self) -> Option<(bool, Words<'a>)>
         ensures { result ≡ next_of access_of self.entry }
     {
@@ -120,7 +120,7 @@ impl<'a> Words<'a> {
         Some(line)
     }
 
-    /// Whether no word is left.
+    /// Checks that no word is left.
     #[inline(always)]
     pub fn is_empty(&self) -> bool
         ensures { result ≡ is_end self.now }
@@ -132,7 +132,7 @@ impl<'a> Words<'a> {
     }
 }
 
-/// What stands before the first separator, and what stands after it if there is one.
+/// Splits at the first separator: what stands before it, and what stands after it if there is one.
 pub fn split_at(bytes: &[u8], separator: u8) -> (&[u8], Option<&[u8]>)
     ensures parts { slice_split (λ byte. byte == separator) bytes.now
         ≡ result.0.now ∷ option_map_or (λ rest. slice_split (λ byte. byte == separator) rest.now) result.1 [] }

@@ -8,10 +8,10 @@ use crate::workload_fault::WorkloadFault;
 use shm_model::Asked;
 use shm_place::{PAGE_BYTES, PAGES, SiteId, Sites};
 
-/// How many bytes a line has at most, without its line feed.
+/// The most bytes that a line has, without its line feed.
 const MAX_LINE_BYTES: usize = 200;
 
-/// How many lines there are at most.
+/// The most lines that there are.
 const MAX_LINES: u64 = 10_000;
 
 /// The first line: how many pages there are.
@@ -131,7 +131,7 @@ fn store(sites: Sites, size: u32, words: Words<'_>) -> Option<WorkloadAccess>
     })
 }
 
-/// Whether there is such a site, and a byte at this offset of so many pages.
+/// Checks that there is such a site, and a byte at this offset of so many pages.
 fn is_inside(sites: Sites, size: u32, site: u32, offset: u32) -> bool
     requires { size ≤ PAGES }
     ensures { result ≡ said.is_inside sites size site offset }

@@ -16,3 +16,6 @@ pub mod Pushed
 pub mod DeskLemmas
 pub mod DeskBytes
 pub mod DeskEvents
+pub mod NumberedRows
+pub mod NumberedSteps
+pub mod Clocks

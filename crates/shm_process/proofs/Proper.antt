@@ -24,7 +24,7 @@ use Rattle.shm_wire.specs.declared.ask.Question.TheVariants as question
 use Rattle.shm_process.specs.Access.{access_ask}
 use Rattle.shm_process.specs.Cause.{OfLine}
 use Rattle.shm_process.specs.WaitingAsks.{Access, Reads, WaitingAsk, after_answer, ask_in, goes_on, waiting_after}
-use Rattle.shm_process.specs.Node.{Node, Heard, Said, answer_to, heard, input_asked, is_late, new_node, says, under_tag, waits_for}
+use Rattle.shm_process.specs.Node.{Node, Heard, Said, answer_to, heard, input_asked, is_beyond, is_late, new_node, says, under_tag, waits_for}
 use Rattle.shm_process.specs.Recorded.{Entry, Event, Line, TooLong, Again, Restarted, IsEntry, entry_of, after_event, after_events, entries_of, recorded, said_at}
 use Rattle.shm_process.specs.Waiting.{after_heard, after_read, after_restart, after_unheard, again_at, block_in, can_be_made, has_room, joining, joins, next_heard, next_line, ready, said_read, said_restart, says_at, with_ask}
 use Rattle.shm_process.proofs.Tests.{below, unless-some}
@@ -102,11 +102,12 @@ some-is : {A : Type 0} (a b : A) → Some a ≡ Some b → a ≡ b
 some-is a b h = cc
 
 -- what never waits
-idle : (lost late : Bool) (node : Node) (made x : Heard) → IsWide made.source → is_late node made.source ≡ late → made.waits ≡ None
-    → cond (lost || late) None (Some made) ≡ Some x → IsHeard node x
-idle true late node made x wide is none e = absurd (cc)
-idle false true node made x wide is none e = absurd (cc)
-idle false false node made x wide is none e =
+idle : (lost late beyond : Bool) (node : Node) (made x : Heard) → IsWide made.source → is_late node made.source ≡ late → made.waits ≡ None
+    → cond (lost || (late || beyond)) None (Some made) ≡ Some x → IsHeard node x
+idle true late beyond node made x wide is none e = absurd (cc)
+idle false true beyond node made x wide is none e = absurd (cc)
+idle false false true node made x wide is none e = absurd (cc)
+idle false false false node made x wide is none e =
     subst (IsHeard node) (some-is made x e)
     (record { source = wide; early = is; waits = λ ask w. absurd (let never : None ≡ Some ask = sym none ∙ w in cc) })
 
@@ -125,9 +126,9 @@ asks-here node site tag (question.Access asked) x true false own is h e =
       early = is;
       waits = λ ask w. subst (IsProper node.me) (some-is (Access tag asked) ask w) (subst (λ s. IsAsk (access_ask s tag asked)) (own refl) h);
     })
-asks-here node site tag (question.Try asked) x true false own is h e = idle false false node (under_tag tag None (access_of asked)) x wide-zero is refl e
-asks-here node site tag (question.Begin request) x true false own is h e = idle false false node (under_tag tag None (Begin request)) x wide-zero is refl e
-asks-here node site tag question.Tick x true false own is h e = idle false false node (under_tag tag None Tick) x wide-zero is refl e
+asks-here node site tag (question.Try asked) x true false own is h e = idle false false false node (under_tag tag None (access_of asked)) x wide-zero is refl e
+asks-here node site tag (question.Begin request) x true false own is h e = idle false false false node (under_tag tag None (Begin request)) x wide-zero is refl e
+asks-here node site tag question.Tick x true false own is h e = idle false false false node (under_tag tag None Tick) x wide-zero is refl e
 asks-here node site tag (question.Read at offset count) x true false own is h e = absurd (cc)
 asks-here node site tag (question.Show page) x true false own is h e = absurd (cc)
 
@@ -136,7 +137,7 @@ same-site a b h = grind (arith, nat_tests)
 
 line-heard : (node : Node) (line : stream.Line) (x : Heard) → IsLine line → heard node line ≡ Some x → IsHeard node x
 line-heard node (stream.Envelope sent) x is e =
-    idle (foreign node.sites node.me sent.envelope) (is_late node sent.source.at) node
+    idle (foreign node.sites node.me sent.envelope) (is_late node sent.source.at) (is_beyond node sent) node
     (record { input = Deliver sent.envelope; source = sent.source.at; tag = None; waits = None }) x is.2.0 refl refl e
 line-heard node (stream.Ask ask) x is e = asks-here node ask.site ask.tag ask.asked x (ask.site == node.me) (is_late node 0) (same-site ask.site node.me) refl is e
 

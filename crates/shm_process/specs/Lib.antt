@@ -4,6 +4,7 @@ pub mod CauseOf
 pub mod Blocks
 pub mod WaitingAsks
 pub mod AskOf
+pub mod Numbers
 pub mod Node
 pub mod NodeOf
 pub mod Lines

@@ -1,7 +1,7 @@
 -- A site as a process. Lines come on one stream, which all sites and callers share; each that is for this site makes one step of it, and
 -- the others are passed over. A step's clock is above those of the steps before it, and above that of the step which sent what it is
 -- handed.
-use Rattle.std.specs.Prelude.{ℕ, ◌+◌, Bool, true, false, ◌||◌, List, [], Option, Some, None, ◌==◌, if◌then◌else◌, max, option_map}
+use Rattle.std.specs.Prelude.{ℕ, ◌+◌, Bool, true, false, ◌||◌, not, List, [], Option, Some, None, ◌==◌, if◌then◌else◌, max, nat_lt, option_map}
 use Rattle.shm_model.specs.declared.answer.Answer.{Answer}
 use Rattle.shm_model.specs.declared.answer.Answer.TheVariants.{Began, Replied}
 use Rattle.shm_model.specs.Basics.{greatest}
@@ -16,6 +16,7 @@ use Rattle.shm_wire.specs.Sent.{Sent}
 use Rattle.shm_wire.specs.declared.ask.Question.{Question}
 use Rattle.shm_wire.specs.declared.ask.Question.TheVariants as question
 use Rattle.shm_process.specs.Cause.{Cause}
+use Rattle.shm_process.specs.Numbers.{numbers_fit}
 use Rattle.shm_process.specs.WaitingAsks.{Access, WaitingAsk}
 
 -- how many sites there are, and which one this is; the site as it stands, its clock, and how many steps it made; how many lines made
@@ -60,10 +61,21 @@ pub record Heard : Type 0 where
 abbrev pub is_late : Node → ℕ → Bool
 is_late node source = max node.clock source == greatest
 
+-- a clock is taken that is at most so much above this one: 2^32
+abbrev pub most_ahead : ℕ
+most_ahead = 4294967296
+
+abbrev pub is_ahead : Node → ℕ → Bool
+is_ahead node source = nat_lt (node.clock + most_ahead) source
+
+-- an envelope from too far ahead, or with a number that no site can have got by its source's clock
+abbrev pub is_beyond : Node → Sent → Bool
+is_beyond node sent = is_ahead node sent.source.at || not (numbers_fit sent.source.at sent.envelope.message)
+
 -- an envelope, unless it can't be for this site
 abbrev pub handed : Node → Sent → Option Heard
 handed node sent =
-    if foreign node.sites node.me sent.envelope || is_late node sent.source.at then None
+    if foreign node.sites node.me sent.envelope || (is_late node sent.source.at || is_beyond node sent) then None
     else Some (record { input = Deliver sent.envelope; source = sent.source.at; tag = None; waits = None })
 
 -- what a site is made to do; a page is only shown, and a block is loaded byte by byte

@@ -10,10 +10,15 @@ ghost use Rattle.shm_wire.specs.SentOf.{sent_of};
 
 use crate::heard::Heard;
 use crate::node::Node;
+use crate::numbers::numbers_fit;
 use shm_model::Asked;
 use shm_site::Input;
 use shm_wire::{Ask, Line, Question, Sent};
 use std::alloc::Allocator;
+
+/// An envelope's clock may be so much above its receiver's. So one line takes the clock no further, and some 2^32 lines are needed to bring
+/// it to its end.
+const MOST_AHEAD: u64 = 1 << 32;
 
 impl<A: Allocator + Copy> Node<A> {
     /// What the line hands to the site, if it is for this site.
@@ -28,16 +33,19 @@ impl<A: Allocator + Copy> Node<A> {
         }
     }
 
-    /// What an envelope hands to the site, unless it can't be for this site.
+    /// What an envelope hands to the site, unless it can't be for this site, or no site that keeps up can have sent it.
     pub(crate) fn hear_envelope(&self, sent: Sent<A>) -> Option<Heard<A>>
         ensures heard { option_map heard_of result ≡ spec.handed (node_of self.now) (sent_of sent) }
         ensures proper { IfSome result (λ h. is_foreign self.now.sites self.now.me (input_of h.input) ≡ false) }
         ensures early { IfSome result (λ h. max self.now.clock h.source < greatest) }
     {
-        let Sent { source, envelope } = sent;
-        if self.site.foreign(&envelope) || self.is_late(source.clock) {
+        if self.site.foreign(&sent.envelope)
+            || self.is_late(sent.source.clock)
+            || self.is_beyond(&sent)
+        {
             return None;
         }
+        let Sent { source, envelope } = sent;
         Some(Heard {
             input: Input::Deliver(envelope),
             source: source.clock,
@@ -63,6 +71,21 @@ impl<A: Allocator + Copy> Node<A> {
             tag: Some(ask.tag),
             waits,
         })
+    }
+
+    /// The envelope is from too far ahead, or names a number that no site can have got by its clock.
+    fn is_beyond(&self, sent: &Sent<A>) -> bool
+        ensures { result ≡ spec.is_beyond (node_of self.now) (sent_of sent.now) }
+    {
+        let source = sent.source.clock;
+        self.is_ahead(source) || !numbers_fit(source, &sent.envelope.message)
+    }
+
+    /// The clock is too far above this site's.
+    fn is_ahead(&self, source: u64) -> bool
+        ensures { result ≡ spec.is_ahead (node_of self.now) source }
+    {
+        source.saturating_sub(self.clock) > MOST_AHEAD
     }
 
     /// No stamp is above this site's clock, or above the sender's.

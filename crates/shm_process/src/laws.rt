@@ -1,10 +1,14 @@
 //! What holds of the definitions, whatever a node is made to do.
-ghost use Rattle.std.specs.Prelude.{◌≡◌, ◌≤◌, All, List, ℕ, None, Some, length};
+ghost use Rattle.std.specs.Prelude.{◌≡◌, ◌≤◌, ◌+◌, ◌*◌, All, List, ℕ, None, Some, length, true};
+ghost use Rattle.shm_process.specs.Cause.{Cause};
 ghost use Rattle.shm_process.specs.Desk.{Desk, on_bytes, settled};
 ghost use Rattle.shm_process.specs.DeskEvents.{DidEvents};
 ghost use Rattle.shm_process.specs.Node as spec;
-ghost use Rattle.shm_process.specs.Recorded.{Event, IsEntry, after_events, entries_of, kept, replayed_all};
-ghost use Rattle.shm_process.specs.Waiting.{most_steps, most_waiting, said_again};
+ghost use Rattle.shm_process.specs.Node.{most_ahead};
+ghost use Rattle.shm_process.specs.Numbers.{NumbersWithin, numbers_fit};
+ghost use Rattle.shm_process.specs.Recorded.{Event, IsEntry, after_event, after_events, entries_of, kept, replayed_all, said_at};
+ghost use Rattle.shm_process.specs.Waiting.{after, most_steps, most_waiting, replayed, said_again};
+ghost use Rattle.shm_wire.specs.Line as stream;
 
 /// The recorded steps, replayed one by one, lead to the same site, clock, count of steps and outstanding caller; only the asks that wait
 /// are forgotten, and no line is counted.
@@ -35,4 +39,34 @@ pub fn few_asks_wait()
 pub fn no_ask_is_left_that_can_be_made()
     ensures { (sites me pages : ℕ) (events : List Event) (desk : Desk) → desk.node ≡ after_events (spec.new_node sites me pages) events
         → said_again (settled most_steps desk).node ≡ None }
+{}
+
+/// A clock that is taken is within the bound: whatever a line says, it raises a node's clock by at most 2^32 + 1.
+#[tactic(auto, using(crate::proofs::Clocks::line_reach))]
+pub fn a_line_raises_the_clock_within_a_bound()
+    ensures { (node : spec.Node) (line : stream.Line) → (after node line).clock ≤ node.clock + most_ahead + 1 }
+{}
+
+/// So many events bring a node's clock at most so far: to its end, 2^64 - 1, no fewer than 2^32 - 1.
+#[tactic(auto, using(crate::proofs::Clocks::clock_reach))]
+pub fn a_clock_is_bounded_by_its_events()
+    ensures { (sites me pages : ℕ) (events : List Event) → (after_events (spec.new_node sites me pages) events).clock ≤ (most_ahead + 1) * length events }
+{}
+
+/// No number that a node holds is above its clock, whatever lines come: not at its beginning, nor after any event, nor after a step that is
+/// made again from its record.
+#[tactic(auto, using(crate::proofs::Clocks::new_within, crate::proofs::Clocks::event_within))]
+pub fn no_number_is_above_the_clock()
+    ensures new { (sites me pages : ℕ) → NumbersWithin 0 (spec.new_node sites me pages).site }
+    ensures event { (node : spec.Node) (event : Event) → NumbersWithin node.clock node.site
+        → NumbersWithin (after_event node event).clock (after_event node event).site }
+    ensures again { (node : spec.Node) (clock : ℕ) (cause : Cause) (next : spec.Node) → replayed node clock cause ≡ Some next
+        → NumbersWithin node.clock node.site → NumbersWithin next.clock next.site }
+{}
+
+/// What such a node sends names no number above the clock of its step. So no node passes it over for its number.
+#[tactic(auto, using(crate::proofs::Clocks::sent_fits))]
+pub fn what_is_sent_names_no_number_above_its_clock()
+    ensures { (node : spec.Node) (event : Event) (said : spec.Said) → said_at node event ≡ Some said → NumbersWithin node.clock node.site
+        → All (λ e. numbers_fit said.clock e.message ≡ true) said.sent }
 {}

@@ -13,6 +13,7 @@ mod hearing;
 pub mod laws;
 mod lines;
 mod node;
+mod numbers;
 mod replaying;
 mod said;
 mod stepping;

@@ -1,13 +1,15 @@
+mod beyond;
 mod blocks;
 mod exchanges;
 mod full_heap;
 mod process;
+mod wire;
 
 use shm_model::Answer;
 use shm_place::{SiteId, Sites};
 use shm_process::{Again, Node, Said};
 use shm_wire::parse_line;
-use std::alloc::{AllocError, Allocator};
+use std::alloc::{AllocError, Allocator, Global};
 
 /// A site of so many, where segment 0 has 4 pages and is attached.
 fn new_node<A: Allocator + Copy>(alloc: A, sites: u32, me: u32) -> Result<Node<A>, AllocError> {
@@ -15,6 +17,16 @@ fn new_node<A: Allocator + Copy>(alloc: A, sites: u32, me: u32) -> Result<Node<A
         Ok(sites) if me < sites.count() => Node::new(alloc, sites, SiteId(me), 4),
         _ => Err(AllocError),
     }
+}
+
+/// A node for each of so many sites.
+fn new_nodes(alloc: Global, sites: u32) -> Result<Vec<Node>, AllocError> {
+    let mut nodes = Vec::new(alloc);
+    for me in 0..sites {
+        let node = new_node(alloc, sites, me)?;
+        nodes.push(node)?;
+    }
+    Ok(nodes)
 }
 
 /// The node takes this line.

@@ -6,7 +6,7 @@ use shm_text::{read_up_to, write_whole};
 use std::alloc::Allocator;
 use std::io::{Read, Write};
 
-/// How many bytes are read at once.
+/// The most bytes that are read at once.
 const CHUNK: usize = 4096;
 
 /// The debugger's session for people at a terminal: reads what is typed, line by line, to the input's end or to `quit`, and answers each.

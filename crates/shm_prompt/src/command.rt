@@ -4,7 +4,7 @@ ghost use Rattle.shm_prompt.specs.Command as said;
 
 use shm_lines::{Line, Words, laws, parse_line};
 
-/// How many envelopes `run` delivers at most, where it isn't told.
+/// The most envelopes that `run` delivers without a number.
 const MOST_BY_DEFAULT: u32 = 10_000;
 
 /// What a line that was typed asks for.

@@ -1,11 +1,11 @@
-//! What is told of a wrong line: of a script's line the place where it can't be read on, of another command how it is typed.
+//! Tells a wrong line: of a script's line where it goes wrong, of another command how it is typed.
 ghost use Rattle.std.specs.Prelude.{OnOk};
 ghost use Rattle.shm_prompt.specs.Dialog.{TellsMore};
 
 use shm_lines::{Expected, Hint, Word, Words, hint_of_script_line, write_hint};
 use std::alloc::{AllocError, Allocator};
 
-/// What is told where the first word is no command.
+/// Told where the first word is no command.
 const NO_COMMAND: &[u8] = b"expected a command: `help` lists them\n";
 
 /// Tells what was expected in place of a line that is none.
@@ -38,7 +38,7 @@ fn first_word(typed: &[u8]) -> &[u8] {
     }
 }
 
-/// How a command of the prompt is typed that is no line of a script.
+/// The form of a command of the prompt that is no line of a script.
 fn form_of(verb: &[u8]) -> Option<&'static str> {
     match verb {
         b"flight" => Some("flight"),

@@ -106,7 +106,7 @@ impl<A: Allocator + Copy> Dialog<A> {
     }
 }
 
-/// Whether the session ends with it.
+/// Checks that the session ends with it.
 fn ends(command: &Command) -> bool
     ensures { result ≡ is_quit (Some command.now) }
 {

@@ -12,7 +12,7 @@ use shm_lines::{Line, laws};
 use shm_model::{Event, Opening};
 use std::alloc::Allocator;
 
-/// How many lines a script has at most.
+/// The most lines that a script has.
 const MAX_LINES: usize = 100_000;
 
 /// The script of what stands: the `sites` line, and a line for each event. A replay reads exactly these lines, and stands where the

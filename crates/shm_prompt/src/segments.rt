@@ -56,7 +56,7 @@ fn list_segment<A: Allocator + Copy>(
     text.push_str("\n")
 }
 
-/// Whether nobody can reach the segment again: it is marked, and nobody is attached.
+/// Checks that nobody can reach the segment again: it is marked, and nobody is attached.
 fn is_destroyed(segment: &Segment) -> bool {
     segment.marked && segment.nattch == 0
 }

@@ -12,7 +12,7 @@ use shm_model::{Event, Op, Opening, Request};
 use shm_place::{MAX_FRAMES, PAGES};
 use std::alloc::Allocator;
 
-/// How many bytes a line of a script has at most, without its line feed.
+/// The most bytes that a line of a script has, without its line feed.
 const MAX_LINE_BYTES: usize = 200;
 
 /// Appends the line, with a line feed, if it is read back as itself.
@@ -49,7 +49,7 @@ fn append<A: Allocator + Copy>(text: &mut Vec<u8, A>, line: &[u8]) -> Result<(),
     }
 }
 
-/// Whether these bytes are short enough for a line, and have no line feed.
+/// Checks that these bytes are short enough for a line, and have no line feed.
 fn fits(line: &[u8]) -> bool
     ensures short { result ≡ true → length line.now ≤ max_line_bytes }
     ensures unended { result ≡ true → list_all (λ byte. not (byte == 10)) line.now ≡ true }
@@ -57,14 +57,14 @@ fn fits(line: &[u8]) -> bool
     line.len() <= MAX_LINE_BYTES && is_unended(line)
 }
 
-/// Whether no line feed is among these bytes.
+/// Checks that these bytes have no line feed.
 fn is_unended(line: &[u8]) -> bool
     ensures { result ≡ list_all (λ byte. not (byte == 10)) line.now }
 {
     line.iter().all(|byte| *byte != b'\n')
 }
 
-/// Whether a script can have this line.
+/// Checks that a script can have this line.
 fn is_line(line: Line) -> bool
     ensures { result ≡ true → IsLine line }
 {

@@ -1,9 +1,9 @@
-//! Bytes that are typed, line by line.
+//! Takes typed bytes line by line.
 use crate::dialog::Dialog;
 use crate::save_file::SaveFile;
 use std::alloc::{AllocError, Allocator};
 
-/// How many bytes a line has at most, without its line feed.
+/// The most bytes that a line has, without its line feed.
 const MAX_LINE_BYTES: usize = 200;
 
 /// What was typed: what stands after the lines that ended, the one that hasn't, and whether `quit` was among them.
@@ -27,7 +27,7 @@ impl<A: Allocator + Copy> Typed<A> {
         })
     }
 
-    /// Whether a line was `quit`.
+    /// Checks that a line was `quit`.
     pub(crate) fn has_quit(&self) -> bool {
         self.has_quit
     }

@@ -3,6 +3,7 @@ ghost use Rattle.std.specs.Prelude.{◌≤◌};
 mod examples;
 mod full_heap;
 mod growths;
+mod hints;
 mod lines;
 mod prefixes;
 mod refused;

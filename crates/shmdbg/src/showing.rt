@@ -1,22 +1,25 @@
-//! A wrong line is shown below what is told of it: the line, and where it can't be read on.
+//! Shows a wrong line below what is told of it: the line, where it can't be read on, and what it seems to be.
 ghost use Rattle.std.specs.Prelude.{◌≡◌};
 ghost use Rattle.shmdbg.specs.Status.{fault_status, run_status};
 
 use crate::source::Recalls;
 use crate::tell;
 use shm_debug::DebugFault;
-use shm_lines::{hint_of_access_line, hint_of_first_line, hint_of_script_line, write_hint};
+use shm_lines::{
+    Remark, hint_of_access_line, hint_of_first_line, hint_of_script_line, remark_on_script_line,
+    remark_on_workload_line, write_hint,
+};
 use shm_place::{PAGES, Sites};
 use shm_report::ReportFault;
 use std::io::Write;
 
-/// The exit status where a replay ended by this fault, which is told, and a wrong line is shown.
+/// Tells the fault by which a replay ended, shows a wrong line, and gives the exit status.
 pub fn script_fault<I: Recalls, E: Write>(fault: DebugFault, reader: &I, errors: &mut E) -> u8
     ensures status { result ≡ fault_status fault }
 {
     let status = tell::fault(fault, errors);
     if let DebugFault::BadLine(number) = fault {
-        show_script_line(reader.recall(number), errors);
+        show_script_line(number, reader.recall(number), errors);
     }
     status
 }
@@ -41,16 +44,17 @@ pub fn workload_fault<I: Recalls, E: Write>(
     status
 }
 
-fn show_script_line<E: Write>(line: Option<&[u8]>, errors: &mut E) {
+fn show_script_line<E: Write>(number: u64, line: Option<&[u8]>, errors: &mut E) {
     let Some(line) = line else {
         return;
     };
     if let Some(hint) = hint_of_script_line(line) {
         let _ = write_hint(errors, line, &hint);
     }
+    show_remark(remark_on_script_line(number, line), errors);
 }
 
-/// Whether an offset is within segment 0 is not looked at.
+/// Shows a workload's wrong line. Doesn't look whether an offset is within segment 0.
 fn show_workload_line<E: Write>(sites: Sites, number: u64, line: Option<&[u8]>, errors: &mut E) {
     let Some(line) = line else {
         return;
@@ -62,5 +66,12 @@ fn show_workload_line<E: Write>(sites: Sites, number: u64, line: Option<&[u8]>, 
     };
     if let Some(hint) = hint {
         let _ = write_hint(errors, line, &hint);
+    }
+    show_remark(remark_on_workload_line(number, line), errors);
+}
+
+fn show_remark<E: Write>(remark: Option<Remark>, errors: &mut E) {
+    if let Some(remark) = remark {
+        let _ = writeln!(errors, "{remark}");
     }
 }

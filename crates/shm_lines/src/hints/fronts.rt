@@ -1,4 +1,4 @@
-//! How far a word can be read.
+//! Reads a word as far as it goes.
 ghost use Rattle.std.specs.Prelude.{◌≤◌, length};
 
 use crate::Words;
@@ -6,7 +6,7 @@ use crate::hints::expected::Word;
 use crate::hints::verbs::VERBS;
 use shm_place::{MAX_FRAMES, MAX_SITES, PAGES};
 
-/// How many bytes of what stands there can be read as the front of such a word.
+/// Counts the bytes that can be read as the front of such a word.
 pub fn readable(word: Word, bytes: &[u8]) -> usize
     ensures { result ≤ length bytes.now }
 {
@@ -18,7 +18,7 @@ pub fn readable(word: Word, bytes: &[u8]) -> usize
     bytes.len()
 }
 
-/// Whether the bytes are the front of such a word.
+/// Checks that the bytes are the front of such a word.
 fn starts(word: Word, front: &[u8]) -> bool {
     match word {
         Word::Verb => VERBS.iter().any(|verb| verb.as_bytes().starts_with(front)),
@@ -32,7 +32,7 @@ fn starts(word: Word, front: &[u8]) -> bool {
     }
 }
 
-/// Whether the bytes are such a word.
+/// Checks that the bytes are such a word.
 pub fn is_whole(word: Word, bytes: &[u8]) -> bool {
     match word {
         Word::Verb => VERBS.iter().any(|verb| verb.as_bytes() == bytes),

@@ -5,10 +5,10 @@ ghost use Rattle.memchr.specs.Find.{is_byte, places};
 use crate::split_at;
 use memchr::{memchr_iter, memrchr};
 
-/// How many bytes of a line are kept at most while it isn't ended.
+/// The most bytes that are kept of a line that isn't ended.
 const LINE: usize = 256;
 
-/// How many bytes are kept at most.
+/// The most bytes that are kept.
 const KEPT: usize = 8448;
 
 /// The last bytes of a text, from the beginning of a line on.
@@ -31,7 +31,7 @@ impl KeptLines {
         }
     }
 
-    /// Forgets the lines that are ended, and keeps these bytes. Where there are none, as at the end of what is read, nothing is forgotten.
+    /// Forgets the lines that are ended, and keeps these bytes. Without bytes, as at the end of the input, it forgets nothing.
     pub fn keep(&mut self, block: &[u8])
         ensures { block.now ≡ [] → self.new ≡ self.old }
     {
@@ -74,7 +74,7 @@ impl KeptLines {
     }
 }
 
-/// Where the last line begins, the one that isn't ended.
+/// Finds where the last line begins, the one that isn't ended.
 fn open_from(bytes: &[u8]) -> usize
     ensures { result ≤ length bytes.now }
 {

@@ -4,11 +4,11 @@ ghost use Rattle.std.specs.Prelude.{◌≤◌, length, IfSome};
 use crate::hints::kept::KeptLines;
 use std::io::{self, Read};
 
-/// How many bytes are read at once at most.
+/// The most bytes that are read at once.
 const BLOCK: usize = 8192;
 
-/// A reader that gives what another gives, at most 8,192 bytes at once, and from which the lines can be had that it gave last: those of
-/// the last read that gave any, and the one that stood open before it. It takes some 8 KB, however much is read. Which line is told is not proved.
+/// A reader that gives what another gives, at most 8,192 bytes at once, and remembers the lines that it gave last: those of the last read
+/// that gave any, and the one that stood open before it. It takes some 8 KB, however much is read. Which line it recalls isn't proved.
 #[derive(Drop)]
 pub struct Recalling<R> {
     reader: R,
@@ -25,8 +25,7 @@ impl<R: Read> Recalling<R> {
 }
 
 impl<R> Recalling<R> {
-    /// The first 256 bytes of the line of this number, from 1, without its line feed. There is none where it has not been read, or is no
-    /// longer kept.
+    /// The first 256 bytes of the line of this number, from 1, without its line feed. `None`: it wasn't read, or is no longer kept.
     pub fn line(&self, number: u64) -> Option<&[u8]>
         ensures { IfSome result (λ line. length line.now ≤ 256) }
     {

@@ -8,7 +8,7 @@ use crate::hints::verbs::words_after;
 use crate::hints::walk::{first_fault, read_word};
 use crate::parse_line;
 
-/// Where a line of a script can't be read on. A right line has no hint.
+/// Finds where a line of a script goes wrong. A right line has no hint.
 ///
 /// Proved: which lines have a hint, and that it lies within the line or at its end. Not proved, only shown by examples in tests: that some
 /// right line begins with the bytes before it, and none with these and the byte there; and that what is expected could stand there.
@@ -23,7 +23,7 @@ pub fn hint_of_script_line(line: &[u8]) -> Option<Hint>
     }
 }
 
-/// Where a line can't be read on, if it isn't right.
+/// Finds where a wrong line can't be read on.
 fn fault_of_script_line(line: &[u8]) -> Hint
     ensures { result.at ≤ length line.now }
 {

@@ -1,12 +1,12 @@
-//! How a hint is told.
+//! Writes a hint.
 use crate::hints::hint::Hint;
 use std::fmt;
 use std::io::{self, Write};
 
-/// How many bytes of a line are shown before the place that can't be read on, at most.
+/// The most bytes of a line that are shown before the place that can't be read on.
 const BEFORE: usize = 72;
 
-/// How many bytes of a line are shown from there on, at most.
+/// The most bytes of a line that are shown from there on.
 const AFTER: usize = 40;
 
 /// Writes the line, below it a caret under the byte that can't be read on, and what could stand there. Of a long line the part round that

@@ -1,11 +1,11 @@
-//! How a line is gone through, word by word.
+//! Reads a line word by word.
 ghost use Rattle.std.specs.Prelude.{◌≤◌, ◌+◌, length, IfErr, IfOk};
 
 use crate::hints::expected::{Expected, Word};
 use crate::hints::fronts::{is_whole, readable};
 use crate::hints::hint::Hint;
 
-/// Where the word ends that begins there, if it is such a word; else where it can't be read on.
+/// Finds where the word that begins there ends, if it is such a word; else where it goes wrong.
 pub fn read_word(word: Word, line: &[u8], start: usize) -> Result<usize, Hint>
     requires { start ≤ length line.now }
     ensures ok { IfOk result (λ end. end ≤ length line.now) }
@@ -23,7 +23,7 @@ pub fn read_word(word: Word, line: &[u8], start: usize) -> Result<usize, Hint>
     Ok(end)
 }
 
-/// Where the line can't be read on behind a word that was read and ends there, if these words are to follow.
+/// Finds where the line goes wrong behind a word that ends there, if these words are to follow.
 pub fn first_fault(words: &[Word], line: &[u8], from: usize) -> Hint
     requires { from ≤ length line.now }
     ensures { result.at ≤ length line.now }
@@ -47,7 +47,7 @@ pub fn first_fault(words: &[Word], line: &[u8], from: usize) -> Hint
     }
 }
 
-/// Where the word ends that begins there.
+/// Finds where the word that begins there ends.
 fn word_end(line: &[u8], start: usize) -> usize
     requires { start ≤ length line.now }
     ensures from { start ≤ result }

@@ -8,7 +8,7 @@ use crate::hints::walk::{first_fault, read_word};
 use crate::hints::workload_line::{access_of, preset_of};
 use shm_place::{PAGE_BYTES, PAGES, Sites};
 
-/// Where the first line of a workload can't be read on: `preset P`. A right line has no hint.
+/// Finds where the first line of a workload, `preset P`, goes wrong. A right line has no hint.
 pub fn hint_of_first_line(line: &[u8]) -> Option<Hint>
     ensures right { IfNone result (IsSome (said.preset_of line.now)) }
     ensures wrong { IfSome result (λ hint. said.preset_of line.now ≡ None) }
@@ -20,7 +20,7 @@ pub fn hint_of_first_line(line: &[u8]) -> Option<Hint>
     }
 }
 
-/// Where a further line of a workload can't be read on, an access at one of so many sites, if segment 0 has so many pages. A right line
+/// Finds where a further line of a workload goes wrong: an access at one of so many sites, where segment 0 has so many pages. A right line
 /// has no hint.
 pub fn hint_of_access_line(sites: Sites, pages: u32, line: &[u8]) -> Option<Hint>
     requires { pages ≤ PAGES }
@@ -34,7 +34,7 @@ pub fn hint_of_access_line(sites: Sites, pages: u32, line: &[u8]) -> Option<Hint
     }
 }
 
-/// Where a first line can't be read on, if it isn't right.
+/// Finds where a wrong first line can't be read on.
 fn fault_of_first_line(line: &[u8]) -> Hint
     ensures { result.at ≤ length line.now }
 {
@@ -44,7 +44,7 @@ fn fault_of_first_line(line: &[u8]) -> Hint
     }
 }
 
-/// Where an access can't be read on, if it isn't right.
+/// Finds where a wrong access can't be read on.
 fn fault_of_access_line(sites: Sites, pages: u32, line: &[u8]) -> Hint
     requires { pages ≤ PAGES }
     ensures { result.at ≤ length line.now }

@@ -3,11 +3,11 @@ use crate::tests::exchanges::{
     Exchange, Records, asks_waiting, counts, first_astray, new_desks, page_line,
 };
 use crate::tests::full_heap::{Filling, TRIES, fill_heap};
-use crate::tests::{new_node, said_again, take_line, tells, tells_nobody};
+use crate::tests::{new_node, new_nodes, said_again, take_line, tells, tells_nobody};
 use linked_list_allocator::LocalHeap;
 use shm_model::Answer;
 use shm_process::{Desk, Node, Said};
-use std::alloc::{AllocError, Allocator};
+use std::alloc::{AllocError, Allocator, Global};
 use std::process::Abort;
 use std::test::Fail;
 
@@ -22,41 +22,101 @@ fn sent_line<A: Allocator + Copy>(
     }
 }
 
+/// Whether the node sends these lines, and no others, on this one.
+fn sends(alloc: Global, node: &mut Node, line: &str, sent: &str) -> Result<bool, AllocError> {
+    let said = take_line(alloc, node, line.as_bytes())?;
+    Ok(sent_line(alloc, said)?.as_str() == sent)
+}
+
+/// Whether the owner's byte 5 becomes 7, and its caller is told.
+fn stores(alloc: Global, owner: &mut Node) -> Result<bool, AllocError> {
+    let stored = take_line(alloc, owner, b"ask 0 a store 0 5 7")?;
+    Ok(tells(&stored, "a", Answer::Stored))
+}
+
+/// Whether the reader sends its ask for byte 5, and tells its caller nothing.
+fn asks(alloc: Global, reader: &mut Node) -> Result<bool, AllocError> {
+    let fault = take_line(alloc, reader, b"ask 1 b load 0 5")?;
+    let is_told_nobody = tells_nobody(&fault);
+    Ok(is_told_nobody && sent_line(alloc, fault)?.as_str() == "env 1 0 1 0 0 ask 0 0 1 read\n")
+}
+
+/// What the owner's manager tells the owner on that ask.
+const HAND: &str = "env 0 0 2 1 0 hand 0 0 1 read 1";
+
+/// Whether the owner sends that to itself.
+fn hands(alloc: Global, owner: &mut Node) -> Result<bool, AllocError> {
+    sends(
+        alloc,
+        owner,
+        "env 1 0 1 0 0 ask 0 0 1 read",
+        "env 0 0 2 1 0 hand 0 0 1 read 1\n",
+    )
+}
+
+/// Whether the reader confirms the page that the owner sends it.
+fn confirms(alloc: Global, owner: &mut Node, reader: &mut Node) -> Result<bool, AllocError> {
+    let lent = take_line(alloc, owner, HAND.as_bytes())?;
+    let page = sent_line(alloc, lent)?;
+    sends(
+        alloc,
+        reader,
+        page.as_str().trim_end(),
+        "env 1 0 4 1 0 confirm 0 0 1\n",
+    )
+}
+
+/// Whether the caller that waited for byte 5 is told 7.
+fn is_told(reader: &mut Node) -> Result<bool, AllocError> {
+    let loaded = said_again(reader.again()?);
+    Ok(tells(&loaded, "b", Answer::Byte(7)))
+}
+
+/// Whether no ask is answered.
+fn is_quiet(reader: &mut Node) -> Result<bool, AllocError> {
+    Ok(reader.again()?.is_none())
+}
+
+/// Whether the reader passes over what the owner sends itself.
+fn passes_over(alloc: Global, reader: &mut Node) -> Result<bool, AllocError> {
+    Ok(take_line(alloc, reader, HAND.as_bytes())?.is_none())
+}
+
 #[test]
 fn a_copy_is_lent(rt: HostRuntime) -> Result<(), Fail> {
     let alloc = rt.alloc();
-    let mut owner = new_node(alloc, 2, 0)?;
-    let mut reader = new_node(alloc, 2, 1)?;
-    let stored = take_line(alloc, &mut owner, b"ask 0 a store 0 5 7")?;
-    assert!(rt; tells(&stored, "a", Answer::Stored));
-    let fault = take_line(alloc, &mut reader, b"ask 1 b load 0 5")?;
-    assert!(rt; tells_nobody(&fault));
-    assert!(rt; reader.again()?.is_none(), "it waits for what was asked");
-    let ask = sent_line(alloc, fault)?;
-    assert_eq!(rt; ask.as_str(), "env 1 0 1 0 0 ask 0 0 1 read\n");
-    let handed = take_line(alloc, &mut owner, ask.as_str().trim_end().as_bytes())?;
-    let hand = sent_line(alloc, handed)?;
-    assert_eq!(rt; hand.as_str(), "env 0 0 2 1 0 hand 0 0 1 read 1\n");
-    let passed = take_line(alloc, &mut reader, hand.as_str().trim_end().as_bytes())?;
-    assert!(rt; passed.is_none());
-    let lent = take_line(alloc, &mut owner, hand.as_str().trim_end().as_bytes())?;
-    let page = sent_line(alloc, lent)?;
-    let taken = take_line(alloc, &mut reader, page.as_str().trim_end().as_bytes())?;
-    let confirm = sent_line(alloc, taken)?;
-    assert_eq!(rt; confirm.as_str(), "env 1 0 4 1 0 confirm 0 0 1\n");
-    let loaded = said_again(reader.again()?);
-    assert!(rt; tells(&loaded, "b", Answer::Byte(7)));
-    assert!(rt; reader.again()?.is_none(), "it was answered");
-    assert_eq!(rt;
-        (
-            reader.steps(),
-            reader.clock(),
-            reader.lines_taken(),
-            reader.lines_passed()
-        ),
-        (3, 5, 2, 1)
-    );
+    let mut nodes = new_nodes(alloc, 2)?;
+    lend(&rt, alloc, nodes.as_mut_slice())
+}
+
+/// The owner stores a byte, and lends the page that it is in to the reader.
+fn lend(rt: &impl Abort, alloc: Global, nodes: &mut [Node]) -> Result<(), Fail> {
+    let Some((owner, others)) = nodes.split_first_mut() else {
+        return Err(Fail::new("no owner"));
+    };
+    let Some(reader) = others.first_mut() else {
+        return Err(Fail::new("no reader"));
+    };
+    assert!(rt; stores(alloc, owner)?);
+    assert!(rt; asks(alloc, reader)?);
+    assert!(rt; is_quiet(reader)?, "it waits for what was asked");
+    assert!(rt; hands(alloc, owner)?);
+    assert!(rt; passes_over(alloc, reader)?);
+    assert!(rt; confirms(alloc, owner, reader)?);
+    assert!(rt; is_told(reader)?);
+    assert!(rt; is_quiet(reader)?, "it was answered");
+    assert_eq!(rt; counts_of(reader), (3, 5, 2, 1));
     Ok(())
+}
+
+/// How many steps it made, its clock, and how many lines it took and passed over.
+fn counts_of(node: &Node) -> (u64, u64, u64, u64) {
+    (
+        node.steps(),
+        node.clock(),
+        node.lines_taken(),
+        node.lines_passed(),
+    )
 }
 
 /// Whether the node makes the step of a load that is tried. Where memory is refused it is as before.

@@ -100,3 +100,49 @@ fn wrong_lines_are_shown(rt: HostRuntime) {
         assert!(rt; ran.errors.as_slice().starts_with(errors));
     }
 }
+
+/// What a wrong line seems to be is told last.
+#[test]
+fn wrong_lines_are_named(rt: HostRuntime) {
+    let replay: &[&str] = &["shmdbg", "replay"];
+    let cases: [(&[&str], &[u8], &[u8]); 8] = [
+        (replay, b"sites 1\n\n", b"there are no blank lines\n"),
+        (replay, b"# mine\n", b"there are no comments\n"),
+        (
+            replay,
+            b"sites 1\r\n",
+            b"a line feed alone ends a line, without a carriage return\n",
+        ),
+        (
+            replay,
+            b"sites 1\ntick 0",
+            b"a line feed ends the last line, too\n",
+        ),
+        (
+            replay,
+            b"preset 1\n",
+            b"this is a workload's line, for `shmdbg run`\n",
+        ),
+        (
+            replay,
+            b"sites 1\nsites 2\n",
+            b"`sites` begins a script and `preset` a workload, and nothing else does\n",
+        ),
+        (
+            &WORDS,
+            b"sites 1\n",
+            b"this is a script's line, for `shmdbg replay`\n",
+        ),
+        (
+            &WORDS,
+            b"preset 1\nload 0 4096\n",
+            b"the offset is beyond the segment, or no line feed ends the line\n",
+        ),
+    ];
+    for (words, input, told) in cases {
+        let mut reader = Source::new(input, true);
+        let ran = run_over(&rt, words, &mut reader);
+        assert_eq!(rt; ran.status, 1);
+        assert!(rt; ran.errors.as_slice().ends_with(told));
+    }
+}

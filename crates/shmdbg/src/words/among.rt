@@ -1,4 +1,4 @@
-//! The site that a process is to be is one of those that there are.
+//! Checks that `--me` is below `--sites`.
 ghost use Rattle.std.specs.Prelude.{◌≡◌, true, IfOk, OnOk};
 ghost use Rattle.clap.specs.Kinds.{FailsBy};
 ghost use Rattle.clap.specs.Words.{kind_of};
@@ -11,7 +11,7 @@ use clap::Error;
 use clap::error::ErrorKind;
 use std::alloc::{AllocError, Global};
 
-/// Finds fault with the task of a site that isn't there.
+/// Refuses the task of a site whose number isn't below the number of sites.
 pub fn look_for_site(alloc: Global, task: &Task<'_>) -> Result<(), Error>
     ensures fault { FailsBy (spec.task_fault task.now) result }
     ensures among { OnOk result (spec.is_among task.now ≡ true) }
@@ -36,7 +36,7 @@ fn is_among(task: &Task<'_>) -> bool
     }
 }
 
-/// What is told where the site isn't one of so many.
+/// The error for a site that isn't there.
 fn missing_site_error(alloc: Global, task: &Task<'_>) -> Result<Error, AllocError>
     ensures { IfOk result (λ error. kind_of error ≡ ValueValidation) }
 {
@@ -47,7 +47,7 @@ fn missing_site_error(alloc: Global, task: &Task<'_>) -> Result<Error, AllocErro
     command(alloc)?.error(ErrorKind::ValueValidation, message.as_str())
 }
 
-/// Which site it is to be, and of how many.
+/// The site's number, and how many sites there are.
 fn numbers_of(task: &Task<'_>) -> (u32, u32) {
     match task {
         Task::Site {

@@ -1,4 +1,4 @@
-//! The commands that there are, with their options.
+//! The commands, with their options.
 ghost use Rattle.std.specs.Prelude.{◌≡◌, false, IfOk};
 ghost use Rattle.clap.specs.Words.{app_of, rule_of};
 ghost use Rattle.clap.specs.declared.builder.command.Command.TheViews.{out-Command};
@@ -8,7 +8,7 @@ use crate::words::help;
 use clap::{Arg, ArgAction, Command, value_parser};
 use std::alloc::{AllocError, Global};
 
-/// What help calls the numbers that name a page.
+/// The names of a page's two numbers in help.
 const PAGE: [&str; 2] = ["SEG", "INDEX"];
 
 /// The program with all its subcommands.
@@ -81,7 +81,7 @@ fn site_command<'a>(alloc: Global) -> Result<Command<'a>, AllocError>
     ensures local { IfOk result (λ c. (out-Command c).has_globals ≡ false) }
 {
     Command::new(alloc, "site")
-        .about("Be one site of a cluster, whose lines come on standard input")
+        .about("Run one site of a cluster on the lines of standard input")
         .after_help(help::SITE)
         .arg(sites_arg(alloc))?
         .arg(me_arg(alloc))?
@@ -146,7 +146,7 @@ fn seed_arg<'a>(alloc: Global) -> Arg<'a>
     Arg::new(alloc, "seed")
         .long("seed")
         .value_name("S")
-        .help("Where the losses and repeats are drawn from")
+        .help("The seed of the losses and repeats")
         .required(true)
         .action(ArgAction::Set)
         .value_parser(value_parser!(u32))
@@ -159,7 +159,7 @@ fn page_arg<'a>(alloc: Global) -> Arg<'a>
     Arg::new(alloc, "page")
         .long("page")
         .value_names(&PAGE)
-        .help("The page that is shown, by its segment and its index in it")
+        .help("The page to show, by its segment and its index")
         .action(ArgAction::Set)
         .value_parser(value_parser!(u32))
 }
@@ -170,7 +170,7 @@ fn summary_arg<'a>(alloc: Global) -> Arg<'a>
 {
     Arg::new(alloc, "summary")
         .long("summary")
-        .help("Tell at the end how much was done, and how long it took")
+        .help("Add how much was done, and how long it took")
         .action(ArgAction::SetTrue)
 }
 
@@ -192,7 +192,7 @@ fn journal_arg<'a>(alloc: Global) -> Arg<'a>
     Arg::new(alloc, "journal")
         .long("journal")
         .value_name("FILE")
-        .help("Keep the site's journal in this file, and begin as it says")
+        .help("Keep the site's journal in this file, and go on from it")
         .action(ArgAction::Set)
 }
 
@@ -202,7 +202,7 @@ fn journals_arg<'a>(alloc: Global) -> Arg<'a>
 {
     Arg::new(alloc, "journals")
         .value_name("JOURNAL")
-        .help("The files that have the journals, in the order of the sites")
+        .help("The journals, in the order of the sites")
         .required(true)
         .action(ArgAction::Set)
         .num_args(1..=16)

@@ -1,6 +1,6 @@
-//! What `--help` tells beside the words.
+//! The texts of `--help`.
 
-/// What `--version` tells behind the program's name.
+/// The version.
 pub const VERSION: &str = "1.0.0";
 
 /// Of the program: what goes in, what comes out, and the exit statuses.
@@ -93,8 +93,8 @@ was another site's, 4 the run gave up or its audit found a cause.";
 
 /// Of a site as a process.
 pub const SITE: &str = "\
-Takes the lines on standard input, one by one, and writes what its site tells:
-envelopes for other sites, and answers to callers. All N sites and their callers
+Reads lines from standard input, and writes those of its site: envelopes for
+other sites, and answers to callers. All N sites and their callers
 share one stream of lines, which anything may carry, and may lose, repeat and
 reorder: give each site the lines of all. Segment 0 has P pages of 4096 bytes,
 and each site has it attached as attachment 0. N and P are the same at all
@@ -104,7 +104,7 @@ sites. A caller asks site S under a tag T of its own:
   ask S T read 0 OFFSET LENGTH told once all are loaded, 4096 bytes at most
   ask S T tick                 send again what isn't answered
 docs/lines.md has all lines. A line that isn't for this site changes nothing.
-Somebody has to ask each site to tick now and then, as lines may be lost.
+Ask each site to tick now and then, as lines may be lost.
   $ printf 'ask 0 a store 0 5 7\\nask 0 b load 0 5\\n' |
     shmdbg site --sites 1 --me 0 --preset 1
   tell 0 a stored
@@ -126,11 +126,10 @@ opened, another process has it, or its site's clock ended.";
 
 /// Of an audit of journals.
 pub const AUDIT: &str = "\
-Reads the journals that all N sites kept, one file for each site, in the order
-of the sites, and audits the steps that they tell of: it finds one order of them
-all in which each load gives the byte that was stored last, or tells a cause why
-there is none. Standard input isn't read. A file whose name begins with a hyphen
-comes after --, behind the options.
+Reads the journals of all N sites, one file for each, in the order of the sites.
+Finds one order of all recorded steps in which each load gives the byte that was
+stored last, or tells the cause why there is none. Standard input isn't read. A
+file whose name begins with a hyphen comes after --, behind the options.
 Output: that the audit is yes, and how many steps, loads and stores, and
 envelopes there were:
   $ shmdbg audit --sites 2 site-0.journal site-1.journal
@@ -154,7 +153,7 @@ Lines are those of a script, and
   save FILE the script of what stands
   help      an example of each
   quit
-A wrong line is told, and changes nothing.
+A wrong line changes nothing.
   $ printf 'sites 2 preset 1\\nload 1 0 0\\nrun\\n' | shmdbg prompt
 Exit status: 0 done, 2 these words were refused, 3 memory, reading or writing
 failed.";

@@ -1,4 +1,4 @@
-//! What is written for a subcommand's options. Words that were taken have those that are required, in range.
+//! Reads a subcommand's options. Words that clap took have all that are required, in range.
 ghost use Rattle.std.specs.Prelude.{◌≡◌, Some, codes, map, IfSome};
 ghost use Rattle.clap.specs.Words.{all_of, found_of, rows_of};
 ghost use Rattle.shmdbg.specs.Words.{is_set_at, number_at, number_of, page_named, IsAsked};
@@ -25,7 +25,7 @@ pub(crate) fn run_task<'a>(found: &ArgMatches<'a>) -> Option<Task<'a>>
     })
 }
 
-/// Whether an option that has no value is there.
+/// Checks that an option without a value is there.
 fn is_set(found: &ArgMatches<'_>, option: &str) -> bool
     ensures { result ≡ is_set_at option.now (rows_of (found_of found.now)) }
 {

@@ -1,4 +1,4 @@
-//! What the words have to be beyond what clap looks at: short, and their numbers spelled in one way.
+//! Checks what clap doesn't: words are short, and numbers are spelled in one way.
 ghost use Rattle.std.specs.Prelude.{◌≡◌, map, option_map, IfOk};
 ghost use Rattle.std.specs.List.{list_all, list_any};
 ghost use Rattle.std.specs.Char.{is_ascii_digit};
@@ -16,7 +16,7 @@ use std::convert::AsStr;
 /// The most bytes that are told of a word.
 const MOST_BYTES: usize = 80;
 
-/// Whether a word behind the program's name is longer than any that is told whole.
+/// Checks that some word behind the program's name is longer than any that is told whole.
 pub fn has_long_word<S: AsStr>(words: &[S]) -> bool
     ensures { result ≡ spec.has_long_word (map S.text words.now) }
 {
@@ -38,7 +38,7 @@ fn is_long(word: &str) -> bool
     word.len() > MOST_BYTES
 }
 
-/// Whether the numbers of the subcommand's options are spelled plainly.
+/// Checks that the numbers of the subcommand's options are spelled plainly.
 pub fn has_plain_numbers(matches: &ArgMatches<'_>) -> bool
     ensures { result ≡ spec.has_plain_rows (option_map (λ named. named.1) (subcommand_rows_of matches.now)) }
 {
@@ -58,7 +58,7 @@ fn are_plain(found: &ArgMatches<'_>) -> bool
         && is_plain_at(found, "preset")
 }
 
-/// Whether what is written for an option is spelled plainly.
+/// Checks that what is written for an option is spelled plainly.
 pub fn is_plain_at(found: &ArgMatches<'_>, option: &str) -> bool
     ensures { result ≡ spec.is_plain_at option.now (rows_of (found_of found.now)) }
 {
@@ -94,7 +94,7 @@ fn all_digits(digits: &[u8]) -> bool
     digits.iter().all(|digit| digit.is_ascii_digit())
 }
 
-/// What is told where clap refuses the words: where one of them is too long, that alone, by its first bytes.
+/// The error where clap refuses the words. If a word is too long, it names that word alone, by its first bytes.
 pub fn short_error<S: AsStr>(alloc: Global, words: &[S], error: Error) -> Error
     ensures short { (kinds : Kinds) → HasKind kinds error → HasKind (spec.clap_fault (spec.has_long_word (map S.text words.now)) kinds) result }
 {
@@ -107,7 +107,7 @@ pub fn short_error<S: AsStr>(alloc: Global, words: &[S], error: Error) -> Error
     }
 }
 
-/// What is told where a word is too long: the first such word, by its first bytes.
+/// The error for the first word that is too long, by its first bytes.
 fn long_word_error<S: AsStr>(alloc: Global, words: &[S]) -> Result<Error, AllocError>
     ensures { IfOk result (λ error. kind_of error ≡ UnknownArgument) }
 {
@@ -133,7 +133,7 @@ fn front_of(word: &str) -> &str {
     word
 }
 
-/// What is told where a number isn't spelled plainly.
+/// The error for a number that isn't spelled plainly.
 pub fn spelling_error(alloc: Global, matches: &ArgMatches<'_>) -> Result<Error, AllocError>
     ensures { IfOk result (λ error. kind_of error ≡ ValueValidation) }
 {

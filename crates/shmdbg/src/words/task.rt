@@ -1,12 +1,12 @@
 use shm_place::{PageId, SiteId, Sites};
 
-/// What the words after the program's name ask for.
+/// What the words behind the program's name ask for.
 #[derive(Debug, PartialEq, Eq, Drop)]
 pub enum Task<'a> {
     /// Replay the script on standard input.
     Replay,
-    /// Run the workload on standard input on so many sites in threads, with losses and repeats drawn from the seed; and tell a summary,
-    /// or not; and leave the logs in a folder, if one is named.
+    /// Run the workload on standard input on so many sites in threads, with losses and repeats drawn from the seed. Add a summary, or not.
+    /// Save the logs in a folder, if one is named.
     Run {
         sites: Sites,
         seed: u32,
@@ -19,8 +19,8 @@ pub enum Task<'a> {
     Draw {
         page: Option<PageId>,
     },
-    /// Be this site of so many, where segment 0 has so many pages: take the lines on standard input, and write what is told of them; and
-    /// keep its journal in a file, if one is named.
+    /// Run this site of so many, where segment 0 has so many pages, on the lines of standard input. Keep its journal in a file, if one is
+    /// named.
     Site {
         sites: Sites,
         me: SiteId,

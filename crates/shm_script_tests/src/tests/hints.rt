@@ -1,4 +1,5 @@
-use crate::hints::{
+//! What is told of a line that can't be read.
+use shm_lines::{
     Recalling, hint_of_access_line, hint_of_first_line, hint_of_script_line, write_hint,
 };
 use shm_place::Sites;

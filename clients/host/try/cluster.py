@@ -1,0 +1,172 @@
+"""Hosts on this machine: a daemon for each, the carrier between them, and programs that run over them."""
+import itertools
+import os
+import select
+import shutil
+import socket
+import subprocess
+import tempfile
+import time
+
+PACKAGES = {'mosquitto_sub': 'mosquitto-clients', 'mosquitto': 'mosquitto', 'perl': 'perl', 'ipcs': 'util-linux', 'stress-ng': 'stress-ng',
+            'valgrind': 'valgrind', 'pg_lsclusters': 'postgresql', 'setpriv': 'util-linux'}
+keys = itertools.count(1000)
+patience = [240]  # seconds until a program counts as one that goes on and on
+
+
+def expect(condition, text):
+    if not condition:
+        raise AssertionError(text)
+
+
+def has(*names):
+    missing = sorted({PACKAGES[name] for name in names if shutil.which(name) is None})
+    if missing:
+        print(f'  left out: this needs the Debian packages {" ".join(missing)}')
+    return not missing
+
+
+def answer_of(process):
+    try:
+        told, complaint = process.communicate(timeout=patience[0])
+    except subprocess.TimeoutExpired:
+        process.kill()
+        raise AssertionError(f'{process.args[3:]} goes on and on') from None
+    expect(process.returncode == 0, f'{process.args[3:]}: status {process.returncode}, {told} {complaint}')
+    return told.strip()
+
+
+class Cluster:
+    """So many hosts. `words` are the daemons' own; `before` stands before their command; `rough` says how much the carrier loses, repeats
+    and delays. Without `hub` nothing is started: `begin` does it, with carriers that the daemons start."""
+
+    def __init__(self, options, hosts, rough=('0', '0', '0'), journals=False, words=(), before=(), seed=1, hub=True):
+        self.options, self.hosts = options, hosts
+        self.words, self.before = words, before
+        self.folder = tempfile.mkdtemp(prefix='cluster-', dir=options.build)
+        os.chmod(self.folder, 0o1777)
+        self.journals = [os.path.join(self.folder, f'journal-{me}') for me in range(hosts)] if journals else []
+        self.log = open(os.path.join(self.folder, 'log'), 'w+')
+        if hub:
+            self.begin_with_hub(rough, seed)
+
+    def begin_with_hub(self, rough, seed):
+        pairs = [socket.socketpair() for _ in range(self.hosts)]
+        ends = [pair[1].fileno() for pair in pairs]
+        hub = [os.path.join(self.options.build, 'try', 'hub'), *rough, str(seed)]
+        self.carrier = subprocess.Popen(hub + [str(end) for end in ends], pass_fds=ends)
+        self.daemons = [self.start(me, pairs[me][0]) for me in range(self.hosts)]
+        for end in itertools.chain(*pairs):
+            end.close()
+        self.wait_for_sockets()
+
+    def begin(self, carrier, *carried):
+        """`carried` are the words of each daemon's carrier."""
+        self.carrier = subprocess.Popen(carrier, stdout=subprocess.DEVNULL, stderr=subprocess.DEVNULL)
+        time.sleep(1)
+        self.daemons = [self.start(me, subprocess.DEVNULL, '--', *words) for me, words in enumerate(carried)]
+        self.wait_for_sockets()
+        time.sleep(1)
+
+    def command(self, me):
+        command = [*self.before, os.path.join(self.options.build, 'leddwyfan-host'), '--sites', str(self.hosts), '--me', str(me)]
+        command += ['--socket', self.socket(me), '--program', self.options.program, *self.words]
+        return command + (['--journal', self.journals[me]] if self.journals else [])
+
+    def start(self, me, stream, *words):
+        return subprocess.Popen(self.command(me) + list(words), stdin=stream, stdout=stream, stderr=self.log)
+
+    def wait_for_sockets(self):
+        until = time.monotonic() + 20
+        while not all(os.path.exists(self.socket(me)) for me in range(self.hosts)):
+            expect(time.monotonic() < until, f'the daemons start: {self.complaints()}')
+            time.sleep(0.02)
+
+    def socket(self, me):
+        return os.path.join(self.folder, f'socket-{me}')
+
+    def complaints(self):
+        self.log.seek(0)
+        return self.log.read()
+
+    def run(self, me):
+        return [os.path.join(self.options.build, 'leddwyfan-run'), '--socket', self.socket(me)]
+
+    def on(self, me, *words, **how):
+        """Runs a program on a host. `how` is Popen's: `user`, or what its output is."""
+        words = [os.path.join(self.options.build, 'try', words[0][2:]), *words[1:]] if words[0].startswith('./') else words
+        how = {'stdout': subprocess.PIPE, 'stderr': subprocess.PIPE, **how}
+        return subprocess.Popen(self.run(me) + [str(word) for word in words], text=True, **how)
+
+    def told(self, me, *words, **how):
+        return answer_of(self.on(me, *words, **how))
+
+    def together(self, *programs):
+        """Each is a host and words: all run at once. What each told."""
+        processes = [self.on(me, *words) for me, *words in programs]
+        try:
+            return [answer_of(process) for process in processes]
+        finally:
+            for process in processes:
+                process.kill()
+
+    def site_of(self, me):
+        listed = subprocess.run(['ps', '-o', 'pid=,args=', '--ppid', str(self.daemons[me].pid)], stdout=subprocess.PIPE, text=True).stdout
+        sites = [int(line.split()[0]) for line in listed.splitlines() if ' site --sites ' in line]
+        return sites[0] if sites else None
+
+    def memory(self):
+        """Kilobytes of the daemons, and of their sites."""
+        processes = [daemon.pid for daemon in self.daemons] + [self.site_of(me) for me in range(self.hosts)]
+        return [resident(process) for process in processes]
+
+    def stop(self):
+        for daemon in self.daemons:
+            daemon.terminate()
+        for daemon in self.daemons:
+            daemon.wait(60)
+        self.carrier.terminate()
+        self.carrier.wait()
+        complaints = self.complaints()
+        self.log.close()
+        return complaints
+
+    def audit(self):
+        words = [self.options.program, 'audit', '--sites', str(self.hosts), *self.journals]
+        told = subprocess.run(words, stdout=subprocess.PIPE, stderr=subprocess.STDOUT, text=True).stdout
+        expect(told.startswith('audit yes'), told)
+        return ', '.join(told.splitlines())
+
+
+def resident(process):
+    """Without what it maps of files and segments."""
+    try:
+        with open(f'/proc/{process}/status') as status:
+            return next(int(line.split()[1]) for line in status if line.startswith('RssAnon'))
+    except (OSError, StopIteration):
+        return 0
+
+
+class Words:
+    """A program on each host that adds to words where it is told to, so that each answer is known before."""
+
+    def __init__(self, cluster):
+        key = next(keys)
+        self.programs = [cluster.on(me, './words', key, stdin=subprocess.PIPE, stderr=None) for me in range(cluster.hosts)]
+        self.values = {}
+
+    def ask(self, *asks):
+        """Each is a host, a word and how often: all at once, each of a word of its own. Fails where one isn't told what the word must be."""
+        for me, word, times in asks:
+            self.values[word] = self.values.get(word, 0) + times
+            self.programs[me].stdin.write(f'{word} {times}\n')
+            self.programs[me].stdin.flush()
+        for me, word, times in asks:
+            expect(select.select([self.programs[me].stdout], [], [], patience[0])[0], 'words goes on and on')
+            told = self.programs[me].stdout.readline().strip()
+            expect(told == str(self.values[word]), f'host {me} has {told} in place of {self.values[word]}')
+
+    def end(self):
+        for program in self.programs:
+            program.kill()
+            program.wait()

@@ -1,0 +1,144 @@
+"""Programs that others wrote: tools of util-linux, perl, stress-ng and PostgreSQL. Each gets a cluster that runs, and tells what was tried."""
+import glob
+import os
+import shutil
+import signal
+import subprocess
+import time
+
+from cluster import expect, has, keys
+
+def try_ipc(cluster):
+    """ipcmk, ipcs and ipcrm, each on another host."""
+    last = cluster.hosts - 1
+    made = cluster.told(0, 'ipcmk', '-M', '5000').split()[-1]
+    line = [line.split() for line in cluster.told(last, 'ipcs', '-m').splitlines() if line.split()[1:2] == [made]]
+    expect(line and line[0][4:6] == ['5000', '0'], f'ipcs tells of segment {made}: {line}')
+    cluster.told(last, 'ipcrm', '-m', made)
+    gone = [line for line in cluster.told(0, 'ipcs', '-m').splitlines() if line.split()[1:2] == [made]]
+    expect(not gone, f'segment {made} is removed: {gone}')
+    semaphores = cluster.told(0, 'ipcmk', '-S', '3').split()[-1]
+    cluster.told(last, 'ipcrm', '-s', semaphores)
+    return 'ipcmk, ipcs, ipcrm'
+
+
+PERL = '''
+use IPC::SysV qw(IPC_CREAT S_IRUSR S_IWUSR SEM_UNDO IPC_RMID); $| = 1;
+my ($do, $key, $times) = @ARGV;
+my $id = shmget($key, 8192, IPC_CREAT | 0600); defined $id or die "shmget $!";
+if ($do eq "write") { shmwrite($id, "written by perl", 4096, 15) or die "shmwrite $!"; print "ok" }
+elsif ($do eq "read") { my $text; shmread($id, $text, 4096, 15) or die "shmread $!"; print $text }
+else {
+    my $sem = semget($key, 1, IPC_CREAT | 0600); defined $sem or die "semget $!";
+    for (1 .. $times) {
+        semop($sem, pack("s!3", 0, -1, 0)) or die "semop $!"; my $text;
+        shmread($id, $text, 0, 8) or die; shmwrite($id, pack("q", unpack("q", $text) + 1), 0, 8) or die;
+        semop($sem, pack("s!3", 0, 1, 0)) or die "semop $!";
+    }
+    print "ok";
+}
+'''
+
+
+def try_perl(cluster):
+    key, times, last = next(keys), 20, cluster.hosts - 1
+    cluster.told(0, 'perl', '-e', PERL, 'write', key)
+    told = cluster.told(last, 'perl', '-e', PERL, 'read', key)
+    expect(told == 'written by perl', f'shmread gives {told}')
+    setval = 'use IPC::SysV qw(IPC_CREAT SETVAL); my $s = semget(shift, 1, IPC_CREAT | 0600); semctl($s, 0, SETVAL, 1) or die $!;'
+    cluster.told(0, 'perl', '-e', setval, key)
+    cluster.together(*[(me, 'perl', '-e', PERL, 'count', key, times) for me in range(cluster.hosts)])
+    told = cluster.told(0, 'perl', '-e', 'my $t; shmread(shmget(shift, 8192, 0), $t, 0, 8); print unpack("q", $t)', key)
+    expect(told == str(times * cluster.hosts), f'{cluster.hosts} times {times} under a semaphore is {told}')
+    return 'shmread, shmwrite, semop'
+
+
+def try_stress(cluster):
+    cluster.told(0, 'stress-ng', '--shm-sysv', 1, '--shm-sysv-ops', 2, '--shm-sysv-bytes', '1m', '--shm-sysv-segs', 4, '--verify', '-q')
+    return 'stress-ng'
+
+
+def try_others(cluster):
+    for needs, one in (('ipcs', try_ipc), ('perl', try_perl), ('stress-ng', try_stress)):
+        if has(needs):
+            yield one(cluster)
+
+
+SETTINGS = """
+listen_addresses = ''
+unix_socket_directories = '.'
+dynamic_shared_memory_type = mmap
+shared_buffers = 128kB
+max_connections = 5
+fsync = off
+"""
+
+
+def make_database(folder, tools):
+    """Data that belongs to the user postgres, as servers refuse to run as root."""
+    shutil.chown(folder, 'postgres')
+    data = os.path.join(folder, 'data')
+    subprocess.run([f'{tools}/initdb', '-D', data, '-A', 'trust', '--no-sync'], user='postgres', stdout=subprocess.DEVNULL, check=True, cwd=folder)
+    with open(os.path.join(data, 'postgresql.conf'), 'a') as settings:
+        settings.write(SETTINGS)
+    return data
+
+
+def wait_for(log, words):
+    for _ in range(300):
+        with open(log) as lines:
+            if words in lines.read():
+                return
+        time.sleep(0.1)
+    with open(log) as lines:
+        raise AssertionError(f'PostgreSQL: no "{words}" in {lines.read()}')
+
+
+def serve(cluster, me, tools, data, log, *before):
+    """A server on a host. Behind `unshare` it sees none of the other host's processes, as on a machine of its own."""
+    command = [*before, 'setpriv', '--reuid=postgres', '--regid=postgres', '--init-groups', *cluster.run(me), f'{tools}/postgres', '-D', data]
+    with open(log, 'w') as lines:
+        return subprocess.Popen(command, stdout=lines, stderr=lines, cwd=data)
+
+
+def end_server(server):
+    """Also where it is a child of `unshare`, which doesn't hand signals on."""
+    if server is None or server.poll() is not None:
+        return
+    children = subprocess.run(['ps', '-o', 'pid=', '--ppid', str(server.pid)], stdout=subprocess.PIPE, text=True).stdout.split()
+    for process in children if server.args[0] == 'unshare' else [server.pid]:
+        os.kill(int(process), signal.SIGINT)
+    server.wait(60)
+
+
+def ask_database(tools, data):
+    asked = subprocess.run([f'{tools}/psql', '-h', data, '-U', 'postgres', '-Atc', 'select sum(n) from generate_series(1, 100) n'],
+                           stdout=subprocess.PIPE, text=True, cwd=data).stdout.strip()
+    expect(asked == '5050', f'PostgreSQL tells {asked}')
+
+
+def try_postgres(cluster):
+    """A second server on the same data, from another host, is refused while the first runs, and not after."""
+    tools = sorted(glob.glob('/usr/lib/postgresql/*/bin'))[-1]
+    folder = os.path.join(cluster.folder, f'postgres-{next(keys)}')
+    os.mkdir(folder)
+    data, alone = make_database(folder, tools), ('unshare', '--pid', '--fork', '--mount-proc')
+    one, two = os.path.join(folder, 'one'), os.path.join(folder, 'two')
+    first = serve(cluster, 0, tools, data, one)
+    second = None
+    try:
+        wait_for(one, 'ready to accept connections')
+        ask_database(tools, data)
+        second = serve(cluster, cluster.hosts - 1, tools, data, two, *alone)
+        expect(second.wait(60) == 1, 'the second server ends')
+        wait_for(two, 'is still in use')
+        ask_database(tools, data)
+        end_server(first)
+        time.sleep(2)
+        second = serve(cluster, cluster.hosts - 1, tools, data, two, *alone)
+        wait_for(two, 'ready to accept connections')
+        ask_database(tools, data)
+    finally:
+        for server in (first, second):
+            end_server(server)
+    return 'PostgreSQL: "pre-existing shared memory block is still in use" for a second server on another host, until the first has ended'
