@@ -7,4 +7,5 @@ mod refusals;
 mod report;
 mod running;
 mod settling;
+mod waiting;
 mod workload;
