@@ -42,13 +42,14 @@ pub(crate) fn call<R: Threads + Wait + Sync>(
     requires { vec_len shared.now.posts ≡ sites }
     ensures { IfOk result (λ told. ServedUnlessEnded sites accesses.now told.items) }
 {
+    let count = sites.count();
     thread::scope(
         thread::scope_env(),
         rt,
         move |scope| -> Result<Told, StartFault>
-            requires { vec_len shared.now.posts ≡ sites }
-            ensures { IfOk result (λ told. ServedUnlessEnded sites accesses.entry.now told.items) }
-        { call_within(rt, alloc, scope, sites, shared, accesses) },
+            requires { vec_len shared.now.posts ≡ count }
+            ensures { IfOk result (λ told. ServedUnlessEnded count accesses.entry.now told.items) }
+        { call_within(rt, alloc, scope, count, shared, accesses) },
     )
 }
 
@@ -57,21 +58,20 @@ fn call_within<'s, 'e: 's, R: Threads + Wait + Sync>(
     rt: &'e R,
     alloc: Global,
     scope: &'s Scope<'s, &'e ()>,
-    sites: Sites,
+    count: u32,
     shared: &'e Shared,
     accesses: &'e [WorkloadAccess],
 ) -> Result<Told, StartFault>
-    requires { vec_len shared.now.posts ≡ sites }
-    ensures { IfOk result (λ told. ServedUnlessEnded sites accesses.now told.items) }
+    requires { vec_len shared.now.posts ≡ count }
+    ensures { IfOk result (λ told. ServedUnlessEnded count accesses.now told.items) }
 {
-    let count = sites.count() as usize;
-    let Ok(mut told) = Vec::with_capacity(alloc, count) else {
+    let Ok(mut told) = Vec::with_capacity(alloc, count as usize) else {
         return Err(StartFault::OutOfMemory);
     };
-    let Ok(mut callers) = Vec::with_capacity(alloc, count) else {
+    let Ok(mut callers) = Vec::with_capacity(alloc, count as usize) else {
         return Err(StartFault::OutOfMemory);
     };
-    let started = start_callers(rt, alloc, scope, sites, shared, accesses, &mut callers);
+    let started = start_callers(rt, alloc, scope, count, shared, accesses, &mut callers);
     join_callers(rt, callers, &mut told);
     match started {
         Ok(()) => Ok(told),
@@ -84,24 +84,24 @@ fn start_callers<'s, 'e: 's, R: Threads + Wait + Sync>(
     rt: &'e R,
     alloc: Global,
     scope: &'s Scope<'s, &'e ()>,
-    sites: Sites,
+    count: u32,
     shared: &'e Shared,
     accesses: &'e [WorkloadAccess],
     callers: &mut Vec<PromisedHandle<CallerTold, Caller<'e>>>,
 ) -> Result<(), StartFault>
-    requires posts { vec_len shared.now.posts ≡ sites }
+    requires posts { vec_len shared.now.posts ≡ count }
     requires none { vec_len callers.old ≡ 0 }
-    requires room { sites ≤ vec_capacity callers.old }
+    requires room { count ≤ vec_capacity callers.old }
     ensures each { AreCallers accesses.now callers.new.items }
-    ensures few { vec_len callers.new ≤ sites }
-    ensures all { OnOk result (vec_len callers.new ≡ sites) }
+    ensures few { vec_len callers.new ≤ count }
+    ensures all { OnOk result (vec_len callers.new ≡ count) }
 {
-    'sites: for number in 0..sites.count() {
-        let site = SiteId(number);
+    'sites: for number in 0..count {
         let call = move || -> CallerTold
-            requires { site < vec_len shared.now.posts }
-            ensures { IsToldOf site accesses.entry.now result }
-        { call_site(rt, alloc, shared, site, accesses) };
+            requires { number < vec_len shared.now.posts }
+            ensures { IsToldOf number accesses.entry.now result }
+        { call_site(rt, alloc, shared, SiteId(number), accesses) };
+        let site = SiteId(number);
         let Ok(thread) = scope.spawn_with(Caller { site, accesses }, call) else {
             return Err(StartFault::NoThread);
         };

@@ -6,6 +6,6 @@ use Rattle.shm_report.proofs.calling.start_callers.Given as goal
 abbrev pub invariant-sites : goal.invariant-sites
 invariant-sites g l = record {
   count : vec_len l.callers ≡ l.number;
-  room : l.fn.sites ≤ vec_capacity l.callers;
+  room : l.fn.count ≤ vec_capacity l.callers;
   each : AreCallers l.accesses l.callers.items;
 }
