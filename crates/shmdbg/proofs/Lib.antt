@@ -3,5 +3,5 @@ mod Plain
 mod Wrong
 mod Numbers
 mod Streaming
-mod Unaudited
+mod NotAccepted
 mod Unbegun

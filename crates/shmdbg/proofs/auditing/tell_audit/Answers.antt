@@ -5,7 +5,7 @@ use Rattle.std.specs.declared.alloc.Global.{Global}
 use Rattle.shm_audit.specs.declared.counts.Counts.{Counts}
 use Rattle.shm_logs.specs.declared.boxes.site_log.SiteLog.{SiteLog}
 use Rattle.shmdbg.specs.Audited.{IsOfSites, TellsAudit, audit_text}
-use Rattle.shmdbg.proofs.Unaudited.{cause_of_each, unread_cause, unread_causes}
+use Rattle.shmdbg.proofs.NotAccepted.{cause_of_each, unread_cause, unread_causes}
 use Rattle.shmdbg.proofs.auditing.tell_audit.Goals as goal
 
 tells : {A B : Type 0} (r : Result A B) (sites : ℕ) (old new : Option (List ℕ)) (logs : List (SiteLog Global)) (counts : Counts) → IsOfSites sites logs counts
