@@ -1,10 +1,10 @@
 # Everything here needs the command `rt` of the Rattle toolchain, and nothing else but `machines`, `crashes`, `clients`, `programs` and
-# `documents`, which need Python; all but the second and the last need a C compiler too, and the first mosquitto. CONTRIBUTING.md says how
-# long each takes.
+# `documents`, which need Python; all but the second and the last need a C compiler too, and the first mosquitto. `limits` needs root.
+# CONTRIBUTING.md says how long each takes.
 
 PROGRAM := crates/shmdbg
 
-.PHONY: replay try build quick pictures examples manners documents machines crashes clients programs bench refused test wrong-bodies
+.PHONY: replay try build quick pictures examples manners limits documents machines crashes clients programs bench refused test wrong-bodies
 
 # Replays an example without proving anything: a minute or two on a fresh machine, most of it compiling.
 replay:
@@ -46,6 +46,11 @@ examples:
 # Compares the shells' completions and the manual page with what the program's help names. Needs the program that `make build` leaves.
 manners:
 	@completions/check
+
+# Runs a workload as a user that may have ever more threads, from too few to enough. Needs the program that `make build` leaves, setpriv of
+# util-linux, and root.
+limits:
+	@limits/threads
 
 # Checks the documents: links, commands with what they print, and the pages of examples/. Needs the program that `make build` leaves, and
 # Python 3.

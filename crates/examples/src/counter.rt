@@ -31,8 +31,8 @@ where
         Ok(cluster) => cluster,
         Err(fault) => bail!("no cluster: {fault}"),
     };
-    let counted = count_all(rt, alloc, sites, cluster.clients());
-    let loaded = load_all(rt, alloc, sites, cluster.clients());
+    let counted = count_all(rt, alloc, sites, cluster.shared());
+    let loaded = load_all(rt, alloc, sites, cluster.shared());
     let logs = cluster.stop(rt)?;
     let mut callers = Vec::new(alloc);
     for told in counted? {

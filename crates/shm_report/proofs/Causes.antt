@@ -53,7 +53,6 @@ unread_none report.ReadFault P unread = tt
 unread_none report.WriteFault P unread = tt
 unread_none report.NoThread P unread = tt
 unread_none report.ClockEnd P unread = tt
-unread_none report.Foreign P unread = tt
 unread_none report.Logs P unread = tt
 unread_none (report.Audit cause) P unread = tt
 
@@ -68,7 +67,6 @@ ending_none report.ReadFault P ending = tt
 ending_none report.WriteFault P ending = tt
 ending_none report.NoThread P ending = tt
 ending_none report.ClockEnd P ending = tt
-ending_none report.Foreign P ending = tt
 ending_none report.Logs P ending = tt
 ending_none (report.Audit cause) P ending = tt
 
@@ -79,7 +77,6 @@ access_line : (count place : ℕ) (fault : ClientFault) → place < count → If
 access_line count place client.GaveUp named = at_line count place named
 access_line count place client.OutOfMemory named = tt
 access_line count place client.ClockEnd named = tt
-access_line count place client.Foreign named = tt
 
 -- an access that a run gave up is one of its workload's
 run_line : (count : ℕ) (fault : RunFault) → NamesAccess count fault → IfSome (given_up (fault_of_run fault)) (IsLineOf count)

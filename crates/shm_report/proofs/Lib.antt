@@ -5,6 +5,7 @@ pub mod Lines
 pub mod Reports
 pub mod WholeInput
 pub mod Calls
+pub mod CallersTold
 pub mod FirstFault
 pub mod Served
 pub mod Counted

@@ -24,6 +24,11 @@ abbrev pub Adds : ℕ → WorkloadAccess → List Receipt → List Receipt → T
 Adds site access old new =
     MatchBool (access.site == site) ((receipt : Receipt) × (new ≡ old ++ receipt ∷ []) × Serves access receipt) (new ≡ old)
 
+-- what the caller of a site was told: a receipt for each of the site's lines, unless a fault ended it at one of the accesses
+pub record IsToldOf {A : Type 0} (site : ℕ) (accesses : List WorkloadAccess) (told : Result (Vec Receipt A) CallFault) : Type 0 where
+  pub served : IfOk told (λ receipts. ServesAll site accesses receipts.items)
+  pub place : IfErr told (λ fault. fault.place < length accesses)
+
 -- what the callers of so many sites were told, each at its site's number: a receipt for each of the site's lines, unless a fault ended it
 -- at one of the accesses
 pub record ServedUnlessEnded {A : Type 0} (sites : ℕ) (accesses : List WorkloadAccess) (told : List (Result (Vec Receipt A) CallFault)) : Type 0 where

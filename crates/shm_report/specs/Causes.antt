@@ -29,7 +29,6 @@ input_cause report.WriteFault = None
 input_cause report.NoThread = None
 input_cause (report.GaveUp number) = None
 input_cause report.ClockEnd = None
-input_cause report.Foreign = None
 input_cause report.Logs = None
 input_cause (report.Audit cause) = None
 
@@ -44,7 +43,6 @@ audit_cause report.WriteFault = None
 audit_cause report.NoThread = None
 audit_cause (report.GaveUp number) = None
 audit_cause report.ClockEnd = None
-audit_cause report.Foreign = None
 audit_cause report.Logs = None
 audit_cause (report.Audit cause) = Some cause
 
@@ -53,7 +51,6 @@ abbrev pub fault_of_access : ℕ → ClientFault → ReportFault
 fault_of_access place client.OutOfMemory = report.OutOfMemory
 fault_of_access place client.GaveUp = report.GaveUp (min (place + 2) 18446744073709551615)
 fault_of_access place client.ClockEnd = report.ClockEnd
-fault_of_access place client.Foreign = report.Foreign
 
 -- why the workload was not run to its end
 abbrev pub fault_of_run : RunFault → ReportFault
@@ -74,7 +71,6 @@ given_up report.ReadFault = None
 given_up report.WriteFault = None
 given_up report.NoThread = None
 given_up report.ClockEnd = None
-given_up report.Foreign = None
 given_up report.Logs = None
 given_up (report.Audit cause) = None
 
@@ -90,7 +86,6 @@ ends_writing report.ReadFault = false
 ends_writing report.NoThread = false
 ends_writing (report.GaveUp number) = false
 ends_writing report.ClockEnd = false
-ends_writing report.Foreign = false
 ends_writing (report.Audit cause) = false
 
 -- neither the workload nor an audit is to blame
@@ -109,7 +104,6 @@ is_after_reading report.WriteFault = true
 is_after_reading report.NoThread = true
 is_after_reading (report.GaveUp number) = true
 is_after_reading report.ClockEnd = true
-is_after_reading report.Foreign = true
 is_after_reading report.Logs = true
 is_after_reading (report.Audit cause) = true
 

@@ -2,6 +2,7 @@ pub mod Causes
 pub mod Report
 pub mod Numbers
 pub mod Callers
+pub mod CallerThreads
 pub mod RunFaults
 pub mod Counts
 pub mod Audited

@@ -1,6 +1,6 @@
 -- Why nothing is reported, by the numbers of the causes.
 use Rattle.std.specs.Prelude.{ℕ}
-use Rattle.shm_model.specs.Refusal.{bad_line, clock_end, foreign_message, gave_up, line_too_long, no_thread, other_logs, out_of_memory, read_fault, too_many_lines, write_fault}
+use Rattle.shm_model.specs.Refusal.{bad_line, clock_end, gave_up, line_too_long, no_thread, other_logs, out_of_memory, read_fault, too_many_lines, write_fault}
 use Rattle.shm_logs.specs.Auditing.Cause.{audit_fault_number}
 use Rattle.shm_report.specs.declared.report_fault.ReportFault.{ReportFault}
 use Rattle.shm_report.specs.declared.report_fault.ReportFault.TheVariants as fault
@@ -15,6 +15,5 @@ report_fault_number fault.WriteFault = write_fault
 report_fault_number fault.NoThread = no_thread
 report_fault_number (fault.GaveUp _) = gave_up
 report_fault_number fault.ClockEnd = clock_end
-report_fault_number fault.Foreign = foreign_message
 report_fault_number fault.Logs = other_logs
 report_fault_number (fault.Audit cause) = audit_fault_number cause

@@ -18,7 +18,6 @@ impl Numbered for ReportFault {
             ReportFault::NoThread => refusal::NO_THREAD,
             ReportFault::GaveUp(_) => refusal::GAVE_UP,
             ReportFault::ClockEnd => refusal::CLOCK_END,
-            ReportFault::Foreign => refusal::FOREIGN,
             ReportFault::Logs => refusal::LOGS,
             ReportFault::Audit(cause) => cause.number(),
         }

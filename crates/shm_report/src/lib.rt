@@ -5,6 +5,7 @@
 mod audited;
 mod auditing;
 mod caller;
+mod calling;
 mod counting;
 mod counts;
 mod counts_text;

@@ -32,15 +32,12 @@ pub enum ReportFault {
     /// The system gave no thread.
     #[error("no thread")]
     NoThread,
-    /// The line's access was waited for to its last turn, and its site still waits for the page.
+    /// The line's access was waited for to its last turn, and its site still waits for the page; or the box at its site was another's.
     #[error("line {0}: gave up")]
     GaveUp(u64),
     /// A site's clock has no further stamp.
     #[error("clock end")]
     ClockEnd,
-    /// The box under a site's lock was another site's.
-    #[error("foreign box")]
-    Foreign,
     /// The logs aren't those of these sites, or the receipts aren't those of this workload.
     #[error("audit: logs")]
     Logs,
@@ -82,7 +79,6 @@ impl ReportFault {
             RunFault::Call(call) => match call.fault {
                 ClientFault::OutOfMemory => ReportFault::OutOfMemory,
                 ClientFault::ClockEnd => ReportFault::ClockEnd,
-                ClientFault::Foreign => ReportFault::Foreign,
                 ClientFault::GaveUp => ReportFault::GaveUp((call.place as u64).saturating_add(2)),
             },
         }

@@ -1,31 +1,24 @@
-ghost use Rattle.std.specs.Prelude.{◌≡◌, ◌≢◌, ◌<◌, ◌≤◌, ℕ, List, Ok, length, map, vec_len, IfErr, IfOk};
+ghost use Rattle.std.specs.Prelude.{◌≡◌, ◌≢◌, ◌≤◌, ℕ, List, Err, Ok, length, map, IfErr, IfOk};
 ghost use Rattle.shm_logs.specs.Auditing.Logs.{AreLogsOf};
-ghost use Rattle.shm_report.specs.Callers.{AllServed, ServedUnlessEnded, ServesAll};
+ghost use Rattle.shm_report.specs.Callers.{AllServed, ServedUnlessEnded};
 ghost use Rattle.shm_report.specs.RunFaults as said;
 ghost use Rattle.shm_report.specs.RunFaults.{FirstIfAny, NamesAccess, NoneFailed, TellsFirst};
 ghost use Rattle.shm_report.specs.declared.run_fault.RunFault.TheVariants as cause;
 ghost use Rattle.shm_lines.specs.declared.access.WorkloadAccess.{WorkloadAccess};
 
-use crate::caller::call_all;
+use crate::calling::{CallerTold, Told, call};
 use crate::ran::Ran;
 use crate::run_fault::{CallFault, RunFault};
-use shm_lines::{Workload, WorkloadAccess};
-use shm_place::{PAGES, SiteId, Sites};
-use shm_sites::{Clients, Cluster, OpenGate, Receipt, SiteLog, StartFault, logs_match};
+use shm_lines::Workload;
+use shm_place::{PAGES, Sites};
+use shm_sites::{Cluster, OpenGate, Receipt, SiteLog, StartFault, logs_match};
 use std::alloc::{AllocError, Global};
 use std::sync::Wait;
-use std::thread;
 use std::thread::Threads;
 
-/// What one caller was told, or why it ended.
-type CallerTold = Result<Vec<Receipt>, CallFault>;
-
-/// The same of each caller.
-type Told = Vec<CallerTold>;
-
 /// Runs the workload over so many sites, whose network draws its losses and repeats from this seed. One caller for each site runs the
-/// site's lines in their order; at the end the threads have ended. Where callers ended by faults, the first of these in the order of the
-/// lines is told.
+/// site's lines in their order, in a thread of its own; at the end the threads have ended. A caller whose thread can't be started is told
+/// before anything else; then, where callers ended by faults, the first of these in the order of the lines.
 pub fn run_workload<R: Threads + Wait + Copy + Send + Sync + 'static>(
     rt: &R,
     alloc: Global,
@@ -47,48 +40,11 @@ pub fn run_workload<R: Threads + Wait + Copy + Send + Sync + 'static>(
         rt,
         alloc,
         sites,
-        cluster.clients(),
+        cluster.shared(),
         workload.accesses.as_slice(),
     );
     let logs = cluster.stop(rt);
     run_outcome(alloc, sites, workload.pages, told, logs)
-}
-
-/// Runs a caller for each site, in a thread of its own.
-fn call<R: Threads + Wait + Sync>(
-    rt: &R,
-    alloc: Global,
-    sites: Sites,
-    clients: Clients<'_>,
-    accesses: &[WorkloadAccess],
-) -> Result<Told, AllocError>
-    requires { vec_len clients.shared.now.posts ≡ sites }
-    ensures { IfOk result (λ told. ServedUnlessEnded sites accesses.now told.items) }
-{
-    thread::map_indices(
-        rt,
-        alloc,
-        sites.count() as usize,
-        &|number| call_site(rt, alloc, clients, SiteId(number as u32), accesses),
-    )
-}
-
-/// Runs the caller of this site, which is there.
-fn call_site<R: Wait>(
-    rt: &R,
-    alloc: Global,
-    clients: Clients<'_>,
-    site: SiteId,
-    accesses: &[WorkloadAccess],
-) -> Result<Vec<Receipt>, CallFault>
-    requires { site < vec_len clients.shared.now.posts }
-    ensures served { IfOk result (λ receipts. ServesAll site accesses.now receipts.items) }
-    ensures place { IfErr result (λ fault. fault.place < length accesses.now) }
-{
-    match clients.client(site) {
-        Ok(client) => call_all(rt, alloc, &client, accesses),
-        Err(_) => unreachable!(),
-    }
 }
 
 /// What came of the workload, where each caller came to its end, and the logs that were given back are those of so many sites.
@@ -96,9 +52,10 @@ fn run_outcome(
     alloc: Global,
     sites: Sites,
     pages: u32,
-    told: Result<Told, AllocError>,
+    told: Result<Told, StartFault>,
     logs: Result<Vec<SiteLog>, AllocError>,
 ) -> Result<Ran, RunFault>
+    ensures unstarted { IfErr told (λ fault. result ≡ Err (cause.Start fault)) }
     ensures callers { (count : ℕ) (accesses : List WorkloadAccess) → IfOk told (λ told. ServedUnlessEnded count accesses told.items) →
         IfOk result (λ ran. AllServed count accesses ran.callers.items) }
     ensures logs { IfOk result (λ ran. (logs ≡ Ok ran.logs) × AreLogsOf sites pages ran.logs.items) }
@@ -107,8 +64,9 @@ fn run_outcome(
     ensures place { (count : ℕ) (accesses : List WorkloadAccess) → IfOk told (λ told. ServedUnlessEnded count accesses told.items) →
         IfErr result (NamesAccess (length accesses)) }
 {
-    let Ok(told) = told else {
-        return Err(RunFault::Start(StartFault::OutOfMemory));
+    let told = match told {
+        Ok(told) => told,
+        Err(fault) => return Err(RunFault::Start(fault)),
     };
     let callers = match receipts(alloc, told) {
         Ok(callers) => callers,

@@ -8,4 +8,5 @@ mod refusals;
 mod report;
 mod running;
 mod settling;
+mod waiting;
 mod workload;

@@ -7,7 +7,6 @@ mod access;
 mod carrying;
 mod client;
 mod client_fault;
-mod clients;
 mod copies;
 mod fate;
 mod gate;
@@ -22,9 +21,8 @@ mod work;
 
 pub use client::Client;
 pub use client_fault::ClientFault;
-pub use clients::Clients;
 pub use gate::{Gate, OpenGate};
-use shared::Shared;
+pub use shared::Shared;
 use shm_place::{NoSuchSite, SiteId};
 pub use start_fault::StartFault;
 use std::alloc::{AllocError, Allocator, Global};
@@ -54,17 +52,14 @@ impl<A: Allocator + Copy> Cluster<A> {
         ensures own { IfOk result (λ client. IsItemAt (arc_value self.now.shared).posts.items site (Some client.post)) }
         ensures shared { IfOk result (λ client. client.shared.now ≡ arc_value self.now.shared) }
     {
-        self.clients().client(site)
+        self.shared.client(site)
     }
 
-    /// The clients of all sites.
-    pub fn clients(&self) -> Clients<'_, A>
-        ensures sites { vec_len result.shared.now.posts ≡ sites_of self.now }
-        ensures shared { result.shared.now ≡ arc_value self.now.shared }
+    /// What gives clients, for threads to share.
+    pub fn shared(&self) -> &Shared<A>
+        ensures { result.now ≡ arc_value self.now.shared }
     {
-        Clients {
-            shared: &self.shared,
-        }
+        &self.shared
     }
 
     /// Puts a tick into each site's channel, and waits for none of them: each site's thread then sends again what may be lost. It fails

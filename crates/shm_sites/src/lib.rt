@@ -4,7 +4,7 @@
 
 mod cluster;
 
-pub use cluster::{Client, ClientFault, Clients, Cluster, Gate, OpenGate, StartFault};
+pub use cluster::{Client, ClientFault, Cluster, Gate, OpenGate, Shared, StartFault};
 pub use shm_logs::{
     Answer, Asked, AuditFault, BoxFault, Envelope, Event, Input, Receipt, SiteBox, SiteLog, Stamp,
     Step, StepName, audit, audit_complete, events, laws, logs_match, merge,

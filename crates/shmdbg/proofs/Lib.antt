@@ -3,4 +3,5 @@ mod Plain
 mod Wrong
 mod Numbers
 mod Streaming
+mod NotAccepted
 mod Unbegun

@@ -55,17 +55,24 @@ IsWhyNot sites logs (cause.Unaccepted journals.NotOneSet) = (length logs ≢ sit
 IsWhyNot sites logs (cause.Unaccepted (journals.Audit found)) = (length logs ≡ sites) × IsWhy logs (journals.Audit found)
 IsWhyNot sites logs _ = ⊤
 
--- so of the logs of some journals
-abbrev pub IsCauseOf : ℕ → Unaudited → Type 0
-IsCauseOf sites fault = (logs : List (SiteLog Global)) × IsWhyNot sites logs fault
+-- so of the logs to which so many journals led, one log each
+pub record IsOfEach (journals sites : ℕ) (fault : Unaudited) : Type 0 where
+  pub logs : List (SiteLog Global)
+  pub each : length logs ≡ journals
+  pub why : IsWhyNot sites logs fault
+
+-- what a fault says of so many journals, where it isn't that one of them wasn't read, or that something else failed
+abbrev pub IsCauseOf : ℕ → ℕ → Unaudited → Type 0
+IsCauseOf journals sites (cause.Unaccepted fault) = IsOfEach journals sites (cause.Unaccepted fault)
+IsCauseOf journals sites _ = ⊤
 
 -- a fault that isn't the logs'
 abbrev pub IsUnread : Unaudited → Type 0
 IsUnread (cause.Unaccepted fault) = ⊥
 IsUnread _ = ⊤
 
--- the journals of so many sites weren't accepted, by a fault of this status
-pub record FailsAudit (sites status : ℕ) : Type 0 where
+-- so many journals weren't accepted as those of so many sites, by a fault of this status
+pub record FailsAudit (journals sites status : ℕ) : Type 0 where
   pub fault : Unaudited
   pub told : status ≡ unaudited_status fault
-  pub why : IsCauseOf sites fault
+  pub why : IsCauseOf journals sites fault

@@ -25,7 +25,7 @@ pub record Runs (sites : ℕ) (summed : Bool) (status : ℕ) (old new : Around) 
 pub record Audits (journals sites status : ℕ) (old new : Around) : Type 0 where
   pub each : status ≡ 0 → journals ≡ sites
   pub accepted : status ≡ 0 → TellsAudit sites old.contents new.contents
-  pub failed : status ≢ 0 → FailsAudit sites status
+  pub failed : status ≢ 0 → FailsAudit journals sites status
 
 -- this was done, to an end of this status
 abbrev pub Does : Task → ℕ → Around → Around → Type 0

@@ -39,7 +39,6 @@ run_status report.ReadFault = 3
 run_status report.WriteFault = 3
 run_status report.NoThread = 3
 run_status report.ClockEnd = 3
-run_status report.Foreign = 3
 
 abbrev pub status_of : Result Summary DebugFault → ℕ
 status_of (Ok summary) = 0

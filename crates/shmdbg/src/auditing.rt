@@ -27,7 +27,7 @@ pub(crate) fn audit<R: AllocGlobal + Files, O: Write, E: Write>(
     ensures taken { result ≢ 2 }
     ensures audited { result ≡ 0 → TellsAudit sites (O.contents out.old) (O.contents out.new) }
     ensures each { result ≡ 0 → length journals.now ≡ sites }
-    ensures failed { result ≢ 0 → FailsAudit sites result }
+    ensures failed { result ≢ 0 → FailsAudit (length journals.now) sites result }
     ensures quiet { (result ≡ 1) ⊎ (result ≡ 4) → out.new ≡ out.old }
 {
     match tell_audit(rt, sites, journals, out) {
@@ -45,7 +45,7 @@ fn tell_audit<R: AllocGlobal + Files, O: Write>(
 ) -> Result<(), Unaudited>
     ensures audited { OnOk result (TellsAudit sites (O.contents out.old) (O.contents out.new)) }
     ensures each { OnOk result (length journals.now ≡ sites) }
-    ensures why { IfErr result (IsCauseOf sites) }
+    ensures why { IfErr result (IsCauseOf (length journals.now) sites) }
     ensures quiet { IfErr result (λ fault. (fault ≡ cause.WriteFault) ⊎ (out.new ≡ out.old)) }
 {
     let logs = match read_logs(rt, journals) {

@@ -29,9 +29,9 @@ use std::sync::Wait;
 use std::thread::Threads;
 
 /// Does what the words ask for, and answers the exit status: 0 done, 1 the script has a fault, 2 the words were refused,
-/// 3 memory, reading or writing failed, or a site's clock ended, or there was no thread, or a box was another site's, or another process
-/// has the journal, 4 a run gave up, or an audit found a cause. At 2 the parser's text goes to `errors`, at 1, 3 and 4 one line; below it
-/// stands a wrong line that the reader recalls. A journal that is none, or another's, counts as a script with a fault.
+/// 3 memory, reading or writing failed, or a site's clock ended, or there was no thread, or another process has the journal, 4 a run gave
+/// up, or an audit found a cause. At 2 the parser's text goes to `errors`, at 1, 3 and 4 one line; below it stands a wrong line that the
+/// reader recalls. A journal that is none, or another's, counts as a script with a fault.
 pub fn run_words<
     R: AllocGlobal + Clock + Files + Threads + Wait + Copy + Send + Sync + 'static,
     S: AsStr,

@@ -152,8 +152,7 @@ pub fn run_fault<E: Write>(fault: ReportFault, errors: &mut E) -> u8
         | ReportFault::ReadFault
         | ReportFault::WriteFault
         | ReportFault::NoThread
-        | ReportFault::ClockEnd
-        | ReportFault::Foreign => 3,
+        | ReportFault::ClockEnd => 3,
     }
 }
 

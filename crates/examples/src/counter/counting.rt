@@ -1,6 +1,6 @@
 use shm_model::Answer;
 use shm_place::{SiteId, Sites};
-use shm_sites::{Client, ClientFault, Clients, Receipt};
+use shm_sites::{Client, ClientFault, Receipt, Shared};
 use std::alloc::{AllocError, Global};
 use std::sync::Wait;
 use std::thread;
@@ -35,19 +35,19 @@ pub fn count_all<R: Threads + Wait + Sync>(
     rt: &R,
     alloc: Global,
     sites: Sites,
-    clients: Clients<'_>,
+    shared: &Shared,
 ) -> Result<Vec<Told>, AllocError> {
     thread::map_indices(
         rt,
         alloc,
         sites.count() as usize,
-        &|number| { count(rt, alloc, clients, SiteId(number as u32)) },
+        &|number| { count(rt, alloc, shared, SiteId(number as u32)) },
     )
 }
 
 /// Adds 1 to the byte whose offset is the site's number, so many times.
-fn count<R: Wait>(rt: &R, alloc: Global, clients: Clients<'_>, site: SiteId) -> Told {
-    let Ok(client) = clients.client(site) else {
+fn count<R: Wait>(rt: &R, alloc: Global, shared: &Shared, site: SiteId) -> Told {
+    let Ok(client) = shared.client(site) else {
         return Err(CallerFault::NoSuchSite(site));
     };
     let mut receipts = Vec::new(alloc);
@@ -59,9 +59,9 @@ fn count<R: Wait>(rt: &R, alloc: Global, clients: Clients<'_>, site: SiteId) -> 
 }
 
 /// Loads each caller's byte, at site 0.
-pub fn load_all<R: Wait>(rt: &R, alloc: Global, sites: Sites, clients: Clients<'_>) -> Told {
+pub fn load_all<R: Wait>(rt: &R, alloc: Global, sites: Sites, shared: &Shared) -> Told {
     let first = SiteId(0);
-    let Ok(client) = clients.client(first) else {
+    let Ok(client) = shared.client(first) else {
         return Err(CallerFault::NoSuchSite(first));
     };
     let mut receipts = Vec::new(alloc);

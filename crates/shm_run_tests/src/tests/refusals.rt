@@ -154,18 +154,6 @@ fn what_ends_a_run(rt: HostRuntime) {
         ],
         [27; 2]
     );
-    let foreign = CallFault {
-        place: 5,
-        fault: ClientFault::Foreign,
-    };
-    assert_eq!(rt;
-        [
-            foreign.number(),
-            RunFault::Call(foreign).number(),
-            ReportFault::Foreign.number()
-        ],
-        [16; 3]
-    );
     let no_thread = StartFault::NoThread;
     assert_eq!(rt;
         [

@@ -1,13 +1,11 @@
 //! Loads and stores at one site, and how long an access is waited for.
-ghost use Rattle.std.specs.Prelude.{◌≡◌, ◌≢◌, IfErr, IfOk};
+ghost use Rattle.std.specs.Prelude.{◌≡◌, IfOk};
 ghost use Rattle.shm_model.specs.Message.{Load, Store};
 ghost use Rattle.shm_model.specs.Receipt.{access_of};
 ghost use Rattle.shm_sites.specs.Cluster.Client.{waits as is_waiting, IsServed, TellsOf};
-ghost use Rattle.shm_sites.specs.declared.cluster.client_fault.ClientFault.TheVariants as cause;
 
-use crate::cluster::access::access;
+use crate::cluster::access::{Accessed, access};
 use crate::cluster::client_fault::ClientFault;
-use crate::cluster::copies::copies_of;
 use crate::cluster::shared::{Post, Shared};
 use shm_logs::{Asked, Receipt};
 use shm_model::Answer;
@@ -40,8 +38,7 @@ impl<'a, A: Allocator + Copy> Client<'a, A> {
 
     /// One load. The site may answer that it has no right to the page; it has then asked for it.
     pub fn try_load<R: Wait>(&self, rt: &R, at: u32, offset: u32) -> Result<Receipt, ClientFault>
-        ensures tells { IfOk result (TellsOf self.now.post.now.number (Load at offset)) }
-        ensures fault { IfErr result (λ fault. fault ≢ cause.GaveUp) }
+        ensures { IfOk result (TellsOf self.now.post.now.number (Load at offset)) }
     {
         self.step(rt, Asked::Load { at, offset })
     }
@@ -54,15 +51,14 @@ impl<'a, A: Allocator + Copy> Client<'a, A> {
         offset: u32,
         byte: u8,
     ) -> Result<Receipt, ClientFault>
-        ensures tells { IfOk result (TellsOf self.now.post.now.number (Store at offset byte)) }
-        ensures fault { IfErr result (λ fault. fault ≢ cause.GaveUp) }
+        ensures { IfOk result (TellsOf self.now.post.now.number (Store at offset byte)) }
     {
         self.step(rt, Asked::Store { at, offset, byte })
     }
 
     /// Loads until the site has the right to, or answers that the load is wrong. It asks again where the site has made a step since. After
     /// every 64th turn without such a step each site that has nothing else to hear is told of a tick, since a message may be lost.
-    /// `GaveUp` comes after a million turns.
+    /// `GaveUp` comes after a million turns, or at once at another site's box.
     pub fn load<R: Wait>(&self, rt: &R, at: u32, offset: u32) -> Result<Receipt, ClientFault>
         ensures tells { IfOk result (TellsOf self.now.post.now.number (Load at offset)) }
         ensures served { IfOk result IsServed }
@@ -141,23 +137,23 @@ impl<'a, A: Allocator + Copy> Client<'a, A> {
         thread::yield_now();
     }
 
-    /// One step under the site's lock, which is let go before anything is sent. Where memory is refused for what it sent, nothing is.
+    /// One step, and what it sent is sent. Where memory is refused for that, nothing is.
     fn step<R: Wait>(&self, rt: &R, asked: Asked) -> Result<Receipt, ClientFault>
-        ensures tells { IfOk result (TellsOf self.now.post.now.number (access_of asked)) }
-        ensures fault { IfErr result (λ fault. fault ≢ cause.GaveUp) }
+        ensures { IfOk result (TellsOf self.now.post.now.number (access_of asked)) }
+    {
+        let Accessed { receipt, posted } = self.access(rt, asked)?;
+        if let Ok(posted) = posted {
+            self.shared.send_all(rt, posted);
+        }
+        Ok(receipt)
+    }
+
+    /// One step under the site's lock, which is let go before anything is sent.
+    fn access<R: Wait>(&self, rt: &R, asked: Asked) -> Result<Accessed<A>, ClientFault>
+        ensures { IfOk result (λ done. TellsOf self.now.post.now.number (access_of asked) done.receipt) }
     {
         let mut held = self.post.site.lock(rt);
-        match access(&mut held, self.post.number, asked) {
-            Ok(receipt) => {
-                let posted = copies_of(self.shared.alloc, held.log(), receipt.index());
-                drop(held);
-                if let Ok(posted) = posted {
-                    self.shared.send_all(rt, posted);
-                }
-                Ok(receipt)
-            }
-            Err(fault) => Err(fault),
-        }
+        access(&mut held, self.shared.alloc, self.post.number, asked)
     }
 }
 

@@ -7,15 +7,13 @@ pub enum ClientFault {
     /// Memory was refused.
     #[error("out of memory")]
     OutOfMemory,
-    /// All turns have gone by, and the site still waits for the page.
+    /// All turns have gone by, and the site still waits for the page; or the box under the lock is another site's, which no cluster has
+    /// that `start` made.
     #[error("gave up")]
     GaveUp,
     /// The site's clock has no further stamp.
     #[error("clock end")]
     ClockEnd,
-    /// The box under the lock is another site's: no cluster that `start` made has one.
-    #[error("foreign box")]
-    Foreign,
 }
 
 impl Numbered for ClientFault {
@@ -28,7 +26,6 @@ impl Numbered for ClientFault {
             ClientFault::OutOfMemory => refusal::OUT_OF_MEMORY,
             ClientFault::GaveUp => refusal::GAVE_UP,
             ClientFault::ClockEnd => refusal::CLOCK_END,
-            ClientFault::Foreign => refusal::FOREIGN,
         }
     }
 }

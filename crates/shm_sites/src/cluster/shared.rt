@@ -1,13 +1,14 @@
 //! What the threads and the clients of a cluster share.
-ghost use Rattle.std.specs.Prelude.{◌≡◌, IfSome};
+ghost use Rattle.std.specs.Prelude.{◌≡◌, ◌<◌, ◌↔◌, Some, vec_len, IfOk, IfSome, IsOk};
 ghost use Rattle.std.specs.Slice.{IsItemAt};
 ghost use Rattle.shm_sites.specs.Cluster.Posts.{AtTheirNumbers};
 
+use crate::cluster::client::Client;
 use crate::cluster::mail::Mail;
 use crate::cluster::posted::Posted;
 use crossbeam_channel::Sender;
 use shm_logs::SiteBox;
-use shm_place::SiteId;
+use shm_place::{NoSuchSite, SiteId};
 use std::alloc::{AllocError, Allocator, Global};
 use std::sync::{Mutex, Wait};
 
@@ -19,15 +20,29 @@ pub(crate) struct Post<A: Allocator + Copy = Global> {
     pub(crate) mail: Sender<Mail<A>, A>,
 }
 
-/// All sites, each at its number.
+/// All sites of a cluster, each at its number, of which it gives clients. Threads that make clients of their own share this, and not the
+/// cluster.
 #[derive(Drop)]
-pub(crate) struct Shared<A: Allocator + Copy = Global> {
+pub struct Shared<A: Allocator + Copy = Global> {
     pub(crate) posts: Vec<Post<A>, A>,
     pub(crate) alloc: A,
     ghost numbered: { AtTheirNumbers posts.items },
 }
 
 impl<A: Allocator + Copy> Shared<A> {
+    /// A client of this site. It fails where no site has the number.
+    pub fn client(&self, site: SiteId) -> Result<Client<'_, A>, NoSuchSite>
+        ensures known { IsOk result ↔ site < vec_len self.now.posts }
+        ensures site { IfOk result (λ client. client.post.now.number ≡ site) }
+        ensures own { IfOk result (λ client. IsItemAt self.now.posts.items site (Some client.post)) }
+        ensures shared { IfOk result (λ client. client.shared.now ≡ self.now) }
+    {
+        match self.post_of(site) {
+            Some(post) => Ok(Client { shared: self, post }),
+            None => Err(NoSuchSite),
+        }
+    }
+
     /// What is shared of the site of this number, where there is one.
     pub(crate) fn post_of(&self, site: SiteId) -> Option<&Post<A>>
         ensures item { IsItemAt self.now.posts.items site result }

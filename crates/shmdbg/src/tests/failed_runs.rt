@@ -2,6 +2,10 @@
 use super::{expect, run_over};
 use crate::program::run_words;
 use crate::source::Source;
+use crate::tell;
+use shm_place::SiteId;
+use shm_report::ReportFault;
+use shm_sites::AuditFault;
 use std::io::{self, Write};
 
 /// The words of a run over three sites.
@@ -144,5 +148,67 @@ fn wrong_lines_are_named(rt: HostRuntime) {
         let ran = run_over(&rt, words, &mut reader);
         assert_eq!(rt; ran.status, 1);
         assert!(rt; ran.errors.as_slice().ends_with(told));
+    }
+}
+
+/// The step with which something is wrong: that of index 4 at site 3.
+const SITE: SiteId = SiteId(3);
+
+/// Why there is no report, the status that it has, and the line that is told of it.
+const TOLD: [(ReportFault, u8, &[u8]); 13] = [
+    (
+        ReportFault::Audit(AuditFault::Unsent {
+            site: SITE,
+            index: 4,
+        }),
+        4,
+        b"shmdbg: audit: unsent 3 4\n",
+    ),
+    (
+        ReportFault::Audit(AuditFault::StampOrder {
+            site: SITE,
+            index: 4,
+        }),
+        4,
+        b"shmdbg: audit: stamp order 3 4\n",
+    ),
+    (
+        ReportFault::Audit(AuditFault::Forged {
+            site: SITE,
+            index: 4,
+        }),
+        4,
+        b"shmdbg: audit: forged 3 4\n",
+    ),
+    (
+        ReportFault::Audit(AuditFault::Untold {
+            site: SITE,
+            index: 4,
+        }),
+        4,
+        b"shmdbg: audit: untold 3 4\n",
+    ),
+    (ReportFault::Logs, 4, b"shmdbg: audit: logs\n"),
+    (ReportFault::GaveUp(5), 4, b"shmdbg: line 5: gave up\n"),
+    (ReportFault::ClockEnd, 3, b"shmdbg: clock end\n"),
+    (ReportFault::NoThread, 3, b"shmdbg: no thread\n"),
+    (ReportFault::OutOfMemory, 3, b"shmdbg: out of memory\n"),
+    (ReportFault::ReadFault, 3, b"shmdbg: read fault\n"),
+    (ReportFault::WriteFault, 3, b"shmdbg: write fault\n"),
+    (
+        ReportFault::LineTooLong(5),
+        1,
+        b"shmdbg: line 5: too long\n",
+    ),
+    (ReportFault::TooManyLines, 1, b"shmdbg: too many lines\n"),
+];
+
+/// Each fault of a run has its status and its line.
+#[test]
+fn each_fault_is_told_in_a_line(rt: HostRuntime) {
+    'faults: for (fault, status, line) in TOLD {
+        let mut errors = Vec::new(rt.alloc());
+        assert_eq!(rt; tell::run_fault(fault, &mut errors), status);
+        assert_eq!(rt; errors.as_slice(), line);
     }
 }

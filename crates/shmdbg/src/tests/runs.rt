@@ -5,7 +5,7 @@ use std::sync::Wait;
 use std::test::Fail;
 use std::thread::Threads;
 
-/// Runs a workload that lies in memory, on one site.
+/// Runs a workload that lies in memory, on one site, under the greatest seed.
 fn run_bytes<R: AllocGlobal + Clock + Files + Threads + Wait + Copy + Send + Sync + 'static>(
     rt: &R,
     workload: &[u8],
@@ -20,14 +20,13 @@ where
 
 #[test]
 fn what_one_site_stores_it_loads(rt: HostRuntime) {
-    let ran = run_bytes(&rt, b"preset 1\nstore 0 0 7\nload 0 0\n");
-    expect(
-        &rt,
-        &ran,
-        0,
-        b"1 ready\n2 stored\n3 byte 7\naudit yes\n",
-        b"",
-    );
+    'seeds: for seed in ["0", "1", "4294967295"] {
+        let mut reader = b"preset 1\nstore 0 0 7\nload 0 0\n".as_slice();
+        let words = ["shmdbg", "run", "--sites", "1", "--seed", seed];
+        let ran = run_over(&rt, &words, &mut reader);
+        let text = b"1 ready\n2 stored\n3 byte 7\naudit yes\n";
+        expect(&rt, &ran, 0, text, b"");
+    }
 }
 
 /// A summary stands behind the report. What one site does alone is the same in each run: nothing waits, and nothing is sent.

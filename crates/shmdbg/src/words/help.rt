@@ -23,7 +23,7 @@ Exit status:
   2  these words were refused, or asked for help or the version; nothing was
      read
   3  memory, reading, writing or a thread failed, a journal can't be opened or
-     another process has it, a site's clock ended, or a box was another site's
+     another process has it, or a site's clock ended
   4  a run gave up, or an audit found a cause";
 
 /// Of a replay: the lines of a script.
@@ -88,8 +88,8 @@ on, a line for each step: its stamp, what came, the answer, what was sent.
   $ cat site-0.log
   1 store 0 0 0 7 > stored
 Exit status: 0 done, 1 the workload has a fault, 2 these words were refused,
-3 memory, reading, writing or a thread failed, a site's clock ended, or a box
-was another site's, 4 the run gave up or its audit found a cause.";
+3 memory, reading, writing or a thread failed, or a site's clock ended, 4 the
+run gave up or its audit found a cause.";
 
 /// Of a site as a process.
 pub const SITE: &str = "\

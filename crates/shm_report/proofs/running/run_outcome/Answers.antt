@@ -11,13 +11,13 @@ returns-in-Ok-logs-clause-callers c sites accesses served =
     (all_served sites accesses c.in-Ok.told.items c.in-Ok-receipts.callers.items
     (subst (λ told. IfOk told (λ told. ServedUnlessEnded sites accesses told.items)) c.in-Ok.is served) c.in-Ok-receipts.ensures.all)
 
-pub returns-in-Err-clause-unmatched : goal.returns-in-Err-clause-unmatched
-returns-in-Err-clause-unmatched c is = absurd (c.in-Err.ensures.unmatched is)
+pub returns-in-Err-receipts-clause-unmatched : goal.returns-in-Err-receipts-clause-unmatched
+returns-in-Err-receipts-clause-unmatched c is = absurd (c.in-Err-receipts.ensures.unmatched is)
 
-pub returns-in-Err-clause-place : goal.returns-in-Err-clause-place
-returns-in-Err-clause-place c count accesses served =
-    names_access count accesses c.in-Ok.told.items c.in-Err.fault
-    (subst (λ told. IfOk told (λ told. ServedUnlessEnded count accesses told.items)) c.in-Ok.is served) c.in-Err.ensures.first
+pub returns-in-Err-receipts-clause-place : goal.returns-in-Err-receipts-clause-place
+returns-in-Err-receipts-clause-place c count accesses served =
+    names_access count accesses c.in-Ok.told.items c.in-Err-receipts.fault
+    (subst (λ told. IfOk told (λ told. ServedUnlessEnded count accesses told.items)) c.in-Ok.is served) c.in-Err-receipts.ensures.first
 
 pub returns-in-Err-logs-clause-first : goal.returns-in-Err-logs-clause-first
 returns-in-Err-logs-clause-first c =

@@ -34,7 +34,6 @@ pub const PAGES_AT_MANAGERS: Script = Script {
         store 0 0 4096 2\n\
         store 1 0 4096 2\n\
         load 1 0 4096\n\
-        load 1 0 8191\n\
         load 1 0 8192\n\
         load 0 1 0\n\
         load 2 0 0\n\
@@ -47,16 +46,15 @@ pub const PAGES_AT_MANAGERS: Script = Script {
         3 fault m0>1:Ask\n\
         4 stored\n\
         5 byte 2\n\
-        6 byte 0\n\
-        7 refused 11\n\
-        8 refused 9\n\
-        9 refused 14\n\
-        10 page 0:Nil/0 1:OwnWrite/0 owner 1 copies - t 0 idle\n\
-        11 refused 16\n\
-        12 page 0:OwnWrite/0 1:Nil/0 owner 0 copies - t 0 idle\n\
-        13 refused 16\n",
-    lines: 13,
-    events: 8,
+        6 refused 11\n\
+        7 refused 9\n\
+        8 refused 14\n\
+        9 page 0:Nil/0 1:OwnWrite/0 owner 1 copies - t 0 idle\n\
+        10 refused 16\n\
+        11 page 0:OwnWrite/0 1:Nil/0 owner 0 copies - t 0 idle\n\
+        12 refused 16\n",
+    lines: 12,
+    events: 7,
     sent: 1,
 };
 

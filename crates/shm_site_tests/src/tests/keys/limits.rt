@@ -48,14 +48,10 @@ fn a_home_makes_so_many_ever(rt: HostRuntime) -> Result<(), Fail> {
     let sites = Sites::new(1).ok().ok_or("one site")?;
     let mut table = make_lone(rt.alloc(), sites);
     for id in 0..65_536 {
-        expect_made(&rt, table.get(ROOT, 7, 1, 0o600, 0o1000), Ok(id));
+        expect_made(&rt, table.get(ROOT, 0, 1, 0o600, 0), Ok(id));
         expect_gone(&rt, table.remove(ROOT, id), Ok(Some(SegId(id))));
     }
-    expect_made(
-        &rt,
-        table.get(ROOT, 7, 1, 0o600, 0o1000),
-        Err(Errno::Enospc),
-    );
+    expect_made(&rt, table.get(ROOT, 0, 1, 0o600, 0), Err(Errno::Enospc));
     expect(&rt, table.on_purged(65_535));
     expect(&rt, !table.on_purged(65_535));
     expect(&rt, table.next_purge(Some(65_534)).is_none());

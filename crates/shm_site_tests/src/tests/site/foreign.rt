@@ -3,7 +3,7 @@ use super::{
     Given, Sent, Told, expect, expect_answer, framed_site, give, look, preset_site, run, run_at,
 };
 use shm_model::{Kind, Op, Reply};
-use shm_place::SegId;
+use shm_place::{SegId, SiteId};
 use shm_site::{Answer, Message, Site, StepFault};
 use std::alloc::Allocator;
 use std::process::Abort;
@@ -133,6 +133,35 @@ fn bytes_that_nobody_asked_for_are_taken(rt: HostRuntime) -> Result<(), Fail> {
     drop(outbox);
     drop(site);
     Ok(())
+}
+
+/// A Clear under the greatest number, for which nothing later can come, and a Hand for a reader that isn't among the sites.
+#[test]
+fn the_greatest_number_and_a_reader_that_is_no_site(rt: HostRuntime) -> Result<(), Fail> {
+    let cleared = [(
+        Given::Told(0, 1, Told::Clear(THERE, u64::MAX)),
+        Answer::Took,
+    )];
+    let handed = [(
+        Given::Told(0, 0, Told::Hand(THERE, 1, Kind::Read, 7)),
+        Answer::Took,
+    )];
+    let mut outbox = Vec::new(rt.alloc());
+    run_at(&rt, preset_site(rt.alloc(), 2, 1), &mut outbox, &cleared);
+    run_at(&rt, preset_site(rt.alloc(), 2, 0), &mut outbox, &handed);
+    assert_eq!(rt; outbox.len(), 2);
+    assert_eq!(rt; receiver(&outbox, 0), Some(SiteId(0)));
+    assert_eq!(rt; receiver(&outbox, 1), Some(SiteId(7)));
+    drop(outbox);
+    Ok(())
+}
+
+/// For whom the envelope at this place is.
+fn receiver<A: Allocator + Copy>(outbox: &Sent<A>, place: usize) -> Option<SiteId> {
+    match outbox.get(place) {
+        Some(envelope) => Some(envelope.to),
+        None => None,
+    }
 }
 
 /// The last envelope's bytes are said to be those of another page.

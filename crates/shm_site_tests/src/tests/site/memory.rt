@@ -29,7 +29,7 @@ const FRUGAL: [(Given, Answer); 5] = [
 ];
 
 /// What takes memory, at site 0 of 2.
-const GROWING: [(Given, Answer); 10] = [
+const GROWING: [(Given, Answer); 11] = [
     (Given::Load(4096), Answer::Fault),
     (Given::Store(12_288, 5), Answer::Fault),
     (Given::Tick, Answer::Took),
@@ -48,6 +48,16 @@ const GROWING: [(Given, Answer); 10] = [
             reply: ATTACHED,
             attachment: Some(1),
         },
+    ),
+    (
+        Given::Begin(Request::Op(Op::Set {
+            cred: ROOT,
+            id: SegId(2),
+            uid: 1,
+            gid: 1,
+            mode: Mode::OWNER_READ_WRITE,
+        })),
+        Answer::Began(2),
     ),
     (
         Given::Told(
