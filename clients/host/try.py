@@ -55,7 +55,7 @@ class Cluster:
     def start(self, me, words, stream):
         command = [os.path.join(self.options.build, 'leddwyfan-host'), '--sites', str(self.hosts), '--me', str(me), '--socket', self.socket(me)]
         command += ['--program', self.options.program, *words]
-        command += ['--journal', self.journals[me]] if self.journals else []
+        command += ['--journal', self.journals[me], '--new'] if self.journals else []
         return subprocess.Popen(command, stdin=stream, stdout=stream, stderr=self.log)
 
     def wait_for_sockets(self):

@@ -1,8 +1,8 @@
-//! The site that a process is to be is one of those that there are.
+//! The site that a process is to be is one of those that there are, and a journal that it is to begin has a file.
 ghost use Rattle.std.specs.Prelude.{◌≡◌, true, IfOk, OnOk};
 ghost use Rattle.clap.specs.Kinds.{FailsBy};
 ghost use Rattle.clap.specs.Words.{kind_of};
-ghost use Rattle.clap.specs.declared.error.kind.ErrorKind.TheVariants.{ValueValidation};
+ghost use Rattle.clap.specs.declared.error.kind.ErrorKind.TheVariants.{MissingRequiredArgument, ValueValidation};
 ghost use Rattle.shmdbg.specs.Words as spec;
 
 use crate::words::commands::command;
@@ -11,15 +11,18 @@ use clap::Error;
 use clap::error::ErrorKind;
 use std::alloc::{AllocError, Global};
 
-/// Finds fault with the task of a site that isn't there.
+/// Finds fault with the task of a site that isn't there, or that is to begin a journal without a file.
 pub fn look_for_site(alloc: Global, task: &Task<'_>) -> Result<(), Error>
     ensures fault { FailsBy (spec.task_fault task.now) result }
     ensures among { OnOk result (spec.is_among task.now ≡ true) }
 {
-    if is_among(task) {
-        return Ok(());
+    if !is_among(task) {
+        return Err(missing_site_error(alloc, task)?);
     }
-    Err(missing_site_error(alloc, task)?)
+    if !has_file(task) {
+        return Err(missing_file_error(alloc)?);
+    }
+    Ok(())
 }
 
 fn is_among(task: &Task<'_>) -> bool
@@ -31,9 +34,33 @@ fn is_among(task: &Task<'_>) -> bool
             me,
             pages: _,
             journal: _,
+            begins: _,
         } => me.0 < sites.count(),
         _ => true,
     }
+}
+
+fn has_file(task: &Task<'_>) -> bool
+    ensures { result ≡ spec.has_file task.now }
+{
+    match task {
+        Task::Site {
+            sites: _,
+            me: _,
+            pages: _,
+            journal,
+            begins,
+        } => !*begins || journal.is_some(),
+        _ => true,
+    }
+}
+
+/// What is told where a journal is to be begun, and no file is named.
+fn missing_file_error(alloc: Global) -> Result<Error, AllocError>
+    ensures { IfOk result (λ error. kind_of error ≡ MissingRequiredArgument) }
+{
+    let message = "'--new' begins a journal: it needs '--journal <FILE>'";
+    command(alloc)?.error(ErrorKind::MissingRequiredArgument, message)
 }
 
 /// What is told where the site isn't one of so many.
@@ -55,6 +82,7 @@ fn numbers_of(task: &Task<'_>) -> (u32, u32) {
             me,
             pages: _,
             journal: _,
+            begins: _,
         } => (me.0, sites.count()),
         _ => (0, 0),
     }
