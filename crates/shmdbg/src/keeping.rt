@@ -97,7 +97,7 @@ pub(crate) fn begin_kept<R: AllocGlobal + Files, F: Read + OpenFile>(
     requires to { pages ≤ PAGES }
     ensures begun { IfOk result (λ begun. (journal : List ℕ) × IfSome (F.remaining file.old) (λ known. journal ≡ known)
         × (begun.durable ≡ bytes_of_lines (lines_of journal).whole)
-        × BeginsKept kept.begins (header_at sites me pages) journal (desk_of begun.desk)) }
+        × BeginsKept kept.entry.begins (header_at sites me pages) journal (desk_of begun.desk)) }
     ensures all { OnOk result (ReadsAll (F.remaining file.old) (F.remaining file.new)) }
     ensures left { IfErr result (ReadsUnbegun (header_at sites me pages) (F.remaining file.old) (F.remaining file.new)) }
     ensures unbegun { IfErr result IsUnbegun }

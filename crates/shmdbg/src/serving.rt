@@ -57,7 +57,7 @@ where
     requires below { me < sites }
     requires from { 1 ≤ pages }
     requires to { pages ≤ PAGES }
-    ensures { IsServed (Some kept.begins) (header_at sites me pages) result (streams (I.remaining reader.old) (O.contents out.old))
+    ensures { IsServed (Some kept.entry.begins) (header_at sites me pages) result (streams (I.remaining reader.old) (O.contents out.old))
         (streams (I.remaining reader.new) (O.contents out.new)) }
 {
     let mut file = match open_journal(rt, kept) {
