@@ -92,7 +92,8 @@ def expect_error(number, call):
 def start_sites(options, stream, folder, name):
     sites = len(stream.ends)
     journals = [None if options.no_journal else os.path.join(folder, f'{name}-{me}') for me in range(sites)]
-    return [Site.start(options.program, sites, me, PAGES, *stream.ends[me], journal=journals[me]) for me in range(sites)]
+    return [Site.start(options.program, sites, me, PAGES, *stream.ends[me], journal=journals[me], begin=journals[me] is not None)
+            for me in range(sites)]
 
 
 def try_blocks(site, data):
@@ -338,7 +339,7 @@ def try_counters(options, folder):
     processes = []
     for me, words in enumerate(counters):
         words += ['-n', '3', '-m', str(me), '-p', options.program, '-t', str(TIMES)]
-        words += [] if options.no_journal else ['-j', os.path.join(folder, f'counter-{me}')]
+        words += [] if options.no_journal else ['-j', os.path.join(folder, f'counter-{me}'), '-N']
         reader, writer = os.dup(stream.ends[me][0]), os.dup(stream.ends[me][1])
         processes.append(subprocess.Popen(words, stdin=reader, stdout=writer, stderr=subprocess.PIPE))
         os.close(reader)

@@ -32,7 +32,7 @@ _shmdbg() {
           compopt -o filenames 2> /dev/null
           return
           ;;
-        *) offered='--sites --me --preset --journal -h --help' ;;
+        *) offered='--sites --me --preset --journal --new -h --help' ;;
       esac
       ;;
     *:audit)

@@ -22,7 +22,8 @@ complete -c shmdbg -n '__fish_seen_subcommand_from draw' -s h -l help -d 'Print 
 complete -c shmdbg -n '__fish_seen_subcommand_from site' -l sites -x -a '(seq 16)' -d 'How many sites, 1 to 16'
 complete -c shmdbg -n '__fish_seen_subcommand_from site' -l me -x -a '(seq 0 15)' -d 'Which site this is, 0 to N-1'
 complete -c shmdbg -n '__fish_seen_subcommand_from site' -l preset -x -d 'How many pages segment 0 has, 1 to 256'
-complete -c shmdbg -n '__fish_seen_subcommand_from site' -l journal -r -F -d "Keep the site's journal in this file, and go on from it"
+complete -c shmdbg -n '__fish_seen_subcommand_from site' -l journal -r -F -d "Keep the site's journal in this file, and begin as it says"
+complete -c shmdbg -n '__fish_seen_subcommand_from site' -l new -d "Begin the journal, which doesn't exist yet"
 complete -c shmdbg -n '__fish_seen_subcommand_from site' -s h -l help -d 'Print help'
 complete -c shmdbg -n '__fish_seen_subcommand_from audit' -F
 complete -c shmdbg -n '__fish_seen_subcommand_from audit' -l sites -x -a '(seq 16)' -d 'How many sites, 1 to 16'

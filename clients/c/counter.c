@@ -1,6 +1,6 @@
 /* Sites that share a counter: each adds 1 to it so many times, and at the end it is the sum.
 
-       counter -n SITES -m ME [-p PROGRAM] [-t TIMES] [-j JOURNAL]
+       counter -n SITES -m ME [-p PROGRAM] [-t TIMES] [-j JOURNAL [-N]]
 
    The stream comes in on standard input and goes out on standard output, as for `shmdbg site`; the counter's value is told on standard error.
    Run one for each site; clients/python/counter.py is the same program, says what the segment has, and the two may be mixed. */
@@ -100,18 +100,19 @@ int main(int argc, char **argv) {
     char *program[] = {"shmdbg", NULL};
     struct leddwyfan_options options = {.program = program, .pages = 1, .reader = 0, .writer = 1, .timeout = 60};
     unsigned times = 100;
-    for (int option; (option = getopt(argc, argv, "n:m:p:t:j:")) != -1;) {
+    for (int option; (option = getopt(argc, argv, "n:m:p:t:j:N")) != -1;) {
         switch (option) {
         case 'n': options.sites = number(optarg, MOST_SITES); break;
         case 'm': options.me = number(optarg, MOST_SITES - 1); break;
         case 'p': program[0] = optarg; break;
         case 't': times = number(optarg, 1000000); break;
         case 'j': options.journal = optarg; break;
+        case 'N': options.begin = true; break;
         default: return 2;
         }
     }
     if (options.me >= options.sites) {
-        fprintf(stderr, "counter -n SITES -m ME [-p PROGRAM] [-t TIMES] [-j JOURNAL]\n");
+        fprintf(stderr, "counter -n SITES -m ME [-p PROGRAM] [-t TIMES] [-j JOURNAL [-N]]\n");
         return 2;
     }
     struct counter counter = {.sites = options.sites, .me = options.me, .give_up = time(NULL) + GIVE_UP_SECONDS};

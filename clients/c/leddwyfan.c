@@ -76,6 +76,7 @@ struct leddwyfan {
     pthread_cond_t changed;
     pthread_t thread;
     char **words; /* of the process, all copied: it may be started again */
+    char **begin; /* the last of them, which begins the journal, or NULL */
     char numbers[3][12];
     unsigned sites, me, timeout, restarts;
     uint32_t uid, gid;
@@ -311,11 +312,25 @@ static void ask_again(struct leddwyfan *site) {
     probe(site);
 }
 
+/* The journal is begun by now, unless the site was killed before it had written the first line. */
+static void begin_no_more(struct leddwyfan *site) {
+    char line[64];
+    if (site->begin == NULL) return;
+    int journal = open(site->begin[-1], O_RDONLY | O_CLOEXEC);
+    ssize_t length = journal < 0 ? 0 : read(journal, line, sizeof line);
+    if (journal >= 0) close(journal);
+    if (length <= 0 || memchr(line, '\n', (size_t)length) == NULL) return;
+    free(*site->begin);
+    *site->begin = NULL;
+    site->begin = NULL;
+}
+
 /* The process has ended. If a signal ended it and there is a journal it is started again. It made durable what it answered, and forgot the
    accesses and blocks that waited: these are asked again. */
 static void start_again(struct leddwyfan *site) {
     int status = end_process(site);
     site->process = 0;
+    begin_no_more(site);
     if (!WIFSIGNALED(status) || site->restarts == 0 || start_process(site) < 0) {
         site->process = 0;
         fail(site, EIO);
@@ -918,18 +933,19 @@ int shm_unlock(struct leddwyfan *site, int at, size_t offset) {
 static int make_words(struct leddwyfan *site, const struct leddwyfan_options *options) {
     size_t count = 0;
     while (options->program[count] != NULL) count++;
-    if (count == 0) return failed(EINVAL);
+    if (count == 0 || (options->begin && options->journal == NULL)) return failed(EINVAL);
     const unsigned numbers[] = {options->sites, options->me, options->pages};
     for (int number = 0; number < 3; number++) snprintf(site->numbers[number], sizeof site->numbers[number], "%u", numbers[number]);
     const char *further[] = {"site",     "--sites",        site->numbers[0], "--me",          site->numbers[1],
-                             "--preset", site->numbers[2], "--journal",      options->journal};
-    size_t all = count + sizeof further / sizeof *further - (options->journal == NULL ? 2 : 0);
+                             "--preset", site->numbers[2], "--journal",      options->journal, "--new"};
+    size_t all = count + sizeof further / sizeof *further - (options->journal == NULL ? 3 : options->begin ? 0 : 1);
     site->words = calloc(all + 1, sizeof *site->words);
     if (site->words == NULL) return failed(ENOMEM);
     for (size_t place = 0; place < all; place++) {
         site->words[place] = strdup(place < count ? options->program[place] : further[place - count]);
         if (site->words[place] == NULL) return failed(ENOMEM);
     }
+    if (options->begin) site->begin = site->words + all - 1;
     return 0;
 }
 

@@ -30,6 +30,7 @@ struct leddwyfan_options {
     int reader;           /* what others say comes from here: set not to block, and never closed */
     int writer;           /* what goes out goes here: the same */
     const char *journal;  /* the journal's file, or NULL */
+    bool begin;           /* begins the journal, which must not have been begun; else the site goes on from its journal */
     unsigned timeout;     /* how many seconds a call waits at most, for each page anew, before it fails with ETIMEDOUT; 0: for good */
 };
 
@@ -42,7 +43,7 @@ struct leddwyfan_status {
     bool marked;
 };
 
-/* NULL, and errno: EINVAL where there is no such site, else there is no process, or no memory. */
+/* NULL, and errno: EINVAL where there is no such site, or a journal without a file is to be begun, else there is no process, or no memory. */
 struct leddwyfan *leddwyfan_start(const struct leddwyfan_options *options);
 
 /* Ends the site's process. What the site holds is gone, but for its journal. No call may run meanwhile. In a process that was forked since

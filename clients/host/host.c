@@ -1,7 +1,7 @@
 /* leddwyfan-host: one machine's daemon. It starts the site `shmdbg site`, carries lines between it and the other machines' sites, ticks it, and
    serves the programs that leddwyfan-run starts here.
 
-       leddwyfan-host --sites N --me K [--journal FILE] [--socket PATH] [--stay MICROSECONDS] [--program shmdbg] [-- CARRIER..]
+       leddwyfan-host --sites N --me K [--journal FILE [--new]] [--socket PATH] [--stay MICROSECONDS] [--program shmdbg] [-- CARRIER..]
 
    CARRIER is a command whose standard output has the lines of all sites, and whose standard input takes this site's: `-- ssh other ..`. Or it
    is two, the first of which gives the lines and the second takes them: `-- mosquitto_sub .. -- mosquitto_pub .. -l`. With none it is the
@@ -269,18 +269,20 @@ static void check_kernel(void) {
 }
 
 static void usage(void) {
-    fputs("leddwyfan-host --sites N --me K [--journal FILE] [--socket PATH] [--stay MICROSECONDS] [--program shmdbg] [-- CARRIER.. [-- CARRIER..]]\n", stderr);
+    fputs("leddwyfan-host --sites N --me K [--journal FILE [--new]] [--socket PATH] [--stay MICROSECONDS] [--program shmdbg] [-- CARRIER.. [-- CARRIER..]]\n", stderr);
     exit(2);
 }
 
 static void take_options(int argc, char **argv) {
     static const struct option names[] = {{"sites", 1, NULL, 'n'}, {"me", 1, NULL, 'm'},      {"journal", 1, NULL, 'j'}, {"socket", 1, NULL, 's'},
-                                          {"stay", 1, NULL, 't'},  {"program", 1, NULL, 'p'}, {"break", 1, NULL, 'b'},   {NULL, 0, NULL, 0}};
+                                          {"stay", 1, NULL, 't'},  {"program", 1, NULL, 'p'}, {"break", 1, NULL, 'b'},   {"new", 0, NULL, 'w'},
+                                          {NULL, 0, NULL, 0}};
     for (int option; (option = getopt_long(argc, argv, "+", names, NULL)) >= 0;) {
         switch (option) {
         case 'n': options.sites = atoi(optarg); break;
         case 'm': options.me = atoi(optarg); break;
         case 'j': options.journal = optarg; break;
+        case 'w': options.begins = true; break;
         case 's': options.socket = optarg; break;
         case 't': options.stay = 1000 * (int64_t)atoi(optarg); break;
         case 'p': options.program = optarg; break;
@@ -288,7 +290,7 @@ static void take_options(int argc, char **argv) {
         default: usage();
         }
     }
-    if (options.sites < 1 || options.sites > 16 || options.me < 0 || options.me >= options.sites) usage();
+    if (options.sites < 1 || options.sites > 16 || options.me < 0 || options.me >= options.sites || (options.begins && options.journal == NULL)) usage();
     if (optind < argc) carriers[0] = argv + optind;
     for (int index = optind; index < argc && carriers[1] == NULL; index++) {
         if (strcmp(argv[index], "--") == 0) argv[index] = NULL, carriers[1] = argv + index + 1;
@@ -304,7 +306,6 @@ static void allow_descriptors(void) {
 }
 
 int main(int argc, char **argv) {
-    struct stat journal;
     take_options(argc, argv);
     allow_descriptors();
     check_kernel();
@@ -312,7 +313,7 @@ int main(int argc, char **argv) {
     sigaction(SIGTERM, &(struct sigaction){.sa_handler = end}, NULL);
     sigaction(SIGINT, &(struct sigaction){.sa_handler = end}, NULL);
     poller = epoll_create1(EPOLL_CLOEXEC);
-    options.fresh = options.journal == NULL || stat(options.journal, &journal) < 0 || journal.st_size == 0;
+    options.fresh = options.journal == NULL || options.begins;
     listen_to_programs();
     site_start();
     start_carrier();

@@ -21,6 +21,7 @@ struct options {
     int sites, me;
     const char *journal, *socket, *program;
     int64_t stay; /* nanoseconds for which a page stays at least once it is here */
+    bool begins;  /* the journal is begun */
     bool fresh;   /* the site began with this daemon: no earlier journal */
     enum broken broken;
 };

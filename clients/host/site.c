@@ -8,6 +8,7 @@
 #include "host.h"
 
 #include <errno.h>
+#include <fcntl.h>
 #include <signal.h>
 #include <stdarg.h>
 #include <stdio.h>
@@ -219,12 +220,25 @@ static void take_site_line(char *line) {
 
 /* The process. */
 
+/* The journal is to be begun: at the first start, or where the site was killed before it had written the first line. */
+static bool begins(void) {
+    static bool started;
+    char line[64];
+    bool first = !started;
+    started = true;
+    if (!options.begins || first) return options.begins;
+    int journal = open(options.journal, O_RDONLY | O_CLOEXEC);
+    ssize_t length = journal < 0 ? 0 : read(journal, line, sizeof line);
+    if (journal >= 0) close(journal);
+    return length <= 0 || memchr(line, '\n', (size_t)length) == NULL;
+}
+
 void site_start(void) {
     char sites[12], me[12];
     snprintf(sites, sizeof sites, "%d", options.sites);
     snprintf(me, sizeof me, "%d", options.me);
     char *words[] = {(char *)(uintptr_t)options.program, "site", "--sites", sites, "--me", me, "--preset", "1", "--journal",
-                     (char *)(uintptr_t)options.journal, NULL};
+                     (char *)(uintptr_t)options.journal, begins() ? "--new" : NULL, NULL};
     if (options.journal == NULL) words[8] = NULL;
     process = start_process(words, &to_site.descriptor, &from_site.descriptor);
     watch(from_site.descriptor, SITE, 0);

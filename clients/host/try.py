@@ -348,7 +348,7 @@ def try_refusals(options):
                 'too long': refusal(options, *one, *at('x' * 120)),
                 "can't be made": refusal(options, *one, '--socket', '/nowhere/socket'),
                 "can't be started": refusal(options, *one, *at('a'), '--program', '/nowhere/shmdbg'),
-                'journal': refusal(options, *one, *at('b'), '--journal', '/nowhere/journal'),
+                'journal': refusal(options, *one, *at('b'), '--journal', '/nowhere/journal', '--new'),
                 'give a carrier': refusal(options, '--sites', '2', *at('c')),
                 'run the daemon as root': refusal(options, *one, *at('d'), user='nobody')}
         for words, said in told.items():

@@ -74,8 +74,9 @@ def main():
     parser.add_argument('-p', dest='program', default='shmdbg', help='the command')
     parser.add_argument('-t', dest='times', type=int, default=100, help='how often it adds 1')
     parser.add_argument('-j', dest='journal', help="the journal's file")
+    parser.add_argument('-N', dest='begin', action='store_true', help='begins the journal')
     options = parser.parse_args()
-    with Site.start(options.program, options.sites, options.me, 1, sys.stdin, sys.stdout, options.journal) as site:
+    with Site.start(options.program, options.sites, options.me, 1, sys.stdin, sys.stdout, options.journal, options.begin) as site:
         counter = Counter(site, options.sites, options.me)
         for _ in range(options.times):
             counter.add()

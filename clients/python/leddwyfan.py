@@ -153,17 +153,17 @@ class Site:
     waits for good."""
 
     @classmethod
-    def start(cls, program, sites, me, pages, reader, writer, journal=None, **options):
+    def start(cls, program, sites, me, pages, reader, writer, journal=None, begin=False, **options):
         """Starts site `me`, which is below `sites`, at most 16. `program` is a command (a string, or a list of words), `reader` and
         `writer` are the stream: file objects or descriptors, which the site sets not to block, keeps, and never closes, and which nobody
-        else may use."""
-        if not 0 <= me < sites <= MOST_SITES:
+        else may use. `begin` begins the journal, which must not have been begun; without it the site goes on from its journal."""
+        if not 0 <= me < sites <= MOST_SITES or begin and journal is None:
             raise failure(errno.EINVAL)
         words = shlex.split(program) if isinstance(program, str) else list(program)
         words += ['site', '--sites', str(sites), '--me', str(me), '--preset', str(pages)]
         if journal is not None:
             words += ['--journal', os.fspath(journal)]
-        return cls(words, sites, me, reader, writer, journal is not None, **options)
+        return cls(words, sites, me, reader, writer, journal, begin, **options)
 
     @classmethod
     def over_commands(cls, program, sites, me, pages, hear, say, **options):
@@ -188,13 +188,13 @@ class Site:
         say = ['mosquitto_pub', *broker, '-t', topic, '-l']
         return cls.over_commands(program, sites, me, pages, hear, say, **options)
 
-    def __init__(self, words, sites, me, reader, writer, journaled, uid=None, gid=None, timeout=60, restarts=16, carriers=()):
+    def __init__(self, words, sites, me, reader, writer, journal, begin, uid=None, gid=None, timeout=60, restarts=16, carriers=()):
         self.sites, self.me, self.timeout = sites, me, timeout
         self.uid = os.getuid() if uid is None else uid
         self.gid = os.getgid() if gid is None else gid
         check_numbers(self.uid, self.gid)
-        self._words, self._carriers = words, carriers
-        self._restarts = restarts if journaled else 0
+        self._words, self._journal, self._begin, self._carriers = words, journal, begin, carriers
+        self._restarts = restarts if journal is not None else 0
         # A file object that nobody keeps closes its descriptor.
         self._stream = (reader, writer)
         self._from_stream, self._to_stream = Incoming(descriptor_of(reader)), Outgoing(descriptor_of(writer))
@@ -603,7 +603,7 @@ class Site:
     # The process.
 
     def _start_process(self):
-        self._process = subprocess.Popen(self._words, stdin=subprocess.PIPE, stdout=subprocess.PIPE)
+        self._process = subprocess.Popen(self._words + ['--new'] * self._begin, stdin=subprocess.PIPE, stdout=subprocess.PIPE)
         self._from_site, self._to_site = Incoming(self._process.stdout.fileno()), Outgoing(self._process.stdin.fileno())
 
     def _start_again(self):
@@ -615,6 +615,7 @@ class Site:
             self._fail(errno.EIO)
             return
         self._restarts -= 1
+        self._begin = self._begin and not has_line(self._journal)
         try:
             self._start_process()
         except OSError:
@@ -633,6 +634,15 @@ class Site:
         if self._fault is None:
             self._fault = number
         self._changed.notify_all()
+
+
+def has_line(journal):
+    """A site that was killed before it had written its journal's first line has to begin it once more."""
+    try:
+        with open(journal, 'rb') as file:
+            return file.readline().endswith(b'\n')
+    except FileNotFoundError:
+        return False
 
 
 def check_numbers(*numbers):

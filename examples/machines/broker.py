@@ -149,9 +149,9 @@ class Caller:
         self.hearing.wait()
 
 
-def site_words(options, site, sites=SITES, journal=None):
+def site_words(options, site, sites=SITES, journal=None, begin=False):
     words = shlex.split(options.program) + ['site', '--sites', str(sites), '--me', str(site), '--preset', str(PAGES)]
-    return words if journal is None else words + ['--journal', journal]
+    return words if journal is None else words + ['--journal', journal] + ['--new'] * begin
 
 
 def call_in_shell(broker, topic):
@@ -190,7 +190,7 @@ def audit(options, journals):
 
 def run_three_sites(options, broker, folder):
     journals = [os.path.join(folder, f'site-{site}.journal') for site in range(SITES)]
-    pipelines = [Pipeline(broker, 'cluster', site_words(options, site, journal=journals[site])) for site in range(SITES)]
+    pipelines = [Pipeline(broker, 'cluster', site_words(options, site, journal=journals[site], begin=True)) for site in range(SITES)]
     caller = Caller(broker, 'cluster', 'python')
     for site in range(SITES):
         caller.ask(site, 'tick')
@@ -216,7 +216,7 @@ def run_counters(options, broker, folder):
     subprocess.run(['cc', '-std=c11', '-O2', '-pthread', '-o', counter, *sources], check=True)
     commands = ([counter], [sys.executable, os.path.join(CLIENTS, 'python', 'counter.py')])
     journals = [os.path.join(folder, f'counter-{me}.journal') for me in range(2)]
-    pipelines = [Pipeline(broker, 'counter', words + ['-n', '2', '-m', str(me), '-p', options.program, '-t', str(TIMES), '-j', journals[me]],
+    pipelines = [Pipeline(broker, 'counter', words + ['-n', '2', '-m', str(me), '-p', options.program, '-t', str(TIMES), '-j', journals[me], '-N'],
                           stderr=subprocess.PIPE) for me, words in enumerate(commands)]
     for pipeline in pipelines:
         told = pipeline.process.communicate(timeout=5 * LONGEST_SECONDS)[1].decode().strip()
@@ -238,7 +238,7 @@ def rate(seconds, act):
 
 def measure(options, broker, folder, topic, journaled):
     journals = [os.path.join(folder, f'{topic}-{me}.journal') if journaled else None for me in range(2)]
-    sites = [Site.over_broker(options.program, 2, me, PAGES, topic, broker.options, journal=journals[me]) for me in range(2)]
+    sites = [Site.over_broker(options.program, 2, me, PAGES, topic, broker.options, journal=journals[me], begin=journaled) for me in range(2)]
     caller = Caller(broker, topic, 'python')
     sites[0].shm_write(0, 0, b'x')
     sites[1].shm_read(0, 0, 1)

@@ -152,6 +152,14 @@ class Caller:
         return True
 
 
+def has_line(journal):
+    try:
+        with open(journal, 'rb') as file:
+            return file.readline().endswith(b'\n')
+    except FileNotFoundError:
+        return False
+
+
 class Seat:
     """A site's place in a round: its process, while it has one, and its journal."""
 
@@ -161,7 +169,11 @@ class Seat:
         self.start_at = 0
 
     def start(self):
-        self.site = Site(self.words)
+        """A journal that has no whole line yet is to be begun."""
+        words = self.words
+        if self.journal in words and not has_line(self.journal):
+            words = words + ['--new']
+        self.site = Site(words)
 
     def send(self, line):
         """What is said to a site that is down is lost."""

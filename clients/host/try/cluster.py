@@ -71,7 +71,14 @@ class Cluster:
     def command(self, me):
         command = [*self.before, os.path.join(self.options.build, 'leddwyfan-host'), '--sites', str(self.hosts), '--me', str(me)]
         command += ['--socket', self.socket(me), '--program', self.options.program, *self.words]
-        return command + (['--journal', self.journals[me]] if self.journals else [])
+        return command + self.journal_words(me)
+
+    def journal_words(self, me):
+        if not self.journals:
+            return []
+        journal = self.journals[me]
+        is_begun = os.path.exists(journal) and os.path.getsize(journal) > 0
+        return ['--journal', journal] + ([] if is_begun else ['--new'])
 
     def start(self, me, stream, *words):
         return subprocess.Popen(self.command(me) + list(words), stdin=stream, stdout=stream, stderr=self.log)

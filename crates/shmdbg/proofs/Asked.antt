@@ -1,13 +1,14 @@
 -- What the words ask for is what their task is.
-use Rattle.std.proofs.Common.{◌≡◌, ◌<◌, ◌∙◌, ℕ, Bool, List, ap, arith, codes, inl, inr, nat_lt, refl, sym, true, ◌||◌, ◌⊎◌, []}
+use Rattle.std.proofs.Common.{◌≡◌, ◌<◌, ◌∙◌, ℕ, Bool, List, ap, ap₂, arith, codes, inl, inr, nat_lt, refl, sym, true, ◌||◌, ◌⊎◌, []}
 use Rattle.std.specs.Prelude.{IsSomeAnd, None, Option, Some}
 use Rattle.std.proofs.lemmas.Bool.Decides.{nat_tests}
 use Rattle.std.specs.Option.{option_map_or}
 use Rattle.std.specs.Str.{bytes_eq}
+use Rattle.clap.specs.Kinds.{or_else}
 use Rattle.clap.specs.Words.{Row, Text, fault_of, subcommand_of}
 use Rattle.shmdbg.specs.Commands.{app}
 use Rattle.shmdbg.specs.Done.{has_audit}
-use Rattle.shmdbg.specs.Words.{among_fault, asked_for, fault_in, has_plain_numbers, is_among, name_of, names_one, task_fault, AskFor, IsAsked, IsOneOfSites}
+use Rattle.shmdbg.specs.Words.{among_fault, asked_for, fault_in, file_fault, has_file, has_plain_numbers, is_among, name_of, names_file, names_one, task_fault, AskFor, IsAsked, IsOneOfSites}
 use Rattle.shmdbg.specs.declared.words.task.Task.{Task}
 use Rattle.shmdbg.specs.declared.words.task.Task.TheVariants.{Audit, Draw, Prompt, Replay, Run, Site}
 use Rattle.shmdbg.specs.Status.{Asks, AsksForAudit, Takes}
@@ -38,7 +39,7 @@ one_of_sites name rows Replay among asked = tt
 one_of_sites name rows (Run sites seed summary log) among asked = tt
 one_of_sites name rows Prompt among asked = tt
 one_of_sites name rows (Draw page) among asked = tt
-one_of_sites name rows (Site sites me pages journal) among asked = (is_below sites me among, asked.options.3)
+one_of_sites name rows (Site sites me pages journal begins) among asked = (is_below sites me among, asked.options.3)
 one_of_sites name rows (Audit sites journals) among asked = tt
 
 pub one_of_asked : (words : List Text) (task : Task) → is_among task ≡ true → AskFor words task → IsOneOfSites task
@@ -51,7 +52,7 @@ one_named name rows Replay asked = rw asked.called refl
 one_named name rows (Run sites seed summary log) asked = rw asked.called refl
 one_named name rows Prompt asked = rw asked.called refl
 one_named name rows (Draw page) asked = rw asked.called refl
-one_named name rows (Site sites me pages journal) asked = rw (asked.called, asked.options.0, asked.options.1) refl
+one_named name rows (Site sites me pages journal begins) asked = rw (asked.called, asked.options.0, asked.options.1) refl
 one_named name rows (Audit sites journals) asked = rw asked.called refl
 
 -- the words name a site that is there where their task does
@@ -60,9 +61,25 @@ among_asked words task asked =
     let of = of_named (subcommand_of app words) task asked in
     rw of.1 (one_named of.0.0 of.0.1 task of.2)
 
+file_named : (name : Text) (rows : List Row) (task : Task) → IsAsked name rows task → names_file (name, rows) ≡ has_file task
+file_named name rows Replay asked = rw asked.called refl
+file_named name rows (Run sites seed summary log) asked = rw asked.called refl
+file_named name rows Prompt asked = rw asked.called refl
+file_named name rows (Draw page) asked = rw asked.called refl
+file_named name rows (Site sites me pages None begins) asked = rw (asked.called, asked.options.4, asked.options.5) refl
+file_named name rows (Site sites me pages (Some file) begins) asked = rw (asked.called, asked.options.4, asked.options.5) refl
+file_named name rows (Audit sites journals) asked = rw asked.called refl
+
+-- the words name a file for the journal that is to be begun where their task does
+pub file_asked : (words : List Text) (task : Task) → AskFor words task → option_map_or names_file (subcommand_of app words) true ≡ has_file task
+file_asked words task asked =
+    let of = of_named (subcommand_of app words) task asked in
+    rw of.1 (file_named of.0.0 of.0.1 task of.2)
+
 -- what is wrong with words that clap takes and whose numbers are spelled plainly is what is wrong with their task
 pub fault_asked : (words : List Text) (task : Task) → fault_of app words ≡ [] → has_plain_numbers words ≡ true → AskFor words task → fault_in words ≡ task_fault task
-fault_asked words task none plain asked = plainly_spelled words none plain ∙ ap among_fault (among_asked words task asked)
+fault_asked words task none plain asked =
+    plainly_spelled words none plain ∙ ap₂ (λ (among file : Bool). or_else (among_fault among) (file_fault file)) (among_asked words task asked) (file_asked words task asked)
 
 -- ---- an audit
 
@@ -75,7 +92,7 @@ by_name Replay = refl
 by_name (Run sites seed summary log) = refl
 by_name Prompt = refl
 by_name (Draw page) = refl
-by_name (Site sites me pages journal) = refl
+by_name (Site sites me pages journal begins) = refl
 by_name (Audit sites journals) = refl
 
 of_audit : (task : Task) → has_audit task ≡ true → (name_of task ≡ codes "run") ⊎ (name_of task ≡ codes "audit")
@@ -83,7 +100,7 @@ of_audit Replay is = absurd (cc)
 of_audit (Run sites seed summary log) is = inl refl
 of_audit Prompt is = absurd (cc)
 of_audit (Draw page) is = absurd (cc)
-of_audit (Site sites me pages journal) is = absurd (cc)
+of_audit (Site sites me pages journal begins) is = absurd (cc)
 of_audit (Audit sites journals) is = inr refl
 
 -- words ask for an audit where their task has one

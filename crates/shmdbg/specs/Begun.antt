@@ -1,5 +1,5 @@
 -- The desk that a site's process begins with.
-use Rattle.std.specs.Prelude.{◌≡◌, ℕ, Bool, false, true, List, Option}
+use Rattle.std.specs.Prelude.{◌≡◌, ℕ, Bool, List, Option, Some, None}
 use Rattle.shm_journal.specs.Found.{Sound, found, is_empty, lines_of}
 use Rattle.shm_journal.specs.Lines.{Header}
 use Rattle.shm_journal.specs.DeskFrom.{desk_from}
@@ -13,24 +13,30 @@ use Rattle.shmdbg.specs.declared.site_fault.SiteFault.TheVariants as fault
 abbrev pub header_at : ℕ → ℕ → ℕ → Header
 header_at sites me pages = record { sites = sites; me = me; pages = pages }
 
--- it goes on from what its journal's file, of these bytes, leads to
-pub record BeginsKept (header : Header) (file : List ℕ) (desk : Desk) : Type 0 where
+-- It begins its journal, whose file, of these bytes, has no whole line yet; or it goes on from what the whole lines lead to, where there is one.
+pub record BeginsKept (begins : Bool) (header : Header) (file : List ℕ) (desk : Desk) : Type 0 where
+  pub asked : is_empty (lines_of file).whole ≡ begins
   pub node : Node
   pub sound : found header file ≡ Sound node
-  pub begun : desk ≡ desk_from header (is_empty (lines_of file).whole) node
+  pub begun : desk ≡ desk_from header begins node
 
--- nothing has happened, where there is no journal
-abbrev pub BeginsWith : Bool → Header → Desk → Type 0
-BeginsWith false header desk = desk ≡ desk_at (new_node header.sites header.me header.pages)
-BeginsWith true header desk = (file : List ℕ) × BeginsKept header file desk
+-- without a journal nothing has happened; else it begins with its journal, in the way that was asked for
+abbrev pub BeginsWith : Option Bool → Header → Desk → Type 0
+BeginsWith None header desk = desk ≡ desk_at (new_node header.sites header.me header.pages)
+BeginsWith (Some begins) header desk = (file : List ℕ) × BeginsKept begins header file desk
 
 -- what was read of the journal where its site can't begin: up to the journal's fault, or all of it
 abbrev pub ReadsUnbegun : Header → Option (List ℕ) → Option (List ℕ) → SiteFault → Type 0
 ReadsUnbegun header old new (fault.Unrecovered why) = ReadsUpTo header old new why
 ReadsUnbegun header old new fault.OutOfMemory = ReadsAll old new
 ReadsUnbegun header old new fault.Unopened = ReadsAll old new
+ReadsUnbegun header old new fault.Missing = ReadsAll old new
+ReadsUnbegun header old new fault.NoFile = ReadsAll old new
+ReadsUnbegun header old new fault.Existing = ReadsAll old new
+ReadsUnbegun header old new fault.Blank = ReadsAll old new
 ReadsUnbegun header old new fault.Taken = ReadsAll old new
 ReadsUnbegun header old new fault.Uncut = ReadsAll old new
 ReadsUnbegun header old new fault.Unlisted = ReadsAll old new
 ReadsUnbegun header old new (fault.Unopenable why) = ReadsAll old new
 ReadsUnbegun header old new (fault.Ended why) = ReadsAll old new
+ReadsUnbegun header old new (fault.Loose durable) = ReadsAll old new

@@ -16,8 +16,11 @@ abbrev pub seed_rule : Rule
 seed_rule = number_rule (codes "seed") (Signed (pos 0) (pos 4294967295))
 
 -- without a value: it is there or not
+abbrev pub flag_rule : Text → Rule
+flag_rule name = record (new_rule name) { long = Some name; action = Some SetTrue }
+
 abbrev pub summary_rule : Rule
-summary_rule = record (new_rule (codes "summary")) { long = Some (codes "summary"); action = Some SetTrue }
+summary_rule = flag_rule (codes "summary")
 
 -- with any text
 abbrev pub text_rule : Text → Rule
@@ -50,8 +53,11 @@ preset_rule = number_rule (codes "preset") (Signed (pos 1) (pos 256))
 abbrev pub journal_rule : Rule
 journal_rule = text_rule (codes "journal")
 
+abbrev pub new_journal_rule : Rule
+new_journal_rule = flag_rule (codes "new")
+
 abbrev pub site_app : App
-site_app = with_rule (with_rule (with_rule (with_rule (new_app (codes "site")) sites_rule) me_rule) preset_rule) journal_rule
+site_app = with_rule (with_rule (with_rule (with_rule (with_rule (new_app (codes "site")) sites_rule) me_rule) preset_rule) journal_rule) new_journal_rule
 
 -- 1 to 16 texts that stand by no option's name
 abbrev pub journals_rule : Rule

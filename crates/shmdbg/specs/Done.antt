@@ -1,5 +1,5 @@
 -- What is done of a task, by the exit status, with what is on the input and on the output.
-use Rattle.std.specs.Prelude.{◌≡◌, ◌≢◌, ◌⊎◌, ℕ, Bool, false, true, List, [], is_some, length, IfSome}
+use Rattle.std.specs.Prelude.{◌≡◌, ◌≢◌, ◌⊎◌, ℕ, Bool, false, true, List, [], length, option_map, IfSome}
 use Rattle.clap.specs.Words.{Text}
 use Rattle.shm_debug.specs.Script.{script_of}
 use Rattle.shm_journal.specs.Acts.{Around, Did}
@@ -33,7 +33,7 @@ Does Replay status old new = IfSome old.remaining (λ script. Replays (script_of
 Does (Run sites seed summary log) status old new = Runs sites summary status old new
 Does Prompt status old new = (status ≡ 0) ⊎ (status ≡ 3)
 Does (Draw page) status old new = IfSome old.remaining (λ script. Pictures page (script_of script) status old.contents new.contents)
-Does (Site sites me pages journal) status old new = IsSite (is_some journal) (header_at sites me pages) status old new
+Does (Site sites me pages journal begins) status old new = IsSite (option_map (λ file. begins) journal) (header_at sites me pages) status old new
 Does (Audit sites journals) status old new = Audits (length journals.items) sites status old new
 
 -- an audit judges its end

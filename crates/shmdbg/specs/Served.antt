@@ -1,7 +1,8 @@
 -- What a site's process did, by how it ended.
-use Rattle.std.specs.Prelude.{⊤, ◌≡◌, ℕ, Bool, [], Result, Ok, Err}
+use Rattle.std.specs.Prelude.{⊤, ◌≡◌, ℕ, Bool, [], Option, Result, Ok, Err}
 use Rattle.shm_journal.specs.Acts.{Around, Did, Served}
 use Rattle.shm_journal.specs.Lines.{Header}
+use Rattle.shm_journal.specs.declared.process_fault.ProcessFault.TheVariants.{JournalFault}
 use Rattle.shm_journal.specs.declared.recovery_fault.RecoveryFault.{RecoveryFault}
 use Rattle.shm_journal.specs.declared.recovery_fault.RecoveryFault.TheVariants as recovery
 use Rattle.shm_process.specs.Desk.{Desk}
@@ -13,8 +14,13 @@ use Rattle.shmdbg.specs.declared.site_fault.SiteFault.TheVariants as fault
 abbrev pub ServesFrom : Desk → Result (Unit {0}) SiteFault → Around → Around → Type 0
 ServesFrom desk (Ok end) old new = Served desk old new (Ok end)
 ServesFrom desk (Err (fault.Ended why)) old new = Served desk old new (Err why)
+ServesFrom desk (Err (fault.Loose durable)) old new = Served desk old new (Err JournalFault)
 ServesFrom desk (Err fault.OutOfMemory) old new = ⊥
 ServesFrom desk (Err fault.Unopened) old new = ⊥
+ServesFrom desk (Err fault.Missing) old new = ⊥
+ServesFrom desk (Err fault.NoFile) old new = ⊥
+ServesFrom desk (Err fault.Existing) old new = ⊥
+ServesFrom desk (Err fault.Blank) old new = ⊥
 ServesFrom desk (Err fault.Taken) old new = ⊥
 ServesFrom desk (Err fault.Uncut) old new = ⊥
 ServesFrom desk (Err fault.Unlisted) old new = ⊥
@@ -22,11 +28,16 @@ ServesFrom desk (Err (fault.Unrecovered why)) old new = ⊥
 ServesFrom desk (Err (fault.Unopenable why)) old new = ⊥
 
 -- from the desk that it begins with; or it couldn't begin, and nothing was read and nothing told
-abbrev pub IsServed : Bool → Header → Result (Unit {0}) SiteFault → Around → Around → Type 0
+abbrev pub IsServed : Option Bool → Header → Result (Unit {0}) SiteFault → Around → Around → Type 0
 IsServed kept header (Ok end) old new = (desk : Desk) × BeginsWith kept header desk × Served desk old new (Ok end)
 IsServed kept header (Err (fault.Ended why)) old new = (desk : Desk) × BeginsWith kept header desk × Served desk old new (Err why)
+IsServed kept header (Err (fault.Loose durable)) old new = (desk : Desk) × BeginsWith kept header desk × Served desk old new (Err JournalFault)
 IsServed kept header (Err fault.OutOfMemory) old new = Did old new []
 IsServed kept header (Err fault.Unopened) old new = Did old new []
+IsServed kept header (Err fault.Missing) old new = Did old new []
+IsServed kept header (Err fault.NoFile) old new = Did old new []
+IsServed kept header (Err fault.Existing) old new = Did old new []
+IsServed kept header (Err fault.Blank) old new = Did old new []
 IsServed kept header (Err fault.Taken) old new = Did old new []
 IsServed kept header (Err fault.Uncut) old new = Did old new []
 IsServed kept header (Err fault.Unlisted) old new = Did old new []
@@ -36,6 +47,7 @@ IsServed kept header (Err (fault.Unopenable why)) old new = Did old new []
 -- it ended before it read and told anything
 abbrev pub IsUnbegun : SiteFault → Type 0
 IsUnbegun (fault.Ended why) = ⊥
+IsUnbegun (fault.Loose durable) = ⊥
 IsUnbegun _ = ⊤
 
 abbrev pub recovery_status : RecoveryFault → ℕ
@@ -44,18 +56,23 @@ recovery_status recovery.ReadFault = 3
 recovery_status recovery.Foreign = 1
 recovery_status (recovery.BadLine number) = 1
 
--- the journal is none of this site's, or something failed
+-- the journal isn't as it was asked for, or is none of this site's; or something failed
 abbrev pub site_status : Result (Unit {0}) SiteFault → ℕ
 site_status (Ok end) = 0
 site_status (Err (fault.Unrecovered why)) = recovery_status why
 site_status (Err (fault.Ended why)) = 3
 site_status (Err fault.OutOfMemory) = 3
 site_status (Err fault.Unopened) = 3
+site_status (Err fault.Missing) = 1
+site_status (Err fault.NoFile) = 1
+site_status (Err fault.Existing) = 1
+site_status (Err fault.Blank) = 1
 site_status (Err fault.Taken) = 3
 site_status (Err fault.Uncut) = 3
 site_status (Err fault.Unlisted) = 3
 site_status (Err (fault.Unopenable why)) = 3
+site_status (Err (fault.Loose durable)) = 3
 
 -- the site ended with this status, and did what such an end does
-abbrev pub IsSite : Bool → Header → ℕ → Around → Around → Type 0
+abbrev pub IsSite : Option Bool → Header → ℕ → Around → Around → Type 0
 IsSite kept header status old new = (end : Result (Unit {0}) SiteFault) × (status ≡ site_status end) × IsServed kept header end old new

@@ -1,5 +1,5 @@
 -- What the words ask for, as clap reads them, and what is wrong with them.
-use Rattle.std.specs.Prelude.{⊤, ◌≡◌, ◌≤◌, ◌<◌, ◌==◌, ◌&&◌, ℕ, Bool, true, false, not, if◌then◌else◌, List, [], ◌∷◌, length, drop, map, slice_index, nat_lt, IsSomeAnd, Option, Some, None, codes, option_and_then, option_map}
+use Rattle.std.specs.Prelude.{⊤, ◌≡◌, ◌≤◌, ◌<◌, ◌==◌, ◌&&◌, ◌||◌, ℕ, Bool, true, false, not, if◌then◌else◌, List, [], ◌∷◌, length, drop, map, slice_index, nat_lt, is_some, IsSomeAnd, Option, Some, None, codes, option_and_then, option_map}
 use Rattle.std.specs.List.{list_all, list_any}
 use Rattle.std.specs.Char.{is_ascii_digit}
 use Rattle.std.specs.Option.{option_map_or}
@@ -8,7 +8,7 @@ use Rattle.std.specs.Str.Parse.{digits_value, without_leading_plus}
 use Rattle.clap.specs.Words.{Kinds, Row, Text, fault_of, first_of, one_of, subcommand_of}
 use Rattle.clap.specs.Walk.{all_of}
 use Rattle.clap.specs.Kinds.{or_else}
-use Rattle.clap.specs.declared.error.kind.ErrorKind.TheVariants.{UnknownArgument, ValueValidation}
+use Rattle.clap.specs.declared.error.kind.ErrorKind.TheVariants.{MissingRequiredArgument, UnknownArgument, ValueValidation}
 use Rattle.shm_place.specs.Limits.{pages as most_pages}
 use Rattle.shm_place.specs.declared.page.PageId.{PageId}
 use Rattle.shmdbg.specs.Commands.{app}
@@ -25,7 +25,7 @@ name_of Replay = codes "replay"
 name_of (Run sites seed summary log) = codes "run"
 name_of Prompt = codes "prompt"
 name_of (Draw page) = codes "draw"
-name_of (Site sites me pages journal) = codes "site"
+name_of (Site sites me pages journal begins) = codes "site"
 name_of (Audit sites journals) = codes "audit"
 
 -- ---- what is given for an option
@@ -71,9 +71,9 @@ HasOptions rows (Run sites seed summary log) =
     × (first_of (codes "log") rows ≡ option_map (λ folder. folder.now) log)
 HasOptions rows Prompt = Unit {0}
 HasOptions rows (Draw page) = page ≡ page_at rows
-HasOptions rows (Site sites me pages journal) =
+HasOptions rows (Site sites me pages journal begins) =
     (number_at (codes "sites") rows ≡ Some sites) × (number_at (codes "me") rows ≡ Some me) × (number_at (codes "preset") rows ≡ Some pages)
-    × HasPages pages × (first_of (codes "journal") rows ≡ option_map (λ file. file.now) journal)
+    × HasPages pages × (first_of (codes "journal") rows ≡ option_map (λ file. file.now) journal) × (is_set_at (codes "new") rows ≡ begins)
 HasOptions rows (Audit sites journals) =
     (number_at (codes "sites") rows ≡ Some sites) × (all_of (codes "journals") rows ≡ Some (map (λ file. file.now) journals.items))
 
@@ -103,12 +103,12 @@ has_plain_numbers words = has_plain_rows (option_map (λ named. named.1) (subcom
 
 -- The site that a process is to be is one of those that there are; of other tasks this isn't asked.
 abbrev pub is_among : Task → Bool
-is_among (Site sites me pages journal) = nat_lt me sites
+is_among (Site sites me pages journal begins) = nat_lt me sites
 is_among _ = true
 
 -- the same, and segment 0 may have so many pages
 abbrev pub IsOneOfSites : Task → Type 0
-IsOneOfSites (Site sites me pages journal) = (me < sites) × HasPages pages
+IsOneOfSites (Site sites me pages journal begins) = (me < sites) × HasPages pages
 IsOneOfSites _ = ⊤
 
 -- so of what is written for the options
@@ -117,6 +117,18 @@ is_below_at rows = option_map_or (λ sites. option_map_or (λ me. nat_lt me site
 
 abbrev pub names_one : Text × List Row → Bool
 names_one named = if bytes_eq named.0 (codes "site") then is_below_at named.1 else true
+
+-- A journal that a site is to begin has a file; of other tasks this isn't asked.
+abbrev pub has_file : Task → Bool
+has_file (Site sites me pages journal begins) = not begins || is_some journal
+has_file _ = true
+
+-- so of what is written for the options
+abbrev pub has_file_at : List Row → Bool
+has_file_at rows = not (is_set_at (codes "new") rows) || is_some (first_of (codes "journal") rows)
+
+abbrev pub names_file : Text × List Row → Bool
+names_file named = if bytes_eq named.0 (codes "site") then has_file_at named.1 else true
 
 -- A word is longer than any that is told whole.
 abbrev pub is_long : Text → Bool
@@ -138,11 +150,17 @@ abbrev pub among_fault : Bool → Kinds
 among_fault true = []
 among_fault false = ValueValidation ∷ []
 
+abbrev pub file_fault : Bool → Kinds
+file_fault true = []
+file_fault false = MissingRequiredArgument ∷ []
+
 abbrev pub task_fault : Task → Kinds
-task_fault task = among_fault (is_among task)
+task_fault task = or_else (among_fault (is_among task)) (file_fault (has_file task))
 
 abbrev pub site_fault : List Text → Kinds
-site_fault words = among_fault (option_map_or names_one (subcommand_of app words) true)
+site_fault words =
+    let named = subcommand_of app words in
+    or_else (among_fault (option_map_or names_one named true)) (file_fault (option_map_or names_file named true))
 
 -- the kinds of error that the words may give; none where the program takes them
 abbrev pub fault_in : List Text → Kinds

@@ -2,10 +2,11 @@
 ghost use Rattle.std.specs.Io.KnownBytes.{Appends};
 ghost use Rattle.std.specs.Prelude.{ℕ, OnErr, OnOk, take};
 
+use crate::keeping::cut;
 use shm_journal::{Failed, Journal};
 use shm_text::{read_up_to, write_whole};
 use std::fs::OpenFile;
-use std::io::{Read, Write};
+use std::io::{self, Read, Write};
 
 /// None: what is appended is forgotten.
 #[derive(Clone, Copy)]
@@ -40,7 +41,30 @@ impl Journal for NoJournal {
 /// A file, at whose end is written.
 #[derive(Drop)]
 pub(crate) struct JournalFile<F> {
-    pub(crate) file: F,
+    file: F,
+    durable: u64,
+    loose: u64,
+}
+
+impl<F: OpenFile> JournalFile<F> {
+    /// A file that has so many bytes, all of them durable.
+    pub(crate) fn new(file: F, durable: u64) -> JournalFile<F> {
+        JournalFile {
+            file,
+            durable,
+            loose: 0,
+        }
+    }
+
+    /// How many of its bytes are durable.
+    pub(crate) fn durable(&self) -> u64 {
+        self.durable
+    }
+
+    /// Cuts off what isn't durable. After a failure to make it durable the system may give it back when it is read, and may yet lose it.
+    pub(crate) fn cut_back(&self) -> io::Result<()> {
+        cut(&self.file, self.durable)
+    }
 }
 
 impl<F: Write + OpenFile> Journal for JournalFile<F> {
@@ -58,14 +82,21 @@ impl<F: Write + OpenFile> Journal for JournalFile<F> {
 
     fn append(&mut self, text: &[u8]) -> Result<(), Failed> {
         match write_whole(&mut self.file, text) {
-            Ok(()) => Ok(()),
+            Ok(()) => {
+                self.loose = self.loose.saturating_add(text.len() as u64);
+                Ok(())
+            }
             Err(_) => Err(Failed),
         }
     }
 
     fn sync(&mut self) -> Result<(), Failed> {
         match self.file.sync_data() {
-            Ok(()) => Ok(()),
+            Ok(()) => {
+                self.durable = self.durable.saturating_add(self.loose);
+                self.loose = 0;
+                Ok(())
+            }
             Err(_) => Err(Failed),
         }
     }

@@ -1,5 +1,6 @@
-//! The file of a site's journal: one process alone has it, and what is torn at its end is cut off.
+//! The file of a site's journal: it is as it was asked for, one process alone has it, and what is torn at its end is cut off.
 ghost use Rattle.std.specs.Prelude.{◌≡◌, ◌≤◌, ◌<◌, ℕ, List, IfErr, IfOk, IfSome, OnOk};
+ghost use Rattle.shm_journal.specs.Found.{bytes_of_lines, lines_of};
 ghost use Rattle.shm_journal.specs.Recovers.{ReadsAll};
 ghost use Rattle.shmdbg.specs.Begun.{BeginsKept, ReadsUnbegun, header_at};
 ghost use Rattle.shmdbg.specs.Served.{IsUnbegun};
@@ -10,7 +11,7 @@ use shm_journal::{Header, Recovered, open_desk, recover};
 use shm_place::{PAGES, SiteId, Sites};
 use shm_process::Desk;
 use std::fs::{self, File, OpenFile, OpenOptions, TryLockError};
-use std::io::{self, Read};
+use std::io::{self, ErrorKind, Read};
 use std::rt::Files;
 
 /// A file that one process alone may take.
@@ -25,17 +26,52 @@ impl Lock for File {
     }
 }
 
-/// Opens the file of this name for its journal, and makes it where it isn't there.
-pub(crate) fn open_journal<R: Files>(rt: &R, name: &str) -> Result<R::File, SiteFault>
+/// A journal that is asked for.
+#[derive(Clone, Copy)]
+pub(crate) struct Kept<'a> {
+    /// Its file.
+    pub(crate) name: &'a str,
+    /// Whether it is to be begun, or to be gone on with.
+    pub(crate) begins: bool,
+}
+
+/// A site that can begin with its journal.
+#[derive(Drop)]
+pub(crate) struct Begun {
+    /// Its desk.
+    pub(crate) desk: Desk,
+    /// How many bytes the journal has. They are durable.
+    pub(crate) durable: u64,
+}
+
+/// Looks at what has the journal's name: it has to be a plain file, or nothing where it is to be begun. A pipe or a device isn't even opened.
+fn look_at<R: Files>(rt: &R, kept: Kept<'_>) -> Result<(), SiteFault>
+    ensures { IfErr result IsUnbegun }
+{
+    match fs::metadata(rt, kept.name) {
+        Ok(found) if found.is_file() => Ok(()),
+        Ok(_) => Err(SiteFault::NoFile),
+        Err(error) if error.kind() != ErrorKind::NotFound => Err(SiteFault::Unopened),
+        Err(_) if kept.begins => Ok(()),
+        Err(_) => Err(SiteFault::Missing),
+    }
+}
+
+/// Opens the journal's file, and makes it where it is to be begun and isn't there.
+pub(crate) fn open_journal<R: Files>(rt: &R, kept: Kept<'_>) -> Result<R::File, SiteFault>
 where
     R::File: Lock,
     ensures { IfErr result IsUnbegun }
 {
+    match look_at(rt, kept) {
+        Ok(()) => {}
+        Err(fault) => return Err(fault),
+    }
     let opened = OpenOptions::new()
         .read(true)
         .append(true)
-        .create(true)
-        .open(rt, name);
+        .create(kept.begins)
+        .open(rt, kept.name);
     let Ok(file) = opened else {
         return Err(SiteFault::Unopened);
     };
@@ -46,21 +82,22 @@ where
     }
 }
 
-/// The desk of a site that begins with what it finds in its journal, the file of this name. What is torn is cut off, and that is made
-/// durable; of a new journal also that there is a file of its name.
+/// A site that begins with what it finds in its journal. There is no whole line exactly where the journal is to be begun. What is torn is cut
+/// off, and that is made durable; of a new journal also that there is a file of its name.
 pub(crate) fn begin_kept<R: AllocGlobal + Files, F: Read + OpenFile>(
     rt: &R,
     sites: Sites,
     me: SiteId,
     pages: u32,
-    name: &str,
+    kept: Kept<'_>,
     file: &mut F,
-) -> Result<Desk, SiteFault>
+) -> Result<Begun, SiteFault>
     requires below { me < sites }
     requires from { 1 ≤ pages }
     requires to { pages ≤ PAGES }
-    ensures begun { IfOk result (λ desk. (journal : List ℕ) × IfSome (F.remaining file.old) (λ known. journal ≡ known)
-        × BeginsKept (header_at sites me pages) journal (desk_of desk)) }
+    ensures begun { IfOk result (λ begun. (journal : List ℕ) × IfSome (F.remaining file.old) (λ known. journal ≡ known)
+        × (begun.durable ≡ bytes_of_lines (lines_of journal).whole)
+        × BeginsKept kept.entry.begins (header_at sites me pages) journal (desk_of begun.desk)) }
     ensures all { OnOk result (ReadsAll (F.remaining file.old) (F.remaining file.new)) }
     ensures left { IfErr result (ReadsUnbegun (header_at sites me pages) (F.remaining file.old) (F.remaining file.new)) }
     ensures unbegun { IfErr result IsUnbegun }
@@ -74,10 +111,16 @@ pub(crate) fn begin_kept<R: AllocGlobal + Files, F: Read + OpenFile>(
         whole,
         is_new,
     } = found;
+    if kept.begins && !is_new {
+        return Err(SiteFault::Existing);
+    }
+    if is_new && !kept.begins {
+        return Err(SiteFault::Blank);
+    }
     if cut(file, whole).is_err() {
         return Err(SiteFault::Uncut);
     }
-    if list_new(rt, name, is_new).is_err() {
+    if list_new(rt, kept.name, is_new).is_err() {
         return Err(SiteFault::Unlisted);
     }
     let header = Header {
@@ -86,7 +129,10 @@ pub(crate) fn begin_kept<R: AllocGlobal + Files, F: Read + OpenFile>(
         pages,
     };
     match open_desk(rt.alloc(), header, is_new, node) {
-        Ok(desk) => Ok(desk),
+        Ok(desk) => Ok(Begun {
+            desk,
+            durable: whole,
+        }),
         Err(fault) => Err(SiteFault::Unopenable(fault)),
     }
 }
@@ -103,8 +149,8 @@ fn list_new<R: AllocGlobal + Files>(rt: &R, name: &str, is_new: bool) -> io::Res
     }
 }
 
-/// Cuts the file to its whole lines, and makes that durable.
-fn cut<F: OpenFile>(file: &F, whole: u64) -> io::Result<()> {
-    file.set_len(whole)?;
+/// Cuts the file to so many bytes, and makes that durable.
+pub(crate) fn cut<F: OpenFile>(file: &F, bytes: u64) -> io::Result<()> {
+    file.set_len(bytes)?;
     file.sync_all()
 }

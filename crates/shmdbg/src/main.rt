@@ -13,6 +13,7 @@ mod serving;
 mod showing;
 mod site_fault;
 mod source;
+mod streams;
 mod tell;
 #[cfg(test)]
 mod tests;
@@ -21,12 +22,20 @@ mod words;
 
 use program::run_words;
 use source::Source;
+use streams::Held;
 use std::env::{self, Env};
 use std::io::{self, IsTerminal};
 use std::process::ExitCode;
 
 fn main(rt: HostRuntime) -> ExitCode {
     let mut errors = rt.stderr();
+    let held = match Held::new(&rt) {
+        Ok(held) => held,
+        Err(_) => return ExitCode::from(tell::no_null(&mut errors)),
+    };
+    if let Some(stream) = held.closed() {
+        return ExitCode::from(tell::closed_stream(stream, &mut errors));
+    }
     let words = match words_of_process(&rt) {
         Ok(words) => words,
         Err(error) => return ExitCode::from(tell::unread_words(&error, &mut errors)),

@@ -1,4 +1,4 @@
-ghost use Rattle.std.specs.Prelude.{◌≡◌, ◌≢◌, ◌≤◌, ◌<◌, ◌⊎◌, ℕ, List, [], ◌∷◌, codes, is_some, map, true, IfSome};
+ghost use Rattle.std.specs.Prelude.{◌≡◌, ◌≢◌, ◌≤◌, ◌<◌, ◌⊎◌, ℕ, List, [], ◌∷◌, codes, map, option_map, true, IfSome};
 ghost use Rattle.shm_debug.specs.Script.{script_of};
 ghost use Rattle.shmdbg.specs.Around.{streams};
 ghost use Rattle.shmdbg.specs.Begun.{header_at};
@@ -9,7 +9,7 @@ ghost use Rattle.shmdbg.specs.Words.{IsOneOfSites};
 
 use crate::auditing::audit;
 use crate::disk::Disk;
-use crate::keeping::Lock;
+use crate::keeping::{Kept, Lock};
 use crate::logging::{Unlogged, open_logs};
 use crate::reporting::{Wanted, tell_run};
 use crate::serving::{be_kept_site, be_site};
@@ -31,7 +31,8 @@ use std::thread::Threads;
 /// Does what the words ask for, and answers the exit status: 0 done, 1 the script has a fault, 2 the words were refused,
 /// 3 memory, reading or writing failed, or a site's clock ended, or there was no thread, or another process has the journal, 4 a run gave
 /// up, or an audit found a cause. At 2 the parser's text goes to `errors`, at 1, 3 and 4 one line; below it stands a wrong line that the
-/// reader recalls. A journal that is none, or another's, counts as a script with a fault.
+/// reader recalls. A journal that isn't as it is asked for counts as a script with a fault: there is none, or it is begun already, or it is
+/// another's.
 pub fn run_words<
     R: AllocGlobal + Clock + Files + Threads + Wait + Copy + Send + Sync + 'static,
     S: AsStr,
@@ -93,7 +94,10 @@ where
             me,
             pages,
             journal,
-        } => site(rt, sites, me, pages, journal, reader, out, errors),
+            begins,
+        } => site(
+            rt, sites, me, pages, journal, begins, reader, out, errors,
+        ),
         Task::Audit { sites, journals } => audit(rt, sites, journals.as_slice(), out, errors),
     }
 }
@@ -157,6 +161,7 @@ fn site<R: AllocGlobal + Files, I: Read, O: Write, E: Write>(
     me: SiteId,
     pages: u32,
     journal: Option<&str>,
+    begins: bool,
     reader: &mut I,
     out: &mut O,
     errors: &mut E,
@@ -168,12 +173,13 @@ where
     requires to { pages ≤ PAGES }
     ensures range { result < 4 }
     ensures taken { result ≢ 2 }
-    ensures served { IsSite (is_some journal.entry) (header_at sites me pages) result
+    ensures served { IsSite (option_map (λ file. begins) journal.entry) (header_at sites me pages) result
         (streams (I.remaining reader.old) (O.contents out.old)) (streams (I.remaining reader.new) (O.contents out.new)) }
 {
     match journal {
         Some(name) => {
-            let ended = be_kept_site(rt, sites, me, pages, name, reader, out);
+            let kept = Kept { name, begins };
+            let ended = be_kept_site(rt, sites, me, pages, kept, reader, out);
             tell_end(ended, errors)
         }
         None => {

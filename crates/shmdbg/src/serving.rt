@@ -1,6 +1,5 @@
 //! A site as a process, with a journal or without.
-ghost use Rattle.std.specs.Prelude.{◌≡◌, ◌≤◌, ◌<◌, false, true, IfOk};
-ghost use Rattle.shm_journal.specs.Acts.{around};
+ghost use Rattle.std.specs.Prelude.{◌≡◌, ◌≤◌, ◌<◌, None, Some, IfOk};
 ghost use Rattle.shm_process.specs.Desk.{desk_at};
 ghost use Rattle.shm_process.specs.DeskOf.{desk_of};
 ghost use Rattle.shm_process.specs.Node.{new_node};
@@ -9,12 +8,13 @@ ghost use Rattle.shmdbg.specs.Begun.{header_at};
 ghost use Rattle.shmdbg.specs.Served.{IsServed, ServesFrom};
 
 use crate::journals::{JournalFile, NoJournal};
-use crate::keeping::{Lock, begin_kept, open_journal};
+use crate::keeping::{Begun, Kept, Lock, begin_kept, open_journal};
 use crate::site_fault::SiteFault;
-use shm_journal::{Journal, serve};
+use shm_journal::{ProcessFault, serve};
 use shm_place::{PAGES, SiteId, Sites};
 use shm_process::{Desk, Node};
 use std::alloc::{AllocError, Global};
+use std::fs::OpenFile;
 use std::io::{Read, Write};
 use std::rt::Files;
 
@@ -30,22 +30,25 @@ pub(crate) fn be_site<R: AllocGlobal, I: Read, O: Write>(
     requires below { me < sites }
     requires from { 1 ≤ pages }
     requires to { pages ≤ PAGES }
-    ensures { IsServed false (header_at sites me pages) result (streams (I.remaining reader.old) (O.contents out.old))
+    ensures { IsServed None (header_at sites me pages) result (streams (I.remaining reader.old) (O.contents out.old))
         (streams (I.remaining reader.new) (O.contents out.new)) }
 {
     let Ok(desk) = begin(rt.alloc(), sites, me, pages) else {
         return Err(SiteFault::OutOfMemory);
     };
-    serve_streams(desk, reader, out, &mut NoJournal)
+    match serve(desk, reader, out, &mut NoJournal) {
+        Ok(()) => Ok(()),
+        Err(fault) => Err(SiteFault::Ended(fault)),
+    }
 }
 
-/// Is this site until its lines end, and keeps what it does in the journal of this name.
+/// Is this site until its lines end, and keeps what it does in this journal.
 pub(crate) fn be_kept_site<R: AllocGlobal + Files, I: Read, O: Write>(
     rt: &R,
     sites: Sites,
     me: SiteId,
     pages: u32,
-    journal: &str,
+    kept: Kept<'_>,
     reader: &mut I,
     out: &mut O,
 ) -> Result<(), SiteFault>
@@ -54,15 +57,18 @@ where
     requires below { me < sites }
     requires from { 1 ≤ pages }
     requires to { pages ≤ PAGES }
-    ensures { IsServed true (header_at sites me pages) result (streams (I.remaining reader.old) (O.contents out.old))
+    ensures { IsServed (Some kept.entry.begins) (header_at sites me pages) result (streams (I.remaining reader.old) (O.contents out.old))
         (streams (I.remaining reader.new) (O.contents out.new)) }
 {
-    let mut file = match open_journal(rt, journal) {
+    let mut file = match open_journal(rt, kept) {
         Ok(file) => file,
         Err(fault) => return Err(fault),
     };
-    match begin_kept(rt, sites, me, pages, journal, &mut file) {
-        Ok(desk) => serve_streams(desk, reader, out, &mut JournalFile { file }),
+    match begin_kept(rt, sites, me, pages, kept, &mut file) {
+        Ok(begun) => {
+            let Begun { desk, durable } = begun;
+            serve_kept(desk, reader, out, JournalFile::new(file, durable))
+        }
         Err(fault) => Err(fault),
     }
 }
@@ -78,18 +84,23 @@ fn begin(alloc: Global, sites: Sites, me: SiteId, pages: u32) -> Result<Desk, Al
     Ok(Desk::new(alloc, node))
 }
 
-/// Serves the input and the output, and keeps what is recorded.
-fn serve_streams<I: Read, O: Write, J: Journal>(
+/// Serves the input and the output, and keeps what is recorded in a file. Where that fails, what isn't durable is cut off again.
+fn serve_kept<I: Read, O: Write, F: Write + OpenFile + Drop>(
     desk: Desk,
     reader: &mut I,
     out: &mut O,
-    journal: &mut J,
+    journal: JournalFile<F>,
 ) -> Result<(), SiteFault>
-    ensures { ServesFrom (desk_of desk) result (around (I.remaining reader.old) (O.contents out.old) (J.acts journal.old))
-        (around (I.remaining reader.new) (O.contents out.new) (J.acts journal.new)) }
+    ensures { ServesFrom (desk_of desk) result (streams (I.remaining reader.old) (O.contents out.old))
+        (streams (I.remaining reader.new) (O.contents out.new)) }
 {
-    match serve(desk, reader, out, journal) {
+    let mut journal = journal;
+    match serve(desk, reader, out, &mut journal) {
         Ok(()) => Ok(()),
+        Err(ProcessFault::JournalFault) => match journal.cut_back() {
+            Ok(()) => Err(SiteFault::Ended(ProcessFault::JournalFault)),
+            Err(_) => Err(SiteFault::Loose(journal.durable())),
+        },
         Err(fault) => Err(SiteFault::Ended(fault)),
     }
 }

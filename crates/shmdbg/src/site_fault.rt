@@ -10,11 +10,23 @@ pub enum SiteFault {
     /// The journal's file couldn't be opened, made or locked.
     #[error("journal: it can't be opened")]
     Unopened,
+    /// There is no file of the journal's name, and none was to be begun.
+    #[error("journal: there is none of this name: --new begins one")]
+    Missing,
+    /// The journal's name is that of a folder, a pipe, a socket or a device.
+    #[error("journal: it is no plain file")]
+    NoFile,
+    /// The journal was to be begun, and is already.
+    #[error("journal: it is begun already: start the site without --new")]
+    Existing,
+    /// The journal was to be gone on with, and has no whole line: it is empty, or has a front of its header.
+    #[error("journal: nothing is begun in it: --new begins it")]
+    Blank,
     /// Another process has the journal.
     #[error("journal: another process has it")]
     Taken,
-    /// What is torn at the journal's end couldn't be cut off.
-    #[error("journal: write fault")]
+    /// What is torn at the journal's end couldn't be cut off, or what stands before it not be made durable.
+    #[error("journal: it can't be made durable")]
     Uncut,
     /// The folder of a new journal couldn't be made durable.
     #[error("journal: its folder can't be made durable")]
@@ -25,7 +37,11 @@ pub enum SiteFault {
     /// The site can't go on from its journal.
     #[error("{0}")]
     Unopenable(OpeningFault),
-    /// Memory, reading or writing failed while it ran.
+    /// Memory, reading or writing failed while it ran. Where the journal failed, what wasn't durable was cut off it.
     #[error("{0}")]
     Ended(ProcessFault),
+    /// The journal failed, and then what isn't durable couldn't be cut off either: what stands behind so many bytes may be read, and be lost
+    /// later.
+    #[error("journal: write fault: cut it to its first {0} bytes before the site starts again")]
+    Loose(u64),
 }

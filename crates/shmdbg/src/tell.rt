@@ -9,6 +9,7 @@ ghost use Rattle.shmdbg.specs.Status.{fault_status, run_status};
 
 use crate::logging::Unlogged;
 use crate::site_fault::SiteFault;
+use crate::streams::Stream;
 use crate::unaudited::Unaudited;
 use clap::error::ErrorKind;
 use shm_audit::{JournalFault, JournalsFault};
@@ -39,12 +40,32 @@ pub fn prompt_fault<E: Write>(fault: PromptFault, errors: &mut E) -> u8
     3
 }
 
+/// The exit status where a stream is closed that the program needs. Its one line goes to `errors`.
+pub fn closed_stream<E: Write>(stream: Stream, errors: &mut E) -> u8
+    ensures { result ≡ 3 }
+{
+    let _ = match stream {
+        Stream::Input => writeln!(errors, "shmdbg: standard input is closed"),
+        Stream::Output => writeln!(errors, "shmdbg: standard output is closed"),
+    };
+    3
+}
+
+/// The exit status where `/dev/null` can't be opened. Its one line goes to `errors`.
+pub fn no_null<E: Write>(errors: &mut E) -> u8
+    ensures { result ≡ 3 }
+{
+    let _ = writeln!(errors, "shmdbg: /dev/null: it can't be opened");
+    3
+}
+
 /// The exit status where a site's process ended by this fault. Its one line goes to `errors`.
 pub fn site_fault<E: Write>(fault: SiteFault, errors: &mut E) -> u8
     ensures { result ≡ site_status (Err fault) }
 {
     let _ = writeln!(errors, "shmdbg: {fault}");
     match fault {
+        SiteFault::Missing | SiteFault::NoFile | SiteFault::Existing | SiteFault::Blank => 1,
         SiteFault::Unrecovered(RecoveryFault::Foreign | RecoveryFault::BadLine(_)) => 1,
         _ => 3,
     }

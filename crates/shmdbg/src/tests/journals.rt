@@ -12,10 +12,18 @@ const JOURNAL: &str = "one.journal";
 
 const STORED: &[u8] = b"journal 1 0 1\nstep 1 ask 0 a store 0 5 7\n";
 
-/// The only site of one, with so many pages, that keeps a journal in this file.
+const EXISTING: &[u8] = b"shmdbg: journal: it is begun already: start the site without --new\n";
+
+const BLANK: &[u8] = b"shmdbg: journal: nothing is begun in it: --new begins it\n";
+
+const MISSING: &[u8] = b"shmdbg: journal: there is none of this name: --new begins one\n";
+
+const NO_FILE: &[u8] = b"shmdbg: journal: it is no plain file\n";
+
+/// The only site of one, with one page, that begins a journal in this file, or goes on with it.
 fn site_kept<R: AllocGlobal + Clock + Files + Threads + Wait + Copy + Send + Sync + 'static>(
     rt: &R,
-    pages: &str,
+    begins: bool,
     name: &str,
     lines: &[u8],
 ) -> Ran
@@ -31,11 +39,13 @@ where
         "--me",
         "0",
         "--preset",
-        pages,
+        "1",
         "--journal",
         name,
+        "--new",
     ];
-    run_over(rt, &words, &mut reader)
+    let given = if begins { 11 } else { 10 };
+    run_over(rt, &words[..given], &mut reader)
 }
 
 fn audit_alone<R: AllocGlobal + Clock + Files + Threads + Wait + Copy + Send + Sync + 'static>(
@@ -55,14 +65,14 @@ where
 #[test]
 fn a_site_goes_on_from_its_journal(rt: HostRuntime) -> Result<(), Fail> {
     let _ = fs::remove_file(&rt, JOURNAL);
-    let ran = site_kept(&rt, "1", JOURNAL, b"ask 0 a store 0 5 7\n");
+    let ran = site_kept(&rt, true, JOURNAL, b"ask 0 a store 0 5 7\n");
     expect(&rt, &ran, 0, b"tell 0 a stored\n", b"");
     let kept = fs::read(&rt, JOURNAL)?;
     assert_eq!(rt; kept.as_slice(), STORED);
     let mut torn = Vec::from_slice(rt.alloc(), STORED)?;
     torn.extend_from_slice(b"step 2 ask 0 b sto")?;
     fs::write(&rt, JOURNAL, torn.as_slice())?;
-    let ran = site_kept(&rt, "1", JOURNAL, b"ask 0 b load 0 5\n");
+    let ran = site_kept(&rt, false, JOURNAL, b"ask 0 b load 0 5\n");
     expect(&rt, &ran, 0, b"tell 0 b byte 7\n", b"");
     let kept = fs::read(&rt, JOURNAL)?;
     let mut whole = Vec::from_slice(rt.alloc(), STORED)?;
@@ -79,23 +89,35 @@ fn a_site_goes_on_from_its_journal(rt: HostRuntime) -> Result<(), Fail> {
 #[test]
 fn journals_that_are_refused(rt: HostRuntime) -> Result<(), Fail> {
     let name = "refused.journal";
-    let cases: [(&[u8], &[u8]); 3] = [
+    let cases: [(&[u8], bool, &[u8]); 8] = [
         (
             b"journal 1 0 2\n",
+            false,
             b"shmdbg: journal: of another site, number of sites or opening\n",
         ),
         (
             b"journal 1 0 1\nstep 1 tock\n",
+            false,
             b"shmdbg: journal: line 2: no entry of this site\n",
         ),
         (
             b"nonsense\ntorn",
+            true,
+            b"shmdbg: journal: line 1: no entry of this site\n",
+        ),
+        (STORED, true, EXISTING),
+        (b"journal 1 0 1\n", true, EXISTING),
+        (b"", false, BLANK),
+        (b"journal 1 0 1", false, BLANK),
+        (
+            b"journal 2",
+            true,
             b"shmdbg: journal: line 1: no entry of this site\n",
         ),
     ];
-    for (bytes, errors) in cases {
+    for (bytes, begins, errors) in cases {
         fs::write(&rt, name, bytes)?;
-        let ran = site_kept(&rt, "1", name, b"ask 0 a tick\n");
+        let ran = site_kept(&rt, begins, name, b"ask 0 a tick\n");
         expect(&rt, &ran, 1, b"", errors);
         let kept = fs::read(&rt, name)?;
         assert_eq!(rt; kept.as_slice(), bytes);
@@ -104,11 +126,39 @@ fn journals_that_are_refused(rt: HostRuntime) -> Result<(), Fail> {
     Ok(())
 }
 
+/// A journal that a crash left before its header was whole is begun.
+#[test]
+fn a_journal_is_begun_again(rt: HostRuntime) -> Result<(), Fail> {
+    let name = "front.journal";
+    for front in [b"".as_slice(), b"jour", b"journal 1 0 1"] {
+        fs::write(&rt, name, front)?;
+        let ran = site_kept(&rt, true, name, b"ask 0 a store 0 5 7\n");
+        expect(&rt, &ran, 0, b"tell 0 a stored\n", b"");
+        let kept = fs::read(&rt, name)?;
+        assert_eq!(rt; kept.as_slice(), STORED);
+    }
+    fs::remove_file(&rt, name)?;
+    Ok(())
+}
+
+/// No file, a folder and a device: nothing is made.
+#[test]
+fn journals_that_are_no_files(rt: HostRuntime) -> Result<(), Fail> {
+    let ran = site_kept(&rt, false, "missing.journal", b"ask 0 a tick\n");
+    expect(&rt, &ran, 1, b"", MISSING);
+    assert!(rt; !fs::exists(&rt, "missing.journal")?);
+    for (name, begins) in [(".", false), (".", true), ("/dev/null", false), ("/dev/null", true)] {
+        let ran = site_kept(&rt, begins, name, b"ask 0 a tick\n");
+        expect(&rt, &ran, 1, b"", NO_FILE);
+    }
+    Ok(())
+}
+
 /// A folder that isn't there.
 #[test]
 fn journals_that_cannot_be_opened(rt: HostRuntime) {
     let name = "no folder/journal";
-    let ran = site_kept(&rt, "1", name, b"ask 0 a tick\n");
+    let ran = site_kept(&rt, true, name, b"ask 0 a tick\n");
     expect(&rt, &ran, 3, b"", b"shmdbg: journal: it can't be opened\n");
     let ran = audit_alone(&rt, "1", name);
     expect(

@@ -59,79 +59,87 @@ fn lines_that_are_passed_over(rt: HostRuntime) -> Result<(), Fail> {
 
 /// Words of a site that are refused, and what the parser's text begins with; nothing is read and nothing is written.
 #[test]
-fn refused_words(rt: HostRuntime) {
+fn refused_words(rt: HostRuntime) -> Result<(), Fail> {
     let missing = b"error: the following required arguments".as_slice();
-    let cases: [([&str; 6], &[u8]); 11] = [
-        (["--me", "0", "--preset", "1", "", ""], missing),
-        (["--sites", "1", "--preset", "1", "", ""], missing),
-        (["--sites", "1", "--me", "0", "", ""], missing),
+    let cases: [([&str; 7], &[u8]); 12] = [
+        (["--me", "0", "--preset", "1", "", "", ""], missing),
+        (["--sites", "1", "--preset", "1", "", "", ""], missing),
+        (["--sites", "1", "--me", "0", "", "", ""], missing),
         (
-            ["--sites", "17", "--me", "0", "--preset", "1"],
+            ["--sites", "17", "--me", "0", "--preset", "1", ""],
             b"error: invalid value '17' for '--sites <N>'",
         ),
         (
-            ["--sites", "16", "--me", "16", "--preset", "1"],
+            ["--sites", "16", "--me", "16", "--preset", "1", ""],
             b"error: invalid value '16' for '--me <K>'",
         ),
         (
-            ["--sites", "1", "--me", "0", "--preset", "0"],
+            ["--sites", "1", "--me", "0", "--preset", "0", ""],
             b"error: invalid value '0' for '--preset <P>'",
         ),
         (
-            ["--sites", "1", "--me", "0", "--preset", "257"],
+            ["--sites", "1", "--me", "0", "--preset", "257", ""],
             b"error: invalid value '257' for '--preset <P>'",
         ),
         (
-            ["--sites", "2", "--me", "2", "--preset", "1"],
+            ["--sites", "2", "--me", "2", "--preset", "1", ""],
             b"error: invalid value '2' for '--me': sites are numbered from 0, and there are 2\n",
         ),
         (
-            ["--sites", "2", "--me", "01", "--preset", "1"],
+            ["--sites", "2", "--me", "01", "--preset", "1", ""],
             b"error: invalid value '01' for '--me': a number has",
         ),
         (
-            ["--sites", "2", "--me", "1", "--preset", "+1"],
+            ["--sites", "2", "--me", "1", "--preset", "+1", ""],
             b"error: invalid value '+1' for '--preset': a number has",
         ),
         (
-            ["--sites", "2", "--me", "1", "--preset", "1 "],
+            ["--sites", "2", "--me", "1", "--preset", "1 ", ""],
             b"error: invalid value '1 ' for '--preset <P>'",
+        ),
+        (
+            ["--sites", "2", "--me", "1", "--preset", "1", "--new"],
+            b"error: '--new' begins a journal: it needs '--journal <FILE>'\n",
         ),
     ];
     for (options, text) in cases {
-        let given = if options[4].is_empty() { 4 } else { 6 };
-        let words = [
-            "shmdbg", "site", options[0], options[1], options[2], options[3], options[4],
-            options[5],
-        ];
+        let mut words = vec![in rt.alloc(); "shmdbg", "site"]?;
+        for option in options {
+            if !option.is_empty() {
+                words.push(option)?;
+            }
+        }
         let mut reader = b"ask 0 a tick\n".as_slice();
-        let ran = run_over(&rt, &words[..2 + given], &mut reader);
+        let ran = run_over(&rt, words.as_slice(), &mut reader);
         assert_eq!(rt; ran.status, 2);
         assert!(rt; ran.errors.as_slice().starts_with(text), "{text:?}");
         assert_eq!(rt; ran.out.as_slice(), b"".as_slice());
         assert_eq!(rt; reader, b"ask 0 a tick\n".as_slice());
     }
+    Ok(())
 }
 
 /// What a site's options say, in any order.
 #[test]
 fn numbers_of_a_site(rt: HostRuntime) -> Result<(), Fail> {
-    let cases: [(&[&str], u32, u32, u32, Option<&str>); 5] = [
+    let cases: [(&[&str], u32, u32, u32, Option<&str>, bool); 6] = [
         (
             &["--sites=16", "--me=15", "--preset=256"],
             16,
             15,
             256,
             None,
+            false,
         ),
-        (&["--preset=1", "--sites=1", "--me=0"], 1, 0, 1, None),
-        (&["--me=2", "--preset=4", "--sites=3"], 3, 2, 4, None),
+        (&["--preset=1", "--sites=1", "--me=0"], 1, 0, 1, None, false),
+        (&["--me=2", "--preset=4", "--sites=3"], 3, 2, 4, None, false),
         (
             &["--journal", "a b", "--sites=2", "--me=1", "--preset=1"],
             2,
             1,
             1,
             Some("a b"),
+            false,
         ),
         (
             &["--sites=2", "--me=1", "--preset=1", "--journal=1"],
@@ -139,9 +147,18 @@ fn numbers_of_a_site(rt: HostRuntime) -> Result<(), Fail> {
             1,
             1,
             Some("1"),
+            false,
+        ),
+        (
+            &["--new", "--sites=2", "--journal=1", "--me=1", "--preset=1"],
+            2,
+            1,
+            1,
+            Some("1"),
+            true,
         ),
     ];
-    for (options, of_sites, me, pages, journal) in cases {
+    for (options, of_sites, me, pages, journal, begins) in cases {
         let mut words = vec![in rt.alloc(); "shmdbg", "site"]?;
         words.extend_from_slice(options)?;
         let task = parse_words(rt.alloc(), words.as_slice())?;
@@ -152,6 +169,7 @@ fn numbers_of_a_site(rt: HostRuntime) -> Result<(), Fail> {
             me,
             pages,
             journal,
+            begins,
         };
         assert_eq!(rt; task, asked);
     }

@@ -1,8 +1,8 @@
-//! Checks that `--me` is below `--sites`.
+//! Checks that `--me` is below `--sites`, and that a journal that is to be begun has a file.
 ghost use Rattle.std.specs.Prelude.{◌≡◌, true, IfOk, OnOk};
 ghost use Rattle.clap.specs.Kinds.{FailsBy};
 ghost use Rattle.clap.specs.Words.{kind_of};
-ghost use Rattle.clap.specs.declared.error.kind.ErrorKind.TheVariants.{ValueValidation};
+ghost use Rattle.clap.specs.declared.error.kind.ErrorKind.TheVariants.{MissingRequiredArgument, ValueValidation};
 ghost use Rattle.shmdbg.specs.Words as spec;
 
 use crate::words::commands::command;
@@ -11,15 +11,18 @@ use clap::Error;
 use clap::error::ErrorKind;
 use std::alloc::{AllocError, Global};
 
-/// Refuses the task of a site whose number isn't below the number of sites.
+/// Refuses the task of a site whose number isn't below the number of sites, or that is to begin a journal without a file.
 pub fn look_for_site(alloc: Global, task: &Task<'_>) -> Result<(), Error>
     ensures fault { FailsBy (spec.task_fault task.now) result }
     ensures among { OnOk result (spec.is_among task.now ≡ true) }
 {
-    if is_among(task) {
-        return Ok(());
+    if !is_among(task) {
+        return Err(missing_site_error(alloc, task)?);
     }
-    Err(missing_site_error(alloc, task)?)
+    if !has_file(task) {
+        return Err(missing_file_error(alloc)?);
+    }
+    Ok(())
 }
 
 fn is_among(task: &Task<'_>) -> bool
@@ -31,9 +34,33 @@ fn is_among(task: &Task<'_>) -> bool
             me,
             pages: _,
             journal: _,
+            begins: _,
         } => me.0 < sites.count(),
         _ => true,
     }
+}
+
+fn has_file(task: &Task<'_>) -> bool
+    ensures { result ≡ spec.has_file task.now }
+{
+    match task {
+        Task::Site {
+            sites: _,
+            me: _,
+            pages: _,
+            journal,
+            begins,
+        } => !*begins || journal.is_some(),
+        _ => true,
+    }
+}
+
+/// The error for a journal that is to be begun without a file.
+fn missing_file_error(alloc: Global) -> Result<Error, AllocError>
+    ensures { IfOk result (λ error. kind_of error ≡ MissingRequiredArgument) }
+{
+    let message = "'--new' begins a journal: it needs '--journal <FILE>'";
+    command(alloc)?.error(ErrorKind::MissingRequiredArgument, message)
 }
 
 /// The error for a site that isn't there.
@@ -55,6 +82,7 @@ fn numbers_of(task: &Task<'_>) -> (u32, u32) {
             me,
             pages: _,
             journal: _,
+            begins: _,
         } => (me.0, sites.count()),
         _ => (0, 0),
     }

@@ -86,7 +86,8 @@ fn site_command<'a>(alloc: Global) -> Result<Command<'a>, AllocError>
         .arg(sites_arg(alloc))?
         .arg(me_arg(alloc))?
         .arg(preset_arg(alloc))?
-        .arg(journal_arg(alloc))
+        .arg(journal_arg(alloc))?
+        .arg(new_arg(alloc))
 }
 
 fn audit_command<'a>(alloc: Global) -> Result<Command<'a>, AllocError>
@@ -194,6 +195,16 @@ fn journal_arg<'a>(alloc: Global) -> Arg<'a>
         .value_name("FILE")
         .help("Keep the site's journal in this file, and go on from it")
         .action(ArgAction::Set)
+}
+
+fn new_arg<'a>(alloc: Global) -> Arg<'a>
+    ensures rule { rule_of result ≡ spec.new_journal_rule }
+    ensures local { result.global ≡ false }
+{
+    Arg::new(alloc, "new")
+        .long("new")
+        .help("Begin the journal, which doesn't exist yet")
+        .action(ArgAction::SetTrue)
 }
 
 fn journals_arg<'a>(alloc: Global) -> Arg<'a>

@@ -19,11 +19,12 @@ workload may, and so on for each command.
 Exit status:
   0  done
   1  the script, workload or journal has a fault; standard error tells its
-     line, if it has one
+     line, if it has one; or a site's journal isn't as its words say
   2  these words were refused, or asked for help or the version; nothing was
      read
-  3  memory, reading, writing or a thread failed, a journal can't be opened or
-     another process has it, or a site's clock ended
+  3  memory, reading, writing or a thread failed, standard input or output was
+     closed, a journal can't be opened or another process has it, or a site's
+     clock ended
   4  a run gave up, or an audit found a cause";
 
 /// Of a replay: the lines of a script.
@@ -109,20 +110,21 @@ Ask each site to tick now and then, as lines may be lost.
     shmdbg site --sites 1 --me 0 --preset 1
   tell 0 a stored
   tell 0 b byte 7
-With --journal the site writes each of its steps to FILE before it tells of it;
-started again with the same words, it goes on from there by a restart: callers
-ask again for what waited. FILE is made where there is none, and one process
-alone may have it. Without a journal a site must not be started again in a
-cluster that goes on, as it would have forgotten what it held.
+With --journal the site writes each of its steps to FILE before it tells of it.
+--new begins FILE, at the first start; started again without it, the site goes
+on from there by a restart: callers ask again for what waited. One process alone
+may have FILE. Without a journal a site must not be started again in a cluster
+that goes on, as it would have forgotten what it held.
   $ printf 'ask 0 a store 0 5 7\\n' |
-    shmdbg site --sites 1 --me 0 --preset 1 --journal site-0.journal
+    shmdbg site --sites 1 --me 0 --preset 1 --new --journal site-0.journal
   tell 0 a stored
   $ printf 'ask 0 b load 0 5\\n' |
     shmdbg site --sites 1 --me 0 --preset 1 --journal site-0.journal
   tell 0 b byte 7
-Exit status: 0 its input ended, 1 FILE is another's journal or no journal,
-2 these words were refused, 3 memory, reading or writing failed, FILE can't be
-opened, another process has it, or its site's clock ended.";
+Exit status: 0 its input ended, 1 FILE isn't as these words say: it isn't there,
+is begun already, is another's journal or none, 2 these words were refused, 3
+memory, reading or writing failed, FILE can't be opened, another process has it,
+or its site's clock ended.";
 
 /// Of an audit of journals.
 pub const AUDIT: &str = "\

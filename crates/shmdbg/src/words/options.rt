@@ -70,11 +70,13 @@ pub(crate) fn site_task<'a>(found: &ArgMatches<'a>) -> Option<Task<'a>>
         return None;
     }
     let journal = found.get_str("journal");
+    let begins = is_set(found, "new");
     Some(Task::Site {
         sites,
         me,
         pages,
         journal,
+        begins,
     })
 }
 

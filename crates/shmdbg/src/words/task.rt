@@ -20,12 +20,13 @@ pub enum Task<'a> {
         page: Option<PageId>,
     },
     /// Run this site of so many, where segment 0 has so many pages, on the lines of standard input. Keep its journal in a file, if one is
-    /// named.
+    /// named, which it begins or goes on with.
     Site {
         sites: Sites,
         me: SiteId,
         pages: u32,
         journal: Option<&'a str>,
+        begins: bool,
     },
     /// Audit the journals of so many sites, which are in these files.
     Audit {

@@ -10,5 +10,6 @@ returns-in-Ok-open_desk-clause-begun g c =
     let is_new = found.2.2 in (
       found.0,
       found.1,
-      record { node = node_of c.in-Ok.found.node; sound = found.2.0; begun = cc },
+      found.2.1,
+      record { asked = cc; node = node_of c.in-Ok.found.node; sound = found.2.0; begun = cc },
     )

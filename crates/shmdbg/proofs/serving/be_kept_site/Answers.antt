@@ -1,13 +1,13 @@
-use Rattle.std.proofs.Common.{true}
+use Rattle.std.specs.Prelude.{Some}
 use Rattle.shmdbg.proofs.Unbegun.{unbegun}
 use Rattle.shmdbg.specs.Begun.{header_at}
 use Rattle.shmdbg.proofs.serving.be_kept_site.Goals as goal
 
 pub returns-in-Err : goal.returns-in-Err
 returns-in-Err g c =
-    unbegun true (header_at c.args.sites c.args.me c.args.pages) c.in-Err.fault (g.I.Read.remaining c.args.reader.now) (g.O.Write.contents c.args.out.now) c.in-Err.ensures
+    unbegun (Some c.args.kept.begins) (header_at c.args.sites c.args.me c.args.pages) c.in-Err.fault (g.I.Read.remaining c.args.reader.now) (g.O.Write.contents c.args.out.now) c.in-Err.ensures
 
 pub returns-in-Err-begin_kept : goal.returns-in-Err-begin_kept
 returns-in-Err-begin_kept g c =
-    unbegun true (header_at c.args.sites c.args.me c.args.pages) c.in-Err-begin_kept.fault (g.I.Read.remaining c.args.reader.now) (g.O.Write.contents c.args.out.now)
+    unbegun (Some c.args.kept.begins) (header_at c.args.sites c.args.me c.args.pages) c.in-Err-begin_kept.fault (g.I.Read.remaining c.args.reader.now) (g.O.Write.contents c.args.out.now)
     c.in-Err-begin_kept.ensures.unbegun

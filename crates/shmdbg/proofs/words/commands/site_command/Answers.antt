@@ -2,7 +2,7 @@ use Rattle.std.proofs.Common.{rules, ap₂, codes, ◌≡◌, ◌∙◌, ◌||�
 use Rattle.std.proofs.lemmas.Result.{IfOk-weaker}
 use Rattle.clap.specs.Words.{app_of, new_app, with_rule}
 use Rattle.clap.specs.declared.builder.command.Command.TheViews.{out-Command}
-use Rattle.shmdbg.specs.Commands.{me_rule, preset_rule, sites_rule}
+use Rattle.shmdbg.specs.Commands.{journal_rule, me_rule, preset_rule, sites_rule}
 use Rattle.shmdbg.proofs.words.commands.site_command.Goals as goal
 
 pub returns : goal.returns
@@ -18,7 +18,10 @@ returns c =
     let with_preset : app_of c.in_ok-arg-3.field-0 ≡ with_rule (with_rule (with_rule (new_app (codes "site")) sites_rule) me_rule) preset_rule =
     c.in_ok-arg-3.ensures.shape c.preset_arg.ensures.local ∙ ap₂ with_rule with_me c.preset_arg.ensures.rule in
     let no_preset : (out-Command c.in_ok-arg-3.field-0).has_globals ≡ false = c.in_ok-arg-3.ensures.globals ∙ ap₂ (λ (x y : Bool). x || y) no_me c.preset_arg.ensures.local in
+    let with_journal : app_of c.in_ok-arg-4.field-0 ≡ with_rule (with_rule (with_rule (with_rule (new_app (codes "site")) sites_rule) me_rule) preset_rule) journal_rule =
+    c.in_ok-arg-4.ensures.shape c.journal_arg.ensures.local ∙ ap₂ with_rule with_preset c.journal_arg.ensures.rule in
+    let no_journal : (out-Command c.in_ok-arg-4.field-0).has_globals ≡ false = c.in_ok-arg-4.ensures.globals ∙ ap₂ (λ (x y : Bool). x || y) no_preset c.journal_arg.ensures.local in
     record {
-      app = IfOk-weaker c.arg-4.result _ _ (λ r h. h.shape c.journal_arg.ensures.local ∙ ap₂ with_rule with_preset c.journal_arg.ensures.rule) c.arg-4.ensures;
-      local = IfOk-weaker c.arg-4.result _ _ (λ r h. h.globals ∙ ap₂ (λ (x y : Bool). x || y) no_preset c.journal_arg.ensures.local) c.arg-4.ensures;
+      app = IfOk-weaker c.arg-5.result _ _ (λ r h. h.shape c.new_arg.ensures.local ∙ ap₂ with_rule with_journal c.new_arg.ensures.rule) c.arg-5.ensures;
+      local = IfOk-weaker c.arg-5.result _ _ (λ r h. h.globals ∙ ap₂ (λ (x y : Bool). x || y) no_journal c.new_arg.ensures.local) c.arg-5.ensures;
     }

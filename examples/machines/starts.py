@@ -1,0 +1,162 @@
+#!/usr/bin/env python3
+"""Starts a site wrongly in each way that an operator may, and looks at what is told.
+
+    starts.py [PROGRAM]      without PROGRAM: crates/shmdbg/out/shmdbg
+
+Each start has its status, its one line on standard error and its output; and what the journal's file has afterwards. Where strace is there and
+may trace, calls of the system fail, too. The status is 1 where something else is told than has to be."""
+
+import os
+import resource
+import shutil
+import signal
+import stat
+import subprocess
+import sys
+import tempfile
+
+HERE = os.path.dirname(os.path.abspath(__file__))
+HEADER = b'journal 2 0 1\n'
+STORED = HEADER + b'step 1 ask 0 a store 0 5 7\n'
+STORE = b'ask 0 a store 0 5 7\n'
+TOLD = b'tell 0 a stored\n'
+LOST = 'journal: there is none of this name: --new begins one'
+BEGUN = 'journal: it is begun already: start the site without --new'
+BLANK = 'journal: nothing is begun in it: --new begins it'
+OTHER = 'journal: of another site, number of sites or opening'
+NO_FILE = 'journal: it is no plain file'
+FAILED = 'journal: write fault'
+tried = [0]
+
+
+def words(program, journal, new=False, sites=2, me=0, preset=1):
+    asked = [program, 'site', '--sites', str(sites), '--me', str(me), '--preset', str(preset), '--journal', journal]
+    return asked + ['--new'] * new
+
+
+def start(name, command, status, fault, told=b'', **options):
+    """Runs the site until its input ends, and compares what it came to."""
+    done = subprocess.run(command, input=options.pop('given', STORE), stdout=subprocess.PIPE, stderr=subprocess.PIPE, timeout=60, check=False,
+                          **options)
+    errors = f'shmdbg: {fault}\n'.encode() if fault else b''
+    if (done.returncode, done.stdout, done.stderr) != (status, told, errors):
+        sys.exit(f'{name}: status {done.returncode}, told {done.stdout}, on standard error {done.stderr}')
+    tried[0] += 1
+
+
+def stays(name, journal, expected):
+    with open(journal, 'rb') as file:
+        found = file.read()
+    if found != expected:
+        sys.exit(f'{name}: the journal has {found}')
+
+
+def write(journal, text):
+    with open(journal, 'wb') as file:
+        file.write(text)
+
+
+def try_files(program, folder):
+    """Journals that aren't as they are asked for: each stays as it was."""
+    journal = os.path.join(folder, 'site')
+    start('a wrong folder', words(program, journal), 1, LOST)
+    if os.path.exists(journal):
+        sys.exit('a wrong folder: a file was made')
+    start('a folder that is not there', words(program, os.path.join(folder, 'none', 'site'), new=True), 3, "journal: it can't be opened")
+    start('a first start', words(program, journal, new=True), 0, '', TOLD)
+    stays('a first start', journal, STORED)
+    wrong = [('--new once more', {'new': True}, BEGUN), ("another site's", {'me': 1}, OTHER), ('other --sites', {'sites': 3}, OTHER),
+             ('another --preset', {'preset': 2}, OTHER)]
+    for name, options, fault in wrong:
+        start(name, words(program, journal, **options), 1, fault)
+        stays(name, journal, STORED)
+    for front in (b'', HEADER[:7], HEADER[:-1]):
+        write(journal, front)
+        start('a journal that was not begun', words(program, journal), 1, BLANK)
+        stays('a journal that was not begun', journal, front)
+        start('a journal that a crash left', words(program, journal, new=True), 0, '', TOLD)
+        stays('a journal that a crash left', journal, STORED)
+
+
+def try_no_files(program, folder):
+    fifo = os.path.join(folder, 'fifo')
+    os.mkfifo(fifo)
+    for name in (fifo, folder, '/dev/full', '/dev/null'):
+        for new in (False, True):
+            start(name, words(program, name, new), 1, NO_FILE)
+    if not stat.S_ISFIFO(os.stat(fifo).st_mode):
+        sys.exit('the fifo is no fifo any more')
+
+
+def try_two(program, folder):
+    journal = os.path.join(folder, 'two')
+    first = subprocess.Popen(words(program, journal, new=True), stdin=subprocess.PIPE, stdout=subprocess.PIPE)
+    first.stdin.write(STORE)
+    first.stdin.flush()
+    if first.stdout.readline() != TOLD:
+        sys.exit('two processes: the first tells nothing')
+    start('two processes', words(program, journal), 3, 'journal: another process has it')
+    first.communicate()
+    stays('two processes', journal, STORED)
+
+
+def try_closed(program, folder):
+    """A journal never gets the number of a stream that was closed."""
+    for name, closed, status, fault, told in [('standard input', '<&-', 3, 'standard input is closed', b''),
+                                              ('standard output', '>&-', 3, 'standard output is closed', b''),
+                                              ('standard error', '2>&-', 0, '', TOLD)]:
+        journal = os.path.join(folder, 'closed-' + name[9:])
+        start(f'{name} is closed', ['sh', '-c', f'exec "$@" {closed}', 'sh'] + words(program, journal, new=True), status, fault, told)
+        if status == 0:
+            stays(f'{name} is closed', journal, STORED)
+        elif os.path.exists(journal):
+            sys.exit(f'{name} is closed: a journal was begun')
+
+
+def try_full(program, folder):
+    """A disk that is full: no file may have more than 30 bytes."""
+    journal = os.path.join(folder, 'full')
+
+    def limit():
+        signal.signal(signal.SIGXFSZ, signal.SIG_IGN)
+        resource.setrlimit(resource.RLIMIT_FSIZE, (30, 30))
+    start('a full disk', words(program, journal, new=True), 3, FAILED, preexec_fn=limit)
+    stays('a full disk', journal, HEADER)
+    start('a full disk, later', words(program, journal), 0, '', b'tell 0 b byte 0\n', given=b'ask 0 b load 0 5\n')
+
+
+def try_calls(program, folder):
+    """Calls that fail, as strace makes them."""
+    strace = ['strace', '-o', '/dev/null', '-e', 'trace=none']
+    if shutil.which('strace') is None or subprocess.run(strace + ['true'], stderr=subprocess.DEVNULL, check=False).returncode != 0:
+        print('calls that fail: not tried, as strace is not there or may not trace')
+        return
+    journal = os.path.join(folder, 'calls')
+
+    def failing(*calls, new=True):
+        asked = [word for call in calls for word in ('-e', f'inject={call}')]
+        return ['strace', '-o', '/dev/null', *asked, *words(program, journal, new)]
+    start('fdatasync fails', failing('fdatasync:error=EIO:when=2'), 3, FAILED)
+    stays('fdatasync fails', journal, HEADER)
+    start('fsync fails at the start', failing('fsync:error=EIO:when=1', new=False), 3, "journal: it can't be made durable")
+    os.remove(journal)
+    loose = f'{FAILED}: cut it to its first {len(HEADER)} bytes before the site starts again'
+    start('fdatasync and ftruncate fail', failing('fdatasync:error=EIO:when=2', 'ftruncate:error=EIO:when=2'), 3, loose)
+    os.truncate(journal, len(HEADER))
+    start('after both', words(program, journal), 0, '', TOLD)
+    os.remove(journal)
+    start('the first fdatasync fails', failing('fdatasync:error=EIO:when=1'), 3, FAILED)
+    stays('the first fdatasync fails', journal, b'')
+    start('the first fdatasync failed', words(program, journal, new=True), 0, '', TOLD)
+
+
+def main():
+    program = os.path.abspath(sys.argv[1] if len(sys.argv) > 1 else os.path.join(HERE, '..', '..', 'crates', 'shmdbg', 'out', 'shmdbg'))
+    with tempfile.TemporaryDirectory() as folder:
+        for trial in (try_files, try_no_files, try_two, try_closed, try_full, try_calls):
+            trial(program, folder)
+    print(f'starts: {tried[0]}, each told as it has to be')
+
+
+if __name__ == '__main__':
+    main()
