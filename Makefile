@@ -23,10 +23,8 @@ build:
 quick:
 	@gate/quick
 
-# Draws a script: with the page that it shows, where it shows one alone.
-DRAW = pages=$$(sed -n 's/^show //p' "$$script" | sort -u); \
-	case $$pages in '' | *' '*' '*) set -- ;; *) set -- --page $$pages ;; esac; \
-	$(PROGRAM)/out/shmdbg draw "$$@" < "$$script"
+# Draws a script.
+DRAW = $(PROGRAM)/out/shmdbg draw < "$$script"
 
 # Draws each script of examples/ anew. Needs the program that `make build` leaves.
 pictures:

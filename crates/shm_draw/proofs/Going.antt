@@ -1,4 +1,4 @@
--- A run that is drawn event by event, and the whole picture from its parts.
+-- A run that is drawn event by event, and the picture of a page from its parts.
 use Rattle.std.proofs.Common.{◌≡◌, ◌∙◌, ℕ, ◌+◌, ◌-◌, List, [], ◌∷◌, ◌++◌, length, drop, replicate, Option, Result, OnOk, refl, sym, ap, ap₂, subst, append_assoc, append-nil, codes}
 use Rattle.shm_place.specs.declared.page.PageId.{PageId}
 use Rattle.shm_model.specs.declared.answer.Answer.{Answer}
@@ -8,28 +8,39 @@ use Rattle.shm_debug.proofs.Booked.{on_ok-then}
 use Rattle.shm_world.specs.Steps.{Went}
 use Rattle.shm_world.specs.World.{StandsFor}
 use Rattle.shm_world.specs.declared.world.World.{World}
-use Rattle.shm_draw.specs.Drawing.{DrewEvent, DrewEvents}
-use Rattle.shm_draw.specs.Picture.{Scene, first_scene, scene, scene_after, last_scene, lane_page, mark}
-use Rattle.shm_draw.specs.Svg.{body_text, cells_text, flying_text, head_text, line_text, mark_text, names_text, room_of, row_text, rows_text, svg_text, ways_after}
+use Rattle.shm_draw.specs.Drawing.{DrewEvent, DrewEvents, DrewPage, DrewPages, Sheet, sheet}
+use Rattle.shm_draw.specs.Picture.{Scene, first_scene, scene, scene_after, last_scene, mark, pages_drawn}
+use Rattle.shm_draw.specs.Svg
+use Rattle.shm_draw.specs.Svg.{bottom_of, cells_text, depth, flying_label, flying_shape, flying_text, group_text, heading_text, line_text, mark_label, mark_shape, names_text, page_text, pages_text, row_labels, row_shapes, rows_text, ways_after}
 use Rattle.shm_draw.specs.declared.style.TheConstants.{STYLE}
 use Rattle.shm_draw.specs.declared.mark.Way.{Way}
 use Rattle.shm_draw.specs.declared.mark.Mark.{Mark}
 
 -- so many of the events are drawn
-pub record Going {A : Type 0} (page : Option PageId) (first : Scene) (events : List Event) (old new : List ℕ) (world : World A) (index : ℕ) (origins : List ℕ) : Type 0 where
+pub record Going {A : Type 0} (page : PageId) (first : Scene) (events : List Event) (old new : Sheet) (world : World A) (index : ℕ) (origins : List ℕ) : Type 0 where
   pub here : Scene
   pub stands : StandsFor world here.world
   pub sent_by : origins ≡ here.origins
   pub counted : index + 1 ≡ here.number
-  pub text : new ++ rows_text page here (drop index events) ≡ old ++ rows_text page first events
+  pub shapes : new.shapes ++ rows_text (row_shapes page) here (drop index events) ≡ old.shapes ++ rows_text (row_shapes page) first events
+  pub labels : new.labels ++ rows_text (row_labels page) here (drop index events) ≡ old.labels ++ rows_text (row_labels page) first events
   pub last : last_scene here (drop index events) ≡ last_scene first events
 
-pub going_none : {A : Type 0} (page : Option PageId) (first : Scene) (events : List Event) (old : List ℕ) (world : World A) (origins : List ℕ)
+pub going_none : {A : Type 0} (page : PageId) (first : Scene) (events : List Event) (old : Sheet) (world : World A) (origins : List ℕ)
     → StandsFor world first.world → origins ≡ first.origins → first.number ≡ 1 → Going page first events old old world 0 origins
 going_none page first events old world origins stands same one =
-    record { here = first; stands = stands; sent_by = same; counted = sym one; text = refl; last = refl }
+    record { here = first; stands = stands; sent_by = same; counted = sym one; shapes = refl; labels = refl; last = refl }
 
-pub going_more : {A : Type 0} (page : Option PageId) (first : Scene) (events : List Event) (old now new : List ℕ) (world world' : World A) (index : ℕ) (origins origins' : List ℕ) (e : Event)
+-- a text that has one row more
+one_more : (row : Scene → Event → List ℕ) (s : Scene) (e : Event) (rest all : List Event) (now new whole : List ℕ)
+    → new ≡ now ++ row s e → all ≡ e ∷ rest → now ++ rows_text row s all ≡ whole → new ++ rows_text row (scene_after s e) rest ≡ whole
+one_more row s e rest all now new whole more is had =
+    ap (λ t. t ++ rows_text row (scene_after s e) rest) more
+    ∙ append_assoc now (row s e) (rows_text row (scene_after s e) rest)
+    ∙ ap (λ xs. now ++ rows_text row s xs) (sym is)
+    ∙ had
+
+pub going_more : {A : Type 0} (page : PageId) (first : Scene) (events : List Event) (old now new : Sheet) (world world' : World A) (index : ℕ) (origins origins' : List ℕ) (e : Event)
     → Going page first events old now world index origins → drop index events ≡ e ∷ drop (index + 1) events
     → ((w : model.World) → StandsFor world w → DrewEvent page (scene w (index + 1) origins) e now new world' origins')
     → Going page first events old new world' (index + 1) origins'
@@ -43,83 +54,154 @@ going_more page first events old now new world world' index origins origins' e h
       stands = d.stands;
       sent_by = d.sent_by;
       counted = ap (λ n. n + 1) had.counted;
-      text = ap (λ t. t ++ rows_text page (scene_after s e) rest) d.text
-          ∙ append_assoc now (row_text page s e) (rows_text page (scene_after s e) rest)
-          ∙ ap (λ xs. now ++ rows_text page s xs) (sym dropped)
-          ∙ had.text;
+      shapes = one_more (row_shapes page) s e rest (drop index events) now.shapes new.shapes (old.shapes ++ rows_text (row_shapes page) first events) d.shapes dropped had.shapes;
+      labels = one_more (row_labels page) s e rest (drop index events) now.labels new.labels (old.labels ++ rows_text (row_labels page) first events) d.labels dropped had.labels;
       last = ap (last_scene s) (sym dropped) ∙ had.last;
     }
 
-pub going_all : {A : Type 0} (page : Option PageId) (first : Scene) (events : List Event) (old new : List ℕ) (world : World A) (index : ℕ) (origins : List ℕ)
+-- a text that has all rows
+all_there : (row : Scene → Event → List ℕ) (s : Scene) (rest : List Event) (new whole : List ℕ) → rest ≡ [] → new ++ rows_text row s rest ≡ whole → new ≡ whole
+all_there row s rest new whole none had = sym (append-nil new) ∙ ap (λ xs. new ++ rows_text row s xs) (sym none) ∙ had
+
+pub going_all : {A : Type 0} (page : PageId) (first : Scene) (events : List Event) (old new : Sheet) (world : World A) (index : ℕ) (origins : List ℕ)
     → drop index events ≡ [] → Going page first events old new world index origins → DrewEvents page first events old new world origins
 going_all page first events old new world index origins none had =
     let s = had.here in
     let same : s ≡ last_scene first events = ap (last_scene s) (sym none) ∙ had.last in
     record {
-      text = sym (append-nil new) ∙ ap (λ xs. new ++ rows_text page s xs) (sym none) ∙ had.text;
+      shapes = all_there (row_shapes page) s (drop index events) new.shapes (old.shapes ++ rows_text (row_shapes page) first events) none had.shapes;
+      labels = all_there (row_labels page) s (drop index events) new.labels (old.labels ++ rows_text (row_labels page) first events) none had.labels;
       stands = subst (λ (t : Scene). StandsFor world t.world) same had.stands;
       sent_by = had.sent_by ∙ ap (λ (t : Scene). t.origins) same;
     }
 
--- ---- the whole from its parts
+-- ---- texts that are told one after the other
 
-in_rows : (names cells rows flying : List ℕ) → ((([] ++ names) ++ cells) ++ rows) ++ flying ≡ names ++ (cells ++ (rows ++ flying))
-in_rows names cells rows flying = simp append_assoc refl
+three_in_a_row : (a b c : List ℕ) → (([] ++ a) ++ b) ++ c ≡ a ++ (b ++ c)
+three_in_a_row a b c = simp append_assoc refl
 
-in_all : (head style body foot : List ℕ) → ((([] ++ head) ++ style) ++ body) ++ foot ≡ head ++ (style ++ (body ++ foot))
-in_all head style body foot = simp append_assoc refl
+four_in_a_row : (a b c d : List ℕ) → ((([] ++ a) ++ b) ++ c) ++ d ≡ a ++ (b ++ (c ++ d))
+four_in_a_row a b c d = simp append_assoc refl
 
-pub body_told : (start first second third body names cells rows flying : List ℕ) → start ≡ [] → first ≡ start ++ names → second ≡ first ++ cells → third ≡ second ++ rows → body ≡ third ++ flying
-    → body ≡ names ++ (cells ++ (rows ++ flying))
-body_told start first second third body names cells rows flying z a b c d =
-    d ∙ ap (λ t. t ++ flying) c ∙ ap (λ t. (t ++ rows) ++ flying) b ∙ ap (λ t. ((t ++ cells) ++ rows) ++ flying) a
-    ∙ ap (λ t. (((t ++ names) ++ cells) ++ rows) ++ flying) z ∙ in_rows names cells rows flying
+four_behind : (old a b c d : List ℕ) → (((old ++ a) ++ b) ++ c) ++ d ≡ old ++ (a ++ (b ++ (c ++ d)))
+four_behind old a b c d = simp append_assoc refl
 
-pub text_told : (start first second third text head style body foot : List ℕ) → start ≡ [] → first ≡ start ++ head → second ≡ first ++ style → third ≡ second ++ body → text ≡ third ++ foot
-    → text ≡ head ++ (style ++ (body ++ foot))
-text_told start first second third text head style body foot z a b c d =
-    d ∙ ap (λ t. t ++ foot) c ∙ ap (λ t. (t ++ body) ++ foot) b ∙ ap (λ t. ((t ++ style) ++ body) ++ foot) a
-    ∙ ap (λ t. (((t ++ head) ++ style) ++ body) ++ foot) z ∙ in_all head style body foot
+pub three_told : (start first second third a b c : List ℕ) → start ≡ [] → first ≡ start ++ a → second ≡ first ++ b → third ≡ second ++ c → third ≡ a ++ (b ++ c)
+three_told start first second third a b c z p q r =
+    r ∙ ap (λ t. t ++ c) q ∙ ap (λ t. (t ++ b) ++ c) p ∙ ap (λ t. ((t ++ a) ++ b) ++ c) z ∙ three_in_a_row a b c
 
--- the picture from the texts of its parts, as they are told one after the other
-pub picture_told : (page : Option PageId) (w : model.World) (events : List Event) (count room last further : ℕ) (ways : List Way) (b0 b1 b2 b3 b4 t0 t1 t2 t3 t4 : List ℕ)
-    → count ≡ w.count → room ≡ room_of events → last ≡ length events → further ≡ length ways → ways ≡ ways_after page w events
-    → b0 ≡ [] → b1 ≡ b0 ++ names_text count → b2 ≡ b1 ++ cells_text w (lane_page page) 0 → b3 ≡ b2 ++ rows_text page (first_scene w) events → b4 ≡ b3 ++ flying_text last 1 ways
-    → t0 ≡ [] → t1 ≡ t0 ++ head_text count room last further → t2 ≡ t1 ++ STYLE.now → t3 ≡ t2 ++ b4 → t4 ≡ t3 ++ codes "</svg>\n"
-    → t4 ≡ svg_text page w events
-picture_told page w events count room last further ways b0 b1 b2 b3 b4 t0 t1 t2 t3 t4 sites wide all more are p0 p1 p2 p3 p4 q0 q1 q2 q3 q4 =
-    let cells = cells_text w (lane_page page) 0 in
-    let rows = rows_text page (first_scene w) events in
-    let body : b4 ≡ names_text count ++ (cells ++ (rows ++ flying_text last 1 ways)) =
-    body_told b0 b1 b2 b3 b4 (names_text count) cells rows (flying_text last 1 ways) p0 p1 p2 p3 p4 in
-    let flying : flying_text last 1 ways ≡ flying_text (length events) 1 (ways_after page w events) =
-    ap (λ n. flying_text n 1 ways) all ∙ ap (flying_text (length events) 1) are in
-    let is_body : b4 ≡ body_text page w events (ways_after page w events) =
-    body ∙ ap (λ n. names_text n ++ (cells ++ (rows ++ flying_text last 1 ways))) sites ∙ ap (λ text. names_text w.count ++ (cells ++ (rows ++ text))) flying in
-    let head : head_text count room last further ≡ head_text w.count (room_of events) (length events) (length (ways_after page w events)) =
-    ap (λ n. head_text n room last further) sites ∙ ap (λ n. head_text w.count n last further) wide
-    ∙ ap (λ n. head_text w.count (room_of events) n further) all ∙ ap (head_text w.count (room_of events) (length events)) (more ∙ ap length are) in
-    text_told t0 t1 t2 t3 t4 (head_text count room last further) STYLE.now b4 (codes "</svg>\n") q0 q1 q2 q3 q4
-    ∙ ap (λ text. text ++ (STYLE.now ++ (b4 ++ codes "</svg>\n"))) head
-    ∙ ap (λ text. head_text w.count (room_of events) (length events) (length (ways_after page w events)) ++ (STYLE.now ++ (text ++ codes "</svg>\n"))) is_body
+pub four_told : (start first second third fourth a b c d : List ℕ) → start ≡ [] → first ≡ start ++ a → second ≡ first ++ b → third ≡ second ++ c → fourth ≡ third ++ d
+    → fourth ≡ a ++ (b ++ (c ++ d))
+four_told start first second third fourth a b c d z p q r s =
+    s ∙ ap (λ t. t ++ d) r ∙ ap (λ t. (t ++ c) ++ d) q ∙ ap (λ t. ((t ++ b) ++ c) ++ d) p ∙ ap (λ t. (((t ++ a) ++ b) ++ c) ++ d) z ∙ four_in_a_row a b c d
+
+pub told_behind : (old first second third fourth a b c d : List ℕ) → first ≡ old ++ a → second ≡ first ++ b → third ≡ second ++ c → fourth ≡ third ++ d
+    → fourth ≡ old ++ (a ++ (b ++ (c ++ d)))
+told_behind old first second third fourth a b c d p q r s =
+    s ∙ ap (λ t. t ++ d) r ∙ ap (λ t. (t ++ c) ++ d) q ∙ ap (λ t. ((t ++ b) ++ c) ++ d) p ∙ four_behind old a b c d
+
+-- ---- the picture of a page from the texts of its parts
+
+same_ways : (row : Way → ℕ → List ℕ) (page : PageId) (w : model.World) (events : List Event) (last : ℕ) (ways : List Way) → last ≡ length events → ways ≡ ways_after page w events
+    → flying_text row last 1 ways ≡ flying_text row (length events) 1 (ways_after page w events)
+same_ways row page w events last ways all are = ap (λ n. flying_text row n 1 ways) all ∙ ap (flying_text row (length events) 1) are
+
+pub shapes_told : (page : PageId) (w : model.World) (events : List Event) (last : ℕ) (ways : List Way) (s0 s1 s2 s3 : List ℕ) → last ≡ length events → ways ≡ ways_after page w events
+    → s0 ≡ [] → s1 ≡ s0 ++ cells_text w page 0 → s2 ≡ s1 ++ rows_text (row_shapes page) (first_scene w) events → s3 ≡ s2 ++ flying_text flying_shape last 1 ways
+    → s3 ≡ Svg.shapes_text page w events
+shapes_told page w events last ways s0 s1 s2 s3 all are z a b c =
+    let cells = cells_text w page 0 in
+    let rows = rows_text (row_shapes page) (first_scene w) events in
+    three_told s0 s1 s2 s3 cells rows (flying_text flying_shape last 1 ways) z a b c
+    ∙ ap (λ t. cells ++ (rows ++ t)) (same_ways flying_shape page w events last ways all are)
+
+pub labels_told : (page : PageId) (w : model.World) (events : List Event) (count last : ℕ) (ways : List Way) (l0 l1 l2 l3 l4 : List ℕ)
+    → count ≡ w.count → last ≡ length events → ways ≡ ways_after page w events
+    → l0 ≡ [] → l1 ≡ l0 ++ heading_text page → l2 ≡ l1 ++ names_text count → l3 ≡ l2 ++ rows_text (row_labels page) (first_scene w) events
+    → l4 ≡ l3 ++ flying_text flying_label last 1 ways → l4 ≡ Svg.labels_text page w events
+labels_told page w events count last ways l0 l1 l2 l3 l4 sites all are z a b c d =
+    let rows = rows_text (row_labels page) (first_scene w) events in
+    four_told l0 l1 l2 l3 l4 (heading_text page) (names_text count) rows (flying_text flying_label last 1 ways) z a b c d
+    ∙ ap (λ n. heading_text page ++ (names_text n ++ (rows ++ flying_text flying_label last 1 ways))) sites
+    ∙ ap (λ t. heading_text page ++ (names_text w.count ++ (rows ++ t))) (same_ways flying_label page w events last ways all are)
+
+pub page_told : (page : PageId) (w : model.World) (events : List Event) (top last further answer : ℕ) (ways : List Way) (shapes labels o0 o1 o2 o3 o4 : List ℕ)
+    → last ≡ length events → further ≡ length ways → ways ≡ ways_after page w events → answer ≡ Svg.depth_of last further
+    → shapes ≡ Svg.shapes_text page w events → labels ≡ Svg.labels_text page w events
+    → o1 ≡ o0 ++ group_text top → o2 ≡ o1 ++ shapes → o3 ≡ o2 ++ labels → o4 ≡ o3 ++ codes "</g>\n" → DrewPage page w events top o0 o4 answer
+page_told page w events top last further answer ways shapes labels o0 o1 o2 o3 o4 all more are deep drew said a b c d = record {
+  text = told_behind o0 o1 o2 o3 o4 (group_text top) shapes labels (codes "</g>\n") a b c d
+      ∙ ap (λ t. o0 ++ (group_text top ++ (t ++ (labels ++ codes "</g>\n")))) drew
+      ∙ ap (λ t. o0 ++ (group_text top ++ (Svg.shapes_text page w events ++ (t ++ codes "</g>\n")))) said;
+  deep = deep ∙ ap (λ n. Svg.depth_of n further) all ∙ ap (Svg.depth_of (length events)) (more ∙ ap length are);
+}
+
+-- ---- pages, one below the other
+
+-- so many of the pages are drawn
+pub record Paging (pages : List PageId) (w : model.World) (events : List Event) (old new : List ℕ) (index top : ℕ) : Type 0 where
+  pub text : new ++ pages_text (drop index pages) w events top ≡ old ++ pages_text pages w events 0
+  pub bottom : bottom_of (drop index pages) w events top ≡ bottom_of pages w events 0
+
+pub paging_none : (pages : List PageId) (w : model.World) (events : List Event) (old : List ℕ) → Paging pages w events old old 0 0
+paging_none pages w events old = record { text = refl; bottom = refl }
+
+pub paging_more : (pages : List PageId) (w : model.World) (events : List Event) (old now new : List ℕ) (index top deep next : ℕ) (page : PageId)
+    → Paging pages w events old now index top → drop index pages ≡ page ∷ drop (index + 1) pages → DrewPage page w events top now new deep → next ≡ top + deep
+    → Paging pages w events old new (index + 1) next
+paging_more pages w events old now new index top deep next page had dropped drew below =
+    let rest = drop (index + 1) pages in
+    let there : next ≡ top + depth page w events = below ∙ ap (λ n. top + n) drew.deep in
+    record {
+      text = ap (λ t. t ++ pages_text rest w events next) drew.text
+          ∙ ap (λ n. (now ++ page_text page w events top) ++ pages_text rest w events n) there
+          ∙ append_assoc now (page_text page w events top) (pages_text rest w events (top + depth page w events))
+          ∙ ap (λ xs. now ++ pages_text xs w events top) (sym dropped)
+          ∙ had.text;
+      bottom = ap (bottom_of rest w events) there ∙ ap (λ xs. bottom_of xs w events top) (sym dropped) ∙ had.bottom;
+    }
+
+pub paging_all : (pages : List PageId) (w : model.World) (events : List Event) (old new : List ℕ) (index top : ℕ) → drop index pages ≡ [] → Paging pages w events old new index top
+    → DrewPages pages w events old new top
+paging_all pages w events old new index top none had = record {
+  text = sym (append-nil new) ∙ ap (λ xs. new ++ pages_text xs w events top) (sym none) ∙ had.text;
+  deep = ap (λ xs. bottom_of xs w events top) (sym none) ∙ had.bottom;
+}
+
+-- the whole from the texts of its parts
+pub picture_told : (asked : Option PageId) (w : model.World) (events : List Event) (count room bottom : ℕ) (pages : List PageId) (b0 b1 t0 t1 t2 t3 t4 : List ℕ)
+    → count ≡ w.count → room ≡ Svg.room_of events → pages ≡ pages_drawn asked w events → b0 ≡ [] → DrewPages pages w events b0 b1 bottom
+    → t0 ≡ [] → t1 ≡ t0 ++ Svg.head_text count room bottom → t2 ≡ t1 ++ STYLE.now → t3 ≡ t2 ++ b1 → t4 ≡ t3 ++ codes "</svg>\n" → t4 ≡ Svg.svg_text asked w events
+picture_told asked w events count room bottom pages b0 b1 t0 t1 t2 t3 t4 sites wide are none drew z p q r s =
+    let foot = codes "</svg>\n" in
+    let body : b1 ≡ pages_text (pages_drawn asked w events) w events 0 =
+    drew.text ∙ ap (λ b. b ++ pages_text pages w events 0) none ∙ ap (λ ps. pages_text ps w events 0) are in
+    let deep : bottom ≡ bottom_of (pages_drawn asked w events) w events 0 = drew.deep ∙ ap (λ ps. bottom_of ps w events 0) are in
+    four_told t0 t1 t2 t3 t4 (Svg.head_text count room bottom) STYLE.now b1 foot z p q r s
+    ∙ ap (λ n. Svg.head_text n room bottom ++ (STYLE.now ++ (b1 ++ foot))) sites
+    ∙ ap (λ n. Svg.head_text w.count n bottom ++ (STYLE.now ++ (b1 ++ foot))) wide
+    ∙ ap (λ n. Svg.head_text w.count (Svg.room_of events) n ++ (STYLE.now ++ (b1 ++ foot))) deep
+    ∙ ap (λ t. Svg.head_text w.count (Svg.room_of events) (bottom_of (pages_drawn asked w events) w events 0) ++ (STYLE.now ++ (t ++ foot))) body
 
 -- ---- one event
 
-four_in_a_row : (old a b c : List ℕ) → ((old ++ a) ++ b) ++ c ≡ old ++ (a ++ (b ++ c))
-four_in_a_row old a b c = simp append_assoc refl
-
-pub event_told : {A X Y : Type 0} (r : Result X Y) (page : Option PageId) (w : model.World) (number : ℕ) (origins : List ℕ) (e : Event) (old first second new : List ℕ)
-    (world : World A) (noted : List ℕ) (lane : PageId) (m : Mark) (answer : Answer) (sent : ℕ)
+pub event_told : {A X Y : Type 0} (r : Result X Y) (page : PageId) (w : model.World) (number : ℕ) (origins : List ℕ) (e : Event) (shapes first second labels line new : List ℕ)
+    (world : World A) (noted : List ℕ) (m : Mark) (answer : Answer) (sent : ℕ)
     → m ≡ mark page w origins e → Went world (model.next w e) answer → sent ≡ length (model.next w e).world.sent
-    → noted ≡ origins ++ replicate (sent - length origins) number → lane ≡ lane_page page
-    → first ≡ old ++ cells_text (model.next w e).world lane number → second ≡ first ++ line_text number e → OnOk r (new ≡ second ++ mark_text number m answer)
-    → OnOk r (DrewEvent page (scene w number origins) e old new world noted)
-event_told r page w number origins e old first second new world noted lane m answer sent is went count note here f g told =
-    let v = (model.next w e).world in
-    on_ok-then r (λ h. record {
-      text = h ∙ ap (λ t. second ++ mark_text number t answer) is ∙ ap (λ t. second ++ mark_text number (mark page w origins e) t) went.answered
-          ∙ ap (λ t. t ++ mark_text number (mark page w origins e) (model.next w e).done.answer) (g ∙ ap (λ t. t ++ line_text number e) (f ∙ ap (λ p. old ++ cells_text v p number) here))
-          ∙ four_in_a_row old (cells_text v (lane_page page) number) (line_text number e) (mark_text number (mark page w origins e) (model.next w e).done.answer);
+    → noted ≡ origins ++ replicate (sent - length origins) number
+    → first ≡ shapes ++ cells_text (model.next w e).world page number → second ≡ first ++ mark_shape number m
+    → line ≡ labels ++ line_text number e m → OnOk r (new ≡ line ++ mark_label number m answer)
+    → OnOk r (DrewEvent page (scene w number origins) e (sheet shapes labels) (sheet second new) world noted)
+event_told r page w number origins e shapes first second labels line new world noted m answer sent is went count note a b c told =
+    let cells = cells_text (model.next w e).world page number in
+    let here = mark page w origins e in
+    let said = (model.next w e).done.answer in
+    on_ok-then r (λ d. record {
+      shapes = b ∙ ap (λ t. t ++ mark_shape number m) a ∙ ap (λ x. (shapes ++ cells) ++ mark_shape number x) is
+          ∙ append_assoc shapes cells (mark_shape number (mark page w origins e));
+      labels = d ∙ ap (λ t. t ++ mark_label number m answer) c ∙ ap (λ x. (labels ++ line_text number e x) ++ mark_label number x answer) is
+          ∙ ap (λ x. (labels ++ line_text number e (mark page w origins e)) ++ mark_label number (mark page w origins e) x) went.answered
+          ∙ append_assoc labels (line_text number e (mark page w origins e)) (mark_label number (mark page w origins e) (model.next w e).done.answer);
       stands = went.stands;
       sent_by = note ∙ ap (λ n. origins ++ replicate (n - length origins) number) count;
     }) told

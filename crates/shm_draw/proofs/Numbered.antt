@@ -2,10 +2,8 @@
 use Rattle.std.proofs.Common.{◌≡◌, ◌∙◌, ℕ, zero, suc, ◌+◌, ◌-◌, ◌≤◌, replicate, List, [], ◌∷◌, ◌++◌, ap, sym, append_assoc, append-nil, arith}
 use Rattle.std.proofs.lemmas.List.{replicate_more}
 use Rattle.std.specs.List.{flat_map, range_with_len}
-use Rattle.shm_model.specs.declared.answer.Answer.TheVariants.{Took}
-use Rattle.shm_draw.specs.declared.mark.End.TheVariants.{OnItsWay}
 use Rattle.shm_draw.specs.declared.mark.Way.{Way}
-use Rattle.shm_draw.specs.Svg.{arrow_text, flying_text, y_of}
+use Rattle.shm_draw.specs.Svg.{flying_text}
 
 pub range-more : {X : Type 0} (f : ℕ → List X) (a n : ℕ) → flat_map f (range_with_len a (suc n)) ≡ flat_map f (range_with_len a n) ++ f (a + n)
 range-more f a zero = let e : a ≡ a + 0 = omega arith in append-nil (f a) ∙ ap f e
@@ -31,17 +29,10 @@ replicated_more old now new x a k low had more =
     ∙ ap (λ t. old ++ t) (replicate_more (k - a) x ∙ ap (λ m. replicate m x) n)
 
 -- one more way below the last event
-pub flying_more : (last index : ℕ) (old now new : List ℕ) (ways rest : List Way) (way : Way) (whole : List ℕ)
-    → now ++ flying_text last (index + 1) ways ≡ old ++ whole → ways ≡ way ∷ rest → new ≡ now ++ arrow_text way OnItsWay (y_of (last + (index + 1))) Took
-    → new ++ flying_text last (index + 1 + 1) rest ≡ old ++ whole
-flying_more last index old now new ways rest way whole had is more =
-    ap (λ t. t ++ flying_text last (index + 1 + 1) rest) more
-    ∙ append_assoc now (arrow_text way OnItsWay (y_of (last + (index + 1))) Took) (flying_text last (index + 1 + 1) rest)
-    ∙ ap (λ ws. now ++ flying_text last (index + 1) ws) (sym is) ∙ had
-
--- the same, where the row's place was computed
-pub flying_at : (last index y : ℕ) (old now new : List ℕ) (ways rest : List Way) (way : Way) (whole : List ℕ)
-    → y ≡ y_of (last + (index + 1)) → new ≡ now ++ arrow_text way OnItsWay y Took
-    → now ++ flying_text last (index + 1) ways ≡ old ++ whole → ways ≡ way ∷ rest → new ++ flying_text last (index + 1 + 1) rest ≡ old ++ whole
-flying_at last index y old now new ways rest way whole at more had is =
-    flying_more last index old now new ways rest way whole had is (more ∙ ap (λ place. now ++ arrow_text way OnItsWay place Took) at)
+pub flying_more : (row : Way → ℕ → List ℕ) (last index place : ℕ) (old now new : List ℕ) (ways rest : List Way) (way : Way) (whole : List ℕ)
+    → place ≡ last + (index + 1) → new ≡ now ++ row way place
+    → now ++ flying_text row last (index + 1) ways ≡ old ++ whole → ways ≡ way ∷ rest → new ++ flying_text row last (index + 1 + 1) rest ≡ old ++ whole
+flying_more row last index place old now new ways rest way whole at more had is =
+    ap (λ t. t ++ flying_text row last (index + 1 + 1) rest) (more ∙ ap (λ n. now ++ row way n) at)
+    ∙ append_assoc now (row way (last + (index + 1))) (flying_text row last (index + 1 + 1) rest)
+    ∙ ap (λ ws. now ++ flying_text row last (index + 1) ws) (sym is) ∙ had

@@ -1,5 +1,5 @@
 -- A picture's scenes are those of the run, and each envelope's origin is the event that sent it.
-use Rattle.std.proofs.Common.{◌≡◌, ◌∙◌, ◌⊎◌, ℕ, zero, suc, ◌+◌, ◌-◌, ◌≤◌, ◌<◌, Bool, true, false, List, [], ◌∷◌, ◌++◌, length, length-append, replicate, Option, Some, None, refl, sym, ap, subst, append_assoc, append-nil, arith, inl, inr, if◌then◌else◌, slice_get, slice_index, Contains}
+use Rattle.std.proofs.Common.{◌≡◌, ◌∙◌, ◌⊎◌, ℕ, zero, suc, ◌+◌, ◌-◌, ◌≤◌, ◌<◌, Bool, true, false, List, [], ◌∷◌, ◌++◌, length, length-append, replicate, Option, Some, None, refl, sym, ap, subst, append_assoc, append-nil, arith, inl, inr, if◌then◌else◌, nat_lt, slice_get, slice_index, Contains}
 use Rattle.std.proofs.lemmas.List.Elements.{Contains-append_cases}
 use Rattle.std.proofs.lemmas.List.{get_or_append_left, get_or-append_right, get_or-replicate, length-replicate}
 use Rattle.std.proofs.lemmas.Option.{get_or_from_slice_get, slice_get_within, slice_get-get_or}
@@ -7,17 +7,20 @@ use Rattle.std.proofs.lemmas.Bool.{cases_lt}
 use Rattle.std.specs.List.{flat_map, range_with_len}
 use Rattle.std.specs.Option.{option_to_list}
 use Rattle.shm_place.specs.declared.page.PageId.{PageId}
+use Rattle.shm_place.specs.Page.{same_page}
 use Rattle.shm_model.specs.declared.event.Event.{Event}
 use Rattle.shm_model.specs.declared.event.Event.TheVariants.{Load, Store, Begin, Tick, Restart, Deliver, Repeat, Lose}
 use Rattle.shm_model.specs.Message.{Envelope}
 use Rattle.shm_model.specs.World.{Opening, World, live, next, opened, run}
 use Rattle.shm_world.proofs.Runs.{run-then}
 use Rattle.shm_draw.specs.Arrows.{IsWayOf, Passes, SentBy, scene_of}
-use Rattle.shm_draw.specs.Picture.{Scene, arrow, first_scene, is_drawn, last_scene, live_way, mark, on_their_way, origins_after, page_of, passed, scene_after, way, word_of}
+use Rattle.shm_draw.specs.Picture.{Scene, about, about_envelope, first_scene, is_of, last_scene, live_way, mark, mark_on, on_their_way, origins_after, own_mark, page_of, passed, scene_after, way, word_of}
 use Rattle.shm_draw.specs.declared.mark.End.{End}
 use Rattle.shm_draw.specs.declared.mark.End.TheVariants.{HandedOver, Repeated, Lost, OnItsWay}
 use Rattle.shm_draw.specs.declared.mark.Mark.{Mark}
-use Rattle.shm_draw.specs.declared.mark.Mark.TheVariants.{At, Arrow, Hidden, Nowhere}
+use Rattle.shm_draw.specs.declared.mark.Mark.TheVariants.{At, Arrow, Elsewhere, Nowhere}
+use Rattle.shm_draw.specs.declared.mark.Symbol.{Symbol}
+use Rattle.shm_draw.specs.declared.mark.Symbol.TheVariants.{Request, Tick as TickSymbol, Restart as RestartSymbol}
 use Rattle.shm_draw.specs.declared.mark.Way.{Way}
 use Rattle.shm_draw.proofs.Senders.{from-at, next-sends}
 
@@ -123,12 +126,14 @@ still_there w k true e h = absurd (cc)
 still_there w k false e h = h
 
 abbrev way_at : Scene → ℕ → Envelope → Way
-way_at s k e = record { number = k; origin = slice_index s.origins k; from = e.from; to = e.to; word = word_of e.message }
+way_at s k e = way s.origins k e
 
-is_way : (o : Opening) (events : List Event) (s : Scene) (k : ℕ) (e : Envelope) → Traced o events s → live s.world k ≡ Some e → IsWayOf o events (way_at s k e)
-is_way o events s k e t h = record {
+is_way : (page : PageId) (o : Opening) (events : List Event) (s : Scene) (k : ℕ) (e : Envelope) → Traced o events s → live s.world k ≡ Some e → is_of page (page_of e.message) ≡ true
+    → IsWayOf page o events (way_at s k e)
+is_way page o events s k e t h of = record {
   envelope = e;
   live = ap (λ (w : World). live w k) (sym t.world) ∙ h;
+  of_page = of;
   from = refl;
   to = refl;
   word = refl;
@@ -136,75 +141,96 @@ is_way o events s k e t h = record {
 }
 
 -- what an arrow is, where it is of an envelope that was passed
-record IsArrow (o : Opening) (events : List Event) (k : ℕ) (ended : End) (w : Way) (end : End) : Type 0 where
+record IsArrow (page : PageId) (o : Opening) (events : List Event) (k : ℕ) (ended : End) (w : Way) (end : End) : Type 0 where
   same : w.number ≡ k
   ends : end ≡ ended
-  is : IsWayOf o events w
+  is : IsWayOf page o events w
 
-arrow_is : (o : Opening) (events : List Event) (s : Scene) (k : ℕ) (e : Envelope) (shown : Bool) (ended : End) (w : Way) (end : End) → Traced o events s → live s.world k ≡ Some e
-    → arrow (if shown then Some (way_at s k e) else None) ended ≡ Arrow w end → IsArrow o events k ended w end
-arrow_is o events s k e true ended w end t h is =
+passed_is : (page : PageId) (o : Opening) (events : List Event) (s : Scene) (k : ℕ) (found : Option Envelope) (ended : End) (w : Way) (end : End) → Traced o events s
+    → live s.world k ≡ found → is_of page (about_envelope found) ≡ true → passed s.origins k found ended ≡ Arrow w end → IsArrow page o events k ended w end
+passed_is page o events s k None ended w end t h of is = absurd (cc)
+passed_is page o events s k (Some e) ended w end t h of is =
     let same : way_at s k e ≡ w = cc in
     let ends : ended ≡ end = cc in
     record {
       same = ap (λ (x : Way). x.number) (sym same);
       ends = sym ends;
-      is = subst (IsWayOf o events) same (is_way o events s k e t h);
+      is = subst (IsWayOf page o events) same (is_way page o events s k e t h of);
     }
-arrow_is o events s k e false ended w end t h is = absurd (cc)
 
-passed_is : (page : Option PageId) (o : Opening) (events : List Event) (s : Scene) (k : ℕ) (found : Option Envelope) (ended : End) (w : Way) (end : End) → Traced o events s
-    → live s.world k ≡ found → passed page s.origins k found ended ≡ Arrow w end → IsArrow o events k ended w end
-passed_is page o events s k None ended w end t h is = absurd (cc)
-passed_is page o events s k (Some e) ended w end t h is = arrow_is o events s k e (is_drawn page (page_of e.message)) ended w end t h is
-
-hands_over : (o : Opening) (events : List Event) (k : ℕ) (ended : End) (event : Event) (w : Way) (end : End) → Passes event k ended → IsArrow o events k ended w end
-    → Passes event w.number end × IsWayOf o events w
-hands_over o events k ended event w end p a = (
+hands_over : (page : PageId) (o : Opening) (events : List Event) (k : ℕ) (ended : End) (event : Event) (w : Way) (end : End) → Passes event k ended → IsArrow page o events k ended w end
+    → Passes event w.number end × IsWayOf page o events w
+hands_over page o events k ended event w end p a = (
   subst (λ x. Passes event w.number x) (sym a.ends) (subst (λ n. Passes event n ended) (sym a.same) p),
   a.is,
 )
 
-pub mark_is : (page : Option PageId) (o : Opening) (events : List Event) (s : Scene) (event : Event) (w : Way) (end : End) → Traced o events s
-    → mark page s.world s.origins event ≡ Arrow w end → Passes event w.number end × IsWayOf o events w
-mark_is page o events s (Load site at offset) w end t is = absurd (cc)
-mark_is page o events s (Store site at offset byte) w end t is = absurd (cc)
-mark_is page o events s (Begin site request) w end t is = absurd (cc)
-mark_is page o events s (Tick site) w end t is = absurd (cc)
-mark_is page o events s (Restart site) w end t is = absurd (cc)
-mark_is page o events s (Deliver k) w end t is = hands_over o events k HandedOver (Deliver k) w end refl (passed_is page o events s k (live s.world k) HandedOver w end t refl is)
-mark_is page o events s (Repeat k) w end t is = hands_over o events k Repeated (Repeat k) w end refl (passed_is page o events s k (live s.world k) Repeated w end t refl is)
-mark_is page o events s (Lose k) w end t is = hands_over o events k Lost (Lose k) w end refl (passed_is page o events s k (live s.world k) Lost w end t refl is)
+not_at : (b : Bool) (site : ℕ) (y : Symbol) (w : Way) (end : End) → (if b then At site y else Nowhere) ≡ Arrow w end → ⊥
+not_at true site y w end h = absurd (cc)
+not_at false site y w end h = absurd (cc)
+
+-- what is an arrow on a page's picture is one, and is of that page
+arrow_there : (page : PageId) (of : Option PageId) (m : Mark) (w : Way) (end : End) → mark_on page of m ≡ Arrow w end → (is_of page of ≡ true) × (m ≡ Arrow w end)
+arrow_there page None m w end h = (refl, h)
+arrow_there page (Some other) m w end h = picked (same_page page other) h
+  where
+    picked : (b : Bool) → (if b then m else Elsewhere other) ≡ Arrow w end → (b ≡ true) × (m ≡ Arrow w end)
+    picked true is = (refl, is)
+    picked false is = absurd (cc)
+
+own_is : (page : PageId) (o : Opening) (events : List Event) (s : Scene) (event : Event) (w : Way) (end : End) → Traced o events s
+    → is_of page (about s.world event) ≡ true → own_mark s.world s.origins event ≡ Arrow w end → Passes event w.number end × IsWayOf page o events w
+own_is page o events s (Load site at offset) w end t of is = absurd (not_at (nat_lt site s.world.count) site Request w end is)
+own_is page o events s (Store site at offset byte) w end t of is = absurd (not_at (nat_lt site s.world.count) site Request w end is)
+own_is page o events s (Begin site request) w end t of is = absurd (not_at (nat_lt site s.world.count) site Request w end is)
+own_is page o events s (Tick site) w end t of is = absurd (not_at (nat_lt site s.world.count) site TickSymbol w end is)
+own_is page o events s (Restart site) w end t of is = absurd (not_at (nat_lt site s.world.count) site RestartSymbol w end is)
+own_is page o events s (Deliver k) w end t of is =
+    hands_over page o events k HandedOver (Deliver k) w end refl (passed_is page o events s k (live s.world k) HandedOver w end t refl of is)
+own_is page o events s (Repeat k) w end t of is =
+    hands_over page o events k Repeated (Repeat k) w end refl (passed_is page o events s k (live s.world k) Repeated w end t refl of is)
+own_is page o events s (Lose k) w end t of is =
+    hands_over page o events k Lost (Lose k) w end refl (passed_is page o events s k (live s.world k) Lost w end t refl of is)
+
+pub mark_is : (page : PageId) (o : Opening) (events : List Event) (s : Scene) (event : Event) (w : Way) (end : End) → Traced o events s
+    → mark page s.world s.origins event ≡ Arrow w end → Passes event w.number end × IsWayOf page o events w
+mark_is page o events s event w end t is =
+    let there = arrow_there page (about s.world event) (own_mark s.world s.origins event) w end is in
+    own_is page o events s event w end t there.0 there.1
 
 -- ---- none is missing
 
-drawn_there : (page : Option PageId) (s : Scene) (k : ℕ) (e : Envelope) (found : Option Envelope) (shown : Bool) (ended : End) → found ≡ Some e → is_drawn page (page_of e.message) ≡ true
-    → passed page s.origins k found ended ≡ Arrow (way_at s k e) ended
-drawn_there page s k e found shown ended f d =
-    ap (λ x. passed page s.origins k x ended) f ∙ ap (λ b. arrow (if b then Some (way_at s k e) else None) ended) d
+stays_there : (page : PageId) (of : Option PageId) (m : Mark) → is_of page of ≡ true → mark_on page of m ≡ m
+stays_there page None m h = refl
+stays_there page (Some other) m h = ap (λ b. if b then m else Elsewhere other) h
 
-pub has_arrow : (page : Option PageId) (s : Scene) (event : Event) (k : ℕ) (end : End) (e : Envelope) → Passes event k end → live s.world k ≡ Some e
-    → is_drawn page (page_of e.message) ≡ true → (w : Way) × (mark page s.world s.origins event ≡ Arrow w end) × (w.number ≡ k)
+drawn_there : (page : PageId) (s : Scene) (k : ℕ) (e : Envelope) (found : Option Envelope) (ended : End) → found ≡ Some e → is_of page (page_of e.message) ≡ true
+    → mark_on page (about_envelope found) (passed s.origins k found ended) ≡ Arrow (way_at s k e) ended
+drawn_there page s k e found ended f d =
+    ap (λ x. mark_on page (about_envelope x) (passed s.origins k x ended)) f ∙ stays_there page (page_of e.message) (Arrow (way_at s k e) ended) d
+
+pub has_arrow : (page : PageId) (s : Scene) (event : Event) (k : ℕ) (end : End) (e : Envelope) → Passes event k end → live s.world k ≡ Some e
+    → is_of page (page_of e.message) ≡ true → (w : Way) × (mark page s.world s.origins event ≡ Arrow w end) × (w.number ≡ k)
 has_arrow page s event k HandedOver e p h d =
-    (way_at s k e, ap (mark page s.world s.origins) p ∙ drawn_there page s k e (live s.world k) true HandedOver h d, refl)
+    (way_at s k e, ap (mark page s.world s.origins) p ∙ drawn_there page s k e (live s.world k) HandedOver h d, refl)
 has_arrow page s event k Repeated e p h d =
-    (way_at s k e, ap (mark page s.world s.origins) p ∙ drawn_there page s k e (live s.world k) true Repeated h d, refl)
+    (way_at s k e, ap (mark page s.world s.origins) p ∙ drawn_there page s k e (live s.world k) Repeated h d, refl)
 has_arrow page s event k Lost e p h d =
-    (way_at s k e, ap (mark page s.world s.origins) p ∙ drawn_there page s k e (live s.world k) true Lost h d, refl)
+    (way_at s k e, ap (mark page s.world s.origins) p ∙ drawn_there page s k e (live s.world k) Lost h d, refl)
 has_arrow page s event k OnItsWay e p h d = absurd p
 
 -- ---- what is still on its way
 
-live_way_is : (page : Option PageId) (o : Opening) (events : List Event) (s : Scene) (k : ℕ) (found : Option Envelope) (w : Way) → Traced o events s → live s.world k ≡ found
-    → live_way page s.origins k found ≡ Some w → IsWayOf o events w
+live_way_is : (page : PageId) (o : Opening) (events : List Event) (s : Scene) (k : ℕ) (found : Option Envelope) (w : Way) → Traced o events s → live s.world k ≡ found
+    → live_way page s.origins k found ≡ Some w → IsWayOf page o events w
 live_way_is page o events s k None w t h is = absurd (cc)
-live_way_is page o events s k (Some e) w t h is = shown_is (is_drawn page (page_of e.message)) is
+live_way_is page o events s k (Some e) w t h is = shown_is (is_of page (page_of e.message)) refl is
   where
-    shown_is : (b : Bool) → (if b then Some (way_at s k e) else None) ≡ Some w → IsWayOf o events w
-    shown_is true same =
+    shown_is : (b : Bool) → is_of page (page_of e.message) ≡ b → (if b then Some (way_at s k e) else None) ≡ Some w → IsWayOf page o events w
+    shown_is true of same =
         let here : way_at s k e ≡ w = cc in
-        subst (IsWayOf o events) here (is_way o events s k e t h)
-    shown_is false same = absurd (cc)
+        subst (IsWayOf page o events) here (is_way page o events s k e t h of)
+    shown_is false of same = absurd (cc)
 
 none_there : {X : Type 0} (x : X) → Contains [] x → ⊥
 none_there x h = let no : h.0 < 0 = h.1 in omega (arith, no)
@@ -222,8 +248,8 @@ one_there None x h = absurd (none_there x h)
 one_there (Some y) x (zero, within, same) = ap Some same
 one_there (Some y) x (suc k, within, same) = let no : suc k < 1 = within in absurd (omega (arith, no))
 
-pub flying_is : (page : Option PageId) (o : Opening) (events : List Event) (s : Scene) (w : Way) → Traced o events s → Contains (on_their_way page s.world s.origins) w → IsWayOf o events w
+pub flying_is : (page : PageId) (o : Opening) (events : List Event) (s : Scene) (w : Way) → Traced o events s → Contains (on_their_way page s.world s.origins) w → IsWayOf page o events w
 flying_is page o events s w t h =
-    in_a_row (IsWayOf o events) (λ k. option_to_list (live_way page s.origins k (live s.world k)))
+    in_a_row (IsWayOf page o events) (λ k. option_to_list (live_way page s.origins k (live s.world k)))
     (λ k x found. live_way_is page o events s k (live s.world k) x t refl (one_there (live_way page s.origins k (live s.world k)) x found))
     (range_with_len 0 (length s.world.sent)) w h

@@ -2,7 +2,7 @@
 ghost use Rattle.std.specs.Prelude.{◌≡◌, ◌++◌, OnOk, string_bytes};
 ghost use Rattle.shm_draw.specs.Svg;
 
-use crate::geometry::{tip_of, x_of, y_of};
+use crate::geometry::{reach_of, tip_of, x_of, y_of};
 use crate::mark::{End, Way};
 use crate::word::name_of;
 use shm_model::Answer;
@@ -10,38 +10,22 @@ use shm_place::SiteId;
 use shm_text::AnswerText;
 use std::alloc::{AllocError, Allocator};
 
-/// Tells the arrow that ends at this height, and what was answered there.
-pub(crate) fn tell_arrow<A: Allocator + Copy>(
+/// Tells the arrow that ends in this row: a straight line, or to the same site a bow.
+pub(crate) fn tell_path<A: Allocator + Copy>(
     out: &mut String<A>,
     way: &Way,
     end: End,
-    y: u128,
-    answer: &Answer,
+    row: u64,
 ) -> Result<(), AllocError>
-    ensures { OnOk result (string_bytes out.new ≡ string_bytes out.old ++ Svg.arrow_text way.now end y answer.now) }
-{
-    tell_path(out, way, end, y)?;
-    tell_label(out, way, end, y)?;
-    tell_aside(out, way, end, y)?;
-    tell_told(out, answer)?;
-    out.push_str("</text>\n")
-}
-
-/// Tells the line itself: a straight one, or to the same site a bow.
-fn tell_path<A: Allocator + Copy>(
-    out: &mut String<A>,
-    way: &Way,
-    end: End,
-    y: u128,
-) -> Result<(), AllocError>
-    ensures { OnOk result (string_bytes out.new ≡ string_bytes out.old ++ Svg.path_text way.now end y) }
+    ensures { OnOk result (string_bytes out.new ≡ string_bytes out.old ++ Svg.path_text way.now end row) }
 {
     let class = class_of(end);
     let x = x_of(way.from);
     let tip = tip_of(way.from, way.to, end);
     let start = y_of(way.origin);
+    let y = y_of(row);
     if way.from == way.to {
-        let bow = x + 50;
+        let bow = x as u128 + reach_of(way.origin, row);
         return write!(
             out,
             "<path class='{class}' d='M{x} {start}C{bow} {start} {bow} {y} {tip} {y}'/>\n"
@@ -50,16 +34,33 @@ fn tell_path<A: Allocator + Copy>(
     write!(out, "<path class='{class}' d='M{x} {start}L{tip} {y}'/>\n")
 }
 
+/// Tells what stands at the arrow's head: its envelope, and what was answered there.
+pub(crate) fn tell_head_label<A: Allocator + Copy>(
+    out: &mut String<A>,
+    way: &Way,
+    end: End,
+    row: u64,
+    answer: &Answer,
+) -> Result<(), AllocError>
+    ensures { OnOk result (string_bytes out.new ≡ string_bytes out.old ++ Svg.head_label way.now end row answer.now) }
+{
+    tell_label(out, way, end, row)?;
+    tell_aside(out, way, end, row)?;
+    tell_told(out, answer)?;
+    out.push_str("</text>\n")
+}
+
 /// Tells the envelope's number and what its message is called, beside the head, where the line doesn't come from.
 fn tell_label<A: Allocator + Copy>(
     out: &mut String<A>,
     way: &Way,
     end: End,
-    y: u128,
+    row: u64,
 ) -> Result<(), AllocError>
-    ensures { OnOk result (string_bytes out.new ≡ string_bytes out.old ++ Svg.label_text way.now end y) }
+    ensures { OnOk result (string_bytes out.new ≡ string_bytes out.old ++ Svg.label_text way.now end row) }
 {
     let tip = tip_of(way.from, way.to, end);
+    let y = y_of(row);
     let side = side_of(way.from, way.to);
     let number = way.number;
     let word = name_of(way.word);
@@ -75,18 +76,26 @@ fn tell_aside<A: Allocator + Copy>(
     out: &mut String<A>,
     way: &Way,
     end: End,
-    y: u128,
+    row: u64,
 ) -> Result<(), AllocError>
-    ensures { OnOk result (string_bytes out.new ≡ string_bytes out.old ++ Svg.aside_text way.now end y) }
+    ensures { OnOk result (string_bytes out.new ≡ string_bytes out.old ++ Svg.aside_text way.now end row) }
 {
-    let tip = tip_of(way.from, way.to, end);
-    if way.to.0 < way.from.0 {
-        return write!(
-            out,
-            "</text><text class='t' x='{tip}' y='{y}' dy='4' dx='24'>"
-        );
+    if way.from.0 < way.to.0 {
+        return Ok(());
     }
-    Ok(())
+    let x = tip_of(way.from, way.to, end) as u128 + gap_of(way, row);
+    let y = y_of(row);
+    write!(out, "</text><text class='t' x='{x}' y='{y}' dy='4'>")
+}
+
+/// How far right of the lifeline that is: beyond a bow.
+fn gap_of(way: &Way, row: u64) -> u128
+    ensures { result ≡ Svg.gap_of way.now row }
+{
+    if way.from == way.to {
+        return reach_of(way.origin, row);
+    }
+    24
 }
 
 /// Tells what was answered, unless it was only taken.
@@ -140,8 +149,5 @@ fn side_of(from: SiteId, to: SiteId) -> &'static str
     if from.0 < to.0 {
         return "dx='12'";
     }
-    if to.0 < from.0 {
-        return "dx='-12' text-anchor='end'";
-    }
-    "dx='42'"
+    "dx='-12' text-anchor='end'"
 }

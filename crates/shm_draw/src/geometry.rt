@@ -1,9 +1,10 @@
 //! Where things stand in a picture, in pixels.
-ghost use Rattle.std.specs.Prelude.{◌≡◌, ◌+◌};
+ghost use Rattle.std.specs.Prelude.{◌≡◌, ◌+◌, IfOk};
 ghost use Rattle.shm_draw.specs.Svg;
 
 use crate::mark::End;
 use shm_place::{SiteId, Sites};
+use std::alloc::AllocError;
 
 /// The middle of the site's lifeline.
 pub(crate) fn x_of(site: SiteId) -> u64
@@ -12,18 +13,18 @@ pub(crate) fn x_of(site: SiteId) -> u64
     270 + 110 * site.0 as u64
 }
 
-/// The height of the event of this number; number 0 is the world before the first event, at the top.
-pub(crate) fn y_of(number: u64) -> u128
-    ensures { result ≡ Svg.y_of number }
+/// The height of a row, from the top of its page's picture; row 0 is the world before the first event.
+pub(crate) fn y_of(row: u64) -> u128
+    ensures { result ≡ Svg.y_of row }
 {
-    y_below(number, 0)
+    78 + 22 * row as u128
 }
 
-/// So many rows below that of the event of this number.
-pub(crate) fn y_below(number: u64, further: u64) -> u128
-    ensures { result ≡ Svg.y_of (number + further) }
+/// How far the bow from the row `origin` to this one goes out from its lifeline.
+pub(crate) fn reach_of(origin: u64, row: u64) -> u128
+    ensures { result ≡ Svg.reach_of origin row }
 {
-    78 + 22 * (number as u128 + further as u128)
+    24 + 11 * row.saturating_sub(origin) as u128
 }
 
 /// Where the arrow ends: at its receiver's lifeline, or halfway where the envelope is lost.
@@ -36,16 +37,40 @@ pub(crate) fn tip_of(from: SiteId, to: SiteId, end: End) -> u64
     }
 }
 
-/// How wide the picture is: the lifelines, and so much room for what stands right of the last.
+/// How wide the picture is: the legend, or the lifelines and so much room for what stands right of the last.
 pub(crate) fn width_of(sites: Sites, room: u32) -> u64
     ensures { result ≡ Svg.width_of sites room }
 {
-    x_of(SiteId(sites.count())) + room as u64
+    let needed = 160 + 110 * sites.count() as u64 + room as u64;
+    if needed < 680 {
+        return 680;
+    }
+    needed
 }
 
-/// How high the picture is: so many rows below that of the event of this number, and a margin.
-pub(crate) fn height_of(last: u64, further: u64) -> u128
-    ensures { result ≡ Svg.height_of last further }
+/// How far the picture of a page goes down: so many rows of events and of what is on its way, what stands above them, and a margin.
+pub(crate) fn depth_of(last: u64, further: u64) -> u128
+    ensures { result ≡ Svg.depth_of last further }
 {
-    y_below(last, further) + 44
+    110 + 22 * (last as u128 + further as u128)
+}
+
+/// The row so far below the last. No memory holds a picture whose rows can't be counted.
+pub(crate) fn row_below(last: u64, further: u64) -> Result<u64, AllocError>
+    ensures { IfOk result (λ row. row ≡ last + further) }
+{
+    match last.checked_add(further) {
+        Some(row) => Ok(row),
+        None => Err(AllocError),
+    }
+}
+
+/// Where the next picture begins, below one that goes so far down. No memory holds pictures that go down further than can be counted.
+pub(crate) fn next_top(top: u128, depth: u128) -> Result<u128, AllocError>
+    ensures { IfOk result (λ next. next ≡ top + depth) }
+{
+    match top.checked_add(depth) {
+        Some(next) => Ok(next),
+        None => Err(AllocError),
+    }
 }

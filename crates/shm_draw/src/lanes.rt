@@ -1,4 +1,4 @@
-//! Lifelines: the sites' names, and for each row the state in which each site holds the page.
+//! Lifelines: the page, the sites' names, and for each row the state in which each site holds the page.
 ghost use Rattle.std.specs.Prelude.{◌≡◌, ◌++◌, OnOk, string_bytes};
 ghost use Rattle.shm_model.specs.World as model;
 ghost use Rattle.shm_world.specs.World.{StandsFor};
@@ -9,6 +9,21 @@ use shm_model::State;
 use shm_place::{PageId, SiteId, Sites};
 use shm_world::{Shown, World};
 use std::alloc::{AllocError, Allocator};
+
+/// Tells which page the picture is of.
+pub(crate) fn tell_heading<A: Allocator + Copy>(
+    out: &mut String<A>,
+    page: PageId,
+) -> Result<(), AllocError>
+    ensures { OnOk result (string_bytes out.new ≡ string_bytes out.old ++ Svg.heading_text page) }
+{
+    let index = page.index;
+    let segment = page.seg.0;
+    write!(
+        out,
+        "<text class='h' x='8' y='70'>page {index} of segment {segment}</text>\n"
+    )
+}
 
 /// Tells the name of each site.
 pub(crate) fn tell_names<A: Allocator + Copy>(

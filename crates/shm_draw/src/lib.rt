@@ -1,5 +1,5 @@
-//! A run as a picture: one self-contained SVG with a row for each event, a lifeline for each site and an arrow for each envelope. The text
-//! is the definitions' picture of the run, and of a script that of the run which stands at its end.
+//! A run as a picture: one self-contained SVG. For each page it has a row for each event, a lifeline for each site and an arrow for each
+//! envelope of this page. The text is the definitions' picture of the run, and of a script that of the run which stands at its end.
 #![tactic(auto)]
 
 mod arrow;
@@ -11,13 +11,13 @@ mod marking;
 mod on_their_way;
 mod origins;
 mod page;
+mod page_picture;
+mod pages;
 mod picture;
 mod room;
 mod row;
 mod script;
 mod style;
-#[cfg(test)]
-mod tests;
 mod ways;
 mod word;
 

@@ -1,6 +1,6 @@
 //! What an event draws.
 use crate::word::Word;
-use shm_place::SiteId;
+use shm_place::{PageId, SiteId};
 
 /// An envelope's way, as an arrow shows it.
 #[derive(Clone, Copy, Debug, PartialEq, Eq)]
@@ -39,15 +39,15 @@ pub enum Symbol {
     Restart,
 }
 
-/// What an event draws.
+/// What an event draws on the picture of a page.
 #[derive(Clone, Copy, Debug, PartialEq, Eq)]
 pub enum Mark {
     /// Something at a site.
     At(SiteId, Symbol),
     /// The way of the envelope that it hands over or loses, and which of these it does.
     Arrow(Way, End),
-    /// Nothing: the envelope is about a page that is not drawn.
-    Hidden,
-    /// There is no such envelope.
+    /// Only the page that the event is about, which is another one.
+    Elsewhere(PageId),
+    /// There is no such envelope, or no such site.
     Nowhere,
 }

@@ -5,20 +5,38 @@ ghost use Rattle.shm_draw.specs.Svg;
 
 use shm_model::{Event, Op, Request};
 
-/// How far what is told there goes. The reply to a `stat` is long.
+/// How far what is told there goes. The reply to a segment call is longer than what an access gives, and that to a `stat` is long.
 pub(crate) fn room_of(events: &[Event]) -> u32
     ensures { result ≡ Svg.room_of events.now }
 {
     if has_stat(events) {
         return 820;
     }
-    340
+    if has_call(events) {
+        return 360;
+    }
+    240
 }
 
 fn has_stat(events: &[Event]) -> bool
     ensures { result ≡ list_any Svg.asks_stat events.now }
 {
     events.iter().any(|event| asks_stat(event))
+}
+
+fn has_call(events: &[Event]) -> bool
+    ensures { result ≡ list_any Svg.is_call events.now }
+{
+    events.iter().any(|event| is_call(event))
+}
+
+fn is_call(event: &Event) -> bool
+    ensures { result ≡ Svg.is_call event.now }
+{
+    match event {
+        Event::Begin { .. } => true,
+        _ => false,
+    }
 }
 
 fn asks_stat(event: &Event) -> bool

@@ -26,7 +26,8 @@ const ROOM: usize = 1 << 16;
 /// How much room a line is given from the beginning.
 const LINE: usize = 512;
 
-/// Draws the run that stands at the script's end, which is read from `reader`, and writes the picture to `writer`.
+/// Draws the run that stands at the script's end, which is read from `reader`, and writes the picture to `writer`: that of the page, or of
+/// each page that the run touches.
 ///
 /// The script is read up to its end or to its first fault, and a little further; nothing is written before. Where the reader answers an
 /// error, of whatever kind, nothing is drawn; where the writer answers one, or takes nothing, a front of the picture may have been written.
@@ -126,5 +127,5 @@ fn session_picture<A: Allocator + Copy>(
     ensures { IfOk result (λ picture. string_bytes picture ≡ drawing page (Some session.now)) }
 {
     let world = World::begin(alloc, &session.opening())?;
-    picture_of(alloc, world, session.events(), page)
+    picture_of(alloc, &world, session.events(), page)
 }

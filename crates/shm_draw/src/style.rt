@@ -2,8 +2,8 @@
 
 /// The style sheet, the shapes that are used by name, and the legend.
 pub(crate) const STYLE: &str =
-    "<style>text{font:12px monospace;fill:#222;stroke:#fff;stroke-width:4px;stroke-linejoin:round;paint-order:stroke}
-.l{fill:#555}.t{fill:#060;font-weight:bold}.s{font-weight:bold;text-anchor:middle}
+    "<style>text{font:12px monospace;fill:#222;stroke:#fff;stroke-width:5px;stroke-linejoin:round;paint-order:stroke}
+.e{fill:#aaa}.h{font-weight:bold}.t{fill:#060;font-weight:bold}.s{font-weight:bold;text-anchor:middle}
 .over,.again,.lost,.fly{fill:none;stroke:#333;stroke-width:1.5;marker-end:url(#head)}
 .again{stroke:#80c;stroke-dasharray:9 2 2 2;marker-end:url(#double)}.lost{stroke:#c00;marker-end:url(#cross)}
 .fly{stroke:#06c;stroke-dasharray:5 4;marker-end:url(#open)}</style>

@@ -10,5 +10,6 @@ pub mod Booked
 pub mod Books
 pub mod Holdings
 pub mod Reach
+pub mod Reached
 pub mod Entries
 pub mod OrderedPages

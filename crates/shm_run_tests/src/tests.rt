@@ -1,6 +1,7 @@
 mod drawings;
 mod drawn;
 mod held;
+mod pictures;
 mod pieces;
 mod prompting;
 mod refusals;

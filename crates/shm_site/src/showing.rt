@@ -1,9 +1,11 @@
 //! What a site shows: its segments, and what it has of a page. A page outside the limits has nothing to show.
-ghost use Rattle.std.specs.Prelude.{◌≡◌, ◌==◌, ◌&&◌, Some, None, if◌then◌else◌, is_some, not, IfSome};
+ghost use Rattle.std.specs.Prelude.{◌≡◌, ◌==◌, ◌&&◌, false, Some, None, if◌then◌else◌, is_some, not, IfSome};
 ghost use Rattle.shm_place.specs.Page.{in_limits, manager_of};
+ghost use Rattle.shm_model.specs.Access.{right};
 ghost use Rattle.shm_model.specs.Book.{untouched_book};
 ghost use Rattle.shm_manager.specs.Book.{book_of};
 ghost use Rattle.shm_parts.specs.Holdings.{access_of, shown_of};
+ghost use Rattle.shm_parts.specs.Reached.{page_reached};
 ghost use Rattle.shm_site.specs.Showing.{Shows};
 ghost use Rattle.shm_site.specs.Site.{site_of};
 
@@ -44,6 +46,13 @@ impl<A: Allocator + Copy> Site<A> {
             return None;
         }
         Some(self.holdings.shown(*page))
+    }
+
+    /// The page that a load through this attachment at this offset goes to. None: it is refused (`shmop(2)`).
+    pub fn reached(&self, attachment: u32, offset: u32) -> Option<PageId>
+        ensures { result ≡ page_reached (right (site_of self.now).attachments attachment offset false) }
+    {
+        self.holdings.reached(attachment, offset)
     }
 
     /// The page's book, at its manager. None: this site isn't the page's manager, or has purged its segment, or no segment can have

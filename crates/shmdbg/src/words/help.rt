@@ -164,8 +164,9 @@ Reads a script as `shmdbg replay` does, and writes the run that stands at its
 end as a picture (SVG), which a browser shows. Time goes downwards; each site
 has a line, whose look says what it has of the page; an arrow goes from where
 an envelope was sent to where it was handed over.
-Without --page the page is the first of segment 0, and all envelopes are drawn;
-with it, those about other pages aren't.
+A picture is of one page, and has what is about this page, or about none. With
+--page it is that page; without, each page that the run touches has its own, one
+below the other, in the order in which they are first touched.
   $ printf 'sites 2 preset 1\\nload 1 0 0\\ndeliver 0\\n' | shmdbg draw > run.svg
 Exit status: 0 done, 1 the script has a fault, and nothing is written, 2 these
 words were refused, 3 memory, reading or writing failed.";

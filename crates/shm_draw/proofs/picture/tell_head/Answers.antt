@@ -1,4 +1,4 @@
 use Rattle.shm_draw.proofs.picture.tell_head.Goals as goal
 
 pub returns : goal.returns
-returns g c = rw (c.width_of-width.ensures, c.height_of-height.ensures) at c.write.ensures.bytes
+returns g c = rw c.width_of-width.ensures at c.write.ensures.bytes
