@@ -7,7 +7,7 @@ pub enum JournalFault {
     /// An allocation was refused.
     #[error("out of memory")]
     OutOfMemory,
-    /// The reader answered an error.
+    /// The reader answered an error, or the journal is longer than any file.
     #[error("read fault")]
     ReadFault,
     /// The line of this number, from 1, is none of a journal's, or longer than one may be, or records no step that can be the site's next; or
@@ -17,7 +17,7 @@ pub enum JournalFault {
 }
 
 impl Numbered for JournalFault {
-    ghost use Rattle.shm_audit.specs.Faults.{journal_fault_number};
+    ghost use Rattle.shm_journal.specs.Faults.{journal_fault_number};
 
     ghost number_of = { journal_fault_number };
 
