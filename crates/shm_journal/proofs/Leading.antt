@@ -10,9 +10,20 @@ use Rattle.shm_journal.specs.Found.{Found, Sound, Foreign, Bad, Kind, Lines, byt
 use Rattle.shm_journal.specs.Leading.{Leads}
 use Rattle.shm_journal.specs.LinesOf.{Unended}
 use Rattle.shm_journal.specs.ReadUpTo.{BreaksAt, IsSound, LacksLine, ReadsToLine, ReadsWhole, StopsAt}
+use Rattle.shm_journal.specs.Replaying.{IsNext}
 use Rattle.shm_journal.specs.Taking.{BreaksOff, IsOther, Overruns, most_at_once}
 use Rattle.shm_journal.specs.declared.journal_fault.JournalFault.{JournalFault}
 use Rattle.shm_journal.specs.declared.journal_fault.JournalFault.TheVariants as fault
+
+-- ---- one step
+
+pub next_some : {T : Type 0} → (made : Bool) (after : Option T) (now : T) → made ≡ true → IsNext made after now → after ≡ Some now
+next_some true after now e h = h
+next_some false after now e h = absurd (cc)
+
+pub next_none : {T : Type 0} → (made : Bool) (after : Option T) (now : T) → made ≡ false → IsNext made after now → after ≡ None
+next_none true after now e h = absurd (cc)
+next_none false after now e h = h
 
 -- ---- whole lines
 
@@ -73,9 +84,12 @@ long_behind says bad torn whole seen (byte ∷ rest) long =
 
 -- ---- what was read leads on
 
+none-before : (n : ℕ) → n ≡ 0 + n
+none-before n = omega arith
+
 pub begun : {T : Type 0} → (next : T → List ℕ → Option T) (left : Option (List ℕ)) (number : ℕ) (state : T)
     → Leads next (λ rest. found_behind next number state rest) left left number state 0
-begun next left number state = record { bytes = []; taken = Consumes-nil left; onward = λ more. refl; counted = λ more. refl }
+begun next left number state = record { bytes = []; taken = Consumes-nil left; onward = λ more. refl; counted = λ more. none-before (bytes_of_lines (lines_of more).whole) }
 
 -- it leads to where it stands
 sound-so-far : {T : Type 0} → (next : T → List ℕ → Option T) (says : List ℕ → Found T) (before left : Option (List ℕ)) (number : ℕ) (state : T) (whole : ℕ)
@@ -148,7 +162,7 @@ stops next says before left now number state whole line over l taken h short onc
   over = over;
   taken = Consumes-trans before left now l.bytes ((line ++ 10 ∷ []) ++ over) l.taken taken;
   sound = inr (state, sound-so-far next says before left number state whole l);
-  is_one = inl (line, (refl, (h, short)));
+  is_one = inl (line, refl, h, short);
   once = once;
   bad = λ rest.
       l.onward ((line ++ 10 ∷ []) ++ rest) ∙ one_line next number state line rest h short
@@ -277,7 +291,7 @@ first_stops kind before now line over what taken h short once e ends = record {
   over = over;
   taken = taken;
   sound = inl refl;
-  is_one = inl (line, (refl, (h, short)));
+  is_one = inl (line, refl, h, short);
   once = once;
   bad = λ rest. one-first kind line rest h short ∙ ap (λ f. then_found f (λ state. found_behind kind.next 2 state rest)) e ∙ ends (λ state. found_behind kind.next 2 state rest);
 }

@@ -1,10 +1,13 @@
 -- What a journal's file says, and what is read of it.
-use Rattle.std.specs.Prelude.{◌≡◌, ◌⊎◌, ℕ, List, IfSome, Option, Result, Ok, Err}
+use Rattle.std.specs.Prelude.{◌≡◌, ◌⊎◌, ℕ, Bool, true, false, List, IfSome, None, Some, Option, Result, Ok, Err, if◌then◌else◌, length, take}
+use Rattle.std.specs.Str.{bytes_eq}
 use Rattle.std.specs.Io.KnownBytes.{Consumes, IsAtEnd}
 use Rattle.shm_process.specs.NodeOf.{node_of}
 use Rattle.shm_journal.specs.Found.{Sound, Foreign, Bad, bytes_of_lines, found, is_empty, lines_of}
-use Rattle.shm_journal.specs.Lines.{Header}
+use Rattle.shm_journal.specs.Lines.{Header, read_header}
 use Rattle.shm_journal.specs.ReadUpTo.{BreaksAt, LacksLine, StopsAt}
+use Rattle.shm_journal.specs.declared.journal_fault.JournalFault.{JournalFault}
+use Rattle.shm_journal.specs.declared.journal_fault.JournalFault.TheVariants as journal
 use Rattle.shm_journal.specs.declared.recovery_fault.RecoveryFault.{RecoveryFault}
 use Rattle.shm_journal.specs.declared.recovery_fault.RecoveryFault.TheVariants as fault
 use Rattle.shm_journal.specs.declared.recovered.Recovered.{Recovered}
@@ -41,3 +44,23 @@ ReadsUpTo header old new fault.OutOfMemory = BreaksAt (found header) old new
 ReadsUpTo header old new fault.ReadFault = BreaksAt (found header) old new
 ReadsUpTo header old new fault.Foreign = StopsAt (found header) old new Foreign
 ReadsUpTo header old new (fault.BadLine number) = StopsAt (found header) old new (Bad number) ⊎ LacksLine (found header) old new (Bad number)
+
+-- a fault of any journal, as one of a start
+abbrev pub as_recovery : JournalFault → RecoveryFault
+as_recovery journal.OutOfMemory = fault.OutOfMemory
+as_recovery journal.ReadFault = fault.ReadFault
+as_recovery (journal.BadLine number) = fault.BadLine number
+
+-- ---- the first line
+
+abbrev pub other_header : Option Header → Result Bool RecoveryFault
+other_header None = Err (fault.BadLine 1)
+other_header (Some header) = Err fault.Foreign
+
+-- it is this one, or why it may not be
+abbrev pub header_checked : List ℕ → List ℕ → Result Bool RecoveryFault
+header_checked own line = if bytes_eq line own then Ok true else other_header (read_header line)
+
+-- there is no whole one, and it is a front of this one
+abbrev pub front_checked : List ℕ → List ℕ → Result Bool RecoveryFault
+front_checked own torn = if bytes_eq torn (take (length torn) own) then Ok false else Err (fault.BadLine 1)

@@ -46,6 +46,13 @@ pub record BreaksOff (before now : Option (List ℕ)) (why : JournalFault) : Typ
   pub once : length over ≤ most_at_once
   pub other : IsOther why
 
+-- so where nothing was taken of it yet
+pub record ReadsOver (before now : Option (List ℕ)) (why : JournalFault) : Type 0 where
+  pub over : List ℕ
+  pub taken : Consumes before now over
+  pub once : length over ≤ most_at_once
+  pub other : IsOther why
+
 -- ---- what one read gave of it
 
 -- the rest of the line, and its line feed

@@ -15,6 +15,7 @@ mod recovered;
 mod recovery;
 mod recovery_fault;
 mod replay;
+mod replayed;
 mod serving;
 mod taken;
 

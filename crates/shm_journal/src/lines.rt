@@ -1,5 +1,5 @@
 //! A reader's bytes, a line at a time.
-ghost use Rattle.std.specs.Prelude.{◌≡◌, ◌⊎◌, ◌+◌, ◌≤◌, [], length};
+ghost use Rattle.std.specs.Prelude.{◌≡◌, ◌+◌, ◌<◌, ◌≤◌, [], length};
 ghost use Rattle.shm_journal.specs.Found.{max_journal_line};
 
 use crate::journal_fault::JournalFault;
@@ -28,14 +28,14 @@ pub struct Lines<A: Allocator + Copy = Global> {
     ghost once: { length bytes.items ≤ 8192 },
     ghost short: { length front.items + len ≤ max_journal_line },
     ghost lies: { from + len ≤ length bytes.items },
-    ghost in_one: { (front.items ≡ []) ⊎ (len ≡ 0) },
+    ghost in_one: { 0 < len → front.items ≡ [] },
 }
 
 impl<A: Allocator + Copy> Lines<A> {
-    ghost use Rattle.std.specs.Prelude.{◌∷◌, ◌++◌, ◌<◌, ◌==◌, All, drop, false, take, true, ℕ, Option, List, IfErr, IfNone, IfOk, IfSome, OnErr, OnOk};
+    ghost use Rattle.std.specs.Prelude.{◌∷◌, ◌++◌, ◌==◌, All, drop, false, take, true, ℕ, Option, List, IfErr, IfNone, IfOk, IfSome, OnErr, OnOk};
     ghost use Rattle.std.specs.Io.KnownBytes.{IsAtEnd, Keeps};
     ghost use Rattle.shm_journal.specs.LinesOf.{behind, is_used_up, left_of, line_in, Unended};
-    ghost use Rattle.shm_journal.specs.Taking.{BreaksOff, Takes, TakesPart, whole_with};
+    ghost use Rattle.shm_journal.specs.Taking.{BreaksOff, IsOther, ReadsOver, Takes, TakesPart, whole_with};
 
     /// Nothing was read yet.
     pub fn new(alloc: A) -> Lines<A>
@@ -91,7 +91,8 @@ impl<A: Allocator + Copy> Lines<A> {
             }
             match self.take_read() {
                 Ok(Taken::Torn) => {}
-                Ok(taken) => return Ok(taken),
+                Ok(Taken::Whole) => return Ok(Taken::Whole),
+                Ok(Taken::TooLong) => return Ok(Taken::TooLong),
                 Err(fault) => return Err(fault),
             }
         }
@@ -107,7 +108,7 @@ impl<A: Allocator + Copy> Lines<A> {
         ensures front { OnOk result (self.new.front.items ≡ self.old.front.items) }
         ensures len { OnOk result (self.new.len ≡ 0) }
         ensures whole { OnOk result (self.new.whole ≡ self.old.whole) }
-        ensures fault { IfErr result (BreaksOff (left_of self.old (R.remaining reader.old)) (R.remaining reader.new)) }
+        ensures fault { IfErr result (ReadsOver (left_of self.old (R.remaining reader.old)) (R.remaining reader.new)) }
     {
         if self.at < self.bytes.len() {
             return Ok(());
@@ -129,7 +130,8 @@ impl<A: Allocator + Copy> Lines<A> {
     fn take_read(&mut self) -> Result<Taken, JournalFault>
         requires some { self.old.at < length self.old.bytes.items }
         requires begun { self.old.len ≡ 0 }
-        ensures { IfOk result (λ taken. TakesPart taken self.old self.new) }
+        ensures ok { IfOk result (λ taken. TakesPart taken self.old self.new) }
+        ensures err { IfErr result IsOther }
     {
         match self.line_feed() {
             Some(len) => self.end_line(len),
@@ -154,7 +156,8 @@ impl<A: Allocator + Copy> Lines<A> {
         requires within { len < length (behind self.old) }
         requires cut { behind self.old ≡ take len (behind self.old) ++ 10 ∷ drop (len + 1) (behind self.old) }
         requires unended { Unended (take len (behind self.old)) }
-        ensures { IfOk result (λ taken. TakesPart taken self.old self.new) }
+        ensures ok { IfOk result (λ taken. TakesPart taken self.old self.new) }
+        ensures err { IfErr result IsOther }
     {
         if self.front.len() + len > MAX_LINE_BYTES {
             return Ok(self.overrun(len));
@@ -185,7 +188,8 @@ impl<A: Allocator + Copy> Lines<A> {
         requires some { self.old.at < length self.old.bytes.items }
         requires begun { self.old.len ≡ 0 }
         requires unended { Unended (behind self.old) }
-        ensures { IfOk result (λ taken. TakesPart taken self.old self.new) }
+        ensures ok { IfOk result (λ taken. TakesPart taken self.old self.new) }
+        ensures err { IfErr result IsOther }
     {
         let len = self.bytes.len() - self.at;
         if self.front.len() + len > MAX_LINE_BYTES {

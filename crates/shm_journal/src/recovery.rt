@@ -1,15 +1,14 @@
 //! A site from its journal.
-ghost use Rattle.std.specs.Prelude.{◌≡◌, ◌<◌, ◌≤◌, false, true, IfErr, IfOk, OnOk};
+ghost use Rattle.std.specs.Prelude.{◌≡◌, ◌==◌, ◌+◌, ◌<◌, ◌≤◌, ℕ, false, true, IfErr, IfOk, OnOk};
 ghost use Rattle.std.specs.Io.KnownBytes.{IsAtEnd};
-ghost use Rattle.shm_journal.specs.Found.{found, opened, own, replayed_line};
+ghost use Rattle.shm_journal.specs.Found.{found, found_behind, opened, replayed_line};
 ghost use Rattle.shm_journal.specs.HeaderOf.{header_of};
 ghost use Rattle.shm_journal.specs.Leading.{Leads};
 ghost use Rattle.shm_journal.specs.LinesOf.{left_of};
 ghost use Rattle.shm_journal.specs.ReadUpTo.{ReadsToLine, ReadsWhole};
-ghost use Rattle.shm_journal.specs.Recovers.{IsRest, ReadsAll, ReadsUpTo, Recovers};
-ghost use Rattle.shm_journal.specs.Lines.{header_line};
+ghost use Rattle.shm_journal.specs.Recovers.{ReadsAll, ReadsUpTo, Recovers, as_recovery, front_checked, header_checked};
+ghost use Rattle.shm_journal.specs.declared.journal_fault.JournalFault.{JournalFault as Fault};
 ghost use Rattle.shm_process.specs.NodeOf.{node_of};
-ghost use Rattle.std.specs.Prelude.{string_bytes};
 
 use crate::header::Header;
 use crate::journal_fault::JournalFault;
@@ -21,7 +20,7 @@ use crate::replay::replay_rest;
 use crate::taken::Taken;
 use shm_place::{PAGES, SiteId, Sites};
 use shm_process::Node;
-use std::alloc::{AllocError, Allocator};
+use std::alloc::Allocator;
 use std::io::Read;
 
 /// The site after the steps that its journal records; of so many sites, where segment 0 began with so many pages. What stands behind the last
@@ -105,7 +104,7 @@ fn read_header<A: Allocator + Copy, R: Read>(
 
 /// Whether a whole first line is the own header: `true`, or a fault.
 fn check_header(own: &[u8], line: &[u8]) -> Result<bool, RecoveryFault>
-    ensures { IsFirst own.now line.now result }
+    ensures { result ≡ header_checked own.now line.now }
 {
     if line == own {
         return Ok(true);
@@ -118,7 +117,7 @@ fn check_header(own: &[u8], line: &[u8]) -> Result<bool, RecoveryFault>
 
 /// Whether the bytes of a file with no whole line are a front of the own header: `false`, or a fault.
 fn check_front(own: &[u8], torn: &[u8]) -> Result<bool, RecoveryFault>
-    ensures { IsFront own.now torn.now result }
+    ensures { result ≡ front_checked own.now torn.now }
 {
     if !own.starts_with(torn) {
         return Err(RecoveryFault::BadLine(1));
@@ -133,10 +132,11 @@ fn read_entries<A: Allocator + Copy, R: Read>(
     node: Node<A>,
     reader: &mut R,
 ) -> Result<Recovered<A>, RecoveryFault>
-    requires { 0 < lines.whole }
-    ensures whole { IfOk result (λ r. RestWhole (node_of node) lines.whole (left_of lines (R.remaining reader.old)) (R.remaining reader.new) (node_of r.node) r.whole) }
-    ensures old { IfOk result (λ r. r.is_new ≡ (r.whole == 0)) }
-    ensures left { IfErr result (RestUpTo (node_of node) (left_of lines (R.remaining reader.old)) (R.remaining reader.new)) }
+    ensures whole { IfOk result (λ r. (more : ℕ) × (r.whole ≡ lines.whole + more) × ReadsWhole (λ rest. found_behind replayed_line 2 (node_of node) rest)
+        (left_of lines (R.remaining reader.old)) (R.remaining reader.new) (node_of r.node) more) }
+    ensures old { IfOk result (λ r. r.is_new ≡ false) }
+    ensures left { IfErr result (λ f. (why : Fault) × (f ≡ as_recovery why) × ReadsToLine (λ rest. found_behind replayed_line 2 (node_of node) rest)
+        (left_of lines (R.remaining reader.old)) (R.remaining reader.new) why) }
 {
     let mut lines = lines;
     let mut node = node;

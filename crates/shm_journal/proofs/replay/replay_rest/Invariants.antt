@@ -1,7 +1,7 @@
 use Rattle.std.proofs.Common.{◌≡◌, ℕ, ◌+◌}
 use Rattle.shm_journal.specs.Found.{found_behind}
 use Rattle.shm_journal.specs.LinesOf.{left_of}
-use Rattle.shm_journal.proofs.Leading.{Leads}
+use Rattle.shm_journal.specs.Leading.{Leads}
 use Rattle.shm_journal.proofs.replay.replay_rest.Given as goal
 
 -- the lines so far lead here
