@@ -1,16 +1,23 @@
 -- What is answered of a journal.
-use Rattle.std.proofs.Common.{◌≡◌, ℕ, ◌+◌, List, ◌++◌, Option, None, Some, Ok, Err, inl, inr, refl, sym, ap, subst, ◌∙◌, append_assoc}
-use Rattle.std.specs.Prelude.{⊤, IfSome}
-use Rattle.shm_journal.specs.Found.{Found, Sound, Bad}
+use Rattle.std.proofs.Common.{◌≡◌, ◌≤◌, ◌<◌, ◌⊎◌, inl, inr, ℕ, ◌+◌, List, [], ◌∷◌, ◌++◌, Option, None, Some, Ok, Err, length, refl, sym, ap, subst, ◌∙◌, append_assoc, arith}
+use Rattle.std.specs.Prelude.{⊤, Result, IfErr, IfOk, IfSome, OnOk}
+use Rattle.std.specs.Io.KnownBytes.{Consumes, IsAtEnd}
+use Rattle.shm_journal.specs.Found.{Found, Sound, Bad, found_behind, max_journal_line}
+use Rattle.shm_journal.specs.Leading.{Leads}
+use Rattle.shm_journal.specs.LinesOf.{Unended}
 use Rattle.shm_journal.specs.ReadUpTo.{ReadsToLine, ReadsWhole}
+use Rattle.shm_journal.specs.Recovers.{ReadsAll}
+use Rattle.shm_journal.specs.Taking.{BreaksOff, most_at_once}
 use Rattle.shm_journal.specs.declared.journal_fault.JournalFault.{JournalFault}
 use Rattle.shm_journal.specs.declared.journal_fault.JournalFault.TheVariants as fault
 use Rattle.shm_journal.proofs.Fronts.{of_all, of_front}
+use Rattle.shm_journal.proofs.Leading.{first_breaks, first_leads, first_stops, joined_fault, joined_whole}
 use Rattle.shm_logs.specs.Boxes.Box.{Box}
 use Rattle.shm_logs.specs.Boxes.SiteBox.{box_of}
 use Rattle.shm_logs.specs.declared.boxes.site_box.SiteBox.{SiteBox}
 use Rattle.shm_logs.specs.declared.boxes.site_log.SiteLog.{SiteLog}
-use Rattle.shm_audit.specs.Found.{HasLog, IsFault, IsLed, ReadsUpTo, found}
+use Rattle.shm_audit.specs.Found.{HasLog, IsFault, IsLed, LeadsToLog, ReadsUpTo, TellsLog, any, entered, first_found, found, opened}
+use Rattle.shm_audit.specs.declared.entering.Audited.{Audited}
 
 -- memory and the reader say nothing
 nothing_known : (a : Option (List ℕ)) → IfSome a (λ _. ⊤)
@@ -36,3 +43,72 @@ has_log box log same = subst (HasLog (box_of box)) (sym same) (record { sites = 
 pub log_known : {A : Type 0} → (old new : Option (List ℕ)) (box : Box) (whole : ℕ) (log : SiteLog A) → ReadsWhole found old new box whole → HasLog box log
     → IfSome old (λ file. IsLed (found file) log)
 log_known old new box whole log w h = of_all old new w.bytes (λ file. IsLed (found file) log) w.taken w.end (subst (λ f. IsLed f log) (sym w.sound) h)
+
+-- ---- the first line
+
+pub first_ok : {A : Type 0} → (before left : Option (List ℕ)) (line seen : List ℕ) (count : ℕ) (r : Result (Audited A) JournalFault) → Consumes before left (line ++ 10 ∷ []) → Unended line
+    → length line ≤ max_journal_line → seen ≡ line → count ≡ length line + 1 → IfOk r (λ site. opened seen ≡ Some (box_of site.site_box))
+    → IfOk r (λ site. Leads entered found before left 2 (box_of site.site_box) count)
+first_ok before left line seen count (Ok site) taken h short same e o =
+    subst (λ n. Leads entered found before left 2 (box_of site.site_box) n) (sym e)
+    (first_leads any before left (box_of site.site_box) line taken h short (ap first_found (sym (ap opened same) ∙ o)))
+first_ok before left line seen count (Err f) taken h short same e o = tt
+
+opens-not : (before now : Option (List ℕ)) (line over : List ℕ) (f : JournalFault) → Consumes before now ((line ++ 10 ∷ []) ++ over) → Unended line → length line ≤ max_journal_line
+    → length over < most_at_once → (f ≡ fault.OutOfMemory) ⊎ ((f ≡ fault.BadLine 1) × (opened line ≡ None)) → ReadsUpTo before now f
+opens-not before now line over f taken h short once (inl e) =
+    subst (ReadsUpTo before now) (sym e)
+    (record {
+      before = [];
+      line = line;
+      over = 10 ∷ over;
+      taken = subst (Consumes before now) (append_assoc line (10 ∷ []) over) taken;
+      sound = inl refl;
+      unended = h;
+      short = short;
+      once = omega (arith, once);
+    })
+opens-not before now line over f taken h short once (inr e) =
+    subst (ReadsUpTo before now) (sym e.0) (inl (first_stops any before now line over (Bad 1) taken h short once (ap first_found e.1) (λ onward. refl)))
+
+pub first_err : {A : Type 0} → (before now : Option (List ℕ)) (line seen over : List ℕ) (r : Result (Audited A) JournalFault) → Consumes before now ((line ++ 10 ∷ []) ++ over) → Unended line
+    → length line ≤ max_journal_line → length over < most_at_once → seen ≡ line → IfErr r (λ f. (f ≡ fault.OutOfMemory) ⊎ ((f ≡ fault.BadLine 1) × (opened seen ≡ None)))
+    → IfErr r (ReadsUpTo before now)
+first_err before now line seen over (Ok site) taken h short once same e = tt
+first_err before now line seen over (Err f) taken h short once same e =
+    opens-not before now line over f taken h short once (subst (λ l. (f ≡ fault.OutOfMemory) ⊎ ((f ≡ fault.BadLine 1) × (opened l ≡ None))) same e)
+
+-- the reader fails, or memory is missing
+pub breaks_first : (before now : Option (List ℕ)) (why : JournalFault) → BreaksOff before now why → ReadsUpTo before now why
+breaks_first before now fault.OutOfMemory b = first_breaks any before now fault.OutOfMemory b
+breaks_first before now fault.ReadFault b = first_breaks any before now fault.ReadFault b
+breaks_first before now (fault.BadLine number) b = absurd b.other
+
+-- ---- the entries behind it
+
+pub log_led : {A : Type 0} → (all before left now : Option (List ℕ)) (box : Box) (count : ℕ) (r : Result (SiteLog A) JournalFault) → before ≡ all → Leads entered found before left 2 box count
+    → IfOk r (λ log. LeadsToLog (λ rest. found_behind entered 2 box rest) left now log) → IfOk r (λ log. LeadsToLog found all now log)
+log_led all before left now box count (Ok log) same l w =
+    (w.0, count + w.1, subst (λ a. ReadsWhole found a now w.0 (count + w.1)) same (joined_whole entered found before left now box w.0 count w.1 l w.2), w.3)
+log_led all before left now box count (Err f) same l w = tt
+
+pub fault_led : {A : Type 0} → (all before left now : Option (List ℕ)) (box : Box) (count : ℕ) (r : Result (SiteLog A) JournalFault) → before ≡ all → Leads entered found before left 2 box count
+    → IfErr r (ReadsToLine (λ rest. found_behind entered 2 box rest) left now) → IfErr r (ReadsUpTo all now)
+fault_led all before left now box count (Ok log) same l h = tt
+fault_led all before left now box count (Err f) same l h =
+    subst (λ a. ReadsUpTo a now f) same (as_any before now f (joined_fault entered found before left now box count f l h))
+
+-- ---- the clauses of a whole journal
+
+pub log_end : {A : Type 0} → (old new : Option (List ℕ)) (r : Result (SiteLog A) JournalFault) → IfOk r (λ log. LeadsToLog found old new log) → OnOk r (IsAtEnd new)
+log_end old new (Ok log) w = let all : ReadsWhole found old new w.0 w.1 = w.2 in all.end
+log_end old new (Err f) w = tt
+
+pub log_all : {A : Type 0} → (old new : Option (List ℕ)) (r : Result (SiteLog A) JournalFault) → IfOk r (λ log. LeadsToLog found old new log) → OnOk r (ReadsAll old new)
+log_all old new (Ok log) w = let all : ReadsWhole found old new w.0 w.1 = w.2 in (all.bytes, all.taken, all.end)
+log_all old new (Err f) w = tt
+
+pub log_found : {A : Type 0} → (old new : Option (List ℕ)) (r : Result (SiteLog A) JournalFault) → IfOk r (λ log. LeadsToLog found old new log) → IfErr r (ReadsUpTo old new)
+    → IfSome old (λ file. TellsLog (found file) r)
+log_found old new (Ok log) w h = log_known old new w.0 w.1 log w.2 w.3
+log_found old new (Err f) w h = fault_known old new f h

@@ -3,16 +3,18 @@ use Rattle.std.proofs.Common.{◌≡◌, ◌≤◌, ◌<◌, inl, inr, ℕ, ◌+
 use Rattle.std.specs.Prelude.{Result, IfErr, IfOk, OnOk, is_some, unwrap_or}
 use Rattle.std.specs.Str.{bytes_eq}
 use Rattle.std.specs.Io.KnownBytes.{Consumes, IsAtEnd}
+use Rattle.std.proofs.KnownBytes.{Consumes-nil}
 use Rattle.std.proofs.lemmas.Bool.Decides.{nat_tests}
+use Rattle.std.proofs.lemmas.List.Elements.{All-nil}
 use Rattle.shm_process.specs.Node.{Node}
 use Rattle.shm_process.specs.NodeOf.{node_of}
-use Rattle.shm_journal.proofs.Leading.{first_alone, first_breaks, first_lacks, first_leads, first_stops}
+use Rattle.shm_journal.proofs.Leading.{first_alone, first_breaks, first_lacks, first_leads, first_stops, joined_fault, joined_whole}
 use Rattle.shm_journal.proofs.Fronts.{IsFile, any_file, of_all, whole_of}
-use Rattle.shm_journal.specs.Found.{Found, Sound, Foreign, Bad, bytes_of_lines, found, is_empty, lines_of, max_journal_line, not_own, opened, own, replayed_line}
+use Rattle.shm_journal.specs.Found.{Found, Sound, Foreign, Bad, bytes_of_lines, found, found_behind, is_empty, lines_of, max_journal_line, not_own, opened, own, replayed_line}
 use Rattle.shm_journal.specs.Leading.{Leads}
 use Rattle.shm_journal.specs.LinesOf.{Unended}
 use Rattle.shm_journal.specs.Lines.{Header, header_line, read_header}
-use Rattle.shm_journal.specs.ReadUpTo.{LacksLine, ReadsToLine, ReadsWhole, StopsAt}
+use Rattle.shm_journal.specs.ReadUpTo.{BreaksAt, LacksLine, ReadsToLine, ReadsWhole, StopsAt}
 use Rattle.shm_journal.specs.Recovers.{ReadsAll, ReadsUpTo, Recovers, as_recovery, front_checked, header_checked, other_header}
 use Rattle.shm_journal.specs.Replaying.{IsNext}
 use Rattle.shm_journal.specs.Taking.{BreaksOff, most_at_once}
@@ -24,11 +26,16 @@ use Rattle.shm_journal.specs.declared.recovery_fault.RecoveryFault.TheVariants a
 
 -- ---- a step
 
-pub is_next : {T : Type 0} → (made : Bool) (after : Option T) (old now : T) → made ≡ is_some after → now ≡ unwrap_or after old → IsNext made after now
+is_next : {T : Type 0} → (made : Bool) (after : Option T) (old now : T) → made ≡ is_some after → now ≡ unwrap_or after old → IsNext made after now
 is_next true None old now m n = absurd (cc)
 is_next true (Some x) old now m n = ap Some (sym n)
 is_next false None old now m n = refl
 is_next false (Some x) old now m n = absurd (cc)
+
+pub made_next : {T E : Type 0} → (r : Result Bool E) (after : Option T) (old now : T) → IfOk r (λ made. made ≡ is_some after) → OnOk r (now ≡ unwrap_or after old)
+    → IfOk r (λ made. IsNext made after now)
+made_next (Ok made) after old now m n = is_next made after old now m n
+made_next (Err e) after old now m n = tt
 
 -- ---- a whole journal
 
@@ -171,3 +178,73 @@ pub breaks_first : (header : Header) (before now : Option (List ℕ)) (why : Jou
 breaks_first header before now journal.OutOfMemory b = first_breaks (own header) before now journal.OutOfMemory b
 breaks_first header before now journal.ReadFault b = first_breaks (own header) before now journal.ReadFault b
 breaks_first header before now (journal.BadLine number) b = absurd b.other
+
+-- ---- the header, and the entries behind it
+
+-- so far, the entries lead on from the node; and so does the whole
+pub read_on : {A : Type 0} → (header : Header) (all before left now : Option (List ℕ)) (node : Node) (count : ℕ) (r : Result (Recovered A) RecoveryFault) → before ≡ all → node ≡ opened header
+    → Leads replayed_line (found header) before left 2 (opened header) count
+    → IfOk r (λ r. (more : ℕ) × (r.whole ≡ count + more) × ReadsWhole (λ rest. found_behind replayed_line 2 node rest) left now (node_of r.node) more)
+    → IfOk r (λ r. ReadsWhole (found header) all now (node_of r.node) r.whole)
+read_on header all before left now node count (Ok x) same begins l w =
+    subst (λ n. ReadsWhole (found header) all now (node_of x.node) n) (sym w.1)
+    (subst (λ a. ReadsWhole (found header) a now (node_of x.node) (count + w.0)) same
+    (joined_whole replayed_line (found header) before left now (opened header) (node_of x.node) count w.0 l
+    (subst (λ n. ReadsWhole (λ rest. found_behind replayed_line 2 n rest) left now (node_of x.node) w.0) begins w.2)))
+read_on header all before left now node count (Err f) same begins l w = tt
+
+some-bytes : (n count more : ℕ) → 0 < count → n ≡ count + more → false ≡ (n == 0)
+some-bytes n count more some e = grind (arith, nat_tests)
+
+-- there is a header
+pub not_new : {A : Type 0} → (left now : Option (List ℕ)) (node : Node) (count : ℕ) (r : Result (Recovered A) RecoveryFault) → 0 < count → IfOk r (λ r. r.is_new ≡ false)
+    → IfOk r (λ r. (more : ℕ) × (r.whole ≡ count + more) × ReadsWhole (λ rest. found_behind replayed_line 2 node rest) left now (node_of r.node) more)
+    → IfOk r (λ r. r.is_new ≡ (r.whole == 0))
+not_new left now node count (Ok x) some old w = old ∙ some-bytes x.whole count w.0 some w.1
+not_new left now node count (Err f) some old w = tt
+
+pub left_on : {A : Type 0} → (header : Header) (all before left now : Option (List ℕ)) (node : Node) (count : ℕ) (r : Result (Recovered A) RecoveryFault) → before ≡ all → node ≡ opened header
+    → Leads replayed_line (found header) before left 2 (opened header) count
+    → IfErr r (λ f. (why : JournalFault) × (f ≡ as_recovery why) × ReadsToLine (λ rest. found_behind replayed_line 2 node rest) left now why)
+    → IfErr r (ReadsUpTo header all now)
+left_on header all before left now node count (Ok x) same begins l h = tt
+left_on header all before left now node count (Err f) same begins l h =
+    subst (ReadsUpTo header all now) (sym h.1)
+    (subst (λ a. ReadsUpTo header a now (as_recovery h.0)) same
+    (as_start header before now h.0
+    (joined_fault replayed_line (found header) before left now (opened header) count h.0 l
+    (subst (λ n. ReadsToLine (λ rest. found_behind replayed_line 2 n rest) left now h.0) begins h.2))))
+
+-- ---- the clauses of a start
+
+pub whole_end : {A : Type 0} → (header : Header) (old new : Option (List ℕ)) (r : Result (Recovered A) RecoveryFault)
+    → IfOk r (λ r. ReadsWhole (found header) old new (node_of r.node) r.whole) → OnOk r (IsAtEnd new)
+whole_end header old new (Ok x) w = w.end
+whole_end header old new (Err f) w = tt
+
+pub whole_all : {A : Type 0} → (header : Header) (old new : Option (List ℕ)) (r : Result (Recovered A) RecoveryFault)
+    → IfOk r (λ r. ReadsWhole (found header) old new (node_of r.node) r.whole) → OnOk r (ReadsAll old new)
+whole_all header old new (Ok x) w = reads_all (found header) old new (node_of x.node) x.whole w
+whole_all header old new (Err f) w = tt
+
+pub whole_found : (A : Type 0) (header : Header) (old new : Option (List ℕ)) (r : Result (Recovered A) RecoveryFault)
+    → IfOk r (λ r. ReadsWhole (found header) old new (node_of r.node) r.whole) → IfOk r (λ r. r.is_new ≡ (r.whole == 0)) → IfErr r (ReadsUpTo header old new)
+    → Recovers header old r
+whole_found A header old new (Ok x) w empty left = recovers header old new x w empty
+whole_found A header old new (Err f) w empty left = fails A header old new f left
+
+abbrev pub of_numbers : ℕ → ℕ → ℕ → Header
+of_numbers sites me pages = record { sites = sites; me = me; pages = pages }
+
+-- memory is missing before anything is read
+pub nothing_read : (header : Header) (old : Option (List ℕ)) → BreaksAt (found header) old old
+nothing_read header old = record {
+  before = [];
+  line = [];
+  over = [];
+  taken = Consumes-nil old;
+  sound = inl refl;
+  unended = All-nil (λ byte. (byte == 10) ≡ false);
+  short = omega arith;
+  once = omega arith;
+}
