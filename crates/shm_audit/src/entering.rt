@@ -38,7 +38,10 @@ impl<A: Allocator + Copy> Replay<A> for Audited<A> {
 }
 
 /// The box takes the step that the entry records, if it can be its next.
-fn enter<A: Allocator + Copy>(site_box: &mut SiteBox<A>, entry: Entry<A>) -> Result<bool, AllocError>
+fn enter<A: Allocator + Copy>(
+    site_box: &mut SiteBox<A>,
+    entry: Entry<A>,
+) -> Result<bool, AllocError>
     ensures { IfOk result (λ made. IsNext made (box_after (box_of site_box.old) (entry_of entry)) (box_of site_box.new)) }
 {
     let Entry { clock, cause } = entry;

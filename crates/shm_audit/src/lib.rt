@@ -12,7 +12,7 @@ mod opening;
 mod reading;
 
 pub use counts::Counts;
-pub use shm_journal::JournalFault;
 pub use journals_fault::JournalsFault;
 pub use judging::audit_journals;
 pub use reading::read_log;
+pub use shm_journal::JournalFault;

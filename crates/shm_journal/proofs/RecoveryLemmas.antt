@@ -52,8 +52,8 @@ none-counted (line ∷ lines) = some (length line) (bytes_of_lines lines)
 pub recovers : {A : Type 0} → (header : Header) (old new : Option (List ℕ)) (r : Recovered A) → ReadsWhole (found header) old new (node_of r.node) r.whole → r.is_new ≡ (r.whole == 0)
     → Recovers header old (Ok r)
 recovers header old new r w empty =
-    (w.bytes, of_all old new w.bytes (λ known. w.bytes ≡ known) w.taken w.end refl, w.sound, w.counted,
-    empty ∙ ap (λ n. n == 0) w.counted ∙ none-counted (lines_of w.bytes).whole)
+    (w.bytes, of_all old new w.bytes (λ known. w.bytes ≡ known) w.taken w.end refl,
+    (w.sound, w.counted, empty ∙ ap (λ n. n == 0) w.counted ∙ none-counted (lines_of w.bytes).whole))
 
 -- ---- a fault
 

@@ -13,7 +13,7 @@ returns-in-Ok-clause-end g c =
     let lines = c.read_first.new.lines in
     let box = box_of c.in-Ok.site.site_box in
     log_end old new c.read_entries.result
-    (log_led old (left_of c.new.result old) (left_of lines (remaining c.read_first.new.reader)) new box lines.whole c.read_entries.result (c.new.ensures.left old) c.in-Ok.ensures.ok
+    (log_led old (left_of c.new-lines.result old) (left_of lines (remaining c.read_first.new.reader)) new box lines.whole c.read_entries.result (c.new-lines.ensures.left old) c.in-Ok.ensures.ok
     c.read_entries.ensures.ok)
 
 pub returns-in-Ok-clause-all : goal.returns-in-Ok-clause-all
@@ -24,7 +24,7 @@ returns-in-Ok-clause-all g c =
     let lines = c.read_first.new.lines in
     let box = box_of c.in-Ok.site.site_box in
     log_all old new c.read_entries.result
-    (log_led old (left_of c.new.result old) (left_of lines (remaining c.read_first.new.reader)) new box lines.whole c.read_entries.result (c.new.ensures.left old) c.in-Ok.ensures.ok
+    (log_led old (left_of c.new-lines.result old) (left_of lines (remaining c.read_first.new.reader)) new box lines.whole c.read_entries.result (c.new-lines.ensures.left old) c.in-Ok.ensures.ok
     c.read_entries.ensures.ok)
 
 pub returns-in-Ok-clause-left : goal.returns-in-Ok-clause-left
@@ -34,7 +34,7 @@ returns-in-Ok-clause-left g c =
     let new = remaining c.read_entries.new.reader in
     let lines = c.read_first.new.lines in
     let box = box_of c.in-Ok.site.site_box in
-    fault_led old (left_of c.new.result old) (left_of lines (remaining c.read_first.new.reader)) new box lines.whole c.read_entries.result (c.new.ensures.left old) c.in-Ok.ensures.ok
+    fault_led old (left_of c.new-lines.result old) (left_of lines (remaining c.read_first.new.reader)) new box lines.whole c.read_entries.result (c.new-lines.ensures.left old) c.in-Ok.ensures.ok
     c.read_entries.ensures.left
 
 pub returns-in-Ok-clause-found : goal.returns-in-Ok-clause-found
@@ -46,18 +46,18 @@ returns-in-Ok-clause-found g c =
     let left = left_of lines (remaining c.read_first.new.reader) in
     let box = box_of c.in-Ok.site.site_box in
     log_found old new c.read_entries.result
-    (log_led old (left_of c.new.result old) left new box lines.whole c.read_entries.result (c.new.ensures.left old) c.in-Ok.ensures.ok c.read_entries.ensures.ok)
-    (fault_led old (left_of c.new.result old) left new box lines.whole c.read_entries.result (c.new.ensures.left old) c.in-Ok.ensures.ok c.read_entries.ensures.left)
+    (log_led old (left_of c.new-lines.result old) left new box lines.whole c.read_entries.result (c.new-lines.ensures.left old) c.in-Ok.ensures.ok c.read_entries.ensures.ok)
+    (fault_led old (left_of c.new-lines.result old) left new box lines.whole c.read_entries.result (c.new-lines.ensures.left old) c.in-Ok.ensures.ok c.read_entries.ensures.left)
 
 pub returns-in-Err-clause-left : goal.returns-in-Err-clause-left
 returns-in-Err-clause-left g c =
     let remaining = g.R.Read.remaining in
     let old = remaining c.args.reader.now in
-    subst (λ a. ReadsUpTo a (remaining c.read_first.new.reader) c.in-Err.fault) (c.new.ensures.left old) c.in-Err.ensures.left
+    subst (λ a. ReadsUpTo a (remaining c.read_first.new.reader) c.in-Err.fault) (c.new-lines.ensures.left old) c.in-Err.ensures.left
 
 pub returns-in-Err-clause-found : goal.returns-in-Err-clause-found
 returns-in-Err-clause-found g c =
     let remaining = g.R.Read.remaining in
     let old = remaining c.args.reader.now in
     let new = remaining c.read_first.new.reader in
-    fault_known old new c.in-Err.fault (subst (λ a. ReadsUpTo a new c.in-Err.fault) (c.new.ensures.left old) c.in-Err.ensures.left)
+    fault_known old new c.in-Err.fault (subst (λ a. ReadsUpTo a new c.in-Err.fault) (c.new-lines.ensures.left old) c.in-Err.ensures.left)

@@ -26,7 +26,7 @@ returns-in-Ok-Whole-clause-whole g c =
     let before = left_of c.args.lines.now (remaining c.args.reader.now) in
     let now = remaining c.take.new.reader in
     let o = c.in-Ok-Whole in
-    let written : c.as_bytes.result.now ≡ header_line header = c.as_bytes.ensures.value ∙ c.in-Ok.ensures in
+    let written : c.as_bytes.result.now ≡ header_line header = c.as_bytes.ensures.value ∙ c.in-Ok.ensures.ok in
     let counted = count_whole o.field-0 lines.whole c.args.lines.now.whole line o.field-0-is o.ensures.whole in
     let count : lines.whole ≡ length line + 1 = omega (arith, counted, c.requires) in
     checked_leads header before (left_of lines now) line c.check_header.result lines.whole
@@ -42,7 +42,7 @@ returns-in-Ok-Whole-clause-left g c =
     let before = left_of c.args.lines.now (remaining c.args.reader.now) in
     let now = remaining c.take.new.reader in
     let o = c.in-Ok-Whole in
-    let written : c.as_bytes.result.now ≡ header_line header = c.as_bytes.ensures.value ∙ c.in-Ok.ensures in
+    let written : c.as_bytes.result.now ≡ header_line header = c.as_bytes.ensures.value ∙ c.in-Ok.ensures.ok in
     checked_stops header before now line (behind lines) c.check_header.result
     (checked header c.as_bytes.result.now line c.line.result.now c.check_header.result written c.line.ensures c.check_header.ensures)
     (through before now (line ++ 10 ∷ []) (behind lines) (taken_whole o.field-0 before (left_of lines now) now line o.field-0-is o.ensures.takes))
@@ -58,9 +58,9 @@ returns-in-Ok-Torn-clause-none g c =
     let now = remaining c.take.new.reader in
     let o = c.in-Ok-Torn in
     let torn = taken_torn o.field-0 before (left_of lines now) now line o.field-0-is o.ensures.takes in
-    let written : c.as_bytes-2.result.now ≡ header_line header = c.as_bytes-2.ensures.value ∙ c.in-Ok.ensures in
+    let written : c.as_bytes-in-Ok-Torn.result.now ≡ header_line header = c.as_bytes-in-Ok-Torn.ensures.value ∙ c.in-Ok.ensures.ok in
     fronted_none header before now c.check_front.result
-    (front_known header before now line c.line-2.result.now c.as_bytes-2.result.now c.check_front.result written c.line-2.ensures c.check_front.ensures
+    (front_known header before now line c.line-in-Ok-Torn.result.now c.as_bytes-in-Ok-Torn.result.now c.check_front.result written c.line-in-Ok-Torn.ensures c.check_front.ensures
     (through_end before now line (behind lines) torn.0 torn.2) o.ensures.unended o.ensures.short torn.1)
 
 pub returns-in-Ok-Torn-clause-left : goal.returns-in-Ok-Torn-clause-left
@@ -73,8 +73,8 @@ returns-in-Ok-Torn-clause-left g c =
     let now = remaining c.take.new.reader in
     let o = c.in-Ok-Torn in
     let torn = taken_torn o.field-0 before (left_of lines now) now line o.field-0-is o.ensures.takes in
-    let written : c.as_bytes-2.result.now ≡ header_line header = c.as_bytes-2.ensures.value ∙ c.in-Ok.ensures in
-    (front_known header before now line c.line-2.result.now c.as_bytes-2.result.now c.check_front.result written c.line-2.ensures c.check_front.ensures
+    let written : c.as_bytes-in-Ok-Torn.result.now ≡ header_line header = c.as_bytes-in-Ok-Torn.ensures.value ∙ c.in-Ok.ensures.ok in
+    (front_known header before now line c.line-in-Ok-Torn.result.now c.as_bytes-in-Ok-Torn.result.now c.check_front.result written c.line-in-Ok-Torn.ensures c.check_front.ensures
     (through_end before now line (behind lines) torn.0 torn.2) o.ensures.unended o.ensures.short torn.1).left
 
 pub returns-in-Ok-TooLong-clause-left : goal.returns-in-Ok-TooLong-clause-left

@@ -13,8 +13,8 @@ returns-in-Ok-true-clause-whole g c =
     let remaining = g.R.Read.remaining in
     let old = remaining c.args.reader.now in
     let lines = c.read_header.new.lines in
-    read_on (header_of c.args.header) old (left_of c.new.result old) (left_of lines (remaining c.read_header.new.reader)) (remaining c.read_entries.new.reader)
-    (node_of c.args.node) lines.whole c.read_entries.result (c.new.ensures.left old) c.requires (c.in-Ok-true.ensures.whole c.in-Ok-true.field-0-test) c.read_entries.ensures.whole
+    read_on (header_of c.args.header) old (left_of c.new-lines.result old) (left_of lines (remaining c.read_header.new.reader)) (remaining c.read_entries.new.reader)
+    (node_of c.args.node) lines.whole c.read_entries.result (c.new-lines.ensures.left old) c.requires (c.in-Ok-true.ensures.whole c.in-Ok-true.field-0-test) c.read_entries.ensures.whole
 
 pub returns-in-Ok-true-clause-new : goal.returns-in-Ok-true-clause-new
 returns-in-Ok-true-clause-new g c =
@@ -28,8 +28,8 @@ returns-in-Ok-true-clause-left g c =
     let remaining = g.R.Read.remaining in
     let old = remaining c.args.reader.now in
     let lines = c.read_header.new.lines in
-    left_on (header_of c.args.header) old (left_of c.new.result old) (left_of lines (remaining c.read_header.new.reader)) (remaining c.read_entries.new.reader)
-    (node_of c.args.node) lines.whole c.read_entries.result (c.new.ensures.left old) c.requires (c.in-Ok-true.ensures.whole c.in-Ok-true.field-0-test) c.read_entries.ensures.left
+    left_on (header_of c.args.header) old (left_of c.new-lines.result old) (left_of lines (remaining c.read_header.new.reader)) (remaining c.read_entries.new.reader)
+    (node_of c.args.node) lines.whole c.read_entries.result (c.new-lines.ensures.left old) c.requires (c.in-Ok-true.ensures.whole c.in-Ok-true.field-0-test) c.read_entries.ensures.left
 
 pub returns-in-Ok-false-clause-whole : goal.returns-in-Ok-false-clause-whole
 returns-in-Ok-false-clause-whole g c =
@@ -38,10 +38,10 @@ returns-in-Ok-false-clause-whole g c =
     let old = remaining c.args.reader.now in
     let now = remaining c.read_header.new.reader in
     subst (λ node. ReadsWhole (found header) old now node 0) (sym c.requires)
-    (subst (λ a. ReadsWhole (found header) a now (opened header) 0) (c.new.ensures.left old) (c.in-Ok-false.ensures.none c.in-Ok-false.field-0-test))
+    (subst (λ a. ReadsWhole (found header) a now (opened header) 0) (c.new-lines.ensures.left old) (c.in-Ok-false.ensures.none c.in-Ok-false.field-0-test))
 
 pub returns-in-Err-clause-left : goal.returns-in-Err-clause-left
 returns-in-Err-clause-left g c =
     let remaining = g.R.Read.remaining in
     let old = remaining c.args.reader.now in
-    subst (λ a. ReadsUpTo (header_of c.args.header) a (remaining c.read_header.new.reader) c.in-Err.fault) (c.new.ensures.left old) c.in-Err.ensures.left
+    subst (λ a. ReadsUpTo (header_of c.args.header) a (remaining c.read_header.new.reader) c.in-Err.fault) (c.new-lines.ensures.left old) c.in-Err.ensures.left
