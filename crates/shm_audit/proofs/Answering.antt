@@ -1,69 +1,114 @@
 -- What is answered of a journal.
-use Rattle.std.proofs.Common.{◌≡◌, ◌≤◌, ℕ, List, ◌∷◌, ◌++◌, [], Some, None, Ok, Err, Result, ◌⊎◌, inl, inr, length, refl, sym, subst}
-use Rattle.std.specs.Prelude.{⊤, Option, IfErr, IfOk, IfSome}
-use Rattle.std.specs.Io.KnownBytes.{Consumes}
-use Rattle.shm_journal.specs.Found.{max_journal_line}
+use Rattle.std.proofs.Common.{◌≡◌, ◌≤◌, ◌<◌, ◌⊎◌, inl, inr, ℕ, ◌+◌, List, [], ◌∷◌, ◌++◌, Option, None, Some, Ok, Err, length, refl, sym, ap, subst, ◌∙◌, append_assoc, arith}
+use Rattle.std.specs.Prelude.{⊤, Result, IfErr, IfOk, IfSome, OnOk}
+use Rattle.std.specs.Io.KnownBytes.{Consumes, IsAtEnd}
+use Rattle.shm_journal.specs.Found.{Found, Sound, Bad, found_behind, max_journal_line}
+use Rattle.shm_journal.specs.Leading.{Leads}
+use Rattle.shm_journal.specs.LinesOf.{Unended}
+use Rattle.shm_journal.specs.ReadUpTo.{ReadsToLine, ReadsWhole}
+use Rattle.shm_journal.specs.Recovers.{ReadsAll}
+use Rattle.shm_journal.specs.Taking.{BreaksOff, most_at_once}
+use Rattle.shm_journal.specs.declared.journal_fault.JournalFault.{JournalFault}
+use Rattle.shm_journal.specs.declared.journal_fault.JournalFault.TheVariants as fault
+use Rattle.shm_journal.proofs.Fronts.{of_all, of_front}
+use Rattle.shm_journal.proofs.Leading.{first_breaks, first_leads, first_stops, joined_fault, joined_whole}
 use Rattle.shm_logs.specs.Boxes.Box.{Box}
 use Rattle.shm_logs.specs.Boxes.SiteBox.{box_of}
 use Rattle.shm_logs.specs.declared.boxes.site_box.SiteBox.{SiteBox}
 use Rattle.shm_logs.specs.declared.boxes.site_log.SiteLog.{SiteLog}
-use Rattle.shm_audit.specs.Found.{Found, Led, IsFault, IsLed, TellsLog, entered, found, found_behind, opened}
-use Rattle.shm_audit.specs.Leading.{Leads}
-use Rattle.shm_audit.specs.LinesOf.{Unended}
-use Rattle.shm_audit.specs.declared.journal_fault.JournalFault.{JournalFault}
-use Rattle.shm_audit.specs.declared.journal_fault.JournalFault.TheVariants as fault
-use Rattle.shm_audit.proofs.Leading.{bad_first_line, bad_line, first_line, joined}
+use Rattle.shm_audit.specs.Found.{HasLog, IsFault, IsLed, LeadsToLog, ReadsUpTo, TellsLog, any, entered, first_found, found, opened}
+use Rattle.shm_audit.specs.declared.entering.Audited.{Audited}
 
 -- memory and the reader say nothing
 nothing_known : (a : Option (List ℕ)) → IfSome a (λ _. ⊤)
 nothing_known None = tt
 nothing_known (Some xs) = tt
 
+pub fault_known : (old new : Option (List ℕ)) (f : JournalFault) → ReadsUpTo old new f → IfSome old (λ file. IsFault (found file) f)
+fault_known old new fault.OutOfMemory h = nothing_known old
+fault_known old new fault.ReadFault h = nothing_known old
+fault_known old new (fault.BadLine number) (inl s) =
+    of_front old new (s.before ++ (s.line ++ s.over)) (λ file. found file ≡ Bad number) s.taken
+    (λ more. ap found (append_assoc s.before (s.line ++ s.over) more ∙ ap (λ l. s.before ++ l) (append_assoc s.line s.over more)) ∙ s.bad (s.over ++ more))
+fault_known old new (fault.BadLine number) (inr l) = of_all old new l.bytes (λ file. found file ≡ Bad number) l.taken l.end l.bad
+
+pub as_any : (old new : Option (List ℕ)) (why : JournalFault) → ReadsToLine found old new why → ReadsUpTo old new why
+as_any old new fault.OutOfMemory h = h
+as_any old new fault.ReadFault h = h
+as_any old new (fault.BadLine number) h = inl h
+
+pub has_log : {A : Type 0} → (box : SiteBox A) (log : SiteLog A) → log ≡ box.log → HasLog (box_of box) log
+has_log box log same = subst (HasLog (box_of box)) (sym same) (record { sites = refl; me = refl; pages = refl; steps = refl })
+
+pub log_known : {A : Type 0} → (old new : Option (List ℕ)) (box : Box) (whole : ℕ) (log : SiteLog A) → ReadsWhole found old new box whole → HasLog box log
+    → IfSome old (λ file. IsLed (found file) log)
+log_known old new box whole log w h = of_all old new w.bytes (λ file. IsLed (found file) log) w.taken w.end (subst (λ f. IsLed f log) (sym w.sound) h)
+
 -- ---- the first line
 
-pub first_ok : {A : Type 0} → (before left : Option (List ℕ)) (line now : List ℕ) (r : Result (SiteBox A) JournalFault) → Consumes before left (line ++ 10 ∷ []) → Unended line
-    → length line ≤ max_journal_line → now ≡ line → IfOk r (λ new. opened now ≡ Some (box_of new)) → IfOk r (λ new. Leads found before left 2 (box_of new))
-first_ok before left line now (Ok new) taken h short same e = first_line before left (box_of new) line taken h short (subst (λ l. opened l ≡ Some (box_of new)) same e)
-first_ok before left line now (Err f) taken h short same e = tt
+pub first_ok : {A : Type 0} → (before left : Option (List ℕ)) (line seen : List ℕ) (count : ℕ) (r : Result (Audited A) JournalFault) → Consumes before left (line ++ 10 ∷ []) → Unended line
+    → length line ≤ max_journal_line → seen ≡ line → count ≡ length line + 1 → IfOk r (λ site. opened seen ≡ Some (box_of site.site_box))
+    → IfOk r (λ site. Leads entered found before left 2 (box_of site.site_box) count)
+first_ok before left line seen count (Ok site) taken h short same e o =
+    subst (λ n. Leads entered found before left 2 (box_of site.site_box) n) (sym e)
+    (first_leads any before left (box_of site.site_box) line taken h short (ap first_found (sym (ap opened same) ∙ o)))
+first_ok before left line seen count (Err f) taken h short same e o = tt
 
-first_fault : (before left : Option (List ℕ)) (line : List ℕ) (f : JournalFault) → Consumes before left (line ++ 10 ∷ []) → Unended line
-    → length line ≤ max_journal_line → (f ≡ fault.OutOfMemory) ⊎ ((f ≡ fault.BadLine 1) × (opened line ≡ None)) → IfSome before (λ file. IsFault (found file) f)
-first_fault before left line f taken h short (inl e) = subst (λ f. IfSome before (λ file. IsFault (found file) f)) (sym e) (nothing_known before)
-first_fault before left line f taken h short (inr e) =
-    subst (λ f. IfSome before (λ file. IsFault (found file) f)) (sym e.0) (bad_first_line before left line taken h short e.1)
+opens-not : (before now : Option (List ℕ)) (line over : List ℕ) (f : JournalFault) → Consumes before now ((line ++ 10 ∷ []) ++ over) → Unended line → length line ≤ max_journal_line
+    → length over < most_at_once → (f ≡ fault.OutOfMemory) ⊎ ((f ≡ fault.BadLine 1) × (opened line ≡ None)) → ReadsUpTo before now f
+opens-not before now line over f taken h short once (inl e) =
+    subst (ReadsUpTo before now) (sym e)
+    (record {
+      before = [];
+      line = line;
+      over = 10 ∷ over;
+      taken = subst (Consumes before now) (append_assoc line (10 ∷ []) over) taken;
+      sound = inl refl;
+      unended = h;
+      short = short;
+      once = omega (arith, once);
+    })
+opens-not before now line over f taken h short once (inr e) =
+    subst (ReadsUpTo before now) (sym e.0) (inl (first_stops any before now line over (Bad 1) taken h short once (ap first_found e.1) (λ onward. refl)))
 
-pub first_err : {A : Type 0} → (before left : Option (List ℕ)) (line now : List ℕ) (r : Result (SiteBox A) JournalFault) → Consumes before left (line ++ 10 ∷ []) → Unended line
-    → length line ≤ max_journal_line → now ≡ line → IfErr r (λ f. (f ≡ fault.OutOfMemory) ⊎ ((f ≡ fault.BadLine 1) × (opened now ≡ None)))
-    → IfErr r (λ f. IfSome before (λ file. IsFault (found file) f))
-first_err before left line now (Ok new) taken h short same e = tt
-first_err before left line now (Err f) taken h short same e =
-    first_fault before left line f taken h short (subst (λ l. (f ≡ fault.OutOfMemory) ⊎ ((f ≡ fault.BadLine 1) × (opened l ≡ None))) same e)
+pub first_err : {A : Type 0} → (before now : Option (List ℕ)) (line seen over : List ℕ) (r : Result (Audited A) JournalFault) → Consumes before now ((line ++ 10 ∷ []) ++ over) → Unended line
+    → length line ≤ max_journal_line → length over < most_at_once → seen ≡ line → IfErr r (λ f. (f ≡ fault.OutOfMemory) ⊎ ((f ≡ fault.BadLine 1) × (opened seen ≡ None)))
+    → IfErr r (ReadsUpTo before now)
+first_err before now line seen over (Ok site) taken h short once same e = tt
+first_err before now line seen over (Err f) taken h short once same e =
+    opens-not before now line over f taken h short once (subst (λ l. (f ≡ fault.OutOfMemory) ⊎ ((f ≡ fault.BadLine 1) × (opened l ≡ None))) same e)
 
--- ---- the entries
+-- the reader fails, or memory is missing
+pub breaks_first : (before now : Option (List ℕ)) (why : JournalFault) → BreaksOff before now why → ReadsUpTo before now why
+breaks_first before now fault.OutOfMemory b = first_breaks any before now fault.OutOfMemory b
+breaks_first before now fault.ReadFault b = first_breaks any before now fault.ReadFault b
+breaks_first before now (fault.BadLine number) b = absurd b.other
 
-by_fault : (says : List ℕ → Found) (before left now : Option (List ℕ)) (number : ℕ) (box : Box) (line : List ℕ) (f : JournalFault) → Leads says before left number box
-    → Consumes left now (line ++ 10 ∷ []) → Unended line → length line ≤ max_journal_line → (f ≡ fault.OutOfMemory) ⊎ ((f ≡ fault.BadLine number) × (entered box line ≡ None))
-    → IfSome before (λ file. IsFault (says file) f)
-by_fault says before left now number box line f l taken h short (inl e) = subst (λ f. IfSome before (λ file. IsFault (says file) f)) (sym e) (nothing_known before)
-by_fault says before left now number box line f l taken h short (inr e) =
-    subst (λ f. IfSome before (λ file. IsFault (says file) f)) (sym e.0) (bad_line says before left now number box line l taken h short e.1)
+-- ---- the entries behind it
 
-pub entry_fault : (says : List ℕ → Found) (before left now : Option (List ℕ)) (number : ℕ) (box : Box) (line seen : List ℕ) (f : JournalFault) → Leads says before left number box
-    → Consumes left now (line ++ 10 ∷ []) → Unended line → length line ≤ max_journal_line → seen ≡ line → (f ≡ fault.OutOfMemory) ⊎ ((f ≡ fault.BadLine number) × (entered box seen ≡ None))
-    → IfSome before (λ file. IsFault (says file) f)
-entry_fault says before left now number box line seen f l taken h short same e =
-    by_fault says before left now number box line f l taken h short
-    (subst (λ s. (f ≡ fault.OutOfMemory) ⊎ ((f ≡ fault.BadLine number) × (entered box s ≡ None))) same e)
+pub log_led : {A : Type 0} → (all before left now : Option (List ℕ)) (box : Box) (count : ℕ) (r : Result (SiteLog A) JournalFault) → before ≡ all → Leads entered found before left 2 box count
+    → IfOk r (λ log. LeadsToLog (λ rest. found_behind entered 2 box rest) left now log) → IfOk r (λ log. LeadsToLog found all now log)
+log_led all before left now box count (Ok log) same l w =
+    (w.0, count + w.1, subst (λ a. ReadsWhole found a now w.0 (count + w.1)) same (joined_whole entered found before left now box w.0 count w.1 l w.2), w.3)
+log_led all before left now box count (Err f) same l w = tt
 
--- ---- the log
+pub fault_led : {A : Type 0} → (all before left now : Option (List ℕ)) (box : Box) (count : ℕ) (r : Result (SiteLog A) JournalFault) → before ≡ all → Leads entered found before left 2 box count
+    → IfErr r (ReadsToLine (λ rest. found_behind entered 2 box rest) left now) → IfErr r (ReadsUpTo all now)
+fault_led all before left now box count (Ok log) same l h = tt
+fault_led all before left now box count (Err f) same l h =
+    subst (λ a. ReadsUpTo a now f) same (as_any before now f (joined_fault entered found before left now box count f l h))
 
-pub has_log : {A : Type 0} → (a : Option (List ℕ)) (says : List ℕ → Found) (box : SiteBox A) (log : SiteLog A) → IfSome a (λ rest. says rest ≡ Led (box_of box)) → log ≡ box.log
-    → IfSome a (λ rest. IsLed (says rest) log)
-has_log None says box log h same = tt
-has_log (Some xs) says box log h same =
-    subst (λ l. IsLed (says xs) l) (sym same) (subst (λ f. IsLed f box.log) (sym h) (record { sites = refl; me = refl; pages = refl; steps = refl }))
+-- ---- the clauses of a whole journal
 
-pub whole_journal : {A : Type 0} → (all before left : Option (List ℕ)) (box : Box) (r : Result (SiteLog A) JournalFault) → before ≡ all → Leads found before left 2 box
-    → IfSome left (λ rest. TellsLog (found_behind 2 box rest) r) → IfSome all (λ file. TellsLog (found file) r)
-whole_journal all before left box r same l h =
-    subst (λ a. IfSome a (λ file. TellsLog (found file) r)) same (joined found before left 2 box (λ f. TellsLog f r) l h)
+pub log_end : {A : Type 0} → (old new : Option (List ℕ)) (r : Result (SiteLog A) JournalFault) → IfOk r (λ log. LeadsToLog found old new log) → OnOk r (IsAtEnd new)
+log_end old new (Ok log) w = let all : ReadsWhole found old new w.0 w.1 = w.2 in all.end
+log_end old new (Err f) w = tt
+
+pub log_all : {A : Type 0} → (old new : Option (List ℕ)) (r : Result (SiteLog A) JournalFault) → IfOk r (λ log. LeadsToLog found old new log) → OnOk r (ReadsAll old new)
+log_all old new (Ok log) w = let all : ReadsWhole found old new w.0 w.1 = w.2 in (all.bytes, all.taken, all.end)
+log_all old new (Err f) w = tt
+
+pub log_found : {A : Type 0} → (old new : Option (List ℕ)) (r : Result (SiteLog A) JournalFault) → IfOk r (λ log. LeadsToLog found old new log) → IfErr r (ReadsUpTo old new)
+    → IfSome old (λ file. TellsLog (found file) r)
+log_found old new (Ok log) w h = log_known old new w.0 w.1 log w.2 w.3
+log_found old new (Err f) w h = fault_known old new f h

@@ -1,7 +1,3 @@
-pub mod Bytes
-pub mod Leading
-pub mod Overlong
-pub mod ReadBytes
 pub mod Answering
 pub mod Counted
 pub mod Tellings

@@ -1,26 +1,17 @@
 -- What the file of a journal says: the box that its entries lead to, one after another. Only whole lines count: what stands behind the last
 -- line feed is torn, and says nothing, unless it is too long for a line.
-use Rattle.std.specs.Prelude.{◌≡◌, ⊤, ℕ, ◌+◌, ◌&&◌, Bool, List, [], ◌∷◌, Option, Some, None, Result, Ok, Err, if◌then◌else◌, nat_lt, option_and_then}
+use Rattle.std.specs.Prelude.{◌≡◌, ⊤, ◌⊎◌, ◌+◌, ◌&&◌, ℕ, Bool, List, Option, Some, None, Result, Ok, Err, if◌then◌else◌, nat_lt, option_and_then}
 use Rattle.shm_place.specs.Limits.{max_sites}
 use Rattle.shm_place.specs.Limits as limit
-use Rattle.shm_journal.specs.Found.{is_long, lines_of}
+use Rattle.shm_journal.specs.Found.{Found, Sound, Foreign, Bad, Kind, found_of}
 use Rattle.shm_journal.specs.Lines.{Header, read_entry, read_header}
+use Rattle.shm_journal.specs.ReadUpTo.{BreaksAt, LacksLine, ReadsWhole, StopsAt}
+use Rattle.shm_journal.specs.declared.journal_fault.JournalFault.{JournalFault}
+use Rattle.shm_journal.specs.declared.journal_fault.JournalFault.TheVariants as fault
 use Rattle.shm_logs.specs.Boxes.Box.{Box, new_box}
 use Rattle.shm_logs.specs.Boxes.SiteLog.{steps_of}
 use Rattle.shm_logs.specs.declared.boxes.site_log.SiteLog.{SiteLog}
 use Rattle.shm_audit.specs.Entered.{box_after}
-use Rattle.shm_audit.specs.declared.journal_fault.JournalFault.{JournalFault}
-use Rattle.shm_audit.specs.declared.journal_fault.JournalFault.TheVariants as fault
-
--- the box that the lines lead to; or the number of the first line, from 1, that is none of a journal's, or too long, or records no step that
--- can be the site's next
-pub data Found : Type 0 where
-  Led : Box → Found
-  Bad : ℕ → Found
-
--- a line that is too long is none, whatever it says; and so is what is torn
-abbrev pub unless_long : ℕ → List ℕ → Found → Found
-unless_long number line says = if is_long line then Bad number else says
 
 -- ---- the first line
 
@@ -36,30 +27,22 @@ box_if header = if in_limits header then Some (new_box header.sites header.me he
 abbrev pub opened : List ℕ → Option Box
 opened line = option_and_then box_if (read_header line)
 
+abbrev pub first_found : Option Box → Found Box
+first_found None = Bad 1
+first_found (Some box) = Sound box
+
 -- ---- the entries
 
+-- the box after the step that a line records, if that can be its next
 abbrev pub entered : Box → List ℕ → Option Box
 entered box line = option_and_then (box_after box) (read_entry line)
 
-abbrev pub next_found : ℕ → Option Box → (Box → Found) → Found
-next_found number None onward = Bad number
-next_found number (Some box) onward = onward box
+-- any site's journal
+abbrev pub any : Kind Box
+any = record { first = λ line. first_found (opened line); alone = λ torn. Bad 1; next = entered }
 
--- the lines from this number on lead there; what is torn may be the front of one
-unfoldable pub found_from : ℕ → Box → List (List ℕ) → List ℕ → Found
-found_from number box [] torn = unless_long number torn (Led box)
-found_from number box (line ∷ lines) torn = unless_long number line (next_found number (entered box line) (λ next. found_from (number + 1) next lines torn))
-
--- what these bytes say, which begin with the line of this number
-abbrev pub found_behind : ℕ → Box → List ℕ → Found
-found_behind number box rest = let lines = lines_of rest in found_from number box lines.whole lines.torn
-
-abbrev pub found_in : List (List ℕ) → List ℕ → Found
-found_in [] torn = Bad 1
-found_in (line ∷ lines) torn = unless_long 1 line (next_found 1 (opened line) (λ box. found_from 2 box lines torn))
-
-abbrev pub found : List ℕ → Found
-found file = let lines = lines_of file in found_in lines.whole lines.torn
+abbrev pub found : List ℕ → Found Box
+found file = found_of any file
 
 -- ---- what is answered of it
 
@@ -70,15 +53,27 @@ pub record HasLog {A : Type 0} (box : Box) (log : SiteLog A) : Type 0 where
   pub pages : box.pages ≡ log.pages
   pub steps : box.log ≡ steps_of log
 
-abbrev pub IsLed : {A : Type 0} → Found → SiteLog A → Type 0
-IsLed (Led box) log = HasLog box log
+abbrev pub IsLed : {A : Type 0} → Found Box → SiteLog A → Type 0
+IsLed (Sound box) log = HasLog box log
+IsLed Foreign log = ⊥
 IsLed (Bad number) log = ⊥
 
 -- a fault of memory or of the reader says nothing
-abbrev pub IsFault : Found → JournalFault → Type 0
+abbrev pub IsFault : Found Box → JournalFault → Type 0
 IsFault found (fault.BadLine number) = found ≡ Bad number
 IsFault found _ = ⊤
 
-abbrev pub TellsLog : {A : Type 0} → Found → Result (SiteLog A) JournalFault → Type 0
+abbrev pub TellsLog : {A : Type 0} → Found Box → Result (SiteLog A) JournalFault → Type 0
 TellsLog found (Ok log) = IsLed found log
 TellsLog found (Err fault) = IsFault found fault
+
+-- What was read where a fault is answered. Where memory is missing or the reader fails: lines that lead to a box, and what may be the front of
+-- one. Else the line that is bad is the last that was taken, or the first is missing.
+abbrev pub ReadsUpTo : Option (List ℕ) → Option (List ℕ) → JournalFault → Type 0
+ReadsUpTo old new fault.OutOfMemory = BreaksAt found old new
+ReadsUpTo old new fault.ReadFault = BreaksAt found old new
+ReadsUpTo old new (fault.BadLine number) = StopsAt found old new (Bad number) ⊎ LacksLine found old new (Bad number)
+
+-- all that there was leads to a box that has this log
+abbrev pub LeadsToLog : {A : Type 0} → (List ℕ → Found Box) → Option (List ℕ) → Option (List ℕ) → SiteLog A → Type 0
+LeadsToLog says old new log = (box : Box) × (whole : ℕ) × ReadsWhole says old new box whole × HasLog box log

@@ -1,11 +1,7 @@
 pub mod Faults
-pub mod LinesOf
-pub mod Taking
 pub mod Entered
 pub mod HandedOf
 pub mod Found
-pub mod Leading
-pub mod ReadUpTo
 pub mod Counts
 pub mod OneSet
 pub mod Told

@@ -5,17 +5,14 @@ mod counting;
 mod counts;
 mod entering;
 mod handed;
-mod journal_fault;
 mod journals_fault;
 mod judging;
 pub mod laws;
-mod lines;
 mod opening;
 mod reading;
-mod taken;
 
 pub use counts::Counts;
-pub use journal_fault::JournalFault;
 pub use journals_fault::JournalsFault;
 pub use judging::audit_journals;
 pub use reading::read_log;
+pub use shm_journal::JournalFault;

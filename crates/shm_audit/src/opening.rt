@@ -2,20 +2,20 @@
 ghost use Rattle.std.specs.Prelude.{◌≡◌, ◌⊎◌, None, Some, IfErr, IfOk, option_map};
 ghost use Rattle.shm_logs.specs.Boxes.SiteBox.{box_of};
 ghost use Rattle.shm_audit.specs.Found.{opened};
-ghost use Rattle.shm_audit.specs.declared.journal_fault.JournalFault.TheVariants as fault;
+ghost use Rattle.shm_journal.specs.declared.journal_fault.JournalFault.TheVariants as fault;
 
-use crate::journal_fault::JournalFault;
-use shm_journal::parse_header;
+use crate::entering::Audited;
+use shm_journal::{JournalFault, parse_header};
 use shm_logs::SiteBox;
 use shm_place::{PAGES, SiteId, Sites};
 use std::alloc::{AllocError, Allocator};
 
-/// The box of the site that the first line names, in which nothing has happened.
-pub(crate) fn open_box<A: Allocator + Copy>(
+/// The site that the first line names, at which nothing has happened.
+pub(crate) fn open_site<A: Allocator + Copy>(
     alloc: A,
     line: &[u8],
-) -> Result<SiteBox<A>, JournalFault>
-    ensures ok { IfOk result (λ new. opened line.now ≡ Some (box_of new)) }
+) -> Result<Audited<A>, JournalFault>
+    ensures ok { IfOk result (λ site. opened line.now ≡ Some (box_of site.site_box)) }
     ensures err { IfErr result (λ f. (f ≡ fault.OutOfMemory) ⊎ ((f ≡ fault.BadLine 1) × (opened line.now ≡ None))) }
 {
     let Some(header) = parse_header(line) else {
@@ -28,7 +28,7 @@ pub(crate) fn open_box<A: Allocator + Copy>(
         return Err(JournalFault::BadLine(1));
     }
     match SiteBox::new(alloc, sites, SiteId(header.me), header.pages) {
-        Ok(new) => Ok(new),
+        Ok(site_box) => Ok(Audited { site_box }),
         Err(_) => Err(JournalFault::OutOfMemory),
     }
 }

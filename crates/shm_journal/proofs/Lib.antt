@@ -1,8 +1,8 @@
 pub mod HeaderWords
 pub mod EntryWords
-pub mod ReadingLemmas
+pub mod Gathering
+pub mod Leading
 pub mod Fronts
-pub mod SoundLemmas
 pub mod RecoveryLemmas
 pub mod ActLemmas
 pub mod ServingLemmas

@@ -1,166 +1,250 @@
--- A reading of which some bytes were read, and what follows.
-use Rattle.std.proofs.Common.{◌≡◌, ◌≤◌, inl, inr, ℕ, List, [], ◌++◌, Option, None, Some, Ok, Err, length, refl, sym, ap, subst, ◌∙◌, arith}
-use Rattle.std.specs.Prelude.{Result, IfErr, OnOk}
-use Rattle.std.proofs.lemmas.List.{append_assoc}
-use Rattle.std.proofs.KnownBytes.{Consumes-kept, Consumes-nil, Consumes-trans}
-use Rattle.std.specs.Io.KnownBytes.{Consumes, IsAtEnd, Keeps}
+-- What is answered of a site's own journal.
+use Rattle.std.proofs.Common.{◌≡◌, ◌≤◌, ◌<◌, inl, inr, ℕ, ◌+◌, ◌==◌, Bool, true, false, List, [], ◌∷◌, ◌++◌, Option, None, Some, Ok, Err, cond, length, take, refl, sym, ap, ap₂, subst, ◌∙◌, append_assoc, arith}
+use Rattle.std.specs.Prelude.{Result, IfErr, IfOk, OnOk, is_some, unwrap_or}
+use Rattle.std.specs.Str.{bytes_eq}
+use Rattle.std.specs.Io.KnownBytes.{Consumes, IsAtEnd}
+use Rattle.std.proofs.KnownBytes.{Consumes-nil}
+use Rattle.std.proofs.lemmas.Bool.Decides.{nat_tests}
+use Rattle.std.proofs.lemmas.List.Elements.{All-nil}
 use Rattle.shm_process.specs.Node.{Node}
+use Rattle.shm_process.specs.NodeOf.{node_of}
+use Rattle.shm_journal.proofs.Leading.{first_alone, first_breaks, first_lacks, first_leads, first_stops, joined_fault, joined_whole}
 use Rattle.shm_journal.proofs.Fronts.{IsFile, any_file, of_all, whole_of}
-use Rattle.shm_journal.specs.Found.{lines_behind, opened}
-use Rattle.shm_journal.specs.Lines.{Header}
-use Rattle.shm_journal.specs.Reading.{BreaksOff, Ends, Faults, FaultsIn, IsKnownFrom, LeadsOn, Reading, begun, leads_to}
-use Rattle.shm_journal.specs.Recovers.{IsFaultOf, IsKnown, ReadsAll, ReadsUpTo, Recovers, Says}
-use Rattle.shm_journal.proofs.SoundLemmas.{findings, leads-findings, sound_so_far}
+use Rattle.shm_journal.specs.Found.{Found, Sound, Foreign, Bad, bytes_of_lines, found, found_behind, is_empty, lines_of, max_journal_line, not_own, opened, own, replayed_line}
+use Rattle.shm_journal.specs.Leading.{Leads}
+use Rattle.shm_journal.specs.LinesOf.{Unended}
+use Rattle.shm_journal.specs.Lines.{Header, header_line, read_header}
+use Rattle.shm_journal.specs.ReadUpTo.{BreaksAt, LacksLine, ReadsToLine, ReadsWhole, StopsAt}
+use Rattle.shm_journal.specs.Recovers.{ReadsAll, ReadsUpTo, Recovers, as_recovery, front_checked, header_checked, other_header}
+use Rattle.shm_journal.specs.Replaying.{IsNext}
+use Rattle.shm_journal.specs.Taking.{BreaksOff, most_at_once}
+use Rattle.shm_journal.specs.declared.journal_fault.JournalFault.{JournalFault}
+use Rattle.shm_journal.specs.declared.journal_fault.JournalFault.TheVariants as journal
 use Rattle.shm_journal.specs.declared.recovered.Recovered.{Recovered}
 use Rattle.shm_journal.specs.declared.recovery_fault.RecoveryFault.{RecoveryFault}
 use Rattle.shm_journal.specs.declared.recovery_fault.RecoveryFault.TheVariants as fault
 
--- these bytes were read, and what follows leads on
-pub record Read (r0 r : Option (List ℕ)) (first now : Reading) : Type 0 where
-  pub bytes : List ℕ
-  pub read : Consumes r0 r bytes
-  pub stands : LeadsOn first now bytes
+-- ---- a step
 
-pub none_read : (r : Option (List ℕ)) (first : Reading) → Read r r first first
-unfolding LeadsOn
-none_read r first = record { bytes = []; read = Consumes-nil r; stands = λ rest. refl }
+is_next : {T : Type 0} → (made : Bool) (after : Option T) (old now : T) → made ≡ is_some after → now ≡ unwrap_or after old → IsNext made after now
+is_next true None old now m n = absurd (cc)
+is_next true (Some x) old now m n = ap Some (sym n)
+is_next false None old now m n = refl
+is_next false (Some x) old now m n = absurd (cc)
 
-pub more_read : (r0 r r1 : Option (List ℕ)) (first now next : Reading) (more : List ℕ) → Read r0 r first now → Consumes r r1 more → LeadsOn now next more
-    → Read r0 r1 first next
-unfolding LeadsOn
-more_read r0 r r1 first now next more s c step = record {
-  bytes = s.bytes ++ more;
-  read = Consumes-trans r0 r r1 s.bytes more s.read c;
-  stands = λ rest. step rest ∙ s.stands (more ++ rest) ∙ sym (ap (leads_to first) (append_assoc s.bytes more rest));
+pub made_next : {T E : Type 0} → (r : Result Bool E) (after : Option T) (old now : T) → IfOk r (λ made. made ≡ is_some after) → OnOk r (now ≡ unwrap_or after old)
+    → IfOk r (λ made. IsNext made after now)
+made_next (Ok made) after old now m n = is_next made after old now m n
+made_next (Err e) after old now m n = tt
+
+-- ---- a whole journal
+
+pub reads_all : {T : Type 0} → (says : List ℕ → Found T) (old new : Option (List ℕ)) (state : T) (whole : ℕ) → ReadsWhole says old new state whole → ReadsAll old new
+reads_all says old new state whole r = (r.bytes, r.taken, r.end)
+
+none-counted : (lines : List (List ℕ)) → (bytes_of_lines lines == 0) ≡ is_empty lines
+none-counted [] = refl
+none-counted (line ∷ lines) = some (length line) (bytes_of_lines lines)
+  where
+    some : (a b : ℕ) → (a + 1 + b == 0) ≡ false
+    some a b = grind (arith, nat_tests)
+
+pub recovers : {A : Type 0} → (header : Header) (old new : Option (List ℕ)) (r : Recovered A) → ReadsWhole (found header) old new (node_of r.node) r.whole → r.is_new ≡ (r.whole == 0)
+    → Recovers header old (Ok r)
+recovers header old new r w empty =
+    (w.bytes, of_all old new w.bytes (λ known. w.bytes ≡ known) w.taken w.end refl,
+    (w.sound, w.counted, empty ∙ ap (λ n. n == 0) w.counted ∙ none-counted (lines_of w.bytes).whole))
+
+-- ---- a fault
+
+-- a file that begins with these bytes says so
+stopped : (header : Header) (old new : Option (List ℕ)) (what : Found Node) → StopsAt (found header) old new what → (file : List ℕ) × IsFile old file × (found header file ≡ what)
+stopped header old new what s =
+    let w = whole_of old new (s.before ++ (s.line ++ s.over)) s.taken in
+    ((s.before ++ (s.line ++ s.over)) ++ w.0, w.1,
+    ap (found header) (append_assoc s.before (s.line ++ s.over) w.0 ∙ ap (λ l. s.before ++ l) (append_assoc s.line s.over w.0)) ∙ s.bad (s.over ++ w.0))
+
+lacking : (header : Header) (old new : Option (List ℕ)) (what : Found Node) → LacksLine (found header) old new what → (file : List ℕ) × IsFile old file × (found header file ≡ what)
+lacking header old new what l = (l.bytes, of_all old new l.bytes (λ known. l.bytes ≡ known) l.taken l.end refl, l.bad)
+
+pub fails : (A : Type 0) (header : Header) (old new : Option (List ℕ)) (f : RecoveryFault) → ReadsUpTo header old new f → Recovers {A = A} header old (Err f)
+fails A header old new fault.OutOfMemory h = let any = any_file old in (any.0, any.1, tt)
+fails A header old new fault.ReadFault h = let any = any_file old in (any.0, any.1, tt)
+fails A header old new fault.Foreign s = stopped header old new Foreign s
+fails A header old new (fault.BadLine number) (inl s) = stopped header old new (Bad number) s
+fails A header old new (fault.BadLine number) (inr l) = lacking header old new (Bad number) l
+
+pub as_start : (header : Header) (old new : Option (List ℕ)) (why : JournalFault) → ReadsToLine (found header) old new why → ReadsUpTo header old new (as_recovery why)
+as_start header old new journal.OutOfMemory h = h
+as_start header old new journal.ReadFault h = h
+as_start header old new (journal.BadLine number) h = inl h
+
+-- ---- the first line
+
+abbrev pub HeaderFault : RecoveryFault → Found Node → Type 0
+HeaderFault fault.Foreign says = says ≡ Foreign
+HeaderFault (fault.BadLine number) says = says ≡ Bad number
+HeaderFault fault.OutOfMemory says = ⊥
+HeaderFault fault.ReadFault says = ⊥
+
+-- what is answered of a whole first line
+pub record Checked (header : Header) (line : List ℕ) (r : Result Bool RecoveryFault) : Type 0 where
+  pub is_own : IfOk r (λ whole. (own header).first line ≡ Sound (opened header))
+  pub whole : IfOk r (λ whole. whole ≡ true)
+  pub other : IfErr r (λ f. HeaderFault f ((own header).first line))
+
+checked-so : (header : Header) (line : List ℕ) (same : Bool) (read : Option Header) → bytes_eq line (header_line header) ≡ same → read_header line ≡ read
+    → Checked header line (cond same (Ok true) (other_header read))
+checked-so header line true read e h = record { is_own = ap (λ b. cond b (Sound (opened header)) (not_own (read_header line))) e; whole = refl; other = tt }
+checked-so header line false None e h =
+    record { is_own = tt; whole = tt; other = ap (λ b. cond b (Sound (opened header)) (not_own (read_header line))) e ∙ ap not_own h }
+checked-so header line false (Some x) e h =
+    record { is_own = tt; whole = tt; other = ap (λ b. cond b (Sound (opened header)) (not_own (read_header line))) e ∙ ap not_own h }
+
+pub checked : (header : Header) (own line seen : List ℕ) (r : Result Bool RecoveryFault) → own ≡ header_line header → seen ≡ line → r ≡ header_checked own seen → Checked header line r
+checked header own line seen r is same e =
+    subst (Checked header line) (sym (e ∙ ap₂ header_checked is same)) (checked-so header line (bytes_eq line (header_line header)) (read_header line) refl refl)
+
+-- a header that isn't the own one
+pub header_stops : (header : Header) (before now : Option (List ℕ)) (line over : List ℕ) (f : RecoveryFault) → Consumes before now ((line ++ 10 ∷ []) ++ over) → Unended line
+    → length line ≤ max_journal_line → length over < most_at_once → HeaderFault f ((own header).first line) → ReadsUpTo header before now f
+header_stops header before now line over fault.OutOfMemory taken h short once e = absurd e
+header_stops header before now line over fault.ReadFault taken h short once e = absurd e
+header_stops header before now line over fault.Foreign taken h short once e = first_stops (own header) before now line over Foreign taken h short once e (λ onward. refl)
+header_stops header before now line over (fault.BadLine number) taken h short once e =
+    inl (first_stops (own header) before now line over (Bad number) taken h short once e (λ onward. refl))
+
+-- there is no whole line
+pub record Fronted (header : Header) (before now : Option (List ℕ)) (r : Result Bool RecoveryFault) : Type 0 where
+  pub none : IfOk r (λ whole. ReadsWhole (found header) before now (opened header) 0)
+  pub new : IfOk r (λ whole. whole ≡ false)
+  pub left : IfErr r (ReadsUpTo header before now)
+
+fronted : (header : Header) (before now : Option (List ℕ)) (torn : List ℕ) (same : Bool) → bytes_eq torn (take (length torn) (header_line header)) ≡ same
+    → Consumes before now torn → Unended torn → length torn ≤ max_journal_line → IsAtEnd now → Fronted header before now (cond same (Ok false) (Err (fault.BadLine 1)))
+fronted header before now torn true e taken h short end = record {
+  none = first_alone (own header) before now torn (opened header) taken h short end (ap (λ b. cond b (Sound (opened header)) (Bad 1)) e);
+  new = refl;
+  left = tt;
+}
+fronted header before now torn false e taken h short end = record {
+  none = tt;
+  new = tt;
+  left = inr (first_lacks (own header) before now torn (Bad 1) taken h short end (ap (λ b. cond b (Sound (opened header)) (Bad 1)) e));
 }
 
--- what is said of the whole
-abbrev pub Ended : {A : Type 0} → Option (List ℕ) → Reading → Result (Recovered A) RecoveryFault → Type 0
-Ended r0 first result = (file : List ℕ) × IsFile r0 file × Ends (leads_to first file) result
+pub front_known : (header : Header) (before now : Option (List ℕ)) (torn seen mine : List ℕ) (r : Result Bool RecoveryFault) → mine ≡ header_line header → seen ≡ torn
+    → r ≡ front_checked mine seen → Consumes before now torn → Unended torn → length torn ≤ max_journal_line → IsAtEnd now → Fronted header before now r
+front_known header before now torn seen mine r is same e taken h short end =
+    subst (Fronted header before now) (sym (e ∙ ap₂ front_checked is same))
+    (fronted header before now torn (bytes_eq torn (take (length torn) (header_line header))) refl taken h short end)
 
-pub all_read : {A : Type 0} (r0 r r1 : Option (List ℕ)) (first now : Reading) (result : Result (Recovered A) RecoveryFault) → Read r0 r first now → Consumes r r1 []
-    → IsAtEnd r1 → Ends (leads_to now []) result → Ended r0 first result
-unfolding LeadsOn
-all_read r0 r r1 first now result s c end e =
-    let file = s.bytes ++ [] in (
-      file,
-      of_all r0 r1 file (λ known. file ≡ known) (Consumes-trans r0 r r1 s.bytes [] s.read c) end refl,
-      subst (λ f. Ends f result) (s.stands []) e,
-    )
+-- ---- the clauses of the first line
 
-pub faulty : (A : Type 0) (r0 r r1 : Option (List ℕ)) (first now : Reading) (more : List ℕ) (f : RecoveryFault) → Read r0 r first now → Consumes r r1 more
-    → FaultsIn f now more → Ended {A = A} r0 first (Err f)
-unfolding LeadsOn FaultsIn
-faulty A r0 r r1 first now more f s c h =
-    let w = whole_of r0 r1 (s.bytes ++ more) (Consumes-trans r0 r r1 s.bytes more s.read c) in (
-      (s.bytes ++ more) ++ w.0,
-      w.1,
-      subst (λ x. Faults f x.found) (s.stands (more ++ w.0) ∙ sym (ap (leads_to first) (append_assoc s.bytes more w.0))) (h w.0),
-    )
+true-false : {P : Type 0} → (b : Bool) → b ≡ true → b ≡ false → P
+true-false b p q = absurd (cc)
 
-pub unread : (A : Type 0) (r0 : Option (List ℕ)) (first : Reading) → Ended {A = A} r0 first (Err fault.ReadFault)
-unread A r0 first = let any = any_file r0 in (any.0, any.1, tt)
+pub checked_leads : (header : Header) (before left : Option (List ℕ)) (line : List ℕ) (r : Result Bool RecoveryFault) (count : ℕ) → Checked header line r → Consumes before left (line ++ 10 ∷ [])
+    → Unended line → length line ≤ max_journal_line → count ≡ length line + 1
+    → IfOk r (λ whole. whole ≡ true → Leads replayed_line (found header) before left 2 (opened header) count)
+checked_leads header before left line (Ok b) count k taken h short e = λ _.
+    subst (λ n. Leads replayed_line (found header) before left 2 (opened header) n) (sym e) (first_leads (own header) before left (opened header) line taken h short k.is_own)
+checked_leads header before left line (Err f) count k taken h short e = tt
 
--- ---- what was read
+pub checked_some : (r : Result Bool RecoveryFault) (line : List ℕ) (count : ℕ) → count ≡ length line + 1 → IfOk r (λ whole. whole ≡ true → 0 < count)
+checked_some (Ok b) line count e = λ _. omega (arith, e)
+checked_some (Err f) line count e = tt
 
--- the fault came of these last bytes
-pub broken_off : (r0 r r1 : Option (List ℕ)) (first now : Reading) (more : List ℕ) (f : RecoveryFault) → Read r0 r first now → Consumes r r1 more
-    → length now.line ≤ 8218 → length more ≤ 8192 → FaultsIn f now more → BreaksOff first r0 r1 f
-unfolding LeadsOn FaultsIn
-broken_off r0 r r1 first now more f s c short once h = record {
-  before = s.bytes;
-  last = more;
-  now = now;
-  taken = Consumes-trans r0 r r1 s.bytes more s.read c;
-  onward = s.stands;
-  short = short;
-  once = once;
-  known = inl (λ rest. subst (λ x. Faults f x.found) (s.stands (more ++ rest) ∙ sym (ap (leads_to first) (append_assoc s.bytes more rest))) (h rest));
-}
+pub checked_none : (header : Header) (line : List ℕ) (r : Result Bool RecoveryFault) (P : Type 0) → Checked header line r → IfOk r (λ whole. whole ≡ false → P)
+checked_none header line (Ok b) P k = λ e. true-false b k.whole e
+checked_none header line (Err f) P k = tt
 
--- nothing more was read
-pub read_fails : (r0 r r1 : Option (List ℕ)) (first now : Reading) → Read r0 r first now → Keeps r r1 → length now.line ≤ 8218
-    → BreaksOff first r0 r1 fault.ReadFault
-unfolding FaultsIn
-read_fails r0 r r1 first now s kept short =
-    broken_off r0 r r1 first now [] fault.ReadFault s (Consumes-kept r r r1 [] (Consumes-nil r) kept) short (omega arith) (λ rest. tt)
+pub checked_stops : (header : Header) (before now : Option (List ℕ)) (line over : List ℕ) (r : Result Bool RecoveryFault) → Checked header line r
+    → Consumes before now ((line ++ 10 ∷ []) ++ over) → Unended line → length line ≤ max_journal_line → length over < most_at_once → IfErr r (ReadsUpTo header before now)
+checked_stops header before now line over (Ok b) k taken h short once = tt
+checked_stops header before now line over (Err f) k taken h short once = header_stops header before now line over f taken h short once k.other
 
-pub kept : (r : Option (List ℕ)) → Keeps r r
-kept None = tt
-kept (Some xs) = refl
+pub fronted_whole : (header : Header) (before now : Option (List ℕ)) (r : Result Bool RecoveryFault) (P : Type 0) → Fronted header before now r → IfOk r (λ whole. whole ≡ true → P)
+fronted_whole header before now (Ok b) P k = λ e. true-false b e k.new
+fronted_whole header before now (Err f) P k = tt
 
--- all was read
-pub ends_broken : {A : Type 0} (r0 r r1 : Option (List ℕ)) (first now : Reading) (result : Result (Recovered A) RecoveryFault) → Read r0 r first now → Consumes r r1 []
-    → IsAtEnd r1 → length now.line ≤ 8218 → Ends (leads_to now []) result → IfErr result (BreaksOff first r0 r1)
-unfolding LeadsOn
-ends_broken r0 r r1 first now (Ok x) s c end short e = tt
-ends_broken r0 r r1 first now (Err f) s c end short e = record {
-  before = s.bytes;
-  last = [];
-  now = now;
-  taken = Consumes-trans r0 r r1 s.bytes [] s.read c;
-  onward = s.stands;
-  short = short;
-  once = omega arith;
-  known = inr (end, subst (λ x. Faults f x.found) (s.stands []) e);
-}
+pub fronted_none : (header : Header) (before now : Option (List ℕ)) (r : Result Bool RecoveryFault) → Fronted header before now r
+    → IfOk r (λ whole. whole ≡ false → ReadsWhole (found header) before now (opened header) 0)
+fronted_none header before now (Ok b) k = λ _. k.none
+fronted_none header before now (Err f) k = tt
 
-pub reads_all : {A : Type 0} (r0 r r1 : Option (List ℕ)) (first now : Reading) (result : Result (Recovered A) RecoveryFault) → Read r0 r first now → Consumes r r1 []
-    → IsAtEnd r1 → OnOk result (ReadsAll r0 r1)
-reads_all r0 r r1 first now (Ok x) s c end = (s.bytes ++ [], Consumes-trans r0 r r1 s.bytes [] s.read c, end)
-reads_all r0 r r1 first now (Err f) s c end = tt
+-- the reader fails, or memory is missing
+pub breaks_first : (header : Header) (before now : Option (List ℕ)) (why : JournalFault) → BreaksOff before now why → ReadsUpTo header before now (as_recovery why)
+breaks_first header before now journal.OutOfMemory b = first_breaks (own header) before now journal.OutOfMemory b
+breaks_first header before now journal.ReadFault b = first_breaks (own header) before now journal.ReadFault b
+breaks_first header before now (journal.BadLine number) b = absurd b.other
 
--- ---- from the beginning
+-- ---- the header, and the entries behind it
 
-says : {A : Type 0} (header : Header) (bytes : List ℕ) (result : Result (Recovered A) RecoveryFault) → Ends (findings header (opened header) bytes) result → Says header bytes result
-says header bytes (Ok r) e = (ap (λ f. f.found) e, sym (ap (λ f. f.whole) e), sym (ap (λ f. f.is_new) e))
-says header bytes (Err fault.OutOfMemory) e = tt
-says header bytes (Err fault.ReadFault) e = tt
-says header bytes (Err fault.Foreign) e = e
-says header bytes (Err (fault.BadLine n)) e = e
+-- so far, the entries lead on from the node; and so does the whole
+pub read_on : {A : Type 0} → (header : Header) (all before left now : Option (List ℕ)) (node : Node) (count : ℕ) (r : Result (Recovered A) RecoveryFault) → before ≡ all → node ≡ opened header
+    → Leads replayed_line (found header) before left 2 (opened header) count
+    → IfOk r (λ r. (more : ℕ) × (r.whole ≡ count + more) × ReadsWhole (λ rest. found_behind replayed_line 2 node rest) left now (node_of r.node) more)
+    → IfOk r (λ r. ReadsWhole (found header) all now (node_of r.node) r.whole)
+read_on header all before left now node count (Ok x) same begins l w =
+    subst (λ n. ReadsWhole (found header) all now (node_of x.node) n) (sym w.1)
+    (subst (λ a. ReadsWhole (found header) a now (node_of x.node) (count + w.0)) same
+    (joined_whole replayed_line (found header) before left now (opened header) (node_of x.node) count w.0 l
+    (subst (λ n. ReadsWhole (λ rest. found_behind replayed_line 2 n rest) left now (node_of x.node) w.0) begins w.2)))
+read_on header all before left now node count (Err f) same begins l w = tt
 
-pub recovers : {A : Type 0} (header : Header) (node : Node) (r0 : Option (List ℕ)) (result : Result (Recovered A) RecoveryFault) → node ≡ opened header
-    → Ended r0 (begun header node) result → Recovers header r0 result
-recovers header node r0 result new e =
-    (e.0, e.1, says header e.0 result (subst (λ f. Ends f result) (leads-findings header node e.0 ∙ ap (λ n. findings header n e.0) new) e.2))
+some-bytes : (n count more : ℕ) → 0 < count → n ≡ count + more → false ≡ (n == 0)
+some-bytes n count more some e = grind (arith, nat_tests)
 
--- ---- what is known of a journal from its beginning
+-- there is a header
+pub not_new : {A : Type 0} → (left now : Option (List ℕ)) (node : Node) (count : ℕ) (r : Result (Recovered A) RecoveryFault) → 0 < count → IfOk r (λ r. r.is_new ≡ false)
+    → IfOk r (λ r. (more : ℕ) × (r.whole ≡ count + more) × ReadsWhole (λ rest. found_behind replayed_line 2 node rest) left now (node_of r.node) more)
+    → IfOk r (λ r. r.is_new ≡ (r.whole == 0))
+not_new left now node count (Ok x) some old w = old ∙ some-bytes x.whole count w.0 some w.1
+not_new left now node count (Err f) some old w = tt
 
-is_fault : (header : Header) (bytes : List ℕ) (f : RecoveryFault) → Faults f (findings header (opened header) bytes).found → IsFaultOf header bytes f
-is_fault header bytes fault.OutOfMemory h = tt
-is_fault header bytes fault.ReadFault h = tt
-is_fault header bytes fault.Foreign h = h
-is_fault header bytes (fault.BadLine n) h = h
+pub left_on : {A : Type 0} → (header : Header) (all before left now : Option (List ℕ)) (node : Node) (count : ℕ) (r : Result (Recovered A) RecoveryFault) → before ≡ all → node ≡ opened header
+    → Leads replayed_line (found header) before left 2 (opened header) count
+    → IfErr r (λ f. (why : JournalFault) × (f ≡ as_recovery why) × ReadsToLine (λ rest. found_behind replayed_line 2 node rest) left now why)
+    → IfErr r (ReadsUpTo header all now)
+left_on header all before left now node count (Ok x) same begins l h = tt
+left_on header all before left now node count (Err f) same begins l h =
+    subst (ReadsUpTo header all now) (sym h.1)
+    (subst (λ a. ReadsUpTo header a now (as_recovery h.0)) same
+    (as_start header before now h.0
+    (joined_fault replayed_line (found header) before left now (opened header) count h.0 l
+    (subst (λ n. ReadsToLine (λ rest. found_behind replayed_line 2 n rest) left now h.0) begins h.2))))
 
-fault-is : (header : Header) (node : Node) (bytes : List ℕ) (f : RecoveryFault) → node ≡ opened header → Faults f (leads_to (begun header node) bytes).found
-    → IsFaultOf header bytes f
-fault-is header node bytes f new h =
-    is_fault header bytes f (subst (λ x. Faults f x.found) (leads-findings header node bytes ∙ ap (λ n. findings header n bytes) new) h)
+-- ---- the clauses of a start
 
-known-is : (header : Header) (node : Node) (bytes : List ℕ) (left : Option (List ℕ)) (f : RecoveryFault) → node ≡ opened header
-    → IsKnownFrom (begun header node) bytes left f → IsKnown header bytes left f
-unfolding FaultsIn
-known-is header node bytes left f new (inl h) = inl (λ rest. fault-is header node (bytes ++ rest) f new (h rest))
-known-is header node bytes left f new (inr h) = inr (h.0, fault-is header node bytes f new h.1)
+pub whole_end : {A : Type 0} → (header : Header) (old new : Option (List ℕ)) (r : Result (Recovered A) RecoveryFault)
+    → IfOk r (λ r. ReadsWhole (found header) old new (node_of r.node) r.whole) → OnOk r (IsAtEnd new)
+whole_end header old new (Ok x) w = w.end
+whole_end header old new (Err f) w = tt
 
-pub reads_up_to : (header : Header) (node : Node) (r0 r1 : Option (List ℕ)) (f : RecoveryFault) → node ≡ opened header → BreaksOff (begun header node) r0 r1 f
-    → ReadsUpTo header r0 r1 f
-reads_up_to header node r0 r1 f new b = record {
-  before = b.before;
-  last = b.last;
-  taken = b.taken;
-  sound = sound_so_far header node b.now b.before new b.onward b.short;
-  once = b.once;
-  known = known-is header node (b.before ++ b.last) r1 f new b.known;
-}
+pub whole_all : {A : Type 0} → (header : Header) (old new : Option (List ℕ)) (r : Result (Recovered A) RecoveryFault)
+    → IfOk r (λ r. ReadsWhole (found header) old new (node_of r.node) r.whole) → OnOk r (ReadsAll old new)
+whole_all header old new (Ok x) w = reads_all (found header) old new (node_of x.node) x.whole w
+whole_all header old new (Err f) w = tt
 
-pub none_begun : (header : Header) (r : Option (List ℕ)) → ReadsUpTo header r r fault.OutOfMemory
-unfolding lines_behind
-none_begun header r = record {
+pub whole_found : (A : Type 0) (header : Header) (old new : Option (List ℕ)) (r : Result (Recovered A) RecoveryFault)
+    → IfOk r (λ r. ReadsWhole (found header) old new (node_of r.node) r.whole) → IfOk r (λ r. r.is_new ≡ (r.whole == 0)) → IfErr r (ReadsUpTo header old new)
+    → Recovers header old r
+whole_found A header old new (Ok x) w empty left = recovers header old new x w empty
+whole_found A header old new (Err f) w empty left = fails A header old new f left
+
+abbrev pub of_numbers : ℕ → ℕ → ℕ → Header
+of_numbers sites me pages = record { sites = sites; me = me; pages = pages }
+
+-- memory is missing before anything is read
+pub nothing_read : (header : Header) (old : Option (List ℕ)) → BreaksAt (found header) old old
+nothing_read header old = record {
   before = [];
-  last = [];
-  taken = Consumes-nil r;
-  sound = record { sound = λ h. absurd (cc); short = refl };
+  line = [];
+  over = [];
+  taken = Consumes-nil old;
+  sound = inl refl;
+  unended = All-nil (λ byte. (byte == 10) ≡ false);
+  short = omega arith;
   once = omega arith;
-  known = inl (λ rest. tt);
 }

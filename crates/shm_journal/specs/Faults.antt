@@ -1,6 +1,8 @@
--- Why a process ends before its lines do, by the numbers of the causes.
+-- Why a process ends before its lines do, or a journal leads to nothing, by the numbers of the causes.
 use Rattle.std.specs.Prelude.{ℕ}
-use Rattle.shm_model.specs.Refusal.{out_of_memory, read_fault, write_fault}
+use Rattle.shm_model.specs.Refusal.{bad_line, out_of_memory, read_fault, write_fault}
+use Rattle.shm_journal.specs.declared.journal_fault.JournalFault.{JournalFault}
+use Rattle.shm_journal.specs.declared.journal_fault.JournalFault.TheVariants as journal
 use Rattle.shm_journal.specs.declared.process_fault.ProcessFault.{ProcessFault}
 use Rattle.shm_journal.specs.declared.process_fault.ProcessFault.TheVariants as fault
 
@@ -9,3 +11,8 @@ process_fault_number fault.OutOfMemory = out_of_memory
 process_fault_number fault.ReadFault = read_fault
 process_fault_number fault.WriteFault = write_fault
 process_fault_number fault.JournalFault = write_fault
+
+abbrev pub journal_fault_number : JournalFault → ℕ
+journal_fault_number journal.OutOfMemory = out_of_memory
+journal_fault_number journal.ReadFault = read_fault
+journal_fault_number (journal.BadLine number) = bad_line

@@ -1,4 +1,4 @@
--- What a site finds in the file of its journal. A line stands before its line feed; what stands behind the last line feed is torn: a crash
+-- What is found in the file of a journal. A line stands before its line feed; what stands behind the last line feed is torn: a crash
 -- cut it short, and it counts for nothing, unless it is too long for a line, or stands alone and is no front of the header.
 use Rattle.std.specs.Prelude.{ℕ, ◌+◌, ◌==◌, Bool, true, false, List, [], ◌∷◌, ◌++◌, Option, Some, None, if◌then◌else◌, length, nat_lt, take}
 use Rattle.std.specs.Str.{bytes_eq}
@@ -35,12 +35,12 @@ is_empty (line ∷ lines) = false
 
 -- ---- what they say
 
--- the site that they lead to; or that it is the journal of another site, of so many others, or of another opening; or the number of the
--- first line, from 1, that is none of a journal's, or records no step that can be the site's next
-pub data Found : Type 0 where
-  Sound : Node → Found
-  Foreign : Found
-  Bad : ℕ → Found
+-- what they lead to; or that it is the journal of another site, of so many others, or of another opening; or the number of the first line,
+-- from 1, that is none of a journal's, or records no step that can be the site's next
+pub data Found (T : Type 0) : Type 0 where
+  Sound : T → Found T
+  Foreign : Found T
+  Bad : ℕ → Found T
 
 -- the bytes that a line has at most, less its line feed: `step `, the greatest clock, a blank, and the longest line that a site takes
 abbrev pub max_journal_line : ℕ
@@ -50,39 +50,70 @@ abbrev pub is_long : List ℕ → Bool
 is_long line = nat_lt max_journal_line (length line)
 
 -- a line that is too long is none, whatever it says; and so is what is torn
-abbrev pub unless_long : ℕ → List ℕ → Found → Found
+abbrev pub unless_long : {T : Type 0} → ℕ → List ℕ → Found T → Found T
 unless_long number line says = if is_long line then Bad number else says
 
-unfoldable pub replayed_entry : Node → Option Entry → Option Node
-replayed_entry node None = None
-replayed_entry node (Some entry) = replayed node entry.clock entry.cause
-
-abbrev pub next_found : ℕ → Option Node → (Node → Found) → Found
+abbrev pub next_found : {T : Type 0} → ℕ → Option T → (T → Found T) → Found T
 next_found number None onward = Bad number
-next_found number (Some node) onward = onward node
+next_found number (Some state) onward = onward state
 
--- the entries from this number on lead there; what is torn may be the front of one
-unfoldable pub found_from : ℕ → Node → List (List ℕ) → List ℕ → Found
-found_from number node [] torn = unless_long number torn (Sound node)
-found_from number node (line ∷ lines) torn =
-    unless_long number line (next_found number (replayed_entry node (read_entry line)) (λ next. found_from (number + 1) next lines torn))
+-- the entries from this number on lead there, one after another; what is torn may be the front of one
+unfoldable pub found_from : {T : Type 0} → (T → List ℕ → Option T) → ℕ → T → List (List ℕ) → List ℕ → Found T
+found_from next number state [] torn = unless_long number torn (Sound state)
+found_from next number state (line ∷ lines) torn =
+    unless_long number line (next_found number (next state line) (λ after. found_from next (number + 1) after lines torn))
+
+-- what these bytes say, which begin with the line of this number
+abbrev pub found_behind : {T : Type 0} → (T → List ℕ → Option T) → ℕ → T → List ℕ → Found T
+found_behind next number state rest = let lines = lines_of rest in found_from next number state lines.whole lines.torn
+
+-- ---- a whole file
+
+-- what a reader makes of a journal: of its first line, of what is torn where there is no whole line, and of each further line
+pub record Kind (T : Type 0) : Type 0 where
+  pub first : List ℕ → Found T
+  pub alone : List ℕ → Found T
+  pub next : T → List ℕ → Option T
+
+abbrev pub then_found : {T : Type 0} → Found T → (T → Found T) → Found T
+then_found (Sound state) onward = onward state
+then_found Foreign onward = Foreign
+then_found (Bad number) onward = Bad number
+
+abbrev pub found_in : {T : Type 0} → Kind T → List (List ℕ) → List ℕ → Found T
+found_in kind [] torn = unless_long 1 torn (kind.alone torn)
+found_in kind (line ∷ lines) torn = unless_long 1 line (then_found (kind.first line) (λ state. found_from kind.next 2 state lines torn))
+
+abbrev pub found_of : {T : Type 0} → Kind T → List ℕ → Found T
+found_of kind file = let lines = lines_of file in found_in kind lines.whole lines.torn
+
+-- ---- a site's own journal
 
 -- another header is another's journal, and anything else none
-abbrev pub not_own : Option Header → Found
+abbrev pub not_own : Option Header → Found Node
 not_own None = Bad 1
 not_own (Some header) = Foreign
-
--- the header, and the entries after it; while there is no whole line nothing was recorded, and what is torn is a front of the header
-abbrev pub found_in : Header → Node → List (List ℕ) → List ℕ → Found
-found_in header node [] torn =
-    unless_long 1 torn (if bytes_eq torn (take (length torn) (header_line header)) then Sound node else Bad 1)
-found_in header node (line ∷ lines) torn =
-    unless_long 1 line (if bytes_eq line (header_line header) then found_from 2 node lines torn else not_own (read_header line))
 
 -- the site at which nothing has happened
 abbrev pub opened : Header → Node
 opened header = new_node header.sites header.me header.pages
 
+unfoldable pub replayed_entry : Node → Option Entry → Option Node
+replayed_entry node None = None
+replayed_entry node (Some entry) = replayed node entry.clock entry.cause
+
+-- the site after the step that a line records, if that can be its next
+abbrev pub replayed_line : Node → List ℕ → Option Node
+replayed_line node line = replayed_entry node (read_entry line)
+
+-- the first line is the header; while there is no whole line nothing was recorded, and what is torn is a front of the header
+abbrev pub own : Header → Kind Node
+own header = record {
+  first = λ line. if bytes_eq line (header_line header) then Sound (opened header) else not_own (read_header line);
+  alone = λ torn. if bytes_eq torn (take (length torn) (header_line header)) then Sound (opened header) else Bad 1;
+  next = replayed_line;
+}
+
 -- what the site of this header finds in this file
-abbrev pub found : Header → List ℕ → Found
-found header file = let lines = lines_of file in found_in header (opened header) lines.whole lines.torn
+abbrev pub found : Header → List ℕ → Found Node
+found header file = found_of (own header) file

@@ -1,10 +1,13 @@
 -- What a journal's file says, and what is read of it.
-use Rattle.std.specs.Prelude.{◌≡◌, ◌⊎◌, ◌≤◌, ℕ, false, List, ◌++◌, length, IfSome, Option, Result, Ok, Err}
+use Rattle.std.specs.Prelude.{◌≡◌, ◌⊎◌, ℕ, Bool, true, false, List, IfSome, None, Some, Option, Result, Ok, Err, if◌then◌else◌, length, take}
+use Rattle.std.specs.Str.{bytes_eq}
 use Rattle.std.specs.Io.KnownBytes.{Consumes, IsAtEnd}
-use Rattle.shm_process.specs.Node.{Node}
 use Rattle.shm_process.specs.NodeOf.{node_of}
-use Rattle.shm_journal.specs.Found.{Sound, Foreign, Bad, bytes_of_lines, found, is_empty, is_long, lines_of}
-use Rattle.shm_journal.specs.Lines.{Header}
+use Rattle.shm_journal.specs.Found.{Sound, Foreign, Bad, bytes_of_lines, found, is_empty, lines_of}
+use Rattle.shm_journal.specs.Lines.{Header, read_header}
+use Rattle.shm_journal.specs.ReadUpTo.{BreaksAt, LacksLine, StopsAt}
+use Rattle.shm_journal.specs.declared.journal_fault.JournalFault.{JournalFault}
+use Rattle.shm_journal.specs.declared.journal_fault.JournalFault.TheVariants as journal
 use Rattle.shm_journal.specs.declared.recovery_fault.RecoveryFault.{RecoveryFault}
 use Rattle.shm_journal.specs.declared.recovery_fault.RecoveryFault.TheVariants as fault
 use Rattle.shm_journal.specs.declared.recovered.Recovered.{Recovered}
@@ -34,26 +37,30 @@ Recovers header remaining result = (file : List ℕ) × IfSome remaining (λ kno
 abbrev pub ReadsAll : Option (List ℕ) → Option (List ℕ) → Type 0
 ReadsAll old new = (bytes : List ℕ) × Consumes old new bytes × IsAtEnd new
 
--- nothing was wrong yet: the whole lines lead to a site, and what stands behind them may be the front of a line
-pub record IsSoundSoFar (header : Header) (bytes : List ℕ) : Type 0 where
-  pub sound : is_empty (lines_of bytes).whole ≡ false → (node : Node) × (found header bytes ≡ Sound node)
-  pub short : is_long (lines_of bytes).torn ≡ false
+-- Where memory is missing or the reader fails, lines that lead to a site, and what may be the front of one; else the line that is wrong is the
+-- last that was taken, or the header is missing.
+abbrev pub ReadsUpTo : Header → Option (List ℕ) → Option (List ℕ) → RecoveryFault → Type 0
+ReadsUpTo header old new fault.OutOfMemory = BreaksAt (found header) old new
+ReadsUpTo header old new fault.ReadFault = BreaksAt (found header) old new
+ReadsUpTo header old new fault.Foreign = StopsAt (found header) old new Foreign
+ReadsUpTo header old new (fault.BadLine number) = StopsAt (found header) old new (Bad number) ⊎ LacksLine (found header) old new (Bad number)
 
--- whatever follows these bytes, the fault is that of the whole; or it is, as nothing is left that could follow
-abbrev pub IsKnown : Header → List ℕ → Option (List ℕ) → RecoveryFault → Type 0
-IsKnown header bytes left fault =
-    ((rest : List ℕ) → IsFaultOf header (bytes ++ rest) fault) ⊎ (IsAtEnd left × IsFaultOf header bytes fault)
+-- a fault of any journal, as one of a start
+abbrev pub as_recovery : JournalFault → RecoveryFault
+as_recovery journal.OutOfMemory = fault.OutOfMemory
+as_recovery journal.ReadFault = fault.ReadFault
+as_recovery (journal.BadLine number) = fault.BadLine number
 
--- the most that one read gives
-abbrev pub most_at_once : ℕ
-most_at_once = 8192
+-- ---- the first line
 
--- What was read where this fault is answered: a front of what there was. Before the last read nothing was wrong yet, and since then the
--- fault is known.
-pub record ReadsUpTo (header : Header) (old new : Option (List ℕ)) (fault : RecoveryFault) : Type 0 where
-  pub before : List ℕ
-  pub last : List ℕ
-  pub taken : Consumes old new (before ++ last)
-  pub sound : IsSoundSoFar header before
-  pub once : length last ≤ most_at_once
-  pub known : IsKnown header (before ++ last) new fault
+abbrev pub other_header : Option Header → Result Bool RecoveryFault
+other_header None = Err (fault.BadLine 1)
+other_header (Some header) = Err fault.Foreign
+
+-- it is this one, or why it may not be
+abbrev pub header_checked : List ℕ → List ℕ → Result Bool RecoveryFault
+header_checked own line = if bytes_eq line own then Ok true else other_header (read_header line)
+
+-- there is no whole one, and it is a front of this one
+abbrev pub front_checked : List ℕ → List ℕ → Result Bool RecoveryFault
+front_checked own torn = if bytes_eq torn (take (length torn) own) then Ok false else Err (fault.BadLine 1)

@@ -1,22 +1,27 @@
 //! A site from its journal.
-ghost use Rattle.std.specs.Prelude.{◌≡◌, ◌<◌, ◌≤◌, ℕ, List, IfErr, IfSome, OnOk};
+ghost use Rattle.std.specs.Prelude.{◌≡◌, ◌==◌, ◌+◌, ◌<◌, ◌≤◌, ℕ, false, true, IfErr, IfOk, OnOk};
 ghost use Rattle.std.specs.Io.KnownBytes.{IsAtEnd};
-ghost use Rattle.shm_journal.specs.Reading.{BreaksOff, Ends, leads_to};
-ghost use Rattle.shm_journal.specs.ReadingOf.{reading_of};
-ghost use Rattle.shm_journal.specs.Recovers.{ReadsAll, ReadsUpTo, Recovers};
+ghost use Rattle.shm_journal.specs.Found.{found, found_behind, opened, replayed_line};
+ghost use Rattle.shm_journal.specs.HeaderOf.{header_of};
+ghost use Rattle.shm_journal.specs.Leading.{Leads};
+ghost use Rattle.shm_journal.specs.LinesOf.{left_of};
+ghost use Rattle.shm_journal.specs.ReadUpTo.{ReadsToLine, ReadsWhole};
+ghost use Rattle.shm_journal.specs.Recovers.{ReadsAll, ReadsUpTo, Recovers, as_recovery, front_checked, header_checked};
+ghost use Rattle.shm_journal.specs.declared.journal_fault.JournalFault.{JournalFault as Fault};
+ghost use Rattle.shm_process.specs.NodeOf.{node_of};
 
 use crate::header::Header;
-use crate::reading::Reading;
+use crate::journal_fault::JournalFault;
+use crate::lines::Lines;
+use crate::parsing::parse_header;
 use crate::recovered::Recovered;
 use crate::recovery_fault::RecoveryFault;
+use crate::replay::replay_rest;
+use crate::taken::Taken;
 use shm_place::{PAGES, SiteId, Sites};
 use shm_process::Node;
-use shm_text::read_up_to;
 use std::alloc::Allocator;
 use std::io::Read;
-
-/// How many bytes are read at once.
-const CHUNK: usize = 8192;
 
 /// The site after the steps that its journal records; of so many sites, where segment 0 began with so many pages. What stands behind the last
 /// line feed is torn: it counts for nothing, unless it is too long for a line, or stands alone and is no front of the header. No more than a
@@ -44,32 +49,114 @@ pub fn recover<A: Allocator + Copy, R: Read>(
         me: me.0,
         pages,
     };
-    read_journal(Reading::new(alloc, header, node), reader)
+    read_journal(alloc, header, node, reader)
 }
 
-/// Reads the rest of a journal.
+/// The site after the steps that the journal of this header records, where nothing has happened at this one.
 fn read_journal<A: Allocator + Copy, R: Read>(
-    mut reading: Reading<A>,
+    alloc: A,
+    header: Header,
+    node: Node<A>,
     reader: &mut R,
 ) -> Result<Recovered<A>, RecoveryFault>
-    ensures end { OnOk result (IsAtEnd (R.remaining reader.new)) }
-    ensures all { OnOk result (ReadsAll (R.remaining reader.old) (R.remaining reader.new)) }
-    ensures left { IfErr result (BreaksOff (reading_of reading) (R.remaining reader.old) (R.remaining reader.new)) }
-    ensures ends { (file : List ℕ) × IfSome (R.remaining reader.old) (λ known. file ≡ known) × Ends (leads_to (reading_of reading) file) result }
+    requires { node_of node ≡ opened (header_of header) }
+    ensures whole { IfOk result (λ r. ReadsWhole (found (header_of header)) (R.remaining reader.old) (R.remaining reader.new) (node_of r.node) r.whole) }
+    ensures new { IfOk result (λ r. r.is_new ≡ (r.whole == 0)) }
+    ensures left { IfErr result (ReadsUpTo (header_of header) (R.remaining reader.old) (R.remaining reader.new)) }
 {
-    let mut chunk = [0u8; CHUNK];
-    'chunks: for _ in 0..u64::MAX {
-        let Ok(count) = read_up_to(reader, &mut chunk, CHUNK) else {
-            return Err(RecoveryFault::ReadFault);
-        };
-        if count == 0 {
-            return reading.finish();
-        }
-        match reading.take(&chunk[..count]) {
-            Ok(()) => {}
-            Err(fault) => return Err(fault),
-        }
+    let mut lines = Lines::new(alloc);
+    match read_header(alloc, header, &mut lines, reader) {
+        Ok(true) => read_entries(alloc, lines, node, reader),
+        Ok(false) => Ok(Recovered {
+            node,
+            whole: 0,
+            is_new: true,
+        }),
+        Err(fault) => Err(fault),
     }
-    // No run reads so often.
-    Err(RecoveryFault::ReadFault)
+}
+
+/// Whether there is a whole first line, which is this header. If not, what is torn is a front of it.
+fn read_header<A: Allocator + Copy, R: Read>(
+    alloc: A,
+    header: Header,
+    lines: &mut Lines<A>,
+    reader: &mut R,
+) -> Result<bool, RecoveryFault>
+    requires { lines.old.whole ≡ 0 }
+    ensures whole { IfOk result (λ whole. whole ≡ true → Leads replayed_line (found (header_of header)) (left_of lines.old (R.remaining reader.old))
+        (left_of lines.new (R.remaining reader.new)) 2 (opened (header_of header)) lines.new.whole) }
+    ensures some { IfOk result (λ whole. whole ≡ true → 0 < lines.new.whole) }
+    ensures none { IfOk result (λ whole. whole ≡ false → ReadsWhole (found (header_of header)) (left_of lines.old (R.remaining reader.old))
+        (R.remaining reader.new) (opened (header_of header)) 0) }
+    ensures left { IfErr result (ReadsUpTo (header_of header) (left_of lines.old (R.remaining reader.old)) (R.remaining reader.new)) }
+{
+    let Ok(own) = format!(in alloc; "{header}") else {
+        return Err(RecoveryFault::OutOfMemory);
+    };
+    match lines.take(reader) {
+        Ok(Taken::Whole) => check_header(own.as_bytes(), lines.line()),
+        Ok(Taken::Torn) => check_front(own.as_bytes(), lines.line()),
+        Ok(Taken::TooLong) => Err(RecoveryFault::BadLine(1)),
+        Err(fault) => Err(recovery_fault(fault)),
+    }
+}
+
+/// Whether a whole first line is the own header: `true`, or a fault.
+fn check_header(own: &[u8], line: &[u8]) -> Result<bool, RecoveryFault>
+    ensures { result ≡ header_checked own.now line.now }
+{
+    if line == own {
+        return Ok(true);
+    }
+    match parse_header(line) {
+        Some(_) => Err(RecoveryFault::Foreign),
+        None => Err(RecoveryFault::BadLine(1)),
+    }
+}
+
+/// Whether the bytes of a file with no whole line are a front of the own header: `false`, or a fault.
+fn check_front(own: &[u8], torn: &[u8]) -> Result<bool, RecoveryFault>
+    ensures { result ≡ front_checked own.now torn.now }
+{
+    if !own.starts_with(torn) {
+        return Err(RecoveryFault::BadLine(1));
+    }
+    Ok(false)
+}
+
+/// The site after the steps that the lines behind the header record.
+fn read_entries<A: Allocator + Copy, R: Read>(
+    alloc: A,
+    lines: Lines<A>,
+    node: Node<A>,
+    reader: &mut R,
+) -> Result<Recovered<A>, RecoveryFault>
+    ensures whole { IfOk result (λ r. (more : ℕ) × (r.whole ≡ lines.whole + more) × ReadsWhole (λ rest. found_behind replayed_line 2 (node_of node) rest)
+        (left_of lines (R.remaining reader.old)) (R.remaining reader.new) (node_of r.node) more) }
+    ensures old { IfOk result (λ r. r.is_new ≡ false) }
+    ensures left { IfErr result (λ f. (why : Fault) × (f ≡ as_recovery why) × ReadsToLine (λ rest. found_behind replayed_line 2 (node_of node) rest)
+        (left_of lines (R.remaining reader.old)) (R.remaining reader.new) why) }
+{
+    let mut lines = lines;
+    let mut node = node;
+    match replay_rest(alloc, &mut lines, &mut node, reader) {
+        Ok(()) => Ok(Recovered {
+            node,
+            whole: lines.whole(),
+            is_new: false,
+        }),
+        Err(fault) => Err(recovery_fault(fault)),
+    }
+}
+
+/// The fault, as one of a start.
+fn recovery_fault(fault: JournalFault) -> RecoveryFault
+    ensures { result ≡ as_recovery fault }
+{
+    match fault {
+        JournalFault::OutOfMemory => RecoveryFault::OutOfMemory,
+        JournalFault::ReadFault => RecoveryFault::ReadFault,
+        JournalFault::BadLine(number) => RecoveryFault::BadLine(number),
+    }
 }

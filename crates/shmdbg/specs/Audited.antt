@@ -5,8 +5,8 @@ use Rattle.std.specs.Io.KnownBytes.{Appends}
 use Rattle.shm_audit.specs.Counts.{counts_of, counts_text}
 use Rattle.shm_audit.specs.OneSet.{AreOneRun, IsWhy}
 use Rattle.shm_audit.specs.declared.counts.Counts.{Counts}
-use Rattle.shm_audit.specs.declared.journal_fault.JournalFault.{JournalFault}
-use Rattle.shm_audit.specs.declared.journal_fault.JournalFault.TheVariants as journal
+use Rattle.shm_journal.specs.declared.journal_fault.JournalFault.{JournalFault}
+use Rattle.shm_journal.specs.declared.journal_fault.JournalFault.TheVariants as journal
 use Rattle.shm_audit.specs.declared.journals_fault.JournalsFault.{JournalsFault}
 use Rattle.shm_audit.specs.declared.journals_fault.JournalsFault.TheVariants as journals
 use Rattle.shm_logs.specs.Auditing.Logs.{logs_of}

@@ -1,39 +1,60 @@
-use Rattle.std.proofs.Common.{◌≡◌, ap₂, subst, ◌∙◌}
+use Rattle.std.proofs.Common.{◌≡◌, ap, ap₂, subst, sym, ◌∙◌}
+use Rattle.std.specs.Prelude.{IfErr, IfOk}
 use Rattle.shm_process.specs.NodeOf.{node_of}
-use Rattle.shm_journal.specs.Lines.{Header}
-use Rattle.shm_journal.specs.Reading.{BreaksOff, begun}
-use Rattle.shm_journal.specs.ReadingOf.{reading_of}
+use Rattle.shm_journal.specs.Found.{found, opened}
+use Rattle.shm_journal.specs.ReadUpTo.{ReadsWhole}
 use Rattle.shm_journal.specs.Recovers.{ReadsUpTo}
 use Rattle.shm_journal.proofs.Fronts.{any_file}
-use Rattle.shm_journal.proofs.RecoveryLemmas.{Ended, none_begun, reads_up_to, recovers}
-use Rattle.shm_journal.proofs.ReadingLemmas.{if_err}
+use Rattle.shm_journal.proofs.RecoveryLemmas.{nothing_read, of_numbers, whole_all, whole_end, whole_found}
 use Rattle.shm_journal.proofs.recovery.recover.Goals as goal
 
-pub returns-clause-found : goal.returns-clause-found
-returns-clause-found g c =
+pub read_journal-requires : goal.read_journal-requires
+read_journal-requires g c =
+    let same = ap₂ (λ sites me. of_numbers sites me c.args.pages) c.count.ensures.value c.me.view_is in
+    c.in-Ok.ensures ∙ sym (ap opened same)
+
+pub returns-clause-end : goal.returns-clause-end
+returns-clause-end g c =
     let remaining = g.R.Read.remaining in
     let old = remaining c.args.reader.now in
-    let node = node_of c.in-Ok.node in
-    let header : Header = record { sites = c.args.sites; me = c.args.me; pages = c.args.pages } in
-    let start : reading_of c.new-2.result ≡ begun header node =
-    c.new-2.ensures ∙ ap₂ (λ sites me. begun (record { sites = sites; me = me; pages = c.args.pages }) node) c.count.ensures.value c.me.view_is in
-    recovers header node old c.read_journal.result c.in-Ok.ensures
-    (subst (λ reading. Ended old reading c.read_journal.result) start c.read_journal.ensures.ends)
+    let new = remaining c.read_journal.new.reader in
+    let header = of_numbers c.args.sites c.args.me c.args.pages in
+    let same = ap₂ (λ sites me. of_numbers sites me c.args.pages) c.count.ensures.value c.me.view_is in
+    whole_end header old new c.read_journal.result
+    (subst (λ h. IfOk c.read_journal.result (λ r. ReadsWhole (found h) old new (node_of r.node) r.whole)) same c.read_journal.ensures.whole)
 
-pub returns-in_default-clause-found : goal.returns-in_default-clause-found
-returns-in_default-clause-found g c = let any = any_file (g.R.Read.remaining c.args.reader.now) in (any.0, any.1, tt)
+pub returns-clause-all : goal.returns-clause-all
+returns-clause-all g c =
+    let remaining = g.R.Read.remaining in
+    let old = remaining c.args.reader.now in
+    let new = remaining c.read_journal.new.reader in
+    let header = of_numbers c.args.sites c.args.me c.args.pages in
+    let same = ap₂ (λ sites me. of_numbers sites me c.args.pages) c.count.ensures.value c.me.view_is in
+    whole_all header old new c.read_journal.result
+    (subst (λ h. IfOk c.read_journal.result (λ r. ReadsWhole (found h) old new (node_of r.node) r.whole)) same c.read_journal.ensures.whole)
 
 pub returns-clause-left : goal.returns-clause-left
 returns-clause-left g c =
     let remaining = g.R.Read.remaining in
     let old = remaining c.args.reader.now in
     let new = remaining c.read_journal.new.reader in
-    let node = node_of c.in-Ok.node in
-    let header : Header = record { sites = c.args.sites; me = c.args.me; pages = c.args.pages } in
-    let start : reading_of c.new-2.result ≡ begun header node =
-    c.new-2.ensures ∙ ap₂ (λ sites me. begun (record { sites = sites; me = me; pages = c.args.pages }) node) c.count.ensures.value c.me.view_is in
-    if_err c.read_journal.result (BreaksOff (reading_of c.new-2.result) old new) (ReadsUpTo header old new)
-    (λ f b. reads_up_to header node old new f c.in-Ok.ensures (subst (λ reading. BreaksOff reading old new f) start b)) c.read_journal.ensures.left
+    let same = ap₂ (λ sites me. of_numbers sites me c.args.pages) c.count.ensures.value c.me.view_is in
+    subst (λ h. IfErr c.read_journal.result (ReadsUpTo h old new)) same c.read_journal.ensures.left
+
+pub returns-clause-found : goal.returns-clause-found
+returns-clause-found g c =
+    let remaining = g.R.Read.remaining in
+    let old = remaining c.args.reader.now in
+    let new = remaining c.read_journal.new.reader in
+    let header = of_numbers c.args.sites c.args.me c.args.pages in
+    let same = ap₂ (λ sites me. of_numbers sites me c.args.pages) c.count.ensures.value c.me.view_is in
+    whole_found g.row.A.Denot header old new c.read_journal.result
+    (subst (λ h. IfOk c.read_journal.result (λ r. ReadsWhole (found h) old new (node_of r.node) r.whole)) same c.read_journal.ensures.whole)
+    c.read_journal.ensures.new
+    (subst (λ h. IfErr c.read_journal.result (ReadsUpTo h old new)) same c.read_journal.ensures.left)
 
 pub returns-in_default-clause-left : goal.returns-in_default-clause-left
-returns-in_default-clause-left g c = none_begun (record { sites = c.args.sites; me = c.args.me; pages = c.args.pages }) (g.R.Read.remaining c.args.reader.now)
+returns-in_default-clause-left g c = nothing_read (of_numbers c.args.sites c.args.me c.args.pages) (g.R.Read.remaining c.args.reader.now)
+
+pub returns-in_default-clause-found : goal.returns-in_default-clause-found
+returns-in_default-clause-found g c = let any = any_file (g.R.Read.remaining c.args.reader.now) in (any.0, any.1, tt)
