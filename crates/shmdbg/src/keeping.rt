@@ -1,5 +1,5 @@
 //! The file of a site's journal: it is as it was asked for, one process alone has it, and what is torn at its end is cut off.
-ghost use Rattle.std.specs.Prelude.{◌≡◌, ◌≤◌, ◌<◌, ℕ, List, IfErr, IfOk, IfSome, OnOk};
+ghost use Rattle.std.specs.Prelude.{◌≡◌, ◌≤◌, ◌<◌, ℕ, List, if◌then◌else◌, not, IfErr, IfOk, IfSome, OnOk};
 ghost use Rattle.shm_journal.specs.Found.{bytes_of_lines, lines_of};
 ghost use Rattle.shm_journal.specs.Recovers.{ReadsAll};
 ghost use Rattle.shmdbg.specs.Begun.{BeginsKept, ReadsUnbegun, header_at};
@@ -111,10 +111,10 @@ pub(crate) fn begin_kept<R: AllocGlobal + Files, F: Read + OpenFile>(
         whole,
         is_new,
     } = found;
-    if kept.begins && !is_new {
-        return Err(SiteFault::Existing);
-    }
-    if is_new && !kept.begins {
+    if !is_as_asked(kept.begins, is_new) {
+        if kept.begins {
+            return Err(SiteFault::Existing);
+        }
         return Err(SiteFault::Blank);
     }
     if cut(file, whole).is_err() {
@@ -135,6 +135,13 @@ pub(crate) fn begin_kept<R: AllocGlobal + Files, F: Read + OpenFile>(
         }),
         Err(fault) => Err(SiteFault::Unopenable(fault)),
     }
+}
+
+/// Tests that a journal is new where it is to be begun, and only there.
+fn is_as_asked(begins: bool, is_new: bool) -> bool
+    ensures { result ≡ (if begins then is_new else not is_new) }
+{
+    if begins { is_new } else { !is_new }
 }
 
 /// Makes durable, of a new file, that its folder has it.

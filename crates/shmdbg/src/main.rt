@@ -22,10 +22,10 @@ mod words;
 
 use program::run_words;
 use source::Source;
-use streams::Held;
 use std::env::{self, Env};
 use std::io::{self, IsTerminal};
 use std::process::ExitCode;
+use streams::Held;
 
 fn main(rt: HostRuntime) -> ExitCode {
     let mut errors = rt.stderr();

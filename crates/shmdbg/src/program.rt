@@ -95,9 +95,7 @@ where
             pages,
             journal,
             begins,
-        } => site(
-            rt, sites, me, pages, journal, begins, reader, out, errors,
-        ),
+        } => site(rt, sites, me, pages, journal, begins, reader, out, errors),
         Task::Audit { sites, journals } => audit(rt, sites, journals.as_slice(), out, errors),
     }
 }

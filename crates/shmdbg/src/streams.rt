@@ -52,5 +52,8 @@ impl Held {
 }
 
 fn open_null<R: Files<File = File>>(rt: &R) -> io::Result<File> {
-    OpenOptions::new().read(true).write(true).open(rt, "/dev/null")
+    OpenOptions::new()
+        .read(true)
+        .write(true)
+        .open(rt, "/dev/null")
 }

@@ -147,7 +147,12 @@ fn journals_that_are_no_files(rt: HostRuntime) -> Result<(), Fail> {
     let ran = site_kept(&rt, false, "missing.journal", b"ask 0 a tick\n");
     expect(&rt, &ran, 1, b"", MISSING);
     assert!(rt; !fs::exists(&rt, "missing.journal")?);
-    for (name, begins) in [(".", false), (".", true), ("/dev/null", false), ("/dev/null", true)] {
+    for (name, begins) in [
+        (".", false),
+        (".", true),
+        ("/dev/null", false),
+        ("/dev/null", true),
+    ] {
         let ran = site_kept(&rt, begins, name, b"ask 0 a tick\n");
         expect(&rt, &ran, 1, b"", NO_FILE);
     }
