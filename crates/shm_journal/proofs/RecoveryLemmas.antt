@@ -51,18 +51,22 @@ none-counted (line ∷ lines) = some (length line) (bytes_of_lines lines)
 
 pub recovers : {A : Type 0} → (header : Header) (old new : Option (List ℕ)) (r : Recovered A) → ReadsWhole (found header) old new (node_of r.node) r.whole → r.is_new ≡ (r.whole == 0)
     → Recovers header old (Ok r)
-recovers header old new r w empty =
-    (w.bytes, of_all old new w.bytes (λ known. w.bytes ≡ known) w.taken w.end refl,
-    (w.sound, w.counted, empty ∙ ap (λ n. n == 0) w.counted ∙ none-counted (lines_of w.bytes).whole))
+recovers header old new r w empty = (
+  w.bytes,
+  of_all old new w.bytes (λ known. w.bytes ≡ known) w.taken w.end refl,
+  (w.sound, w.counted, empty ∙ ap (λ n. n == 0) w.counted ∙ none-counted (lines_of w.bytes).whole),
+)
 
 -- ---- a fault
 
 -- a file that begins with these bytes says so
 stopped : (header : Header) (old new : Option (List ℕ)) (what : Found Node) → StopsAt (found header) old new what → (file : List ℕ) × IsFile old file × (found header file ≡ what)
 stopped header old new what s =
-    let w = whole_of old new (s.before ++ (s.line ++ s.over)) s.taken in
-    ((s.before ++ (s.line ++ s.over)) ++ w.0, w.1,
-    ap (found header) (append_assoc s.before (s.line ++ s.over) w.0 ∙ ap (λ l. s.before ++ l) (append_assoc s.line s.over w.0)) ∙ s.bad (s.over ++ w.0))
+    let w = whole_of old new (s.before ++ (s.line ++ s.over)) s.taken in (
+      (s.before ++ (s.line ++ s.over)) ++ w.0,
+      w.1,
+      ap (found header) (append_assoc s.before (s.line ++ s.over) w.0 ∙ ap (λ l. s.before ++ l) (append_assoc s.line s.over w.0)) ∙ s.bad (s.over ++ w.0),
+    )
 
 lacking : (header : Header) (old new : Option (List ℕ)) (what : Found Node) → LacksLine (found header) old new what → (file : List ℕ) × IsFile old file × (found header file ≡ what)
 lacking header old new what l = (l.bytes, of_all old new l.bytes (λ known. l.bytes ≡ known) l.taken l.end refl, l.bad)

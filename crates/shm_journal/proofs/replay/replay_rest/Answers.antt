@@ -20,11 +20,13 @@ lines-preserved g c =
     let o = c.in-Ok-Whole in
     let counted = count_whole o.field-0 lines.whole c.lines.lines.whole line o.field-0-is o.ensures.whole in
     let after : next (state c.lines.site) line ≡ Some (state c.replay_line.new.self) =
-    ap (next (state c.lines.site)) (sym c.line.ensures) ∙ next_some _ _ _ c.in-Ok-true.field-0-test c.in-Ok-true.ensures in
-    (more + (length line + 1), omega (arith, counted, c.lines.invariant.1),
-    one_more next (λ rest. found_behind next 2 (state c.args.site.now) rest) (left_of c.args.lines.now (remaining c.args.reader.now)) left (left_of lines now) c.lines.number
-    (state c.lines.site) (state c.replay_line.new.self) more line c.lines.invariant.2
-    (taken_whole o.field-0 left (left_of lines now) now line o.field-0-is o.ensures.takes) o.ensures.unended o.ensures.short after)
+    ap (next (state c.lines.site)) (sym c.line.ensures) ∙ next_some _ _ _ c.in-Ok-true.field-0-test c.in-Ok-true.ensures in (
+      more + (length line + 1),
+      omega (arith, counted, c.lines.invariant.1),
+      one_more next (λ rest. found_behind next 2 (state c.args.site.now) rest) (left_of c.args.lines.now (remaining c.args.reader.now)) left (left_of lines now) c.lines.number
+          (state c.lines.site) (state c.replay_line.new.self) more line c.lines.invariant.2
+          (taken_whole o.field-0 left (left_of lines now) now line o.field-0-is o.ensures.takes) o.ensures.unended o.ensures.short after,
+    )
 
 pub returns-in-Ok-Torn-clause-whole : goal.returns-in-Ok-Torn-clause-whole
 returns-in-Ok-Torn-clause-whole g c =
@@ -36,10 +38,12 @@ returns-in-Ok-Torn-clause-whole g c =
     let left = left_of c.lines.lines (remaining c.lines.reader) in
     let now = remaining c.take.new.reader in
     let o = c.in-Ok-Torn in
-    let torn = taken_torn o.field-0 left (left_of lines now) now line o.field-0-is o.ensures.takes in
-    (c.lines.invariant.0, count_torn o.field-0 lines.whole c.lines.lines.whole line o.field-0-is o.ensures.whole ∙ c.lines.invariant.1,
-    ended next (λ rest. found_behind next 2 (state c.args.site.now) rest) (left_of c.args.lines.now (remaining c.args.reader.now)) left now c.lines.number
-    (state c.lines.site) c.lines.invariant.0 line c.lines.invariant.2 (through_end left now line (behind lines) torn.0 torn.2) o.ensures.unended o.ensures.short torn.1)
+    let torn = taken_torn o.field-0 left (left_of lines now) now line o.field-0-is o.ensures.takes in (
+      c.lines.invariant.0,
+      count_torn o.field-0 lines.whole c.lines.lines.whole line o.field-0-is o.ensures.whole ∙ c.lines.invariant.1,
+      ended next (λ rest. found_behind next 2 (state c.args.site.now) rest) (left_of c.args.lines.now (remaining c.args.reader.now)) left now c.lines.number
+          (state c.lines.site) c.lines.invariant.0 line c.lines.invariant.2 (through_end left now line (behind lines) torn.0 torn.2) o.ensures.unended o.ensures.short torn.1,
+    )
 
 pub returns-in-Ok-TooLong-clause-left : goal.returns-in-Ok-TooLong-clause-left
 returns-in-Ok-TooLong-clause-left g c =
