@@ -1,11 +1,11 @@
-use Rattle.std.proofs.Common.{◌≡◌, ℕ, List, Ok, Err, length, subst, sym}
+use Rattle.std.proofs.Common.{ℕ, List, Ok, Err, length}
 use Rattle.std.specs.Prelude.{OnOk, Option, Result}
 use Rattle.std.specs.Io.KnownBytes.{Appends}
 use Rattle.std.specs.declared.alloc.Global.{Global}
 use Rattle.shm_audit.specs.declared.counts.Counts.{Counts}
 use Rattle.shm_logs.specs.declared.boxes.site_log.SiteLog.{SiteLog}
 use Rattle.shmdbg.specs.Audited.{IsOfSites, TellsAudit, audit_text}
-use Rattle.shmdbg.proofs.NotAccepted.{cause_of_each, unread_cause, unread_causes}
+use Rattle.shmdbg.proofs.NotAccepted.{unread_cause, unread_causes}
 use Rattle.shmdbg.proofs.auditing.tell_audit.Goals as goal
 
 tells : {A B : Type 0} (r : Result A B) (sites : ℕ) (old new : Option (List ℕ)) (logs : List (SiteLog Global)) (counts : Counts) → IsOfSites sites logs counts
@@ -20,12 +20,6 @@ returns-in-Ok-judge-clause-audited g c =
 
 pub returns-in-Ok-judge-clause-why : goal.returns-in-Ok-judge-clause-why
 returns-in-Ok-judge-clause-why g c = unread_causes c.tell_counts.result (length c.args.journals.now) c.args.sites c.tell_counts.ensures.untold
-
-pub returns-in-Err-judge-clause-why : goal.returns-in-Err-judge-clause-why
-returns-in-Err-judge-clause-why g c =
-    let count = length c.args.journals.now in
-    let each : length c.as_slice.result.now ≡ count = subst (λ logs. length logs ≡ count) (sym c.as_slice.ensures.value) c.in-Ok.ensures.each in
-    cause_of_each count c.args.sites c.as_slice.result.now c.in-Err-judge.fault each c.in-Err-judge.ensures.why
 
 pub returns-in-Err-clause-why : goal.returns-in-Err-clause-why
 returns-in-Err-clause-why g c = unread_cause (length c.args.journals.now) c.args.sites c.in-Err.fault c.in-Err.ensures.unread
