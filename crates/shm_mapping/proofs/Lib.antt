@@ -14,3 +14,4 @@ pub mod Hold
 pub mod Dies
 pub mod Dead
 pub mod Played
+pub mod Verdicts

@@ -3,3 +3,4 @@ pub mod Hosts
 pub mod Programs
 pub mod Deaths
 pub mod Example
+pub mod Verdicts

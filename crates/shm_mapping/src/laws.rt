@@ -4,7 +4,11 @@ ghost use Rattle.shm_mapping.specs.Deaths.{AreTurns, Dies, IsTurn, LivesAsOne, O
 ghost use Rattle.shm_mapping.specs.Example.{PlaysSo, held_clear, held_clear_answers, held_clear_own, held_clear_plain, held_hand, held_hand_answers, held_hand_own, held_hand_plain};
 ghost use Rattle.shm_mapping.specs.Hosts.{HostEvent};
 ghost use Rattle.shm_mapping.specs.Programs.{AllMappedHold, RunsAsOne, SitesRun, hosts, joined_world};
+ghost use Rattle.shm_mapping.specs.Mapped.{Mapped};
+ghost use Rattle.shm_mapping.specs.Verdicts.{Keeps};
 ghost use Rattle.shm_model.specs.Memory.{Coherent, Legal};
+ghost use Rattle.shm_model.specs.Message.{Envelope};
+ghost use Rattle.shm_model.specs.Site.{Site};
 ghost use Rattle.shm_model.specs.World.{IsOpening, Opening};
 
 /// Whatever hosts do, there is a run of the world without mappings in which each processor's load and store is one of its site, at its
@@ -28,6 +32,12 @@ pub fn sites_run_beside_what_is_mapped()
 /// A site has the right to each page that its machine maps, and a page that is mapped to write is mapped by one host.
 pub fn what_is_mapped_is_kept()
     ensures { (o : Opening) (events : List HostEvent) → IsOpening o → AllMappedHold (hosts o events) }
+{}
+
+/// A machine that carries out the verdict on an envelope, and only then hands it to its site, keeps the site's access as great as what is
+/// mapped then: whatever the envelope is, invented ones too.
+pub fn verdicts_keep_what_is_mapped()
+    ensures { (sites me : ℕ) (site : Site) (e : Envelope) (mapped : List Mapped) → Keeps sites me site e mapped }
 {}
 
 /// A machine that dies loses an end of what it did, never a middle. Where it brought all that its processors changed before anything was
