@@ -6,7 +6,7 @@ ghost use Rattle.shmdbg.specs.declared.unaudited.Unaudited.TheVariants as cause;
 
 use crate::tell;
 use crate::unaudited::Unaudited;
-use shm_audit::{Counts, JournalsFault, audit_journals, read_log};
+use shm_audit::{Totals, JournalsFault, audit_journals, read_log};
 use shm_place::Sites;
 use shm_sites::SiteLog;
 use shm_text::write_whole;
@@ -91,7 +91,7 @@ fn read_journal<R: AllocGlobal + Files>(rt: &R, at: usize, name: &str) -> Result
 }
 
 /// What is counted of the logs, where they are those of so many sites that shared one plain memory.
-fn judge(alloc: Global, sites: Sites, logs: &[SiteLog]) -> Result<Counts, Unaudited>
+fn judge(alloc: Global, sites: Sites, logs: &[SiteLog]) -> Result<Totals, Unaudited>
     ensures accepted { IfOk result (λ counts. IsOfSites sites logs.now counts) }
     ensures why { IfErr result (IsWhyNot sites logs.now) }
 {
@@ -104,7 +104,7 @@ fn judge(alloc: Global, sites: Sites, logs: &[SiteLog]) -> Result<Counts, Unaudi
     }
 }
 
-fn tell_counts<O: Write>(alloc: Global, counts: Counts, out: &mut O) -> Result<(), Unaudited>
+fn tell_counts<O: Write>(alloc: Global, counts: Totals, out: &mut O) -> Result<(), Unaudited>
     ensures told { OnOk result (Appends (O.contents out.old) (O.contents out.new) (audit_text counts)) }
     ensures untold { IfErr result IsUnread }
     ensures quiet { IfErr result (λ fault. (fault ≡ cause.WriteFault) ⊎ (out.new ≡ out.old)) }

@@ -2,13 +2,13 @@ use Rattle.std.proofs.Common.{ℕ, List, Ok, Err, length}
 use Rattle.std.specs.Prelude.{OnOk, Option, Result}
 use Rattle.std.specs.Io.KnownBytes.{Appends}
 use Rattle.std.specs.declared.alloc.Global.{Global}
-use Rattle.shm_audit.specs.declared.counts.Counts.{Counts}
+use Rattle.shm_audit.specs.declared.totals.Totals.{Totals}
 use Rattle.shm_logs.specs.declared.boxes.site_log.SiteLog.{SiteLog}
 use Rattle.shmdbg.specs.Audited.{IsOfSites, TellsAudit, audit_text}
 use Rattle.shmdbg.proofs.NotAccepted.{unread_cause, unread_causes}
 use Rattle.shmdbg.proofs.auditing.tell_audit.Goals as goal
 
-tells : {A B : Type 0} (r : Result A B) (sites : ℕ) (old new : Option (List ℕ)) (logs : List (SiteLog Global)) (counts : Counts) → IsOfSites sites logs counts
+tells : {A B : Type 0} (r : Result A B) (sites : ℕ) (old new : Option (List ℕ)) (logs : List (SiteLog Global)) (counts : Totals) → IsOfSites sites logs counts
     → OnOk r (Appends old new (audit_text counts)) → OnOk r (TellsAudit sites old new)
 tells (Ok x) sites old new logs counts a t = record { logs = logs; counts = counts; accepted = a; told = t }
 tells (Err e) sites old new logs counts a t = tt
