@@ -94,7 +94,7 @@ refused:
 # The gate: tries the programs that must not compile, proves every crate from nothing (newer toolchains: what this machine hasn't proved before), and runs every test, every program and every edit
 # that must fail.
 test: refused
-	rt ci 2>&1
+	RT_JOBS=$${RT_JOBS:-$$(gate/lanes)} rt ci 2>&1
 
 # The wrong bodies that the gate leaves out for its time: the prover must refuse each of these, too. Tried in a clone of the last commit,
 # four crates at a time.
