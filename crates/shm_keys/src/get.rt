@@ -118,7 +118,7 @@ impl<A: Allocator + Copy> SegTable<A> {
         }
     }
 
-    /// Makes a segment: EINVAL for a size of 0 or above the greatest, ENOSPC where the home may have no more.
+    /// Makes a segment. EINVAL: the size is 0 or above the greatest. ENOSPC: the home can't have another.
     fn make(&mut self, cred: Cred, key: Key, size: u32, mode: Mode) -> Result<SegId, GetFault>
         requires { key ≢ 0 → with_key key self.old.segments ≡ None }
         ensures answer { IsGetAnswer result (next_id self.old.sites self.old.home self.old.segments)
@@ -160,14 +160,14 @@ fn id_at(place: usize, sites: Sites, home: SiteId) -> SegId
     SegId(place as u32 * sites.count() + home.0)
 }
 
-/// Whether `IPC_CREAT` is given.
+/// Checks that `IPC_CREAT` is given.
 fn creates(flags: GetFlags) -> bool
     ensures { result ≡ has_creat flags.0 }
 {
     flags.0 / 0o1000 % 2 == 1
 }
 
-/// Whether `IPC_CREAT` and `IPC_EXCL` are given: the key is to be free.
+/// Checks that `IPC_CREAT` and `IPC_EXCL` are given: the key has to be free.
 fn creates_only(flags: GetFlags) -> bool
     ensures { result ≡ (has_creat flags.0 && has_excl flags.0) }
 {

@@ -4,21 +4,21 @@ ghost use Rattle.shm_model.specs.Permission.{is_owner, is_in_group, class_of, ma
 use crate::segment::Segment;
 use shm_model::{Cred, Mode};
 
-/// Whether three bits of a class have the one that permits to read.
+/// Checks that a class of three bits permits reading.
 fn may_read(bits: u32) -> bool
     ensures { result ≡ may_read bits }
 {
     bits / 4 % 2 == 1
 }
 
-/// Whether three bits of a class have the one that permits to write.
+/// Checks that a class of three bits permits writing.
 fn may_write(bits: u32) -> bool
     ensures { result ≡ may_write bits }
 {
     bits / 2 % 2 == 1
 }
 
-/// Whether the bits of a class permit what is asked.
+/// Checks that the bits of a class permit what is asked.
 fn permits(reads: bool, writes: bool, bits: u32) -> bool
     ensures { result ≡ permits reads writes bits }
 {
@@ -38,7 +38,7 @@ fn asks_to_write(mode: Mode) -> bool
 }
 
 impl Segment {
-    /// Whether the caller's user owns or made the segment.
+    /// Checks that the caller's user owns or made the segment.
     pub fn is_owner(&self, cred: Cred) -> bool
         ensures { result ≡ is_owner cred self.now }
     {
@@ -64,21 +64,21 @@ impl Segment {
         self.mode.bits()
     }
 
-    /// Whether the caller may have what a `get` asks for by its mode.
+    /// Checks that the caller has the permission that a `get` with this mode asks for.
     pub fn may_get(&self, cred: Cred, mode: Mode) -> bool
         ensures { result ≡ may_get cred mode self.now }
     {
         permits(asks_to_read(mode), asks_to_write(mode), self.class_of(cred))
     }
 
-    /// Whether the caller may attach, only to read or to write too.
+    /// Checks that the caller may attach: only to read, or to write too.
     pub fn may_attach(&self, cred: Cred, ro: bool) -> bool
         ensures { result ≡ may_attach cred ro self.now }
     {
         permits(true, !ro, self.class_of(cred))
     }
 
-    /// Whether the caller may be told of the segment.
+    /// Checks that the caller may read the segment's record.
     pub fn may_stat(&self, cred: Cred) -> bool
         ensures { result ≡ may_stat cred self.now }
     {
