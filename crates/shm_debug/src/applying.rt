@@ -134,7 +134,7 @@ impl<A: Allocator + Copy> Session<A> {
         Ok(answer)
     }
 
-    /// Nothing is kept for going back any more.
+    /// Gives up all that was kept for going back.
     fn give_up_copies(&mut self)
         ensures { self.new ≡ self.old }
     {
@@ -143,7 +143,7 @@ impl<A: Allocator + Copy> Session<A> {
     }
 }
 
-/// What the world answers to the event, which joins the others.
+/// Steps the world by the event, and joins the answer to the others.
 #[inline(always)]
 fn step_and_push<A: Allocator + Copy>(
     world: &mut World<A>,

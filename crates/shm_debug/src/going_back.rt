@@ -18,16 +18,16 @@ use shm_model::Opening;
 use shm_world::{Event, World};
 use std::alloc::{AllocError, Allocator};
 
-/// A checkpoint that stays can be made after each so many events.
+/// The events between two places where a checkpoint may stay.
 const STRIDE: usize = 64;
 
-/// The one that moves is made so many events before the last one: so a few more can be taken back from it.
+/// The checkpoint that moves is made this many events before the last one, so that a few more can be taken back from it.
 const MARGIN: usize = 4;
 
 /// A run of fewer events than these is short: it takes the checkpoint that moves.
 const SHORT: usize = 128;
 
-/// On short runs a checkpoint stays after each so many events.
+/// The events between two checkpoints that stay, on short runs.
 const MILESTONE: usize = 1024;
 
 impl<A: Allocator + Copy> Session<A> {
@@ -251,12 +251,13 @@ fn step_on<A: Allocator + Copy>(
     }
 }
 
-/// Keeps a copy of the world after `count` events, on the way from the place `from` to `last`, where it is one of the checkpoints that are
-/// kept: counted in strides from the last one, the 1st, 2nd, 4th, 8th and so on. Where one is to move, it stands for the 1st, and on a
-/// short run for all but the milestones; so a short run, which took one, mostly makes one copy. Those that stay are never taken. So a
-/// checkpoint and the next lie no farther apart than a milestone and a short run, or than they lay behind the end of the run that kept
-/// them: beside the events that were made since, a run takes no more, but where the oldest went for there were too many. Where memory is
-/// refused nothing is kept.
+/// Keeps a copy of the world after `count` events, on the way from the place `from` to `last`, if that is one of the checkpoints to keep:
+/// counted in strides from the last one, the 1st, 2nd, 4th, 8th and so on. The checkpoint that moves stands for the 1st and, on a short
+/// run, for all but the milestones. A short run took one away, so it mostly makes one copy. Checkpoints that stay are never taken away.
+///
+/// So the distance between two checkpoints is at most a milestone and a short run, or the distance to the end of the run that kept them. A
+/// run makes no more events again than that, beside those made since, except where the oldest checkpoint went because there were too many.
+/// Where memory is refused nothing is kept.
 fn keep<A: Allocator + Copy>(
     world: &World<A>,
     count: usize,

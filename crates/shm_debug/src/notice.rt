@@ -1,6 +1,6 @@
 use std::fmt;
 
-/// What is said to a line that asks no site for anything.
+/// The answer to a line that isn't an event.
 #[derive(Clone, Copy, Debug)]
 pub enum Notice {
     /// The sites stand.

@@ -1,7 +1,7 @@
 use shm_model::refusal::{self, Numbered};
 use thiserror::Error;
 
-/// What a whole script was.
+/// The summary of a whole script.
 #[derive(Clone, Copy, Debug, PartialEq, Eq)]
 pub struct Summary {
     /// All lines, the first one too.

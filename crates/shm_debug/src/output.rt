@@ -1,4 +1,4 @@
-//! What a replay tells of a block of its script is gathered, and written before the next block is read.
+//! Gathers the output for a block of a script, to be written before the next block is read.
 ghost use Rattle.std.specs.Prelude.{◌≡◌, ℕ, [], OnOk, OnErr, IfOk, take};
 ghost use Rattle.std.specs.Io.KnownBytes.{Appends};
 
@@ -19,7 +19,7 @@ pub fn empty_text<A: Allocator + Copy>(alloc: A) -> Result<Text<A>, AllocError>
     Text::new(alloc, ROOM, LINE)
 }
 
-/// Writes all that was told, and forgets it.
+/// Writes all output gathered, and empties it.
 pub fn write_told<A: Allocator + Copy, W: Write>(
     text: &mut Text<A>,
     writer: &mut W,
@@ -33,7 +33,7 @@ pub fn write_told<A: Allocator + Copy, W: Write>(
     Ok(())
 }
 
-/// Writes all that was told, forgets it, and flushes the writer: nobody waits for it while the reader waits.
+/// Writes all output gathered, empties it, and flushes the writer: nobody waits for it while the reader waits.
 pub fn write_and_flush<A: Allocator + Copy, W: Write>(
     text: &mut Text<A>,
     writer: &mut W,

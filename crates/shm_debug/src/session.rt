@@ -11,8 +11,8 @@ use shm_world::{Event, World};
 use std::alloc::{AllocError, Allocator, Global};
 use std::marker::Model;
 
-/// What stands of a run: how its world began, and the events that weren't taken back. Beside them it keeps the world that they lead to,
-/// and for going back checkpoints, and what undoes the last events.
+/// A run that stands: how its world began, and the events that weren't taken back. Beside them it keeps the world that they lead to and,
+/// for going back, checkpoints and what undoes the last events.
 #[derive(Drop)]
 pub struct Session<A: Allocator + Copy = Global> {
     pub(crate) opening: Opening,
@@ -88,7 +88,7 @@ impl<A: Allocator + Copy> Session<A> {
         self.events.len() as u64
     }
 
-    /// Whether no event stands.
+    /// Checks that no event stands.
     pub fn is_empty(&self) -> bool
         ensures { result ≡ (length self.now.events == 0) }
     {

@@ -71,7 +71,7 @@ fn tell_label<A: Allocator + Copy>(
     )
 }
 
-/// Where the label stands left of the lifeline, what is told next stands right of it.
+/// Where the label stands left of the lifeline, the answer stands right of it.
 fn tell_aside<A: Allocator + Copy>(
     out: &mut String<A>,
     way: &Way,

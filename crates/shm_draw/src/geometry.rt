@@ -48,7 +48,7 @@ pub(crate) fn width_of(sites: Sites, room: u32) -> u64
     needed
 }
 
-/// How far the picture of a page goes down: so many rows of events and of what is on its way, what stands above them, and a margin.
+/// The height of a page's picture: that of all rows of events and of envelopes on their way, of what stands above them, and of a margin.
 pub(crate) fn depth_of(last: u64, further: u64) -> u128
     ensures { result ≡ Svg.depth_of last further }
 {

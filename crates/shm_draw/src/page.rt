@@ -1,4 +1,4 @@
-//! Which page an event is about.
+//! The page that an event is about.
 ghost use Rattle.std.specs.Prelude.{◌≡◌, slice_get};
 ghost use Rattle.shm_model.specs.World as model;
 ghost use Rattle.shm_world.specs.World.{StandsFor};
@@ -53,7 +53,7 @@ fn about_envelope<A: Allocator + Copy>(world: &World<A>, number: u64) -> Option<
     }
 }
 
-/// Whether what is about that page, or about none, belongs to this one.
+/// Checks that an event about that page, or about none, belongs on this page's picture.
 pub(crate) fn is_of(page: &PageId, about: Option<PageId>) -> bool
     ensures { result ≡ Picture.is_of page.now about }
 {

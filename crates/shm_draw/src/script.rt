@@ -59,7 +59,7 @@ pub fn draw<A: Allocator + Copy, R: Read, W: Write>(
     }
 }
 
-/// Reads the script, block by block. What is said to its lines is not kept.
+/// Reads the script, block by block. Its answers are not kept.
 fn read_script<A: Allocator + Copy, R: Read>(
     alloc: A,
     reader: &mut R,

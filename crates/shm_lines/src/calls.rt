@@ -7,7 +7,7 @@ use crate::words::Words;
 use shm_model::{Op, Request};
 use shm_place::{Key, SegId};
 
-/// What a site is asked to begin, by its verb and the words behind it. A detach names the attachment: `detach ATTACHMENT`.
+/// Reads a segment call, by its verb and the words behind it. A detach names the attachment: `detach ATTACHMENT`.
 pub fn parse_request(verb: &[u8], words: Words<'_>) -> Option<Request>
     ensures { result ≡ request_of verb.now words.entry }
 {

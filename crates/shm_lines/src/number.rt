@@ -55,7 +55,7 @@ pub(crate) fn front_number(line: &[u8]) -> Option<(u32, Option<&[u8]>)>
     }
 }
 
-/// Checks that so many digits at the line's front are a number: there is one, and the first isn't a 0 before others.
+/// Checks that this many digits at the line's front are a number: there is one, and the first isn't a 0 before others.
 #[inline(always)]
 fn is_plain(line: &[u8], digits: usize) -> bool
     requires { digits ≤ length line.now }

@@ -24,7 +24,7 @@ impl fmt::Display for CallWords {
     }
 }
 
-/// What a site is asked to begin, as its words spell it.
+/// A segment call, as its words spell it.
 #[derive(Clone, Copy)]
 pub struct RequestWords(pub Request);
 

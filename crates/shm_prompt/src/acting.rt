@@ -14,7 +14,7 @@ use shm_model::{Event, Opening};
 use shm_place::PageId;
 use std::alloc::{AllocError, Allocator};
 
-/// What is told where no sites stand yet.
+/// The answer while there are no sites.
 pub(crate) const NOT_BEGUN: &str = "no sites stand yet: begin with a line as sites 2 preset 1\n";
 
 impl<A: Allocator + Copy> Dialog<A> {
@@ -105,7 +105,7 @@ fn show<A: Allocator + Copy>(
     tell_line(out, last_line(session), text.as_slice())
 }
 
-/// The last events are taken back, if there are so many.
+/// Takes the last events back, if that many stand.
 fn go_back<A: Allocator + Copy>(
     session: &mut Session<A>,
     alloc: A,

@@ -1,6 +1,6 @@
 use std::fmt;
 
-/// What a wrong line seems to be.
+/// A guess at what a wrong line was meant to be.
 #[derive(Clone, Copy, Debug, PartialEq, Eq)]
 pub enum Remark {
     /// It has no byte.
