@@ -1,6 +1,5 @@
 //! Three callers that share a counter page. Each runs in a thread of its own and at a site of its own, and adds 1 to a byte of its own
-//! again and again; so the page goes from site to site. When all have ended the bytes are loaded, and what all callers were told is
-//! audited.
+//! again and again, so the page goes from site to site. When all have ended, the bytes are loaded and all receipts audited.
 mod auditing;
 mod counting;
 
@@ -46,7 +45,7 @@ where
     Ok(())
 }
 
-/// What a caller was told, if it came to its end.
+/// A caller's receipts, if it finished.
 fn receipts(told: Told) -> Result<Vec<Receipt>> {
     match told {
         Ok(receipts) => Ok(receipts),

@@ -14,7 +14,7 @@ pub fn calls_go_on()
         → CallGoesOn (world_since o earlier site later) site }
 {}
 
-/// Calls end: if nothing is on its way any more then, the site has no call outstanding.
+/// Calls end: once nothing is on its way then, the site has no call outstanding.
 pub fn calls_end()
     ensures { (o : Opening) (earlier later : List Event) (site : ℕ) (x : Site) → IsOpening o → NothingLost later
         → is_full (world_since o earlier site later) ≡ false

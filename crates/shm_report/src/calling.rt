@@ -14,7 +14,7 @@ use std::sync::Wait;
 use std::thread;
 use std::thread::{Promise, PromisedHandle, Scope, Threads};
 
-/// What one caller was told, or why it ended.
+/// One caller's receipts, or why it ended.
 pub(crate) type CallerTold = Result<Vec<Receipt>, CallFault>;
 
 /// The same of each caller.
@@ -110,7 +110,7 @@ fn start_callers<'s, 'e: 's, R: Threads + Wait + Sync>(
     Ok(())
 }
 
-/// Waits for these callers, and keeps what each was told.
+/// Waits for these callers, and keeps the receipts of each.
 fn join_callers<R: Threads>(
     rt: &R,
     callers: Vec<PromisedHandle<CallerTold, Caller<'_>>>,

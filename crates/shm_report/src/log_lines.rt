@@ -69,7 +69,7 @@ fn push_sent(
     Ok(())
 }
 
-/// What a step was handed, at its site.
+/// The input of a step, at its site.
 #[derive(Clone, Copy)]
 struct Handed<'a> {
     site: SiteId,

@@ -84,7 +84,7 @@ impl ReportFault {
         }
     }
 
-    /// What the audit found.
+    /// The fault that an audit found.
     pub(crate) fn of_audit(fault: AuditFault) -> ReportFault
         ensures memory { fault ≡ audit.OutOfMemory → audit_cause result ≡ None }
         ensures cause { fault ≢ audit.OutOfMemory → audit_cause result ≡ Some fault }

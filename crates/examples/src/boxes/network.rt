@@ -41,7 +41,7 @@ impl Network {
     }
 }
 
-/// What an envelope's message is called.
+/// The name of an envelope's message.
 pub fn kind_of(envelope: &Envelope) -> &'static str {
     let Message::Of { note, .. } = &envelope.message else {
         return "another message";

@@ -26,8 +26,8 @@ impl<A: Allocator + Copy> SiteBox<A> {
     ghost use Rattle.shm_logs.specs.Boxes.Box.{new_box};
     ghost use Rattle.shm_logs.specs.Boxes.SiteBox.{box_of};
 
-    /// A site of so many in its box, where segment 0 has so many pages and is attached, to read and write, as attachment 0. Its home is
-    /// site 0. The log is empty and the clock 0.
+    /// One of these sites in its box, where segment 0 has this number of pages and is attached, to read and write, as attachment 0. The
+    /// segment's home is site 0. The log is empty and the clock 0.
     pub fn new(alloc: A, sites: Sites, me: SiteId, pages: u32) -> Result<SiteBox<A>, AllocError>
         requires below { me < sites }
         requires from { 1 ≤ pages }

@@ -1,4 +1,4 @@
-//! What is on its way is handed over, the oldest first.
+//! Hands over what is on its way, the oldest first.
 ghost use Rattle.std.specs.Prelude.{◌≡◌, ℕ, ◌+◌, ◌^◌, ◌<◌, ◌≤◌, ◌↔◌, false, List, IfNone, IfOk, IfSome, IsTrue, OnErr};
 ghost use Rattle.shm_model.specs.World as model;
 ghost use Rattle.shm_model.specs.declared.event.Event.{Event};

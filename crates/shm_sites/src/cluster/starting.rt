@@ -16,8 +16,8 @@ use std::thread;
 use std::thread::Threads;
 
 impl<A: Allocator + Copy + Send + Sync + 'static> Cluster<A> {
-    /// So many sites, each in its box and its thread, where segment 0 has so many pages and is attached everywhere, to read and write,
-    /// as attachment 0. The network draws its losses and repeats from this seed. Where memory is refused, no thread was started.
+    /// Starts these sites, each in its box and its thread, where segment 0 has this number of pages and is attached everywhere, to read and
+    /// write, as attachment 0. The network draws its losses and repeats from this seed. Where memory is refused, no thread was started.
     pub fn start<R: Threads + Wait + Copy + Send + 'static, G: Gate + Send + Sync + Drop + 'static>(
         rt: &R,
         alloc: A,
@@ -84,7 +84,7 @@ impl<A: Allocator + Copy + Send + Sync + 'static> Cluster<A> {
         Ok(())
     }
 
-    /// What one more thread shares with the others. It takes no memory, and fails only where as many share it as can be counted.
+    /// One more thread's handle to the shared part. It takes no memory, and fails only where no number can count the handles.
     fn share<G: Drop>(
         &self,
         gate: &Arc<G, A>,

@@ -1,4 +1,4 @@
-//! What a box does with an input: it logs the step that the site makes, or refuses.
+//! A box takes an input: it logs the step that the site makes, or refuses.
 ghost use Rattle.std.specs.Prelude.{◌≡◌, ◌<◌, None, Some, false, true, Ok, length, map, unwrap_or, vec_capacity, IfErr, IfOk, IsErr, IsOk, OnErr, OnOk};
 ghost use Rattle.shm_logs.specs.Boxes.Box.{after, is_delivery, needs_memory, next_stamp, receipt, refusal};
 ghost use Rattle.shm_logs.specs.Boxes.Logged.{stamp_of};
