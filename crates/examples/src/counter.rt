@@ -17,7 +17,7 @@ use std::thread::Threads;
 /// From this the network draws what it loses and repeats.
 const SEED: u64 = 11;
 
-/// Lets the callers count, prints what they came to, and audits it.
+/// Lets the callers count, prints what they counted, and audits it.
 pub fn run<R, W>(rt: &R, alloc: Global, out: &mut W) -> Result<()>
 where
     R: Threads + Wait + Copy + Send + Sync + 'static,
@@ -53,7 +53,7 @@ fn receipts(told: Told) -> Result<Vec<Receipt>> {
     }
 }
 
-/// Prints the bytes that these receipts tell of, and their sum.
+/// Prints the bytes in these receipts, and their sum.
 fn print<W: Write>(out: &mut W, loaded: &[Receipt]) -> Result<()> {
     let mut sum = 0u64;
     for receipt in loaded {

@@ -31,8 +31,8 @@ const SHORT: usize = 128;
 const MILESTONE: usize = 1024;
 
 impl<A: Allocator + Copy> Session<A> {
-    /// Takes the last `count` events back, and answers how many stand. Where memory is refused, or fewer events stand, what
-    /// stands stays as it was; only what is kept for going back may be given up.
+    /// Takes the last `count` events back, and answers how many stand. Where memory is refused, or fewer events stand, the events stay;
+    /// only what is kept for going back may be given up.
     pub fn back(&mut self, count: u32) -> Result<u64, BackFault>
         ensures enough { OnOk result (count ≤ length self.old.events) }
         ensures left { IfOk result (λ left. left ≡ length self.new.events) }
@@ -57,7 +57,8 @@ impl<A: Allocator + Copy> Session<A> {
         Ok(left as u64)
     }
 
-    /// Takes the last `count` events back one by one, and tells whether it did: where less is kept of them, or memory is refused, all stays.
+    /// Takes the last `count` events back one by one, and answers whether it did. Where less is kept of them, or memory is refused, all
+    /// stays.
     fn take_back(&mut self, count: usize) -> bool
         requires { count ≤ length self.old.events }
         ensures back { result ≡ true → self.new ≡ without_last self.old count }
@@ -102,7 +103,7 @@ impl<A: Allocator + Copy> Session<A> {
     }
 }
 
-/// Takes the last `count` of the events back one by one, and tells whether it did. Where less is kept of them, or memory is refused, all
+/// Takes the last `count` of the events back one by one, and answers whether it did. Where less is kept of them, or memory is refused, all
 /// stays.
 fn undo_last<A: Allocator + Copy>(
     world: &mut World<A>,
@@ -231,7 +232,7 @@ fn run_on<A: Allocator + Copy>(
     Ok(())
 }
 
-/// One event. Before it is refused for memory, the checkpoints are given up.
+/// Makes one event. Before it refuses it for memory, it gives up the checkpoints.
 fn step_on<A: Allocator + Copy>(
     world: &mut World<A>,
     event: &Event,

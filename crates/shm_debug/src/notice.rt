@@ -5,7 +5,7 @@ use std::fmt;
 pub enum Notice {
     /// The sites stand.
     Ready,
-    /// So many events stand after going back.
+    /// This many events stand after going back.
     Back(u64),
     /// Fewer events stand than were to be taken back.
     PastBeginning,

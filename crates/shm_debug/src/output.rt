@@ -6,10 +6,10 @@ use shm_text::{NotWritten, Text, write_whole};
 use std::alloc::{AllocError, Allocator};
 use std::io::Write;
 
-/// How much room the text of a block is given from the beginning.
+/// The room for a block's text at the start, in bytes.
 const ROOM: usize = 1 << 16;
 
-/// How much room a line is given from the beginning.
+/// The room for a line at the start, in bytes.
 const LINE: usize = 512;
 
 /// No text yet, with room for what is gathered.

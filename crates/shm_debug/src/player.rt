@@ -46,7 +46,7 @@ impl<A: Allocator + Copy> Model for Player<A> {
 }
 
 impl<A: Allocator + Copy> Player<A> {
-    /// Nothing was read yet. Room for a line is made.
+    /// Begins a script, with room for a line.
     pub fn new(alloc: A) -> Result<Player<A>, AllocError>
         ensures { IfOk result (λ player. player ≡ start) }
     {
@@ -74,7 +74,7 @@ impl<A: Allocator + Copy> Player<A> {
         MAX_BYTES - self.lines as usize * (MAX_LINE_BYTES + 1) - self.line.len()
     }
 
-    /// Reads the bytes on, and tells what is said to the lines that they end.
+    /// Reads the bytes on, and answers the lines that they end.
     pub fn play(&mut self, bytes: &[u8], output: &mut Text<A>) -> Result<(), DebugFault>
         ensures ok { OnOk result (Plays self.old bytes.now self.new output.old output.new) }
         ensures err { IfErr result (λ fault. Fails self.old bytes.now fault output.old output.new) }
@@ -166,7 +166,7 @@ impl<A: Allocator + Copy> Player<A> {
         }
     }
 
-    /// Goes on to the next line, and tells what is said to this one.
+    /// Goes on to the next line, and answers this one.
     #[inline(always)]
     fn pass(&mut self, line: Line, output: &mut Text<A>) -> Result<(), AllocError>
         requires within { self.old.lines < max_lines }

@@ -41,7 +41,7 @@ impl<A: Allocator + Copy> Model for Session<A> {
 }
 
 impl<A: Allocator + Copy> Session<A> {
-    /// Nothing has happened yet. The pages of a segment 0 are attached at every site, to read and write, as attachment 0.
+    /// Begins a session without events. The pages of a segment 0 are attached at every site, to read and write, as attachment 0.
     pub fn new(alloc: A, opening: Opening) -> Result<Session<A>, AllocError>
         requires opening { IsOpening (opening_of opening) }
         requires beside { IsSome opening.frames → IsSome opening.preset }

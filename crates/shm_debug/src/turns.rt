@@ -14,7 +14,7 @@ use shm_lines::Line;
 use shm_text::Text;
 use std::alloc::{AllocError, Allocator};
 
-/// A line that may stand here: the first one opens the session, the others are turns of it.
+/// Takes a line that is allowed here: the first one opens the session, the others go on with it.
 #[inline(always)]
 pub fn pass_line<A: Allocator + Copy>(
     session: &mut Option<Session<A>>,

@@ -46,7 +46,7 @@ pub enum Mark {
     At(SiteId, Symbol),
     /// The way of the envelope that it hands over or loses, and which of these it does.
     Arrow(Way, End),
-    /// Only the page that the event is about, which is another one.
+    /// Only the page that the event is about, if it is another one.
     Elsewhere(PageId),
     /// There is no such envelope, or no such site.
     Nowhere,

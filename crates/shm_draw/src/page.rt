@@ -10,8 +10,8 @@ use shm_place::{PageId, SiteId};
 use shm_world::World;
 use std::alloc::Allocator;
 
-/// The page that an event is about, as the world stands before it: where an access goes, or what the envelope is about that it hands over
-/// or loses. Segment calls, ticks and restarts are about none, nor is an access that is refused.
+/// The page that an event is about, as the world stands before it: an access's page, or that of the envelope that it hands over or loses.
+/// Segment calls, ticks, restarts and refused accesses are about none.
 pub(crate) fn about<A: Allocator + Copy>(world: &World<A>, event: &Event) -> Option<PageId>
     ensures { (w : model.World) → StandsFor world.now w → result ≡ Picture.about w event.now }
 {

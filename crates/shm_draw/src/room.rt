@@ -1,4 +1,4 @@
-//! How much room stands right of the last lifeline.
+//! The room right of the last lifeline.
 ghost use Rattle.std.specs.Prelude.{◌≡◌};
 ghost use Rattle.std.specs.List.{list_any};
 ghost use Rattle.shm_draw.specs.Svg;

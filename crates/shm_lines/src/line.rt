@@ -1,4 +1,4 @@
-//! A line of a script, as data, and where it may stand.
+//! A line of a script, as data, and where it is allowed.
 use shm_model::{Event, Opening};
 use shm_place::PageId;
 

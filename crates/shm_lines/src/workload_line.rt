@@ -46,7 +46,7 @@ pub(crate) fn access_line(
     }
 }
 
-/// Why what has no line feed is no line.
+/// The fault of bytes without a line feed.
 pub(crate) fn open_line(number: u64, line: &[u8]) -> WorkloadFault
     ensures { result ≡ said.open_line number line.now }
 {

@@ -48,8 +48,8 @@ pub fn second_rounds_settle_requests()
         → NonePending (run o ((earlier ++ first) ++ second)).world }
 {}
 
-/// Faults are served: along two such rounds each request that was pending before them gains its right at some time, to read for a load and
-/// to write for a store; or its site has purged the segment after them. Nothing is said of how long the right stays: another site may have
+/// Faults are served. Along two such rounds each request that was pending before them gains its right at some time, to read for a load and
+/// to write for a store, or its site has purged the segment after them. This doesn't say how long the right stays: another site may have
 /// taken it before its caller tries again.
 pub fn faults_are_served()
     ensures { (o : Opening) (earlier first second : List Event) → IsOpening o → NothingLost first → NoneRestarted first → AllTick (sites_of o) first

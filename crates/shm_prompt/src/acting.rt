@@ -18,7 +18,7 @@ use std::alloc::{AllocError, Allocator};
 pub(crate) const NOT_BEGUN: &str = "no sites stand yet: begin with a line as sites 2 preset 1\n";
 
 impl<A: Allocator + Copy> Dialog<A> {
-    /// Acts on a line of a script. A `sites` line begins anew.
+    /// Acts on a line of a script. A `sites` line begins a new session.
     pub fn act(&mut self, line: Line, out: &mut Vec<u8, A>) -> Result<(), AllocError>
         requires { IsLine line }
         ensures told { OnOk result (out.new.items ≡ out.old.items ++ said_to self.old line) }
@@ -57,7 +57,7 @@ fn act_on<A: Allocator + Copy>(
     }
 }
 
-/// The sites begin anew.
+/// Begins a new session.
 fn begin<A: Allocator + Copy>(
     session: &mut Option<Session<A>>,
     alloc: A,

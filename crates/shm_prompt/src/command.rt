@@ -10,7 +10,7 @@ const MOST_BY_DEFAULT: u32 = 10_000;
 /// A line of the prompt.
 #[derive(Clone, Copy, Debug, PartialEq, Eq)]
 pub enum Command {
-    /// A line of a script: it is acted on as a replay does. A `sites` line begins anew.
+    /// A line of a script: the session acts on it as a replay does. A `sites` line begins a new one.
     Line(Line),
     /// Lists the envelopes on their way.
     Flight,
@@ -24,7 +24,7 @@ pub enum Command {
     Undo,
     /// Tells of the commands.
     Help,
-    /// Writes the script of what stands to a file; the line's second word is its name.
+    /// Saves the script of the events that stand to a file; the line's second word is its name.
     Save,
     /// Ends.
     Quit,

@@ -22,7 +22,7 @@ impl<A: Allocator + Copy> Model for Dialog<A> {
 }
 
 impl<A: Allocator + Copy> Dialog<A> {
-    /// No sites stand yet.
+    /// There are no sites yet.
     pub fn new(alloc: A) -> Dialog<A>
         ensures { result ≡ None }
     {

@@ -124,7 +124,7 @@ enum View {
     Segments,
 }
 
-/// Delivers, and says whether it came to its end.
+/// Delivers, and says whether nothing is on its way.
 fn run_on<A: Allocator + Copy>(
     session: &mut Session<A>,
     alloc: A,
@@ -172,7 +172,7 @@ fn show_view<A: Allocator + Copy>(
     out.extend_from_slice(text.as_bytes())
 }
 
-/// Writes the script of what stands to a file, and says so or why not.
+/// Saves the script of the events that stand to a file, and says so or why not.
 fn save_to<A: Allocator + Copy, S: SaveFile>(
     session: &Session<A>,
     alloc: A,

@@ -16,7 +16,7 @@ pub(crate) struct Typed<A: Allocator + Copy> {
 }
 
 impl<A: Allocator + Copy> Typed<A> {
-    /// Nothing was typed yet. Room for a line is made.
+    /// No input yet, and room for a line.
     pub(crate) fn new(alloc: A) -> Result<Typed<A>, AllocError> {
         let line = Vec::with_capacity(alloc, MAX_LINE_BYTES)?;
         Ok(Typed {

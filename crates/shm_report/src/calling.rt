@@ -79,7 +79,7 @@ fn call_within<'s, 'e: 's, R: Threads + Wait + Sync>(
     }
 }
 
-/// Starts the caller of each site, as far as threads are given.
+/// Starts the caller of each site, as far as the system gives threads.
 fn start_callers<'s, 'e: 's, R: Threads + Wait + Sync>(
     rt: &'e R,
     alloc: Global,
@@ -126,7 +126,7 @@ fn join_callers<R: Threads>(
     }
 }
 
-/// Runs the caller of this site, which is there.
+/// Runs the caller of this site, if there is one.
 fn call_site<R: Wait>(
     rt: &R,
     alloc: Global,

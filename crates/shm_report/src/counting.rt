@@ -60,7 +60,7 @@ fn faults_in(logs: &[SiteLog]) -> Option<u64>
     Some(total)
 }
 
-/// So many, and the accesses among these steps that had to wait for their page.
+/// Adds the accesses among these steps that had to wait for their page.
 fn faults_with(before: u64, steps: &[Step]) -> Option<u64>
     ensures { IfSome result (λ sum. sum ≡ before + spec.faults_of (map logged_of steps.now)) }
 {
@@ -97,7 +97,7 @@ fn envelopes_in(logs: &[SiteLog]) -> Option<u64>
     Some(total)
 }
 
-/// So many, and what these steps sent.
+/// Adds what these steps sent.
 fn add_sent(before: u64, steps: &[Step]) -> Option<u64>
     ensures { IfSome result (λ sum. sum ≡ before + sent_by (map logged_of steps.now)) }
 {

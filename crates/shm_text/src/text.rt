@@ -32,8 +32,8 @@ impl<A: Allocator + Copy> Text<A> {
         Ok(Text { told, line })
     }
 
-    /// The room in which lines are made ready, with nothing in it. Whoever takes it makes one ready there, and gives it back by
-    /// [`Text::push_line`]; otherwise the next line is given new room.
+    /// The room in which lines are made, empty. Whoever takes it makes a line there, and gives it back by [`Text::push_line`]; otherwise
+    /// the next line gets new room.
     pub fn take_line(&mut self) -> String<A>
         ensures empty { string_bytes result ≡ [] }
         ensures same { self.new ≡ self.old }

@@ -22,7 +22,7 @@ pub struct Simulation {
 }
 
 impl Simulation {
-    /// So many sites that share one page, to which nothing has happened yet.
+    /// These sites, which share one page. Nothing has happened yet.
     pub fn new(alloc: Global, sites: Sites) -> Result<Simulation> {
         let mut boxes = Vec::new(alloc);
         for site in 0..sites.count() {
@@ -37,7 +37,7 @@ impl Simulation {
         })
     }
 
-    /// One step of this site. Prints what it is given, what it answers, and how often what it sends will arrive.
+    /// Makes one step of this site. Prints its input, its answer, and how often what it sends will arrive.
     pub fn step<W: Write>(
         &mut self,
         out: &mut W,

@@ -21,7 +21,7 @@ const TURNS: u32 = 1_000_000;
 const TURNS_OF_A_TICK: u32 = 64;
 
 /// Loads and stores at one site, in the caller's thread and through the attachment of the number `at`; number 0 is there from the start.
-/// Each call waits for the site's lock. Each receipt tells of the step that the call made, or the last of them.
+/// Each call waits for the site's lock. Each receipt tells the step that the call made, or its last one.
 #[derive(Clone, Copy)]
 pub struct Client<'a, A: Allocator + Copy = Global> {
     pub(crate) shared: &'a Shared<A>,
@@ -148,7 +148,7 @@ impl<'a, A: Allocator + Copy> Client<'a, A> {
         Ok(receipt)
     }
 
-    /// One step under the site's lock, which is let go before anything is sent.
+    /// Makes one step under the site's lock, and releases the lock before it sends anything.
     fn access<R: Wait>(&self, rt: &R, asked: Asked) -> Result<Accessed<A>, ClientFault>
         ensures { IfOk result (λ done. TellsOf self.now.post.now.number (access_of asked) done.receipt) }
     {

@@ -1,4 +1,4 @@
-//! How the threads of a cluster start: whatever takes memory comes first, and then the threads.
+//! Starts the threads of a cluster: first all that takes memory, and then the threads.
 ghost use Rattle.std.specs.Prelude.{◌≡◌, ◌≤◌, ◌<◌, ◌+◌, IfOk, OnOk, vec_capacity, vec_len};
 ghost use Rattle.shm_sites.specs.Cluster.Sites.{sites_of};
 
@@ -42,7 +42,7 @@ impl<A: Allocator + Copy + Send + Sync + 'static> Cluster<A> {
         }
     }
 
-    /// Starts a thread at each desk, as far as threads are given.
+    /// Starts a thread for each site, as far as the system gives them.
     fn start_threads<
         R: Threads + Wait + Copy + Send + 'static,
         G: Gate + Send + Sync + Drop + 'static,
@@ -101,7 +101,7 @@ impl<A: Allocator + Copy + Send + Sync + 'static> Cluster<A> {
     }
 }
 
-/// A cluster without threads and with room for them, what they are given, and the gate that they pass.
+/// A cluster without threads and with room for them, each thread's part, and the gate that the threads pass.
 pub(crate) fn ready<A: Allocator + Copy, G: Drop>(
     alloc: A,
     sites: Sites,

@@ -1,4 +1,4 @@
-//! How the threads of a cluster end.
+//! Ends the threads of a cluster.
 ghost use Rattle.std.specs.Prelude.{◌≡◌, IfOk, vec_len};
 ghost use Rattle.shm_sites.specs.Cluster.Sites.{sites_of};
 

@@ -78,8 +78,8 @@ fn step<R: Wait, A: Allocator + Copy, G: Gate>(
     posted
 }
 
-/// Gives the box its input, and tells all that the step sent. Where the box doesn't take it, nothing happens and nothing was sent. It fails
-/// where memory was refused for the copies.
+/// Gives the box its input, and answers all that the step sent. Where the box doesn't take it, nothing happens and nothing was sent. It
+/// fails where memory was refused for the copies.
 pub(crate) fn give_input<A: Allocator + Copy>(
     site: &mut SiteBox<A>,
     alloc: A,
