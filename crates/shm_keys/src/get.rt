@@ -169,7 +169,7 @@ fn creates(flags: GetFlags) -> bool
     flags.contains(GetFlags::CREAT)
 }
 
-/// Checks that `IPC_CREAT` and `IPC_EXCL` are given: the key is to be free.
+/// Checks that `IPC_CREAT` and `IPC_EXCL` are given: the key has to be free.
 #[tactic(auto, using(crate::proofs::Bits::excl_flag))]
 fn creates_only(flags: GetFlags) -> bool
     ensures { result ≡ (has_creat flags.0 && has_excl flags.0) }

@@ -86,14 +86,14 @@ impl Segment {
         (!reads || class.may_read(self.mode)) && (!writes || class.may_write(self.mode))
     }
 
-    /// Checks that the caller may have what a `get` asks for by its mode.
+    /// Checks that the caller has the permission that a `get` with this mode asks for.
     pub fn may_get(&self, cred: Cred, mode: Mode) -> bool
         ensures { result ≡ may_get cred mode self.now }
     {
         self.permits(cred, asks_to_read(mode), asks_to_write(mode))
     }
 
-    /// Checks that the caller may attach, only to read or to write too.
+    /// Checks that the caller may attach: only to read, or to write too.
     pub fn may_attach(&self, cred: Cred, ro: bool) -> bool
         ensures { result ≡ may_attach cred ro self.now }
     {

@@ -1,5 +1,5 @@
-//! What a reader has to believe about Leddwyfan: plain data that code and definitions share is declared here, and
-//! `specs/` says what pages, managers, segment calls, sites and the world are.
+//! The definitions on which all proofs of Leddwyfan rest: plain data that code and definitions share is declared here, and `specs/` says
+//! what pages, managers, segment calls, sites and the world are.
 #![tactic(auto)]
 
 mod answer;
