@@ -1,5 +1,5 @@
 ghost use Rattle.std.specs.Prelude.{◌≡◌, ◌≢◌, None, Some, false};
-ghost use Rattle.shm_logs.specs.declared.auditing.audit_fault.AuditFault.TheVariants as audit;
+ghost use Rattle.shm_logs.specs.declared.log_audit.audit_fault.AuditFault.TheVariants as audit;
 ghost use Rattle.shm_report.specs.declared.report_fault.ReportFault.TheVariants as cause;
 ghost use Rattle.shm_lines.specs.declared.workload_fault.WorkloadFault.TheVariants as workload;
 

@@ -1,6 +1,6 @@
 //! Starts for which there is too little memory. All that a start grows it grows before its first thread.
 use super::{HOLES, PAGES};
-use crate::cluster::starting::ready;
+use crate::cluster::start::ready;
 use crate::{Cluster, Gate, OpenGate, StartFault};
 use linked_list_allocator::LocalHeap;
 use shm_place::{SiteId, Sites};

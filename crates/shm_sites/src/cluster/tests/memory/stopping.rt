@@ -1,6 +1,6 @@
 //! Clusters for whose end there is too little memory.
 use super::{Blocks, HEAP, HOLES, Still, fill_heap_but, opened_in};
-use crate::cluster::work::Desk;
+use crate::cluster::worker::Worker;
 use crate::{Cluster, SiteLog};
 use linked_list_allocator::LocalHeap;
 use std::alloc::{AllocError, Global};
@@ -34,11 +34,14 @@ fn each_growth_of_a_stop_is_refused_in_turn(rt: HostRuntime) -> Result<(), Fail>
 /// Stops a cluster of two sites in a heap with so small a hole. Its threads end by themselves.
 fn stopped_within<R: Threads + Wait>(rt: &R, alloc: Global, bytes: usize) -> Result<Outcome, Fail> {
     let heap = LocalHeap::new(alloc, HEAP)?;
-    let Still { mut cluster, desks } = opened_in(&heap, 2)?;
+    let Still {
+        mut cluster,
+        workers,
+    } = opened_in(&heap, 2)?;
     let blocks = with_threads(rt, alloc, &heap, &mut cluster, bytes);
     let logs = cluster.stop(rt);
-    let told = count_told(&desks);
-    drop(desks);
+    let told = count_told(&workers);
+    drop(workers);
     let count = count(logs);
     drop(blocks?);
     Ok((told, count))
@@ -48,8 +51,11 @@ fn count(logs: Result<Vec<SiteLog<&LocalHeap>, &LocalHeap>, AllocError>) -> Opti
     logs.ok().map(|logs| logs.len())
 }
 
-fn count_told(desks: &[Desk<&LocalHeap>]) -> usize {
-    desks.iter().filter(|desk| !desk.mail.is_empty()).count()
+fn count_told(workers: &[Worker<&LocalHeap>]) -> usize {
+    workers
+        .iter()
+        .filter(|worker| !worker.mail.is_empty())
+        .count()
 }
 
 /// Gives the cluster two threads, and fills the heap but for a hole of so many bytes.

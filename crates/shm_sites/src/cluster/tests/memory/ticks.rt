@@ -60,21 +60,21 @@ fn ticked_without_memory<R: Wait>(
 
 /// Each other channel has brought a message, and keeps the room that it had for it.
 fn make_room<R: Wait>(rt: &R, still: &Still<'_>, refused: usize) {
-    for (number, desk) in still.desks.iter().enumerate() {
+    for (number, worker) in still.workers.iter().enumerate() {
         if number == refused {
             continue;
         }
         if let Some(post) = still.cluster.shared.posts.get(number) {
             let _ = post.mail.send(rt, Mail::Tick);
         }
-        let _ = desk.mail.try_recv(rt);
+        let _ = worker.mail.try_recv(rt);
     }
 }
 
 fn ticks(still: &Still<'_>) -> Ticks {
     let mut ticks = [0; 3];
-    for (ticks, desk) in ticks.iter_mut().zip(still.desks.iter()) {
-        *ticks = desk.mail.len();
+    for (ticks, worker) in ticks.iter_mut().zip(still.workers.iter()) {
+        *ticks = worker.mail.len();
     }
     ticks
 }

@@ -1,6 +1,6 @@
 //! Steps of a site's thread for which memory is refused.
 use super::{HEAP, HOLES, PAGES, fill_heap_but};
-use crate::cluster::work::give_input;
+use crate::cluster::worker::give_input;
 use linked_list_allocator::LocalHeap;
 use shm_logs::{Envelope, Input, SiteBox, Stamp};
 use shm_model::Kind;
