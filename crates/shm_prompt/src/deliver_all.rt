@@ -19,7 +19,7 @@ pub(crate) fn deliver_all<A: Allocator + Copy>(
     ensures halted { OnErr result (SomeDelivered most session.old session.new) }
 {
     let mut from = 0;
-    'deliveries: for _turn in 0..most {
+    'deliveries: for _made in 0..most {
         let Some(number) = oldest_from(session.world(), from) else {
             return Ok(true);
         };

@@ -32,7 +32,7 @@ pub enum ReportFault {
     /// The system gave no thread.
     #[error("no thread")]
     NoThread,
-    /// The line's access was waited for to its last turn, and its site still waits for the page; or the box at its site was another's.
+    /// The line's access was tried for the last time, and its site still waits for the page; or the box at its site was another's.
     #[error("line {0}: gave up")]
     GaveUp(u64),
     /// A site's clock has no further stamp.

@@ -4,10 +4,10 @@
 //! Whoever holds a cluster, or the workers of one, drops it by name, and returns nowhere before.
 
 mod clients;
-mod starting;
-mod stopping;
+mod start;
+mod stop;
 mod ticks;
-mod working;
+mod worker;
 
 use crate::cluster::start::ready;
 use crate::cluster::worker::Worker;

@@ -82,9 +82,9 @@ fn ticks(still: &Still<'_>) -> Ticks {
 /// An offset in page 1, which site 1 manages.
 const THERE: u32 = 4096;
 
-/// How many turns the client has here, with more than a hundred ticks among them. A load or store of a user has a hundred times as many, which
+/// How many tries the client has here, with more than a hundred ticks among them. A load or store of a user has a hundred times as many, which
 /// take a crowded machine a minute.
-const TURNS: u32 = 10_000;
+const TRIES: u32 = 10_000;
 
 /// Nobody hears what is sent. A client that waits until it gives up has made one step, and each channel has one message: site 1's the Ask,
 /// the others' a tick.
@@ -113,7 +113,7 @@ fn wait_in_vain<R: Wait>(
         at: 0,
         offset: THERE,
     };
-    let fault = client.serve_within(rt, asked, TURNS).err();
+    let fault = client.serve_within(rt, asked, TRIES).err();
     let held = client.post.site.lock(rt);
     Ok((fault, held.log().len(), ticks(still)))
 }

@@ -1,4 +1,4 @@
-use super::scripts::{Script, frames, going_back, losses, pages, purging, segments};
+use super::scripts::{Script, frames, going_back, losses, pages, purges, segments};
 use super::{plays, replay_script};
 use shm_debug::Summary;
 use std::alloc::{AllocError, Global};
@@ -53,11 +53,11 @@ fn segments_are_made_and_removed(rt: HostRuntime) {
         segments::CLASSES,
         segments::IDENTIFIERS,
         segments::MARKED,
-        purging::REMOVAL,
-        purging::PURGE_RESENT,
-        purging::PURGE_AND_STALE_PAGE,
-        purging::PURGE,
-        purging::PURGE_ORDER,
+        purges::REMOVAL,
+        purges::PURGE_RESENT,
+        purges::PURGE_AND_STALE_PAGE,
+        purges::PURGE,
+        purges::PURGE_ORDER,
     ];
     all_play(&rt, rt.alloc(), scripts.as_slice());
 }

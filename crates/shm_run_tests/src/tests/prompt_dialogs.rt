@@ -1,5 +1,5 @@
 //! Dialogs of the prompt: typed line by line, saved and replayed, and with streams and memory that fail.
-use super::pieces::{Giver, NEVER, Taker};
+use super::failing_streams::{Giver, NEVER, Taker};
 use linked_list_allocator::LocalHeap;
 use shm_debug::replay;
 use shm_prompt::{PromptFault, SaveFile, prompt};

@@ -8,11 +8,11 @@ use std::test::Fail;
 use std::thread;
 
 /// How often the site beside the others makes a step before the page's manager makes one. A client has each site told of a tick after 64
-/// turns in which its own site made no step, so these are thousands of turns.
+/// tries in which its own site made no step, so these are thousands of tries.
 const STEPS: u64 = 40;
 
 /// How often that is looked at.
-const TURNS: u64 = 10_000_000_000;
+const TRIES: u64 = 10_000_000_000;
 
 /// How many steps the site beside the others has made, and whether nobody waits any longer.
 #[derive(Drop)]
@@ -39,7 +39,7 @@ impl Gate for HoldsManager {
 }
 
 fn wait_for(steps: &Steps) {
-    'turns: for _ in 0..TURNS {
+    'tries: for _ in 0..TRIES {
         if steps.over.load(Ordering::SeqCst) || steps.beside.load(Ordering::SeqCst) >= STEPS {
             return;
         }
@@ -47,9 +47,9 @@ fn wait_for(steps: &Steps) {
     }
 }
 
-/// A load waits for a manager that stands still for thousands of turns, and is served then.
+/// A load waits for a manager that stands still for thousands of tries, and is served then.
 #[test]
-fn a_load_waits_for_thousands_of_turns(rt: HostRuntime) -> Result<(), Fail> {
+fn a_load_waits_for_thousands_of_tries(rt: HostRuntime) -> Result<(), Fail> {
     let steps = Arc::new(
         rt.alloc(),
         Steps {

@@ -12,8 +12,8 @@ use std::thread::Threads;
 /// How many pages segment 0 has.
 const PAGES: u32 = 3;
 
-/// How many turns a wait has.
-const TURNS: u64 = 10_000_000_000;
+/// How many tries a wait has.
+const TRIES: u64 = 10_000_000_000;
 
 /// An offset in page 1, which site 1 manages.
 const THERE: u32 = 4096;
@@ -64,7 +64,7 @@ fn is_set(flag: &AtomicBool) -> bool {
 
 /// Waits for the flag, and tells whether it was set.
 fn is_set_in_time(flag: &AtomicBool) -> bool {
-    'turns: for _ in 0..TURNS {
+    'tries: for _ in 0..TRIES {
         if is_set(flag) {
             return true;
         }
