@@ -1,4 +1,4 @@
-//! A caller's receipt of a step. Only `taking`, where a box takes the step, makes receipts.
+//! A caller's receipt of a step. Only a box makes receipts, where it takes the step.
 mod taking;
 
 use crate::boxes::step::Step;
