@@ -47,6 +47,11 @@ examples:
 manners:
 	@completions/check
 
+# Checks the recipe "Another page size" of CONTRIBUTING.md: what it names is there, and a page's size stands nowhere else in code.
+.PHONY: recipe-page-size
+recipe-page-size:
+	@recipes/page-size
+
 # Runs a workload as a user that may have ever more threads, from too few to enough. Needs the program that `make build` leaves, setpriv of
 # util-linux, and root.
 limits:

@@ -3,7 +3,7 @@
 //! After Lamport 1978 (logical clocks): a step's stamp is above those of its site's earlier steps, and above that of the step that sent the
 //! envelope it received.
 mod box_fault;
-mod copying;
+mod copy_input;
 mod receipt;
 mod site_box;
 mod site_log;

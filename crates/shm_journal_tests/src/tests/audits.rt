@@ -1,6 +1,6 @@
 //! The journals of two sites, and what is said of them.
 use linked_list_allocator::LocalHeap;
-use shm_audit::{Totals, JournalFault, JournalsFault, audit_journals, read_log};
+use shm_audit::{JournalFault, JournalsFault, Totals, audit_journals, read_log};
 use shm_logs::{AuditFault, SiteLog};
 use shm_place::SiteId;
 use std::alloc::{AllocError, Allocator};

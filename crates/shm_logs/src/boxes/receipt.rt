@@ -1,5 +1,5 @@
-//! A caller's receipt of a step. Only `taking`, where a box takes the step, makes receipts.
-mod taking;
+//! A caller's receipt of a step. Only a box makes receipts, where it takes the step.
+mod box_take;
 
 use crate::boxes::step::Step;
 use shm_model::{Answer, Asked};
