@@ -8,5 +8,6 @@ mod refusals;
 mod report;
 mod running;
 mod settling;
+mod typed;
 mod waiting;
 mod workload;
