@@ -1,12 +1,12 @@
 //! Three callers that share a counter page. Each runs in a thread of its own and at a site of its own, and adds 1 to a byte of its own
 //! again and again; so the page goes from site to site. When all have ended the bytes are loaded, and what all callers were told is
 //! audited.
-mod auditing;
-mod counting;
+mod audit_run;
+mod callers;
 
 use anyhow::{Result, bail};
-use auditing::audit;
-use counting::{Told, count_all, load_all};
+use audit_run::audit;
+use callers::{Told, count_all, load_all};
 use shm_model::Answer;
 use shm_place::Sites;
 use shm_sites::{Cluster, OpenGate, Receipt};

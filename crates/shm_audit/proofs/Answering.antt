@@ -17,7 +17,7 @@ use Rattle.shm_logs.specs.Boxes.SiteBox.{box_of}
 use Rattle.shm_logs.specs.declared.boxes.site_box.SiteBox.{SiteBox}
 use Rattle.shm_logs.specs.declared.boxes.site_log.SiteLog.{SiteLog}
 use Rattle.shm_audit.specs.Found.{HasLog, IsFault, IsLed, LeadsToLog, ReadsUpTo, TellsLog, any, entered, first_found, found, opened}
-use Rattle.shm_audit.specs.declared.entering.Audited.{Audited}
+use Rattle.shm_audit.specs.declared.audited.Audited.{Audited}
 
 -- memory and the reader say nothing
 nothing_known : (a : Option (List ℕ)) → IfSome a (λ _. ⊤)

@@ -2,7 +2,7 @@ pub mod Faults
 pub mod Entered
 pub mod HandedOf
 pub mod Found
-pub mod Counts
+pub mod Totals
 pub mod OneSet
 pub mod Told
 pub mod Loads

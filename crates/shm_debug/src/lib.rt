@@ -2,27 +2,27 @@
 //! what becomes of each line.
 #![tactic(auto)]
 
-mod applying;
 mod back_fault;
 mod checkpoint;
 mod checkpoints;
-mod going_back;
 pub mod laws;
 mod notice;
 mod outcome;
 mod output;
+mod play_line;
 mod player;
-mod script;
+mod replay_script;
 mod session;
-mod showing;
-mod telling;
-mod turns;
+mod session_apply;
+mod session_back;
+mod session_show;
+mod tell;
 mod undos;
 
 pub use back_fault::BackFault;
 pub use outcome::{DebugFault, Summary};
 pub use player::Player;
-pub use script::replay;
+pub use replay_script::replay;
 pub use session::Session;
 pub use shm_lines::{BadLine, Line, parse_line};
-pub use telling::{print_answer, print_page, tell_answer_line, tell_page_line};
+pub use tell::{print_answer, print_page, tell_answer_line, tell_page_line};

@@ -11,7 +11,7 @@ ghost use Rattle.shm_debug.specs.Script;
 
 use crate::Session;
 use crate::outcome::{DebugFault, Summary};
-use crate::turns::{pass_line, summary};
+use crate::play_line::{pass_line, summary};
 use memchr::memchr;
 use shm_lines::{Line, laws, parse_line};
 use shm_text::Text;

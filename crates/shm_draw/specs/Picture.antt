@@ -19,8 +19,8 @@ use Rattle.shm_draw.specs.declared.mark.Mark.TheVariants.{At, Arrow, Elsewhere, 
 use Rattle.shm_draw.specs.declared.mark.Symbol.{Symbol}
 use Rattle.shm_draw.specs.declared.mark.Symbol.TheVariants as symbol
 use Rattle.shm_draw.specs.declared.mark.Way.{Way}
-use Rattle.shm_draw.specs.declared.word.Word.{Word}
-use Rattle.shm_draw.specs.declared.word.Word.TheVariants as word
+use Rattle.shm_draw.specs.declared.message_word.Word.{Word}
+use Rattle.shm_draw.specs.declared.message_word.Word.TheVariants as word
 
 -- ---- what is drawn of a message
 

@@ -27,8 +27,8 @@ use Rattle.shm_draw.specs.declared.mark.Mark.TheVariants.{At, Arrow, Elsewhere, 
 use Rattle.shm_draw.specs.declared.mark.Symbol.{Symbol}
 use Rattle.shm_draw.specs.declared.mark.Symbol.TheVariants.{Request, Tick, Restart}
 use Rattle.shm_draw.specs.declared.mark.Way.{Way}
-use Rattle.shm_draw.specs.declared.word.Word.{Word}
-use Rattle.shm_draw.specs.declared.word.Word.TheVariants as word
+use Rattle.shm_draw.specs.declared.message_word.Word.{Word}
+use Rattle.shm_draw.specs.declared.message_word.Word.TheVariants as word
 use Rattle.shm_draw.specs.Picture.{Scene, first_scene, scene_after, last_scene, mark, on_their_way, pages_drawn}
 
 -- ---- places, in pixels; heights count from the top of the page's picture

@@ -4,7 +4,7 @@ ghost use Rattle.shm_draw.specs.Svg;
 
 use crate::geometry::{reach_of, tip_of, x_of, y_of};
 use crate::mark::{End, Way};
-use crate::word::name_of;
+use crate::message_word::name_of;
 use shm_model::Answer;
 use shm_place::SiteId;
 use shm_text::AnswerText;

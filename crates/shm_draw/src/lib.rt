@@ -3,25 +3,25 @@
 #![tactic(auto)]
 
 mod arrow;
+mod draw_script;
+mod drawn_pages;
+mod event_mark;
+mod event_page;
+mod event_row;
 mod geometry;
-mod lanes;
 pub mod laws;
+mod lifelines;
 mod mark;
-mod marking;
+mod message_word;
 mod on_their_way;
 mod origins;
-mod page;
 mod page_picture;
-mod pages;
 mod picture;
-mod room;
-mod row;
-mod script;
+mod right_margin;
 mod style;
 mod ways;
-mod word;
 
+pub use draw_script::draw;
 pub use mark::{End, Mark, Symbol, Way};
+pub use message_word::Word;
 pub use picture::picture_of;
-pub use script::draw;
-pub use word::Word;

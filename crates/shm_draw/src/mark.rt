@@ -1,5 +1,5 @@
 //! What an event draws.
-use crate::word::Word;
+use crate::message_word::Word;
 use shm_place::{PageId, SiteId};
 
 /// An envelope's way, as an arrow shows it.

@@ -8,11 +8,11 @@ ghost use Rattle.shm_draw.specs.Picture;
 ghost use Rattle.shm_draw.specs.Svg;
 
 use crate::arrow::{tell_head_label, tell_path};
+use crate::event_page::is_of;
 use crate::geometry::row_below;
 use crate::mark::{End, Way};
-use crate::page::is_of;
+use crate::message_word::page_of;
 use crate::ways::way_of;
-use crate::word::page_of;
 use shm_model::Answer;
 use shm_parts::Envelope;
 use shm_place::PageId;

@@ -7,12 +7,12 @@ ghost use Rattle.shm_draw.specs.Picture.{scene};
 ghost use Rattle.shm_draw.specs.Svg;
 ghost use Rattle.shm_draw.specs.Drawing.{DrewEvent, DrewEvents, DrewPage, sheet};
 
+use crate::event_mark::mark_of;
+use crate::event_row::{tell_line, tell_mark, tell_shape};
 use crate::geometry::depth_of;
-use crate::lanes::{tell_cells, tell_heading, tell_names};
-use crate::marking::mark_of;
+use crate::lifelines::{tell_cells, tell_heading, tell_names};
 use crate::on_their_way::{draw_on_their_way, on_their_way, tell_on_their_way};
 use crate::origins::note_origins;
-use crate::row::{tell_line, tell_mark, tell_shape};
 use shm_model::Event;
 use shm_place::PageId;
 use shm_world::World;

@@ -5,10 +5,10 @@ ghost use Rattle.shm_world.specs.World.{StandsFor};
 ghost use Rattle.shm_draw.specs.Svg;
 ghost use Rattle.shm_draw.specs.Drawing.{DrewPages};
 
+use crate::drawn_pages::pages_drawn;
 use crate::geometry::{next_top, width_of};
 use crate::page_picture::tell_page;
-use crate::pages::pages_drawn;
-use crate::room::room_of;
+use crate::right_margin::room_of;
 use crate::style::STYLE;
 use shm_model::Event;
 use shm_place::{PageId, Sites};

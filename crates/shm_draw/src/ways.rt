@@ -4,7 +4,7 @@ ghost use Rattle.shm_parts.specs.Message.{envelope_of};
 ghost use Rattle.shm_draw.specs.Picture;
 
 use crate::mark::Way;
-use crate::word::word_of;
+use crate::message_word::word_of;
 use shm_parts::Envelope;
 use std::alloc::Allocator;
 

@@ -13,7 +13,7 @@ ghost use Rattle.shm_process.specs.NodeOf.{node_of};
 use crate::header::Header;
 use crate::journal_fault::JournalFault;
 use crate::lines::Lines;
-use crate::parsing::parse_header;
+use crate::parse::parse_header;
 use crate::recovered::Recovered;
 use crate::recovery_fault::RecoveryFault;
 use crate::replay::replay_rest;

@@ -1,3 +1,3 @@
 mod audits;
-mod recovering;
-mod serving;
+mod process_loop;
+mod recovery;

@@ -9,7 +9,7 @@ use Rattle.shm_lines.specs.Words.{◌>>=◌, words_of, byte_of, next_word, next_
 use Rattle.shm_lines.specs.Limits.{max_line_bytes, max_lines}
 use Rattle.shm_lines.specs.declared.workload_fault.WorkloadFault.{WorkloadFault}
 use Rattle.shm_lines.specs.declared.workload_fault.WorkloadFault.TheVariants.{BadLine, LineTooLong, TooManyLines}
-use Rattle.shm_lines.specs.declared.access.WorkloadAccess.{WorkloadAccess}
+use Rattle.shm_lines.specs.declared.workload_access.WorkloadAccess.{WorkloadAccess}
 
 -- there is such a site, and segment 0 has a byte there
 abbrev pub is_inside : ℕ → ℕ → ℕ → ℕ → Bool

@@ -2,24 +2,24 @@
 //! remembers the lines that it gave last.
 
 mod expected;
-mod fronts;
 mod hint;
-mod kept;
-mod recalling;
+mod hint_writer;
+mod kept_lines;
+mod line_remarks;
+mod read_words;
+mod recalling_reader;
 mod remark;
-mod remarking;
 mod script;
-mod show;
 mod verbs;
-mod walk;
+mod word_prefix;
 mod workload;
 mod workload_line;
 
 pub use expected::{Expected, Word};
 pub use hint::Hint;
-pub use recalling::Recalling;
+pub use hint_writer::write_hint;
+pub use line_remarks::{remark_on_script_line, remark_on_workload_line};
+pub use recalling_reader::RecallingReader;
 pub use remark::Remark;
-pub use remarking::{remark_on_script_line, remark_on_workload_line};
 pub use script::hint_of_script_line;
-pub use show::write_hint;
 pub use workload::{hint_of_access_line, hint_of_first_line};

@@ -2,34 +2,34 @@
 //! everywhere.
 #![tactic(auto)]
 
-mod access;
-mod calls;
+mod display_calls;
+mod display_first_line;
+mod display_line;
+mod display_options;
 mod hints;
 pub mod laws;
 mod line;
-mod mode;
-mod number;
-mod options;
 mod parse;
-mod spelling;
-mod spelling_calls;
-mod spelling_first;
+mod parse_calls;
+mod parse_number;
+mod parse_options;
 mod words;
 mod workload;
+mod workload_access;
 mod workload_fault;
 mod workload_line;
 
-pub use access::WorkloadAccess;
-pub use calls::{parse_call, parse_request};
+pub use display_calls::{CallWords, RequestWords};
+pub use display_options::{AccessWord, FlagsWord};
 pub use hints::{
-    Expected, Hint, Recalling, Remark, Word, hint_of_access_line, hint_of_first_line,
+    Expected, Hint, RecallingReader, Remark, Word, hint_of_access_line, hint_of_first_line,
     hint_of_script_line, remark_on_script_line, remark_on_workload_line, write_hint,
 };
 pub use line::Line;
-pub use number::wide_number;
-pub use options::{AccessWord, FlagsWord};
 pub use parse::{BadLine, parse_line};
-pub use spelling_calls::{CallWords, RequestWords};
+pub use parse_calls::{parse_call, parse_request};
+pub use parse_number::wide_number;
 pub use words::{Words, split_at};
 pub use workload::{Workload, parse_workload};
+pub use workload_access::WorkloadAccess;
 pub use workload_fault::WorkloadFault;

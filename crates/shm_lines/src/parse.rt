@@ -3,8 +3,8 @@ ghost use Rattle.std.specs.Prelude.{◌≡◌, ℕ, List, ok_or, codes};
 ghost use Rattle.shm_lines.specs.Words.{by_verb, next_named};
 ghost use Rattle.shm_lines.specs.Line.{line_of, call_of, others, sites_of, preset_of, frames_of, load_of, store_of, deliver_of, repeat_of, lose_of, tick_of, restart_of, show_of, back_of};
 
-use crate::calls::parse_request;
 use crate::line::Line;
+use crate::parse_calls::parse_request;
 use crate::words::Words;
 use shm_model::{Event, Opening};
 use shm_place::{MAX_FRAMES, PAGES, PageId, SegId, SiteId, Sites};

@@ -5,8 +5,8 @@ ghost use Rattle.std.specs.Option.{option_map_or};
 ghost use Rattle.shm_lines.specs.Words.{words_of, byte_of, mode_of, flags_of, access_of, next_word, next_of, next_number, next_cred, is_end, ended};
 
 use crate::line::Line;
-use crate::mode::{access, flags, mode};
-use crate::number::{front_number, number};
+use crate::parse_number::{front_number, number};
+use crate::parse_options::{access, flags, mode};
 use shm_model::{Cred, GetFlags, Mode};
 use std::marker::Model;
 

@@ -3,8 +3,8 @@ ghost use Rattle.std.specs.Prelude.{◌≡◌, ◌≢◌, ◌≤◌, ◌⊎◌, 
 ghost use Rattle.shm_lines.specs.Workload.{open_line, parts_of, with_size, workload_of, accesses_on};
 ghost use Rattle.shm_lines.specs.declared.workload_fault.WorkloadFault.TheVariants as cause;
 
-use crate::access::WorkloadAccess;
 use crate::split_at;
+use crate::workload_access::WorkloadAccess;
 use crate::workload_fault::WorkloadFault;
 use crate::workload_line::{access_line, first_line, open_line};
 use shm_place::{PAGES, Sites};

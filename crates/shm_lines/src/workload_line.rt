@@ -3,7 +3,7 @@ ghost use Rattle.std.specs.Prelude.{◌≡◌, ◌≤◌};
 ghost use Rattle.shm_lines.specs.Workload as said;
 
 use crate::Words;
-use crate::access::WorkloadAccess;
+use crate::workload_access::WorkloadAccess;
 use crate::workload_fault::WorkloadFault;
 use shm_model::Asked;
 use shm_place::{PAGE_BYTES, PAGES, SiteId, Sites};

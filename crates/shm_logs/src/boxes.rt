@@ -3,7 +3,7 @@
 //! After Lamport 1978 (logical clocks): a step's stamp is above those of its site's steps before it, and above that of the step which
 //! sent what it is handed.
 mod box_fault;
-mod copying;
+mod copy_input;
 mod receipt;
 mod site_box;
 mod site_log;

@@ -2,11 +2,11 @@
 //! of what callers were told (`auditing`). Nothing here needs threads.
 #![tactic(auto)]
 
-mod auditing;
 mod boxes;
+mod log_audit;
 
-pub use auditing::{
+pub use boxes::{Answer, Asked, BoxFault, Envelope, Input, Receipt, SiteBox, SiteLog, Stamp, Step};
+pub use log_audit::{
     AuditFault, Event, StepName, audit, audit_complete, events, laws, logs_match, merge,
 };
-pub use boxes::{Answer, Asked, BoxFault, Envelope, Input, Receipt, SiteBox, SiteLog, Stamp, Step};
 pub use shm_place::{NoSuchSite, SiteId, Sites};

@@ -7,7 +7,7 @@ use Rattle.shm_model.specs.declared.answer.Answer.TheVariants.{Waiting}
 use Rattle.shm_model.specs.declared.answer.Shown.{Shown}
 use Rattle.shm_parts.specs.Holdings.{shown_of}
 use Rattle.shm_text.specs.Text.{answer_text}
-use Rattle.shm_wire.specs.Answers.{answer_line, block_text}
+use Rattle.shm_wire.specs.Answers.{tell_line, block_text}
 use Rattle.shm_wire.specs.Asks.{Ask}
 use Rattle.shm_wire.specs.Line as stream
 use Rattle.shm_wire.specs.declared.ask.Question.{Question}
@@ -22,7 +22,7 @@ text_of answer None = answer_text answer
 text_of answer (Some bytes) = block_text bytes
 
 abbrev pub answer_line_of : Said → Option (List ℕ)
-answer_line_of said = option_map (λ tag. answer_line (record { site = said.site; tag = tag; text = text_of said.answer said.block })) said.tag
+answer_line_of said = option_map (λ tag. tell_line (record { site = said.site; tag = tag; text = text_of said.answer said.block })) said.tag
 
 -- what the site has of a page that a segment can have
 abbrev pub shown_at : Node → PageId → Option Shown
@@ -32,10 +32,10 @@ shown_at node page =
 -- a block that finds no room to wait is answered at once
 abbrev pub crowded_out : Node → List ℕ → Option (List ℕ)
 crowded_out node tag =
-    if has_room node || is_late node 0 then None else Some (answer_line (record { site = node.me; tag = tag; text = answer_text Waiting }))
+    if has_room node || is_late node 0 then None else Some (tell_line (record { site = node.me; tag = tag; text = answer_text Waiting }))
 
 abbrev pub shown_for : Node → List ℕ → Question → Option (List ℕ)
-shown_for node tag (question.Show page) = Some (answer_line (record { site = node.me; tag = tag; text = shown_text (shown_at node page) }))
+shown_for node tag (question.Show page) = Some (tell_line (record { site = node.me; tag = tag; text = shown_text (shown_at node page) }))
 shown_for node tag (question.Read at offset count) = crowded_out node tag
 shown_for node tag _ = None
 

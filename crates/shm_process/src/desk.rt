@@ -14,8 +14,8 @@ ghost use Rattle.shm_wire.specs.LineOf.{line_of};
 
 use crate::again::Again;
 use crate::node::Node;
+use crate::node_take::MOST_STEPS;
 use crate::said::Said;
-use crate::taking::MOST_STEPS;
 use memchr::memchr;
 use shm_wire::{Line, parse_line};
 use std::alloc::{AllocError, Allocator, Global};

@@ -1,5 +1,5 @@
 use crate::block::Block;
-use crate::stepping::is_open;
+use crate::node_say::is_open;
 use shm_model::{Answer, Asked};
 use shm_wire::Tag;
 use std::alloc::{Allocator, Global};

@@ -3,20 +3,21 @@
 //! compute; and, of the code, a world that is brought to rest.
 #![tactic(auto)]
 
+mod calls;
 mod deliveries;
-mod purging;
+mod purges;
 mod queues;
 mod requests;
 mod rounds;
 mod schedules;
-mod serving;
-mod settling;
+mod settlement;
 mod transactions;
 
+pub use calls::{calls_end, calls_go_on};
 pub use deliveries::{
     deliveries_are_few, deliveries_end, each_delivery_counts, worlds_come_to_rest,
 };
-pub use purging::{purges_end, purges_go_on};
+pub use purges::{purges_end, purges_go_on};
 pub use queues::none_waits_for_nothing;
 pub use requests::{requests_end, requests_go_on, started_requests_are_served};
 pub use rounds::{
@@ -27,6 +28,5 @@ pub use schedules::{
     eighth_schedule, fifth_schedule, first_schedule, fourth_schedule, ninth_schedule,
     second_schedule, seventh_schedule, sixth_schedule, tenth_schedule, third_schedule,
 };
-pub use serving::{calls_end, calls_go_on};
-pub use settling::{Settled, deliver_all, oldest_from, settle};
+pub use settlement::{Settled, deliver_all, oldest_from, settle};
 pub use transactions::{transactions_end, transactions_go_on};

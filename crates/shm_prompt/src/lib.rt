@@ -1,29 +1,29 @@
 //! The debugger's session for people at a terminal: each line is answered before the next is read, a wrong line is told and doesn't end it.
 #![tactic(auto)]
 
-mod acting;
-mod asking;
 mod command;
+mod deliver_all;
 mod dialog;
+mod dialog_act;
+mod dialog_obey;
 mod flight;
 mod help;
 mod hints;
-mod obeying;
+mod pages_table;
 mod prompt_fault;
-mod running;
+mod prompt_loop;
 mod save_file;
 mod save_refusal;
-mod saving;
+mod save_script;
 mod segments;
-mod spelled;
-mod table;
-mod telling;
-mod typed;
+mod spelled_line;
+mod tell_line;
+mod typed_lines;
 
-pub use asking::prompt;
 pub use command::{Command, parse_command};
 pub use dialog::Dialog;
 pub use prompt_fault::PromptFault;
+pub use prompt_loop::prompt;
 pub use save_file::SaveFile;
 pub use save_refusal::SaveRefusal;
-pub use saving::saved_script;
+pub use save_script::saved_script;

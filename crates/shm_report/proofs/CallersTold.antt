@@ -4,7 +4,7 @@ use Rattle.std.proofs.Math.ListN.{get_or-append}
 use Rattle.std.proofs.Math.Seq.{get_or-append_seam}
 use Rattle.std.specs.Prelude.{Result, Vec}
 use Rattle.shm_logs.specs.declared.boxes.receipt.Receipt.{Receipt}
-use Rattle.shm_lines.specs.declared.access.WorkloadAccess.{WorkloadAccess}
+use Rattle.shm_lines.specs.declared.workload_access.WorkloadAccess.{WorkloadAccess}
 use Rattle.shm_report.specs.Callers.{IsToldOf, ServedUnlessEnded, ServesAll}
 use Rattle.shm_report.specs.declared.run_fault.CallFault.{CallFault}
 

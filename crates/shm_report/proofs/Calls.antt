@@ -5,7 +5,7 @@ use Rattle.std.specs.List.{AllZip, filter}
 use Rattle.std.proofs.lemmas.List.{append-nil, take_more}
 use Rattle.std.proofs.lemmas.List.Elements.{filter-append}
 use Rattle.shm_logs.specs.declared.boxes.receipt.Receipt.{Receipt}
-use Rattle.shm_lines.specs.declared.access.WorkloadAccess.{WorkloadAccess}
+use Rattle.shm_lines.specs.declared.workload_access.WorkloadAccess.{WorkloadAccess}
 use Rattle.shm_report.specs.Callers.{Adds, Serves, ServesAll}
 
 zip-push : (xs : List WorkloadAccess) (ys : List Receipt) (x : WorkloadAccess) (y : Receipt) → AllZip Serves xs ys → Serves x y → AllZip Serves (xs ++ x ∷ []) (ys ++ y ∷ [])

@@ -7,7 +7,7 @@ use Rattle.std.proofs.lemmas.List.{append-nil, length-drop, length-take, take-ap
 use Rattle.std.proofs.lemmas.List.Splits.{join_with_byte-slice_split, length-slice_split}
 use Rattle.shm_lines.specs.Limits.{max_bytes}
 use Rattle.shm_lines.specs.Workload.{Whole, access_of, accesses_on, after_first, broken_limit, open_line, or_bad, parts_of, preset_of, read_all, read_line, then_rest, unless_broken, with_size, workload_of}
-use Rattle.shm_lines.specs.declared.access.WorkloadAccess.{WorkloadAccess}
+use Rattle.shm_lines.specs.declared.workload_access.WorkloadAccess.{WorkloadAccess}
 use Rattle.shm_lines.specs.declared.workload_fault.WorkloadFault.{WorkloadFault}
 use Rattle.shm_lines.specs.declared.workload_fault.WorkloadFault.TheVariants.{BadLine, LineTooLong, TooManyLines}
 use Rattle.shm_report.proofs.WholeInput.{in_limits}

@@ -9,7 +9,7 @@ use Rattle.std.proofs.lemmas.Option.{get_or_from_slice_get, none-some, slice_get
 use Rattle.shm_logs.specs.declared.boxes.receipt.Receipt.{Receipt}
 use Rattle.shm_report.specs.Callers.{AllServed, Serves, ServesAll}
 use Rattle.shm_text.specs.Text.{line_text}
-use Rattle.shm_lines.specs.declared.access.WorkloadAccess.{WorkloadAccess}
+use Rattle.shm_lines.specs.declared.workload_access.WorkloadAccess.{WorkloadAccess}
 use Rattle.shm_report.proofs.Lines.{answers_text-push, one_line}
 use Rattle.shm_report.specs.Report.{answers_text, earlier, lines_text, TellsLines, TellsReceipt, HasReceipt, IsReceiptOf}
 

@@ -14,7 +14,7 @@ use Rattle.shm_logs.specs.Auditing.Logs.{logs_of}
 use Rattle.shm_logs.specs.Boxes.SiteLog.{steps_of}
 use Rattle.shm_logs.specs.declared.boxes.receipt.Receipt.{Receipt}
 use Rattle.shm_lines.specs.Workload.{workload_of}
-use Rattle.shm_lines.specs.declared.access.WorkloadAccess.{WorkloadAccess}
+use Rattle.shm_lines.specs.declared.workload_access.WorkloadAccess.{WorkloadAccess}
 
 pub on_ok : {X E P Q : Type 0} (r : Result X E) → (P → Q) → OnOk r P → OnOk r Q
 on_ok (Ok x) f p = f p

@@ -4,7 +4,7 @@ use Rattle.std.proofs.lemmas.Option.{get_or_from_slice_get, none-some, slice_get
 use Rattle.std.proofs.Math.ListN.{length-map, get_or-map}
 use Rattle.std.specs.Prelude.{Vec}
 use Rattle.shm_logs.specs.declared.boxes.receipt.Receipt.{Receipt}
-use Rattle.shm_lines.specs.declared.access.WorkloadAccess.{WorkloadAccess}
+use Rattle.shm_lines.specs.declared.workload_access.WorkloadAccess.{WorkloadAccess}
 use Rattle.shm_report.specs.Callers.{AllServed, ServedUnlessEnded, ServesAll}
 use Rattle.shm_report.specs.RunFaults.{NamesAccess, NoneFailed, TellsFirst}
 use Rattle.shm_report.specs.declared.ran.Ran.{Ran}

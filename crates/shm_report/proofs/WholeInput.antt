@@ -10,7 +10,7 @@ use Rattle.std.proofs.lemmas.Bool.Decides.{nat_tests}
 use Rattle.std.specs.List.{join_with_byte}
 use Rattle.shm_lines.specs.Limits.{max_bytes}
 use Rattle.shm_lines.specs.Workload.{Whole, access_of, accesses_on, after_first, open_line, or_bad, parts_of, preset_of, read_all, read_line, then_rest, unless_broken, with_size, workload_of}
-use Rattle.shm_lines.specs.declared.access.WorkloadAccess.{WorkloadAccess}
+use Rattle.shm_lines.specs.declared.workload_access.WorkloadAccess.{WorkloadAccess}
 use Rattle.shm_lines.specs.declared.workload_fault.WorkloadFault.{WorkloadFault}
 use Rattle.shm_lines.specs.declared.workload_fault.WorkloadFault.TheVariants.{LineTooLong, TooManyLines}
 

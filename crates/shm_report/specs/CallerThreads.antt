@@ -3,8 +3,8 @@ use Rattle.std.specs.Prelude.{◌≡◌, ℕ, ◌<◌, List, Result, Vec, length
 use Rattle.std.specs.declared.alloc.Global.{Global}
 use Rattle.std.specs.declared.thread.PromisedHandle.{PromisedHandle}
 use Rattle.shm_logs.specs.declared.boxes.receipt.Receipt.{Receipt}
-use Rattle.shm_lines.specs.declared.access.WorkloadAccess.{WorkloadAccess}
-use Rattle.shm_report.specs.declared.calling.Caller.{Caller}
+use Rattle.shm_lines.specs.declared.workload_access.WorkloadAccess.{WorkloadAccess}
+use Rattle.shm_report.specs.declared.caller_threads.Caller.{Caller}
 use Rattle.shm_report.specs.declared.run_fault.CallFault.{CallFault}
 
 -- the caller of this site, for its part of these accesses

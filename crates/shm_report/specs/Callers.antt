@@ -5,7 +5,7 @@ use Rattle.shm_model.specs.Receipt.{access_of}
 use Rattle.shm_logs.specs.declared.boxes.receipt.Receipt.{Receipt}
 use Rattle.shm_sites.specs.Cluster.Client.{IsServed, TellsOf}
 use Rattle.shm_report.specs.declared.run_fault.CallFault.{CallFault}
-use Rattle.shm_lines.specs.declared.access.WorkloadAccess.{WorkloadAccess}
+use Rattle.shm_lines.specs.declared.workload_access.WorkloadAccess.{WorkloadAccess}
 
 -- a site's lines, in their order
 abbrev pub lines_of : ℕ → List WorkloadAccess → List WorkloadAccess

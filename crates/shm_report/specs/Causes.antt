@@ -3,7 +3,7 @@ use Rattle.std.specs.Prelude.{◌≡◌, ◌≤◌, ℕ, ◌+◌, Bool, true, fa
 use Rattle.std.specs.declared.alloc.Global.{Global}
 use Rattle.shm_logs.specs.Auditing.Callers.{callers_of}
 use Rattle.shm_logs.specs.Auditing.Complete.{IsFirstCauseOfAll}
-use Rattle.shm_logs.specs.declared.auditing.audit_fault.AuditFault.{AuditFault}
+use Rattle.shm_logs.specs.declared.log_audit.audit_fault.AuditFault.{AuditFault}
 use Rattle.shm_logs.specs.declared.boxes.receipt.Receipt.{Receipt}
 use Rattle.shm_sites.specs.declared.cluster.client_fault.ClientFault.{ClientFault}
 use Rattle.shm_sites.specs.declared.cluster.client_fault.ClientFault.TheVariants as client

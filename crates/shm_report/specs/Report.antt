@@ -14,7 +14,7 @@ use Rattle.shm_report.specs.Callers.{AllServed, Serves, lines_of}
 use Rattle.shm_report.specs.Counts.{counts_of, summary_text}
 use Rattle.shm_text.specs.Text.{answer_text, line_text}
 use Rattle.shm_lines.specs.Workload.{Whole, workload_of}
-use Rattle.shm_lines.specs.declared.access.WorkloadAccess.{WorkloadAccess}
+use Rattle.shm_lines.specs.declared.workload_access.WorkloadAccess.{WorkloadAccess}
 use Rattle.shm_lines.specs.declared.workload.Workload.{Workload}
 
 -- how many of the accesses before this place are the site's

@@ -3,28 +3,28 @@
 #![tactic(auto)]
 
 mod audited;
-mod auditing;
+mod audited_summary;
 mod caller;
-mod calling;
-mod counting;
+mod caller_threads;
+mod count_run;
 mod counts;
-mod counts_text;
+mod display_counts;
 mod fault_number;
 mod log_lines;
+mod order_steps;
 mod ran;
-mod reading;
+mod read_input;
 mod report_fault;
-mod reporting;
+mod report_text;
+mod report_workload;
 mod run_fault;
-mod running;
-mod summing;
-mod telling;
+mod workload_run;
 
 pub use audited::Audited;
 pub use counts::Counts;
 pub use log_lines::log_text;
 pub use ran::Ran;
 pub use report_fault::ReportFault;
-pub use reporting::{report, run_audited};
+pub use report_workload::{report, run_audited};
 pub use run_fault::{CallFault, RunFault};
-pub use running::run_workload;
+pub use workload_run::run_workload;

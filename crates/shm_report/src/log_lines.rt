@@ -58,7 +58,7 @@ fn push_sent(
     ensures { OnOk result (string_bytes text.new ≡ string_bytes text.old ++ spec.sent_text clock index 0 (map envelope_of sent.now)) }
 {
     'sent: for (place, envelope) in sent.iter().enumerate() {
-        let source = shm_wire::Stamp {
+        let source = shm_wire::Source {
             clock,
             index: index as u64,
             place: place as u64,
@@ -84,7 +84,7 @@ impl fmt::Display for Handed<'_> {
         match own_event(self.site, self.input) {
             Ok(event) => write!(f, "{}", Line::Event(event)),
             Err(envelope) => {
-                let source = shm_wire::Stamp {
+                let source = shm_wire::Source {
                     clock: self.source.at,
                     index: self.source.index as u64,
                     place: self.source.place as u64,

@@ -1,5 +1,5 @@
 ghost use Rattle.std.specs.Prelude.{◌≡◌, ◌≢◌, None, Some, false};
-ghost use Rattle.shm_logs.specs.declared.auditing.audit_fault.AuditFault.TheVariants as audit;
+ghost use Rattle.shm_logs.specs.declared.log_audit.audit_fault.AuditFault.TheVariants as audit;
 ghost use Rattle.shm_report.specs.declared.report_fault.ReportFault.TheVariants as cause;
 ghost use Rattle.shm_lines.specs.declared.workload_fault.WorkloadFault.TheVariants as workload;
 
@@ -32,7 +32,7 @@ pub enum ReportFault {
     /// The system gave no thread.
     #[error("no thread")]
     NoThread,
-    /// The line's access was waited for to its last turn, and its site still waits for the page; or the box at its site was another's.
+    /// The line's access was tried for the last time, and its site still waits for the page; or the box at its site was another's.
     #[error("line {0}: gave up")]
     GaveUp(u64),
     /// A site's clock has no further stamp.

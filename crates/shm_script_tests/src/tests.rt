@@ -6,14 +6,14 @@ mod growths;
 mod hints;
 mod lines;
 mod prefixes;
-mod refused;
+mod refused_lines;
 mod replays;
 mod restarts;
 mod scripts;
 mod session;
 mod streams;
 mod text;
-mod worked;
+mod worked_scripts;
 mod worlds;
 
 use scripts::Script;

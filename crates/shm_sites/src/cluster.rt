@@ -4,20 +4,20 @@
 //! A step is made under the site's own lock, and what it sends is sent after the lock was let go. So sites run at once. The network
 //! between their threads loses and repeats envelopes, by numbers that are drawn; no contract rests on what the channels bring.
 mod access;
-mod carrying;
 mod client;
 mod client_fault;
-mod copies;
 mod fate;
 mod gate;
 mod mail;
-mod opening;
+mod network;
+mod opened;
 mod posted;
+mod sent_copies;
 mod shared;
+mod start;
 mod start_fault;
-mod starting;
-mod stopping;
-mod work;
+mod stop;
+mod worker;
 
 pub use client::Client;
 pub use client_fault::ClientFault;

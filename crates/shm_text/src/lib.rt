@@ -4,7 +4,7 @@
 
 mod answer_text;
 mod names;
-mod pushing;
+mod push;
 mod reply_text;
 mod stat_text;
 mod streams;
@@ -12,6 +12,6 @@ mod text;
 
 pub use answer_text::AnswerText;
 pub use names::{message_name, state_name};
-pub use pushing::{push_answer, push_number};
+pub use push::{push_answer, push_number};
 pub use streams::{NotWritten, read_up_to, write_whole};
 pub use text::Text;

@@ -18,7 +18,7 @@ use Rattle.shm_lines.proofs.WordLemmas.{is_end-parts}
 use Rattle.shm_lines.specs.Words.{words_of}
 use Rattle.shm_wire.proofs.TagWords.{tag}
 use Rattle.shm_wire.proofs.Reading.{took, took_verb, prints}
-use Rattle.shm_wire.specs.Answers.{Answer, IsAnswer, answer_after, answer_line, answer_of_words, is_text, read_answer, text_of, text_of_words}
+use Rattle.shm_wire.specs.Answers.{TellLine, IsTellLine, tell_line_after, tell_line, tell_line_of_words, is_text, read_tell_line, text_of, text_of_words}
 
 text-range : (c : ℕ) → is_in_range 32 126 c ≡ true → c < 128
 text-range c h = grind (arith, nat_tests)
@@ -48,37 +48,37 @@ took_text (first ∷ others) text h =
     record { is = subst (λ t. is_text t ≡ true) c.1 c.0; first = first; others = others; are = refl; make = c.1 }
 
 -- what stands after the verb
-abbrev after_line : Answer → List ℕ
+abbrev after_line : TellLine → List ℕ
 after_line answer = decimal answer.site ++ 32 ∷ (answer.tag ++ 32 ∷ answer.text)
 
-after-is : (words : List (List ℕ)) (answer : Answer) → answer_after words ≡ Some answer
-    → IsAnswer answer × (join_with_byte 32 (codes "tell" ∷ words) ≡ answer_line answer)
+after-is : (words : List (List ℕ)) (answer : TellLine) → tell_line_after words ≡ Some answer
+    → IsTellLine answer × (join_with_byte 32 (codes "tell" ∷ words) ≡ tell_line answer)
 after-is words answer h =
     let s = took number words _ answer h in
     let t = took tag s.others _ answer s.gives in
     let x = step (text_of_words (drop 2 words)) _ answer t.gives in
     let two : words ≡ decimal s.value ∷ t.value ∷ t.others = onto s.are t.are in
     let r = took_text t.others x.value (ap text_of_words (sym (ap (drop 2) two)) ∙ x.gave) in
-    let made : Answer = record { site = s.value; tag = t.value; text = x.value } in
-    let line : join_with_byte 32 (codes "tell" ∷ words) ≡ answer_line made =
+    let made : TellLine = record { site = s.value; tag = t.value; text = x.value } in
+    let line : join_with_byte 32 (codes "tell" ∷ words) ≡ tell_line made =
     ap (λ l. join_with_byte 32 (codes "tell" ∷ l)) (two ∙ ap (λ l. decimal s.value ∷ t.value ∷ l) r.are)
     ∙ ap (λ text. codes "tell" ++ 32 ∷ (decimal s.value ++ 32 ∷ (t.value ++ 32 ∷ text))) r.make in
-    subst (λ (a : Answer). IsAnswer a × (join_with_byte 32 (codes "tell" ∷ words) ≡ answer_line a)) (some-is made answer x.gives) ((s.is, t.is, r.is), line)
+    subst (λ (a : TellLine). IsTellLine a × (join_with_byte 32 (codes "tell" ∷ words) ≡ tell_line a)) (some-is made answer x.gives) ((s.is, t.is, r.is), line)
 
-pub answer-is_spelled : (bytes : List ℕ) (answer : Answer) → read_answer bytes ≡ Some answer → IsAnswer answer × (bytes ≡ answer_line answer)
+pub answer-is_spelled : (bytes : List ℕ) (answer : TellLine) → read_tell_line bytes ≡ Some answer → IsTellLine answer × (bytes ≡ tell_line answer)
 answer-is_spelled bytes answer h =
-    let v = took_verb (codes "tell") answer_after (words_of bytes) answer h in
+    let v = took_verb (codes "tell") tell_line_after (words_of bytes) answer h in
     let r = after-is v.others answer v.gives in
     (r.0, sym (join_with_byte-slice_split 32 bytes) ∙ ap (join_with_byte 32) v.are ∙ r.1)
 
-pub answer-is_read : (answer : Answer) → IsAnswer answer → read_answer (answer_line answer) ≡ Some answer
+pub answer-is_read : (answer : TellLine) → IsTellLine answer → read_tell_line (tell_line answer) ≡ Some answer
 answer-is_read answer h =
     let site = decimal answer.site in
     let text = answer.text in
-    let all : words_of (answer_line answer) ≡ codes "tell" ∷ site ∷ answer.tag ∷ words_of text =
+    let all : words_of (tell_line answer) ≡ codes "tell" ∷ site ∷ answer.tag ∷ words_of text =
     slice_split_at (λ byte. byte == 32) (codes "tell") 32 (after_line answer) (NoBlank-test (codes "tell") refl) refl
     ∙ ap (λ l. codes "tell" ∷ l) (slice_split_at (λ byte. byte == 32) site 32 (answer.tag ++ 32 ∷ text) (number.unparted answer.site h.0) refl)
     ∙ ap (λ l. codes "tell" ∷ site ∷ l) (slice_split_at (λ byte. byte == 32) answer.tag 32 text (tag.unparted answer.tag h.1) refl) in
     let whole : text_of_words (words_of text) ≡ Some text = words_text text ∙ ap (λ b. cond b (Some text) None) h.2 in
-    ap answer_of_words all
+    ap tell_line_of_words all
     ∙ rw (prints number answer.site (answer.tag ∷ words_of text) h.0, prints tag answer.tag (words_of text) h.1, whole) refl

@@ -10,7 +10,7 @@ use Rattle.shm_wire.proofs.AskWords.{ask-is}
 use Rattle.shm_wire.proofs.Reading.{Reads, Sound, SoundWords, by_verb-is, nothing-is, took_verb, verb-is}
 use Rattle.shm_wire.proofs.SentWords.{sent-is, sent-spelled, sent_words}
 use Rattle.shm_wire.proofs.SpelledAsks.{ask-spelled}
-use Rattle.shm_wire.specs.Answers.{Answer, answer_after, answer_of_words, read_answer}
+use Rattle.shm_wire.specs.Answers.{TellLine, tell_line_after, tell_line_of_words, read_tell_line}
 use Rattle.shm_wire.specs.Asks.{ask_after, asked_words}
 use Rattle.shm_wire.specs.Line.{Line, Envelope, Ask, IsLine, line_of_words, line_text, line_words, lines, read_line}
 use Rattle.shm_wire.specs.Sent.{sent_of}
@@ -65,9 +65,9 @@ line-is_read (Ask ask) h =
 
 -- ---- apart from answers
 
-pub line-alone : (bytes : List ℕ) (line : Line) → read_line bytes ≡ Some line → read_answer bytes ≡ None
-line-alone bytes (Envelope e) h = ap answer_of_words (words-are (words_of bytes) (Envelope e) h).1
-line-alone bytes (Ask ask) h = ap answer_of_words (words-are (words_of bytes) (Ask ask) h).1
+pub line-alone : (bytes : List ℕ) (line : Line) → read_line bytes ≡ Some line → read_tell_line bytes ≡ None
+line-alone bytes (Envelope e) h = ap tell_line_of_words (words-are (words_of bytes) (Envelope e) h).1
+line-alone bytes (Ask ask) h = ap tell_line_of_words (words-are (words_of bytes) (Ask ask) h).1
 
-pub answer-alone : (bytes : List ℕ) (answer : Answer) → read_answer bytes ≡ Some answer → read_line bytes ≡ None
-answer-alone bytes answer h = ap line_of_words (took_verb (codes "tell") answer_after (words_of bytes) answer h).are
+pub answer-alone : (bytes : List ℕ) (answer : TellLine) → read_tell_line bytes ≡ Some answer → read_line bytes ≡ None
+answer-alone bytes answer h = ap line_of_words (took_verb (codes "tell") tell_line_after (words_of bytes) answer h).are

@@ -10,7 +10,7 @@ use Rattle.shm_lines.specs.Spelling.{IsNumber}
 use Rattle.shm_wire.specs.Tag.{IsTag, tag_of}
 use Rattle.shm_wire.specs.TagOf.{tag_text}
 use Rattle.shm_wire.specs.Words.{by_verb, nothing}
-use Rattle.shm_wire.specs.declared.answer.Answer.{Answer as CodeAnswer}
+use Rattle.shm_wire.specs.declared.tell_line.TellLine.{TellLine as CodeTellLine}
 
 -- printable ASCII, and blanks
 abbrev pub is_text : List ℕ → Bool
@@ -23,36 +23,36 @@ text_of text = if is_text text then Some text else None
 abbrev pub text_of_words : List (List ℕ) → Option (List ℕ)
 text_of_words words = if is_end words then None else text_of (join_with_byte 32 words)
 
-pub record Answer : Type 0 where
+pub record TellLine : Type 0 where
   pub site : ℕ
   pub tag : List ℕ
   pub text : List ℕ
 
-abbrev pub answer_of : CodeAnswer → Answer
-answer_of answer = record { site = answer.site; tag = tag_text answer.tag; text = answer.text.now }
+abbrev pub tell_line_of : CodeTellLine → TellLine
+tell_line_of answer = record { site = answer.site; tag = tag_text answer.tag; text = answer.text.now }
 
 -- the answers that have a line
-abbrev pub IsAnswer : Answer → Type 0
-IsAnswer answer = IsNumber answer.site × IsTag answer.tag × (is_text answer.text ≡ true)
+abbrev pub IsTellLine : TellLine → Type 0
+IsTellLine answer = IsNumber answer.site × IsTag answer.tag × (is_text answer.text ≡ true)
 
-abbrev pub answer_line : Answer → List ℕ
-answer_line answer = join_with_byte 32 (codes "tell" ∷ decimal answer.site ∷ answer.tag ∷ answer.text ∷ [])
+abbrev pub tell_line : TellLine → List ℕ
+tell_line answer = join_with_byte 32 (codes "tell" ∷ decimal answer.site ∷ answer.tag ∷ answer.text ∷ [])
 
 -- `site tag text`
-abbrev pub answer_after : List (List ℕ) → Option Answer
-answer_after words = do
+abbrev pub tell_line_after : List (List ℕ) → Option TellLine
+tell_line_after words = do
   (site, others) ← next_number words
   (tag, others) ← next_of tag_of others
   text ← text_of_words (drop 2 words)
   Some (record { site = site; tag = tag; text = text })
 
-abbrev pub answer_of_words : List (List ℕ) → Option Answer
-answer_of_words words = do
+abbrev pub tell_line_of_words : List (List ℕ) → Option TellLine
+tell_line_of_words words = do
   (verb, words) ← next_word words
-  by_verb ((codes "tell", answer_after) ∷ []) nothing verb words
+  by_verb ((codes "tell", tell_line_after) ∷ []) nothing verb words
 
-abbrev pub read_answer : List ℕ → Option Answer
-read_answer line = answer_of_words (words_of line)
+abbrev pub read_tell_line : List ℕ → Option TellLine
+read_tell_line line = tell_line_of_words (words_of line)
 
 -- ---- the text that answers a block
 

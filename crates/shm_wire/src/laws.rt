@@ -1,6 +1,6 @@
 //! What holds of the definitions, whichever line is read.
 ghost use Rattle.std.specs.Prelude.{◌≡◌, ℕ, List, None, Some};
-ghost use Rattle.shm_wire.specs.Answers.{Answer, IsAnswer, answer_line, read_answer};
+ghost use Rattle.shm_wire.specs.Answers.{TellLine, IsTellLine, tell_line, read_tell_line};
 ghost use Rattle.shm_wire.specs.Line.{IsLine, Line, line_text, read_line};
 
 /// Each line that tells a site something has one spelling: what is read is spelled so, and what is spelled so is read.
@@ -11,12 +11,12 @@ pub fn lines_have_one_spelling()
 
 /// Each answer has one spelling: what is read is spelled so, and what is spelled so is read.
 pub fn answers_have_one_spelling()
-    ensures read { (bytes : List ℕ) (answer : Answer) → read_answer bytes ≡ Some answer → IsAnswer answer × (bytes ≡ answer_line answer) }
-    ensures spelled { (answer : Answer) → IsAnswer answer → read_answer (answer_line answer) ≡ Some answer }
+    ensures read { (bytes : List ℕ) (answer : TellLine) → read_tell_line bytes ≡ Some answer → IsTellLine answer × (bytes ≡ tell_line answer) }
+    ensures spelled { (answer : TellLine) → IsTellLine answer → read_tell_line (tell_line answer) ≡ Some answer }
 {}
 
 /// No line tells both a site and a caller something.
 pub fn each_line_is_of_one_kind()
-    ensures lines { (bytes : List ℕ) (line : Line) → read_line bytes ≡ Some line → read_answer bytes ≡ None }
-    ensures answers { (bytes : List ℕ) (answer : Answer) → read_answer bytes ≡ Some answer → read_line bytes ≡ None }
+    ensures lines { (bytes : List ℕ) (line : Line) → read_line bytes ≡ Some line → read_tell_line bytes ≡ None }
+    ensures answers { (bytes : List ℕ) (answer : TellLine) → read_tell_line bytes ≡ Some answer → read_line bytes ≡ None }
 {}

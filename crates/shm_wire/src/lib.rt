@@ -8,26 +8,26 @@
 //! Each has one spelling: what is printed is read back equal, and nothing else is read. No line is two of the three. A line stands without its line feed.
 #![tactic(auto)]
 
-mod answer;
-mod answers;
 mod ask;
-mod asks;
+mod display_envelope;
+mod display_reply;
 pub mod laws;
 mod line;
-mod messages;
-mod pages;
 mod parse;
-mod replies;
+mod parse_ask;
+mod parse_message;
+mod parse_page;
+mod parse_reply;
+mod parse_tell;
+mod parse_word;
 mod sent;
-mod spelling;
-mod spelling_replies;
 mod tag;
-mod words;
+mod tell_line;
 
-pub use answer::{Answer, BlockText};
-pub use answers::parse_answer;
 pub use ask::{Ask, Question};
 pub use line::Line;
 pub use parse::parse_line;
-pub use sent::{Sent, SentLine, Stamp};
+pub use parse_tell::parse_tell_line;
+pub use sent::{Sent, SentLine, Source};
 pub use tag::Tag;
+pub use tell_line::{BlockText, TellLine};

@@ -7,15 +7,15 @@ ghost use Rattle.shm_wire.specs.Asks.{ask_after};
 ghost use Rattle.shm_wire.specs.Line as stream;
 ghost use Rattle.shm_wire.specs.Line.{IsLine, line_of_words, line_text, read_line};
 ghost use Rattle.shm_wire.specs.LineOf.{line_of};
-ghost use Rattle.shm_wire.specs.SentOf.{sent_of, stamp_of};
+ghost use Rattle.shm_wire.specs.SentOf.{sent_of, source_of};
 ghost use Rattle.shm_wire.specs.Messages.{message_of};
 
-use crate::asks::ask;
 use crate::line::Line;
-use crate::messages::plain;
-use crate::pages::page;
-use crate::sent::{Sent, Stamp};
-use crate::words::wide;
+use crate::parse_ask::ask;
+use crate::parse_message::plain;
+use crate::parse_page::page;
+use crate::parse_word::wide;
+use crate::sent::{Sent, Source};
 use shm_lines::Words;
 use shm_parts::{Envelope, Message};
 use shm_place::SiteId;
@@ -86,14 +86,14 @@ fn envelope_of_words<A: Allocator + Copy>(
     Ok(Some(Sent { source, envelope }))
 }
 
-fn stamp(words: Words<'_>) -> Option<(Stamp, Words<'_>)>
-    ensures some { IfSome result (λ r. next_stamp words.entry ≡ Some (stamp_of r.0, r.1)) }
+fn stamp(words: Words<'_>) -> Option<(Source, Words<'_>)>
+    ensures some { IfSome result (λ r. next_stamp words.entry ≡ Some (source_of r.0, r.1)) }
     ensures none { IfNone result (next_stamp words.entry ≡ None) }
 {
     let (clock, words) = wide(words)?;
     let (index, words) = wide(words)?;
     let (place, words) = wide(words)?;
-    let stamp = Stamp {
+    let stamp = Source {
         clock,
         index,
         place,

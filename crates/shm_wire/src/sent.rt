@@ -4,7 +4,7 @@ use std::alloc::{Allocator, Global};
 
 /// Where an envelope was sent.
 #[derive(Clone, Copy, Debug, PartialEq, Eq)]
-pub struct Stamp {
+pub struct Source {
     /// The sender's clock at the step that sent it.
     pub clock: u64,
     /// That step's index in the sender's log.
@@ -16,13 +16,13 @@ pub struct Stamp {
 /// An envelope as the stream has it: with where it was sent.
 #[derive(Drop)]
 pub struct Sent<A: Allocator + Copy = Global> {
-    pub source: Stamp,
+    pub source: Source,
     pub envelope: Envelope<A>,
 }
 
 /// The same of an envelope that stays where it is: whoever sends it prints this.
 #[derive(Clone, Copy)]
 pub struct SentLine<'a, A: Allocator + Copy = Global> {
-    pub source: Stamp,
+    pub source: Source,
     pub envelope: &'a Envelope<A>,
 }

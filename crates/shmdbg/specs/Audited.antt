@@ -2,9 +2,9 @@
 use Rattle.std.specs.Prelude.{⊤, ◌≡◌, ◌≢◌, ◌⊎◌, ℕ, List, ◌∷◌, ◌++◌, codes, length, Option}
 use Rattle.std.specs.declared.alloc.Global.{Global}
 use Rattle.std.specs.Io.KnownBytes.{Appends}
-use Rattle.shm_audit.specs.Counts.{counts_of, counts_text}
+use Rattle.shm_audit.specs.Totals.{totals_of, totals_text}
 use Rattle.shm_audit.specs.OneSet.{AreOneRun, IsWhy}
-use Rattle.shm_audit.specs.declared.counts.Counts.{Counts}
+use Rattle.shm_audit.specs.declared.totals.Totals.{Totals}
 use Rattle.shm_journal.specs.declared.journal_fault.JournalFault.{JournalFault}
 use Rattle.shm_journal.specs.declared.journal_fault.JournalFault.TheVariants as journal
 use Rattle.shm_audit.specs.declared.journals_fault.JournalsFault.{JournalsFault}
@@ -14,19 +14,19 @@ use Rattle.shm_logs.specs.declared.boxes.site_log.SiteLog.{SiteLog}
 use Rattle.shmdbg.specs.declared.unaudited.Unaudited.{Unaudited}
 use Rattle.shmdbg.specs.declared.unaudited.Unaudited.TheVariants as cause
 
-abbrev pub audit_text : Counts → List ℕ
-audit_text counts = codes "audit yes" ++ (10 ∷ counts_text counts)
+abbrev pub audit_text : Totals → List ℕ
+audit_text counts = codes "audit yes" ++ (10 ∷ totals_text counts)
 
 -- they are the logs of so many sites, which shared one plain memory, and this is counted of them
-pub record IsOfSites {A : Type 0} (sites : ℕ) (logs : List (SiteLog A)) (counts : Counts) : Type 0 where
+pub record IsOfSites {A : Type 0} (sites : ℕ) (logs : List (SiteLog A)) (counts : Totals) : Type 0 where
   pub each : length logs ≡ sites
   pub run : AreOneRun logs
-  pub counted : counts ≡ counts_of (logs_of logs)
+  pub counted : counts ≡ totals_of (logs_of logs)
 
 -- so many sites had logs of one run, and what is counted of them was written
 pub record TellsAudit (sites : ℕ) (old new : Option (List ℕ)) : Type 0 where
   pub logs : List (SiteLog Global)
-  pub counts : Counts
+  pub counts : Totals
   pub accepted : IsOfSites sites logs counts
   pub told : Appends old new (audit_text counts)
 

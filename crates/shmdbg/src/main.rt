@@ -2,18 +2,18 @@
 //! threads, a site is a process, journals are audited.
 #![tactic(auto)]
 
-mod auditing;
+mod audit;
 mod disk;
-mod journals;
-mod keeping;
-mod logging;
+mod journal_files;
+mod kept_journal;
+mod log_files;
 mod program;
-mod reporting;
-mod serving;
-mod showing;
+mod run_report;
+mod serve_site;
+mod show_fault;
 mod site_fault;
 mod source;
-mod streams;
+mod standard_streams;
 mod tell;
 #[cfg(test)]
 mod tests;
@@ -22,10 +22,10 @@ mod words;
 
 use program::run_words;
 use source::Source;
+use standard_streams::Held;
 use std::env::{self, Env};
 use std::io::{self, IsTerminal};
 use std::process::ExitCode;
-use streams::Held;
 
 fn main(rt: HostRuntime) -> ExitCode {
     let mut errors = rt.stderr();

@@ -1,4 +1,4 @@
-use shm_lines::Recalling;
+use shm_lines::RecallingReader;
 use std::io::{self, Read};
 
 /// A reader from which the lines can be had that it gave last, where wrong ones are to be shown.
@@ -10,7 +10,7 @@ pub trait Recalls {
 /// The program's input.
 #[derive(Drop)]
 pub(crate) struct Source<R> {
-    reader: Recalling<R>,
+    reader: RecallingReader<R>,
     shows: bool,
 }
 
@@ -18,7 +18,7 @@ impl<R: Read> Source<R> {
     /// The input of a reader, whose wrong lines are to be shown or not.
     pub(crate) fn new(reader: R, shows: bool) -> Source<R> {
         Source {
-            reader: Recalling::new(reader),
+            reader: RecallingReader::new(reader),
             shows,
         }
     }

@@ -7,9 +7,9 @@ ghost use Rattle.shmdbg.specs.Audited.{unaudited_status};
 ghost use Rattle.shmdbg.specs.Served.{site_status};
 ghost use Rattle.shmdbg.specs.Status.{fault_status, run_status};
 
-use crate::logging::Unlogged;
+use crate::log_files::Unlogged;
 use crate::site_fault::SiteFault;
-use crate::streams::Stream;
+use crate::standard_streams::Stream;
 use crate::unaudited::Unaudited;
 use clap::error::ErrorKind;
 use shm_audit::{JournalFault, JournalsFault};

@@ -9,7 +9,7 @@ mod sites;
 mod streams;
 mod words;
 
-use crate::keeping::Lock;
+use crate::kept_journal::Lock;
 use crate::program::run_words;
 use crate::source::Recalls;
 use std::io::Read;

@@ -1,12 +1,12 @@
 //! The words of the command line of `shmdbg`: what they ask for, what is wrong with them, and what help tells.
 
-mod among;
+mod check_site;
 mod commands;
 mod help;
 mod options;
-mod parsing;
-mod spelling;
+mod parse;
 mod task;
+mod word_checks;
 
-pub use parsing::parse_words;
+pub use parse::parse_words;
 pub use task::Task;

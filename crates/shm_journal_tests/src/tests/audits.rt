@@ -1,6 +1,6 @@
 //! The journals of two sites, and what is said of them.
 use linked_list_allocator::LocalHeap;
-use shm_audit::{Counts, JournalFault, JournalsFault, audit_journals, read_log};
+use shm_audit::{JournalFault, JournalsFault, Totals, audit_journals, read_log};
 use shm_logs::{AuditFault, SiteLog};
 use shm_place::SiteId;
 use std::alloc::{AllocError, Allocator};
@@ -47,7 +47,7 @@ fn audit_both<A: Allocator + Copy>(
     alloc: A,
     one: &[u8],
     other: &[u8],
-) -> Result<Result<Counts, JournalsFault>, Fail> {
+) -> Result<Result<Totals, JournalsFault>, Fail> {
     let mut logs = Vec::new(alloc);
     logs.push(log_of(alloc, one)?)?;
     logs.push(log_of(alloc, other)?)?;
@@ -59,7 +59,7 @@ fn count_both<A: Allocator + Copy>(
     alloc: A,
     one: &[u8],
     other: &[u8],
-) -> Result<Option<Counts>, Fail> {
+) -> Result<Option<Totals>, Fail> {
     match audit_both(alloc, one, other)? {
         Ok(counts) => Ok(Some(counts)),
         Err(JournalsFault::OutOfMemory) => Ok(None),
@@ -73,7 +73,7 @@ fn count_both<A: Allocator + Copy>(
 fn a_copy_was_lent(rt: HostRuntime) -> Result<(), Fail> {
     let alloc = rt.alloc();
     let reader = reader(alloc)?;
-    let counts = Counts {
+    let counts = Totals {
         steps: 7,
         accesses: 2,
         envelopes: 4,

@@ -4,8 +4,8 @@ ghost use Rattle.shm_lines.specs.Line.{line_of};
 
 use crate::hints::expected::Word;
 use crate::hints::hint::Hint;
+use crate::hints::read_words::{first_fault, read_word};
 use crate::hints::verbs::words_after;
-use crate::hints::walk::{first_fault, read_word};
 use crate::parse_line;
 
 /// Finds where a line of a script goes wrong. A right line has no hint.

@@ -4,7 +4,7 @@ ghost use Rattle.shm_lines.specs.Workload as said;
 
 use crate::hints::expected::Word;
 use crate::hints::hint::Hint;
-use crate::hints::walk::{first_fault, read_word};
+use crate::hints::read_words::{first_fault, read_word};
 use crate::hints::workload_line::{access_of, preset_of};
 use shm_place::{PAGE_BYTES, PAGES, Sites};
 

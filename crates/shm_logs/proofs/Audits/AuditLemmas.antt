@@ -12,8 +12,8 @@ use Rattle.shm_model.specs.Receipt.{Receipt, ReceiptsHold}
 use Rattle.shm_model.specs.World.{run, IsOpening, Opening, Preset}
 use Rattle.shm_logs.specs.Auditing.Audit.{IsAudited}
 use Rattle.shm_logs.specs.Auditing.Cause.{AllSound, IsFirstCause, IsFirstStep, IsForged}
-use Rattle.shm_logs.specs.declared.auditing.audit_fault.AuditFault.{AuditFault}
-use Rattle.shm_logs.specs.declared.auditing.audit_fault.AuditFault.TheVariants as fault
+use Rattle.shm_logs.specs.declared.log_audit.audit_fault.AuditFault.{AuditFault}
+use Rattle.shm_logs.specs.declared.log_audit.audit_fault.AuditFault.TheVariants as fault
 use Rattle.shm_logs.proofs.Audits.SoundLemmas.{sound-match}
 use Rattle.shm_logs.proofs.Audits.StoreLemmas.{tells-last-store}
 

@@ -5,7 +5,7 @@ use Rattle.std.proofs.lemmas.Bool.{cases_lt}
 use Rattle.std.proofs.lemmas.Bool.Decides.{nat_tests}
 use Rattle.std.proofs.lemmas.Option.{none-some, same_Some}
 use Rattle.shm_model.specs.Log.{Logged, log_of}
-use Rattle.shm_logs.specs.declared.auditing.merging.Head.{Head}
+use Rattle.shm_logs.specs.declared.log_audit.merge_logs.Head.{Head}
 use Rattle.shm_logs.specs.Auditing.Heads.{IsLeast, IsLeastIf, TellsStep, TellsStepIf, lesser, next}
 
 -- the head comes before this step of the site s

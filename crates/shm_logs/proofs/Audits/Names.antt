@@ -11,7 +11,7 @@ use Rattle.shm_logs.specs.declared.boxes.step.Step.{Step}
 use Rattle.shm_laws.proofs.Log.Run.{has-log}
 use Rattle.shm_logs.specs.Auditing.Logs.{logs_of}
 use Rattle.shm_logs.specs.Auditing.Order.{AllName, Names}
-use Rattle.shm_logs.specs.declared.auditing.step_name.StepName.{StepName}
+use Rattle.shm_logs.specs.declared.log_audit.step_name.StepName.{StepName}
 
 pub site-there : {A : Type 0} (logs : List (SiteLog A)) (s i : ℕ) → i < length (log_of (logs_of logs) s) → s < length logs
 site-there logs s i below = omega (arith, has-log (logs_of logs) s (omega arith), length-map logs steps_of)

@@ -1,7 +1,7 @@
 -- The steps that logs have left, where so many of each log were taken.
 use Rattle.std.specs.Prelude.{◌≡◌, ℕ, ◌<◌, ◌≤◌, ◌⊎◌, List, Option, Some, None, if◌then◌else◌, nat_lt, slice_get, slice_index}
 use Rattle.shm_model.specs.Log.{Logged, log_of}
-use Rattle.shm_logs.specs.declared.auditing.merging.Head.{Head}
+use Rattle.shm_logs.specs.declared.log_audit.merge_logs.Head.{Head}
 
 -- the site's first step that is left
 abbrev pub next : List (List Logged) → List ℕ → ℕ → Option Logged

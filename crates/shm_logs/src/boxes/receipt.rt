@@ -1,5 +1,5 @@
 //! What a caller is told of a step. Receipts are made in `taking`, where a box takes the step, and nowhere else.
-mod taking;
+mod box_take;
 
 use crate::boxes::step::Step;
 use shm_model::{Answer, Asked};

@@ -1,7 +1,7 @@
 //! Lines that others spelled, and lines that are none.
 use linked_list_allocator::LocalHeap;
 use shm_parts::{EntryNote, Message, Note};
-use shm_wire::{Line, Sent, parse_answer, parse_line};
+use shm_wire::{Line, Sent, parse_tell_line, parse_line};
 use std::alloc::{AllocError, Allocator, Global};
 use std::process::Abort;
 use std::test::Fail;
@@ -80,7 +80,7 @@ fn messages_are_printed_as_they_were_read(rt: HostRuntime) -> Result<(), Fail> {
         };
         let printed = format!(in alloc; "{sent}")?;
         assert_eq!(rt; printed.as_str(), line);
-        assert!(rt; parse_answer(line.as_bytes()).is_none(), "at {line}");
+        assert!(rt; parse_tell_line(line.as_bytes()).is_none(), "at {line}");
     }
     for line in BAD {
         let read = parse_line(alloc, line.as_bytes())?;
@@ -99,7 +99,7 @@ fn asks_are_printed_as_they_were_read(rt: HostRuntime) -> Result<(), Fail> {
         };
         let printed = format!(in alloc; "{ask}")?;
         assert_eq!(rt; printed.as_str(), line);
-        assert!(rt; parse_answer(line.as_bytes()).is_none(), "at {line}");
+        assert!(rt; parse_tell_line(line.as_bytes()).is_none(), "at {line}");
     }
     for line in NO_ASKS {
         let read = parse_line(alloc, line)?;
@@ -112,7 +112,7 @@ fn asks_are_printed_as_they_were_read(rt: HostRuntime) -> Result<(), Fail> {
 fn answers_are_printed_as_they_were_read(rt: HostRuntime) -> Result<(), Fail> {
     let alloc = rt.alloc();
     let line = "tell 3 t replied 1  id 0 ";
-    let Some(answer) = parse_answer(line.as_bytes()) else {
+    let Some(answer) = parse_tell_line(line.as_bytes()) else {
         return Err(Fail::new("an answer's line"));
     };
     assert_eq!(rt;
@@ -130,7 +130,7 @@ fn answers_are_printed_as_they_were_read(rt: HostRuntime) -> Result<(), Fail> {
         b"3 t stored",
     ];
     for line in bad {
-        assert!(rt; parse_answer(line).is_none(), "at {line:?}");
+        assert!(rt; parse_tell_line(line).is_none(), "at {line:?}");
     }
     Ok(())
 }

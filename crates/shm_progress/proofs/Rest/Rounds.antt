@@ -16,7 +16,7 @@ use Rattle.shm_progress.proofs.RoundExists.{round-calm, round-kept, round-stands
 use Rattle.shm_progress.proofs.Transfer.Ends.{managers-settle}
 use Rattle.shm_progress.specs.Rest.Deliveries.{HandedOver}
 use Rattle.shm_progress.specs.Rest.Rounds.{IsRound, ServesAll, Settles, round_of, ticks}
-use Rattle.shm_progress.specs.declared.settling.settled.Settled.{Settled}
+use Rattle.shm_progress.specs.declared.settlement.settled.Settled.{Settled}
 use Rattle.shm_progress.proofs.Rest.Deliveries.{after-append}
 use Rattle.shm_world.specs.World.{StandsFor, after}
 use Rattle.shm_world.specs.declared.world.World.{World}

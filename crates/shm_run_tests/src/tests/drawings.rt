@@ -1,5 +1,5 @@
 //! A script is drawn from a reader and to a writer of which one call fails, and on a heap that is full but for a hole.
-use super::pieces::{Giver, NEVER, Taker};
+use super::failing_streams::{Giver, NEVER, Taker};
 use linked_list_allocator::LocalHeap;
 use shm_debug::DebugFault;
 use shm_draw::draw;

@@ -1,6 +1,6 @@
 //! What is told of a line that can't be read.
 use shm_lines::{
-    Recalling, hint_of_access_line, hint_of_first_line, hint_of_script_line, write_hint,
+    RecallingReader, hint_of_access_line, hint_of_first_line, hint_of_script_line, write_hint,
 };
 use shm_place::Sites;
 use std::io::Read;
@@ -52,7 +52,7 @@ fn places_are_found(rt: HostRuntime) -> Result<(), Fail> {
 
 #[test]
 fn a_line_is_recalled(rt: HostRuntime) -> Result<(), Fail> {
-    let mut reader = Recalling::new(b"one\ntwo\nthree".as_slice());
+    let mut reader = RecallingReader::new(b"one\ntwo\nthree".as_slice());
     let mut chunk = [0u8; 6];
     for _ in 0..4 {
         let _ = reader.read(&mut chunk)?;

@@ -4,7 +4,7 @@ pub mod frames;
 pub mod going_back;
 pub mod losses;
 pub mod pages;
-pub mod purging;
+pub mod purges;
 pub mod segments;
 
 /// A script that is replayed to its end.

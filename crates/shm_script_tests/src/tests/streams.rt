@@ -1,5 +1,5 @@
 mod at_once;
-mod flushing;
+mod flushes;
 mod pieces;
-mod reading;
-mod writing;
+mod reads;
+mod writes;

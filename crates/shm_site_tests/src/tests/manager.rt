@@ -5,7 +5,7 @@ use shm_place::{SiteId, SiteSet};
 
 mod refused;
 mod transactions;
-mod waiting;
+mod waiting_requests;
 
 /// Whether a call was taken, and gave out these orders.
 fn gives(orders: Option<Orders>, expected: Orders) -> bool {

@@ -10,8 +10,8 @@ ghost use Rattle.shm_sites.specs.Cluster.Faults.{no_access};
 ghost use Rattle.shm_sites.specs.Cluster.Posted.{all_sent, sent_at};
 
 use crate::cluster::client_fault::ClientFault;
-use crate::cluster::copies::copies_of;
 use crate::cluster::posted::Posted;
+use crate::cluster::sent_copies::copies_of;
 use shm_logs::{Asked, BoxFault, Input, Receipt, SiteBox, Stamp};
 use shm_place::SiteId;
 use std::alloc::{AllocError, Allocator, Global};

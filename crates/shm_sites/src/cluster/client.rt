@@ -14,11 +14,11 @@ use std::alloc::{Allocator, Global};
 use std::sync::Wait;
 use std::thread;
 
-/// How many turns an access has.
-const TURNS: u32 = 1_000_000;
+/// How many tries an access has.
+const TRIES: u32 = 1_000_000;
 
-/// After so many turns in which its site made no step, a client has each site told to send again what may be lost.
-const TURNS_OF_A_TICK: u32 = 64;
+/// After so many tries in which its site made no step, a client has each site told to send again what may be lost.
+const TRIES_OF_A_TICK: u32 = 64;
 
 /// Loads and stores at one site, in the caller's thread and through the attachment of the number `at`; number 0 is there from the start.
 /// Each call waits for the site's lock. Each receipt tells of the step that the call made, or the last of them.
@@ -57,8 +57,8 @@ impl<'a, A: Allocator + Copy> Client<'a, A> {
     }
 
     /// Loads until the site has the right to, or answers that the load is wrong. It asks again where the site has made a step since. After
-    /// every 64th turn without such a step each site that has nothing else to hear is told of a tick, since a message may be lost.
-    /// `GaveUp` comes after a million turns, or at once at another site's box.
+    /// every 64th try without such a step each site that has nothing else to hear is told of a tick, since a message may be lost.
+    /// `GaveUp` comes after a million tries, or at once at another site's box.
     pub fn load<R: Wait>(&self, rt: &R, at: u32, offset: u32) -> Result<Receipt, ClientFault>
         ensures tells { IfOk result (TellsOf self.now.post.now.number (Load at offset)) }
         ensures served { IfOk result IsServed }
@@ -85,22 +85,22 @@ impl<'a, A: Allocator + Copy> Client<'a, A> {
         ensures tells { IfOk result (TellsOf self.now.post.now.number (access_of asked)) }
         ensures served { IfOk result IsServed }
     {
-        self.serve_within(rt, asked, TURNS)
+        self.serve_within(rt, asked, TRIES)
     }
 
-    /// The same within so many turns.
+    /// The same within so many tries.
     pub(crate) fn serve_within<R: Wait>(
         &self,
         rt: &R,
         asked: Asked,
-        turns: u32,
+        tries: u32,
     ) -> Result<Receipt, ClientFault>
         ensures tells { IfOk result (TellsOf self.now.post.now.number (access_of asked)) }
         ensures served { IfOk result IsServed }
     {
         let mut last = None;
         let mut quiet: u32 = 0;
-        'turns: for _ in 0..turns {
+        'tries: for _ in 0..tries {
             if self.has_news(rt, last) {
                 let receipt = self.step(rt, asked)?;
                 if !waits(receipt.answer()) {
@@ -128,10 +128,10 @@ impl<'a, A: Allocator + Copy> Client<'a, A> {
             .any(|step| step.input.access().is_none())
     }
 
-    /// Lets other threads run, after so many turns in which the site made no step. A tick that was refused is passed over: there will be
+    /// Lets other threads run, after so many tries in which the site made no step. A tick that was refused is passed over: there will be
     /// more.
     fn pause<R: Wait>(&self, rt: &R, quiet: u32) {
-        if quiet % TURNS_OF_A_TICK == 0 {
+        if quiet % TRIES_OF_A_TICK == 0 {
             self.shared.tick_idle(rt);
         }
         thread::yield_now();

@@ -7,7 +7,7 @@ pub enum ClientFault {
     /// Memory was refused.
     #[error("out of memory")]
     OutOfMemory,
-    /// All turns have gone by, and the site still waits for the page; or the box under the lock is another site's, which no cluster has
+    /// All tries have gone by, and the site still waits for the page; or the box under the lock is another site's, which no cluster has
     /// that `start` made.
     #[error("gave up")]
     GaveUp,

@@ -1,6 +1,6 @@
 //! Files of which no contract speaks: the journals of two sites, a journal that another process has, and the logs of a run.
 use super::{expect, run_over};
-use crate::keeping::Lock;
+use crate::kept_journal::Lock;
 use std::fs::{self, OpenOptions};
 use std::test::Fail;
 

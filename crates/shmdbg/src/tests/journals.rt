@@ -1,6 +1,6 @@
 //! Journals in files, in the folder that the tests run in.
 use super::{expect, run_over};
-use crate::keeping::Lock;
+use crate::kept_journal::Lock;
 use crate::tests::Ran;
 use std::fs;
 use std::rt::{Clock, Files};

@@ -1,5 +1,5 @@
 //! The logs that a run leaves.
-use crate::logging::save_logs;
+use crate::log_files::save_logs;
 use shm_place::{SiteId, Sites};
 use shm_prompt::SaveFile;
 use shm_report::ReportFault;

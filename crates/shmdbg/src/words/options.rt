@@ -3,8 +3,8 @@ ghost use Rattle.std.specs.Prelude.{◌≡◌, Some, codes, map, IfSome};
 ghost use Rattle.clap.specs.Words.{all_of, found_of, rows_of};
 ghost use Rattle.shmdbg.specs.Words.{is_set_at, number_at, number_of, page_named, IsAsked};
 
-use crate::words::spelling::is_plain_at;
 use crate::words::task::Task;
+use crate::words::word_checks::is_plain_at;
 use clap::ArgMatches;
 use shm_place::{PAGES, PageId, SegId, SiteId, Sites};
 use std::alloc::Global;

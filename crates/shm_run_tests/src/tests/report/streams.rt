@@ -1,5 +1,5 @@
 //! Reports from a reader and to a writer of which one call fails.
-use crate::tests::pieces::{Giver, NEVER, Taker};
+use crate::tests::failing_streams::{Giver, NEVER, Taker};
 use shm_place::Sites;
 use shm_report::{ReportFault, report};
 use std::alloc::Global;

@@ -2,7 +2,7 @@
 
 use super::{Before, PAGE_BYTES};
 use crate::tests::full_heap::fill_heap_but;
-use crate::tests::scripts::{Script, going_back, pages, purging, segments};
+use crate::tests::scripts::{Script, going_back, pages, purges, segments};
 use crate::tests::{is_line_feed, open_session};
 use linked_list_allocator::LocalHeap;
 use shm_debug::{BackFault, Line, Session, parse_line, print_answer};
@@ -207,7 +207,7 @@ fn each_growth_for_pages(rt: HostRuntime) -> Result<(), Fail> {
 fn each_growth_for_segments(rt: HostRuntime) -> Result<(), Fail> {
     let most = plays_in_little_memory(&rt, rt.alloc(), 1, false, &segments::SEGMENT_CALLS)?;
     assert!(rt; most > 0);
-    let most = plays_in_little_memory(&rt, rt.alloc(), 2, false, &purging::PURGE)?;
+    let most = plays_in_little_memory(&rt, rt.alloc(), 2, false, &purges::PURGE)?;
     assert!(rt; most > 0);
     Ok(())
 }

@@ -1,6 +1,6 @@
 use super::{PAGE, answers_to, events_of};
 use crate::tests::preset;
-use crate::tests::scripts::purging::PURGE_RESENT;
+use crate::tests::scripts::purges::PURGE_RESENT;
 use shm_model::State;
 use shm_place::SiteId;
 use shm_world::Answer::Took;

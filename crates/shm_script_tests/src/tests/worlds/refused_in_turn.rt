@@ -2,11 +2,11 @@
 //! given again the event is told as in the script.
 ghost use Rattle.std.specs.Prelude.{◌≤◌};
 
-mod looking;
+mod seen_world;
 
-use self::looking::look;
+use self::seen_world::look;
 use crate::tests::full_heap::fill_heap_but;
-use crate::tests::scripts::{Script, losses, pages, purging, segments};
+use crate::tests::scripts::{Script, losses, pages, purges, segments};
 use crate::tests::{is_line_feed, preset};
 use linked_list_allocator::LocalHeap;
 use shm_debug::{Line, parse_line, print_answer};
@@ -175,5 +175,5 @@ fn a_segment_that_is_attached_and_reached(rt: HostRuntime) -> Result<(), Fail> {
 
 #[test]
 fn a_segment_that_is_removed(rt: HostRuntime) -> Result<(), Fail> {
-    refuse_calls(&rt, rt.alloc(), 2, &purging::REMOVAL)
+    refuse_calls(&rt, rt.alloc(), 2, &purges::REMOVAL)
 }

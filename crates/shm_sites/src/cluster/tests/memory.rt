@@ -1,16 +1,16 @@
 //! Growths that are refused: in a heap that is full but for one hole, which is widened until it is large enough. No thread is started
 //! over such a heap; what a site is sent stands in its channel.
 //!
-//! Whoever holds a cluster, or the desks of one, drops it by name, and returns nowhere before.
+//! Whoever holds a cluster, or the workers of one, drops it by name, and returns nowhere before.
 
 mod clients;
-mod starting;
-mod stopping;
+mod start;
+mod stop;
 mod ticks;
-mod working;
+mod worker;
 
-use crate::cluster::starting::ready;
-use crate::cluster::work::Desk;
+use crate::cluster::start::ready;
+use crate::cluster::worker::Worker;
 use crate::{Cluster, OpenGate};
 use linked_list_allocator::LocalHeap;
 use shm_place::Sites;
@@ -32,16 +32,16 @@ type Blocks<'a> = Vec<Vec<u8, &'a LocalHeap>>;
 #[derive(Drop)]
 struct Still<'a> {
     cluster: Cluster<&'a LocalHeap>,
-    desks: Vec<Desk<&'a LocalHeap>, &'a LocalHeap>,
+    workers: Vec<Worker<&'a LocalHeap>, &'a LocalHeap>,
 }
 
 fn opened_in(heap: &LocalHeap, count: u32) -> Result<Still<'_>, AllocError> {
     let Ok(sites) = Sites::new(count) else {
         return Err(AllocError);
     };
-    let (cluster, desks, gate) = ready(heap, sites, PAGES, OpenGate)?;
+    let (cluster, workers, gate) = ready(heap, sites, PAGES, OpenGate)?;
     drop(gate);
-    Ok(Still { cluster, desks })
+    Ok(Still { cluster, workers })
 }
 
 /// Blocks that fill the heap but for one hole of so many bytes.

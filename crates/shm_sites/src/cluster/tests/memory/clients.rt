@@ -150,11 +150,11 @@ fn asks<R: Wait>(
     still: &Still<'_>,
     bytes: usize,
 ) -> Result<Outcome, Fail> {
-    let (Ok(client), Some(desk)) = (still.cluster.client(SiteId(1)), still.desks.first()) else {
+    let (Ok(client), Some(worker)) = (still.cluster.client(SiteId(1)), still.workers.first()) else {
         return Err(Fail::new("no such sites"));
     };
     let blocks = fill_heap_but(alloc, heap, bytes)?;
     let answer = try_once(rt, &client, STEPS[2].0).ok();
     drop(blocks);
-    Ok((answer, desk.mail.len()))
+    Ok((answer, worker.mail.len()))
 }

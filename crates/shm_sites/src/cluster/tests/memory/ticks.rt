@@ -60,21 +60,21 @@ fn ticked_without_memory<R: Wait>(
 
 /// Each other channel has brought a message, and keeps the room that it had for it.
 fn make_room<R: Wait>(rt: &R, still: &Still<'_>, refused: usize) {
-    for (number, desk) in still.desks.iter().enumerate() {
+    for (number, worker) in still.workers.iter().enumerate() {
         if number == refused {
             continue;
         }
         if let Some(post) = still.cluster.shared.posts.get(number) {
             let _ = post.mail.send(rt, Mail::Tick);
         }
-        let _ = desk.mail.try_recv(rt);
+        let _ = worker.mail.try_recv(rt);
     }
 }
 
 fn ticks(still: &Still<'_>) -> Ticks {
     let mut ticks = [0; 3];
-    for (ticks, desk) in ticks.iter_mut().zip(still.desks.iter()) {
-        *ticks = desk.mail.len();
+    for (ticks, worker) in ticks.iter_mut().zip(still.workers.iter()) {
+        *ticks = worker.mail.len();
     }
     ticks
 }
@@ -82,9 +82,9 @@ fn ticks(still: &Still<'_>) -> Ticks {
 /// An offset in page 1, which site 1 manages.
 const THERE: u32 = 4096;
 
-/// How many turns the client has here, with more than a hundred ticks among them. A load or store of a user has a hundred times as many, which
+/// How many tries the client has here, with more than a hundred ticks among them. A load or store of a user has a hundred times as many, which
 /// take a crowded machine a minute.
-const TURNS: u32 = 10_000;
+const TRIES: u32 = 10_000;
 
 /// Nobody hears what is sent. A client that waits until it gives up has made one step, and each channel has one message: site 1's the Ask,
 /// the others' a tick.
@@ -113,7 +113,7 @@ fn wait_in_vain<R: Wait>(
         at: 0,
         offset: THERE,
     };
-    let fault = client.serve_within(rt, asked, TURNS).err();
+    let fault = client.serve_within(rt, asked, TRIES).err();
     let held = client.post.site.lock(rt);
     Ok((fault, held.log().len(), ticks(still)))
 }

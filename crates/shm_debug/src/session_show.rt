@@ -1,0 +1,18 @@
+//! What a session shows.
+ghost use Rattle.std.specs.Prelude.{◌≡◌, IfOk};
+ghost use Rattle.shm_debug.specs.Standing.{world_of};
+ghost use Rattle.shm_debug.specs.Page.{page_text};
+
+use crate::session::Session;
+use crate::tell::print_page;
+use shm_place::PageId;
+use std::alloc::{AllocError, Allocator};
+
+impl<A: Allocator + Copy> Session<A> {
+    /// What is told of a page: how each site holds it, and its manager's book (Li and Hudak 1989, §3.2). One outside the limits is refused.
+    pub fn show(&self, page: PageId) -> Result<Vec<u8, A>, AllocError>
+        ensures { IfOk result (λ text. text.items ≡ page_text (world_of self.now) page) }
+    {
+        print_page(self.alloc, self.world(), page)
+    }
+}

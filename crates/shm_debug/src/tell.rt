@@ -1,0 +1,10 @@
+//! What a debugger says: of an answer, of the envelopes that were sent, and of a page. Each text is said of the definitions' world.
+
+mod copies;
+mod lines;
+mod page;
+mod print;
+mod sent;
+
+pub use lines::{tell_answer_line, tell_page_line};
+pub use print::{print_answer, print_page};

@@ -1,0 +1,99 @@
+//! Restarts, and steps that are made again from what was recorded of them.
+ghost use Rattle.std.specs.Prelude.{◌≡◌, ◌<◌, false, is_some, max, option_map, unwrap_or, IfOk, IfSome, OnErr, OnOk};
+ghost use Rattle.shm_model.specs.Basics.{greatest};
+ghost use Rattle.shm_process.specs.Cause.{OfRestart};
+ghost use Rattle.shm_process.specs.CauseOf.{cause_of};
+ghost use Rattle.shm_process.specs.Node.{stepped};
+ghost use Rattle.shm_process.specs.NodeOf.{heard_of, node_of, said_of};
+ghost use Rattle.shm_process.specs.Waiting.{after_restart, heard_again, replayed, said_restart};
+ghost use Rattle.shm_site.specs.Step.{input_of, is_foreign};
+
+use crate::cause::Cause;
+use crate::heard::Heard;
+use crate::node::Node;
+use crate::node_say::take_tag;
+use crate::said::Said;
+use shm_site::{Input, Made};
+use std::alloc::{AllocError, Allocator};
+
+impl<A: Allocator + Copy> Node<A> {
+    /// The site's restart, one step, which is recorded as `restart`. The asks that wait are forgotten: their callers ask again. A segment
+    /// call that is outstanding stays so, and its caller is told.
+    pub fn restart(&mut self) -> Result<Said<A>, AllocError>
+        requires { (node_of self.old).clock < greatest }
+        ensures said { IfOk result (λ said. said_of OfRestart said ≡ said_restart (node_of self.old)) }
+        ensures after { OnOk result (node_of self.new ≡ after_restart (node_of self.old)) }
+        ensures refused { OnErr result (node_of self.new ≡ node_of self.old) }
+    {
+        let clock = self.next_clock(0);
+        let made = self.site.step_spending(Input::Restart)?;
+        self.waiting.clear();
+        Ok(self.say(clock, None, false, made, None))
+    }
+
+    /// Makes the step that was recorded under this clock and of this cause, and says nothing. `false`: no such step can be the site's next,
+    /// and nothing changed. Asks don't wait here, and no line is counted.
+    pub fn replay(&mut self, clock: u64, cause: Cause<A>) -> Result<bool, AllocError>
+        ensures made { IfOk result (λ made. made ≡ is_some (replayed (node_of self.old) clock (cause_of cause))) }
+        ensures after { OnOk result (node_of self.new ≡ unwrap_or (replayed (node_of self.old) clock (cause_of cause)) (node_of self.old)) }
+        ensures refused { OnErr result (node_of self.new ≡ node_of self.old) }
+    {
+        let Some(heard) = self.hear_again(cause) else {
+            return Ok(false);
+        };
+        if self.next_clock(heard.source) != clock {
+            return Ok(false);
+        }
+        self.remake(heard)?;
+        Ok(true)
+    }
+
+    /// What the cause of a recorded step handed to the site.
+    fn hear_again(&self, cause: Cause<A>) -> Option<Heard<A>>
+        ensures heard { option_map heard_of result ≡ heard_again (node_of self.now) (cause_of cause) }
+        ensures proper { IfSome result (λ h. is_foreign self.now.sites self.now.me (input_of h.input) ≡ false) }
+        ensures early { IfSome result (λ h. max self.now.clock h.source < greatest) }
+    {
+        match cause {
+            Cause::Line(line) => self.hear(line),
+            Cause::Restart => self.hear_restart(),
+        }
+    }
+
+    fn hear_restart(&self) -> Option<Heard<A>>
+        ensures heard { option_map heard_of result ≡ heard_again (node_of self.now) OfRestart }
+        ensures proper { IfSome result (λ h. is_foreign self.now.sites self.now.me (input_of h.input) ≡ false) }
+        ensures early { IfSome result (λ h. max self.now.clock h.source < greatest) }
+    {
+        if self.is_late(0) {
+            return None;
+        }
+        Some(Heard {
+            input: Input::Restart,
+            source: 0,
+            tag: None,
+            waits: None,
+        })
+    }
+
+    /// Makes the step again, and says nothing.
+    fn remake(&mut self, heard: Heard<A>) -> Result<(), AllocError>
+        requires proper { is_foreign self.old.sites self.old.me (input_of heard.input) ≡ false }
+        requires early { max self.old.clock heard.source < greatest }
+        ensures after { OnOk result (node_of self.new ≡ stepped (node_of self.old) (heard_of heard)) }
+        ensures refused { OnErr result (node_of self.new ≡ node_of self.old) }
+    {
+        let Heard {
+            input,
+            source,
+            tag,
+            waits: _,
+        } = heard;
+        let clock = self.next_clock(source);
+        let Made { answer, sent: _ } = self.site.step_spending(input)?;
+        self.clock = clock;
+        self.steps += 1;
+        take_tag(false, tag, &mut self.caller, &answer);
+        Ok(())
+    }
+}

@@ -1,6 +1,0 @@
-use Rattle.shm_prompt.proofs.DialogLemmas.{Going}
-use Rattle.shm_prompt.proofs.running.deliver_all.Given as goal
-
--- a delivery at each turn so far, and nothing that is older than the next is on its way
-abbrev pub invariant-deliveries : goal.invariant-deliveries
-invariant-deliveries g l = Going l._turn l.from l.fn.session l.session l.fn.out.items l.out.items

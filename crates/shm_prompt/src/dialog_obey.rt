@@ -1,0 +1,200 @@
+//! What each command makes of what stands, and what is told of it.
+ghost use Rattle.std.specs.Prelude.{◌≡◌, ◌++◌, Some, false, IfOk, OnErr, OnOk};
+ghost use Rattle.shm_prompt.specs.Command.{IsCommand, command_of, is_quit, is_save};
+ghost use Rattle.shm_prompt.specs.Dialog.{HaltedCommand, HaltedRun, HaltedTyped, Obeyed, ObeyedTyped, Ran, Runs, SomeDelivered, TellsMore, TellsOfStanding, run_end};
+
+use crate::command::{Command, parse_command};
+use crate::deliver_all::deliver_all;
+use crate::dialog::Dialog;
+use crate::dialog_act::NOT_BEGUN;
+use crate::flight::list_flight;
+use crate::help::HELP;
+use crate::hints::tell_hint;
+use crate::pages_table::show_pages;
+use crate::save_file::SaveFile;
+use crate::save_script::saved_script;
+use crate::segments::list_segments;
+use shm_debug::Session;
+use shm_lines::{Line, Words};
+use std::alloc::{AllocError, Allocator};
+
+impl<A: Allocator + Copy> Dialog<A> {
+    /// Does what was typed, without its line feed, and answers whether it was `quit`, to which nothing is said. Of a wrong line it is
+    /// told where it can't be read on, and what was expected there.
+    ///
+    /// Of the tables and the hints no clause says what they tell, and of `save` which script it writes under which name.
+    pub fn obey<S: SaveFile>(
+        &mut self,
+        typed: &[u8],
+        files: &mut S,
+        out: &mut Vec<u8, A>,
+    ) -> Result<bool, AllocError>
+        ensures obeyed { OnOk result (ObeyedTyped self.old (command_of typed.now) self.new out.old.items out.new.items) }
+        ensures quits { IfOk result (λ quits. quits ≡ is_quit (command_of typed.now)) }
+        ensures halted { OnErr result (HaltedTyped self.old (command_of typed.now) self.new) }
+        ensures unsaved { is_save (command_of typed.now) ≡ false → files.new ≡ files.old }
+    {
+        let Some(command) = parse_command(typed) else {
+            tell_hint(out, typed)?;
+            return Ok(false);
+        };
+        let quits = ends(&command);
+        self.carry_out(command, typed, files, out)?;
+        Ok(quits)
+    }
+
+    fn carry_out<S: SaveFile>(
+        &mut self,
+        command: Command,
+        typed: &[u8],
+        files: &mut S,
+        out: &mut Vec<u8, A>,
+    ) -> Result<(), AllocError>
+        requires { IsCommand command }
+        ensures obeyed { OnOk result (Obeyed self.old command self.new out.old.items out.new.items) }
+        ensures halted { OnErr result (HaltedCommand self.old command self.new) }
+        ensures unsaved { is_save (Some command) ≡ false → files.new ≡ files.old }
+    {
+        match command {
+            Command::Line(line) => self.act(line, out),
+            Command::Undo => self.act(Line::Back(1), out),
+            Command::Run(most) => self.run(most, out),
+            Command::Save => self.save(typed, files, out),
+            Command::Help => out.extend_from_slice(HELP.as_bytes()),
+            Command::Quit => Ok(()),
+            Command::Flight => self.show(View::Flight, out),
+            Command::Sites => self.show(View::Pages, out),
+            Command::Segments => self.show(View::Segments, out),
+        }
+    }
+
+    fn run(&mut self, most: u32, out: &mut Vec<u8, A>) -> Result<(), AllocError>
+        ensures runs { OnOk result (Runs most self.old self.new out.old.items out.new.items) }
+        ensures halted { OnErr result (HaltedRun most self.old self.new) }
+    {
+        let alloc = self.alloc;
+        match &mut self.session {
+            None => out.extend_from_slice(NOT_BEGUN.as_bytes()),
+            Some(session) => run_on(session, alloc, most, out),
+        }
+    }
+
+    fn show(&self, view: View, out: &mut Vec<u8, A>) -> Result<(), AllocError>
+        ensures { OnOk result (TellsOfStanding self.now out.old.items out.new.items) }
+    {
+        match &self.session {
+            None => out.extend_from_slice(NOT_BEGUN.as_bytes()),
+            Some(session) => show_view(session, view, out),
+        }
+    }
+
+    fn save<S: SaveFile>(
+        &self,
+        typed: &[u8],
+        files: &mut S,
+        out: &mut Vec<u8, A>,
+    ) -> Result<(), AllocError>
+        ensures { OnOk result (TellsMore out.old.items out.new.items) }
+    {
+        let Some(name) = file_name(typed) else {
+            return out.extend_from_slice(b"not saved: the file's name is no text\n");
+        };
+        match &self.session {
+            None => out.extend_from_slice(NOT_BEGUN.as_bytes()),
+            Some(session) => save_to(session, self.alloc, name, files, out),
+        }
+    }
+}
+
+/// Checks that the session ends with it.
+fn ends(command: &Command) -> bool
+    ensures { result ≡ is_quit (Some command.now) }
+{
+    match command {
+        Command::Quit => true,
+        _ => false,
+    }
+}
+
+/// What can be looked at.
+#[derive(Clone, Copy)]
+enum View {
+    Flight,
+    Pages,
+    Segments,
+}
+
+/// Delivers, and says whether it came to its end.
+fn run_on<A: Allocator + Copy>(
+    session: &mut Session<A>,
+    alloc: A,
+    most: u32,
+    out: &mut Vec<u8, A>,
+) -> Result<(), AllocError>
+    ensures ran { OnOk result (Ran most session.old session.new out.old.items out.new.items) }
+    ensures halted { OnErr result (SomeDelivered most session.old session.new) }
+{
+    let quiet = deliver_all(session, alloc, most, out)?;
+    end_run(out, most, quiet)?;
+    Ok(())
+}
+
+/// Says that nothing is on its way, or that the bound was reached.
+fn end_run<A: Allocator + Copy>(
+    out: &mut Vec<u8, A>,
+    most: u32,
+    quiet: bool,
+) -> Result<(), AllocError>
+    ensures { OnOk result (out.new.items ≡ out.old.items ++ run_end most quiet) }
+{
+    if quiet {
+        return out.extend_from_slice(b"nothing is on its way\n");
+    }
+    let text = format!(in *out.allocator();
+        "stopped at the bound of {most}: more is on its way\n"
+    )?;
+    out.extend_from_slice(text.as_bytes())
+}
+
+fn show_view<A: Allocator + Copy>(
+    session: &Session<A>,
+    view: View,
+    out: &mut Vec<u8, A>,
+) -> Result<(), AllocError>
+    ensures { OnOk result (TellsMore out.old.items out.new.items) }
+{
+    let mut text = String::new(*out.allocator());
+    match view {
+        View::Flight => list_flight(&mut text, session.world())?,
+        View::Pages => show_pages(&mut text, session.world())?,
+        View::Segments => list_segments(&mut text, session.world())?,
+    }
+    out.extend_from_slice(text.as_bytes())
+}
+
+/// Writes the script of what stands to a file, and says so or why not.
+fn save_to<A: Allocator + Copy, S: SaveFile>(
+    session: &Session<A>,
+    alloc: A,
+    name: &str,
+    files: &mut S,
+    out: &mut Vec<u8, A>,
+) -> Result<(), AllocError>
+    ensures { OnOk result (TellsMore out.old.items out.new.items) }
+{
+    let text = match saved_script(alloc, session) {
+        Err(refusal) => format!(in alloc; "not saved: {refusal}\n")?,
+        Ok(script) => match files.save(name, script.as_slice()) {
+            Ok(()) => format!(in alloc; "saved to {name}\n")?,
+            Err(_) => format!(in alloc; "not saved: {name} can't be written\n")?,
+        },
+    };
+    out.extend_from_slice(text.as_bytes())
+}
+
+/// The second word, where it is text.
+fn file_name(typed: &[u8]) -> Option<&str> {
+    let (_verb, words) = Words::of(typed).word()?;
+    let (name, _others) = words.word()?;
+    std::str::from_utf8(name).ok()
+}

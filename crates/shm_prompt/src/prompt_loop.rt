@@ -1,0 +1,64 @@
+//! The dialog itself: each line is answered before the next is read.
+use crate::prompt_fault::PromptFault;
+use crate::save_file::SaveFile;
+use crate::typed_lines::Typed;
+use shm_text::{read_up_to, write_whole};
+use std::alloc::Allocator;
+use std::io::{Read, Write};
+
+/// The most bytes that are read at once.
+const CHUNK: usize = 4096;
+
+/// The debugger's session for people at a terminal: reads what is typed, line by line, to the input's end or to `quit`, and answers each.
+/// A wrong line is told, and doesn't end it.
+///
+/// Before each read all that was told is written, and the writer is flushed; so it is at the end. A line has at most 200 bytes; what
+/// stands after the last line feed is none. Where the reader or the writer answers an error, of whatever kind, it ends, and so it
+/// does where memory is refused.
+pub fn prompt<A: Allocator + Copy, R: Read, W: Write, S: SaveFile>(
+    alloc: A,
+    reader: &mut R,
+    writer: &mut W,
+    files: &mut S,
+) -> Result<(), PromptFault> {
+    let Ok(mut typed) = Typed::new(alloc) else {
+        return Err(PromptFault::OutOfMemory);
+    };
+    let mut out = Vec::new(alloc);
+    let mut chunk = [0u8; CHUNK];
+    'reads: for _ in 0..u64::MAX {
+        match write_and_flush(&mut out, writer) {
+            Ok(()) => {}
+            Err(fault) => return Err(fault),
+        }
+        let Ok(count) = read_up_to(reader, &mut chunk, CHUNK) else {
+            return Err(PromptFault::ReadFault);
+        };
+        if count == 0 {
+            return Ok(());
+        }
+        match typed.feed(&chunk[..count], files, &mut out) {
+            Ok(()) => {}
+            Err(_) => return Err(PromptFault::OutOfMemory),
+        }
+        if typed.has_quit() {
+            return write_and_flush(&mut out, writer);
+        }
+    }
+    Ok(())
+}
+
+/// Writes all that was told, forgets it, and flushes the writer.
+fn write_and_flush<A: Allocator + Copy, W: Write>(
+    out: &mut Vec<u8, A>,
+    writer: &mut W,
+) -> Result<(), PromptFault> {
+    if write_whole(writer, out.as_slice()).is_err() {
+        return Err(PromptFault::WriteFault);
+    }
+    out.clear();
+    match writer.flush() {
+        Ok(()) => Ok(()),
+        Err(_) => Err(PromptFault::WriteFault),
+    }
+}

@@ -1,0 +1,11 @@
+-- Each caller's fault names one of the accesses.
+use Rattle.std.proofs.Common.{IfOk, subst}
+use Rattle.shm_report.specs.Callers.{ServedUnlessEnded}
+use Rattle.shm_report.proofs.workload_run.run_workload.Goals as goal
+
+pub returns-clause-place : goal.returns-clause-place
+returns-clause-place g c =
+    let sites = c.args.sites in
+    let accesses = c.args.workload.now.accesses.items in
+    c.run_outcome.ensures.place sites accesses
+    (subst (λ lines. IfOk c.call-told.result (λ told. ServedUnlessEnded sites lines told.items)) c.as_slice.ensures.value c.call-told.ensures)

@@ -1,0 +1,129 @@
+//! A whole workload, from a reader to a writer.
+ghost use Rattle.std.specs.Prelude.{◌≡◌, ◌≢◌, ◌≤◌, ◌⊎◌, ℕ, List, None, Ok, false, true, IfErr, IfOk, IfSome, OnOk};
+ghost use Rattle.std.specs.Io.KnownBytes.{Appends};
+ghost use Rattle.shm_logs.specs.Auditing.Logs.{logs_of, AreLogsOf};
+ghost use Rattle.shm_report.specs.Audited.{IsAccepted};
+ghost use Rattle.shm_report.specs.Callers.{AllServed};
+ghost use Rattle.shm_lines.specs.Workload.{workload_of};
+ghost use Rattle.shm_report.specs.Causes.{audit_cause, given_up, input_cause, is_after_reading, IsFound, IsFoundIn, IsLineIn, IsRight, IsWrongBy};
+ghost use Rattle.shm_report.specs.Report.{whole_of, IsCutShort, IsReport};
+ghost use Rattle.shm_report.specs.declared.report_fault.ReportFault.TheVariants as cause;
+
+use crate::audited::Audited;
+use crate::order_steps::order_steps;
+use crate::read_input::read_all;
+use crate::report_fault::ReportFault;
+use crate::{Ran, run_workload};
+use shm_lines::{Workload, parse_workload};
+use shm_place::{PAGES, Sites};
+use std::alloc::Global;
+use std::io::{Read, Write};
+use std::sync::Wait;
+use std::thread::Threads;
+
+/// Runs the workload that is read from `reader` over so many sites, whose network draws its losses and repeats from the seed; one caller
+/// for each site runs the site's lines in their order. What each line was answered is written to `writer` when an audit of all that was
+/// logged has found nothing; before that nothing is written. An error of the reader or the writer, of whatever kind, ends it: nothing is
+/// tried again; where the writer failed, a front of the report was written.
+pub fn report<R: Threads + Wait + Copy + Send + Sync + 'static, I: Read, O: Write>(
+    rt: &R,
+    alloc: Global,
+    sites: Sites,
+    seed: u32,
+    reader: &mut I,
+    writer: &mut O,
+) -> Result<(), ReportFault>
+    ensures quiet { IfErr result (λ fault. (fault ≡ cause.WriteFault) ⊎ (writer.new ≡ writer.old)) }
+    ensures told { OnOk result ((text : List ℕ) × Appends (O.contents writer.old) (O.contents writer.new) text
+        × IsReport sites (I.remaining reader.old) text) }
+    ensures cut { IfErr result (λ fault. fault ≡ cause.WriteFault → (text : List ℕ)
+        × IsCutShort (O.contents writer.old) (O.contents writer.new) text × IsReport sites (I.remaining reader.old) text) }
+    ensures input { IfErr result (λ fault. IfSome (input_cause fault) (IsWrongBy sites (I.remaining reader.old))) }
+    ensures right { IfErr result (λ fault. is_after_reading fault ≡ true → IsRight sites (I.remaining reader.old)) }
+    ensures line { IfErr result (λ fault. IfSome (given_up fault) (IsLineIn sites (I.remaining reader.old))) }
+    ensures audit { IfErr result (λ fault. IfSome (audit_cause fault) (IsFound sites (I.remaining reader.old))) }
+{
+    match run_audited(rt, alloc, sites, seed, reader) {
+        Ok(run) => run.write(alloc, "", writer),
+        Err(fault) => Err(fault),
+    }
+}
+
+/// Runs the workload as `report` does, and audits it. Of what was run, nothing is written yet.
+pub fn run_audited<R: Threads + Wait + Copy + Send + Sync + 'static, I: Read>(
+    rt: &R,
+    alloc: Global,
+    sites: Sites,
+    seed: u32,
+    reader: &mut I,
+) -> Result<Audited, ReportFault>
+    ensures accepted { IfOk result IsAccepted }
+    ensures sites { IfOk result (λ run. run.sites ≡ sites) }
+    ensures read { IfOk result (λ run. IfSome (I.remaining reader.old) (λ bytes. workload_of sites bytes ≡ Ok (whole_of run.workload))) }
+    ensures unwritten { IfErr result (λ fault. fault ≢ cause.WriteFault) }
+    ensures input { IfErr result (λ fault. IfSome (input_cause fault) (IsWrongBy sites (I.remaining reader.old))) }
+    ensures right { IfErr result (λ fault. is_after_reading fault ≡ true → IsRight sites (I.remaining reader.old)) }
+    ensures line { IfErr result (λ fault. IfSome (given_up fault) (IsLineIn sites (I.remaining reader.old))) }
+    ensures audit { IfErr result (λ fault. IfSome (audit_cause fault) (IsFound sites (I.remaining reader.old))) }
+{
+    let workload = match read_workload(alloc, sites, reader) {
+        Ok(workload) => workload,
+        Err(fault) => return Err(fault),
+    };
+    let ran = match run_workload(rt, alloc, sites, seed as u64, &workload) {
+        Ok(ran) => ran,
+        Err(fault) => return Err(ReportFault::of_run(fault)),
+    };
+    audit_run(alloc, sites, workload, ran)
+}
+
+/// Reads the workload.
+fn read_workload<I: Read>(
+    alloc: Global,
+    sites: Sites,
+    reader: &mut I,
+) -> Result<Workload, ReportFault>
+    ensures read { IfOk result (λ workload. IfSome (I.remaining reader.old) (λ bytes.
+        workload_of sites bytes ≡ Ok (whole_of workload))) }
+    ensures pages { IfOk result (λ workload. (1 ≤ workload.pages) × (workload.pages ≤ PAGES)) }
+    ensures input { IfErr result (λ fault. IfSome (input_cause fault) (IsWrongBy sites (I.remaining reader.old))) }
+    ensures unread { IfErr result (λ fault. is_after_reading fault ≡ false) }
+    ensures unwritten { IfErr result (λ fault. fault ≢ cause.WriteFault) }
+    ensures audit { IfErr result (λ fault. audit_cause fault ≡ None) }
+{
+    let bytes = match read_all(alloc, reader) {
+        Ok(bytes) => bytes,
+        Err(fault) => return Err(fault),
+    };
+    match parse_workload(alloc, sites, bytes.as_slice()) {
+        Ok(workload) => Ok(workload),
+        Err(fault) => Err(ReportFault::of_workload(fault)),
+    }
+}
+
+/// The same, where an audit accepts what was run.
+fn audit_run(
+    alloc: Global,
+    sites: Sites,
+    workload: Workload,
+    ran: Ran,
+) -> Result<Audited, ReportFault>
+    requires served { AllServed sites workload.accesses.items ran.callers.items }
+    requires logs { AreLogsOf sites workload.pages ran.logs.items }
+    ensures accepted { IfOk result IsAccepted }
+    ensures same { IfOk result (λ run. (run.sites ≡ sites) × (run.workload ≡ workload)) }
+    ensures unwritten { IfErr result (λ fault. fault ≢ cause.WriteFault) }
+    ensures input { IfErr result (λ fault. input_cause fault ≡ None) }
+    ensures line { IfErr result (λ fault. given_up fault ≡ None) }
+    ensures audit { IfErr result (λ fault. IfSome (audit_cause fault) (IsFoundIn sites (whole_of workload) (logs_of ran.logs.items) ran.callers.items)) }
+{
+    match order_steps(alloc, sites, workload.pages, &ran) {
+        Ok(events) => Ok(Audited {
+            sites,
+            workload,
+            ran,
+            events,
+        }),
+        Err(fault) => Err(fault),
+    }
+}

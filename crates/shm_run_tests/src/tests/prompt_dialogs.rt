@@ -1,0 +1,263 @@
+//! Dialogs of the prompt: typed line by line, saved and replayed, and with streams and memory that fail.
+use super::failing_streams::{Giver, NEVER, Taker};
+use linked_list_allocator::LocalHeap;
+use shm_debug::replay;
+use shm_prompt::{PromptFault, SaveFile, prompt};
+use std::alloc::Global;
+use std::cell::Cell;
+use std::io::{self, ErrorKind, Read, Write};
+use std::test::Fail;
+
+/// The file that was saved last, if one was.
+#[derive(Drop)]
+struct Shelf {
+    saved: Option<Vec<u8>>,
+    alloc: Global,
+}
+
+impl SaveFile for Shelf {
+    fn save(&mut self, name: &str, bytes: &[u8]) -> io::Result<()> {
+        if name == "full" {
+            return Err(io::Error::from(ErrorKind::Other));
+        }
+        self.saved = Some(bytes.to_vec(self.alloc)?);
+        Ok(())
+    }
+}
+
+fn empty_shelf(alloc: Global) -> Shelf {
+    Shelf { saved: None, alloc }
+}
+
+/// What a reader and a writer both see.
+#[derive(Drop)]
+struct Seen {
+    /// How many bytes were taken before the last flush.
+    flushed: Cell<usize>,
+    reads: Cell<usize>,
+    /// The reads before which some text was missing, or text came too early.
+    wrong: Cell<usize>,
+}
+
+fn count(cell: &Cell<usize>) {
+    cell.set(cell.get().saturating_add(1));
+}
+
+/// Gives a line a read. At each read it looks whether what is told to the lines before was flushed, and no more.
+#[derive(Drop)]
+struct Typing<'a> {
+    given: usize,
+    seen: &'a Seen,
+}
+
+impl Typing<'_> {
+    fn look(&self) {
+        let mut told = 0usize;
+        for answer in TOLD.iter().take(self.seen.reads.get()) {
+            told = told.saturating_add(answer.len());
+        }
+        if self.seen.flushed.get() != told {
+            count(&self.seen.wrong);
+        }
+        count(&self.seen.reads);
+    }
+}
+
+impl Read for Typing<'_> {
+    fn read(&mut self, buf: &mut [u8]) -> io::Result<usize> {
+        self.look();
+        let Some(line) = TYPED.get(self.given) else {
+            return Ok(0);
+        };
+        self.given = self.given.saturating_add(1);
+        let count = line.len().min(buf.len());
+        buf[..count].copy_from_slice(&line.as_bytes()[..count]);
+        Ok(count)
+    }
+}
+
+/// Takes all that is written, and tells at each flush how much that is.
+#[derive(Drop)]
+struct Screen<'a> {
+    text: Vec<u8>,
+    seen: &'a Seen,
+}
+
+impl Write for Screen<'_> {
+    fn write(&mut self, buf: &[u8]) -> io::Result<usize> {
+        match self.text.extend_from_slice(buf) {
+            Ok(()) => Ok(buf.len()),
+            Err(_) => Err(io::Error::from(ErrorKind::OutOfMemory)),
+        }
+    }
+
+    fn flush(&mut self) -> io::Result<()> {
+        self.seen.flushed.set(self.text.len());
+        Ok(())
+    }
+}
+
+const TYPED: [&str; 13] = [
+    "load 1 0 0\n",
+    "sites 2 preset 1\n",
+    "load 1 0 0\n",
+    "flight\n",
+    "loud\n",
+    "store 0 0 x 1\n",
+    "run 01\n",
+    "run 1\n",
+    "run\n",
+    "sites\n",
+    "segments\n",
+    "undo\n",
+    "quit\n",
+];
+
+/// What is told to each of these lines.
+const TOLD: [&str; 13] = [
+    "no sites stand yet: begin with a line as sites 2 preset 1\n",
+    "1 ready\n",
+    "2 fault m0>0:Ask\n",
+    "m0 1>0 Ask page 0 0 request 1 to read\n",
+    "expected a command: `help` lists them\n",
+    "store 0 0 x 1\n          ^ an offset: digits, with no zero before others\n",
+    "expected: run, or run N with N from 0 to 4294967295, with no zero before other digits\n",
+    "3 took m1>0:Hand\nstopped at the bound of 1: more is on its way\n",
+    "4 took m2>1:Page\n5 took m3>0:Confirm\n6 took\nnothing is on its way\n",
+    "page        site 0        site 1        manager\n0 0         OwnRead/1     Copy/1        0: owner 0 copies 1 t 1 idle\n",
+    "key        shmid      owner      perms      bytes      nattch     status\n0x00000000 0          0          666        4096       2          \n",
+    "5 back 4\n",
+    "",
+];
+
+/// Each answer is written and flushed before the next line is read, and no more than it.
+#[test]
+fn each_line_is_answered_before_the_next(rt: HostRuntime) -> Result<(), Fail> {
+    let seen = Seen {
+        flushed: Cell::new(0),
+        reads: Cell::new(0),
+        wrong: Cell::new(0),
+    };
+    let mut reader = Typing {
+        given: 0,
+        seen: &seen,
+    };
+    let mut writer = Screen {
+        text: Vec::new(rt.alloc()),
+        seen: &seen,
+    };
+    let mut files = empty_shelf(rt.alloc());
+    let result = prompt(rt.alloc(), &mut reader, &mut writer, &mut files);
+    assert_eq!(rt; result, Ok(()));
+    assert_eq!(rt; writer.text.as_slice(), TOLD.concat(rt.alloc())?.as_bytes());
+    assert_eq!(rt; seen.wrong.get(), 0);
+    assert_eq!(rt; seen.reads.get(), 13);
+    Ok(())
+}
+
+/// A byte that no terminal should be told is shown as a question mark.
+#[test]
+fn bytes_that_are_no_text_are_not_told(rt: HostRuntime) {
+    let (result, text, _files) = type_at_once(rt.alloc(), b"load 01 \x1b[2J\xff\n\x1b[2J\n");
+    assert_eq!(rt; result, Ok(()));
+    let told = b"load 01 ?[2J?\n      ^ a site's number: digits, with no zero before others\n\
+expected a command: `help` lists them\n";
+    assert_eq!(rt; text.as_slice(), told.as_slice());
+}
+
+/// What is answered to bytes that are typed at once, and what is saved.
+fn type_at_once(alloc: Global, bytes: &[u8]) -> (Result<(), PromptFault>, Vec<u8>, Shelf) {
+    let mut reader = bytes;
+    let mut text = Vec::new(alloc);
+    let mut files = empty_shelf(alloc);
+    let result = prompt(alloc, &mut reader, &mut text, &mut files);
+    (result, text, files)
+}
+
+const KEPT: &str = "sites 2 preset 1
+store 0 0 0 7
+load 1 0 0
+get 1 0 0 5 1 600 c
+deliver 0
+deliver 1
+deliver 2
+deliver 3
+deliver 4
+deliver 5
+load 1 0 0
+";
+
+/// What is saved replays to the answers that stand; what was taken back, shown and asked isn't in it.
+#[test]
+fn what_is_saved_replays(rt: HostRuntime) -> Result<(), Fail> {
+    let (result, _text, files) = type_at_once(
+        rt.alloc(),
+        b"sites 3\nsites 2 preset 1\nstore 0 0 0 7\ntick 0\nundo\nload 1 0 0\nshow 0 0\nget 1 0 0 5 1 600 c\nsave full\nrun\nsave a b\nload 1 0 0\nsave a\n",
+    );
+    assert_eq!(rt; result, Ok(()));
+    let saved = files.saved.ok_or("a file")?;
+    assert_eq!(rt; std::str::from_utf8(saved.as_slice()), Ok(KEPT));
+    let mut script = saved.as_slice();
+    let mut text = Vec::new(rt.alloc());
+    let done = replay(rt.alloc(), &mut script, &mut text);
+    assert!(rt; done.is_ok());
+    assert!(rt; text.as_slice().ends_with(b"11 byte 7\n".as_slice()));
+    Ok(())
+}
+
+/// A writer that stops ends the dialog, and so does a reader that fails. The writer's call after each line is its flush.
+#[test]
+fn one_call_of_a_dialog_fails(rt: HostRuntime) -> Result<(), Fail> {
+    for calls in 0..8usize {
+        let mut writer = Taker {
+            text: Vec::new(rt.alloc()),
+            calls,
+            kind: None,
+        };
+        let mut reader = b"sites 2\n".as_slice();
+        let mut files = empty_shelf(rt.alloc());
+        let result = prompt(rt.alloc(), &mut reader, &mut writer, &mut files);
+        assert_eq!(rt; result, Err(PromptFault::WriteFault));
+        assert_eq!(rt;
+            writer.text.as_slice(),
+            &b"1 ready\n"[..calls.saturating_sub(1)]
+        );
+    }
+    for calls in 0..9usize {
+        let mut reader = Giver {
+            rest: b"sites 2\n".as_slice(),
+            calls,
+            kind: ErrorKind::Other,
+        };
+        let mut text = Vec::new(rt.alloc());
+        let mut files = empty_shelf(rt.alloc());
+        let result = prompt(rt.alloc(), &mut reader, &mut text, &mut files);
+        assert_eq!(rt; result, Err(PromptFault::ReadFault));
+    }
+    Ok(())
+}
+
+/// Whatever allocation is refused, the dialog ends with that, or is the same as with ample memory.
+#[test]
+fn a_dialog_runs_out_of_memory(rt: HostRuntime) -> Result<(), Fail> {
+    let bytes =
+        b"sites 2 preset 1\nload 1 0 0\nflight\nrun\nsites\nsegments\nloud\nload 01\nrun 01\nundo\nhelp\n".as_slice();
+    let (whole, text, _files) = type_at_once(rt.alloc(), bytes);
+    assert_eq!(rt; whole, Ok(()));
+    let mut done = false;
+    for step in 1..2000usize {
+        let heap = LocalHeap::new(rt.alloc(), step * 64)?;
+        let mut reader = bytes;
+        let mut told = Vec::new(rt.alloc());
+        let mut files = empty_shelf(rt.alloc());
+        let result = prompt(&heap, &mut reader, &mut told, &mut files);
+        if result.is_ok() {
+            assert!(rt; told.as_slice() == text.as_slice());
+            done = true;
+            break;
+        }
+        assert_eq!(rt; result, Err(PromptFault::OutOfMemory));
+    }
+    assert!(rt; done);
+    Ok(())
+}

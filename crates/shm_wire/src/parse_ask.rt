@@ -1,0 +1,146 @@
+//! How the words of a caller are read.
+ghost use Rattle.std.specs.Prelude.{◌≡◌, option_map};
+ghost use Rattle.shm_wire.specs.Words.{ended};
+ghost use Rattle.shm_wire.specs.Asks as said;
+ghost use Rattle.shm_wire.specs.Asks.{ask_of, asked_of, begun_of, load_of, read_of, show_of, store_of, try_load_of, try_store_of};
+
+use crate::ask::{Ask, Question};
+use crate::parse_message::page_id;
+use crate::tag::Tag;
+use shm_lines::{Words, parse_request};
+use shm_model::Asked;
+use shm_place::{PAGE_BYTES, SiteId};
+
+/// What is asked, of which site and under which tag.
+pub fn ask(words: Words<'_>) -> Option<Ask>
+    ensures { option_map ask_of result ≡ said.ask_after words.entry }
+{
+    let (site, words) = words.number()?;
+    let (word, words) = words.word()?;
+    let tag = Tag::new(word)?;
+    let asked = ask_of_words(words)?;
+    Some(Ask {
+        site: SiteId(site),
+        tag,
+        asked,
+    })
+}
+
+fn ask_of_words(words: Words<'_>) -> Option<Question>
+    ensures { result ≡ asked_of words.entry }
+{
+    let (verb, words) = words.word()?;
+    if verb == b"load".as_slice() {
+        return load(words);
+    }
+    if verb == b"store".as_slice() {
+        return store(words);
+    }
+    if verb == b"try-load".as_slice() {
+        return try_load(words);
+    }
+    if verb == b"try-store".as_slice() {
+        return try_store(words);
+    }
+    if verb == b"read".as_slice() {
+        return read(words);
+    }
+    if verb == b"tick".as_slice() {
+        return tick(words);
+    }
+    if verb == b"show".as_slice() {
+        return show(words);
+    }
+    begin_of_words(verb, words)
+}
+
+fn load(words: Words<'_>) -> Option<Question>
+    ensures { result ≡ load_of words.entry }
+{
+    let (at, words) = words.number()?;
+    let (offset, words) = words.number()?;
+    if !words.is_empty() {
+        return None;
+    }
+    Some(Question::Access(Asked::Load { at, offset }))
+}
+
+fn store(words: Words<'_>) -> Option<Question>
+    ensures { result ≡ store_of words.entry }
+{
+    let (at, words) = words.number()?;
+    let (offset, words) = words.number()?;
+    let (byte, words) = words.byte()?;
+    if !words.is_empty() {
+        return None;
+    }
+    Some(Question::Access(Asked::Store { at, offset, byte }))
+}
+
+fn try_load(words: Words<'_>) -> Option<Question>
+    ensures { result ≡ try_load_of words.entry }
+{
+    let (at, words) = words.number()?;
+    let (offset, words) = words.number()?;
+    if !words.is_empty() {
+        return None;
+    }
+    Some(Question::Try(Asked::Load { at, offset }))
+}
+
+fn try_store(words: Words<'_>) -> Option<Question>
+    ensures { result ≡ try_store_of words.entry }
+{
+    let (at, words) = words.number()?;
+    let (offset, words) = words.number()?;
+    let (byte, words) = words.byte()?;
+    if !words.is_empty() {
+        return None;
+    }
+    Some(Question::Try(Asked::Store { at, offset, byte }))
+}
+
+fn read(words: Words<'_>) -> Option<Question>
+    ensures { result ≡ read_of words.entry }
+{
+    let (at, words) = words.number()?;
+    let (offset, words) = words.number()?;
+    let (length, words) = words.number()?;
+    if !is_block(offset, length) || !words.is_empty() {
+        return None;
+    }
+    Some(Question::Read { at, offset, length })
+}
+
+/// Whether these are bytes of a block: at most a page, and each at an offset that there is.
+fn is_block(offset: u32, length: u32) -> bool
+    ensures { result ≡ said.is_block offset length }
+{
+    length > 0 && length <= PAGE_BYTES as u32 && u64::from(offset) + u64::from(length) <= 1 << 32
+}
+
+fn tick(words: Words<'_>) -> Option<Question>
+    ensures { result ≡ ended Question.Tick words.entry }
+{
+    if !words.is_empty() {
+        return None;
+    }
+    Some(Question::Tick)
+}
+
+fn show(words: Words<'_>) -> Option<Question>
+    ensures { result ≡ show_of words.entry }
+{
+    let (page, words) = page_id(words)?;
+    if !words.is_empty() {
+        return None;
+    }
+    Some(Question::Show(page))
+}
+
+fn begin_of_words(verb: &[u8], words: Words<'_>) -> Option<Question>
+    ensures { result ≡ begun_of verb.now words.entry }
+{
+    let request = parse_request(verb, words)?;
+    Some(Question::Begin(request))
+}

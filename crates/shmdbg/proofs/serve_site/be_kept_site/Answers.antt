@@ -1,0 +1,13 @@
+use Rattle.std.specs.Prelude.{Some}
+use Rattle.shmdbg.proofs.Unbegun.{unbegun}
+use Rattle.shmdbg.specs.Begun.{header_at}
+use Rattle.shmdbg.proofs.serve_site.be_kept_site.Goals as goal
+
+pub returns-in-Err : goal.returns-in-Err
+returns-in-Err g c =
+    unbegun (Some c.args.kept.begins) (header_at c.args.sites c.args.me c.args.pages) c.in-Err.fault (g.I.Read.remaining c.args.reader.now) (g.O.Write.contents c.args.out.now) c.in-Err.ensures
+
+pub returns-in-Err-begin_kept : goal.returns-in-Err-begin_kept
+returns-in-Err-begin_kept g c =
+    unbegun (Some c.args.kept.begins) (header_at c.args.sites c.args.me c.args.pages) c.in-Err-begin_kept.fault (g.I.Read.remaining c.args.reader.now) (g.O.Write.contents c.args.out.now)
+    c.in-Err-begin_kept.ensures.unbegun
