@@ -47,6 +47,11 @@ examples:
 manners:
 	@completions/check
 
+# Checks the recipe "Another page size" of CONTRIBUTING.md: what it names is there, and a page's size stands nowhere else in code.
+.PHONY: recipe-page-size
+recipe-page-size:
+	@recipes/page-size
+
 # Runs a workload as a user that may have ever more threads, from too few to enough. Needs the program that `make build` leaves, setpriv of
 # util-linux, and root.
 limits:
@@ -94,7 +99,7 @@ refused:
 # The gate: tries the programs that must not compile, proves every crate from nothing (newer toolchains: what this machine hasn't proved before), and runs every test, every program and every edit
 # that must fail.
 test: refused
-	rt ci 2>&1
+	RT_JOBS=$${RT_JOBS:-$$(gate/lanes)} rt ci 2>&1
 
 # The wrong bodies that the gate leaves out for its time: the prover must refuse each of these, too. Tried in a clone of the last commit,
 # four crates at a time.

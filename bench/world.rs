@@ -7,13 +7,15 @@
 ghost use Rattle.shm_model.specs.declared.call.Reply.{Reply};
 
 use anyhow::{Result, bail};
-use shm_place::{SiteId, Sites};
+use shm_place::{PAGE_BYTES, SiteId, Sites};
 use shm_world::{Answer, Event, World};
 use std::alloc::AllocError;
 use std::env;
 use std::io::Write;
 use std::rt::Clock;
 use std::time::Instant;
+
+const PAGE: u32 = PAGE_BYTES as u32;
 
 fn main(rt: HostRuntime) -> Result<()> {
     let alloc = rt.alloc();
@@ -58,7 +60,7 @@ fn load(world: &mut World, times: u32) -> Result<()> {
         let event = Event::Load {
             site: SiteId(0),
             at: 0,
-            offset: time % 4096,
+            offset: time % PAGE,
         };
         expect(world, event, Answer::Byte(0))?;
     }
@@ -68,7 +70,7 @@ fn load(world: &mut World, times: u32) -> Result<()> {
 /// Site 0 stores.
 fn store(world: &mut World, times: u32) -> Result<()> {
     for time in 0..times {
-        expect(world, store_of(0, time % 4096), Answer::Stored)?;
+        expect(world, store_of(0, time % PAGE), Answer::Stored)?;
     }
     Ok(())
 }

@@ -99,7 +99,7 @@ def start_sites(options, stream, folder, name):
 def try_blocks(site, data):
     """These bytes stand at 100; what is read is what stands there, of whatever length, and up to two pages."""
     memory = bytes(100) + data + bytes(PAGES * PAGE_BYTES - 100 - len(data))
-    ranges = ((4095, 1), (4096, 1), (4095, 2), (4094, 3), (4093, 4), (4090, 11),
+    ranges = ((PAGE_BYTES - 1, 1), (PAGE_BYTES, 1), (PAGE_BYTES - 1, 2), (PAGE_BYTES - 2, 3), (PAGE_BYTES - 3, 4), (PAGE_BYTES - 6, 11),
               (200, 1), (201, 2), (202, 3), (203, 4), (0, len(memory)))
     for offset, length in ranges:
         expect(site.shm_read(0, offset, length) == memory[offset:offset + length], f'{length} bytes at {offset} are read')
@@ -154,10 +154,10 @@ def try_calls(one, other):
     expect_error(errno.EINVAL, lambda: other.shm_get(5, 5001))
     expect_error(errno.ENOENT, lambda: one.shm_get(6, 100))
     at, read_only = one.shm_at(shmid), other.shm_at(shmid, SHM_RDONLY)
-    one.shm_write(at, 8191, b'z')
-    expect(other.shm_read(read_only, 8191, 1) == b'z', 'the last byte is read')
+    one.shm_write(at, 2 * PAGE_BYTES - 1, b'z')
+    expect(other.shm_read(read_only, 2 * PAGE_BYTES - 1, 1) == b'z', 'the last byte is read')
     expect_error(errno.EACCES, lambda: other.shm_write(read_only, 0, b'x'))
-    expect_error(errno.EFAULT, lambda: one.shm_read(at, 8192, 1))
+    expect_error(errno.EFAULT, lambda: one.shm_read(at, 2 * PAGE_BYTES, 1))
     status = one.shm_ctl(shmid, IPC_STAT)
     expect((status.key, status.mode, status.size, status.attachments, status.marked) == (5, 0o640, 5000, 2, False), f'{status}')
     other.shm_ctl(shmid, IPC_SET, uid=status.uid, gid=7, mode=0o600)
@@ -260,7 +260,7 @@ def try_kills(sites):
     ended = threading.Event()
     killer = threading.Thread(target=kill_often, args=(sites, ended, random.Random(2)))
     killer.start()
-    shmid = sites[0].shm_get(0, 4096, IPC_CREAT | 0o600)
+    shmid = sites[0].shm_get(0, PAGE_BYTES, IPC_CREAT | 0o600)
     for count in range(TIMES):
         writer, reader = sites[count % len(sites)], sites[(count + 1) % len(sites)]
         data = bytes([count + 1] * 100)

@@ -14,7 +14,7 @@
 /* The call answers -1, with this errno. */
 #define EXPECT_ERROR(number, call) EXPECT((errno = 0, (call) == -1 && errno == (number)))
 
-enum { PAGES = 2, BYTES = 8000 };
+enum { PAGES = 2, PAGE = LEDDWYFAN_PAGE_BYTES, BYTES = 8000 };
 
 static void expect(bool holds, const char *what, int line) {
     if (holds) return;
@@ -32,19 +32,19 @@ static void try_bytes(struct leddwyfan *one, struct leddwyfan *other) {
 
 /* What is read is what try_bytes wrote, of whatever length, and up to two pages; and nothing behind it. */
 static void try_blocks(struct leddwyfan *site) {
-    unsigned char read[PAGES * 4096], guard = 0xa5;
-    static const int ranges[][2] = {{4095, 1}, {4096, 1}, {4095, 2}, {4094, 3}, {4093, 4}, {4090, 11},
-                                    {200, 1},  {201, 2},  {202, 3},  {203, 4},  {4096, 4000}};
+    unsigned char read[PAGES * PAGE], guard = 0xa5;
+    static const int ranges[][2] = {{PAGE - 1, 1}, {PAGE, 1}, {PAGE - 1, 2}, {PAGE - 2, 3}, {PAGE - 3, 4}, {PAGE - 6, 11},
+                                    {200, 1},  {201, 2},  {202, 3},  {203, 4},  {PAGE, PAGE - 96}};
     for (size_t range = 0; range < sizeof ranges / sizeof *ranges; range++) {
         int offset = ranges[range][0], length = ranges[range][1];
         memset(read, guard, sizeof read);
         EXPECT(shm_read(site, 0, (size_t)offset, read, (size_t)length) == 0 && read[length] == guard);
         for (int place = 0; place < length; place++) EXPECT(read[place] == (unsigned char)(7 * (offset + place - 100)));
     }
-    EXPECT(shm_read(site, 0, 0, read, PAGES * 4096) == 0 && read[99] == 0 && read[107] == 49 && read[PAGES * 4096 - 1] == 0);
+    EXPECT(shm_read(site, 0, 0, read, PAGES * PAGE) == 0 && read[99] == 0 && read[107] == 49 && read[PAGES * PAGE - 1] == 0);
     EXPECT(shm_read(site, 0, 0, read, 0) == 0 && shm_read(site, 63, 0, read, 0) == 0);
-    EXPECT_ERROR(EFAULT, shm_read(site, 0, PAGES * 4096, read, 1));
-    EXPECT_ERROR(EFAULT, shm_read(site, 0, PAGES * 4096 - 1, read, 2));
+    EXPECT_ERROR(EFAULT, shm_read(site, 0, PAGES * PAGE, read, 1));
+    EXPECT_ERROR(EFAULT, shm_read(site, 0, PAGES * PAGE - 1, read, 2));
     EXPECT_ERROR(EFAULT, shm_read(site, 0, SIZE_MAX, read, 1));
     EXPECT_ERROR(EINVAL, shm_read(site, 63, 0, read, 1));
     EXPECT_ERROR(EINVAL, shm_read(site, 63, 4090, read, 20));
@@ -90,7 +90,7 @@ static void try_attached(struct leddwyfan *one, struct leddwyfan *other, int shm
     char byte = 0;
     int at = shm_at(one, shmid, 0), read_only = shm_at(other, shmid, SHM_RDONLY);
     EXPECT(at == 1 && read_only == 1);
-    EXPECT(shm_write(one, at, 8191, "z", 1) == 0 && shm_read(other, read_only, 8191, &byte, 1) == 0 && byte == 'z');
+    EXPECT(shm_write(one, at, 2 * PAGE - 1, "z", 1) == 0 && shm_read(other, read_only, 2 * PAGE - 1, &byte, 1) == 0 && byte == 'z');
     EXPECT_ERROR(EACCES, shm_write(other, read_only, 0, "x", 1));
     EXPECT(shm_ctl(one, shmid, IPC_STAT, &status) == 0 && status.size == 5000 && status.attachments == 2 && !status.marked);
     EXPECT(status.key == 5 && status.mode == 0640 && status.uid == getuid() && status.cgid == getgid());
@@ -114,7 +114,7 @@ static void try_lock(struct leddwyfan *one, struct leddwyfan *other) {
     EXPECT(shm_trylock(other, 0, 0) == 0);
     EXPECT_ERROR(EBUSY, shm_trylock(one, 0, 0));
     EXPECT(shm_unlock(other, 0, 0) == 0 && shm_lock(one, 0, 0) == 0 && shm_unlock(one, 0, 0) == 0);
-    EXPECT_ERROR(EFAULT, shm_lock(one, 0, PAGES * 4096));
+    EXPECT_ERROR(EFAULT, shm_lock(one, 0, PAGES * PAGE));
     EXPECT_ERROR(EINVAL, shm_trylock(one, 63, 0));
 }
 

@@ -13,7 +13,7 @@
 #include <time.h>
 #include <unistd.h>
 
-enum { KEY = 77, PAGE = 4096, MOST_SITES = 16, LOCK = 0, DONE = MOST_SITES * PAGE, COUNTER = DONE + 64, COUNTER_BYTES = 4 };
+enum { KEY = 77, PAGE = LEDDWYFAN_PAGE_BYTES, MOST_SITES = 16, LOCK = 0, DONE = MOST_SITES * PAGE, COUNTER = DONE + 64, COUNTER_BYTES = 4 };
 enum { SEGMENT_BYTES = DONE + PAGE, TRIES = 4, GIVE_UP_SECONDS = 300, LEAVE_SECONDS = 3 };
 
 /* The counter, as one site sees it. */

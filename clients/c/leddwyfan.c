@@ -19,7 +19,7 @@
 extern char **environ;
 
 enum {
-    PAGE = 4096,
+    PAGE = LEDDWYFAN_PAGE_BYTES,
     MOST_SITES = 16,
     SPIN = 2,           /* milliseconds between two looks at a flag */
     TICK = 50,          /* milliseconds, while something waits here or others say something */
@@ -807,7 +807,7 @@ int shm_write(struct leddwyfan *site, int at, size_t offset, const void *bytes, 
     return access_all(site, (struct piece){at, offset, length, bytes, NULL});
 }
 
-/* A lock over sites. Site K's flag is the byte at the lock's offset + 4096 * K, so each lies on a page of its own where the offset is a page's
+/* A lock over sites. Site K's flag is the byte at the lock's offset + PAGE * K, so each lies on a page of its own where the offset is a page's
    first, and a site alone stores its own (Burns and Lynch 1980; Lamport 1986, "The mutual exclusion problem", the one-bit algorithm). All it
    takes is that a load gives what was stored last. */
 

@@ -19,6 +19,9 @@
 #include <sys/shm.h>
 #include <sys/types.h>
 
+/* How many bytes a page has. */
+enum { LEDDWYFAN_PAGE_BYTES = 4096 };
+
 /* A site and its process. Threads may share one. */
 struct leddwyfan;
 

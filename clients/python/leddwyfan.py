@@ -268,7 +268,7 @@ class Site:
         for places in page_by_page(offset, len(data)):
             self._access([f'store {at} {place} {data[place - offset]}' for place in places])
 
-    # A lock over sites. Site K's flag is the byte at the lock's offset + 4096 * K, so each lies on a page of its own where the offset is a
+    # A lock over sites. Site K's flag is the byte at the lock's offset + PAGE_BYTES * K, so each lies on a page of its own where the offset is a
     # page's first, and a site alone stores its own (Burns and Lynch 1980; Lamport 1986, "The mutual exclusion problem", the one-bit algorithm).
     # All it takes is that a load gives what was stored last.
 

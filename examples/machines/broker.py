@@ -28,7 +28,7 @@ HERE = os.path.dirname(os.path.abspath(__file__))
 CLIENTS = os.path.join(HERE, '..', '..', 'clients')
 sys.path.insert(0, os.path.join(CLIENTS, 'python'))
 
-from leddwyfan import Site, end_process  # noqa: E402
+from leddwyfan import PAGE_BYTES, Site, end_process  # noqa: E402
 
 PACKAGES = {'mosquitto': 'mosquitto', 'mosquitto_sub': 'mosquitto-clients', 'mosquitto_pub': 'mosquitto-clients', 'cc': 'gcc'}
 SITES = 3
@@ -174,7 +174,7 @@ def call_in_shell(broker, topic):
 def call_in_turn(caller, numbers):
     """Stores each number by one site, and loads it by the next."""
     for number in numbers:
-        at, value = number % (PAGES * 4096), number % 256
+        at, value = number % (PAGES * PAGE_BYTES), number % 256
         stop_unless(caller.ask(number % SITES, f'store 0 {at} {value}') == ['stored'], 'a store was refused')
         told = caller.ask((number + 1) % SITES, f'load 0 {at}')
         stop_unless(told == ['byte', str(value)], f'{value} was stored at {at}, and {told} is loaded')

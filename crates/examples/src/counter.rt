@@ -1,6 +1,5 @@
 //! Three callers that share a counter page. Each runs in a thread of its own and at a site of its own, and adds 1 to a byte of its own
-//! again and again; so the page goes from site to site. When all have ended the bytes are loaded, and what all callers were told is
-//! audited.
+//! again and again, so the page goes from site to site. When all have ended, the bytes are loaded and all receipts audited.
 mod audit_run;
 mod callers;
 
@@ -18,7 +17,7 @@ use std::thread::Threads;
 /// From this the network draws what it loses and repeats.
 const SEED: u64 = 11;
 
-/// Lets the callers count, prints what they came to, and audits it.
+/// Lets the callers count, prints what they counted, and audits it.
 pub fn run<R, W>(rt: &R, alloc: Global, out: &mut W) -> Result<()>
 where
     R: Threads + Wait + Copy + Send + Sync + 'static,
@@ -46,7 +45,7 @@ where
     Ok(())
 }
 
-/// What a caller was told, if it came to its end.
+/// A caller's receipts, if it finished.
 fn receipts(told: Told) -> Result<Vec<Receipt>> {
     match told {
         Ok(receipts) => Ok(receipts),
@@ -54,7 +53,7 @@ fn receipts(told: Told) -> Result<Vec<Receipt>> {
     }
 }
 
-/// Prints the bytes that these receipts tell of, and their sum.
+/// Prints the bytes in these receipts, and their sum.
 fn print<W: Write>(out: &mut W, loaded: &[Receipt]) -> Result<()> {
     let mut sum = 0u64;
     for receipt in loaded {

@@ -23,7 +23,7 @@ pub fn run<W: Write>(alloc: Global, out: &mut W) -> Result<()> {
     Ok(())
 }
 
-/// Site 1 loads what site 0 stored. Nothing arrives by itself: each envelope is handed over by its number.
+/// Site 1 loads what site 0 stored. Nothing arrives by itself: the story delivers each envelope by its number.
 fn read_fault<W: Write>(story: &mut Story, out: &mut W) -> Result<()> {
     story.tell(out, "site 0 stores 7", store(0, 7))?;
     story.tell(out, "site 1 loads, and may not", load(1))?;

@@ -55,7 +55,7 @@ impl Attachments {
         }
     }
 
-    /// Attaches the segment at the least free number, which is the answer. None: no number is free, and nothing changes.
+    /// Attaches the segment at the least free number, and answers that number. None: no number is free, and nothing changes.
     pub fn put(&mut self, id: SegId, size: u32, ro: bool) -> Option<u32>
         ensures number { result ≡ least_free (attachments_of self.old) }
         ensures after { attachments_of self.new ≡ put_at result (record { id = id; size = size; ro = ro }) (attachments_of self.old) }
@@ -73,14 +73,14 @@ impl Attachments {
         first_free(&self.slots)
     }
 
-    /// Whether no number is free.
+    /// Checks that no number is free.
     pub fn is_full(&self) -> bool
         ensures { result ≡ is_none (least_free (attachments_of self.now)) }
     {
         self.least_free().is_none()
     }
 
-    /// What is attached at the number.
+    /// The attachment with this number.
     pub(crate) fn at(&self, number: u32) -> Option<Attachment>
         ensures attachment { result ≡ attachments_of self.now number }
         ensures below { IfSome result (λ _. number < MAX_ATTACHMENTS) }
@@ -113,7 +113,7 @@ impl Attachments {
         segment
     }
 
-    /// Whether some attachment names the segment.
+    /// Checks whether an attachment names the segment.
     pub fn names(&self, id: SegId) -> bool
         ensures named { (site : Site) → result ≡ is_attached (with_attachments (attachments_of self.now) site) id }
         ensures each { result ≡ false → (number : ℕ) → is_attachment_of id (attachments_of self.now number) ≡ false }
@@ -131,7 +131,7 @@ impl Attachments {
     }
 }
 
-/// Where nothing stands for the first time.
+/// The first empty slot.
 fn first_free(slots: &[Option<Attachment>]) -> Option<usize>
     ensures first { result ≡ position_from is_none 0 slots.now }
     ensures below { IfSome result (λ number. number < length slots.now) }

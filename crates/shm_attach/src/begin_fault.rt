@@ -7,7 +7,7 @@ use shm_model::refusal::{self, Numbered};
 pub enum BeginFault {
     /// A call is outstanding: a site waits for one reply at a time.
     Busy,
-    /// The greatest number was given.
+    /// The greatest number was used.
     UsedUp,
 }
 

@@ -77,7 +77,7 @@ impl CallBook {
         Some(op)
     }
 
-    /// Takes a reply, and gives the call that it ends, which is outstanding no longer. None: it ends no call, and nothing changes.
+    /// Takes a reply, and answers the call that it ends, which then isn't outstanding. None: it ends no call, and nothing changes.
     pub fn reply(&mut self, number: Number, reply: &Reply) -> Option<Op>
         ensures call { result ≡ call_ended_by number reply.now self.old.outstanding }
         ensures ended { IfSome result (λ _. self.new ≡ record self.old { outstanding = None }) }
@@ -106,7 +106,7 @@ impl CallBook {
     }
 }
 
-/// Whether a reply to this call can have this form.
+/// Checks that a reply to this call can have this form.
 fn fits(op: &Op, reply: &Reply) -> bool
     ensures { result ≡ fits op.now reply.now }
 {
@@ -119,7 +119,7 @@ fn fits(op: &Op, reply: &Reply) -> bool
     }
 }
 
-/// Whether a segment can have so many bytes.
+/// Checks that a segment can have this size.
 fn is_size(size: u32) -> bool
     ensures { result ≡ is_size size }
 {

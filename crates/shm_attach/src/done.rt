@@ -1,7 +1,7 @@
 use shm_model::Reply;
 use shm_place::SegId;
 
-/// What a home tells of a call: the reply, and the segment that this call destroyed, which every site is to purge.
+/// A home's answer to a call: the reply, and the segment that this call destroyed, if any. Every site has to purge that segment.
 #[derive(Clone, Copy, Debug, PartialEq, Eq)]
 pub struct Done {
     pub reply: Reply,

@@ -2,7 +2,7 @@ ghost use Rattle.shm_attach.specs.Right.{denied_number};
 
 use shm_model::refusal::{self, Numbered};
 
-/// Why a load or store goes nowhere.
+/// Why a load or store reaches no place.
 #[derive(Clone, Copy, Debug, PartialEq, Eq)]
 pub enum Denied {
     /// Nothing is attached at this number.

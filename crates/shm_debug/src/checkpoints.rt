@@ -33,7 +33,8 @@ impl<A: Allocator + Copy> Checkpoints<A> {
         self.ring.back()
     }
 
-    /// Takes the latest checkpoint out, where it moves, and stands at least `least` and fewer than `most` events before the place `last`.
+    /// Takes the latest checkpoint out, if it is the one that moves, and is at least `least` and fewer than `most` events before the place
+    /// `last`.
     pub(crate) fn take_moving(
         &mut self,
         last: usize,
@@ -65,7 +66,7 @@ impl<A: Allocator + Copy> Checkpoints<A> {
         self.ring.clear();
     }
 
-    /// Drops the checkpoints that stand past the first `count` events.
+    /// Drops the checkpoints past the first `count` events.
     pub(crate) fn drop_past(&mut self, count: u64)
         ensures { (s : Standing) → count ≤ length s.events → AllHold s self.old → AllHold (first_events count s) self.new }
     {
@@ -73,7 +74,7 @@ impl<A: Allocator + Copy> Checkpoints<A> {
         self.ring.truncate_back(kept);
     }
 
-    /// How many checkpoints, from the oldest on, stand within the first `count` events.
+    /// The number of checkpoints, from the oldest on, within the first `count` events.
     fn count_within(&self, count: u64) -> usize
         ensures { result ≡ length (take_while (λ checkpoint. nat_le checkpoint.count count) self.now.ring.items) }
     {

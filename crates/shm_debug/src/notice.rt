@@ -1,11 +1,11 @@
 use std::fmt;
 
-/// What is said to a line that asks no site for anything.
+/// The answer to a line that isn't an event.
 #[derive(Clone, Copy, Debug)]
 pub enum Notice {
     /// The sites stand.
     Ready,
-    /// So many events stand after going back.
+    /// This many events stand after going back.
     Back(u64),
     /// Fewer events stand than were to be taken back.
     PastBeginning,

@@ -1,12 +1,12 @@
 use shm_model::refusal::{self, Numbered};
 use thiserror::Error;
 
-/// What a whole script was.
+/// The summary of a whole script.
 #[derive(Clone, Copy, Debug, PartialEq, Eq)]
 pub struct Summary {
     /// All lines, the first one too.
     pub lines: u64,
-    /// The event lines that stand at the end, refused ones too: all but those that were taken back.
+    /// The event lines that stand at the end, refused ones too, without those that were taken back.
     pub events: u64,
     /// The envelopes that were sent in the run of these events.
     pub sent: u64,
@@ -18,7 +18,7 @@ pub enum DebugFault {
     /// An allocation was refused.
     #[error("out of memory")]
     OutOfMemory,
-    /// The line is no line of a script, or stands in the wrong place, or has no line feed.
+    /// It isn't a line of a script, or isn't allowed there, or has no line feed.
     #[error("line {0}: bad line")]
     BadLine(u64),
     /// The line has more than 200 bytes before its line feed.

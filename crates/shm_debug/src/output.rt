@@ -1,4 +1,4 @@
-//! What a replay tells of a block of its script is gathered, and written before the next block is read.
+//! Gathers the output for a block of a script, to be written before the next block is read.
 ghost use Rattle.std.specs.Prelude.{◌≡◌, ℕ, [], OnOk, OnErr, IfOk, take};
 ghost use Rattle.std.specs.Io.KnownBytes.{Appends};
 
@@ -6,10 +6,10 @@ use shm_text::{NotWritten, Text, write_whole};
 use std::alloc::{AllocError, Allocator};
 use std::io::Write;
 
-/// How much room the text of a block is given from the beginning.
+/// The room for a block's text at the start, in bytes.
 const ROOM: usize = 1 << 16;
 
-/// How much room a line is given from the beginning.
+/// The room for a line at the start, in bytes.
 const LINE: usize = 512;
 
 /// No text yet, with room for what is gathered.
@@ -19,7 +19,7 @@ pub fn empty_text<A: Allocator + Copy>(alloc: A) -> Result<Text<A>, AllocError>
     Text::new(alloc, ROOM, LINE)
 }
 
-/// Writes all that was told, and forgets it.
+/// Writes all output gathered, and empties it.
 pub fn write_told<A: Allocator + Copy, W: Write>(
     text: &mut Text<A>,
     writer: &mut W,
@@ -33,7 +33,7 @@ pub fn write_told<A: Allocator + Copy, W: Write>(
     Ok(())
 }
 
-/// Writes all that was told, forgets it, and flushes the writer: nobody waits for it while the reader waits.
+/// Writes all output gathered, empties it, and flushes the writer: nobody waits for it while the reader waits.
 pub fn write_and_flush<A: Allocator + Copy, W: Write>(
     text: &mut Text<A>,
     writer: &mut W,

@@ -1,4 +1,4 @@
-//! What each line makes of a session, and what is told of it.
+//! What each line does to a session, and its answer.
 ghost use Rattle.std.specs.Prelude.{◌≡◌, ◌++◌, Some, false, is_some, not, true, IfOk, OnErr, OnOk};
 ghost use Rattle.shm_lines.specs.Line.{is_first};
 ghost use Rattle.shm_lines.specs.Spelling.{IsLine};
@@ -73,7 +73,7 @@ fn act_on<A: Allocator + Copy>(
     }
 }
 
-/// The last events are taken back, if there are so many.
+/// Takes the last events back, if that many stand.
 fn go_back<A: Allocator + Copy>(
     session: &mut Session<A>,
     number: u64,
@@ -91,7 +91,7 @@ fn go_back<A: Allocator + Copy>(
     }
 }
 
-/// What a script of so many lines was, that left this session.
+/// The summary of a script of this many lines that left this session.
 pub fn summary<A: Allocator + Copy>(lines: u64, session: &Option<Session<A>>) -> Summary
     ensures { result ≡ summary_at lines session.now }
 {

@@ -46,7 +46,7 @@ impl<A: Allocator + Copy> Model for Player<A> {
 }
 
 impl<A: Allocator + Copy> Player<A> {
-    /// Nothing was read yet. Room for a line is made.
+    /// Begins a script, with room for a line.
     pub fn new(alloc: A) -> Result<Player<A>, AllocError>
         ensures { IfOk result (λ player. player ≡ start) }
     {
@@ -58,7 +58,7 @@ impl<A: Allocator + Copy> Player<A> {
         })
     }
 
-    /// What stands after the whole lines that were read; `None`: there was none yet.
+    /// The session after the whole lines that were read; `None`: there was no line yet.
     pub fn session(&self) -> Option<&Session<A>>
         ensures { option_copied result ≡ self.now.standing }
     {
@@ -74,7 +74,7 @@ impl<A: Allocator + Copy> Player<A> {
         MAX_BYTES - self.lines as usize * (MAX_LINE_BYTES + 1) - self.line.len()
     }
 
-    /// Reads the bytes on, and tells what is said to the lines that they end.
+    /// Reads the bytes on, and answers the lines that they end.
     pub fn play(&mut self, bytes: &[u8], output: &mut Text<A>) -> Result<(), DebugFault>
         ensures ok { OnOk result (Plays self.old bytes.now self.new output.old output.new) }
         ensures err { IfErr result (λ fault. Fails self.old bytes.now fault output.old output.new) }
@@ -140,7 +140,7 @@ impl<A: Allocator + Copy> Player<A> {
         }
     }
 
-    /// What the gathered bytes say, where a line feed follows.
+    /// Reads the gathered bytes as a line, where a line feed follows.
     fn read_gathered(&self) -> Result<Line, DebugFault>
         ensures { result ≡ Script.read_line (self.now.lines + 1) self.now.line }
     {
@@ -166,7 +166,7 @@ impl<A: Allocator + Copy> Player<A> {
         }
     }
 
-    /// Goes on to the next line, and tells what is said to this one.
+    /// Goes on to the next line, and answers this one.
     #[inline(always)]
     fn pass(&mut self, line: Line, output: &mut Text<A>) -> Result<(), AllocError>
         requires within { self.old.lines < max_lines }
@@ -185,7 +185,7 @@ impl<A: Allocator + Copy> Player<A> {
     }
 }
 
-/// What the line of this number says, which has these bytes.
+/// Reads these bytes as the line of this number.
 #[inline(always)]
 fn read_line(number: u64, bytes: &[u8]) -> Result<Line, DebugFault>
     ensures { result ≡ Script.read_line number bytes.now }
@@ -203,7 +203,7 @@ fn read_line(number: u64, bytes: &[u8]) -> Result<Line, DebugFault>
     Ok(line)
 }
 
-/// Whether a line of this number may have so many bytes. If not, the fault is that of each line which has as many or more.
+/// Checks that a line of this number may have this many bytes. If not, each line that has as many or more has this fault.
 #[inline(always)]
 fn check_limits(number: u64, len: usize) -> Result<(), DebugFault>
     ensures number { OnOk result (number ≤ max_lines) }
@@ -219,7 +219,7 @@ fn check_limits(number: u64, len: usize) -> Result<(), DebugFault>
     Ok(())
 }
 
-/// What stands before the first line feed, and what stands after it.
+/// Splits the bytes at the first line feed.
 fn cut_line(bytes: &[u8]) -> Option<(&[u8], &[u8])>
     ensures cut { IfSome result (λ cut. bytes.now ≡ cut.0.now ++ 10 ∷ cut.1.now) }
     ensures first { IfSome result (λ cut. All (λ byte. (byte == 10) ≡ false) cut.0.now) }

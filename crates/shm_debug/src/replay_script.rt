@@ -19,11 +19,11 @@ use std::io::{Read, Write};
 /// How many bytes are read at once.
 const CHUNK: usize = 8192;
 
-/// Replays a script, which is read from `reader`, and writes what is said to each line to `writer`.
+/// Replays a script, which is read from `reader`, and writes the answer to each line to `writer`.
 ///
-/// The reader is read up to its end or to the first fault, and a little further. Where it answers an error, of whatever kind, the
-/// replay ends; so it does where the writer answers an error or takes nothing. Before each read all that was told is written, and the
-/// writer is flushed; so it is at the end, after a fault too, and there a flush that fails counts only where nothing else has failed.
+/// It reads up to the end or to the first fault, and a little further. Any error of the reader ends the replay, and so does any error of
+/// the writer, or a write of nothing. Before each read it writes all output and flushes the writer. It does so at the end too, even after a
+/// fault; there a flush that fails counts only where nothing else has failed.
 pub fn replay<A: Allocator + Copy, R: Read, W: Write>(
     alloc: A,
     reader: &mut R,
@@ -93,7 +93,7 @@ fn flush_at_end<W: Write>(
     }
 }
 
-/// Whether the writer has failed already.
+/// Checks whether the writer has failed already.
 fn is_write_fault(played: &Result<Summary, DebugFault>) -> bool
     ensures { result ≡ Replay.is_write_fault played.now }
 {
@@ -106,7 +106,7 @@ fn is_write_fault(played: &Result<Summary, DebugFault>) -> bool
     }
 }
 
-/// Reads the script block by block, plays each, and writes what is told of it before the next is read.
+/// Reads the script block by block, plays each block, and writes its output before it reads the next.
 fn play_all<A: Allocator + Copy, R: Read, W: Write>(
     alloc: A,
     reader: &mut R,

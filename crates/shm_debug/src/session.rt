@@ -11,8 +11,8 @@ use shm_world::{Event, World};
 use std::alloc::{AllocError, Allocator, Global};
 use std::marker::Model;
 
-/// What stands of a run: how its world began, and the events that weren't taken back. Beside them it keeps the world that they lead to,
-/// and for going back checkpoints, and what undoes the last events.
+/// A run that stands: how its world began, and the events that weren't taken back. Beside them it keeps the world that they lead to and,
+/// for going back, checkpoints and what undoes the last events.
 #[derive(Drop)]
 pub struct Session<A: Allocator + Copy = Global> {
     pub(crate) opening: Opening,
@@ -41,7 +41,7 @@ impl<A: Allocator + Copy> Model for Session<A> {
 }
 
 impl<A: Allocator + Copy> Session<A> {
-    /// Nothing has happened yet. The pages of a segment 0 are attached at every site, to read and write, as attachment 0.
+    /// Begins a session without events. The pages of a segment 0 are attached at every site, to read and write, as attachment 0.
     pub fn new(alloc: A, opening: Opening) -> Result<Session<A>, AllocError>
         requires opening { IsOpening (opening_of opening) }
         requires beside { IsSome opening.frames → IsSome opening.preset }
@@ -88,7 +88,7 @@ impl<A: Allocator + Copy> Session<A> {
         self.events.len() as u64
     }
 
-    /// Whether no event stands.
+    /// Checks that no event stands.
     pub fn is_empty(&self) -> bool
         ensures { result ≡ (length self.now.events == 0) }
     {

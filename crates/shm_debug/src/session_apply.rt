@@ -15,9 +15,9 @@ use shm_world::{Answer, Event, World};
 use std::alloc::{AllocError, Allocator};
 
 impl<A: Allocator + Copy> Session<A> {
-    /// One more event, which stands from then on. Where memory is refused, all that is kept for going back is dropped, and the event is
-    /// tried once more with nothing kept of it; what stands is then as it was. A load or store that has the right needs memory for the
-    /// list of the events alone, and so does a restart or a loss.
+    /// Makes one more event, which then stands. Where memory is refused, it drops all that is kept for going back, and tries once more with
+    /// nothing kept of the event. If that is refused too, all that stands is as it was. A load or store that has the right needs memory for
+    /// the list of the events alone, and so does a restart or a loss.
     pub fn apply(&mut self, event: Event) -> Result<Answer, AllocError>
         ensures answered { IfOk result (λ answer. answer ≡ (model.next (world_of self.old) event).done.answer) }
         ensures ok { OnOk result (self.new ≡ with_event self.old event) }
@@ -33,7 +33,7 @@ impl<A: Allocator + Copy> Session<A> {
         self.make_again(&event)
     }
 
-    /// One more event, as [`Session::apply`] makes it, and the line that tells its answer.
+    /// Makes one more event, as [`Session::apply`] does, and appends its line.
     // The answer is told where it was made: handing it on would copy it at each step.
     #[inline(always)]
     pub(crate) fn apply_and_tell(
@@ -63,7 +63,7 @@ impl<A: Allocator + Copy> Session<A> {
         }
     }
 
-    /// One more event, and then the line that tells its answer.
+    /// Makes one more event, and then appends its line.
     #[inline(never)]
     fn apply_then_tell(
         &mut self,
@@ -82,7 +82,7 @@ impl<A: Allocator + Copy> Session<A> {
         }
     }
 
-    /// The event, of which is kept what takes it back; where memory is refused, once more.
+    /// Makes the event, and keeps what undoes it; where memory is refused, tries once more without.
     // Out of line, as the next, so that the common way stays short.
     #[inline(never)]
     fn make_kept(&mut self, event: &Event) -> Result<Answer, AllocError>
@@ -134,7 +134,7 @@ impl<A: Allocator + Copy> Session<A> {
         Ok(answer)
     }
 
-    /// Nothing is kept for going back any more.
+    /// Gives up all that was kept for going back.
     fn give_up_copies(&mut self)
         ensures { self.new ≡ self.old }
     {
@@ -143,7 +143,7 @@ impl<A: Allocator + Copy> Session<A> {
     }
 }
 
-/// What the world answers to the event, which joins the others.
+/// Steps the world by the event, and joins the answer to the others.
 #[inline(always)]
 fn step_and_push<A: Allocator + Copy>(
     world: &mut World<A>,

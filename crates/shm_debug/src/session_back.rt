@@ -18,21 +18,21 @@ use shm_model::Opening;
 use shm_world::{Event, World};
 use std::alloc::{AllocError, Allocator};
 
-/// A checkpoint that stays can be made after each so many events.
+/// The events between two places where a checkpoint may stay.
 const STRIDE: usize = 64;
 
-/// The one that moves is made so many events before the last one: so a few more can be taken back from it.
+/// The checkpoint that moves is made this many events before the last one, so that a few more can be taken back from it.
 const MARGIN: usize = 4;
 
 /// A run of fewer events than these is short: it takes the checkpoint that moves.
 const SHORT: usize = 128;
 
-/// On short runs a checkpoint stays after each so many events.
+/// The events between two checkpoints that stay, on short runs.
 const MILESTONE: usize = 1024;
 
 impl<A: Allocator + Copy> Session<A> {
-    /// Takes the last `count` events back, and answers how many stand. Where memory is refused, or fewer events stand, what
-    /// stands stays as it was; only what is kept for going back may be given up.
+    /// Takes the last `count` events back, and answers how many stand. Where memory is refused, or fewer events stand, the events stay;
+    /// only what is kept for going back may be given up.
     pub fn back(&mut self, count: u32) -> Result<u64, BackFault>
         ensures enough { OnOk result (count ≤ length self.old.events) }
         ensures left { IfOk result (λ left. left ≡ length self.new.events) }
@@ -57,7 +57,8 @@ impl<A: Allocator + Copy> Session<A> {
         Ok(left as u64)
     }
 
-    /// Takes the last `count` events back one by one, and tells whether it did: where less is kept of them, or memory is refused, all stays.
+    /// Takes the last `count` events back one by one, and answers whether it did. Where less is kept of them, or memory is refused, all
+    /// stays.
     fn take_back(&mut self, count: usize) -> bool
         requires { count ≤ length self.old.events }
         ensures back { result ≡ true → self.new ≡ without_last self.old count }
@@ -102,7 +103,7 @@ impl<A: Allocator + Copy> Session<A> {
     }
 }
 
-/// Takes the last `count` of the events back one by one, and tells whether it did. Where less is kept of them, or memory is refused, all
+/// Takes the last `count` of the events back one by one, and answers whether it did. Where less is kept of them, or memory is refused, all
 /// stays.
 fn undo_last<A: Allocator + Copy>(
     world: &mut World<A>,
@@ -231,7 +232,7 @@ fn run_on<A: Allocator + Copy>(
     Ok(())
 }
 
-/// One event. Before it is refused for memory, the checkpoints are given up.
+/// Makes one event. Before it refuses it for memory, it gives up the checkpoints.
 fn step_on<A: Allocator + Copy>(
     world: &mut World<A>,
     event: &Event,
@@ -251,12 +252,13 @@ fn step_on<A: Allocator + Copy>(
     }
 }
 
-/// Keeps a copy of the world after `count` events, on the way from the place `from` to `last`, where it is one of the checkpoints that are
-/// kept: counted in strides from the last one, the 1st, 2nd, 4th, 8th and so on. Where one is to move, it stands for the 1st, and on a
-/// short run for all but the milestones; so a short run, which took one, mostly makes one copy. Those that stay are never taken. So a
-/// checkpoint and the next lie no farther apart than a milestone and a short run, or than they lay behind the end of the run that kept
-/// them: beside the events that were made since, a run takes no more, but where the oldest went for there were too many. Where memory is
-/// refused nothing is kept.
+/// Keeps a copy of the world after `count` events, on the way from the place `from` to `last`, if that is one of the checkpoints to keep:
+/// counted in strides from the last one, the 1st, 2nd, 4th, 8th and so on. The checkpoint that moves stands for the 1st and, on a short
+/// run, for all but the milestones. A short run took one away, so it mostly makes one copy. Checkpoints that stay are never taken away.
+///
+/// So the distance between two checkpoints is at most a milestone and a short run, or the distance to the end of the run that kept them. A
+/// run makes no more events again than that, beside those made since, except where the oldest checkpoint went because there were too many.
+/// Where memory is refused nothing is kept.
 fn keep<A: Allocator + Copy>(
     world: &World<A>,
     count: usize,

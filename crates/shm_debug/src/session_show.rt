@@ -1,4 +1,4 @@
-//! What a session shows.
+//! Shows a page of a session.
 ghost use Rattle.std.specs.Prelude.{◌≡◌, IfOk};
 ghost use Rattle.shm_debug.specs.Standing.{world_of};
 ghost use Rattle.shm_debug.specs.Page.{page_text};
@@ -9,7 +9,7 @@ use shm_place::PageId;
 use std::alloc::{AllocError, Allocator};
 
 impl<A: Allocator + Copy> Session<A> {
-    /// What is told of a page: how each site holds it, and its manager's book (Li and Hudak 1989, §3.2). One outside the limits is refused.
+    /// The text of a page: how each site holds it, and its manager's book (Li and Hudak 1989, §3.2). Refuses a page outside the limits.
     pub fn show(&self, page: PageId) -> Result<Vec<u8, A>, AllocError>
         ensures { IfOk result (λ text. text.items ≡ page_text (world_of self.now) page) }
     {

@@ -1,4 +1,4 @@
-//! What a debugger says: of an answer, of the envelopes that were sent, and of a page. Each text is said of the definitions' world.
+//! The debugger's texts: of an answer, of the envelopes that were sent, and of a page. Each text is that of the definitions' world.
 
 mod copies;
 mod lines;

@@ -1,4 +1,4 @@
-//! What is kept of the last events, so that they can be taken back one by one.
+//! What undoes the last events, so that they can be taken back one by one.
 ghost use Rattle.std.specs.Prelude.{◌≡◌, ◌-◌, ◌<◌, ◌&&◌, IfOk, IfSome, IsSome, length, nat_lt};
 ghost use Rattle.shm_model.specs.declared.event.Event.{Event};
 ghost use Rattle.shm_debug.specs.Standing.{Standing, with_event, without_last, world_of};
@@ -15,8 +15,8 @@ const MOST_UNDOS: usize = 16;
 /// Two times of going back are near each other where fewer events than these were made between them.
 const NEAR: u32 = 8;
 
-/// What is kept of the last events, the oldest first. It takes time to keep it, so it is done only while going back is likely: near the
-/// last time that events were taken back, where that was near the time before.
+/// What undoes the last events, the oldest first. Keeping it takes time, so a session does it only while going back is likely: near the
+/// last `back`, if that was near the one before.
 #[derive(Drop)]
 pub struct Undos<A: Allocator + Copy = Global> {
     ring: HeapCircularBuffer<Undo<A>, A>,
@@ -44,7 +44,7 @@ impl<A: Allocator + Copy> Undos<A> {
         self.ring.len()
     }
 
-    /// Whether something is to be kept of the next event.
+    /// Checks whether to keep what undoes the next event.
     pub(crate) fn wants_next(&self) -> bool
         ensures { result ≡ (self.now.likely && nat_lt 0 self.now.near) }
     {
@@ -60,7 +60,7 @@ impl<A: Allocator + Copy> Undos<A> {
         self.ring.push_back(undo);
     }
 
-    /// Nothing is kept of an event that was made. So what was kept of those before it serves no more.
+    /// Notes that nothing was kept of an event. So what undoes the events before it is useless, and goes.
     pub(crate) fn miss(&mut self)
         ensures { (s : Standing) → AllLeadBack s self.new }
     {
@@ -71,7 +71,7 @@ impl<A: Allocator + Copy> Undos<A> {
         self.ring.clear();
     }
 
-    /// What is kept of the last event, which is to be taken back.
+    /// What undoes the last event, for taking it back.
     pub(crate) fn pop(&mut self) -> Option<Undo<A>>
         ensures some { 0 < length self.old.ring.items → IsSome result }
         ensures leads { (s : Standing) → AllLeadBack s self.old
@@ -89,14 +89,14 @@ impl<A: Allocator + Copy> Undos<A> {
         self.near = NEAR;
     }
 
-    /// Whether the last two times of going back were near each other.
+    /// Checks that the last two times of going back were near each other.
     pub(crate) fn likely(&self) -> bool
         ensures { result ≡ self.now.likely }
     {
         self.likely
     }
 
-    /// Nothing is kept any more.
+    /// Forgets all that was kept.
     pub(crate) fn clear(&mut self)
         ensures { (s : Standing) → AllLeadBack s self.new }
     {

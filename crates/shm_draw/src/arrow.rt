@@ -34,7 +34,7 @@ pub(crate) fn tell_path<A: Allocator + Copy>(
     write!(out, "<path class='{class}' d='M{x} {start}L{tip} {y}'/>\n")
 }
 
-/// Tells what stands at the arrow's head: its envelope, and what was answered there.
+/// Writes the label at the arrow's head: its envelope, and the answer there.
 pub(crate) fn tell_head_label<A: Allocator + Copy>(
     out: &mut String<A>,
     way: &Way,
@@ -71,7 +71,7 @@ fn tell_label<A: Allocator + Copy>(
     )
 }
 
-/// Where the label stands left of the lifeline, what is told next stands right of it.
+/// Where the label stands left of the lifeline, the answer stands right of it.
 fn tell_aside<A: Allocator + Copy>(
     out: &mut String<A>,
     way: &Way,

@@ -20,18 +20,18 @@ use std::io::{Read, Write};
 /// How many bytes are read at once.
 const CHUNK: usize = 8192;
 
-/// How much room the answers of a block are given from the beginning, which are not written.
+/// The room for the answers of a block at the start, in bytes. They are not written.
 const ROOM: usize = 1 << 16;
 
-/// How much room a line is given from the beginning.
+/// The room for a line at the start, in bytes.
 const LINE: usize = 512;
 
-/// Draws the run that stands at the script's end, which is read from `reader`, and writes the picture to `writer`: that of the page, or of
-/// each page that the run touches.
+/// Draws the run that stands at the end of the script read from `reader`, and writes the picture to `writer`: that of the page, or of each
+/// page that the run touches.
 ///
-/// The script is read up to its end or to its first fault, and a little further; nothing is written before. Where the reader answers an
-/// error, of whatever kind, nothing is drawn; where the writer answers one, or takes nothing, a front of the picture may have been written.
-/// The writer is flushed at the end.
+/// It reads the script up to its end or to its first fault, and a little further, and writes nothing before. After an error of the reader
+/// it draws nothing. After an error of the writer, or a write of nothing, a front of the picture may have been written. It flushes the
+/// writer at the end.
 pub fn draw<A: Allocator + Copy, R: Read, W: Write>(
     alloc: A,
     reader: &mut R,
@@ -59,7 +59,7 @@ pub fn draw<A: Allocator + Copy, R: Read, W: Write>(
     }
 }
 
-/// Reads the script, block by block. What is said to its lines is not kept.
+/// Reads the script, block by block. Its answers are not kept.
 fn read_script<A: Allocator + Copy, R: Read>(
     alloc: A,
     reader: &mut R,

@@ -1,4 +1,4 @@
-//! Which pages are drawn.
+//! The pages to draw.
 ghost use Rattle.std.specs.Prelude.{◌≡◌, [], ◌∷◌, Some, IfOk, OnOk};
 ghost use Rattle.std.specs.List.{list_any};
 ghost use Rattle.shm_place.specs.Page.{same_page};

@@ -1,4 +1,4 @@
-//! What an event draws, as the world stands before it.
+//! The mark that an event draws, as the world stands before it.
 ghost use Rattle.std.specs.Prelude.{◌≡◌};
 ghost use Rattle.shm_model.specs.World as model;
 ghost use Rattle.shm_world.specs.World.{StandsFor};
@@ -12,7 +12,7 @@ use shm_place::{PageId, SiteId};
 use shm_world::World;
 use std::alloc::Allocator;
 
-/// What the event draws on the page's picture. `origins` has the event that sent each envelope.
+/// The mark that the event draws on the page's picture. `origins` has the event that sent each envelope.
 pub(crate) fn mark_of<A: Allocator + Copy>(
     world: &World<A>,
     origins: &[u64],
@@ -40,7 +40,7 @@ fn mark_on(page: &PageId, about: Option<PageId>, own: Mark) -> Mark
     }
 }
 
-/// What the event draws on the picture of its own page.
+/// The mark that the event draws on the picture of its own page.
 fn own_mark<A: Allocator + Copy>(world: &World<A>, origins: &[u64], event: &Event) -> Mark
     ensures { (w : model.World) → StandsFor world.now w → result ≡ Picture.own_mark w origins.now event.now }
 {

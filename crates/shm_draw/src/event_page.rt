@@ -1,4 +1,4 @@
-//! Which page an event is about.
+//! The page that an event is about.
 ghost use Rattle.std.specs.Prelude.{◌≡◌, slice_get};
 ghost use Rattle.shm_model.specs.World as model;
 ghost use Rattle.shm_world.specs.World.{StandsFor};
@@ -10,8 +10,8 @@ use shm_place::{PageId, SiteId};
 use shm_world::World;
 use std::alloc::Allocator;
 
-/// The page that an event is about, as the world stands before it: where an access goes, or what the envelope is about that it hands over
-/// or loses. Segment calls, ticks and restarts are about none, nor is an access that is refused.
+/// The page that an event is about, as the world stands before it: an access's page, or that of the envelope that it hands over or loses.
+/// Segment calls, ticks, restarts and refused accesses are about none.
 pub(crate) fn about<A: Allocator + Copy>(world: &World<A>, event: &Event) -> Option<PageId>
     ensures { (w : model.World) → StandsFor world.now w → result ≡ Picture.about w event.now }
 {
@@ -53,7 +53,7 @@ fn about_envelope<A: Allocator + Copy>(world: &World<A>, number: u64) -> Option<
     }
 }
 
-/// Whether what is about that page, or about none, belongs to this one.
+/// Checks that an event about that page, or about none, belongs on this page's picture.
 pub(crate) fn is_of(page: &PageId, about: Option<PageId>) -> bool
     ensures { result ≡ Picture.is_of page.now about }
 {

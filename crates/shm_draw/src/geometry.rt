@@ -1,4 +1,4 @@
-//! Where things stand in a picture, in pixels.
+//! The places of things in a picture, in pixels.
 ghost use Rattle.std.specs.Prelude.{◌≡◌, ◌+◌, IfOk};
 ghost use Rattle.shm_draw.specs.Svg;
 
@@ -37,7 +37,7 @@ pub(crate) fn tip_of(from: SiteId, to: SiteId, end: End) -> u64
     }
 }
 
-/// How wide the picture is: the legend, or the lifelines and so much room for what stands right of the last.
+/// The picture's width: that of the legend, or of the lifelines and the room right of the last.
 pub(crate) fn width_of(sites: Sites, room: u32) -> u64
     ensures { result ≡ Svg.width_of sites room }
 {
@@ -48,7 +48,7 @@ pub(crate) fn width_of(sites: Sites, room: u32) -> u64
     needed
 }
 
-/// How far the picture of a page goes down: so many rows of events and of what is on its way, what stands above them, and a margin.
+/// The height of a page's picture: that of all rows of events and of envelopes on their way, of what stands above them, and of a margin.
 pub(crate) fn depth_of(last: u64, further: u64) -> u128
     ensures { result ≡ Svg.depth_of last further }
 {

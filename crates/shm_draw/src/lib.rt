@@ -1,5 +1,5 @@
 //! A run as a picture: one self-contained SVG. For each page it has a row for each event, a lifeline for each site and an arrow for each
-//! envelope of this page. The text is the definitions' picture of the run, and of a script that of the run which stands at its end.
+//! envelope of this page. The text is the definitions' picture of the run. A script's picture is that of the run that stands at its end.
 #![tactic(auto)]
 
 mod arrow;

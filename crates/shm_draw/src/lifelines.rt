@@ -79,7 +79,7 @@ fn tell_cell<A: Allocator + Copy>(
     write!(out, "<use href='#{fill}' x='{x}' y='{y}'/>\n")
 }
 
-/// What a state is drawn as. A site that has nothing of the page and never heard of it has a lifeline of its own.
+/// The name of a state's look. A site that never met a transaction of the page has a look of its own.
 fn fill_of(state: State, seen: u64) -> &'static str
     ensures { result.now ≡ Svg.fill_name state seen }
 {

@@ -1,4 +1,4 @@
-//! What an event draws.
+//! The mark that an event draws.
 use crate::message_word::Word;
 use shm_place::{PageId, SiteId};
 
@@ -13,7 +13,7 @@ pub struct Way {
     pub from: SiteId,
     /// The site that it is for.
     pub to: SiteId,
-    /// What its message is called.
+    /// The name of its message.
     pub word: Word,
 }
 
@@ -30,7 +30,7 @@ pub enum End {
     OnItsWay,
 }
 
-/// What happens at one site, without an envelope.
+/// An event at one site, without an envelope.
 #[derive(Clone, Copy, Debug, PartialEq, Eq)]
 pub enum Symbol {
     /// A load, a store, or the beginning of a segment call.
@@ -39,14 +39,14 @@ pub enum Symbol {
     Restart,
 }
 
-/// What an event draws on the picture of a page.
+/// The mark that an event draws on the picture of a page.
 #[derive(Clone, Copy, Debug, PartialEq, Eq)]
 pub enum Mark {
     /// Something at a site.
     At(SiteId, Symbol),
     /// The way of the envelope that it hands over or loses, and which of these it does.
     Arrow(Way, End),
-    /// Only the page that the event is about, which is another one.
+    /// Only the page that the event is about, if it is another one.
     Elsewhere(PageId),
     /// There is no such envelope, or no such site.
     Nowhere,

@@ -1,4 +1,4 @@
-//! What a message is called, and the page that it is about.
+//! The name of a message, and the page that it is about.
 ghost use Rattle.std.specs.Prelude.{◌≡◌};
 ghost use Rattle.shm_parts.specs.Message.{message_of, note_of};
 ghost use Rattle.shm_draw.specs.Picture;
@@ -8,7 +8,7 @@ use shm_parts::{BookNote, EntryNote, Message, Note};
 use shm_place::PageId;
 use std::alloc::Allocator;
 
-/// What a message is called.
+/// The name of a message.
 #[derive(Clone, Copy, Debug, PartialEq, Eq)]
 pub enum Word {
     Ask,

@@ -1,4 +1,4 @@
-//! Which event sent each envelope.
+//! The event that sent each envelope.
 ghost use Rattle.std.specs.Prelude.{◌≡◌, ◌-◌, ◌++◌, length, replicate, OnOk};
 
 use std::alloc::{AllocError, Allocator};

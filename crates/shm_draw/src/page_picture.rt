@@ -63,7 +63,7 @@ fn tell_group<A: Allocator + Copy>(out: &mut String<A>, top: u128) -> Result<(),
     write!(out, "<g transform='translate(0 {top})'>\n")
 }
 
-/// Runs the events, and tells each.
+/// Runs the events, and draws each.
 fn tell_events<A: Allocator + Copy>(
     shapes: &mut String<A>,
     labels: &mut String<A>,
@@ -91,7 +91,7 @@ fn tell_events<A: Allocator + Copy>(
     Ok(())
 }
 
-/// Makes the event, and tells it.
+/// Makes the event, and draws it.
 fn tell_event<A: Allocator + Copy>(
     shapes: &mut String<A>,
     labels: &mut String<A>,

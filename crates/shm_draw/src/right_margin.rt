@@ -1,11 +1,11 @@
-//! How much room stands right of the last lifeline.
+//! The room right of the last lifeline.
 ghost use Rattle.std.specs.Prelude.{◌≡◌};
 ghost use Rattle.std.specs.List.{list_any};
 ghost use Rattle.shm_draw.specs.Svg;
 
 use shm_model::{Event, Op, Request};
 
-/// How far what is told there goes. The reply to a segment call is longer than what an access gives, and that to a `stat` is long.
+/// The width of the answers there. The reply to a segment call is longer than the answer to an access, and that to a `stat` is long.
 pub(crate) fn room_of(events: &[Event]) -> u32
     ensures { result ≡ Svg.room_of events.now }
 {

@@ -1,4 +1,4 @@
-//! What is the same in each picture: how shapes look, and the legend.
+//! The same part of each picture: how shapes look, and the legend.
 
 /// The style sheet, the shapes that are used by name, and the legend.
 pub(crate) const STYLE: &str =

@@ -13,3 +13,4 @@ pub mod Acts
 pub mod Publishing
 pub mod DeskFrom
 pub mod Crash
+pub mod Lives

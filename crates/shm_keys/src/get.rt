@@ -8,6 +8,7 @@ ghost use Rattle.shm_model.specs.Permission.{Segment as Record};
 use crate::purge::Purge;
 use crate::segment::Segment;
 use crate::table::SegTable;
+use bitflags::Flags;
 use indexmap::IndexMap;
 use shm_model::refusal::{Numbered, OUT_OF_MEMORY};
 use shm_model::{Cred, Errno, GetFlags, Mode};
@@ -160,18 +161,20 @@ fn id_at(place: usize, sites: Sites, home: SiteId) -> SegId
     SegId(place as u32 * sites.count() + home.0)
 }
 
-/// Whether `IPC_CREAT` is given.
+/// Checks that `IPC_CREAT` is given.
+#[tactic(auto, using(crate::proofs::Bits::creat_flag))]
 fn creates(flags: GetFlags) -> bool
     ensures { result ≡ has_creat flags.0 }
 {
-    flags.0 / 0o1000 % 2 == 1
+    flags.contains(GetFlags::CREAT)
 }
 
-/// Whether `IPC_CREAT` and `IPC_EXCL` are given: the key is to be free.
+/// Checks that `IPC_CREAT` and `IPC_EXCL` are given: the key has to be free.
+#[tactic(auto, using(crate::proofs::Bits::excl_flag))]
 fn creates_only(flags: GetFlags) -> bool
     ensures { result ≡ (has_creat flags.0 && has_excl flags.0) }
 {
-    creates(flags) && flags.0 / 0o2000 % 2 == 1
+    creates(flags) && flags.contains(GetFlags::EXCL)
 }
 
 impl Segment {

@@ -1,5 +1,5 @@
-//! The segments of one home, as a Linux user knows them: made and found by key, attached, removed, set and told of
-//! (`shmget(2)`, `shmop(2)`, `shmctl(2)`), and which sites have yet to purge the destroyed ones.
+//! The segments of one home, as a Linux user knows them: made and found by key, attached, removed, changed and described (`shmget(2)`,
+//! `shmop(2)`, `shmctl(2)`), and which sites still have to purge the destroyed ones.
 #![tactic(auto)]
 
 mod calls;

@@ -9,7 +9,7 @@ use shm_model::Mode;
 use shm_place::{Key, PAGE_BYTES, PAGES, SegId, SiteId, Sites};
 use std::alloc::{AllocError, Allocator};
 
-/// Segment 0 of so many pages, which is attached once at every site, and which everyone may read and write.
+/// Segment 0 with this number of pages. It is attached once at every site, and everyone may read and write it.
 fn first_segment(sites: Sites, pages: u32) -> Segment
     requires { pages ≤ PAGES }
     ensures { result ≡ preset_segment sites pages }

@@ -12,7 +12,7 @@ pub(crate) struct Purge {
     pub missing: SiteSet,
 }
 
-/// How many stand below the identifier.
+/// The number of those below the identifier.
 pub(crate) fn place_of(purges: &[Purge], id: u64) -> usize
     requires { IsRising purges.now }
     ensures within { result ≤ length purges.now }

@@ -28,7 +28,7 @@ fn free_key<A: Allocator + Copy>(
     }
 }
 
-/// A live segment's record comes anew. Some: it is destroyed thereby, so that it is live no longer and all sites have yet to purge it.
+/// Replaces a live segment's record. `Some`: this destroyed the segment, so it isn't live, and all sites still have to purge it.
 fn settle<A: Allocator>(
     live: &mut usize,
     purges: &mut Vec<Purge, A>,
@@ -62,7 +62,7 @@ fn settle<A: Allocator>(
 impl<A: Allocator + Copy> SegTable<A> {
     ghost use Rattle.shm_keys.specs.Table.{IsLive, missing_of};
 
-    /// Puts a live segment's record anew. The segment, where it is destroyed thereby: all sites have yet to purge it.
+    /// Replaces a live segment's record. `Some`: the segment, which this destroyed; all sites still have to purge it.
     pub(crate) fn replace(&mut self, before: Segment, after: Segment) -> Option<SegId>
         requires home { home_of_id self.old.sites after.id ≡ self.old.home }
         requires live { IsLive self.old.segments after.id before }

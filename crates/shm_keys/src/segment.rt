@@ -72,14 +72,14 @@ impl Segment {
         }
     }
 
-    /// Whether it is gone: marked, with nobody attached.
+    /// Checks that it is gone: marked, with nobody attached.
     pub fn is_destroyed(&self) -> bool
         ensures { result ≡ destroyed self.now }
     {
         self.marked && self.nattch == 0
     }
 
-    /// What `stat` tells of it.
+    /// The record that `stat` answers.
     pub fn stat(&self) -> Stat
         ensures { result ≡ record {
           key = self.now.key;

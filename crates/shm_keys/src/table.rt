@@ -39,7 +39,7 @@ impl<A: Allocator + Copy> Model for SegTable<A> {
     ghost invariant = { λ t. IsTable t.home t.sites t.segments.items (get nat_eq t.keys) t.live t.purges.items (vec_capacity t.purges) };
 }
 
-/// Where the segment of the identifier stands in the order of making.
+/// The place of the identifier's segment in the order of making.
 pub(crate) fn place_of(sites: Sites, id: SegId) -> usize
     requires { 0 < sites }
     ensures { result ≡ id / sites }

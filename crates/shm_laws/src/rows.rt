@@ -52,13 +52,13 @@ pub fn page_boundaries()
     ensures row { Plays (Preset 2 2) Pages.page_boundaries }
 {}
 
-/// Which refusal comes first: of an access, and of a segment call.
+/// The order of refusals: of an access, and of a segment call.
 #[tactic(auto, using(crate::proofs::Played::Pages::order_of_refusals))]
 pub fn order_of_refusals()
     ensures row { Plays (Preset 2 1) Pages.order_of_refusals }
 {}
 
-/// What is asked again in which order; a store takes the place of the load that its site asked for.
+/// The order in which a tick asks again; a store replaces the load that its site asked for.
 #[tactic(auto, using(crate::proofs::Played::Pages::order_of_asks))]
 pub fn order_of_asks()
     ensures row { Plays (Preset 3 4) Pages.order_of_asks }
@@ -100,7 +100,7 @@ pub fn repeated_hand()
     ensures row { Plays (Preset 2 1) Network.repeated_hand }
 {}
 
-/// The reader restarts, asks anew, and gets what it asked for before.
+/// The reader restarts, asks again, and gets what it asked for before.
 #[tactic(auto, using(crate::proofs::Played::Network::requester_restarts))]
 pub fn requester_restarts()
     ensures row { Plays (Preset 2 1) Network.requester_restarts }
@@ -118,7 +118,7 @@ pub fn readers_restart()
     ensures row { Plays (Preset 2 1) Network.readers_restart }
 {}
 
-/// A site that owns the page by now is handed it to read: its right to write stays.
+/// A Hand lends the page to a site that owns it by now: its right to write stays.
 #[tactic(auto, using(crate::proofs::Played::Network::owner_is_handed_to_read))]
 pub fn owner_is_handed_to_read()
     ensures row { Plays (Preset 2 1) Network.owner_is_handed_to_read }
@@ -136,7 +136,7 @@ pub fn frames()
     ensures row { Plays (Framed 2 4 1) Frames.frames }
 {}
 
-/// A copy that comes anew is the last to go.
+/// A copy that comes again is the last to go.
 #[tactic(auto, using(crate::proofs::Played::Frames::copy_again))]
 pub fn copy_again()
     ensures row { Plays (Framed 2 5 2) Frames.copy_again }
@@ -178,7 +178,7 @@ pub fn unknown_identifiers()
     ensures row { Plays (Preset 3 1) Segments.unknown_identifiers }
 {}
 
-/// A marked segment lives until its last detach, which is executed once however often it comes.
+/// A marked segment lives until its last detach, which is executed once, however often it comes.
 #[tactic(auto, using(crate::proofs::Played::Removal::removal))]
 pub fn removal()
     ensures row { Plays (New 2) Removal.removal }

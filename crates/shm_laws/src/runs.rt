@@ -8,8 +8,8 @@ pub fn runs_go_on()
     ensures { (o : Opening) (earlier later : List Event) → run o (earlier ++ later) ≡ run_on (run o earlier) later }
 {}
 
-/// Each site runs on exactly its own inputs: whatever happens elsewhere, its state, its answers and what it sends are those
-/// of its own inputs in their order, and whatever is handed to it was sent to it before.
+/// Each site runs on exactly its own inputs. Its state, its answers and what it sends are those of its own inputs in their order, whatever
+/// happens elsewhere. What is handed to it was sent to it before.
 pub fn sites_run_on_their_own_inputs()
     ensures { (o : Opening) (events : List Event) → OwnInputs o (run o events) }
 {}

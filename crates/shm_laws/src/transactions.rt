@@ -4,7 +4,7 @@ ghost use Rattle.shm_model.specs.declared.event.Event.{Event};
 ghost use Rattle.shm_model.specs.Transactions.{BytesAreLast, InvalidatedFirst, NumbersTell, ReadersAreKnown};
 ghost use Rattle.shm_model.specs.World.{IsOpening, Opening, run};
 
-/// What is above its receiver's number belongs to the transaction that runs at the page's manager.
+/// A number above its receiver's belongs to the transaction that runs at the page's manager.
 pub fn numbers_tell_what_is_late()
     ensures { (o : Opening) (events : List Event) → IsOpening o → NumbersTell (run o events).world }
 {}
@@ -14,13 +14,14 @@ pub fn readers_are_known()
     ensures { (o : Opening) (events : List Event) → IsOpening o → ReadersAreKnown (run o events).world }
 {}
 
-/// The owner gives a page up for writing only after all copies were invalidated (Li and Hudak 1989, §3): once it is told to, nobody but it
-/// and the site that asked may read the page.
+/// The owner gives a page up for writing only after all copies were invalidated (Li and Hudak 1989, §3). Once it is told to, only it and
+/// the requester may read the page.
 pub fn copies_are_invalidated_first()
     ensures { (o : Opening) (events : List Event) → IsOpening o → InvalidatedFirst (run o events).world }
 {}
 
-/// What may be read or installed is what was stored last, and so is what is kept for a site that a page was handed to until it has it.
+/// Bytes that may be read or installed are those stored last, and so are those kept for a site that a page was handed to, until it has
+/// them.
 pub fn bytes_are_the_last_stored()
     ensures { (o : Opening) (events : List Event) → IsOpening o → BytesAreLast o (run o events) }
 {}

@@ -1,4 +1,4 @@
-//! How the words of segment calls are spelled.
+//! The spelling of segment calls.
 ghost use Rattle.std.specs.Prelude.{◌≡◌};
 ghost use Rattle.shm_lines.specs.Calls as spelled;
 
@@ -24,7 +24,7 @@ impl fmt::Display for CallWords {
     }
 }
 
-/// What a site is asked to begin, as its words spell it.
+/// A segment call, as its words spell it.
 #[derive(Clone, Copy)]
 pub struct RequestWords(pub Request);
 
@@ -126,7 +126,7 @@ impl fmt::Display for BehindCall {
     }
 }
 
-/// Who calls, and the segment that the call names.
+/// The caller, and the segment that the call names.
 #[derive(Clone, Copy)]
 struct On {
     cred: Cred,

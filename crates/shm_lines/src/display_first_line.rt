@@ -2,7 +2,7 @@
 use shm_model::Opening;
 use std::fmt;
 
-/// How the sites begin, as a script's first line spells it.
+/// The opening, as a script's first line spells it.
 #[derive(Clone, Copy)]
 pub struct First(pub Opening);
 

@@ -1,5 +1,5 @@
-//! Says what is wrong with a line: where it can't be read on, what could stand there, and what the line seems to be. Has a reader that
-//! remembers the lines that it gave last.
+//! Explains a wrong line: where it goes wrong, what could stand there, and what the line seems to be. Has a reader that remembers the lines
+//! that it gave last.
 
 mod expected;
 mod hint;

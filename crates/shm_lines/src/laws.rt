@@ -1,4 +1,4 @@
-//! What holds of the definitions, whichever line is read.
+//! Laws of the definitions, for every line.
 ghost use Rattle.std.specs.Prelude.{◌≡◌, ℕ, List, Some};
 ghost use Rattle.shm_lines.specs.declared.line.Line.{Line};
 ghost use Rattle.shm_lines.specs.Line.{line_of};

@@ -1,4 +1,4 @@
-//! A line of a script, as data, and where it may stand.
+//! A line of a script, as data, and where it is allowed.
 use shm_model::{Event, Opening};
 use shm_place::PageId;
 
@@ -8,9 +8,9 @@ pub enum Line {
     /// The first line: how the sites begin. A line that is read has `frames` only beside a `preset`.
     Sites(Opening),
     Event(Event),
-    /// What each site has of a page, and what its manager knows.
+    /// Shows each site's state of a page, and its manager's book.
     Show(PageId),
-    /// Takes the last so many events back.
+    /// Takes this many of the last events back.
     Back(u32),
 }
 

@@ -13,7 +13,7 @@ use shm_place::{MAX_FRAMES, PAGES, PageId, SegId, SiteId, Sites};
 #[derive(Clone, Copy, Debug, PartialEq, Eq)]
 pub struct BadLine;
 
-/// Reads a line, which is given without its line feed. Takes no memory.
+/// Reads a line without its line feed. Takes no memory.
 pub fn parse_line(line: &[u8]) -> Result<Line, BadLine>
     ensures { result ≡ ok_or (line_of line.now) (record {}) }
 {
@@ -67,7 +67,7 @@ fn other(verb: &[u8], words: Words<'_>) -> Option<Line>
     call(verb, words)
 }
 
-/// The line of a segment call: behind the site stand the words that the call has everywhere.
+/// Reads the line of a segment call: behind the site come the words that the call has everywhere.
 fn call(verb: &[u8], words: Words<'_>) -> Option<Line>
     ensures { result ≡ call_of verb.now words.entry }
 {

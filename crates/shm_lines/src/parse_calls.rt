@@ -1,4 +1,4 @@
-//! How the words of a segment call are read: those behind its verb, and in a script behind its site.
+//! Reads the words of a segment call: those behind its verb, and in a script behind its site.
 ghost use Rattle.std.specs.Prelude.{◌≡◌};
 ghost use Rattle.shm_lines.specs.Calls.{attach_of, call_of, common_of, detach_at_of, detach_of, get_of, remove_of, request_of, set_of, stat_of};
 ghost use Rattle.shm_lines.specs.Words.{ended};
@@ -7,7 +7,7 @@ use crate::words::Words;
 use shm_model::{Op, Request};
 use shm_place::{Key, SegId};
 
-/// What a site is asked to begin, by its verb and the words behind it. A detach names the attachment: `detach ATTACHMENT`.
+/// Reads a segment call, by its verb and the words behind it. A detach names the attachment: `detach ATTACHMENT`.
 pub fn parse_request(verb: &[u8], words: Words<'_>) -> Option<Request>
     ensures { result ≡ request_of verb.now words.entry }
 {
@@ -29,7 +29,7 @@ pub fn parse_call(words: Words<'_>) -> Option<Op>
     common(verb, words)
 }
 
-/// The segment call of this verb, but for a detach.
+/// The segment call of this verb, except a detach.
 fn common(verb: &[u8], words: Words<'_>) -> Option<Op>
     ensures { result ≡ common_of verb.now words.entry }
 {

@@ -27,8 +27,8 @@ pub fn wide_number(word: &[u8]) -> Option<u64>
     value_of(word)
 }
 
-/// The number that a line's first word stands for, and what stands behind the blank after it, if there is one: in one pass over the word.
-/// It is found wherever there is one; `None` says nothing.
+/// The number that a line's first word stands for, and the bytes behind the blank after it, if there is one: in one pass over the word. It
+/// finds the number wherever there is one; `None` says nothing.
 #[inline(always)]
 pub(crate) fn front_number(line: &[u8]) -> Option<(u32, Option<&[u8]>)>
     ensures { IfSome result (λ r. (word : List ℕ) × (Words.words_of line.now ≡ word ∷ option_map_or (λ rest. Words.words_of rest.now) r.1 [])
@@ -55,7 +55,7 @@ pub(crate) fn front_number(line: &[u8]) -> Option<(u32, Option<&[u8]>)>
     }
 }
 
-/// Checks that so many digits at the line's front are a number: there is one, and the first isn't a 0 before others.
+/// Checks that this many digits at the line's front are a number: there is one, and the first isn't a 0 before others.
 #[inline(always)]
 fn is_plain(line: &[u8], digits: usize) -> bool
     requires { digits ≤ length line.now }

@@ -50,7 +50,7 @@ pub fn flags(word: &[u8]) -> Option<GetFlags>
     None
 }
 
-/// Reads `ro` or `rw`: says whether an attachment is to be read-only.
+/// Reads `ro` or `rw`: `true` for a read-only attachment.
 pub fn access(word: &[u8]) -> Option<bool>
     ensures { result ≡ Words.access_of word.now }
 {

@@ -132,7 +132,7 @@ impl<'a> Words<'a> {
     }
 }
 
-/// Splits at the first separator: what stands before it, and what stands after it if there is one.
+/// Splits at the first separator: the bytes before it, and those after it if there is one.
 pub fn split_at(bytes: &[u8], separator: u8) -> (&[u8], Option<&[u8]>)
     ensures parts { slice_split (λ byte. byte == separator) bytes.now
         ≡ result.0.now ∷ option_map_or (λ rest. slice_split (λ byte. byte == separator) rest.now) result.1 [] }

@@ -10,16 +10,16 @@ use crate::workload_line::{access_line, first_line, open_line};
 use shm_place::{PAGES, Sites};
 use std::alloc::{Allocator, Global};
 
-/// What all callers do.
+/// The accesses of all callers.
 #[derive(Drop)]
 pub struct Workload<A: Allocator = Global> {
     /// How many pages segment 0 has, 1 to 256.
     pub pages: u32,
-    /// What is done, in the order of the lines, the first of which is line 2.
+    /// The accesses, in the order of the lines, the first of which is line 2.
     pub accesses: Vec<WorkloadAccess, A>,
 }
 
-/// Reads a workload for so many sites.
+/// Reads a workload for this many sites.
 pub fn parse_workload<A: Allocator>(
     alloc: A,
     sites: Sites,

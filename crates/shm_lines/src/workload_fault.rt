@@ -6,13 +6,13 @@ use thiserror::Error;
 pub enum WorkloadFault {
     #[error("out of memory")]
     OutOfMemory,
-    /// The line isn't one that may stand there, or the last one has no line feed.
+    /// The line isn't allowed there, or the last one has no line feed.
     #[error("line {0}: bad line")]
     BadLine(u64),
     /// The line has more than 200 bytes.
     #[error("line {0}: too long")]
     LineTooLong(u64),
-    /// Something stands after line 10,000.
+    /// There are bytes after line 10,000.
     #[error("too many lines")]
     TooManyLines,
 }

@@ -46,7 +46,7 @@ pub(crate) fn access_line(
     }
 }
 
-/// Why what has no line feed is no line.
+/// The fault of bytes without a line feed.
 pub(crate) fn open_line(number: u64, line: &[u8]) -> WorkloadFault
     ensures { result ≡ said.open_line number line.now }
 {
@@ -131,7 +131,7 @@ fn store(sites: Sites, size: u32, words: Words<'_>) -> Option<WorkloadAccess>
     })
 }
 
-/// Checks that there is such a site, and a byte at this offset of so many pages.
+/// Checks that there is such a site, and that the offset lies inside the pages.
 fn is_inside(sites: Sites, size: u32, site: u32, offset: u32) -> bool
     requires { size ≤ PAGES }
     ensures { result ≡ said.is_inside sites size site offset }

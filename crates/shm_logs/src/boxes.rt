@@ -1,7 +1,7 @@
-//! What running sites log, without threads: each site in a box that logs every step that it makes, and receipts that tell of steps.
+//! Logs of running sites, without threads: each site in a box that logs every step that it makes, and receipts that tell of steps.
 //!
-//! After Lamport 1978 (logical clocks): a step's stamp is above those of its site's steps before it, and above that of the step which
-//! sent what it is handed.
+//! After Lamport 1978 (logical clocks): a step's stamp is above those of its site's earlier steps, and above that of the step that sent the
+//! envelope it received.
 mod box_fault;
 mod copy_input;
 mod receipt;

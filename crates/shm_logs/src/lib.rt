@@ -1,5 +1,5 @@
-//! What sites log, and its audit: a site in its box, which logs every step that it makes (`boxes`), and the audit of what was logged and
-//! of what callers were told (`auditing`). Nothing here needs threads.
+//! Logs of sites, and their audit: a site in its box, which logs every step that it makes (`boxes`), and the audit of logs and receipts
+//! (`auditing`). Nothing here needs threads.
 #![tactic(auto)]
 
 mod boxes;

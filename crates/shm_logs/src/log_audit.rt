@@ -1,5 +1,5 @@
-//! The logs of running sites in one order, and their audit: from logs and from what callers were told, the list of events that the sites
-//! made together, or the first cause why there is none.
+//! The logs of running sites in one order, and their audit. From the logs and the callers' receipts it finds the list of events that the
+//! sites made together, or the first cause why there is none.
 mod audit_fault;
 mod audit_logs;
 mod forged_receipts;

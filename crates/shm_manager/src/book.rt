@@ -29,7 +29,7 @@ impl<A: Allocator> Book<A> {
         Book::at(alloc, manager, 0)
     }
 
-    /// The same after so many transactions that left no trace but their number: for tests near the greatest number.
+    /// The same after this many transactions that left nothing but their number. For tests near the greatest number.
     pub fn at(alloc: A, manager: SiteId, number: u64) -> Result<Book<A>, AllocError>
         ensures { IfOk result (λ book. book_of book ≡ untouched_at manager number) }
     {
@@ -66,14 +66,14 @@ impl<A: Allocator> Book<A> {
         self.number
     }
 
-    /// What the running transaction gives, and to whom.
+    /// What the running transaction gives, and to which site.
     pub fn running(&self) -> Option<(Kind, SiteId)>
         ensures { result ≡ kind_and_requester (book_of self.now).running }
     {
         self.running
     }
 
-    /// What a restart of the manager loses: who has answered a Clear, and who waits.
+    /// Forgets what a restart of the manager loses: who has answered a Clear, and who waits.
     pub fn forget_volatile(&mut self)
         ensures { book_of self.new ≡ model.without_volatile (book_of self.old) }
     {

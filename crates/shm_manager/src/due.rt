@@ -3,7 +3,7 @@ ghost use Rattle.shm_manager.specs.Book as spec;
 ghost use Rattle.shm_model.specs.Book as model;
 ghost use Rattle.shm_model.specs.declared.kind.Kind.{Kind};
 
-/// What becomes of a request for a right, as the book stands.
+/// What the book will do with a request for a right.
 #[derive(Clone, Copy, Debug, PartialEq, Eq)]
 pub enum Due {
     /// Nothing: it was served, or waits already, or there is no room to wait.
@@ -17,7 +17,7 @@ pub enum Due {
 }
 
 impl Due {
-    /// What becomes of the first request for a page, which has no book yet: whoever asks, and for whichever right.
+    /// What becomes of the first request for a page, which has no book yet, for any site and any right.
     pub fn of_first(request: u64) -> Due
         ensures { (me from : ℕ) (kind : Kind) → result ≡ spec.due_of (model.on_ask from request kind (model.untouched_book me)) None }
     {
@@ -27,7 +27,7 @@ impl Due {
         Due::Starts
     }
 
-    /// Whether the request starts a transaction.
+    /// Checks that the request starts a transaction.
     pub fn starts(self) -> bool
         ensures { result ≡ spec.starts self }
     {

@@ -4,7 +4,7 @@ use shm_place::{SiteId, SiteSet};
 /// How many orders go out at once, at most.
 pub const MOST_ORDERS: usize = 16;
 
-/// What a manager asks of other sites for the running transaction, whose number is the book's.
+/// The messages that a manager sends to other sites for the running transaction, whose number is the book's.
 #[derive(Clone, Copy, Debug, PartialEq, Eq)]
 pub enum Orders {
     /// Nothing is asked for now.

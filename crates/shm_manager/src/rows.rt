@@ -1,4 +1,4 @@
-//! What a manager does at each message, and what it sends again at a tick.
+//! A manager's rows: what it does at each message, and what it sends again at a tick.
 ghost use Rattle.std.specs.Prelude.{◌≡◌, ◌<◌, ◌≤◌, ◌==◌, false, [], ◌∷◌, length, Some, IfOk, IfNone, IfSome, OnErr};
 ghost use Rattle.shm_number.specs.Served.{served_of};
 ghost use Rattle.shm_model.specs.Book as model;
@@ -17,7 +17,7 @@ use shm_place::{SiteId, SiteSet};
 use std::alloc::Allocator;
 
 impl<A: Allocator> Book<A> {
-    /// What becomes of a request for a right, whatever the right is. Nothing is changed yet.
+    /// What the book will do with a request, for either right. Changes nothing yet.
     pub fn due(&self, from: SiteId, request: u64) -> Due
         requires { from < 16 }
         ensures { (kind : Kind) → result ≡ due_of (model.on_ask from request kind (book_of self.now)) (book_of self.now).running }
@@ -150,7 +150,7 @@ impl<A: Allocator> Book<A> {
         Some(self.confirm_ending(kind, from))
     }
 
-    /// What the transaction gives that a Confirm ends, if it ends the one that runs. Nothing is changed yet.
+    /// What the transaction that a Confirm ends gives, if the Confirm ends the running one. Changes nothing yet.
     pub fn ending(&self, from: SiteId, number: u64) -> Option<Kind>
         ensures runs { IfSome result (λ kind. (book_of self.now).running ≡ Some (run_of kind from)) }
         ensures row { IfSome result (λ kind. model.on_confirm from number (book_of self.now)
@@ -166,7 +166,7 @@ impl<A: Allocator> Book<A> {
         Some(kind)
     }
 
-    /// What a Confirm does, where it was found out before that it ends the transaction.
+    /// Takes a Confirm that was found to end the running transaction.
     pub fn confirm_ending(&mut self, kind: Kind, from: SiteId) -> Orders
         requires { from < 16 }
         ensures { model.Taken (book_of self.new) (orders_of result) ≡ model.serve_next (model.ended (run_of kind from) (book_of self.old)) }
@@ -206,7 +206,7 @@ impl<A: Allocator> Book<A> {
         self.start(ask.from, ask.request, ask.kind)
     }
 
-    /// What the running transaction still asks for, to be sent again at a tick.
+    /// The messages that the running transaction still waits for, to be sent again at a tick.
     pub fn resend(&self) -> Orders
         ensures { orders_of result ≡ model.orders (book_of self.now) }
     {

@@ -23,8 +23,8 @@ pub fn processors_share_one_memory()
     ensures coherent { (o : Opening) (events : List HostEvent) → IsOpening o → Coherent (joined_world (hosts o events)) }
 {}
 
-/// What the sites have of it, and so their journals, is a run too: the stores of a mapping come where it is given up, and no envelope
-/// differs.
+/// What the sites have of it, and so their journals, is a run too. The stores of a mapping come where the mapping is given up, and no
+/// envelope differs.
 pub fn sites_run_beside_what_is_mapped()
     ensures { (o : Opening) (events : List HostEvent) → IsOpening o → SitesRun o events }
 {}
@@ -40,9 +40,9 @@ pub fn verdicts_keep_what_is_mapped()
     ensures { (sites me : ℕ) (site : Site) (e : Envelope) (mapped : List Mapped) → Keeps sites me site e mapped }
 {}
 
-/// A machine that dies loses an end of what it did, never a middle. Where it brought all that its processors changed before anything was
-/// given up, the hosts go on, through any number of deaths, as the one world in which its processors' accesses since then were never
-/// made: each load that isn't lost gives the last store that isn't lost, and other hosts were answered what they are answered there.
+/// A machine that dies loses an end of what it did, never a middle. The premise: it brought all that its processors changed before it gave
+/// anything up. Then the hosts go on, through any number of deaths, as the one world in which its processors' accesses since then were
+/// never made. Each load that isn't lost gives the last store that isn't lost, and other hosts were answered what they are answered there.
 pub fn a_dead_machine_loses_an_end()
     ensures one_world { (o : Opening) (turns : List Turn) → IsOpening o → AreTurns o (first_life o) turns → LivesAsOne o (lived o turns) }
     ensures legal { (o : Opening) (turns : List Turn) → IsOpening o → AreTurns o (first_life o) turns → Legal o (lived o turns).hosts.account }

@@ -1,13 +1,13 @@
-//! What a machine does with an envelope for its site while a page is mapped.
+//! The rule for an envelope that comes to a machine while a page is mapped.
 ghost use Rattle.std.specs.Prelude.{◌≡◌};
 ghost use Rattle.shm_mapping.specs.Verdicts as spec;
 
 use shm_model::Kind;
 
-/// What an envelope brings to a page's entry at the site that it is for.
+/// The effect of an envelope on a page's entry at the site that it is for.
 #[derive(Clone, Copy, Debug, PartialEq, Eq)]
 pub enum Brought {
-    /// A Clear: a copy is to be given up.
+    /// A Clear: the site has to give its copy up.
     Clear,
     /// A Hand for another site: an owner is to lend it a copy (`Read`), or to hand the page over to it (`Write`).
     Hand(Kind),
@@ -26,8 +26,8 @@ pub enum Verdict {
     Unmap,
 }
 
-/// What a machine does with an envelope about a page that it maps so. An envelope about a page that it doesn't map is taken at once
-/// (Li and Hudak 1989, §3.1: invalidation and change of ownership lower the protection of the page first).
+/// What a machine does with an envelope about a page that it maps with this right. It takes an envelope about any other page at once (Li
+/// and Hudak 1989, §3.1: invalidation and change of ownership lower the protection of the page first).
 pub fn verdict_on(brought: Brought, mapped: Kind) -> Verdict
     ensures { result ≡ spec.verdict brought mapped }
 {

@@ -1,6 +1,6 @@
 use crate::call::Reply;
 
-/// What a site answers to one input. `Refused` holds the refusal's number.
+/// A site's answer to one input. `Refused` holds the refusal's number.
 #[derive(Clone, Copy, Debug, PartialEq, Eq)]
 pub enum Answer {
     /// The byte that was loaded.
@@ -12,7 +12,7 @@ pub enum Answer {
     Waiting,
     /// A segment call began, under this number.
     Began(u64),
-    /// The segment call of this number ended; `attachment` is the number that an attach was given.
+    /// The segment call of this number ended; `attachment` is the number of the attachment that an attach made.
     Replied {
         number: u64,
         reply: Reply,
@@ -43,7 +43,7 @@ pub enum State {
     Purged,
 }
 
-/// What a site shows of a page: the state, and the greatest transaction number that it has met.
+/// A page as a site shows it: the state, and the greatest transaction number that the site has met.
 #[derive(Clone, Copy, Debug, PartialEq, Eq)]
 pub struct Shown {
     pub state: State,

@@ -1,7 +1,7 @@
 use crate::mode::{GetFlags, Mode};
 use shm_place::{Key, SegId};
 
-/// Who calls: a user and its one group. No user has privilege.
+/// The caller: a user and its one group. No user is privileged.
 #[derive(Clone, Copy, Debug, PartialEq, Eq)]
 pub struct Cred {
     pub uid: u32,
@@ -62,14 +62,14 @@ pub enum Op {
     },
 }
 
-/// What an attach gives: the segment's size in bytes, as asked when it was made, and whether only to read.
+/// The reply to an attach: the segment's size in bytes, as asked when it was made, and whether the attachment is read-only.
 #[derive(Clone, Copy, Debug, PartialEq, Eq)]
 pub struct Attached {
     pub size: u32,
     pub ro: bool,
 }
 
-/// What `stat` tells of a segment (`shmctl(2)`, `IPC_STAT`). A marked segment has key 0.
+/// A segment's record (`shmctl(2)`, `IPC_STAT`). A marked segment has key 0.
 #[derive(Clone, Copy, Debug, PartialEq, Eq)]
 pub struct Stat {
     pub key: Key,
@@ -93,7 +93,7 @@ pub enum Reply {
     Refused(Errno),
 }
 
-/// What a site is asked to begin. A detach names the attachment, never the segment.
+/// A segment call, as a caller begins it. A detach names the attachment, never the segment.
 #[derive(Clone, Copy, Debug, PartialEq, Eq)]
 pub enum Request {
     Op(Op),

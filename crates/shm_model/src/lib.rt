@@ -1,5 +1,5 @@
-//! What a reader has to believe about Leddwyfan: plain data that code and definitions share is declared here, and
-//! `specs/` says what pages, managers, segment calls, sites and the world are.
+//! The definitions on which all proofs of Leddwyfan rest: plain data that code and definitions share is declared here, and `specs/` says
+//! what pages, managers, segment calls, sites and the world are.
 #![tactic(auto)]
 
 mod answer;
@@ -18,6 +18,6 @@ pub use call::{Attached, Cred, Errno, Op, Reply, Request, Stat};
 pub use event::Event;
 pub use kind::Kind;
 pub use limits::MAX_SENT;
-pub use mode::{GetFlags, Mode};
+pub use mode::{GetFlags, Mode, Permissions};
 pub use opening::Opening;
 pub use refusal::Numbered;

@@ -1,2 +1,2 @@
-/// How many envelopes there are numbers for. Once more were sent, no site is stepped any more.
+/// The number of envelopes that have numbers. Once more were sent, no site makes a step.
 pub const MAX_SENT: u64 = 1 << 63;

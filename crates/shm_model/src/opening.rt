@@ -6,16 +6,16 @@ use shm_place::Sites;
 /// How the sites of a world begin: what the first line of a script says.
 #[derive(Clone, Copy, Debug, PartialEq, Eq)]
 pub struct Opening {
-    /// So many sites.
+    /// The sites.
     pub sites: Sites,
-    /// So many pages of segment 0, which every site has attached; `None`: no segment.
+    /// The number of pages of segment 0, which every site has attached; `None`: no segment.
     pub preset: Option<u32>,
-    /// At most so many pages are held as copies at each site; `None`: any number.
+    /// The most pages that each site holds as copies; `None`: any number.
     pub frames: Option<u32>,
 }
 
 impl Opening {
-    /// So many sites, and no segment.
+    /// These sites, and no segment.
     pub fn new(sites: Sites) -> Opening
         ensures { result ≡ record { sites = sites; preset = None; frames = None } }
     {
@@ -26,7 +26,7 @@ impl Opening {
         }
     }
 
-    /// The same with so many pages of segment 0, which every site has attached.
+    /// The same with this number of pages of segment 0, which every site has attached.
     pub fn preset(sites: Sites, pages: u32) -> Opening
         ensures { result ≡ record { sites = sites; preset = Some pages; frames = None } }
     {
@@ -37,7 +37,7 @@ impl Opening {
         }
     }
 
-    /// The same with at most so many pages held as copies at each site.
+    /// The same with at most this many pages held as copies at each site.
     pub fn framed(sites: Sites, pages: u32, frames: u32) -> Opening
         ensures { result ≡ record { sites = sites; preset = Some pages; frames = Some frames } }
     {

@@ -42,7 +42,7 @@ pub const OUT_OF_SEGMENT: u8 = 11;
 /// The site has as many attachments as it may have.
 pub const TOO_MANY_ATTACHMENTS: u8 = 12;
 
-/// The greatest number of its kind was given.
+/// The greatest number of its kind was used.
 pub const NUMBERS_USED_UP: u8 = 13;
 
 /// There is no such site.
@@ -57,13 +57,13 @@ pub const FOREIGN: u8 = 16;
 /// Memory was refused.
 pub const OUT_OF_MEMORY: u8 = 17;
 
-/// A line of a script or of a workload isn't one that may stand there.
+/// A line of a script or of a workload that may not stand there.
 pub const BAD_LINE: u8 = 18;
 
 /// A line has more than 200 bytes.
 pub const LINE_TOO_LONG: u8 = 19;
 
-/// Something stands after the last line that there may be.
+/// There are bytes after the last line that is allowed.
 pub const TOO_MANY_LINES: u8 = 20;
 
 /// The reader answered an error.
@@ -75,7 +75,7 @@ pub const WRITE_FAULT: u8 = 22;
 /// An audited step was handed an envelope that its sender's log doesn't have.
 pub const UNSENT: u8 = 23;
 
-/// An audited step's stamp isn't above the one that it has to follow.
+/// An audited step's stamp isn't above one that it has to follow.
 pub const STAMP_ORDER: u8 = 24;
 
 /// An audited receipt names a step that isn't its caller's.
@@ -87,13 +87,13 @@ pub const GAVE_UP: u8 = 26;
 /// A clock has no further stamp.
 pub const CLOCK_END: u8 = 27;
 
-/// Fewer events stand than were to be taken back.
+/// Fewer events stand than `back` was to take off.
 pub const PAST_BEGINNING: u8 = 28;
 
 /// The system gave no thread.
 pub const NO_THREAD: u8 = 29;
 
-/// An audited step made an access that no receipt tells of.
+/// An audited step completed an access that no receipt names.
 pub const UNTOLD: u8 = 30;
 
 /// The logs aren't those of these sites, or the receipts aren't those of this workload.

@@ -6,7 +6,7 @@ use std::marker::Model;
 /// The number of a request or of a call. They rise from 1, and 0 is the number of none; what is repeated has the number that it had.
 pub type Number = u64;
 
-/// Every number was given: nothing comes after the greatest one.
+/// Every number was used: nothing comes after the greatest one.
 #[derive(Clone, Copy, Debug, PartialEq, Eq)]
 pub struct UsedUp;
 

@@ -5,10 +5,10 @@ use crate::counter::Number;
 use shm_place::SiteId;
 use std::marker::Model;
 
-/// What a call's number says of it.
+/// What a call's number says about the call.
 #[derive(Clone, Copy, Debug, PartialEq, Eq)]
 pub enum Recall<'a, R> {
-    /// It is to be executed.
+    /// It has to be executed.
     Fresh,
     /// It was executed last; this was the reply.
     Again(&'a R),
@@ -16,7 +16,7 @@ pub enum Recall<'a, R> {
     Old,
 }
 
-/// The number of each site's last call, and the reply to it. A call that is repeated is so told from a new one.
+/// The number of each site's last call, and the reply to it. So the home tells a repeated call from a new one.
 #[derive(Drop)]
 pub struct KeptReply<R> {
     kept: [Option<(Number, R)>; 16],
@@ -42,7 +42,7 @@ impl<R: Copy> KeptReply<R> {
         KeptReply { kept: [None; 16] }
     }
 
-    /// What the number says, where `number` comes from `site`. With nothing kept the last number counts as 0.
+    /// Looks the number of a call from `site` up. Where nothing is kept, the last number counts as 0.
     pub fn ask(&self, site: SiteId, number: Number) -> Recall<'_, R>
         requires { site < 16 }
         ensures { recalled result ≡ verdict (kept_at self.now site) number }

@@ -24,14 +24,14 @@ impl Model for Served {
 }
 
 impl Served {
-    /// Nothing was served of any site.
+    /// No request was served of any site.
     pub fn new() -> Served
         ensures { served_of result ≡ (λ _. 0) }
     {
         Served { greatest: [0; 16] }
     }
 
-    /// Whether the number is above all that were served of the site.
+    /// Checks that the number is above all that were served of the site.
     pub fn fresh(&self, site: SiteId, number: Number) -> bool
         requires { site < 16 }
         ensures { result ≡ nat_lt (served_of self.now site) number }

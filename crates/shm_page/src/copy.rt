@@ -64,7 +64,7 @@ impl<A: Allocator + Copy> CopyPage<A> {
         NilPage::after(number)
     }
 
-    /// Drops the copy to make room for others. No transaction is met by that.
+    /// Drops the copy to make room for others. The site meets no transaction by that.
     pub fn forget(self) -> NilPage
         ensures { result ≡ nil_of self.seen }
     {

@@ -9,7 +9,7 @@ use crate::own_read::OwnReadPage;
 use crate::own_write::OwnWritePage;
 use std::alloc::{AllocError, Allocator, Global};
 
-/// What a site has of one page.
+/// One page at one site.
 #[derive(Drop)]
 pub enum Entry<A: Allocator + Copy = Global> {
     Nil(NilPage),
@@ -23,7 +23,7 @@ impl<A: Allocator + Copy> Entry<A> {
     ghost use Rattle.shm_model.specs.Entry as model;
     ghost use Rattle.shm_page.specs.Entry.{entry_of};
 
-    /// What a site has of a page before anything happened: at first the page's manager owns it. Elsewhere this takes no memory.
+    /// A page's entry before anything has happened: the page's manager owns the page. At other sites this takes no memory.
     pub fn opening(alloc: A, is_manager: bool) -> Result<Entry<A>, AllocError>
         ensures here { IsTrue is_manager
             → IfOk result (λ entry. entry ≡ Entry.OwnWrite (page_of 0 blank)) }

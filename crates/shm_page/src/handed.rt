@@ -11,7 +11,7 @@ use shm_place::{PAGE_BYTES, SiteId};
 use std::alloc::{AllocError, Allocator, Global};
 use std::marker::Model;
 
-/// A page that the owner handed to another site, with the bytes kept until they are needed no more: it can be neither read nor written.
+/// A page that the owner handed to another site. It keeps the bytes while they may be needed, and can be neither read nor written.
 #[derive(Drop)]
 pub struct HandedPage<A: Allocator + Copy = Global> {
     seen: u64,
@@ -53,7 +53,7 @@ impl<A: Allocator + Copy> Model for WriteGrant<A> {
 }
 
 impl<A: Allocator + Copy> HandedPage<A> {
-    /// What an owner becomes that hands these bytes over and keeps equal ones, and the grant.
+    /// The state of an owner that hands these bytes over and keeps equal ones, and the grant.
     pub(crate) fn with_grant(
         number: u64,
         to: SiteId,
@@ -94,7 +94,7 @@ impl<A: Allocator + Copy> HandedPage<A> {
         self.to
     }
 
-    /// The same grant once more, for where the first was lost.
+    /// The same grant once more, in case the first was lost.
     pub fn again(&self) -> Result<WriteGrant<A>, AllocError>
         ensures { IfOk result (λ grant. grant ≡ grant_of self.now.seen self.now.bytes) }
     {

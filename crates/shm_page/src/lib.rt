@@ -1,8 +1,8 @@
-//! A page's state at one site, what one site grants another, and what each message about the page does to the state.
+//! A page's state at one site, the grants between sites, and what each message about the page does to the state.
 //!
-//! After Li and Hudak 1989, §3: a site's access to a page is nil, read or write; a page has one owner, and copies where it is read.
-//! The owner of a page that others read has no right to write it, and all copies are invalidated before a site may write.
-//! A state is spent by what changes its kind, so that what can't be done in a state can't be written.
+//! After Li and Hudak 1989, §3: a site's access to a page is nil, read or write; a page has one owner, and copies where it is read. The
+//! owner of a page that others read has no right to write it, and all copies are invalidated before a site may write. A call that changes a
+//! state's kind spends the old state, so no program can be written that does what the state doesn't allow.
 //!
 //! The rows of an entry's table stand in one file for each kind of message, under the message's name: `on_clear`, `on_hand_read`,
 //! `on_hand_write`, `on_page_read` and `on_page_write`.

@@ -7,7 +7,7 @@ use crate::entry::Entry;
 use crate::out::Out;
 use std::alloc::Allocator;
 
-/// The manager told the site to give its copy up, since another site is to write. Whoever met the number answers again.
+/// The manager told the site to give its copy up, because another site is to write. A site that has met the number answers again.
 pub fn clear<A: Allocator + Copy>(entry: Entry<A>, number: u64) -> (Entry<A>, Out<A>)
     ensures row { (entry_of result.0, out_of result.1) ≡ model.on_clear number (entry_of entry) }
 {

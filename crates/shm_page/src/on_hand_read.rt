@@ -11,7 +11,7 @@ use crate::own_write::OwnWritePage;
 use shm_place::SiteId;
 use std::alloc::{AllocError, Allocator};
 
-/// The manager told site `me` to lend its page to site `to`. An owner lends a copy, and from then on only reads.
+/// The manager told site `me` to lend its page to site `to`. An owner lends a copy, and then may only read.
 ///
 /// Memory is taken only where a copy is lent; where it is refused, the entry comes back.
 pub fn lend_to<A: Allocator + Copy>(

@@ -12,10 +12,10 @@ use crate::own_write::OwnWritePage;
 use shm_place::SiteId;
 use std::alloc::{AllocError, Allocator};
 
-/// The manager told site `me` to hand its page to site `to`, which is to write; an owner keeps it where that is itself.
+/// The manager told site `me` to hand its page to site `to`, which is to write. An owner keeps the page where that is itself.
 ///
-/// Whoever handed the page over already hands the same bytes over again. Memory is taken only where bytes are sent;
-/// where it is refused, the entry comes back.
+/// A site that has handed the page over hands the same bytes over again. Memory is taken only where bytes are sent; where it is refused,
+/// the entry comes back.
 pub fn hand_to<A: Allocator + Copy>(
     entry: Entry<A>,
     number: u64,

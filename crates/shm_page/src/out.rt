@@ -8,7 +8,7 @@ use std::alloc::{Allocator, Global};
 pub enum Out<A: Allocator + Copy = Global> {
     /// The message was ignored.
     Nothing,
-    /// To the manager: nothing of this transaction's page is here any more.
+    /// To the manager: the site has given the page up for this transaction.
     Cleared(u64),
     /// To the manager: this transaction's right is here.
     Confirm(u64),

@@ -95,7 +95,7 @@ impl<A: Allocator + Copy> OwnReadPage<A> {
         }
     }
 
-    /// The owner may write: nobody else has a copy any more.
+    /// The owner may write, as no other site has a copy now.
     pub fn upgrade(self, number: u64) -> OwnWritePage<A>
         requires { self.seen ≤ number }
         ensures { result ≡ record self { seen = number } }

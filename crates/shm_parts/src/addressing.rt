@@ -1,4 +1,4 @@
-//! Envelopes that bring what is told of a page.
+//! Envelopes about pages.
 ghost use Rattle.std.specs.Prelude.{◌≡◌, ◌∷◌, [], true, false, IfNone, IfSome};
 ghost use Rattle.shm_model.specs.Message.{Of};
 ghost use Rattle.shm_model.specs.Transfer.{is_nothing, sent_by};
@@ -11,7 +11,7 @@ use shm_page::Out;
 use shm_place::{PageId, SiteId, Sites, manager_of};
 use std::alloc::Allocator;
 
-/// What brings the page's manager a note.
+/// The envelope that takes a note to the page's manager.
 pub fn to_manager<A: Allocator + Copy>(
     sites: Sites,
     me: SiteId,
@@ -31,7 +31,7 @@ pub fn to_manager<A: Allocator + Copy>(
     }
 }
 
-/// What brings a site a note to the page's entry there.
+/// The envelope that takes a note to the page's entry at a site.
 pub fn to_site<A: Allocator + Copy>(
     me: SiteId,
     to: SiteId,
@@ -50,7 +50,7 @@ pub fn to_site<A: Allocator + Copy>(
     }
 }
 
-/// What goes out when a message met the page's entry.
+/// The envelope that goes out when a message met the page's entry.
 pub(crate) fn envelope_out<A: Allocator + Copy>(
     sites: Sites,
     me: SiteId,

@@ -16,8 +16,8 @@ use shm_place::{PAGE_BYTES, PageId, SegId, SiteId, Sites, manager_of, rounded};
 use std::alloc::{AllocError, Allocator};
 
 impl<A: Allocator + Copy> Holdings<A> {
-    /// Attaches the segment at the least free number, which is the answer; the entries of those of its pages that the site manages are
-    /// stored first, so that an access with the right takes no memory. None: no number is free, and nothing changes.
+    /// Attaches the segment at the least free number, and answers that number. First it stores the entries of those of its pages that the
+    /// site manages, so that an access with the right takes no memory. None: no number is free, and nothing changes.
     pub fn attach(&mut self, id: SegId, size: u32, ro: bool) -> Result<Option<u32>, AllocError>
         requires { purged_of self.old.purged id ≡ false }
         ensures number { IfOk result (λ number. number ≡ least_free (attachments_of self.old.attachments)) }
@@ -56,7 +56,7 @@ impl<A: Allocator + Copy> Holdings<A> {
         self.attachments.take(number);
     }
 
-    /// Whether no attachment number is free.
+    /// Checks that no attachment number is free.
     pub fn is_full(&self) -> bool
         ensures { result ≡ is_none (least_free (attachments_of self.now.attachments)) }
     {
@@ -64,7 +64,8 @@ impl<A: Allocator + Copy> Holdings<A> {
     }
 }
 
-/// Stores the entries of those of the segment's first pages that the site manages, and tells where the first one's stands, if there is one.
+/// Stores the entries of those of the segment's first pages that the site manages, and answers the place of the first one's, if there is
+/// one.
 fn store_pages<A: Allocator + Copy>(
     entries: &mut Entries<A>,
     alloc: A,
@@ -105,7 +106,7 @@ fn behind(sites: Sites, site: SiteId) -> SiteId
     SiteId(0)
 }
 
-/// Stores the page's entry if the site manages it, and tells where it stands then.
+/// Stores the page's entry if the site manages it, and answers its place.
 fn store_managed<A: Allocator + Copy>(
     entries: &mut Entries<A>,
     alloc: A,

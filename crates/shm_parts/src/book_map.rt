@@ -1,4 +1,4 @@
-//! What is done with all books of a map at once.
+//! Changes that go over all books of a map.
 ghost use Rattle.std.specs.Prelude.{◌≡◌, map as map_list, IfOk};
 ghost use Rattle.shm_model.specs.Book as model;
 ghost use Rattle.shm_parts.specs.Books.{viewed};
@@ -10,7 +10,7 @@ use shm_place::PageId;
 use std::alloc::{AllocError, Allocator};
 use std::hash::{BuildHasherDefault, FoldHasher};
 
-/// What a restart of the manager loses of each book.
+/// Forgets what a restart of the manager loses of each book.
 pub(crate) fn forget_all<A: Allocator + Copy>(
     books: &mut IndexMap<PageId, StoredBook<A>, BuildHasherDefault<FoldHasher>, A>,
 )

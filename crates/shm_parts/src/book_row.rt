@@ -57,7 +57,7 @@ pub(crate) fn cleared_in<A: Allocator + Copy>(
     outcome_of(answer, book.book.number())
 }
 
-/// What the transaction gives that a Confirm ends, if it ends the one that runs. Nothing is changed yet.
+/// What the transaction that a Confirm ends gives, if the Confirm ends the running one. Changes nothing yet.
 pub(crate) fn ending_in<A: Allocator + Copy>(
     book: &StoredBook<A>,
     from: SiteId,
@@ -88,14 +88,14 @@ pub(crate) fn confirm_in<A: Allocator + Copy>(
     }
 }
 
-/// What a restart of the manager loses of the book.
+/// Forgets what a restart of the manager loses of the book.
 pub(crate) fn forget_volatile_in<A: Allocator + Copy>(book: &mut StoredBook<A>)
     ensures { book_of book.new ≡ model.without_volatile (book_of book.old) }
 {
     book.book.forget_volatile();
 }
 
-/// Whether a transaction of the book runs.
+/// Checks that the book has a running transaction.
 pub(crate) fn runs<A: Allocator + Copy>(book: &StoredBook<A>) -> bool
     ensures { result ≡ is_some (book_of book.now).running }
 {

@@ -1,4 +1,4 @@
-//! Which pages have books, in which order, and which of them are marked.
+//! The pages that have books, in order, and which of them are marked.
 ghost use Rattle.std.specs.Prelude.{◌≡◌, ◌<◌, ℕ, true, false, not, ◌&&◌, if◌then◌else◌, [], ◌∷◌, ◌++◌, IfNone, IfOk, IfSome, OnErr, OnOk};
 ghost use Rattle.std.proofs.Props.{props};
 ghost use Rattle.shm_parts.specs.Places.{IsPlaced, in_order};

@@ -1,4 +1,4 @@
-//! What a manager's books do at each message, at a restart and at a purge.
+//! A manager's books: their changes at each message, at a restart and at a purge.
 ghost use Rattle.std.specs.Prelude.{◌≡◌, ℕ, ◌<◌, ◌≤◌, ◌==◌, false, true, cond, [], length, None, option_copied, IfNone, IfOk, IfSome, OnErr};
 ghost use Rattle.shm_parts.specs.Booked.{IsBooked};
 ghost use Rattle.std.specs.Map.{lookup};
@@ -162,7 +162,7 @@ impl<A: Allocator + Copy> Books<A> {
         Ok(outcome)
     }
 
-    /// What a restart of the manager loses of each book.
+    /// Forgets what a restart of the manager loses of each book.
     pub fn forget_volatile(&mut self)
         ensures books { (me : ℕ) → books_of me self.new ≡ (λ page. model.without_volatile (books_of me self.old page)) }
         ensures booked { booked_of self.new ≡ booked_of self.old }

@@ -1,7 +1,7 @@
 ghost use Rattle.std.specs.Prelude.{◌≡◌};
 ghost use Rattle.shm_parts.specs.Frames.{installs};
 
-/// What a message changed at a page's entry, for what depends on it.
+/// What a message changed at a page's entry, for all that depends on it.
 #[derive(Clone, Copy, Debug, PartialEq, Eq)]
 pub struct Change {
     /// A greater transaction number was met than before.
@@ -15,7 +15,7 @@ pub struct Change {
 }
 
 impl Change {
-    /// Whether a copy came.
+    /// Checks that a copy came.
     pub(crate) fn installs(self) -> bool
         ensures { result ≡ installs self }
     {

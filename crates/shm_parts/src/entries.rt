@@ -1,4 +1,4 @@
-//! What is done with the entries that a site has stored.
+//! The entries that a site has stored, and their changes.
 ghost use Rattle.std.specs.Prelude.{◌≡◌, ℕ, ◌+◌, ◌<◌, ◌≤◌, ◌==◌, true, false, if◌then◌else◌, None, Some, option_copied, IfOk, IfErr, OnOk, OnErr};
 ghost use Rattle.shm_place.specs.declared.page.PageId.{PageId as Page};
 ghost use Rattle.shm_place.specs.Limits.{page_bytes, pages};
@@ -49,7 +49,7 @@ impl<A: Allocator + Copy> Entries<A> {
         Some(&stored.entry)
     }
 
-    /// The page's entry, if one is stored: as [`Entries::get`] tells it, and sooner where it stands at this place.
+    /// The page's entry, if one is stored: the same as [`Entries::get`], and faster if it is at this place.
     #[inline(always)]
     pub(crate) fn get_near(&self, place: usize, page: PageId) -> Option<&Entry<A>>
         ensures { option_copied result ≡ stored_at self.now page }
@@ -62,8 +62,8 @@ impl<A: Allocator + Copy> Entries<A> {
         self.get(page)
     }
 
-    /// Stores the entry of an untouched page, unless its entry is stored already, and tells where it stands. Seen through the definitions
-    /// nothing changes.
+    /// Stores the entry of an untouched page, unless its entry is stored already, and answers its place. As the definitions see it, nothing
+    /// changes.
     pub fn ensure(
         &mut self,
         alloc: A,
@@ -88,7 +88,7 @@ impl<A: Allocator + Copy> Entries<A> {
         }
     }
 
-    /// Stores a byte where the page's entry is stored and may be written, and tells whether it did.
+    /// Stores a byte where the page's entry is stored and may be written, and answers whether it did.
     // Out of line, so that the short way of `store_near` stays short.
     #[inline(never)]
     pub fn store(&mut self, page: PageId, within: usize, byte: u8) -> bool
@@ -106,7 +106,7 @@ impl<A: Allocator + Copy> Entries<A> {
         store_in(entry, within, byte)
     }
 
-    /// Stores a byte as [`Entries::store`] does, and sooner where the page's entry stands at this place.
+    /// Stores a byte as [`Entries::store`] does, and faster if the page's entry is at this place.
     #[inline(always)]
     pub(crate) fn store_near(&mut self, place: usize, page: PageId, within: usize, byte: u8) -> bool
         requires within { within < page_bytes }
@@ -126,7 +126,7 @@ impl<A: Allocator + Copy> Entries<A> {
         self.store(page, within, byte)
     }
 
-    /// Runs the note's row of the table of the page's entry, which stands at this place. Where memory is refused, the note comes back and
+    /// Runs the note's row of the table on the page's entry, which is at this place. Where memory is refused, the note comes back and
     /// nothing changes.
     pub fn turn(
         &mut self,

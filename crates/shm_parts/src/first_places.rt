@@ -2,10 +2,9 @@
 use shm_attach::MAX_ATTACHMENTS;
 use shm_place::Sites;
 
-/// For each attachment number, where the entry of the first page that the site manages of its segment stood among those that are stored,
-/// when it was attached last. The site manages one page of as many as there are sites; the further ones' entries stand behind it in
-/// their order, unless some were stored before. Nothing is true because of it: who goes by it compares the page, and looks an entry up
-/// that stands elsewhere.
+/// For each attachment number, the place among the stored entries of the first page that the site manages of its segment, when it was
+/// attached last. A site manages one page in as many as there are sites; the entries of the further ones follow in order, unless some were
+/// stored before. No proof rests on it: whoever uses it compares the page, and looks up an entry that is elsewhere.
 #[derive(Clone, Copy)]
 pub(crate) struct FirstPlaces {
     /// 65,536 over the number of sites, and one: what a multiplication by it has above 16 bits is the index over that number.
@@ -14,7 +13,7 @@ pub(crate) struct FirstPlaces {
 }
 
 impl FirstPlaces {
-    /// Nothing was noted, at one of so many sites.
+    /// No place is noted yet.
     pub(crate) fn unknown(sites: Sites) -> FirstPlaces {
         FirstPlaces {
             share: 65_536 / sites.count() + 1,
@@ -22,7 +21,7 @@ impl FirstPlaces {
         }
     }
 
-    /// Notes where the entry stands of the first page that the site manages of what is attached at the number.
+    /// Notes the place of the entry of the first page that the site manages of the segment attached at the number.
     pub(crate) fn note(&mut self, number: Option<u32>, place: Option<usize>) {
         let (Some(number), Some(place)) = (number, place) else {
             return;

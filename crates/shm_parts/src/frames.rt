@@ -1,4 +1,4 @@
-//! The order in which copies are given up.
+//! The order in which the site gives copies up.
 ghost use Rattle.std.specs.Prelude.{◌≡◌, [], None, true, IfOk, OnOk};
 ghost use Rattle.shm_model.specs.SegmentCalls.{without_segment};
 
@@ -13,7 +13,7 @@ pub struct Frames<A: Allocator + Copy = Global> {
     pub(crate) limit: u32,
     /// The copies in their order, and the page for which room was made.
     pub(crate) pages: OrderedPages<(), A>,
-    /// The page for which room was made: it stands among the copies, and is none yet.
+    /// The page for which room was made: it is among the copies here, though it is none yet.
     pub(crate) awaited: Option<PageId>,
 }
 
@@ -57,8 +57,8 @@ impl<A: Allocator + Copy> Frames<A> {
         self.awaited = None;
     }
 
-    /// A copy that came, for which room was made, goes last among the copies; what is no copy any more leaves them. Room that was made
-    /// and not used is given up.
+    /// Puts a copy that came last among the copies, and takes out a page that is no copy now. Room for it was made before; room that isn't
+    /// used is given up.
     pub(crate) fn arrange(&mut self, page: PageId, change: Change)
         requires { installs change ≡ true → has_room page self.old }
         ensures arranged { frames_of self.new ≡ record (frames_of self.old) { copies = arranged_by change page (frames_of self.old).copies } }

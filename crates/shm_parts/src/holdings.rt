@@ -8,8 +8,8 @@ use shm_attach::Attachments;
 use shm_place::{SiteId, Sites};
 use std::alloc::{Allocator, Global};
 
-/// What a site holds of pages: their entries, the attachments that reach them, which segments it purged and, where there are frames,
-/// the copies in the order in which they are given up. Which site of how many it is tells which pages it manages.
+/// A site's pages: their entries, the attachments that reach them, the segments that it purged and, where there are frames, the copies in
+/// the order in which the site gives them up. The site's number, and that of all sites, say which pages it manages.
 #[derive(Drop)]
 pub struct Holdings<A: Allocator + Copy = Global> {
     pub(crate) sites: Sites,

@@ -1,5 +1,5 @@
-//! What a site is made of: messages and the outbox, page entries with the attachments that reach them, managers' books, and the
-//! requests that are pending.
+//! The parts of a site: messages and the outbox, page entries with the attachments that reach them, managers' books, and the pending
+//! requests.
 #![tactic(auto)]
 
 mod addressing;

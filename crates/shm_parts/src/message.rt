@@ -1,4 +1,4 @@
-//! What sites tell one another.
+//! Messages between sites.
 ghost use Rattle.std.specs.Prelude.{◌≡◌, true, IsErr, IfOk};
 ghost use Rattle.shm_parts.specs.Message.{brings_bytes, entry_note_of, envelope_of, has_bytes, holds_page, message_of, note_of};
 
@@ -7,7 +7,7 @@ use shm_page::{ReadGrant, WriteGrant};
 use shm_place::{PageId, SegId, SiteId};
 use std::alloc::{AllocError, Allocator, Global};
 
-/// What is told of a page (Li and Hudak 1989, §3.2): to its manager's book, or to the entry of a site that holds it or wants it.
+/// A message about a page (Li and Hudak 1989, §3.2): to its manager's book, or to the entry of a site that holds it or wants it.
 #[derive(Drop)]
 pub enum Note<A: Allocator + Copy = Global> {
     /// To the page's manager.
@@ -16,18 +16,18 @@ pub enum Note<A: Allocator + Copy = Global> {
     ToEntry(EntryNote<A>),
 }
 
-/// What a page's manager is told. Where a number stands alone, it is that of the page's transaction.
+/// A message to a page's manager. A number that stands alone is that of the page's transaction.
 #[derive(Clone, Copy, Debug, PartialEq, Eq)]
 pub enum BookNote {
     /// A right to the page is wanted.
     Ask { request: u64, kind: Kind },
     /// The copy is given up.
     Cleared(u64),
-    /// What was asked for is here.
+    /// The requester has what it asked for.
     Confirm(u64),
 }
 
-/// What a site that holds the page, or that asked for it, is told. Where a number stands alone, it is that of the page's transaction.
+/// A message to a site that holds the page or asked for it. A number that stands alone is that of the page's transaction.
 #[derive(Drop)]
 pub enum EntryNote<A: Allocator + Copy = Global> {
     /// From the manager: give the copy up.
@@ -40,7 +40,7 @@ pub enum EntryNote<A: Allocator + Copy = Global> {
     Write(WriteGrant<A>),
 }
 
-/// What sites tell one another of pages and of segment calls. `number` is that of a segment call.
+/// A message about pages or segment calls. `number` is that of a segment call.
 #[derive(Drop)]
 pub enum Message<A: Allocator + Copy = Global> {
     /// A note of a page.

@@ -1,4 +1,4 @@
-//! What a site holds at first.
+//! A site's holdings at first.
 ghost use Rattle.std.specs.Prelude.{◌≡◌, ℕ, ◌≤◌, [], Option, Some, None, option_map, false, IfOk};
 ghost use Rattle.shm_model.specs.Basics.{at};
 ghost use Rattle.shm_model.specs.Site.{Site, untouched};
@@ -26,9 +26,8 @@ impl<A: Allocator + Copy> Holdings<A> {
         Holdings::empty(alloc, sites, me, None)
     }
 
-    /// Segment 0 with so many pages is attached as attachment 0, to read and write; the entries of the pages that the site manages are
-    /// stored. `limit`: how many
-    /// copies there may be, if that is limited.
+    /// Segment 0 with this number of pages is attached as attachment 0, to read and write. The entries of the pages that the site manages
+    /// are stored. `limit`: the most copies that the site may have, if there is a limit.
     pub fn preset(
         alloc: A,
         sites: Sites,

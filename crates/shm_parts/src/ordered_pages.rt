@@ -19,10 +19,9 @@ const FEW: usize = 32;
 /// The first page is found behind fewer empty places than these.
 const MANY: usize = 1024;
 
-/// Pages in the order in which they joined, each with a value. A page joins at the end and leaves from wherever it stands, at a cost
-/// that on average doesn't grow with the number of pages: it stands at a place of a vector, and a map has the place. One that leaves
-/// leaves its place empty, until the empty places are swept. So what is kept are four blocks of memory, however many pages there are, and
-/// so is a copy.
+/// Pages in the order in which they joined, each with a value. A page joins at the end and leaves from any place, at a constant cost on
+/// average: it has a place in a vector, and a map has the place. One that leaves leaves its place empty, until the empty places are swept.
+/// So however many pages there are, it takes four blocks of memory, and so does a copy.
 #[derive(Drop)]
 pub struct OrderedPages<V: Drop, A: Allocator + Copy = Global> {
     rows: Vec<Option<(PageId, V)>, A>,
@@ -73,7 +72,7 @@ impl<V: Drop, A: Allocator + Copy> OrderedPages<V, A> {
         }
     }
 
-    /// Gives the page this value: in its place if it has joined, or else at the end; and tells whether it joins. Where memory is refused
+    /// Gives the page this value: in its place if it has joined, or else at the end. Answers whether it joins. Where memory is refused
     /// nothing changes.
     pub fn put(&mut self, page: PageId, value: V) -> Result<bool, AllocError>
         ensures put { OnOk result (self.new ≡ insert_entry same_page self.old page value) }

@@ -9,16 +9,16 @@ pub trait Outbox<E> {
     /// The second is the first with these envelopes behind what was there.
     ghost posted: { Self → Self → List E → Type 0 };
 
-    /// So many more fit without more memory.
+    /// This many more fit without more memory.
     ghost room: { Self → ℕ };
 
-    /// Who posts nothing changes nothing.
+    /// Posting nothing changes nothing.
     ghost nothing: { (outbox : Self) → posted outbox outbox [] };
 
-    /// Who posts twice has posted both lists.
+    /// Posting two lists, one after the other, posts both.
     ghost joined: { (first then last : Self) (xs ys : List E) → posted first then xs → posted then last ys → posted first last (xs ++ ys) };
 
-    /// Makes room for so many more. What was there stays.
+    /// Makes room for this many more. Keeps what was there.
     fn reserve(&mut self, additional: usize) -> Result<(), AllocError>
         ensures same { posted self.old self.new [] }
         ensures room { OnOk result (additional ≤ room self.new) };

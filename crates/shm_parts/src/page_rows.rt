@@ -11,7 +11,7 @@ use shm_place::PageId;
 use std::alloc::{AllocError, Allocator};
 use std::hash::{BuildHasherDefault, FoldHasher};
 
-/// Gives the page its value: in its place if it has joined, or else behind the others, where there is room for it; and tells whether it
+/// Gives the page its value: in its place if it has joined, or else behind the others, where there is room for it. Answers whether it
 /// joins. Where memory is refused nothing changes.
 pub(crate) fn put_row<V: Drop, A: Allocator + Copy>(
     rows: &mut Vec<Option<(PageId, V)>, A>,

@@ -1,4 +1,4 @@
-//! What is done with the requests that are pending.
+//! The pending requests, and their changes.
 ghost use Rattle.std.specs.Prelude.{◌≡◌, ◌==◌, [], false, filter, length, map, not, true, IfOk, OnOk, OnErr};
 ghost use Rattle.shm_model.specs.Access.{is_pending, put_pending};
 ghost use Rattle.shm_model.specs.Book as model;
@@ -38,7 +38,7 @@ impl<A: Allocator + Copy> Pendings<A> {
         }
     }
 
-    /// Whether a request is pending that serves this kind of access: one to write serves all, one to read the loads.
+    /// Checks that a pending request serves this kind of access: a request to write serves all, one to read serves loads.
     pub fn serves(&self, kind: Kind, page: PageId) -> bool
         ensures { result ≡ is_pending kind page (pendings_of self.now) }
     {
@@ -78,7 +78,7 @@ impl<A: Allocator + Copy> Pendings<A> {
         }
     }
 
-    /// Whether the page's request is one to read.
+    /// Checks that the page's request is one to read.
     fn asks_to_read(&self, page: PageId) -> bool
         ensures { result ≡ settles true false page (pendings_of self.now) }
     {
@@ -109,7 +109,7 @@ impl<A: Allocator + Copy> Pendings<A> {
         self.pages.len()
     }
 
-    /// Whether no request is pending.
+    /// Checks that no request is pending.
     pub fn is_empty(&self) -> bool
         ensures { result ≡ (length (pendings_of self.now) == 0) }
     {

@@ -1,4 +1,4 @@
-//! What is done with the segments that a site has purged.
+//! The segments that a site has purged.
 ghost use Rattle.std.specs.Prelude.{◌≡◌, false, true, IfOk, OnOk, OnErr};
 ghost use Rattle.shm_model.specs.Basics.{at};
 
@@ -16,7 +16,7 @@ pub struct Purged<A: Allocator + Copy = Global> {
 impl<A: Allocator + Copy> Purged<A> {
     ghost use Rattle.shm_parts.specs.Purged.{purged_of};
 
-    /// Nothing was purged.
+    /// No segment was purged.
     pub fn new(alloc: A) -> Purged<A>
         ensures { purged_of result ≡ (λ _. false) }
     {
@@ -25,7 +25,7 @@ impl<A: Allocator + Copy> Purged<A> {
         }
     }
 
-    /// Whether the segment was purged.
+    /// Checks that the segment was purged.
     pub fn contains(&self, id: SegId) -> bool
         ensures { result ≡ purged_of self.now id }
     {

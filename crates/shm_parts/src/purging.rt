@@ -1,4 +1,4 @@
-//! Destroyed segments, of which nothing is held any more.
+//! Purging: the site gives up all that it holds of a destroyed segment.
 ghost use Rattle.std.specs.Prelude.{◌≡◌, ◌<◌, ℕ, [], not, false, true, if◌then◌else◌, IfOk, OnErr};
 ghost use Rattle.shm_model.specs.Basics.{at};
 ghost use Rattle.shm_model.specs.Entry.{Nil};
@@ -16,7 +16,7 @@ use shm_place::SegId;
 use std::alloc::{AllocError, Allocator};
 
 impl<A: Allocator + Copy> Holdings<A> {
-    /// Whether the site has purged the segment.
+    /// Checks that the site has purged the segment.
     pub fn is_purged(&self, id: SegId) -> bool
         ensures { result ≡ purged_of self.now.purged id }
     {

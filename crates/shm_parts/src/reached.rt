@@ -1,6 +1,6 @@
 use shm_place::PageId;
 
-/// What a load through an attachment came to.
+/// The outcome of a load through an attachment.
 #[derive(Clone, Copy, Debug)]
 pub enum LoadOutcome {
     Byte(u8),
@@ -8,7 +8,7 @@ pub enum LoadOutcome {
     Absent(PageId),
 }
 
-/// What a store through an attachment came to.
+/// The outcome of a store through an attachment.
 #[derive(Clone, Copy, Debug)]
 pub enum StoreOutcome {
     Stored,

@@ -10,8 +10,8 @@ use shm_place::PageId;
 use std::alloc::{AllocError, Allocator, Global};
 use std::marker::Model;
 
-/// Pages, each at a place, in the order of their places. They stand in one vector, which keeps its room: a page that is put where there
-/// was room takes no memory, and a copy is one block.
+/// Pages, each at a place, in the order of their places. They are in one vector, which keeps its room: putting a page where there was room
+/// takes no memory, and a copy is one block.
 #[derive(Drop)]
 pub struct RisingPlaces<A: Allocator + Copy = Global> {
     pages: Vec<(u64, PageId), A>,
@@ -103,7 +103,7 @@ fn count_before(pages: &[(u64, PageId)], place: u64) -> usize
     pages.partition_point(|row| row.0 < place)
 }
 
-/// Whether a page is at the place, where so many come before it.
+/// Checks that a page is at the place, where this many come before it.
 fn is_place_at(pages: &[(u64, PageId)], index: usize, place: u64) -> bool
     requires rising { IsStrictlySortedBy nat_cmp (keys_of pages.now) }
     requires before { index ≡ leading (λ e. nat_lt e.0 place) pages.now }

@@ -1,4 +1,4 @@
-//! What is seen of a site's holdings.
+//! Shows a site's holdings.
 ghost use Rattle.std.specs.Prelude.{◌≡◌, ℕ, false, if◌then◌else◌, IfOk};
 ghost use Rattle.shm_model.specs.Entry.{Nil, OwnWrite};
 ghost use Rattle.shm_model.specs.Site.{Site, blank};

@@ -1,4 +1,4 @@
-//! What is done with one entry where it stands.
+//! Changes of one entry where it stands.
 ghost use Rattle.std.specs.Prelude.{◌≡◌, ◌<◌, nat_lt, if◌then◌else◌, IfOk, IfErr, OnOk, OnErr};
 ghost use Rattle.shm_place.specs.Limits.{page_bytes};
 ghost use Rattle.shm_model.specs.Access.{stored_entry};
@@ -31,7 +31,7 @@ pub(crate) fn open<A: Allocator + Copy>(
     Ok(StoredEntry { entry })
 }
 
-/// Stores a byte where the entry may be written, and tells whether it did.
+/// Stores a byte where the entry may be written, and answers whether it did.
 #[inline(always)]
 pub(crate) fn store_in<A: Allocator + Copy>(
     entry: &mut StoredEntry<A>,
@@ -127,7 +127,7 @@ fn hand<A: Allocator + Copy>(
     }
 }
 
-/// What has changed at the entry since it had met this number.
+/// The change of the entry since it had met this number.
 fn change_since<A: Allocator + Copy>(seen: u64, entry: &Entry<A>) -> Change
     ensures newer { result.newer ≡ nat_lt seen (model.seen (entry_of entry.now)) }
     ensures copy { result.copy ≡ model.is_copy (entry_of entry.now) }

@@ -1,4 +1,4 @@
-//! What a note to a page's entry does to a site's holdings.
+//! How a note to a page's entry changes a site's holdings.
 ghost use Rattle.std.specs.Prelude.{◌≡◌, ℕ, false, true, IfErr, IfOk, OnOk, OnErr};
 ghost use Rattle.shm_model.specs.Site.{Site};
 ghost use Rattle.shm_model.specs.Transfer.{to_entry};
@@ -18,8 +18,8 @@ use shm_place::PageId;
 use std::alloc::{AllocError, Allocator};
 
 impl<A: Allocator + Copy> Holdings<A> {
-    /// Runs the row of the entry's table that the note calls for, and puts the copies in order. What is sent, if anything is, comes with
-    /// what changed. Where memory is refused the note comes back and nothing changes.
+    /// Runs the row of the entry's table that fits the note, and puts the copies in order. Answers what to send, if anything, and what
+    /// changed. Where memory is refused the note comes back and nothing changes.
     pub fn turn(
         &mut self,
         page: &PageId,
@@ -40,7 +40,7 @@ impl<A: Allocator + Copy> Holdings<A> {
         }
     }
 
-    /// Makes room for what the note of the page may add, and tells where the page's entry stands.
+    /// Makes room for what the note of the page may add, and answers the place of the page's entry.
     fn make_room(&mut self, page: &PageId, note: &EntryNote<A>) -> Result<usize, AllocError>
         ensures same { (site : Site) → with_holdings self.old.sites self.old.me self.new site ≡ with_holdings self.old.sites self.old.me self.old site }
         ensures seat { SameSeat self.old self.new }

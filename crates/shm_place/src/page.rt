@@ -50,7 +50,7 @@ pub fn manager_of(sites: Sites, page: PageId) -> SiteId
     SiteId((sum % sites.count() as u64) as u32)
 }
 
-/// Whether some home could give the segment's identifier, and some segment have a page of this index.
+/// Checks that some home could give the segment's identifier, and that some segment can have a page of this index.
 pub fn in_limits(sites: Sites, page: PageId) -> bool
     ensures limits { result ≡ Page.in_limits sites page }
 {

@@ -39,7 +39,7 @@ impl SiteSet {
         }
     }
 
-    /// All of so many sites.
+    /// The set of all sites.
     pub fn all(sites: Sites) -> SiteSet
         ensures sites { (site : ℕ) → has result site ≡ nat_lt site sites }
         ensures some { has_none result ≡ false }
@@ -52,7 +52,7 @@ impl SiteSet {
         SiteSet { members }
     }
 
-    /// Whether the site is in the set.
+    /// Checks that the site is in the set.
     pub fn contains(&self, site: SiteId) -> bool
         ensures { result ≡ has self.now site }
     {
@@ -60,7 +60,7 @@ impl SiteSet {
         index < self.members.len() && self.members[index]
     }
 
-    /// Whether no site is in the set.
+    /// Checks that no site is in the set.
     pub fn is_empty(&self) -> bool
         ensures { result ≡ has_none self.now }
     {

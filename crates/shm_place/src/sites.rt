@@ -26,7 +26,7 @@ impl Model for Sites {
 }
 
 impl Sites {
-    /// So many sites. `NoSuchSite`: fewer than 1, or more than [`MAX_SITES`].
+    /// This many sites. `NoSuchSite`: fewer than 1, or more than [`MAX_SITES`].
     pub fn new(count: u32) -> Result<Sites, NoSuchSite>
         ensures valid { IsOk result ↔ (1 ≤ count) × (count ≤ 16) }
         ensures value { IfOk result (λ sites. sites ≡ count) }

@@ -51,7 +51,7 @@ next-is me (Access tag asked) is = is
 next-is me (Reads block) is = (is.0.0, is.0.1, (is.0.2.0, block-end block.offset block.count (length block.bytes) is.0.2.3 is.1))
 
 -- what waits, and the clock: no number is too large for a line
-record Sound (node : Node) : Type 0 where
+pub record Sound (node : Node) : Type 0 where
   pub clock : IsWide node.clock
   pub asks : All (IsProper node.me) node.waiting
 
@@ -211,17 +211,17 @@ restart-sound : (node : Node) (late : Bool) → is_late node 0 ≡ late → Soun
 restart-sound node true is sound = sound
 restart-sound node false is sound = record { clock = later node.clock 0 sound.clock wide-zero is; asks = All-nil (IsProper node.me) }
 
-event-sound : (node : Node) (event : Event) → Sound node → Sound (after_event node event)
+pub event-sound : (node : Node) (event : Event) → Sound node → Sound (after_event node event)
 event-sound node (Line bytes) sound = read-sound node bytes (read_line bytes) refl sound
 event-sound node TooLong sound = record { clock = sound.clock; asks = sound.asks }
 event-sound node Again sound = again-sound node (ready node) refl sound
 event-sound node Restarted sound = restart-sound node (is_late node 0) refl sound
 
-events-sound : (events : List Event) (node : Node) → Sound node → Sound (after_events node events)
+pub events-sound : (events : List Event) (node : Node) → Sound node → Sound (after_events node events)
 events-sound [] node sound = sound
 events-sound (event ∷ events) node sound = events-sound events (after_event node event) (event-sound node event sound)
 
-new-sound : (sites me pages : ℕ) → Sound (new_node sites me pages)
+pub new-sound : (sites me pages : ℕ) → Sound (new_node sites me pages)
 new-sound sites me pages = record { clock = wide-zero; asks = All-nil (IsProper me) }
 
 pub proper_asks : (sites me pages : ℕ) (events : List Event)
@@ -256,7 +256,7 @@ restart-entry node true said is sound made = absurd (cc)
 restart-entry node false said is sound made =
     subst (λ (s : Said). IsEntry (entry_of s)) (some-is (said_restart node) said made) (later node.clock 0 sound.clock wide-zero is, tt)
 
-event-entry : (node : Node) (event : Event) (said : Said) → Sound node → said_at node event ≡ Some said → IsEntry (entry_of said)
+pub event-entry : (node : Node) (event : Event) (said : Said) → Sound node → said_at node event ≡ Some said → IsEntry (entry_of said)
 event-entry node (Line bytes) said sound made = read-entry node bytes (read_line bytes) said refl sound made
 event-entry node TooLong said sound made = absurd (cc)
 event-entry node Again said sound made = again-entry node (ready node) said refl sound made

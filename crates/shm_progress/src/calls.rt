@@ -7,14 +7,14 @@ ghost use Rattle.shm_progress.specs.Deliveries.{IsAtRest};
 ghost use Rattle.shm_progress.specs.OnTheWay.{NothingLost, world_since};
 ghost use Rattle.shm_progress.specs.Serving.{CallGoesOn};
 
-/// Calls go on: once a site ticked, as long as nothing is lost, its outstanding call is on its way to its home or a reply is on its way
-/// back; whatever else happens, restarts too. No more envelopes were sent than a world counts.
+/// Calls go on. Once a site ticked, as long as nothing is lost, its outstanding call is on its way to its home or a reply is on its way
+/// back. Anything else may happen, restarts too. No more envelopes were sent than a world counts.
 pub fn calls_go_on()
     ensures { (o : Opening) (earlier later : List Event) (site : ℕ) → IsOpening o → NothingLost later → is_full (world_since o earlier site later) ≡ false
         → CallGoesOn (world_since o earlier site later) site }
 {}
 
-/// Calls end: if nothing is on its way any more then, the site has no call outstanding.
+/// Calls end: once nothing is on its way then, the site has no call outstanding.
 pub fn calls_end()
     ensures { (o : Opening) (earlier later : List Event) (site : ℕ) (x : Site) → IsOpening o → NothingLost later
         → is_full (world_since o earlier site later) ≡ false

@@ -6,14 +6,14 @@ ghost use Rattle.shm_model.specs.declared.event.Event.TheVariants as event;
 ghost use Rattle.shm_progress.specs.Deliveries.{AreOnTheirWay, ComesToRest, IsAtRest, deliveries_left};
 
 /// Each delivery counts: in every world that some events lead to, whatever was lost, repeated or restarted before, the delivery of an
-/// envelope that is on its way leaves fewer deliveries that there can be.
+/// envelope on its way lowers the number of deliveries that are left.
 pub fn each_delivery_counts()
     ensures { (o : Opening) (events : List Event) (k : ℕ) → IsTrue (is_some (live (run o events).world k))
         → deliveries_left (next (run o events).world (event.Deliver k)).world < deliveries_left (run o events).world }
 {}
 
-/// Deliveries end: from every world that some events lead to, envelopes that are each on their way when their turn comes are at most so
-/// many, in whatever order they are handed over; and after so many nothing is on its way.
+/// Deliveries end. Take any world that some events lead to, and deliveries that are each of an envelope then on its way, in whatever order.
+/// There is a bound on their number, and once it is reached nothing is on its way.
 pub fn deliveries_end()
     ensures rest { (o : Opening) (events : List Event) (envelopes : List ℕ) → AreOnTheirWay (run o events).world envelopes
         → deliveries_left (run o events).world ≤ length envelopes

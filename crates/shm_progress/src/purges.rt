@@ -1,4 +1,4 @@
-//! What was destroyed is purged.
+//! Destroyed segments are purged.
 ghost use Rattle.std.specs.Prelude.{◌≡◌, ℕ, false, List, Some, slice_get};
 ghost use Rattle.shm_model.specs.Site.{Site};
 ghost use Rattle.shm_model.specs.World.{IsOpening, Opening, is_full};
@@ -7,14 +7,14 @@ ghost use Rattle.shm_progress.specs.Deliveries.{IsAtRest};
 ghost use Rattle.shm_progress.specs.OnTheWay.{NothingLost, world_since};
 ghost use Rattle.shm_progress.specs.Purging.{PurgesGoOn};
 
-/// Purges go on: once a home ticked, as long as nothing is lost, each site that hasn't answered its purge of a destroyed segment is being
-/// asked, or its answer is on its way; whatever else happens, restarts too. No more envelopes were sent than a world counts.
+/// Purges go on. Once a home ticked, as long as nothing is lost, each site that hasn't answered its purge of a destroyed segment is being
+/// asked, or its answer is on its way. Anything else may happen, restarts too. No more envelopes were sent than a world counts.
 pub fn purges_go_on()
     ensures { (o : Opening) (earlier later : List Event) (home : ℕ) → IsOpening o → NothingLost later → is_full (world_since o earlier home later) ≡ false
         → PurgesGoOn (world_since o earlier home later) home }
 {}
 
-/// Purges end: if nothing is on its way any more then, all sites have answered.
+/// Purges end: once nothing is on its way then, all sites have answered.
 pub fn purges_end()
     ensures { (o : Opening) (earlier later : List Event) (home id site : ℕ) (x : Site) → IsOpening o → NothingLost later
         → is_full (world_since o earlier home later) ≡ false

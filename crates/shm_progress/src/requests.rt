@@ -10,17 +10,17 @@ ghost use Rattle.shm_progress.specs.OnTheWay.{NothingLost};
 ghost use Rattle.shm_progress.specs.Requests.{IsTakenUpAt, RequestsGoOn, StartedAreServed, TookNone};
 ghost use Rattle.shm_progress.specs.Transactions.{IsPurgedSomewhere, NotRestarted};
 
-/// Requests go on: once a site ticked, as long as nothing is lost and a manager doesn't restart, each request that the site has pending
-/// at that manager has its Ask on its way, or waits there, or its transaction was started; unless its Ask came while sixteen waited for the
-/// page, or no transaction's number was left at some time since, or the page's segment is being purged. Whatever else happens, new accesses
-/// and restarts of other sites too. No more envelopes were sent than a world counts.
+/// Requests go on. Once a site ticked, as long as nothing is lost and a manager doesn't restart, each request that the site has pending at
+/// that manager has its Ask on its way, or waits there, or its transaction was started. The exceptions: its Ask came while sixteen waited
+/// for the page, or no transaction's number was left at some time since, or the page's segment is being purged. Anything else may happen,
+/// new accesses and restarts of other sites too. No more envelopes were sent than a world counts.
 pub fn requests_go_on()
     ensures { (o : Opening) (earlier later : List Event) (site manager : ℕ) → IsOpening o → NothingLost later → NotRestarted manager later
         → is_full (run o ((earlier ++ (Tick site ∷ [])) ++ later)).world ≡ false → RequestsGoOn o (earlier ++ (Tick site ∷ [])) later manager site }
 {}
 
-/// Requests end: if nothing is on its way any more then, each of them was taken up, or it was turned away or no number was left, or the
-/// segment is being purged.
+/// Requests end: once nothing is on its way then, each of them was taken up, or it was turned away or no number was left, or the segment is
+/// being purged.
 pub fn requests_end()
     ensures { (o : Opening) (earlier later : List Event) (site manager : ℕ) (x : Site) (p : Pending) → IsOpening o → NothingLost later
         → NotRestarted manager later
@@ -31,9 +31,9 @@ pub fn requests_end()
         ⊎ IsPurgedSomewhere (run o ((earlier ++ (Tick site ∷ [])) ++ later)).world p.page.seg) }
 {}
 
-/// Started requests are served: in every world that some events lead to, whatever was lost, repeated or restarted before, a request that
-/// is pending and whose transaction was started is the one that runs, and its site has met none of the page as new. So a transaction that
-/// ends leaves none pending that it was started for.
+/// Started requests are served. In every world that some events lead to, whatever was lost, repeated or restarted before, a pending request
+/// whose transaction was started is the one that runs, and its site hasn't met that transaction. So a transaction that ends leaves no
+/// request pending that it was started for.
 pub fn started_requests_are_served()
     ensures { (o : Opening) (events : List Event) → IsOpening o → StartedAreServed (run o events).world }
 {}

@@ -9,16 +9,16 @@ ghost use Rattle.shm_progress.specs.OnTheWay.{NothingLost};
 ghost use Rattle.shm_progress.specs.Requests.{RequestsSettled};
 ghost use Rattle.shm_progress.specs.Rounds.{AllTick, FaultsServed, ManagersSettled, NoneAccesses, NonePending, NoneRestarted, Round, Served, ServedLater, Settled};
 
-/// Rounds exist: from every world that some events lead to, each site's tick and then some deliveries, with no loss, no restart, no load and
-/// no store, leave nothing on its way. They are at most `round_events` of the world, and at most `round_sent` envelopes were sent after
+/// Rounds exist. From every world that some events lead to, each site's tick and then some deliveries, with no loss, no restart, no load
+/// and no store, leave nothing on its way. They are at most `round_events` of the world, and at most `round_sent` envelopes were sent after
 /// them. So the laws on rounds are about each world, as long as no more envelopes are sent than a world counts.
 pub fn rounds_exist()
     ensures { (o : Opening) (events : List Event) → Round o events }
 {}
 
-/// Rounds settle calls and purges: from every world that some events lead to, further events that lose nothing, among which each site
-/// ticks and after which nothing is on its way, leave no call outstanding and no purge unanswered; whatever else is among them, restarts
-/// too. No more envelopes were sent than a world counts.
+/// Rounds settle calls and purges. Take any world that some events lead to, and further events that lose nothing, among which each site
+/// ticks and after which nothing is on its way. They leave no call outstanding and no purge unanswered. Anything else may be among them,
+/// restarts too. No more envelopes were sent than a world counts.
 pub fn rounds_settle_calls_and_purges()
     ensures { (o : Opening) (earlier later : List Event) → IsOpening o → NothingLost later → AllTick (sites_of o) later
         → is_full (run o (earlier ++ later)).world ≡ false
@@ -48,8 +48,8 @@ pub fn second_rounds_settle_requests()
         → NonePending (run o ((earlier ++ first) ++ second)).world }
 {}
 
-/// Faults are served: along two such rounds each request that was pending before them gains its right at some time, to read for a load and
-/// to write for a store; or its site has purged the segment after them. Nothing is said of how long the right stays: another site may have
+/// Faults are served. Along two such rounds each request that was pending before them gains its right at some time, to read for a load and
+/// to write for a store, or its site has purged the segment after them. This doesn't say how long the right stays: another site may have
 /// taken it before its caller tries again.
 pub fn faults_are_served()
     ensures { (o : Opening) (earlier first second : List Event) → IsOpening o → NothingLost first → NoneRestarted first → AllTick (sites_of o) first

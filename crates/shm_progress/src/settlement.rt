@@ -1,5 +1,5 @@
-//! A world of the code that is brought to rest: each site ticks once, and what is on its way is handed over, oldest first, until nothing is
-//! or the budget of deliveries is used up. What rounds settle is settled then.
+//! A world of the code is brought to rest: each site ticks once, and then the oldest envelope is handed over, until none is on its way or
+//! the budget of deliveries is used up. This settles what rounds settle.
 ghost use Rattle.std.specs.Prelude.{◌≡◌, ℕ, ◌≤◌, ◌↔◌, ◌++◌, false, List, IfOk, IsTrue, OnErr, OnOk};
 ghost use Rattle.shm_model.specs.World as model;
 ghost use Rattle.shm_model.specs.declared.event.Event.{Event};
@@ -17,13 +17,13 @@ use shm_place::SiteId;
 use shm_world::{Event, World};
 use std::alloc::{AllocError, Allocator};
 
-/// Each site ticks once, in the order of their numbers; then what is on its way is handed over, and what that causes, the oldest first:
-/// until nothing is on its way, or as many as `budget` were handed over. Where memory is refused it stops after the events that were made.
+/// Ticks each site once, in the order of their numbers. Then it hands over what is on its way, and what that causes, the oldest first,
+/// until nothing is on its way or `budget` envelopes were handed over. Where memory is refused it stops after the events that were made.
 ///
-/// A budget of 114 for each envelope that was sent up to the last tick is enough. Where the world comes to rest, and no more envelopes
-/// were sent than a world counts (2^63), no call is outstanding, no purge unanswered, no transaction runs and no Ask waits; and each
-/// request that is still pending was turned away, as sixteen waited at its page's manager. Where the world was brought to rest before,
-/// with nothing lost and no site restarted, no request is pending then.
+/// A budget of 114 for each envelope sent up to the last tick is enough. Where the world comes to rest, and no more envelopes were sent
+/// than a world counts (2^63), no call is outstanding, no purge unanswered, no transaction runs and no Ask waits. Each request that is
+/// still pending was turned away, as sixteen waited at its page's manager. Where the world was brought to rest before, with nothing lost
+/// and no site restarted since, no request is pending then.
 pub fn settle<A: Allocator + Copy>(world: &mut World<A>, budget: u64) -> Result<Settled, AllocError>
     ensures made { (w : model.World) → StandsFor world.old w → IfOk result (λ settled. HandedOver world.new (after w (ticks w.count)) settled.deliveries) }
     ensures within { IfOk result (λ settled. settled.deliveries ≤ budget) }

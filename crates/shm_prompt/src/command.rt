@@ -1,4 +1,4 @@
-//! What may be typed: each line of a script, and the commands of the prompt beside them.
+//! The prompt's language: each line of a script, and the prompt's own commands.
 ghost use Rattle.std.specs.Prelude.{◌≡◌, IfSome};
 ghost use Rattle.shm_prompt.specs.Command as said;
 
@@ -7,10 +7,10 @@ use shm_lines::{Line, Words, laws, parse_line};
 /// The most envelopes that `run` delivers without a number.
 const MOST_BY_DEFAULT: u32 = 10_000;
 
-/// What a line that was typed asks for.
+/// A line of the prompt.
 #[derive(Clone, Copy, Debug, PartialEq, Eq)]
 pub enum Command {
-    /// A line of a script: it is acted on as a replay does. A `sites` line begins anew.
+    /// A line of a script: the session acts on it as a replay does. A `sites` line begins a new one.
     Line(Line),
     /// Lists the envelopes on their way.
     Flight,
@@ -24,13 +24,13 @@ pub enum Command {
     Undo,
     /// Tells of the commands.
     Help,
-    /// Writes the script of what stands to a file; the line's second word is its name.
+    /// Saves the script of the events that stand to a file; the line's second word is its name.
     Save,
     /// Ends.
     Quit,
 }
 
-/// What a line says, without its line feed. It takes no memory.
+/// Reads a line without its line feed. Takes no memory.
 pub fn parse_command(bytes: &[u8]) -> Option<Command>
     ensures command { result ≡ said.command_of bytes.now }
     ensures is_line { IfSome result said.IsCommand }

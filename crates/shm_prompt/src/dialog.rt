@@ -5,7 +5,7 @@ use shm_debug::Session;
 use std::alloc::{Allocator, Global};
 use std::marker::Model;
 
-/// What stands between two lines that are typed: a session, from the first `sites` line on.
+/// The state between two lines: a session, from the first `sites` line on.
 #[derive(Drop)]
 pub struct Dialog<A: Allocator + Copy = Global> {
     pub(crate) session: Option<Session<A>>,
@@ -22,7 +22,7 @@ impl<A: Allocator + Copy> Model for Dialog<A> {
 }
 
 impl<A: Allocator + Copy> Dialog<A> {
-    /// No sites stand yet.
+    /// There are no sites yet.
     pub fn new(alloc: A) -> Dialog<A>
         ensures { result ≡ None }
     {
@@ -32,7 +32,7 @@ impl<A: Allocator + Copy> Dialog<A> {
         }
     }
 
-    /// What stands; `None`: no sites yet.
+    /// The session; `None`: no sites yet.
     pub fn session(&self) -> Option<&Session<A>>
         ensures { option_copied result ≡ self.now }
     {

@@ -14,11 +14,11 @@ use shm_model::{Event, Opening};
 use shm_place::PageId;
 use std::alloc::{AllocError, Allocator};
 
-/// What is told where no sites stand yet.
+/// The answer while there are no sites.
 pub(crate) const NOT_BEGUN: &str = "no sites stand yet: begin with a line as sites 2 preset 1\n";
 
 impl<A: Allocator + Copy> Dialog<A> {
-    /// Acts on a line of a script. A `sites` line begins anew.
+    /// Acts on a line of a script. A `sites` line begins a new session.
     pub fn act(&mut self, line: Line, out: &mut Vec<u8, A>) -> Result<(), AllocError>
         requires { IsLine line }
         ensures told { OnOk result (out.new.items ≡ out.old.items ++ said_to self.old line) }
@@ -57,7 +57,7 @@ fn act_on<A: Allocator + Copy>(
     }
 }
 
-/// The sites begin anew.
+/// Begins a new session.
 fn begin<A: Allocator + Copy>(
     session: &mut Option<Session<A>>,
     alloc: A,
@@ -105,7 +105,7 @@ fn show<A: Allocator + Copy>(
     tell_line(out, last_line(session), text.as_slice())
 }
 
-/// The last events are taken back, if there are so many.
+/// Takes the last events back, if that many stand.
 fn go_back<A: Allocator + Copy>(
     session: &mut Session<A>,
     alloc: A,

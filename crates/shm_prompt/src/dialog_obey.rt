@@ -1,4 +1,4 @@
-//! What each command makes of what stands, and what is told of it.
+//! What each command does to the session, and its answer.
 ghost use Rattle.std.specs.Prelude.{◌≡◌, ◌++◌, Some, false, IfOk, OnErr, OnOk};
 ghost use Rattle.shm_prompt.specs.Command.{IsCommand, command_of, is_quit, is_save};
 ghost use Rattle.shm_prompt.specs.Dialog.{HaltedCommand, HaltedRun, HaltedTyped, Obeyed, ObeyedTyped, Ran, Runs, SomeDelivered, TellsMore, TellsOfStanding, run_end};
@@ -19,10 +19,10 @@ use shm_lines::{Line, Words};
 use std::alloc::{AllocError, Allocator};
 
 impl<A: Allocator + Copy> Dialog<A> {
-    /// Does what was typed, without its line feed, and answers whether it was `quit`, to which nothing is said. Of a wrong line it is
-    /// told where it can't be read on, and what was expected there.
+    /// Does what a line asks for, without its line feed, and answers whether it was `quit`, which has no answer of its own. The answer to a
+    /// wrong line shows where it goes wrong and what could stand there.
     ///
-    /// Of the tables and the hints no clause says what they tell, and of `save` which script it writes under which name.
+    /// No clause says what the tables and hints print, or which script `save` writes under which name.
     pub fn obey<S: SaveFile>(
         &mut self,
         typed: &[u8],
@@ -116,7 +116,7 @@ fn ends(command: &Command) -> bool
     }
 }
 
-/// What can be looked at.
+/// The tables of the prompt.
 #[derive(Clone, Copy)]
 enum View {
     Flight,
@@ -124,7 +124,7 @@ enum View {
     Segments,
 }
 
-/// Delivers, and says whether it came to its end.
+/// Delivers, and says whether nothing is on its way.
 fn run_on<A: Allocator + Copy>(
     session: &mut Session<A>,
     alloc: A,
@@ -172,7 +172,7 @@ fn show_view<A: Allocator + Copy>(
     out.extend_from_slice(text.as_bytes())
 }
 
-/// Writes the script of what stands to a file, and says so or why not.
+/// Saves the script of the events that stand to a file, and says so or why not.
 fn save_to<A: Allocator + Copy, S: SaveFile>(
     session: &Session<A>,
     alloc: A,

@@ -44,7 +44,7 @@ fn list_envelope<A: Allocator + Copy>(
     text.push_str("\n")
 }
 
-/// What the message is, of which page or segment, under which number.
+/// Prints the message's name, its page or segment, and its number.
 fn describe<A: Allocator + Copy>(
     text: &mut String<A>,
     message: &Message<A>,
@@ -58,7 +58,7 @@ fn describe<A: Allocator + Copy>(
     }
 }
 
-/// What the note of the page is.
+/// Prints the name of the page's note.
 fn describe_note<A: Allocator + Copy>(
     text: &mut String<A>,
     page: PageId,

@@ -1,6 +1,6 @@
 //! `help`: an example for each command, and for each line of a script.
 
-/// What `help` tells.
+/// The text of `help`.
 pub(crate) const HELP: &str = "\
 flight                         the envelopes on their way
 sites                          what each site has of each page, and the managers' books

@@ -59,7 +59,7 @@ fn form_text<A: Allocator + Copy>(alloc: A, form: &str) -> Result<Vec<u8, A>, Al
     Ok(text.into_bytes())
 }
 
-/// The line, and below it what could stand where it can't be read on.
+/// The line, and below it what could stand where it goes wrong.
 fn place_text<A: Allocator + Copy>(
     alloc: A,
     typed: &[u8],

@@ -1,4 +1,4 @@
-//! The debugger's session for people at a terminal: each line is answered before the next is read, a wrong line is told and doesn't end it.
+//! The debugger's session for people at a terminal. It answers each line before it reads the next, and goes on after a wrong line.
 #![tactic(auto)]
 
 mod command;

@@ -75,8 +75,8 @@ fn show_page<A: Allocator + Copy>(
     Ok(())
 }
 
-/// Whether the page's manager has given a right to it, or a site has met its number. A right was asked for then, as where an envelope
-/// speaks of the page.
+/// Checks that the page's manager has given a right to it, or that a site has met its number. Then a right was asked for, as where an
+/// envelope is about the page.
 fn is_touched<A: Allocator + Copy>(world: &World<A>, page: &PageId) -> bool {
     'sites: for site in 0..world.sites().count() {
         if is_met(world.shown(SiteId(site), *page)) {
@@ -137,7 +137,7 @@ fn name_of(state: State) -> &'static str {
     }
 }
 
-/// Which site manages the page, and what its book says.
+/// Prints the site that manages the page, and its book.
 fn show_manager<A: Allocator + Copy>(
     text: &mut String<A>,
     manager: SiteId,
@@ -171,7 +171,7 @@ fn show_copies<A: Allocator + Copy>(
     Ok(())
 }
 
-/// What the running transaction gives, and to whom.
+/// Prints what the running transaction gives, and to which site.
 fn show_running<A: Allocator + Copy>(
     text: &mut String<A>,
     running: Option<(Kind, SiteId)>,

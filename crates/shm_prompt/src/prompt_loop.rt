@@ -9,12 +9,11 @@ use std::io::{Read, Write};
 /// The most bytes that are read at once.
 const CHUNK: usize = 4096;
 
-/// The debugger's session for people at a terminal: reads what is typed, line by line, to the input's end or to `quit`, and answers each.
-/// A wrong line is told, and doesn't end it.
+/// The debugger's session for people at a terminal: reads line by line, to the input's end or to `quit`, and answers each line. After a
+/// wrong line, which it explains, it goes on.
 ///
-/// Before each read all that was told is written, and the writer is flushed; so it is at the end. A line has at most 200 bytes; what
-/// stands after the last line feed is none. Where the reader or the writer answers an error, of whatever kind, it ends, and so it
-/// does where memory is refused.
+/// Before each read, and at the end, it writes all output and flushes the writer. A line has at most 200 bytes; what stands after the last
+/// line feed is none. Any error of the reader or the writer ends it, and so does refused memory.
 pub fn prompt<A: Allocator + Copy, R: Read, W: Write, S: SaveFile>(
     alloc: A,
     reader: &mut R,
@@ -48,7 +47,7 @@ pub fn prompt<A: Allocator + Copy, R: Read, W: Write, S: SaveFile>(
     Ok(())
 }
 
-/// Writes all that was told, forgets it, and flushes the writer.
+/// Writes all output, empties it, and flushes the writer.
 fn write_and_flush<A: Allocator + Copy, W: Write>(
     out: &mut Vec<u8, A>,
     writer: &mut W,

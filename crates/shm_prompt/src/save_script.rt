@@ -15,8 +15,8 @@ use std::alloc::Allocator;
 /// The most lines that a script has.
 const MAX_LINES: usize = 100_000;
 
-/// The script of what stands: the `sites` line, and a line for each event. A replay reads exactly these lines, and stands where the
-/// session stands.
+/// The script of the events that stand: the `sites` line, and a line for each event. A replay reads exactly these lines, and its session is
+/// the same.
 pub fn saved_script<A: Allocator + Copy>(
     alloc: A,
     session: &Session<A>,

@@ -7,7 +7,7 @@ use std::alloc::{AllocError, Allocator};
 /// The columns' names.
 const HEADING: &str = "key        shmid      owner      perms      bytes      nattch     status\n";
 
-/// Lists the segments of all homes, but for the destroyed ones.
+/// Lists the segments of all homes, without the destroyed ones.
 pub(crate) fn list_segments<A: Allocator + Copy>(
     text: &mut String<A>,
     world: &World<A>,

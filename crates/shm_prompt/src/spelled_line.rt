@@ -1,4 +1,4 @@
-//! Whether a line has a spelling that is read back as it, and the spelling.
+//! Checks that a line has a spelling that reads back as it, and spells it.
 ghost use Rattle.std.specs.Prelude.{◌≡◌, ◌≤◌, ◌==◌, [], ◌∷◌, ◌++◌, true, not, OnOk, length};
 ghost use Rattle.std.specs.List.{list_all};
 ghost use Rattle.shm_model.specs.declared.call.Request.TheVariants.{Op as OpRequest};

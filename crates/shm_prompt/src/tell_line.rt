@@ -1,4 +1,4 @@
-//! How something is told: a line of output is its number, a blank, what is said, and a line feed.
+//! The form of an output line: its number, a blank, the text, and a line feed.
 ghost use Rattle.std.specs.Prelude.{◌≡◌, ◌+◌, ◌++◌, OnOk, length};
 ghost use Rattle.shm_text.specs.Text.{line_text};
 

@@ -6,7 +6,7 @@ use std::alloc::{AllocError, Allocator};
 /// The most bytes that a line has, without its line feed.
 const MAX_LINE_BYTES: usize = 200;
 
-/// What was typed: what stands after the lines that ended, the one that hasn't, and whether `quit` was among them.
+/// The input so far: the state after the lines that ended, the open line, and whether `quit` was among them.
 #[derive(Drop)]
 pub(crate) struct Typed<A: Allocator + Copy> {
     dialog: Dialog<A>,
@@ -16,7 +16,7 @@ pub(crate) struct Typed<A: Allocator + Copy> {
 }
 
 impl<A: Allocator + Copy> Typed<A> {
-    /// Nothing was typed yet. Room for a line is made.
+    /// No input yet, and room for a line.
     pub(crate) fn new(alloc: A) -> Result<Typed<A>, AllocError> {
         let line = Vec::with_capacity(alloc, MAX_LINE_BYTES)?;
         Ok(Typed {

@@ -4,8 +4,8 @@ use shm_lines::Workload;
 use shm_place::Sites;
 use shm_sites::Event;
 
-/// What came of a workload that was run over so many sites. `run_audited` alone gives one, where an audit accepted what the sites logged
-/// and what their callers were told.
+/// The result of a workload that these sites ran. Only `run_audited` makes one, where an audit accepted the sites' logs and the callers'
+/// receipts.
 #[derive(Drop)]
 pub struct Audited {
     pub(crate) sites: Sites,

@@ -1,4 +1,4 @@
-//! What is told of an audited run.
+//! The text of an audited run.
 ghost use Rattle.std.specs.Prelude.{◌≡◌, ◌⊎◌, ◌++◌, ℕ, List, Some, true, IfErr, IfOk, OnOk, string_bytes};
 ghost use Rattle.std.specs.Io.KnownBytes.{Appends};
 ghost use Rattle.shm_report.specs.Audited.{counts_of_run, IsReportOfRun};

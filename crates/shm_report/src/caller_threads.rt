@@ -14,7 +14,7 @@ use std::sync::Wait;
 use std::thread;
 use std::thread::{Promise, PromisedHandle, Scope, Threads};
 
-/// What one caller was told, or why it ended.
+/// One caller's receipts, or why it ended.
 pub(crate) type CallerTold = Result<Vec<Receipt>, CallFault>;
 
 /// The same of each caller.
@@ -79,7 +79,7 @@ fn call_within<'s, 'e: 's, R: Threads + Wait + Sync>(
     }
 }
 
-/// Starts the caller of each site, as far as threads are given.
+/// Starts the caller of each site, as far as the system gives threads.
 fn start_callers<'s, 'e: 's, R: Threads + Wait + Sync>(
     rt: &'e R,
     alloc: Global,
@@ -110,7 +110,7 @@ fn start_callers<'s, 'e: 's, R: Threads + Wait + Sync>(
     Ok(())
 }
 
-/// Waits for these callers, and keeps what each was told.
+/// Waits for these callers, and keeps the receipts of each.
 fn join_callers<R: Threads>(
     rt: &R,
     callers: Vec<PromisedHandle<CallerTold, Caller<'_>>>,
@@ -126,7 +126,7 @@ fn join_callers<R: Threads>(
     }
 }
 
-/// Runs the caller of this site, which is there.
+/// Runs the caller of this site, if there is one.
 fn call_site<R: Wait>(
     rt: &R,
     alloc: Global,

@@ -1,4 +1,4 @@
-//! What is counted of a run that was audited.
+//! Counts of a run that was audited.
 ghost use Rattle.std.specs.Prelude.{◌≡◌, ◌+◌, ◌<◌, ◌==◌, ◌||◌, ℕ, false, count_by, if◌then◌else◌, length, map, slice_index_or, IfOk, IfSome};
 ghost use Rattle.std.specs.List.{sum_by};
 ghost use Rattle.std.specs.Option.{option_map_or};
@@ -12,7 +12,7 @@ use crate::counts::Counts;
 use shm_sites::{Answer, Event, SiteLog, Step};
 use std::alloc::{AllocError, Global};
 
-/// What is counted in these logs and events. Memory is refused, too, where a number can't hold a count: no memory holds such logs.
+/// The counts of these logs and events. Memory is refused, too, where a number can't hold a count: no memory holds such logs.
 pub(crate) fn count_all(
     alloc: Global,
     logs: &[SiteLog],
@@ -60,7 +60,7 @@ fn faults_in(logs: &[SiteLog]) -> Option<u64>
     Some(total)
 }
 
-/// So many, and the accesses among these steps that had to wait for their page.
+/// Adds the accesses among these steps that had to wait for their page.
 fn faults_with(before: u64, steps: &[Step]) -> Option<u64>
     ensures { IfSome result (λ sum. sum ≡ before + spec.faults_of (map logged_of steps.now)) }
 {
@@ -97,7 +97,7 @@ fn envelopes_in(logs: &[SiteLog]) -> Option<u64>
     Some(total)
 }
 
-/// So many, and what these steps sent.
+/// Adds what these steps sent.
 fn add_sent(before: u64, steps: &[Step]) -> Option<u64>
     ensures { IfSome result (λ sum. sum ≡ before + sent_by (map logged_of steps.now)) }
 {
@@ -123,7 +123,7 @@ fn is_receipt(event: &Event) -> bool
     matches!(event, Event::Repeat(_))
 }
 
-/// How many of so many envelopes some site received.
+/// Counts which of this many envelopes some site received.
 fn count_received(alloc: Global, envelopes: u64, events: &[Event]) -> Result<u64, AllocError>
     ensures { IfOk result (λ count. count ≡ spec.received_of envelopes events.now) }
 {

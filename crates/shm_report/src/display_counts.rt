@@ -1,4 +1,4 @@
-//! How counts are told: a line for each.
+//! The text of counts: a line for each.
 ghost use Rattle.std.specs.Prelude.{Some};
 ghost use Rattle.shm_report.specs.Counts.{counts_text};
 

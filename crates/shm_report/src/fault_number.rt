@@ -1,4 +1,4 @@
-//! The numbers under which a report tells why there is none.
+//! The numbers of a report's faults.
 use crate::report_fault::ReportFault;
 use shm_model::refusal::{self, Numbered};
 

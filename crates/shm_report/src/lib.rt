@@ -1,5 +1,5 @@
-//! Runs a workload from a reader over sites in threads, a caller in a thread of its own for each site, audits what they logged, and only
-//! then tells a writer what each line was answered.
+//! Runs a workload from a reader over sites in threads, with a caller in a thread of its own for each site, audits the logs, and only then
+//! writes the answer to each line.
 #![tactic(auto)]
 
 mod audited;

@@ -19,8 +19,8 @@ use shm_wire::SentLine;
 use std::alloc::{AllocError, Global};
 use std::fmt;
 
-/// A line for each step of the log: its stamp, what it was handed, what it answered, and the envelopes that it sent. An envelope stands
-/// as on a stream, with the clock, the index and the place of where it was sent; any other input as a script's line.
+/// A line for each step of the log: its stamp, its input, its answer, and the envelopes that it sent. An envelope is spelled as on a
+/// stream, with the clock, the index and the place at which it was sent; any other input as a script's line.
 pub fn log_text(alloc: Global, log: &SiteLog) -> Result<String, AllocError>
     ensures { IfOk result (λ text. string_bytes text ≡ spec.log_text log.now.me 0 (steps_of log.now)) }
 {
@@ -69,7 +69,7 @@ fn push_sent(
     Ok(())
 }
 
-/// What a step was handed, at its site.
+/// The input of a step, at its site.
 #[derive(Clone, Copy)]
 struct Handed<'a> {
     site: SiteId,

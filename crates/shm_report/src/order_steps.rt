@@ -14,8 +14,8 @@ use shm_place::Sites;
 use shm_sites::{Event, audit_complete};
 use std::alloc::Global;
 
-/// All steps in one order, where the logs and receipts are those of so many sites that shared one plain memory, and the receipts are
-/// all; if not, the first cause.
+/// Puts all steps in one order, where the logs and receipts are those of these sites with one plain memory, and the receipts are all; if
+/// not, the first cause.
 pub(crate) fn order_steps(
     alloc: Global,
     sites: Sites,

@@ -1,6 +1,6 @@
 use shm_sites::{Receipt, SiteLog};
 
-/// What came of a workload.
+/// The result of a workload.
 #[derive(Drop)]
 pub struct Ran {
     /// For each site, in their order, the receipts of its caller: one for each of the site's lines, in their order.

@@ -15,8 +15,7 @@ const MAX_BYTES: usize = 10_000 * 201 + 1;
 /// How many bytes are read at once.
 const CHUNK: usize = 8192;
 
-/// Reads to the end, or until there are more bytes than a workload can have. Where the reader answers an error, of whatever kind, no
-/// more is read.
+/// Reads to the end, or until there are more bytes than a workload can have. Any error of the reader ends it.
 pub(crate) fn read_all<I: Read>(alloc: Global, reader: &mut I) -> Result<Vec<u8>, ReportFault>
     ensures front { IfOk result (λ bytes. IfSome (I.remaining reader.old) (λ all. bytes.items ≡ take max_bytes all)) }
     ensures fault { IfErr result IsOther }

@@ -14,7 +14,7 @@ pub enum ReportFault {
     /// An allocation was refused.
     #[error("out of memory")]
     OutOfMemory,
-    /// The line isn't one of a workload, or stands in the wrong place, or has no line feed.
+    /// It isn't a line of a workload, or isn't allowed there, or has no line feed.
     #[error("line {0}: bad line")]
     BadLine(u64),
     /// The line has more than 200 bytes before its line feed.
@@ -84,7 +84,7 @@ impl ReportFault {
         }
     }
 
-    /// What the audit found.
+    /// The fault that an audit found.
     pub(crate) fn of_audit(fault: AuditFault) -> ReportFault
         ensures memory { fault ≡ audit.OutOfMemory → audit_cause result ≡ None }
         ensures cause { fault ≢ audit.OutOfMemory → audit_cause result ≡ Some fault }

@@ -14,11 +14,11 @@ use shm_text::{AnswerText, Text, write_whole};
 use std::alloc::Global;
 use std::io::Write;
 
-/// How many of its caller's receipts were told, for each site.
+/// For each site, how many of its caller's receipts were printed.
 type ToldOf = [usize; MAX_SITES as usize];
 
-/// What each line was answered, under its number: line 1 made the sites ready, and each further line has the next receipt of its
-/// site's caller, where the callers have one for each of their sites' lines.
+/// The answer to each line, under its number. Line 1 made the sites ready, and each further line has the next receipt of its site's caller,
+/// where the callers have one for each of their sites' lines.
 pub(crate) fn answer_lines(
     alloc: Global,
     accesses: &[WorkloadAccess],
@@ -75,7 +75,7 @@ fn tell(
     }
 }
 
-/// How many of the site's receipts were told before. One more is told now.
+/// The number of the site's receipts that were printed. Counts one more.
 fn next_place(told_of: &mut ToldOf, site: usize) -> Option<usize>
     ensures known { IsSome result → site < length told_of.old }
     ensures place { IfSome result (λ place. place ≡ slice_index told_of.old site) }
@@ -107,8 +107,8 @@ fn receipt_at(callers: &[Vec<Receipt>], site: usize, place: usize) -> Option<Rec
     }
 }
 
-/// Writes the lines, that the audit found nothing, and `more`. Where the writer answers an error, of whatever kind, or takes nothing, no
-/// more is written: a front of the text was.
+/// Writes the lines, the audit's yes, and `more`. Any error of the writer, or a write of nothing, ends it; then a front of the text was
+/// written.
 pub(crate) fn write_report<O: Write>(
     text: &Text,
     more: &str,

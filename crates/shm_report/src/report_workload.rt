@@ -21,10 +21,10 @@ use std::io::{Read, Write};
 use std::sync::Wait;
 use std::thread::Threads;
 
-/// Runs the workload that is read from `reader` over so many sites, whose network draws its losses and repeats from the seed; one caller
-/// for each site runs the site's lines in their order. What each line was answered is written to `writer` when an audit of all that was
-/// logged has found nothing; before that nothing is written. An error of the reader or the writer, of whatever kind, ends it: nothing is
-/// tried again; where the writer failed, a front of the report was written.
+/// Runs the workload that is read from `reader` over these sites, whose network draws its losses and repeats from the seed. One caller for
+/// each site runs the site's lines in order. When an audit of all logs has accepted them, it writes the answer to each line to `writer`;
+/// before that it writes nothing. Any error of the reader or the writer ends it, and nothing is tried again. Where the writer failed, a
+/// front of the report was written.
 pub fn report<R: Threads + Wait + Copy + Send + Sync + 'static, I: Read, O: Write>(
     rt: &R,
     alloc: Global,

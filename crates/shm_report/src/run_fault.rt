@@ -24,7 +24,7 @@ pub enum RunFault {
     /// Memory was refused when the logs were to be taken back.
     #[error("out of memory")]
     OutOfMemory,
-    /// The logs that were given back aren't those of so many sites, each its site's.
+    /// The logs that were given back aren't one of each of these sites, in order.
     #[error("other logs")]
     Logs,
 }

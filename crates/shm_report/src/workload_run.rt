@@ -16,9 +16,9 @@ use std::alloc::{AllocError, Global};
 use std::sync::Wait;
 use std::thread::Threads;
 
-/// Runs the workload over so many sites, whose network draws its losses and repeats from this seed. One caller for each site runs the
-/// site's lines in their order, in a thread of its own; at the end the threads have ended. A caller whose thread can't be started is told
-/// before anything else; then, where callers ended by faults, the first of these in the order of the lines.
+/// Runs the workload over these sites, whose network draws its losses and repeats from this seed. One caller for each site runs the site's
+/// lines in order, in a thread of its own; at the end the threads have ended. A caller whose thread can't be started comes before any other
+/// fault; then, of callers that ended by faults, the first in the order of the lines.
 pub fn run_workload<R: Threads + Wait + Copy + Send + Sync + 'static>(
     rt: &R,
     alloc: Global,
@@ -47,7 +47,7 @@ pub fn run_workload<R: Threads + Wait + Copy + Send + Sync + 'static>(
     run_outcome(alloc, sites, workload.pages, told, logs)
 }
 
-/// What came of the workload, where each caller came to its end, and the logs that were given back are those of so many sites.
+/// The result of the workload, where each caller finished, and the logs that were given back are those of these sites.
 fn run_outcome(
     alloc: Global,
     sites: Sites,
@@ -78,7 +78,7 @@ fn run_outcome(
     }
 }
 
-/// The same, where its logs are those of so many sites.
+/// The same, where its logs are those of these sites.
 fn if_matching(sites: Sites, pages: u32, ran: Ran) -> Result<Ran, RunFault>
     ensures same { IfOk result (λ matched. matched ≡ ran) }
     ensures logs { IfOk result (λ ran. AreLogsOf sites pages ran.logs.items) }

@@ -1,8 +1,8 @@
 use shm_model::Kind;
 use shm_place::{SiteId, SiteSet};
 
-/// What a manager's book shows: the owner, the sites that may have copies beside it, the number of the last transaction, and what the
-/// running one gives to whom.
+/// A view of a manager's book: the owner, the other sites that may have copies, the number of the last transaction, and what the running
+/// one gives to which site.
 #[derive(Clone, Copy)]
 pub struct BookView {
     pub owner: SiteId,

@@ -155,7 +155,7 @@ impl<A: Allocator + Copy> Site<A> {
         }
     }
 
-    /// The reply to an attach, which is given the least free number. A segment that was purged here isn't attached.
+    /// The reply to an attach: it gets the least free number. A segment that was purged here isn't attached.
     fn attach(&mut self, number: u64, id: SegId, attached: Attached) -> Result<Answer, AllocError>
         requires { IsSome (call_ended_by number (AttachedReply attached) self.old.calls.outstanding) }
         ensures step { IfOk result (λ answer. model.attached number id (AttachedReply attached) (record { id = id; size = attached.size; ro = attached.ro })

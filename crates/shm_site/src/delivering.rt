@@ -1,4 +1,4 @@
-//! What a site does with an envelope that is handed to it: one case for each kind of message, and of a note.
+//! Envelopes that are handed to a site: one case for each kind of message, and of note.
 ghost use Rattle.std.specs.Prelude.{◌≡◌, ◌<◌, true, false, IfOk, IfErr, OnErr};
 ghost use Rattle.shm_place.specs.Limits.{pages};
 ghost use Rattle.shm_model.specs.Message.{Of};
@@ -18,14 +18,14 @@ use shm_place::{PageId, SiteId};
 use std::alloc::Allocator;
 
 impl<A: Allocator + Copy> Site<A> {
-    /// Whether the envelope can't be for this site: it names another one or comes from none, or its message can't be this site's.
+    /// Checks that the envelope can't be for this site: it names another one or comes from none, or its message can't be this site's.
     pub fn foreign(&self, envelope: &Envelope<A>) -> bool
         ensures { result ≡ foreign self.now.sites self.now.me (envelope_of envelope.now) }
     {
         is_foreign(self.sites, self.me, envelope)
     }
 
-    /// Whether the envelope, which names this site, can't be for it all the same: it comes from none, or its message can't be this site's.
+    /// Checks that the envelope, which names this site, still can't be for it: it comes from no site, or its message can't be this site's.
     pub fn is_improper(&self, envelope: &Envelope<A>) -> bool
         requires { envelope.now.to ≡ self.now.me }
         ensures { result ≡ foreign self.now.sites self.now.me (envelope_of envelope.now) }
@@ -116,7 +116,7 @@ impl<A: Allocator + Copy> Site<A> {
         }
     }
 
-    /// Takes a note of a page, which is dropped where its segment was purged. Where memory is refused it comes back.
+    /// Takes a note of a page, or drops it where the page's segment was purged. Where memory is refused it comes back.
     fn on_note_of<O: Outbox<Envelope<A>>>(
         &mut self,
         from: SiteId,

@@ -11,7 +11,7 @@ use shm_model::Answer;
 use shm_parts::Envelope;
 use std::alloc::{AllocError, Allocator, Global};
 
-/// What a step made: what the site answers, and the envelopes that it sends, the first to send first.
+/// A step's outcome: what the site answers, and the envelopes that it sends, in order.
 #[derive(Drop)]
 pub struct Made<A: Allocator + Copy = Global> {
     pub answer: Answer,
@@ -36,7 +36,7 @@ impl<A: Allocator + Copy> Site<A> {
     }
 }
 
-/// The envelope that came back is given up.
+/// Gives up the envelope that came back.
 fn spend<A: Allocator + Copy>(envelope: Option<Envelope<A>>) -> AllocError {
     drop(envelope);
     AllocError

@@ -26,7 +26,7 @@ impl<A: Allocator + Copy> Site<A> {
         Site::of_parts(alloc, sites, me, holdings, table)
     }
 
-    /// A site where segment 0 has so many pages and is attached, to read and write, as attachment 0. Its home is site 0.
+    /// A site where segment 0 has this number of pages and is attached, to read and write, as attachment 0. The segment's home is site 0.
     pub fn preset(alloc: A, sites: Sites, me: SiteId, pages: u32) -> Result<Site<A>, AllocError>
         requires below { me < sites }
         requires from { 1 ≤ pages }
@@ -37,7 +37,7 @@ impl<A: Allocator + Copy> Site<A> {
         Site::with_segment(alloc, sites, me, pages, None)
     }
 
-    /// The same with at most so many pages held as copies.
+    /// The same with at most this many pages held as copies.
     pub fn framed(
         alloc: A,
         sites: Sites,

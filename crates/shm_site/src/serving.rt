@@ -59,7 +59,7 @@ fn most_sent(op: &Op) -> usize
     }
 }
 
-/// Sends what a home tells of a call: the reply, and a purge to every site where the call destroyed a segment.
+/// Sends a home's answer to a call: the reply, and a purge to every site where the call destroyed a segment.
 fn tell<A: Allocator + Copy, O: Outbox<Envelope<A>>>(
     sites: u32,
     me: SiteId,

@@ -1,4 +1,4 @@
-//! What a site shows: its segments, and what it has of a page. A page outside the limits has nothing to show.
+//! Shows a site's segments, and its view of a page. A page outside the limits has nothing to show.
 ghost use Rattle.std.specs.Prelude.{◌≡◌, ◌==◌, ◌&&◌, false, Some, None, if◌then◌else◌, is_some, not, IfSome};
 ghost use Rattle.shm_place.specs.Page.{in_limits, manager_of};
 ghost use Rattle.shm_model.specs.Access.{right};
@@ -87,7 +87,7 @@ fn view_of<A: Allocator + Copy>(book: &Book<A>) -> BookView
     }
 }
 
-/// What the book of a page shows that was never asked for.
+/// The view of a page's book before the first request.
 fn untouched_view(me: SiteId) -> BookView
     ensures { Shows result (untouched_book me) }
 {

@@ -44,7 +44,7 @@ impl<A: Allocator + Copy> Site<A> {
         }
     }
 
-    /// Whether the input hands over an envelope that can't be for this site.
+    /// Checks that the input hands over an envelope that can't be for this site.
     fn refuses(&self, input: &Input<A>) -> bool
         ensures { result ≡ is_foreign self.now.sites self.now.me (input_of input.now) }
     {

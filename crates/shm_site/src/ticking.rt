@@ -1,4 +1,4 @@
-//! What a site sends again at a tick, and what a restart takes from it.
+//! Ticks and restarts: what a site sends again, and what it loses.
 ghost use Rattle.std.specs.Prelude.{◌≡◌, ◌≤◌, ◌++◌, [], length, map, filter, IfOk, OnOk, OnErr};
 ghost use Rattle.std.specs.List.{flat_map, range_with_len};
 ghost use Rattle.shm_place.specs.SiteSet.{has};
@@ -21,7 +21,7 @@ use shm_parts::{BookNote, Envelope, Message, Outbox, to_manager};
 use shm_place::{PageId, SegId, SiteId, SiteSet, Sites};
 use std::alloc::{AllocError, Allocator};
 
-/// What a pending request asks for.
+/// The envelope of a pending request's Ask.
 fn ask_envelope<A: Allocator + Copy>(
     sites: Sites,
     me: SiteId,
@@ -35,8 +35,8 @@ fn ask_envelope<A: Allocator + Copy>(
 }
 
 impl<A: Allocator + Copy> Site<A> {
-    /// Sends again, in this order: the pending requests, what the running transactions ask for, the outstanding call, the purges. All
-    /// is listed first; then room is made for just so much. Where memory is refused nothing is sent.
+    /// Sends again, in this order: the pending requests, the orders of the running transactions, the outstanding call, the purges. It lists
+    /// all first, and then makes room for exactly that. Where memory is refused nothing is sent.
     pub(crate) fn tick<O: Outbox<Envelope<A>>>(&self, outbox: &mut O) -> Result<Answer, AllocError>
         ensures step { IfOk result (λ answer. StepsTo O.posted self.now self.now outbox.old outbox.new answer
             (model.tick self.now.sites self.now.me (site_of self.now))) }
@@ -72,7 +72,7 @@ impl<A: Allocator + Copy> Site<A> {
         Ok(())
     }
 
-    /// What the running transactions ask for.
+    /// Lists the orders of all running transactions.
     fn order_again(&self, list: &mut Vec<Envelope<A>, A>) -> Result<(), AllocError>
         ensures { OnOk result (map envelope_of list.new.items
             ≡ map envelope_of list.old.items ++ flat_map (model.orders_again self.now.me (site_of self.now)) (booked_of self.now.books)) }
@@ -85,7 +85,7 @@ impl<A: Allocator + Copy> Site<A> {
         Ok(())
     }
 
-    /// What the book's running transaction asks for.
+    /// Lists the orders of the book's running transaction.
     fn resend(
         &self,
         page: &PageId,

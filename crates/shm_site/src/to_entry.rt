@@ -37,7 +37,7 @@ impl<A: Allocator + Copy> Site<A> {
         Ok(self.answer_turn(page, sent, outbox))
     }
 
-    /// What the site does once the page's entry was turned.
+    /// Answers, once the page's entry has taken the note.
     fn answer_turn<O: Outbox<Envelope<A>>>(
         &mut self,
         page: &PageId,

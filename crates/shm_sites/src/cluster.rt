@@ -1,8 +1,8 @@
-//! Sites that run in threads: each site in its box under a lock of its own, with a channel that brings it what other sites send, and
-//! clients that load and store in the threads of their callers.
+//! Sites that run in threads: each site in its box under a lock of its own, with a channel from the other sites, and clients that load and
+//! store in the threads of their callers.
 //!
-//! A step is made under the site's own lock, and what it sends is sent after the lock was let go. So sites run at once. The network
-//! between their threads loses and repeats envelopes, by numbers that are drawn; no contract rests on what the channels bring.
+//! A site makes each step under its own lock, and sends after it has released the lock. So sites run at once. The network between their
+//! threads loses and repeats envelopes by random numbers; no contract rests on what the channels bring.
 mod access;
 mod client;
 mod client_fault;
@@ -55,7 +55,7 @@ impl<A: Allocator + Copy> Cluster<A> {
         self.shared.client(site)
     }
 
-    /// What gives clients, for threads to share.
+    /// The part that gives clients, for threads to share.
     pub fn shared(&self) -> &Shared<A>
         ensures { result.now ≡ arc_value self.now.shared }
     {

@@ -1,5 +1,5 @@
-//! What all that print or read have in common: the text of an answer, the names of states and messages, a text that grows line by line,
-//! and reading and writing where nothing is tried again.
+//! The parts that all programs which print or read share: the text of an answer, the names of states and messages, a text that grows line
+//! by line, and reading and writing that try nothing again.
 #![tactic(auto)]
 
 mod answer_text;

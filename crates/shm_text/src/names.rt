@@ -1,4 +1,4 @@
-//! What the states of a page and the messages are called.
+//! The names of a page's states and of messages.
 ghost use Rattle.std.specs.Prelude.{◌≡◌};
 ghost use Rattle.shm_parts.specs.Message.{message_of, note_of};
 ghost use Rattle.shm_text.specs.Names;
@@ -7,7 +7,7 @@ use shm_model::State;
 use shm_parts::{BookNote, EntryNote, Message, Note};
 use std::alloc::Allocator;
 
-/// What the state is called in which a site holds a page.
+/// The name of the state in which a site holds a page.
 pub fn state_name(state: State) -> &'static str
     ensures { result.now ≡ Names.state_name state }
 {
@@ -21,7 +21,7 @@ pub fn state_name(state: State) -> &'static str
     }
 }
 
-/// What a message is called.
+/// The name of a message.
 pub fn message_name<A: Allocator + Copy>(message: &Message<A>) -> &'static str
     ensures { result.now ≡ Names.message_name (message_of message.now) }
 {
@@ -34,7 +34,7 @@ pub fn message_name<A: Allocator + Copy>(message: &Message<A>) -> &'static str
     }
 }
 
-/// What a note of a page is called.
+/// The name of a note of a page.
 fn note_name<A: Allocator + Copy>(note: &Note<A>) -> &'static str
     ensures { result.now ≡ Names.note_name (note_of note.now) }
 {

@@ -1,5 +1,5 @@
-//! What lines are made of. Numbers, answers and the common replies are appended without a formatter, which takes longer; a reply to
-//! `stat`, and a refused call, by their `Display`.
+//! The parts of lines. Numbers, answers and the common replies are appended without a formatter, which takes longer. A reply to `stat`, and
+//! a refused call, are appended by their `Display`.
 ghost use Rattle.std.specs.Prelude.{◌≡◌, ◌++◌, OnOk, string_bytes};
 ghost use Rattle.std.specs.Fmt.{decimal};
 ghost use Rattle.shm_text.specs.Text.{answer_text, reply_text};

@@ -4,7 +4,7 @@ ghost use Rattle.shm_text.specs.Text.{people_text, stat_text, use_text};
 use shm_model::Stat;
 use std::fmt;
 
-/// What `stat` tells of a segment.
+/// The text of a segment's record.
 #[derive(Clone, Copy)]
 pub(crate) struct StatText(pub(crate) Stat);
 

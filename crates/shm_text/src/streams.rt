@@ -8,9 +8,9 @@ use std::io::{self, Read, Write};
 #[derive(Clone, Copy, Debug)]
 pub struct NotWritten;
 
-/// Reads once, into the front of a chunk, but no more than `most` bytes; 0 means that none are left.
+/// Reads once, into the front of a chunk, at most `most` bytes; 0 means the end.
 ///
-/// An error of any kind is answered as it came, an interruption too: nothing is tried again.
+/// It returns any error as it came, even an interruption: nothing is tried again.
 pub fn read_up_to<R: Read>(reader: &mut R, chunk: &mut [u8], most: usize) -> io::Result<usize>
     ensures most { IfOk result (λ count. count ≤ most) }
     ensures chunk { IfOk result (λ count. count ≤ length chunk.new) }

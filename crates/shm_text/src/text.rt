@@ -7,7 +7,7 @@ use std::fmt::Display;
 use std::marker::Model;
 use std::mem;
 
-/// Lines that were told. Each is made ready beside the text first, in room that is used again and again.
+/// The lines of an output. Each is made beside the text first, in room that is used again and again.
 #[derive(Drop)]
 pub struct Text<A: Allocator + Copy = Global> {
     told: String<A>,
@@ -23,7 +23,7 @@ impl<A: Allocator + Copy> Model for Text<A> {
 }
 
 impl<A: Allocator + Copy> Text<A> {
-    /// No text, with room for so many bytes, and for so many of a line. Where there is room nothing more is allocated.
+    /// An empty text, with room for this many bytes, and for this many of a line. While they suffice nothing more is allocated.
     pub fn new(alloc: A, bytes: usize, line_bytes: usize) -> Result<Text<A>, AllocError>
         ensures { IfOk result (λ text. text ≡ []) }
     {
@@ -32,8 +32,8 @@ impl<A: Allocator + Copy> Text<A> {
         Ok(Text { told, line })
     }
 
-    /// The room in which lines are made ready, with nothing in it. Whoever takes it makes one ready there, and gives it back by
-    /// [`Text::push_line`]; otherwise the next line is given new room.
+    /// The room in which lines are made, empty. Whoever takes it makes a line there, and gives it back by [`Text::push_line`]; otherwise
+    /// the next line gets new room.
     pub fn take_line(&mut self) -> String<A>
         ensures empty { string_bytes result ≡ [] }
         ensures same { self.new ≡ self.old }
@@ -64,21 +64,21 @@ impl<A: Allocator + Copy> Text<A> {
         self.told.push_str(self.line.as_str())
     }
 
-    /// All that was told.
+    /// The whole text.
     pub fn as_bytes(&self) -> &[u8]
         ensures { result.now ≡ self.now }
     {
         self.told.as_bytes()
     }
 
-    /// How many bytes were told.
+    /// The length of the text, in bytes.
     pub fn len(&self) -> usize
         ensures { result ≡ length self.now }
     {
         self.told.as_bytes().len()
     }
 
-    /// Forgets what was told. The room stays.
+    /// Empties the text. Keeps the room.
     pub fn clear(&mut self)
         ensures { self.new ≡ [] }
     {

@@ -8,9 +8,9 @@ use std::marker::Model;
 /// So few places are never swept.
 const FEW: usize = 32;
 
-/// Values under numbers that rise. A value that joins takes the next number; one that is taken out leaves its place empty until the empty
-/// places are swept, which are as many as the others then. So a value joins in constant time, and is found in as many steps as the
-/// logarithm of the number of places has, or at once where no number behind it lacks its place.
+/// Values under rising numbers. A value that joins takes the next number. One that is taken out leaves its place empty until the empty
+/// places are swept, when half of the places are empty. So a value joins in constant time. It is found in logarithmic time, or at once
+/// where every later number has its place.
 #[derive(Drop)]
 pub struct ByNumber<V: Drop, A: Allocator + Copy = Global> {
     pub(crate) places: Vec<Place<V>, A>,
@@ -73,7 +73,7 @@ impl<V: Drop, A: Allocator + Copy> ByNumber<V, A> {
         self.places[at].value.as_ref()
     }
 
-    /// Takes the value out, and tells at which place it was, which stays.
+    /// Takes the value out, and answers its place, which stays.
     #[inline(always)]
     pub(crate) fn take(&mut self, number: u64) -> Option<(usize, V)>
         ensures some { IfSome result (λ r. value_of number self.old.places ≡ Some r.1) }
@@ -146,7 +146,7 @@ impl<V: Drop, A: Allocator + Copy> ByNumber<V, A> {
         self.next = next;
     }
 
-    /// Makes room for so many values.
+    /// Makes room for this many values.
     pub(crate) fn reserve(&mut self, additional: usize) -> Result<(), AllocError>
         ensures room { OnOk result (additional ≤ self.new.spare) }
         ensures succeeds { additional ≤ self.old.spare → IsOk result }
@@ -157,7 +157,7 @@ impl<V: Drop, A: Allocator + Copy> ByNumber<V, A> {
         self.places.reserve(additional)
     }
 
-    /// Puts the value under a number that was given before, in the place of what is there. There is room for it.
+    /// Puts the value under a number that was used before, in the place of what is there. There is room for it.
     pub(crate) fn put(&mut self, number: u64, value: V)
         requires room { 0 < self.old.spare }
         requires given { number < self.old.next }
@@ -192,7 +192,7 @@ impl<V: Drop, A: Allocator + Copy> ByNumber<V, A> {
         }
     }
 
-    /// Forgets the values from this number on, which is the next one then.
+    /// Forgets the values from this number on, which is then the next one.
     pub(crate) fn forget_from(&mut self, first: u64)
         ensures value { (k : ℕ) → value_of k self.new.places ≡ (if nat_le first k then None else value_of k self.old.places) }
         ensures next { self.new.next ≡ first }
@@ -203,7 +203,7 @@ impl<V: Drop, A: Allocator + Copy> ByNumber<V, A> {
         self.next = first;
     }
 
-    /// Gives the empty places up, where they are as many as the others.
+    /// Gives the empty places up, if they are as many as the others.
     #[inline(always)]
     pub(crate) fn sweep(&mut self)
         ensures value { (k : ℕ) → value_of k self.new.places ≡ value_of k self.old.places }

@@ -1,4 +1,4 @@
-//! What the network does with an envelope: it hands it over, once or again, or loses it.
+//! Deliveries, repeats and losses of an envelope.
 ghost use Rattle.std.specs.Prelude.{◌≡◌, false, true, IfOk, OnErr};
 ghost use Rattle.shm_model.specs.Message as input;
 ghost use Rattle.shm_model.specs.World as model;
@@ -53,7 +53,7 @@ impl<A: Allocator + Copy> World<A> {
         }
     }
 
-    /// What the repeat of an envelope answers for whose bytes memory was refused: it may be refused anyway.
+    /// The answer to a repeat of an envelope for whose bytes memory was refused: it may be refused anyway.
     fn answer_without_copy(&self, envelope: &Envelope<A>) -> Result<Answer, AllocError>
         requires { holds_page envelope.now.message ≡ true }
         ensures step { (w : model.World) → StandsFor self.now w

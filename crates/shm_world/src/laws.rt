@@ -1,4 +1,4 @@
-//! What is proved of every run: each law is the contract of a function without parameters, which does nothing.
+//! Laws of every run: each is the contract of a function without parameters, which does nothing.
 ghost use Rattle.std.specs.Prelude.{List};
 ghost use Rattle.shm_model.specs.declared.event.Event.{Event};
 ghost use Rattle.shm_model.specs.Inputs.{OwnInputs};
@@ -15,7 +15,7 @@ pub fn every_run_is_legal_and_coherent()
     shm_laws::every_run_is_legal_and_coherent();
 }
 
-/// What is above its receiver's number belongs to the transaction that runs at the page's manager.
+/// A number above its receiver's belongs to the transaction that runs at the page's manager.
 pub fn numbers_tell_what_is_late()
     ensures { (o : Opening) (events : List Event) → IsOpening o → NumbersTell (run o events).world }
 {
@@ -36,7 +36,7 @@ pub fn copies_are_invalidated_first()
     shm_laws::copies_are_invalidated_first();
 }
 
-/// What may be read or installed, or is kept for the site that a page was handed to, is what was stored last.
+/// Bytes that may be read or installed, or are kept for the site that a page was handed to, are those stored last.
 pub fn bytes_are_the_last_stored()
     ensures { (o : Opening) (events : List Event) → IsOpening o → BytesAreLast o (run o events) }
 {
@@ -50,8 +50,7 @@ pub fn sites_run_on_their_own_inputs()
     shm_laws::sites_run_on_their_own_inputs();
 }
 
-/// What is promised of every run: it is legal and coherent, each call was executed once, attachments are counted, and nothing alive was
-/// purged.
+/// The promise of every run: it is legal and coherent, each call was executed once, attachments are counted, and nothing alive was purged.
 pub fn every_run_keeps_the_promise()
     ensures { (o : Opening) (events : List Event) → IsOpening o → Promised o events }
 {

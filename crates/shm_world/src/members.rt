@@ -1,4 +1,4 @@
-//! What is done with the sites, each at its number.
+//! The sites, each at its number.
 ghost use Rattle.std.specs.Prelude.{◌≡◌, length, [], false, true, ◌<◌, Some, is_some, map, slice_get, slice_set, IfErr, IfOk, IfSome, OnErr};
 ghost use Rattle.shm_world.specs.Seats.{Seated};
 ghost use Rattle.std.specs.List.{range_with_len};
@@ -138,7 +138,7 @@ impl<A: Allocator + Copy> Members<A> {
         self.sites[site.0 as usize].deliver_addressed(envelope, outbox)
     }
 
-    /// Whether the site that the envelope names refuses it as foreign.
+    /// Checks that the site that the envelope names refuses it as foreign.
     pub(crate) fn is_foreign(&self, envelope: &Envelope<A>) -> bool
         requires { envelope.now.to < self.now.count }
         ensures { result ≡ foreign self.now.count envelope.now.to (envelope_of envelope.now) }
@@ -160,7 +160,7 @@ impl<A: Allocator + Copy> Members<A> {
         }
     }
 
-    /// Puts a site in its seat, which is that of the number beside it, in the place of the one that sits there.
+    /// Puts a site in its seat, that of the number beside it, in place of the one that sits there.
     pub(crate) fn put(&mut self, kept: (SiteId, Site<A>))
         requires below { kept.0 < self.old.count }
         requires sites { kept.1.sites ≡ self.old.count }

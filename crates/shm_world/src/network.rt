@@ -1,4 +1,4 @@
-//! The network between sites: the envelopes that are on their way, each under its number. It loses, repeats and reorders as it is told.
+//! The network between sites: the envelopes that are on their way, each under its number. Events make it lose, repeat and reorder them.
 ghost use Rattle.std.specs.Prelude.{◌≡◌, ℕ, ◌+◌, ◌<◌, ◌≤◌, Bool, false, true, [], List, None, length, slice_get, Some, is_some, IfNone, IfOk, IfSome, IsOk, OnOk};
 ghost use Rattle.std.specs.Option.{option_copied};
 ghost use Rattle.shm_model.specs.Basics.{at};
@@ -9,8 +9,8 @@ use crate::by_number::ByNumber;
 use shm_parts::{Envelope, Outbox};
 use std::alloc::{AllocError, Allocator, Global};
 
-/// The envelopes that are on their way, each under its number, and how many were ever sent. A place stands empty while its envelope is
-/// handed to a site, which may give it back.
+/// The envelopes that are on their way, each under its number, and how many were ever sent. A place is empty while a site has its envelope,
+/// as it may give it back.
 #[derive(Drop)]
 pub struct Network<A: Allocator + Copy = Global> {
     pub(crate) envelopes: ByNumber<Envelope<A>, A>,
@@ -20,7 +20,7 @@ impl<A: Allocator + Copy> Network<A> {
     ghost use Rattle.shm_world.specs.Network.{envelope_at, on_way, sent_before, Carries, StandsAt};
     ghost use Rattle.shm_world.specs.Undo.{with_envelope};
 
-    /// Nothing was sent.
+    /// No envelope was sent.
     pub fn new(alloc: A) -> Network<A>
         ensures { Carries result [] (λ _. false) }
     {
@@ -44,7 +44,7 @@ impl<A: Allocator + Copy> Network<A> {
         self.envelopes.get(number)
     }
 
-    /// Takes the envelope out of its place, which stays, and tells where that is. None: it isn't on its way, and nothing changes.
+    /// Takes the envelope out of its place, which stays, and answers the place. None: it isn't on its way, and nothing changes.
     #[inline(always)]
     pub fn take_out(&mut self, number: u64) -> Option<(usize, Envelope<A>)>
         ensures envelope { IfSome result (λ taken. on_way self.old number ≡ Some (envelope_of taken.1)) }
@@ -64,7 +64,7 @@ impl<A: Allocator + Copy> Network<A> {
         self.envelopes.put_back(place, envelope);
     }
 
-    /// Gives up the places that stand empty, where they are many. What is carried stays.
+    /// Gives up the empty places, if they are many. Keeps the envelopes.
     #[inline(always)]
     pub fn sweep(&mut self)
         ensures { (sent : List model.Envelope) (gone : ℕ → Bool) → Carries self.old sent gone → Carries self.new sent gone }
@@ -72,7 +72,7 @@ impl<A: Allocator + Copy> Network<A> {
         self.envelopes.sweep();
     }
 
-    /// Gives the envelope up, and tells whether it was on its way.
+    /// Gives the envelope up, and answers whether it was on its way.
     pub fn lose(&mut self, number: u64) -> bool
         ensures was { result ≡ is_some (on_way self.old number) }
         ensures after { (sent : List model.Envelope) (gone : ℕ → Bool) → Carries self.old sent gone → Carries self.new sent (at gone number true) }
@@ -87,7 +87,7 @@ impl<A: Allocator + Copy> Network<A> {
         }
     }
 
-    /// Makes room for so many envelopes to be put back on their way. What is carried stays.
+    /// Makes room to put this many envelopes back on their way. Keeps the envelopes.
     pub(crate) fn make_room(&mut self, count: usize) -> Result<(), AllocError>
         ensures room { OnOk result (count ≤ self.new.envelopes.spare) }
         ensures succeeds { count ≤ self.old.envelopes.spare → IsOk result }
@@ -97,8 +97,8 @@ impl<A: Allocator + Copy> Network<A> {
         self.envelopes.reserve(count)
     }
 
-    /// Goes back to when so many had been sent, and puts the envelope on its way again that was taken off it, one of these, for which
-    /// there is room.
+    /// Goes back to when this many had been sent, and puts the envelope that was taken off its way back on it. That is one of these, and
+    /// there is room for it.
     pub(crate) fn go_back(&mut self, sent: u64, taken: Option<(u64, Envelope<A>)>)
         requires { 0 < self.old.envelopes.spare }
         ensures live { IfSome taken (λ t. t.0 < sent) → (k : ℕ) → on_way self.new k ≡ with_envelope taken (sent_before sent self.old) k }

@@ -21,7 +21,7 @@ impl<A: Allocator + Copy> World<A> {
         World::begin(alloc, &Opening::new(sites))
     }
 
-    /// The same with segment 0 of so many pages, which every site has attached, to read and write, as attachment 0.
+    /// The same with segment 0 of this number of pages, which every site has attached, to read and write, as attachment 0.
     pub fn preset(alloc: A, sites: Sites, pages: u32) -> Result<World<A>, AllocError>
         requires from { 1 ≤ pages }
         requires to { pages ≤ PAGES }
@@ -32,7 +32,7 @@ impl<A: Allocator + Copy> World<A> {
         World::begin(alloc, &Opening::preset(sites, pages))
     }
 
-    /// The same with at most so many pages held as copies at each site.
+    /// The same with at most this many pages held as copies at each site.
     pub fn framed(alloc: A, sites: Sites, pages: u32, frames: u32) -> Result<World<A>, AllocError>
         requires from { 1 ≤ pages }
         requires to { pages ≤ PAGES }

@@ -14,12 +14,12 @@ use shm_site::Input;
 use std::alloc::{AllocError, Allocator};
 
 impl<A: Allocator + Copy> World<A> {
-    /// One event. Where memory is refused nothing changes. A load or store that has the right takes no memory, nor does a restart or a loss.
-    /// Every other refusal comes before that for memory: what would be refused anyway is never refused for it.
+    /// Makes one event. Where memory is refused nothing changes. A load or store that has the right takes no memory, nor does a restart or
+    /// a loss. Every other refusal comes before that for memory.
     ///
-    /// The headline: for every list of events that leads from an opening to the world as it was, the world as it is now and the answer are
-    /// those of the run of that list followed by this event. What is promised holds of that run, and a byte that is answered was stored
-    /// last to its place by the list.
+    /// The headline: take any list of events that leads from an opening to the world as it was. The world as it is now and the answer are
+    /// those of the run of that list followed by this event. The promise holds of that run, and a byte that is answered was stored last to
+    /// its place by the list.
     #[inline(always)]
     pub fn step(&mut self, event: Event) -> Result<Answer, AllocError>
         ensures next { (w : model.World) → StandsFor self.old w → IfOk result (λ answer. Went self.new (model.next w event) answer) }
@@ -32,13 +32,12 @@ impl<A: Allocator + Copy> World<A> {
         self.apply(&event)
     }
 
-    /// A list of events: their answers join the others. Where memory is refused at an event, the world stands after the events before
+    /// Makes a list of events: their answers join the others. Where memory is refused at an event, the world stands after the events before
     /// it, and the answers that joined are theirs.
     ///
-    /// The headline: for every list of events that leads from an opening to the world as it was, the world as it is now and the answers
-    /// that joined are those of the run of that list followed by the events that were made: all of them, or where memory was refused the
-    /// first so many. What is promised holds of that run, and each byte that joined was stored last to its place by the events before its
-    /// own.
+    /// The headline: take any list of events that leads from an opening to the world as it was. The world as it is now and the answers that
+    /// joined are those of the run of that list followed by the events that were made: all of them or, where memory was refused, the first
+    /// ones. The promise holds of that run, and each byte that joined was stored last to its place by the events before its own.
     pub fn run(&mut self, events: &[Event], out: &mut Vec<Answer, A>) -> Result<(), AllocError>
         ensures whole { (w : model.World) → StandsFor self.old w
             → OnOk result (StandsFor self.new (after w events.now) × (out.new.items ≡ out.old.items ++ answers w events.now)) }

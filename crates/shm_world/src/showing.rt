@@ -1,4 +1,4 @@
-//! What a world shows of itself. Nothing here takes memory.
+//! Shows a world. Nothing here takes memory.
 ghost use Rattle.std.specs.Prelude.{◌≡◌, ◌&&◌, Some, is_some, length, slice_get, IfSome};
 ghost use Rattle.std.specs.Option.{option_copied};
 ghost use Rattle.shm_place.specs.Page.{in_limits, manager_of};

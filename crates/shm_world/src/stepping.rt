@@ -109,7 +109,7 @@ impl<A: Allocator + Copy> World<A> {
     }
 }
 
-/// What came back where memory was refused is given up.
+/// Gives up the envelope that came back where memory was refused.
 fn give_up<A: Allocator + Copy>(back: Option<Envelope<A>>) -> AllocError {
     drop(back);
     AllocError

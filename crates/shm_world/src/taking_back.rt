@@ -14,8 +14,8 @@ use shm_place::SiteId;
 use std::alloc::{AllocError, Allocator};
 
 impl<A: Allocator + Copy> World<A> {
-    /// What this event may change, as it is now. Kept while the event is made, it takes the event back. Only the site that is stepped is
-    /// copied, and for a tick none.
+    /// Keeps what this event may change, as it is now. After the event, this takes it back. Copies only the site that is stepped, and none
+    /// for a tick.
     pub fn undo_for(&self, event: &Event) -> Result<Undo<A>, AllocError>
         ensures back { (w : model.World) → StandsFor self.now w → IfOk result (λ undo. LeadsBack undo (model.next w event.now).world w) }
         ensures memory { (w : model.World) → StandsFor self.now w → OnErr result (undo_may_grow w event.now ≡ true) }
@@ -32,7 +32,7 @@ impl<A: Allocator + Copy> World<A> {
         }
     }
 
-    /// Makes room for so many events to be taken back. Where memory is refused, or not, the world is as before.
+    /// Makes room to take this many events back. The world stays as it is, even where memory is refused.
     pub fn make_room(&mut self, count: usize) -> Result<(), AllocError>
         ensures room { OnOk result (count ≤ room_in self.new) }
         ensures succeeds { count ≤ room_in self.old → IsOk result }
@@ -42,7 +42,7 @@ impl<A: Allocator + Copy> World<A> {
         self.network.make_room(count)
     }
 
-    /// Takes back the event that was made last, by what was kept before it. It takes no memory, but of the room that was made.
+    /// Takes back the event that was made last, by what was kept before it. It takes no memory except the room that was made.
     pub fn take_back(&mut self, undo: Undo<A>)
         requires room { 0 < room_in self.old }
         requires fits { Fits self.old.members.count undo.site }

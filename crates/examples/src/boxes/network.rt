@@ -20,7 +20,7 @@ impl Network {
         }
     }
 
-    /// Takes an envelope, and tells how often it will arrive.
+    /// Takes an envelope, and answers how often it will arrive.
     pub fn post(&mut self, envelope: &Envelope, source: Stamp) -> Result<u32> {
         let is_page = kind_of(envelope) == "Page";
         self.pages = self.pages.saturating_add(u32::from(is_page));
@@ -41,7 +41,7 @@ impl Network {
     }
 }
 
-/// What an envelope's message is called.
+/// The name of an envelope's message.
 pub fn kind_of(envelope: &Envelope) -> &'static str {
     let Message::Of { note, .. } = &envelope.message else {
         return "another message";

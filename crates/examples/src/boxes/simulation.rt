@@ -11,7 +11,7 @@ use shm_sites::{Event, Input, Receipt, SiteBox, SiteLog, Stamp, audit_complete, 
 use std::alloc::Global;
 use std::io::Write;
 
-/// Sites in their boxes, the network between them, and what was told of loads and stores.
+/// Sites in their boxes, the network between them, and the receipts of loads and stores.
 #[derive(Drop)]
 pub struct Simulation {
     alloc: Global,
@@ -22,7 +22,7 @@ pub struct Simulation {
 }
 
 impl Simulation {
-    /// So many sites that share one page, to which nothing has happened yet.
+    /// These sites, which share one page. Nothing has happened yet.
     pub fn new(alloc: Global, sites: Sites) -> Result<Simulation> {
         let mut boxes = Vec::new(alloc);
         for site in 0..sites.count() {
@@ -37,7 +37,7 @@ impl Simulation {
         })
     }
 
-    /// One step of this site. Prints what it is given, what it answers, and how often what it sends will arrive.
+    /// Makes one step of this site. Prints its input, its answer, and how often what it sends will arrive.
     pub fn step<W: Write>(
         &mut self,
         out: &mut W,
@@ -78,7 +78,7 @@ impl Simulation {
         Ok(())
     }
 
-    /// Puts the steps of all boxes into one order. In it memory is one plain memory, and what was told of loads and stores holds.
+    /// Puts the steps of all boxes into one order, in which memory is one plain memory and the receipts of loads and stores hold.
     pub fn audit(self) -> Result<Vec<Event>>
         ensures { IfOk result (λ events. IsAudited (Preset self.sites 1) (logs_of (map (λ held. held.log) self.boxes.items))
             (receipts_of self.receipts.items ∷ []) events.items) }
@@ -93,7 +93,7 @@ impl Simulation {
     }
 }
 
-/// The same of logs, and of what a single caller was told.
+/// The same of logs, and of a single caller's receipts.
 fn audit_logs(
     alloc: Global,
     sites: Sites,

@@ -11,8 +11,8 @@ use shm_place::Sites;
 use shm_sites::{Receipt, SiteLog, audit_complete, logs_match};
 use std::alloc::Global;
 
-/// Where it answers Ok, there is one order of all steps in which memory is one plain memory and each receipt holds, and each
-/// access that a site completed has its receipt.
+/// Where it answers Ok, there is one order of all steps in which memory is one plain memory and each receipt holds, and each access that a
+/// site completed has its receipt.
 pub fn audit(alloc: Global, sites: Sites, logs: &[SiteLog], callers: &[Vec<Receipt>]) -> Result<()>
     ensures sound { OnOk result ((events : List Event) × IsAudited (Preset sites 1) (logs_of logs.now) (callers_of callers.now) events) }
     ensures complete { OnOk result (AllTold (logs_of logs.now) (callers_of callers.now)) }

@@ -10,7 +10,7 @@ use thiserror::Error;
 /// How often each caller adds 1.
 const TIMES: u32 = 50;
 
-/// What a caller was told, or why it ended.
+/// A caller's receipts, or why it ended.
 pub type Told = Result<Vec<Receipt>, CallerFault>;
 
 /// Why a caller ended early.
@@ -45,7 +45,7 @@ pub fn count_all<R: Threads + Wait + Sync>(
     )
 }
 
-/// Adds 1 to the byte whose offset is the site's number, so many times.
+/// Adds 1 to the byte whose offset is the site's number, this many times.
 fn count<R: Wait>(rt: &R, alloc: Global, shared: &Shared, site: SiteId) -> Told {
     let Ok(client) = shared.client(site) else {
         return Err(CallerFault::NoSuchSite(site));

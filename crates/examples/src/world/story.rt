@@ -10,7 +10,7 @@ use shm_world::{Answer, Event, World};
 use std::alloc::Global;
 use std::io::Write;
 
-/// A world, and how many events of it were told.
+/// A world, and how many of its events were printed.
 #[derive(Drop)]
 pub struct Story {
     alloc: Global,
@@ -19,7 +19,7 @@ pub struct Story {
 }
 
 impl Story {
-    /// Nothing was told yet.
+    /// No event is printed yet.
     pub fn new(alloc: Global, world: World) -> Story
         ensures { result.world ≡ world }
     {
@@ -32,8 +32,8 @@ impl Story {
 
     /// Makes one event of the world, and prints a line: what it is in words, its number, the answer, and the envelopes that were sent.
     ///
-    /// Where a list of events led to the world as it was, the world as it is now and the answer are those of that list followed by this
-    /// event, of which the promise holds; and a byte that is answered was stored last to its place by that list.
+    /// Take any list of events that led to the world as it was. The world as it is now and the answer are those of that list followed by
+    /// this event, and the promise holds of it. A byte that is answered was stored last to its place by that list.
     pub fn tell<W: Write>(&mut self, out: &mut W, said: &str, event: Event) -> Result<Answer>
         ensures headline { (o : model.Opening) (before : List Event) → StandsFor self.old.world (model.run o before).world
             → IfOk result (λ answer. Led o before event self.new.world answer) }

@@ -26,7 +26,7 @@ pub(crate) fn tell_copies<A: Allocator>(
     out.push_str("-")
 }
 
-/// Tells a site, if it may have a copy: behind a comma, if some were told before.
+/// Prints a site, if it may have a copy: behind a comma, if others were printed before.
 fn tell_copy<A: Allocator>(
     out: &mut String<A>,
     site: u32,

@@ -1,4 +1,4 @@
-//! What is told of a page.
+//! The text of a page.
 ghost use Rattle.std.specs.Prelude.{◌≡◌, ◌++◌, Option, Some, IfSome, OnOk, is_some, string_bytes};
 ghost use Rattle.shm_model.specs.Book.{Book, Running};
 ghost use Rattle.shm_model.specs.Site.{Site};

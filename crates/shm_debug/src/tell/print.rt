@@ -28,7 +28,7 @@ pub fn print_answer<A: Allocator + Copy>(
     Ok(text.into_bytes())
 }
 
-/// What is told of a page, without a line's number and its line feed.
+/// The text of a page, without a line's number and its line feed.
 pub fn print_page<A: Allocator + Copy>(
     alloc: A,
     world: &World<A>,

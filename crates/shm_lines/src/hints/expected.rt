@@ -1,6 +1,6 @@
 use std::fmt;
 
-/// What a word of a line stands for.
+/// The meaning of a word in a line.
 #[derive(Clone, Copy, Debug, PartialEq, Eq)]
 pub enum Word {
     Verb,
@@ -38,7 +38,7 @@ pub enum Word {
     OffsetBelow(u32),
 }
 
-/// What could stand where a line can't be read on.
+/// What could stand where a line goes wrong.
 #[derive(Clone, Copy, Debug, PartialEq, Eq)]
 pub enum Expected {
     /// This word, or the rest of it.

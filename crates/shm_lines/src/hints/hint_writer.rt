@@ -9,8 +9,8 @@ const BEFORE: usize = 72;
 /// The most bytes of a line that are shown from there on.
 const AFTER: usize = 40;
 
-/// Writes the line, below it a caret under the byte that can't be read on, and what could stand there. Of a long line the part round that
-/// byte is shown, with `..` where something is left out; a byte that isn't printable ASCII is shown as `?`.
+/// Writes the line, below it a caret under the first byte that doesn't fit, and what could stand there. Of a long line it shows the part
+/// round that byte, with `..` where something is left out. It shows a byte that isn't printable ASCII as `?`.
 pub fn write_hint<W: Write>(writer: &mut W, line: &[u8], hint: &Hint) -> io::Result<()> {
     let at = hint.at.min(line.len());
     let start = if at > BEFORE { at - BEFORE } else { 0 };

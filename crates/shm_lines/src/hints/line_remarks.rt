@@ -76,7 +76,7 @@ fn remark_unread(is_of_workload: bool) -> Option<Remark>
     None
 }
 
-/// Says what a line is that can be read, and may stand there or not.
+/// The remark on a line that can be read, by whether it is allowed there.
 fn remark_on_place(stands: bool) -> Remark
     ensures { result ≡ said.place_remark stands }
 {

@@ -7,8 +7,8 @@ use std::io::{self, Read};
 /// The most bytes that are read at once.
 const BLOCK: usize = 8192;
 
-/// A reader that gives what another gives, at most 8,192 bytes at once, and remembers the lines that it gave last: those of the last read
-/// that gave any, and the one that stood open before it. It takes some 8 KB, however much is read. Which line it recalls isn't proved.
+/// A reader that gives what another gives, at most a block at once, and remembers the lines that it gave last: those of the last read that
+/// gave any, and the one that was open before it. It takes some 8 KB, however much is read. Which line it recalls isn't proved.
 #[derive(Drop)]
 pub struct RecallingReader<R> {
     reader: R,

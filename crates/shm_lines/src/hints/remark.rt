@@ -1,11 +1,11 @@
 use std::fmt;
 
-/// What a wrong line seems to be.
+/// A guess at what a wrong line was meant to be.
 #[derive(Clone, Copy, Debug, PartialEq, Eq)]
 pub enum Remark {
     /// It has no byte.
     Blank,
-    /// It begins with `#` or `/`, as a comment does elsewhere.
+    /// It begins with `#` or `/`, as comments do elsewhere.
     Comment,
     /// It ends with a carriage return.
     CarriageReturn,
@@ -15,9 +15,9 @@ pub enum Remark {
     Unended,
     /// It is an access, so no line feed ended it, or it is beyond the last site or page.
     Outside,
-    /// It is a workload's line, and stands in a script.
+    /// It is a workload's line in a script.
     OfWorkload,
-    /// It is a script's line, and stands in a workload.
+    /// It is a script's line in a workload.
     OfScript,
 }
 

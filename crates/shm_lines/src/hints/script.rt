@@ -11,7 +11,7 @@ use crate::parse_line;
 /// Finds where a line of a script goes wrong. A right line has no hint.
 ///
 /// Proved: which lines have a hint, and that it lies within the line or at its end. Not proved, only shown by examples in tests: that some
-/// right line begins with the bytes before it, and none with these and the byte there; and that what is expected could stand there.
+/// right line begins with the bytes before it, but none with these and the byte there; and that what is expected could stand there.
 pub fn hint_of_script_line(line: &[u8]) -> Option<Hint>
     ensures right { IfNone result (IsSome (line_of line.now)) }
     ensures wrong { IfSome result (λ hint. line_of line.now ≡ None) }

@@ -20,8 +20,8 @@ pub fn hint_of_first_line(line: &[u8]) -> Option<Hint>
     }
 }
 
-/// Finds where a further line of a workload goes wrong: an access at one of so many sites, where segment 0 has so many pages. A right line
-/// has no hint.
+/// Finds where a further line of a workload goes wrong. A right line, an access at one of these sites to one of this many pages of segment
+/// 0, has no hint.
 pub fn hint_of_access_line(sites: Sites, pages: u32, line: &[u8]) -> Option<Hint>
     requires { pages ≤ PAGES }
     ensures right { IfNone result (IsSome (said.access_of sites pages line.now)) }

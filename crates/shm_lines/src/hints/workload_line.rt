@@ -71,7 +71,7 @@ fn store(sites: Sites, pages: u32, words: Words<'_>) -> Option<WorkloadAccess>
     })
 }
 
-/// Checks that there is such a site, and a byte at this offset of so many pages.
+/// Checks that there is such a site, and that the offset lies inside the pages.
 fn is_inside(sites: Sites, pages: u32, site: u32, offset: u32) -> bool
     requires { pages ≤ PAGES }
     ensures { result ≡ said.is_inside sites pages site offset }

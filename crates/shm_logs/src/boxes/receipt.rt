@@ -1,4 +1,4 @@
-//! What a caller is told of a step. Receipts are made in `taking`, where a box takes the step, and nowhere else.
+//! A caller's receipt of a step. Only a box makes receipts, where it takes the step.
 mod box_take;
 
 use crate::boxes::step::Step;
@@ -6,7 +6,7 @@ use shm_model::{Answer, Asked};
 use shm_place::SiteId;
 use std::alloc::Allocator;
 
-/// What a caller is told of a step that a box took.
+/// A caller's record of a step that a box took.
 #[derive(Clone, Copy, Debug, PartialEq, Eq)]
 pub struct Receipt {
     site: SiteId,
@@ -54,7 +54,7 @@ impl Receipt {
         self.asked
     }
 
-    /// What the step answered.
+    /// The step's answer.
     pub fn answer(&self) -> Answer
         ensures { result ≡ (receipt_of self.now).answer }
     {

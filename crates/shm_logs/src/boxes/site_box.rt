@@ -8,7 +8,7 @@ use shm_place::{PAGES, SiteId, Sites};
 use shm_site::Site;
 use std::alloc::{AllocError, Allocator, Global};
 
-/// A site that logs every step that it makes. By its type the site stands where its log leaves it, and the clock is the stamp of the last
+/// A site that logs every step that it makes. By its type the site's state is that after its log, and the clock is the stamp of the last
 /// step, or 0.
 #[derive(Drop)]
 pub struct SiteBox<A: Allocator + Copy = Global> {
@@ -26,8 +26,8 @@ impl<A: Allocator + Copy> SiteBox<A> {
     ghost use Rattle.shm_logs.specs.Boxes.Box.{new_box};
     ghost use Rattle.shm_logs.specs.Boxes.SiteBox.{box_of};
 
-    /// A site of so many in its box, where segment 0 has so many pages and is attached, to read and write, as attachment 0. Its home is
-    /// site 0. The log is empty and the clock 0.
+    /// One of these sites in its box, where segment 0 has this number of pages and is attached, to read and write, as attachment 0. The
+    /// segment's home is site 0. The log is empty and the clock 0.
     pub fn new(alloc: A, sites: Sites, me: SiteId, pages: u32) -> Result<SiteBox<A>, AllocError>
         requires below { me < sites }
         requires from { 1 ≤ pages }
@@ -42,7 +42,7 @@ impl<A: Allocator + Copy> SiteBox<A> {
         })
     }
 
-    /// The site, which stands where the log leaves it.
+    /// The site, in the state after its log.
     pub fn site(&self) -> &Site<A>
         ensures site { site_of result.now ≡ (box_of self.now).site }
         ensures stands { site_of result.now ≡ left_by_log self.now.log }

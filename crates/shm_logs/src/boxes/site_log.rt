@@ -8,8 +8,8 @@ use crate::boxes::step::Step;
 use shm_place::{PAGES, SiteId, Sites};
 use std::alloc::{AllocError, Allocator, Global};
 
-/// What a site did, the first step first. By its type the log fits: each step answered and sent what the site, which began with segment 0
-/// attached, answers and sends to these inputs.
+/// The steps of a site, the first one first. By its type the log fits: each step answered and sent what the site, which began with segment
+/// 0 attached, answers and sends to these inputs.
 #[derive(Drop)]
 pub struct SiteLog<A: Allocator + Copy = Global> {
     sites: Sites,
@@ -27,7 +27,7 @@ impl<A: Allocator + Copy> SiteLog<A> {
     ghost use Rattle.shm_model.specs.Log.{is_logged, outcome_of};
     ghost use Rattle.shm_logs.specs.Boxes.SiteLog.{opening_of, steps_of, tells_next, HasRoom, SameOpening};
 
-    /// No steps yet, of a site of so many where segment 0 has so many pages.
+    /// No steps yet, of one of these sites with this number of pages in segment 0.
     pub(crate) fn new(alloc: A, sites: Sites, me: SiteId, pages: u32) -> SiteLog<A>
         requires below { me < sites }
         requires from { 1 ≤ pages }
@@ -92,7 +92,7 @@ impl<A: Allocator + Copy> SiteLog<A> {
         self.steps.len()
     }
 
-    /// Whether there are none.
+    /// Checks that there are none.
     pub fn is_empty(&self) -> bool
         ensures { result ≡ (length (steps_of self.now) == 0) }
     {

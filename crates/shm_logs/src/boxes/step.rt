@@ -6,14 +6,14 @@ use std::alloc::{Allocator, Global};
 /// One step of a site, as its log has it.
 #[derive(Drop)]
 pub struct Step<A: Allocator + Copy = Global> {
-    /// What the site was given.
+    /// The site's input.
     pub input: Input<A>,
     /// Above those of the site's steps before it, and above that of the step which sent what was handed over.
     pub stamp: u64,
     /// Where the envelope that was handed over was sent.
     pub source: Stamp,
-    /// What the site answered.
+    /// The site's answer.
     pub answer: Answer,
-    /// What the step sent, the first envelope first.
+    /// The envelopes that the step sent, in order.
     pub sent: Vec<Envelope<A>, A>,
 }

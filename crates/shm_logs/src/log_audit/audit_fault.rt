@@ -12,8 +12,8 @@ pub enum AuditFault {
     /// The step's stamp isn't above that of the step before it in its log, or of the step that sent what it was handed.
     #[error("stamp order {} {index}", .site.0)]
     StampOrder { site: SiteId, index: usize },
-    /// A receipt names this step, which isn't in the log, did or answered something else, or was told of before; or the caller was
-    /// told of a later step of the site before.
+    /// A receipt names this step, and it isn't in the log, has another access or answer, or was named before; or an earlier receipt of the
+    /// caller names a later step of the site.
     #[error("forged {} {index}", .site.0)]
     Forged { site: SiteId, index: usize },
     /// No receipt names this step, which was answered a byte, or that it stored, where the receipts claim to be all.

@@ -27,10 +27,10 @@ use shm_laws::{every_run_is_legal_and_coherent, merged_logs_are_a_run};
 use shm_place::Sites;
 use std::alloc::{AllocError, Allocator};
 
-/// The list of events that the sites made together, which is a run of the world in which memory is one plain memory and every receipt
-/// holds; or the first cause why there is none. Each caller's receipts are in the order in which it got them.
+/// The list of events that the sites made together: a run of the world in which memory is one plain memory and every receipt holds; or the
+/// first cause why there is none. Each caller's receipts are in the order in which it got them.
 ///
-/// Takes time and memory in proportion to the steps, envelopes and receipts. Only memory and a cause keep it from an answer.
+/// Takes time and memory in proportion to the steps, envelopes and receipts. It fails only by a cause or for memory.
 pub fn audit<A: Allocator + Copy>(
     alloc: A,
     sites: Sites,
@@ -50,11 +50,11 @@ pub fn audit<A: Allocator + Copy>(
     order_events(alloc, sites, pages, logs)
 }
 
-/// The same of receipts that claim to be all: every step that was answered a byte, or that it stored, is named by one of them. A step
-/// that is answered otherwise, as an access that waits for its page, needs none.
+/// The same of receipts that claim to be all: one of them names every step that was answered a byte, or that it stored. A step with another
+/// answer, such as an access that waits for its page, needs none.
 ///
-/// Receipts that are missing are looked for last, by site and index, where `audit` finds no cause. Beside its time and memory it takes
-/// time in proportion to the steps.
+/// It looks for missing receipts last, by site and index, where `audit` finds no cause. It takes more time than that, in proportion to the
+/// steps.
 pub fn audit_complete<A: Allocator + Copy>(
     alloc: A,
     sites: Sites,

@@ -1,4 +1,4 @@
-//! Whether the receipts hold: each tells of a step, no two of one step, and each caller's steps at one site come in the site's order.
+//! Checks that the receipts hold: each names a step, no two name one step, and each caller's steps at one site come in the site's order.
 ghost use Rattle.std.specs.Prelude.{◌≡◌, ℕ, ◌+◌, ◌≤◌, ◌<◌, List, [], Some, None, length, map, slice_get, slice_index_or, slice_set, take, true, IfNone, IfSome};
 ghost use Rattle.std.specs.Bool.{Decides};
 ghost use Rattle.shm_logs.specs.Boxes.Receipt.{receipt_of};
@@ -65,7 +65,7 @@ fn forged_of<A: Allocator + Copy>(
     None
 }
 
-/// Whether the receipt holds too, after those that these marks and last steps are of.
+/// Checks that the receipt holds too, after those that these marks and last steps are of.
 fn is_next<A: Allocator + Copy>(
     logs: &[SiteLog<A>],
     marks: &Marks<A>,
@@ -79,7 +79,7 @@ fn is_next<A: Allocator + Copy>(
         && rises(last, receipt.site().0 as usize, receipt.index())
 }
 
-/// Whether the receipt tells of a step.
+/// Checks that the receipt tells a step of the logs.
 fn tells<A: Allocator + Copy>(logs: &[SiteLog<A>], receipt: &Receipt) -> bool
     ensures { Decides result (IsTrueOf (logs_of logs.now) (receipt_of receipt.now)) }
 {
@@ -105,7 +105,7 @@ fn same_answer(a: Answer, b: Answer) -> bool
     a == b
 }
 
-/// Whether the index is above the last one at this site.
+/// Checks that the index is above the last one at this site.
 fn rises(last: &[Option<usize>], site: usize, index: usize) -> bool
     ensures { Decides result (next_of (slice_index_or last.now site None) ≤ index) }
 {

@@ -1,4 +1,4 @@
-//! What is proved of logs and of causes: each law is the contract of a function that does nothing.
+//! Laws of logs and of causes: each is the contract of a function that does nothing.
 ghost use Rattle.std.specs.Prelude.{◌≡◌, List};
 ghost use Rattle.shm_model.specs.declared.event.Event.{Event};
 ghost use Rattle.shm_model.specs.Log.{Logged, LogsFit};
@@ -26,7 +26,7 @@ pub fn first_causes_are_one()
         → IsFirstCause logs callers other → one ≡ other }
 {}
 
-/// What an audit answers with events has no cause.
+/// Where an audit answers events, there is no cause.
 pub fn what_is_audited_has_no_cause()
     ensures { (o : Opening) (logs : List (List Logged)) (callers : List (List Receipt)) (events : List Event) (cause : AuditFault)
         → IsAudited o logs callers events → ¬ IsFirstCause logs callers cause }
@@ -38,7 +38,7 @@ pub fn first_causes_of_all_are_one()
         → IsFirstCauseOfAll logs callers other → one ≡ other }
 {}
 
-/// What a complete audit answers with events has no such cause.
+/// Where a complete audit answers events, there is no such cause.
 pub fn what_is_audited_whole_has_no_cause()
     ensures { (o : Opening) (logs : List (List Logged)) (callers : List (List Receipt)) (events : List Event) (cause : AuditFault)
         → IsAudited o logs callers events → AllTold logs callers → ¬ IsFirstCauseOfAll logs callers cause }

@@ -1,4 +1,4 @@
-//! Whether logs are those of one set of sites.
+//! Checks that logs are those of one set of sites.
 ghost use Rattle.std.specs.Prelude.{◌≡◌, ℕ, ◌<◌, ◌≤◌, ◌+◌, ◌↔◌, IsTrue, IfSome, None, MatchOption, length, map, slice_index_or};
 ghost use Rattle.std.specs.List.{sum_by};
 ghost use Rattle.shm_logs.specs.Boxes.Logged.{logged_of};
@@ -12,15 +12,15 @@ use shm_model::MAX_SENT;
 use shm_place::{SiteId, Sites};
 use std::alloc::Allocator;
 
-/// Whether there is one log for each site, in the order of the sites, each of a site of so many where segment 0 began with so many
-/// pages, and together they send no more than 2^63 envelopes. Takes no memory.
+/// Checks that there is one log for each site, in the order of the sites, each of one of these sites with this number of pages in segment
+/// 0, and that together they send at most 2^63 envelopes. Takes no memory.
 pub fn logs_match<A: Allocator + Copy>(sites: Sites, pages: u32, logs: &[SiteLog<A>]) -> bool
     ensures { IsTrue result ↔ AreLogsOf sites pages logs.now }
 {
     logs.len() == sites.count() as usize && in_place(sites, pages, logs) && are_numbered(logs)
 }
 
-/// Whether each log is that of the site whose number is its index.
+/// Checks that each log is that of the site whose number is its index.
 fn in_place<A: Allocator + Copy>(sites: Sites, pages: u32, logs: &[SiteLog<A>]) -> bool
     ensures { IsTrue result ↔ ((s : ℕ) (default : SiteLog A) → s < length logs.now → IsLogOf sites pages s (slice_index_or logs.now s default)) }
 {
@@ -38,7 +38,7 @@ fn is_log_of<A: Allocator + Copy>(sites: Sites, pages: u32, site: usize, log: &S
     log.sites() == sites && log.pages() == pages && log.site().0 as usize == site
 }
 
-/// Whether the network has numbers for all envelopes that the logs send.
+/// Checks that the network has numbers for all envelopes that the logs send.
 fn are_numbered<A: Allocator + Copy>(logs: &[SiteLog<A>]) -> bool
     ensures { IsTrue result ↔ (sum_by sent_by (logs_of logs.now) ≤ max_sent) }
 {
@@ -52,7 +52,7 @@ fn are_numbered<A: Allocator + Copy>(logs: &[SiteLog<A>]) -> bool
     true
 }
 
-/// How many of so many numbers are left when these steps have taken theirs.
+/// Takes a number for each envelope of these steps, and answers how many are left.
 fn left_after<A: Allocator + Copy>(numbers: u64, steps: &[Step<A>]) -> Option<u64>
     ensures { MatchOption result (numbers < sent_by (map logged_of steps.now)) (λ left. left + sent_by (map logged_of steps.now) ≡ numbers) }
 {

@@ -6,7 +6,7 @@ use crate::boxes::SiteLog;
 use shm_place::SiteId;
 use std::alloc::{AllocError, Allocator, Global};
 
-/// Which steps of the logs receipts have named.
+/// The steps of the logs that receipts have named.
 #[derive(Drop)]
 pub(crate) struct Marks<A: Allocator + Copy = Global> {
     rows: Vec<Vec<bool, A>, A>,
@@ -25,7 +25,7 @@ impl<A: Allocator + Copy> Marks<A> {
         Ok(Marks { rows })
     }
 
-    /// Whether the step is marked.
+    /// Checks that the step is marked.
     pub(crate) fn has(&self, site: SiteId, index: usize) -> bool
         ensures { result ≡ mark_at (marks_of self.now) site index }
     {

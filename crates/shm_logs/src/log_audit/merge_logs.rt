@@ -66,7 +66,7 @@ fn least<A: Allocator + Copy>(logs: &[SiteLog<A>], heads: &[usize; SITES]) -> Op
     least
 }
 
-/// The step of this index, if the site made so many.
+/// The step of this index, if the site has made that many.
 fn first<A: Allocator + Copy>(site: usize, index: usize, log: &SiteLog<A>) -> Option<Head>
     ensures step { TellsStepIf (steps_of log.now) site index result }
     ensures below { IfSome result (λ head. head.index < 2 ^ 64 - 1) }

@@ -1,4 +1,4 @@
-//! Whether two envelopes are one.
+//! Compares two envelopes.
 ghost use Rattle.std.specs.Prelude.{◌≡◌};
 ghost use Rattle.std.specs.Bool.{Decides};
 ghost use Rattle.shm_parts.specs.Message.{entry_note_of, envelope_of, message_of, note_of};

@@ -1,4 +1,4 @@
-//! What is wrong with the steps of the logs, if anything is.
+//! The first fault of the logs' steps, if there is one.
 ghost use Rattle.std.specs.Prelude.{◌≡◌, ℕ, ◌≤◌, length, option_map, slice_get, ◌<◌, map, MatchOption, IfNone, IfSome};
 ghost use Rattle.std.specs.Bool.{Decides};
 ghost use Rattle.shm_logs.specs.Boxes.Logged.{logged_of};
@@ -65,7 +65,7 @@ fn fault_at<A: Allocator + Copy>(
     }
 }
 
-/// What is wrong with this step, as the step of this index at this site.
+/// The fault of this step, as the step of this index at this site.
 fn fault_of<A: Allocator + Copy>(
     logs: &[SiteLog<A>],
     site: SiteId,
@@ -120,7 +120,7 @@ fn step_before<'a, A: Allocator + Copy>(
     step_at(logs, site, index - 1)
 }
 
-/// Whether the stamp is above that of the step, where there is one.
+/// Checks that the stamp is above that of the step, if there is one.
 fn is_above<A: Allocator + Copy>(step: Option<&Step<A>>, stamp: u64) -> bool
     ensures { Decides result (IsAbove (option_map (λ step. logged_of step.now) step.entry) stamp) }
 {
@@ -130,7 +130,7 @@ fn is_above<A: Allocator + Copy>(step: Option<&Step<A>>, stamp: u64) -> bool
     }
 }
 
-/// Whether the step sent this envelope, at this place.
+/// Checks that the step sent this envelope, at this place.
 fn has_sent<A: Allocator + Copy>(
     step: Option<&Step<A>>,
     place: usize,
@@ -144,7 +144,7 @@ fn has_sent<A: Allocator + Copy>(
     }
 }
 
-/// Whether this envelope stands at this place.
+/// Checks that this envelope stands at this place.
 fn is_at<A: Allocator + Copy>(sent: &[Envelope<A>], place: usize, envelope: &Envelope<A>) -> bool
     ensures { Decides result (slice_get (map envelope_of sent.now) place ≡ Some (envelope_of envelope.now)) }
 {

@@ -1,4 +1,4 @@
-//! Whether the marked steps are all that need a receipt.
+//! Checks that all steps that need a receipt are marked.
 ghost use Rattle.std.specs.Prelude.{◌≡◌, ℕ, ◌≤◌, ◌<◌, false, length, IfNone, IfSome, IsTrue};
 ghost use Rattle.shm_logs.specs.Auditing.Logs.{logs_of};
 ghost use Rattle.shm_logs.specs.Auditing.Complete.{completes, IsToldAt, IsUntold, IsUntoldAt};
@@ -47,7 +47,7 @@ fn untold_at_site<A: Allocator + Copy>(
     None
 }
 
-/// Whether the step needs a receipt and isn't marked.
+/// Checks that the step needs a receipt and isn't marked.
 fn is_untold<A: Allocator + Copy>(
     logs: &[SiteLog<A>],
     marks: &Marks<A>,
@@ -63,7 +63,7 @@ fn is_untold<A: Allocator + Copy>(
     }
 }
 
-/// Whether an access that is answered so is completed.
+/// Checks that an access with this answer is completed.
 fn completes_access(answer: Answer) -> bool
     ensures { result ≡ completes answer }
 {

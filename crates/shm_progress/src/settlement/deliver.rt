@@ -1,4 +1,4 @@
-//! What is on its way is handed over, the oldest first.
+//! Hands over what is on its way, the oldest first.
 ghost use Rattle.std.specs.Prelude.{◌≡◌, ℕ, ◌+◌, ◌^◌, ◌<◌, ◌≤◌, ◌↔◌, false, List, IfNone, IfOk, IfSome, IsTrue, OnErr};
 ghost use Rattle.shm_model.specs.World as model;
 ghost use Rattle.shm_model.specs.declared.event.Event.{Event};
@@ -24,10 +24,10 @@ pub fn oldest_from<A: Allocator + Copy>(world: &World<A>, from: u64) -> Option<u
     None
 }
 
-/// Hands over what is on its way, and what that causes, the oldest first: until nothing is on its way, or as many as `budget` were handed
+/// Hands over what is on its way, and what that causes, the oldest first, until nothing is on its way or `budget` envelopes were handed
 /// over. Where memory is refused it stops after the deliveries that were made.
 ///
-/// No more deliveries are needed than `deliveries_left`, which is at most 114 for each envelope that was ever sent.
+/// It needs at most `deliveries_left` deliveries, which is at most 114 for each envelope ever sent.
 pub fn deliver_all<A: Allocator + Copy>(
     world: &mut World<A>,
     budget: u64,

@@ -1,4 +1,4 @@
-//! What a client does with the box of its site.
+//! A client's access to the box of its site.
 ghost use Rattle.std.specs.Prelude.{◌≡◌, length, IfErr, IfOk, OnErr, OnOk};
 ghost use Rattle.shm_model.specs.Receipt.{access_of};
 ghost use Rattle.shm_logs.specs.Boxes.Box.{after, receipt};
@@ -16,7 +16,7 @@ use shm_logs::{Asked, BoxFault, Input, Receipt, SiteBox, Stamp};
 use shm_place::SiteId;
 use std::alloc::{AllocError, Allocator, Global};
 
-/// What a client's access came to.
+/// The outcome of a client's access.
 #[derive(Drop)]
 pub(crate) struct Accessed<A: Allocator + Copy = Global> {
     /// Of the step which the box took.

@@ -17,11 +17,11 @@ use std::thread;
 /// How many tries an access has.
 const TRIES: u32 = 1_000_000;
 
-/// After so many tries in which its site made no step, a client has each site told to send again what may be lost.
+/// After this many tries in which its site made no step, a client has each site send again what may be lost.
 const TRIES_OF_A_TICK: u32 = 64;
 
 /// Loads and stores at one site, in the caller's thread and through the attachment of the number `at`; number 0 is there from the start.
-/// Each call waits for the site's lock. Each receipt tells of the step that the call made, or the last of them.
+/// Each call waits for the site's lock. Each receipt tells the step that the call made, or its last one.
 #[derive(Clone, Copy)]
 pub struct Client<'a, A: Allocator + Copy = Global> {
     pub(crate) shared: &'a Shared<A>,
@@ -56,9 +56,9 @@ impl<'a, A: Allocator + Copy> Client<'a, A> {
         self.step(rt, Asked::Store { at, offset, byte })
     }
 
-    /// Loads until the site has the right to, or answers that the load is wrong. It asks again where the site has made a step since. After
-    /// every 64th try without such a step each site that has nothing else to hear is told of a tick, since a message may be lost.
-    /// `GaveUp` comes after a million tries, or at once at another site's box.
+    /// Loads once the site has the right, or answers that the load is wrong. It asks again where the site has made a step since. After
+    /// every 64th try without such a step, each site with an empty channel gets a tick, since a message may be lost. `GaveUp` comes after a
+    /// million tries, or at once at another site's box.
     pub fn load<R: Wait>(&self, rt: &R, at: u32, offset: u32) -> Result<Receipt, ClientFault>
         ensures tells { IfOk result (TellsOf self.now.post.now.number (Load at offset)) }
         ensures served { IfOk result IsServed }
@@ -88,7 +88,7 @@ impl<'a, A: Allocator + Copy> Client<'a, A> {
         self.serve_within(rt, asked, TRIES)
     }
 
-    /// The same within so many tries.
+    /// The same within this many tries.
     pub(crate) fn serve_within<R: Wait>(
         &self,
         rt: &R,
@@ -115,7 +115,7 @@ impl<'a, A: Allocator + Copy> Client<'a, A> {
         Err(ClientFault::GaveUp)
     }
 
-    /// Whether the site has made a step behind this one that is no access, or none is given: else it would only answer as it did.
+    /// Checks that the site has made a step behind this one that is no access, or that none is given: else it would only answer as it did.
     fn has_news<R: Wait>(&self, rt: &R, last: Option<usize>) -> bool {
         let Some(last) = last else {
             return true;
@@ -128,7 +128,7 @@ impl<'a, A: Allocator + Copy> Client<'a, A> {
             .any(|step| step.input.access().is_none())
     }
 
-    /// Lets other threads run, after so many tries in which the site made no step. A tick that was refused is passed over: there will be
+    /// Lets other threads run, after this many tries in which the site made no step. Passes over a tick that was refused: there will be
     /// more.
     fn pause<R: Wait>(&self, rt: &R, quiet: u32) {
         if quiet % TRIES_OF_A_TICK == 0 {
@@ -148,7 +148,7 @@ impl<'a, A: Allocator + Copy> Client<'a, A> {
         Ok(receipt)
     }
 
-    /// One step under the site's lock, which is let go before anything is sent.
+    /// Makes one step under the site's lock, and releases the lock before it sends anything.
     fn access<R: Wait>(&self, rt: &R, asked: Asked) -> Result<Accessed<A>, ClientFault>
         ensures { IfOk result (λ done. TellsOf self.now.post.now.number (access_of asked) done.receipt) }
     {
@@ -157,7 +157,7 @@ impl<'a, A: Allocator + Copy> Client<'a, A> {
     }
 }
 
-/// Whether the site waits for the page.
+/// Checks that the site waits for the page.
 fn waits(answer: Answer) -> bool
     ensures { result ≡ is_waiting answer }
 {

@@ -1,7 +1,7 @@
 ghost use Rattle.std.specs.Prelude.{◌≡◌};
 ghost use Rattle.shm_sites.specs.Cluster.Fate.{fate_of};
 
-/// What becomes of an envelope between two sites' threads.
+/// The fate of an envelope between two sites' threads.
 #[derive(Clone, Copy, Debug, PartialEq, Eq)]
 pub(crate) enum Fate {
     Lost,

@@ -1,8 +1,8 @@
-//! What a site's thread passes before each of its steps.
+//! A gate before each step of a site's thread.
 use shm_place::SiteId;
 
-/// What a site's own thread passes before each of its steps, while it holds the site's lock. A gate may wait: then the site stands
-/// still, and so does whoever wants its lock, and other sites go on. Clients pass no gate.
+/// A gate that a site's own thread passes before each of its steps, while it holds the site's lock. A gate may wait. Then the site stands
+/// still, and so does whoever wants its lock, while other sites go on. Clients pass no gate.
 pub trait Gate {
     /// Called with the site whose lock is held; its step is made when this returns.
     fn pass(&self, site: SiteId);

@@ -1,7 +1,7 @@
 use crate::cluster::posted::Posted;
 use std::alloc::{Allocator, Global};
 
-/// What a site's channel brings to its thread.
+/// A message in a site's channel.
 #[derive(Drop)]
 pub(crate) enum Mail<A: Allocator + Copy = Global> {
     Envelope(Posted<A>),

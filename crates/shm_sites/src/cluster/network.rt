@@ -17,8 +17,8 @@ pub(crate) fn draws_of(seed: u64, site: SiteId) -> Lcg64Xsh32
     Lcg64Xsh32::new(seed, u64::from(site.0))
 }
 
-/// What goes on of these envelopes: for each a number is drawn, and by it none, one or two go on. Where memory is refused none of them
-/// goes on; their numbers are drawn all the same.
+/// Draws a number for each of these envelopes, and by it passes none, one or two copies on. Where memory is refused it passes none on, and
+/// still draws their numbers.
 pub(crate) fn carry<A: Allocator + Copy>(
     alloc: A,
     posted: Vec<Posted<A>, A>,
@@ -35,7 +35,7 @@ pub(crate) fn carry<A: Allocator + Copy>(
     on
 }
 
-/// What goes on already, and this envelope by its fate.
+/// Adds this envelope, by its fate, to the envelopes that go on.
 fn with<A: Allocator + Copy>(
     on: Result<Vec<Posted<A>, A>, AllocError>,
     posted: Posted<A>,

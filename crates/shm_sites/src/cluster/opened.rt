@@ -9,14 +9,14 @@ use shm_place::{PAGES, SiteId, Sites};
 use std::alloc::{AllocError, Allocator, Global};
 use std::sync::Mutex;
 
-/// What is shared of each site and what its own thread is given, each at the site's number.
+/// The shared part of each site and the part of its own thread, each at the site's number.
 #[derive(Drop)]
 pub(crate) struct Opened<A: Allocator + Copy = Global> {
     pub(crate) posts: Vec<Post<A>, A>,
     pub(crate) workers: Vec<Worker<A>, A>,
 }
 
-/// So many sites, where segment 0 has so many pages.
+/// Opens these sites, where segment 0 has this number of pages.
 pub(crate) fn open<A: Allocator + Copy>(
     alloc: A,
     sites: Sites,

@@ -1,4 +1,4 @@
-//! What a step sent, copied from the site's log for the channels.
+//! The envelopes that a step sent, copied from the site's log for the channels.
 ghost use Rattle.std.specs.Prelude.{◌≡◌, ◌++◌, ◌∷◌, [], IfOk, OnOk};
 ghost use Rattle.shm_parts.specs.Message.{envelope_of};
 ghost use Rattle.shm_logs.specs.Boxes.Logged.{logged_of, stamp_of};

@@ -1,4 +1,4 @@
-//! What the threads and the clients of a cluster share.
+//! The part of a cluster that its threads and clients share.
 ghost use Rattle.std.specs.Prelude.{◌≡◌, ◌<◌, ◌↔◌, Some, vec_len, IfOk, IfSome, IsOk};
 ghost use Rattle.std.specs.Slice.{IsItemAt};
 ghost use Rattle.shm_sites.specs.Cluster.Posts.{AtTheirNumbers};
@@ -43,7 +43,7 @@ impl<A: Allocator + Copy> Shared<A> {
         }
     }
 
-    /// What is shared of the site of this number, where there is one.
+    /// The shared part of the site of this number, if there is one.
     pub(crate) fn post_of(&self, site: SiteId) -> Option<&Post<A>>
         ensures item { IsItemAt self.now.posts.items site result }
         ensures number { IfSome result (λ post. post.now.number ≡ site) }

@@ -1,4 +1,4 @@
-//! How the threads of a cluster start: whatever takes memory comes first, and then the threads.
+//! Starts the threads of a cluster: first all that takes memory, and then the threads.
 ghost use Rattle.std.specs.Prelude.{◌≡◌, ◌≤◌, ◌<◌, ◌+◌, IfOk, OnOk, vec_capacity, vec_len};
 ghost use Rattle.shm_sites.specs.Cluster.Sites.{sites_of};
 
@@ -16,8 +16,8 @@ use std::thread;
 use std::thread::Threads;
 
 impl<A: Allocator + Copy + Send + Sync + 'static> Cluster<A> {
-    /// So many sites, each in its box and its thread, where segment 0 has so many pages and is attached everywhere, to read and write,
-    /// as attachment 0. The network draws its losses and repeats from this seed. Where memory is refused, no thread was started.
+    /// Starts these sites, each in its box and its thread, where segment 0 has this number of pages and is attached everywhere, to read and
+    /// write, as attachment 0. The network draws its losses and repeats from this seed. Where memory is refused, no thread was started.
     pub fn start<R: Threads + Wait + Copy + Send + 'static, G: Gate + Send + Sync + Drop + 'static>(
         rt: &R,
         alloc: A,
@@ -84,7 +84,7 @@ impl<A: Allocator + Copy + Send + Sync + 'static> Cluster<A> {
         Ok(())
     }
 
-    /// What one more thread shares with the others. It takes no memory, and fails only where as many share it as can be counted.
+    /// One more thread's handle to the shared part. It takes no memory, and fails only where no number can count the handles.
     fn share<G: Drop>(
         &self,
         gate: &Arc<G, A>,
@@ -101,7 +101,7 @@ impl<A: Allocator + Copy + Send + Sync + 'static> Cluster<A> {
     }
 }
 
-/// A cluster without threads and with room for them, what they are given, and the gate that they pass.
+/// A cluster without threads and with room for them, each thread's part, and the gate that the threads pass.
 pub(crate) fn ready<A: Allocator + Copy, G: Drop>(
     alloc: A,
     sites: Sites,

@@ -1,7 +1,8 @@
 use shm_model::refusal::{self, Numbered};
 use thiserror::Error;
 
-/// Why no cluster was started. The threads that had been started have ended; one that memory was refused for telling ends with the program.
+/// Why no cluster was started. The threads that were started have ended, except those that couldn't be told to for lack of memory: they end
+/// with the program.
 #[derive(Clone, Copy, Debug, PartialEq, Eq, Error)]
 pub enum StartFault {
     /// Memory was refused.

@@ -1,4 +1,4 @@
-//! How the threads of a cluster end.
+//! Ends the threads of a cluster.
 ghost use Rattle.std.specs.Prelude.{◌≡◌, IfOk, vec_len};
 ghost use Rattle.shm_sites.specs.Cluster.Sites.{sites_of};
 
@@ -10,12 +10,12 @@ use std::alloc::{AllocError, Allocator};
 use std::sync::{Arc, Wait};
 use std::thread::{JoinHandle, Threads};
 
-/// How often a thread is told to stop, where memory is refused.
+/// The most attempts to tell a thread to stop, where memory is refused.
 const TRIES: u32 = 1_000;
 
 impl<A: Allocator + Copy> Cluster<A> {
-    /// Ends the threads, and gives the logs of all sites in their order. What is still in a channel is lost. Where memory is refused no
-    /// log is handed out, and a thread that couldn't be told ends with the program.
+    /// Ends the threads, and gives the logs of all sites in their order. Envelopes still in a channel are lost. Where memory is refused it
+    /// gives no log, and a thread that couldn't be told to stop ends with the program.
     pub fn stop<R: Threads + Wait>(self, rt: &R) -> Result<Vec<SiteLog<A>, A>, AllocError>
         ensures { IfOk result (λ logs. vec_len logs ≡ sites_of self) }
     {
@@ -28,7 +28,7 @@ impl<A: Allocator + Copy> Cluster<A> {
     }
 }
 
-/// Tells each thread to stop, and joins those that were told.
+/// Tells each thread to stop, and joins those that got the message.
 pub(crate) fn end<R: Threads + Wait, A: Allocator + Copy>(
     rt: &R,
     shared: &Shared<A>,
@@ -45,7 +45,7 @@ pub(crate) fn end<R: Threads + Wait, A: Allocator + Copy>(
     if untold { Err(AllocError) } else { Ok(()) }
 }
 
-/// Whether the thread could be told to stop.
+/// Tells the thread to stop, and answers whether it could.
 fn tell<R: Wait, A: Allocator + Copy>(rt: &R, post: &Post<A>) -> bool {
     'tries: for _ in 0..TRIES {
         if post.mail.send(rt, Mail::Stop).is_ok() {

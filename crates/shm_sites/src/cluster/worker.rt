@@ -18,15 +18,15 @@ use shm_place::SiteId;
 use std::alloc::{AllocError, Allocator, Global};
 use std::sync::Wait;
 
-/// What a site's thread is given: which site it is, and its end of the channel.
+/// The part of a site's thread: the site's number, and its end of the channel.
 #[derive(Drop)]
 pub(crate) struct Worker<A: Allocator + Copy = Global> {
     pub(crate) site: SiteId,
     pub(crate) mail: Receiver<Mail<A>, A>,
 }
 
-/// Makes a step of the site for all that its channel brings, until it is told to stop, and sends what goes on of that which the step
-/// sent. Where memory is refused for that nothing of the step is sent.
+/// Makes a step of the site for each message of its channel, until one says stop, and sends the envelopes that pass the network's draws.
+/// Where memory is refused for that, it sends nothing of the step.
 pub(crate) fn work<R: Wait, A: Allocator + Copy, G: Gate>(
     rt: &R,
     shared: &Shared<A>,
@@ -52,7 +52,7 @@ pub(crate) fn work<R: Wait, A: Allocator + Copy, G: Gate>(
     }
 }
 
-/// What the site is to take, and where that was sent. At the end there is nothing more.
+/// The site's next input, and the step that sent it. `None` at the end.
 fn input_of<A: Allocator + Copy>(mail: Mail<A>) -> Option<(Input<A>, Stamp)> {
     match mail {
         Mail::Envelope(Posted { envelope, source }) => Some((Input::Deliver(envelope), source)),
@@ -78,8 +78,8 @@ fn step<R: Wait, A: Allocator + Copy, G: Gate>(
     posted
 }
 
-/// Gives the box its input, and tells all that the step sent. Where the box doesn't take it, nothing happens and nothing was sent. It fails
-/// where memory was refused for the copies.
+/// Gives the box its input, and answers all that the step sent. Where the box doesn't take it, nothing happens and nothing was sent. It
+/// fails where memory was refused for the copies.
 pub(crate) fn give_input<A: Allocator + Copy>(
     site: &mut SiteBox<A>,
     alloc: A,

@@ -1,4 +1,4 @@
-//! What a box does with an input: it logs the step that the site makes, or refuses.
+//! A box takes an input: it logs the step that the site makes, or refuses.
 ghost use Rattle.std.specs.Prelude.{◌≡◌, ◌<◌, None, Some, false, true, Ok, length, map, unwrap_or, vec_capacity, IfErr, IfOk, IsErr, IsOk, OnErr, OnOk};
 ghost use Rattle.shm_logs.specs.Boxes.Box.{after, is_delivery, needs_memory, next_stamp, receipt, refusal};
 ghost use Rattle.shm_logs.specs.Boxes.Logged.{stamp_of};
@@ -18,11 +18,12 @@ use shm_site::{Input, Made};
 use std::alloc::{AllocError, Allocator};
 
 impl<A: Allocator + Copy> SiteBox<A> {
-    /// Makes one step and logs it; the receipt tells of it. `source` is where the envelope that is handed over was sent, and `NONE` for
+    /// Makes one step and logs it; the receipt tells it. `source` is the step that sent the envelope that is handed over, and `NONE` for
     /// any other input. Where the step isn't made the box is as before; the input is spent.
     ///
-    /// Memory is missing last: never where the input isn't taken anyway, nor, with room for one more step in the log, where the site's
-    /// step needs none: for an access that has the right, waits or is refused, for a segment call that is refused, and for a restart.
+    /// Refusal for memory comes last. It never comes where the input is refused anyway. With room for one more step in the log, it never
+    /// comes where the site's step needs no memory either: for an access that has the right, waits or is refused, for a segment call that
+    /// is refused, and for a restart.
     pub fn take(&mut self, input: Input<A>, source: Stamp) -> Result<Receipt, BoxFault>
         ensures taken { IsOk result → refusal (box_of self.old) (input_of input) (stamp_of source) ≡ None }
         ensures step { OnOk result (box_of self.new ≡ after (box_of self.old) (input_of input) (stamp_of source)) }
