@@ -164,6 +164,26 @@ def try_audits(program, folder):
         stays(name, second, text)
 
 
+def try_saves(program, folder):
+    """What is saved has its name and its bytes, in the place of what was there; what can't be saved is told as unsaved."""
+    script = os.path.join(folder, 'script')
+    write(script, b'old\n' * 9)
+    start('a saved script', [program, 'prompt'], 0, '', f'1 ready\nsaved to {script}\n'.encode(), given=f'sites 1\nsave {script}\n'.encode())
+    stays('a saved script', script, b'sites 1\n')
+    for name in (os.path.join(folder, 'none', 'script'), folder, '/dev/full'):
+        start('a script that is not saved', [program, 'prompt'], 0, '', f"1 ready\nnot saved: {name} can't be written\n".encode(),
+              given=f'sites 1\nsave {name}\n'.encode())
+    logs = [os.path.join(folder, f'site-{site}.log') for site in range(2)]
+    write(logs[1], b'old\n' * 99)
+    start('the logs of a run', [program, 'run', '--sites', '2', '--seed', '1', '--log', folder], 0, '', b'1 ready\n2 stored\n3 byte 8\naudit yes\n',
+          given=b'preset 2\nstore 1 4096 8\nload 1 4096\n')
+    for site, step in ((0, b''), (1, b'1 store 1 0 4096 8 > ')):
+        with open(logs[site], 'rb') as file:
+            found = file.read()
+        if b'old' in found or not found.startswith(step):
+            sys.exit(f'the logs of a run: site {site} has {found}')
+
+
 def try_calls(program, folder):
     """Calls that fail, as strace makes them."""
     strace = ['strace', '-o', '/dev/null', '-e', 'trace=none']
@@ -197,7 +217,7 @@ def try_calls(program, folder):
 def main():
     program = os.path.abspath(sys.argv[1] if len(sys.argv) > 1 else os.path.join(HERE, '..', '..', 'crates', 'shmdbg', 'out', 'shmdbg'))
     with tempfile.TemporaryDirectory() as folder:
-        for trial in (try_files, try_no_files, try_two, try_closed, try_full, try_streams, try_audits, try_calls):
+        for trial in (try_files, try_no_files, try_two, try_closed, try_full, try_streams, try_audits, try_saves, try_calls):
             trial(program, folder)
     print(f'starts: {tried[0]}, each told as it has to be')
 
