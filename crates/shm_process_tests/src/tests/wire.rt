@@ -1,7 +1,7 @@
 //! Lines that others spelled, and lines that are none.
 use linked_list_allocator::LocalHeap;
 use shm_parts::{EntryNote, Message, Note};
-use shm_wire::{Line, Sent, parse_tell_line, parse_line};
+use shm_wire::{Line, Sent, parse_line, parse_tell_line};
 use std::alloc::{AllocError, Allocator, Global};
 use std::process::Abort;
 use std::test::Fail;
