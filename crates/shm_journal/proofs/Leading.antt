@@ -89,7 +89,8 @@ none-before n = omega arith
 
 pub begun : {T : Type 0} → (next : T → List ℕ → Option T) (left : Option (List ℕ)) (number : ℕ) (state : T)
     → Leads next (λ rest. found_behind next number state rest) left left number state 0
-begun next left number state = record { bytes = []; taken = Consumes-nil left; onward = λ more. refl; counted = λ more. none-before (bytes_of_lines (lines_of more).whole) }
+begun next left number state =
+    record { bytes = []; taken = Consumes-nil left; onward = λ more. refl; counted = λ more. none-before (bytes_of_lines (lines_of more).whole); torn = λ more. refl }
 
 -- it leads to where it stands
 sound-so-far : {T : Type 0} → (next : T → List ℕ → Option T) (says : List ℕ → Found T) (before left : Option (List ℕ)) (number : ℕ) (state : T) (whole : ℕ)
@@ -123,6 +124,9 @@ one_more next says before left now number state after whole line l taken h short
   counted = λ more.
       ap (λ b. bytes_of_lines (lines_of b).whole) (append_assoc l.bytes (line ++ 10 ∷ []) more) ∙ l.counted ((line ++ 10 ∷ []) ++ more)
       ∙ ap (λ n. whole + n) (counts-line line more h) ∙ counts whole (length line) (bytes_of_lines (lines_of more).whole);
+  torn = λ more.
+      ap (λ b. (lines_of b).torn) (append_assoc l.bytes (line ++ 10 ∷ []) more) ∙ l.torn ((line ++ 10 ∷ []) ++ more)
+      ∙ ap (λ (x : Lines). x.torn) (line_first line more h);
 }
 
 -- ---- the end
@@ -138,15 +142,18 @@ none-more w = omega arith
 
 pub ended : {T : Type 0} → (next : T → List ℕ → Option T) (says : List ℕ → Found T) (before left now : Option (List ℕ)) (number : ℕ) (state : T) (whole : ℕ) (torn : List ℕ)
     → Leads next says before left number state whole → Consumes left now torn → Unended torn → length torn ≤ max_journal_line → IsAtEnd now
-    → ReadsWhole says before now state whole
-ended next says before left now number state whole torn l taken h short end = record {
-  bytes = l.bytes ++ torn;
-  taken = Consumes-trans before left now l.bytes torn l.taken taken;
-  end = end;
-  sound = l.onward torn ∙ ended-says next number state torn h short;
-  counted =
-      sym (l.counted torn ∙ ap (λ (x : Lines). whole + bytes_of_lines x.whole) (line_is_torn torn h) ∙ none-more whole);
-}
+    → (read : ReadsWhole says before now state whole) × (torn ≡ (lines_of read.bytes).torn)
+ended next says before left now number state whole torn l taken h short end = (
+  record {
+    bytes = l.bytes ++ torn;
+    taken = Consumes-trans before left now l.bytes torn l.taken taken;
+    end = end;
+    sound = l.onward torn ∙ ended-says next number state torn h short;
+    counted =
+        sym (l.counted torn ∙ ap (λ (x : Lines). whole + bytes_of_lines x.whole) (line_is_torn torn h) ∙ none-more whole);
+  },
+  sym (l.torn torn ∙ ap (λ (x : Lines). x.torn) (line_is_torn torn h)),
+)
 
 -- ---- a line that can't be next
 
@@ -280,6 +287,7 @@ first_leads kind before left state line taken h short e = record {
   taken = taken;
   onward = λ more. one-first kind line more h short ∙ ap (λ f. then_found f (λ state. found_behind kind.next 2 state more)) e;
   counted = λ more. counts-line line more h;
+  torn = λ more. ap (λ (x : Lines). x.torn) (line_first line more h);
 }
 
 pub first_stops : {T : Type 0} → (kind : Kind T) (before now : Option (List ℕ)) (line over : List ℕ) (what : Found T) → Consumes before now ((line ++ 10 ∷ []) ++ over) → Unended line

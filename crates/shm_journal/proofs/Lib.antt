@@ -7,6 +7,7 @@ pub mod RecoveryLemmas
 pub mod ActLemmas
 pub mod ServingLemmas
 pub mod CrashLemmas
+pub mod SummaryLemmas
 pub mod Fits
 pub mod EntriesFit
 pub mod Lives
