@@ -4,6 +4,7 @@ mod logs;
 mod prompts;
 mod rows;
 mod runs;
+mod script_files;
 mod sites;
 mod streams;
 mod words;
