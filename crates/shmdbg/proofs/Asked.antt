@@ -35,10 +35,10 @@ pub is_below : (sites me : ℕ) → nat_lt me sites ≡ true → me < sites
 is_below sites me among = grind (arith, nat_tests)
 
 one_of_sites : (name : Text) (rows : List Row) (task : Task) → is_among task ≡ true → IsAsked name rows task → IsOneOfSites task
-one_of_sites name rows Replay among asked = tt
+one_of_sites name rows (Replay file) among asked = tt
 one_of_sites name rows (Run sites seed summary log) among asked = tt
 one_of_sites name rows Prompt among asked = tt
-one_of_sites name rows (Draw page) among asked = tt
+one_of_sites name rows (Draw page file) among asked = tt
 one_of_sites name rows (Site sites me pages journal begins) among asked = (is_below sites me among, asked.options.3)
 one_of_sites name rows (Audit sites journals) among asked = tt
 
@@ -48,10 +48,10 @@ one_of_asked words task among asked =
     one_of_sites of.0.0 of.0.1 task among of.2
 
 one_named : (name : Text) (rows : List Row) (task : Task) → IsAsked name rows task → names_one (name, rows) ≡ is_among task
-one_named name rows Replay asked = rw asked.called refl
+one_named name rows (Replay file) asked = rw asked.called refl
 one_named name rows (Run sites seed summary log) asked = rw asked.called refl
 one_named name rows Prompt asked = rw asked.called refl
-one_named name rows (Draw page) asked = rw asked.called refl
+one_named name rows (Draw page file) asked = rw asked.called refl
 one_named name rows (Site sites me pages journal begins) asked = rw (asked.called, asked.options.0, asked.options.1) refl
 one_named name rows (Audit sites journals) asked = rw asked.called refl
 
@@ -62,10 +62,10 @@ among_asked words task asked =
     rw of.1 (one_named of.0.0 of.0.1 task of.2)
 
 file_named : (name : Text) (rows : List Row) (task : Task) → IsAsked name rows task → names_file (name, rows) ≡ has_file task
-file_named name rows Replay asked = rw asked.called refl
+file_named name rows (Replay file) asked = rw asked.called refl
 file_named name rows (Run sites seed summary log) asked = rw asked.called refl
 file_named name rows Prompt asked = rw asked.called refl
-file_named name rows (Draw page) asked = rw asked.called refl
+file_named name rows (Draw page file) asked = rw asked.called refl
 file_named name rows (Site sites me pages None begins) asked = rw (asked.called, asked.options.4, asked.options.5) refl
 file_named name rows (Site sites me pages (Some file) begins) asked = rw (asked.called, asked.options.4, asked.options.5) refl
 file_named name rows (Audit sites journals) asked = rw asked.called refl
@@ -88,18 +88,18 @@ abbrev names_audit : Text → Bool
 names_audit name = bytes_eq name (codes "run") || bytes_eq name (codes "audit")
 
 by_name : (task : Task) → has_audit task ≡ names_audit (name_of task)
-by_name Replay = refl
+by_name (Replay file) = refl
 by_name (Run sites seed summary log) = refl
 by_name Prompt = refl
-by_name (Draw page) = refl
+by_name (Draw page file) = refl
 by_name (Site sites me pages journal begins) = refl
 by_name (Audit sites journals) = refl
 
 of_audit : (task : Task) → has_audit task ≡ true → (name_of task ≡ codes "run") ⊎ (name_of task ≡ codes "audit")
-of_audit Replay is = absurd (cc)
+of_audit (Replay file) is = absurd (cc)
 of_audit (Run sites seed summary log) is = inl refl
 of_audit Prompt is = absurd (cc)
-of_audit (Draw page) is = absurd (cc)
+of_audit (Draw page file) is = absurd (cc)
 of_audit (Site sites me pages journal begins) is = absurd (cc)
 of_audit (Audit sites journals) is = inr refl
 

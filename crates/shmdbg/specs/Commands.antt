@@ -29,8 +29,12 @@ text_rule name = record (new_rule name) { long = Some name; action = Some Set; v
 abbrev pub log_rule : Rule
 log_rule = text_rule (codes "log")
 
+-- a text that stands by no option's name, or none
+abbrev pub file_rule : Rule
+file_rule = record (new_rule (codes "file")) { action = Some Set; value_names = 1 }
+
 abbrev pub replay_app : App
-replay_app = new_app (codes "replay")
+replay_app = with_rule (new_app (codes "replay")) file_rule
 
 abbrev pub run_app : App
 run_app = with_rule (with_rule (with_rule (with_rule (new_app (codes "run")) sites_rule) seed_rule) summary_rule) log_rule
@@ -42,7 +46,7 @@ abbrev pub page_rule : Rule
 page_rule = record (new_rule (codes "page")) { long = Some (codes "page"); action = Some Set; value_names = 2; parser = Some (Signed (pos 0) (pos 4294967295)) }
 
 abbrev pub draw_app : App
-draw_app = with_rule (new_app (codes "draw")) page_rule
+draw_app = with_rule (with_rule (new_app (codes "draw")) page_rule) file_rule
 
 abbrev pub me_rule : Rule
 me_rule = number_rule (codes "me") (Signed (pos 0) (pos 15))

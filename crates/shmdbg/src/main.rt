@@ -9,6 +9,8 @@ mod kept_journal;
 mod log_files;
 mod program;
 mod run_report;
+mod script_file;
+mod script_file_fault;
 mod serve_site;
 mod show_fault;
 mod site_fault;

@@ -8,6 +8,7 @@ ghost use Rattle.shmdbg.specs.Served.{site_status};
 ghost use Rattle.shmdbg.specs.Status.{fault_status, run_status};
 
 use crate::log_files::Unlogged;
+use crate::script_file_fault::ScriptFileFault;
 use crate::site_fault::SiteFault;
 use crate::standard_streams::Stream;
 use crate::unaudited::Unaudited;
@@ -30,6 +31,17 @@ pub fn fault<E: Write>(fault: DebugFault, errors: &mut E) -> u8
         DebugFault::BadLine(_) | DebugFault::LineTooLong(_) | DebugFault::TooManyLines => 1,
         DebugFault::OutOfMemory | DebugFault::ReadFault | DebugFault::WriteFault => 3,
     }
+}
+
+/// The exit status where the file of this name gives no script. Its one line goes to `errors`.
+pub fn script_file_fault<E: Write>(fault: ScriptFileFault, name: &str, errors: &mut E) -> u8
+    ensures { result ≡ 3 }
+{
+    let _ = match fault {
+        ScriptFileFault::OutOfMemory => writeln!(errors, "shmdbg: out of memory"),
+        _ => writeln!(errors, "shmdbg: {name}: {fault}"),
+    };
+    3
 }
 
 /// The exit status where a dialog ended by this fault. Its one line goes to `errors`.

@@ -5,6 +5,7 @@ mod logs;
 mod prompts;
 mod rows;
 mod runs;
+mod script_files;
 mod sites;
 mod streams;
 mod words;

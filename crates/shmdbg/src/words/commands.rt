@@ -16,7 +16,7 @@ pub(crate) fn command<'a>(alloc: Global) -> Result<Command<'a>, AllocError>
     ensures app { IfOk result (λ c. app_of c ≡ spec.app) }
 {
     bare_command(alloc)
-        .subcommand(replay_command(alloc))?
+        .subcommand(replay_command(alloc)?)?
         .subcommand(run_command(alloc)?)?
         .subcommand(prompt_command(alloc))?
         .subcommand(draw_command(alloc)?)?
@@ -35,13 +35,14 @@ fn bare_command<'a>(alloc: Global) -> Command<'a>
         .subcommand_required(true)
 }
 
-fn replay_command<'a>(alloc: Global) -> Command<'a>
-    ensures app { app_of result ≡ spec.replay_app }
-    ensures local { (out-Command result).has_globals ≡ false }
+fn replay_command<'a>(alloc: Global) -> Result<Command<'a>, AllocError>
+    ensures app { IfOk result (λ c. app_of c ≡ spec.replay_app) }
+    ensures local { IfOk result (λ c. (out-Command c).has_globals ≡ false) }
 {
     Command::new(alloc, "replay")
-        .about("Replay the script on standard input")
+        .about("Replay a script, of a file or of standard input")
         .after_help(help::REPLAY)
+        .arg(file_arg(alloc))
 }
 
 fn run_command<'a>(alloc: Global) -> Result<Command<'a>, AllocError>
@@ -71,9 +72,10 @@ fn draw_command<'a>(alloc: Global) -> Result<Command<'a>, AllocError>
     ensures local { IfOk result (λ c. (out-Command c).has_globals ≡ false) }
 {
     Command::new(alloc, "draw")
-        .about("Draw the run that the script on standard input leaves")
+        .about("Draw the run that a script leaves, of a file or of standard input")
         .after_help(help::DRAW)
-        .arg(page_arg(alloc))
+        .arg(page_arg(alloc))?
+        .arg(file_arg(alloc))
 }
 
 fn site_command<'a>(alloc: Global) -> Result<Command<'a>, AllocError>
@@ -163,6 +165,16 @@ fn page_arg<'a>(alloc: Global) -> Arg<'a>
         .help("The page to show, by its segment and its index")
         .action(ArgAction::Set)
         .value_parser(value_parser!(u32))
+}
+
+fn file_arg<'a>(alloc: Global) -> Arg<'a>
+    ensures rule { rule_of result ≡ spec.file_rule }
+    ensures local { result.global ≡ false }
+{
+    Arg::new(alloc, "file")
+        .value_name("FILE")
+        .help("The file of the script; without it standard input is read")
+        .action(ArgAction::Set)
 }
 
 fn summary_arg<'a>(alloc: Global) -> Arg<'a>

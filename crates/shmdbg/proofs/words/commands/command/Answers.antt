@@ -7,7 +7,7 @@ use Rattle.shmdbg.proofs.words.commands.command.Goals as goal
 pub returns : goal.returns
 returns c =
     let with_replay : app_of c.in_ok-subcommand.field-0 ≡ with_subcommand bare_app replay_app.top =
-    c.in_ok-subcommand.ensures.shape c.replay_command.ensures.local ∙ ap₂ with_subcommand c.bare_command.ensures.app (ap (λ (a : App). a.top) c.replay_command.ensures.app) in
+    c.in_ok-subcommand.ensures.shape c.in_ok-replay_command.ensures.local ∙ ap₂ with_subcommand c.bare_command.ensures.app (ap (λ (a : App). a.top) c.in_ok-replay_command.ensures.app) in
     let with_run : app_of c.in_ok-subcommand-2.field-0 ≡ with_subcommand (with_subcommand bare_app replay_app.top) run_app.top =
     c.in_ok-subcommand-2.ensures.shape c.in_ok-run_command.ensures.local ∙ ap₂ with_subcommand with_replay (ap (λ (a : App). a.top) c.in_ok-run_command.ensures.app) in
     let with_prompt : app_of c.in_ok-subcommand-3.field-0 ≡ with_subcommand (with_subcommand (with_subcommand bare_app replay_app.top) run_app.top) prompt_app.top =
