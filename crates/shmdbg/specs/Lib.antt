@@ -6,3 +6,4 @@ pub mod Status
 pub mod Done
 pub mod Commands
 pub mod Words
+pub mod Summarized

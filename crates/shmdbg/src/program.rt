@@ -9,6 +9,7 @@ ghost use Rattle.shmdbg.specs.Words.{IsOneOfSites};
 
 use crate::audit::audit;
 use crate::disk::Disk;
+use crate::journal_summary::tell_journal;
 use crate::kept_journal::{Kept, Lock};
 use crate::log_files::{Unlogged, open_logs};
 use crate::run_report::{Wanted, tell_run};
@@ -97,6 +98,7 @@ where
             begins,
         } => site(rt, sites, me, pages, journal, begins, reader, out, errors),
         Task::Audit { sites, journals } => audit(rt, sites, journals.as_slice(), out, errors),
+        Task::Journal { file } => tell_journal(rt, file, out, errors),
     }
 }
 

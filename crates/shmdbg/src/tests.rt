@@ -7,6 +7,7 @@ mod rows;
 mod runs;
 mod sites;
 mod streams;
+mod summaries;
 mod words;
 
 use crate::kept_journal::Lock;
