@@ -7,3 +7,4 @@ pub mod Done
 pub mod Commands
 pub mod Words
 pub mod Summarized
+pub mod TakenAgain

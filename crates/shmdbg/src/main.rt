@@ -15,6 +15,7 @@ mod show_fault;
 mod site_fault;
 mod source;
 mod standard_streams;
+mod taken_again;
 mod tell;
 #[cfg(test)]
 mod tests;

@@ -179,7 +179,7 @@ where
     match journal {
         Some(name) => {
             let kept = Kept { name, begins };
-            let ended = be_kept_site(rt, sites, me, pages, kept, reader, out);
+            let ended = be_kept_site(rt, sites, me, pages, kept, reader, out, errors);
             tell_end(ended, errors)
         }
         None => {
