@@ -6,8 +6,8 @@ _shmdbg() {
   [ "$word" != = ] || word=
   [ "$before" != = ] || before=${COMP_WORDS[COMP_CWORD - 2]}
   case $COMP_CWORD:${COMP_WORDS[1]} in
-    1:*) offered='replay run prompt draw site audit help -h --help -V --version' ;;
-    2:help) offered='replay run prompt draw site audit help' ;;
+    1:*) offered='replay run prompt draw site audit journal help -h --help -V --version' ;;
+    2:help) offered='replay run prompt draw site audit journal help' ;;
     *:replay)
       mapfile -t COMPREPLY < <(compgen -W '-h --help' -- "$word"; compgen -f -- "$word")
       compopt -o filenames 2> /dev/null
@@ -44,6 +44,11 @@ _shmdbg() {
           ;;
         *) offered='--sites --me --preset --journal --new -h --help' ;;
       esac
+      ;;
+    *:journal)
+      mapfile -t COMPREPLY < <(compgen -W '-h --help' -- "$word"; compgen -f -- "$word")
+      compopt -o filenames 2> /dev/null
+      return
       ;;
     *:audit)
       case $before in

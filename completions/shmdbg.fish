@@ -7,6 +7,7 @@ complete -c shmdbg -n __fish_use_subcommand -a prompt -d 'Answer each line as it
 complete -c shmdbg -n __fish_use_subcommand -a draw -d 'Draw the run that a script leaves, of a file or of standard input'
 complete -c shmdbg -n __fish_use_subcommand -a site -d 'Run one site of a cluster on the lines of standard input'
 complete -c shmdbg -n __fish_use_subcommand -a audit -d 'Audit the journals of all sites of a cluster'
+complete -c shmdbg -n __fish_use_subcommand -a journal -d "Tell what a site's journal has"
 complete -c shmdbg -n __fish_use_subcommand -a help -d 'Print help'
 complete -c shmdbg -n __fish_use_subcommand -s h -l help -d 'Print help'
 complete -c shmdbg -n __fish_use_subcommand -s V -l version -d 'Print the version'
@@ -30,4 +31,6 @@ complete -c shmdbg -n '__fish_seen_subcommand_from site' -s h -l help -d 'Print 
 complete -c shmdbg -n '__fish_seen_subcommand_from audit' -F
 complete -c shmdbg -n '__fish_seen_subcommand_from audit' -l sites -x -a '(seq 16)' -d 'How many sites, 1 to 16'
 complete -c shmdbg -n '__fish_seen_subcommand_from audit' -s h -l help -d 'Print help'
-complete -c shmdbg -n '__fish_seen_subcommand_from help' -a 'replay run prompt draw site audit help'
+complete -c shmdbg -n '__fish_seen_subcommand_from journal' -F
+complete -c shmdbg -n '__fish_seen_subcommand_from journal' -s h -l help -d 'Print help'
+complete -c shmdbg -n '__fish_seen_subcommand_from help' -a 'replay run prompt draw site audit journal help'

@@ -10,7 +10,7 @@ use Rattle.shmdbg.specs.Commands.{app}
 use Rattle.shmdbg.specs.Done.{has_audit}
 use Rattle.shmdbg.specs.Words.{among_fault, asked_for, fault_in, file_fault, has_file, has_plain_numbers, is_among, name_of, names_file, names_one, task_fault, AskFor, IsAsked, IsOneOfSites}
 use Rattle.shmdbg.specs.declared.words.task.Task.{Task}
-use Rattle.shmdbg.specs.declared.words.task.Task.TheVariants.{Audit, Draw, Prompt, Replay, Run, Site}
+use Rattle.shmdbg.specs.declared.words.task.Task.TheVariants.{Audit, Draw, Journal, Prompt, Replay, Run, Site}
 use Rattle.shmdbg.specs.Status.{Asks, AsksForAudit, Takes}
 use Rattle.shmdbg.proofs.Wrong.{plainly_spelled}
 
@@ -41,6 +41,7 @@ one_of_sites name rows Prompt among asked = tt
 one_of_sites name rows (Draw page file) among asked = tt
 one_of_sites name rows (Site sites me pages journal begins) among asked = (is_below sites me among, asked.options.3)
 one_of_sites name rows (Audit sites journals) among asked = tt
+one_of_sites name rows (Journal file) among asked = tt
 
 pub one_of_asked : (words : List Text) (task : Task) → is_among task ≡ true → AskFor words task → IsOneOfSites task
 one_of_asked words task among asked =
@@ -54,6 +55,7 @@ one_named name rows Prompt asked = rw asked.called refl
 one_named name rows (Draw page file) asked = rw asked.called refl
 one_named name rows (Site sites me pages journal begins) asked = rw (asked.called, asked.options.0, asked.options.1) refl
 one_named name rows (Audit sites journals) asked = rw asked.called refl
+one_named name rows (Journal file) asked = rw asked.called refl
 
 -- the words name a site that is there where their task does
 pub among_asked : (words : List Text) (task : Task) → AskFor words task → option_map_or names_one (subcommand_of app words) true ≡ is_among task
@@ -69,6 +71,7 @@ file_named name rows (Draw page file) asked = rw asked.called refl
 file_named name rows (Site sites me pages None begins) asked = rw (asked.called, asked.options.4, asked.options.5) refl
 file_named name rows (Site sites me pages (Some file) begins) asked = rw (asked.called, asked.options.4, asked.options.5) refl
 file_named name rows (Audit sites journals) asked = rw asked.called refl
+file_named name rows (Journal file) asked = rw asked.called refl
 
 -- the words name a file for the journal that is to be begun where their task does
 pub file_asked : (words : List Text) (task : Task) → AskFor words task → option_map_or names_file (subcommand_of app words) true ≡ has_file task
@@ -94,6 +97,7 @@ by_name Prompt = refl
 by_name (Draw page file) = refl
 by_name (Site sites me pages journal begins) = refl
 by_name (Audit sites journals) = refl
+by_name (Journal file) = refl
 
 of_audit : (task : Task) → has_audit task ≡ true → (name_of task ≡ codes "run") ⊎ (name_of task ≡ codes "audit")
 of_audit (Replay file) is = absurd (cc)
@@ -102,6 +106,7 @@ of_audit Prompt is = absurd (cc)
 of_audit (Draw page file) is = absurd (cc)
 of_audit (Site sites me pages journal begins) is = absurd (cc)
 of_audit (Audit sites journals) is = inr refl
+of_audit (Journal file) is = absurd (cc)
 
 -- words ask for an audit where their task has one
 pub audit_asked : (words : List Text) (task : Task) → Takes words → AskFor words task → has_audit task ≡ true → AsksForAudit words

@@ -75,6 +75,13 @@ journals_rule = record (new_rule (codes "journals")) {
 abbrev pub audit_app : App
 audit_app = with_rule (with_rule (new_app (codes "audit")) sites_rule) journals_rule
 
+-- one text that stands by no option's name
+abbrev pub journal_file_rule : Rule
+journal_file_rule = record (new_rule (codes "file")) { required = true; action = Some Set; value_names = 1 }
+
+abbrev pub journal_app : App
+journal_app = with_rule (new_app (codes "journal")) journal_file_rule
+
 -- a subcommand is required, and `--version` tells the version
 abbrev pub bare_app : App
 bare_app = record { top = record (new_app (codes "shmdbg")).top { subcommand_required = true; has_version = true }; subs = [] }
@@ -82,6 +89,7 @@ bare_app = record { top = record (new_app (codes "shmdbg")).top { subcommand_req
 -- the program with all its subcommands
 abbrev pub app : App
 app =
-    with_subcommand (with_subcommand (with_subcommand (with_subcommand (with_subcommand (with_subcommand bare_app replay_app.top)
+    with_subcommand (with_subcommand (with_subcommand (with_subcommand (with_subcommand (with_subcommand (with_subcommand bare_app replay_app.top)
     run_app.top) prompt_app.top) draw_app.top) site_app.top)
-    audit_app.top
+    audit_app.top)
+    journal_app.top

@@ -13,7 +13,7 @@ use Rattle.shm_place.specs.Limits.{pages as most_pages}
 use Rattle.shm_place.specs.declared.page.PageId.{PageId}
 use Rattle.shmdbg.specs.Commands.{app}
 use Rattle.shmdbg.specs.declared.words.task.Task.{Task}
-use Rattle.shmdbg.specs.declared.words.task.Task.TheVariants.{Replay, Run, Prompt, Draw, Site, Audit}
+use Rattle.shmdbg.specs.declared.words.task.Task.TheVariants.{Replay, Run, Prompt, Draw, Site, Audit, Journal}
 
 -- the name of the subcommand that the words ask for, where the program takes them; the first word is the program's name
 abbrev pub asked_for : List Text → Option Text
@@ -27,6 +27,7 @@ name_of Prompt = codes "prompt"
 name_of (Draw page file) = codes "draw"
 name_of (Site sites me pages journal begins) = codes "site"
 name_of (Audit sites journals) = codes "audit"
+name_of (Journal file) = codes "journal"
 
 -- ---- what is given for an option
 
@@ -76,6 +77,7 @@ HasOptions rows (Site sites me pages journal begins) =
     × HasPages pages × (first_of (codes "journal") rows ≡ option_map (λ file. file.now) journal) × (is_set_at (codes "new") rows ≡ begins)
 HasOptions rows (Audit sites journals) =
     (number_at (codes "sites") rows ≡ Some sites) × (all_of (codes "journals") rows ≡ Some (map (λ file. file.now) journals.items))
+HasOptions rows (Journal file) = first_of (codes "file") rows ≡ Some file.now
 
 -- a subcommand's name, and what stands behind it, ask for the task
 pub record IsAsked (name : Text) (rows : List Row) (task : Task) : Type 0 where

@@ -9,6 +9,7 @@ ghost use Rattle.shmdbg.specs.Words.{IsOneOfSites};
 
 use crate::audit::audit;
 use crate::disk::Disk;
+use crate::journal_summary::tell_journal;
 use crate::kept_journal::{Kept, Lock};
 use crate::log_files::{Unlogged, open_logs};
 use crate::run_report::{Wanted, tell_run};
@@ -99,6 +100,7 @@ where
             begins,
         } => site(rt, sites, me, pages, journal, begins, reader, out, errors),
         Task::Audit { sites, journals } => audit(rt, sites, journals.as_slice(), out, errors),
+        Task::Journal { file } => tell_journal(rt, file, out, errors),
     }
 }
 
@@ -285,7 +287,7 @@ where
     match journal {
         Some(name) => {
             let kept = Kept { name, begins };
-            let ended = be_kept_site(rt, sites, me, pages, kept, reader, out);
+            let ended = be_kept_site(rt, sites, me, pages, kept, reader, out, errors);
             tell_end(ended, errors)
         }
         None => {

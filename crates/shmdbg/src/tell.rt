@@ -11,6 +11,7 @@ use crate::log_files::Unlogged;
 use crate::script_file_fault::ScriptFileFault;
 use crate::site_fault::SiteFault;
 use crate::standard_streams::Stream;
+use crate::taken_again::TakenAgain;
 use crate::unaudited::Unaudited;
 use clap::error::ErrorKind;
 use shm_audit::{JournalFault, JournalsFault};
@@ -81,6 +82,11 @@ pub fn site_fault<E: Write>(fault: SiteFault, errors: &mut E) -> u8
         SiteFault::Unrecovered(RecoveryFault::Foreign | RecoveryFault::BadLine(_)) => 1,
         _ => 3,
     }
+}
+
+/// Tells what a site took again of its journal. A failure to write it is passed over.
+pub fn taken_again<E: Write>(again: TakenAgain, errors: &mut E) {
+    let _ = writeln!(errors, "shmdbg: {again}");
 }
 
 /// The exit status where journals of these names weren't accepted. Its one line goes to `errors`: with the journal and the line, where there

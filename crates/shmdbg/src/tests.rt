@@ -8,6 +8,7 @@ mod runs;
 mod script_files;
 mod sites;
 mod streams;
+mod summaries;
 mod words;
 
 use crate::kept_journal::Lock;

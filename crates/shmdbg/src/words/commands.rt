@@ -21,7 +21,8 @@ pub(crate) fn command<'a>(alloc: Global) -> Result<Command<'a>, AllocError>
         .subcommand(prompt_command(alloc))?
         .subcommand(draw_command(alloc)?)?
         .subcommand(site_command(alloc)?)?
-        .subcommand(audit_command(alloc)?)
+        .subcommand(audit_command(alloc)?)?
+        .subcommand(journal_command(alloc)?)
 }
 
 /// The program without its subcommands.
@@ -101,6 +102,16 @@ fn audit_command<'a>(alloc: Global) -> Result<Command<'a>, AllocError>
         .after_help(help::AUDIT)
         .arg(sites_arg(alloc))?
         .arg(journals_arg(alloc))
+}
+
+fn journal_command<'a>(alloc: Global) -> Result<Command<'a>, AllocError>
+    ensures app { IfOk result (λ c. app_of c ≡ spec.journal_app) }
+    ensures local { IfOk result (λ c. (out-Command c).has_globals ≡ false) }
+{
+    Command::new(alloc, "journal")
+        .about("Tell what a site's journal has")
+        .after_help(help::JOURNAL)
+        .arg(journal_file_arg(alloc))
 }
 
 fn sites_arg<'a>(alloc: Global) -> Arg<'a>
@@ -206,6 +217,17 @@ fn journal_arg<'a>(alloc: Global) -> Arg<'a>
         .long("journal")
         .value_name("FILE")
         .help("Keep the site's journal in this file, and go on from it")
+        .action(ArgAction::Set)
+}
+
+fn journal_file_arg<'a>(alloc: Global) -> Arg<'a>
+    ensures rule { rule_of result ≡ spec.journal_file_rule }
+    ensures local { result.global ≡ false }
+{
+    Arg::new(alloc, "file")
+        .value_name("FILE")
+        .help("The journal")
+        .required(true)
         .action(ArgAction::Set)
 }
 

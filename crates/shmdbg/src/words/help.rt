@@ -146,6 +146,26 @@ and the line), or they aren't those of one set of sites, 2 these words were
 refused, 3 memory, reading or writing failed, or a file can't be opened, 4 the
 audit found a cause.";
 
+/// Of what a journal has.
+pub const JOURNAL: &str = "\
+Reads the journal of a site, whichever it is, and changes nothing. Standard input
+isn't read. A file whose name begins with a hyphen comes after --.
+Output: the site, of how many, and how many pages segment 0 has; how many steps
+are recorded, and the clock of the last; how many bytes the file has, and how
+many of them are torn: they stand behind the last whole line, as a crash may
+leave them, and the site's next start cuts them off.
+  $ shmdbg journal site-0.journal
+  site 0
+  sites 2
+  pages 1
+  steps 12
+  clock 17
+  bytes 5902
+  torn 0
+Exit status: 0 done, 1 the file is no journal (standard error tells the line), 2
+these words were refused, 3 memory, reading or writing failed, or the file can't
+be opened.";
+
 /// Of the prompt.
 pub const PROMPT: &str = "\
 Lines are those of a script, and

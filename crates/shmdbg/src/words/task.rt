@@ -37,4 +37,8 @@ pub enum Task<'a> {
         sites: Sites,
         journals: Vec<&'a str>,
     },
+    /// Tell what the journal in this file has.
+    Journal {
+        file: &'a str,
+    },
 }
