@@ -69,12 +69,16 @@ bench:
 
 # Sites that are started wrongly, in each way; what strace makes fail is left out where it isn't there. Sites as processes, and a network
 # between them that loses, repeats and reorders: some seconds of loads and stores, each load looked at.
-# Then sites over an MQTT broker on this machine's loopback, with callers, crashes and an audit. Needs the program that `make build` leaves,
-# Python 3, a C compiler, and the Debian packages mosquitto and mosquitto-clients, which it names where they are missing.
+# Then mutated lines; a backup that is restored; and sites over an MQTT broker on this machine's loopback, with callers, crashes and an audit,
+# and with TLS. Needs the program that `make build` leaves, Python 3, a C compiler, openssl, and the Debian packages mosquitto and
+# mosquitto-clients, which it names where they are missing.
 machines:
 	@examples/machines/starts.py $(PROGRAM)/out/shmdbg
 	@for seed in 1 2 3; do examples/machines/router.py --seed $$seed --seconds 4 --program $(PROGRAM)/out/shmdbg || exit 1; done
+	@examples/machines/mutations.py --lines 20000 --program $(PROGRAM)/out/shmdbg
+	@examples/machines/backup.py $(PROGRAM)/out/shmdbg
 	@examples/machines/broker.py --program $(PROGRAM)/out/shmdbg
+	@examples/machines/tls.py $(PROGRAM)/out/shmdbg
 
 # Sites that are killed and started again from their journals, for ten minutes: each byte's history is looked at, and the journals are audited.
 # Needs the program that `make build` leaves, and Python 3.
@@ -99,7 +103,7 @@ refused:
 # The gate: tries the programs that must not compile, proves every crate from nothing (newer toolchains: what this machine hasn't proved before), and runs every test, every program and every edit
 # that must fail.
 test: refused
-	rt ci 2>&1
+	RT_JOBS=$${RT_JOBS:-$$(gate/lanes)} rt ci 2>&1
 
 # The wrong bodies that the gate leaves out for its time: the prover must refuse each of these, too. Tried in a clone of the last commit,
 # four crates at a time.

@@ -26,10 +26,11 @@ enum {
     IDLE_TICK = 1000,   /* milliseconds, else */
     STOP = 5000,        /* milliseconds until a process that doesn't end is told to, by SIGTERM and then by SIGKILL */
     RESTARTS = 16,      /* how often the process is started again at most */
-    MOST_AT_ONCE = 512, /* asks of one batch */
-    ASK_BYTES = 128,
+    QUESTION_BYTES = 80, /* of a segment call */
+    LETTERS = (PAGE + 2) / 3 * 4, /* of a page's base64 */
+    ASK_BYTES = 128 + LETTERS,
     ANSWER_BYTES = 192,
-    BLOCK_ANSWER_BYTES = 6 + (PAGE + 2) / 3 * 4 + 1, /* `block `, the base64 of a page, and the end */
+    BLOCK_ANSWER_BYTES = 6 + LETTERS + 1, /* `block `, the base64 of a page, and the end */
     READ_BYTES = 1 << 16,
     MOST_UNWRITTEN = 1 << 22,
     NO_ATTACHMENT = 64, /* attachments are below it */
@@ -588,7 +589,7 @@ static int ask_call(struct leddwyfan *site, const char *question, char reply[ANS
 
 /* The same, and a reply that is an error is told by errno. */
 static int call(struct leddwyfan *site, char reply[ANSWER_BYTES], const char *format, ...) {
-    char question[ASK_BYTES / 2 + 16];
+    char question[QUESTION_BYTES];
     va_list values;
     va_start(values, format);
     vsnprintf(question, sizeof question, format, values);
@@ -665,61 +666,12 @@ struct piece {
     unsigned char *into;
 };
 
-/* Takes the answers of a batch of stores, whose places in the piece these are. Those that found 64 asks waiting at the site weren't kept
-   there, and are put at the front; the answer is how many these are. */
-static int take_answers(const struct batch *batch, uint16_t *places) {
-    int turned_away = 0;
-    for (size_t index = 0; index < batch->count; index++) {
-        const char *words = batch->asks[index].answer;
-        if (strcmp(words, "fault") == 0 || strcmp(words, "waiting") == 0) {
-            places[turned_away++] = places[index];
-        } else if (strncmp(words, "refused ", 8) == 0) {
-            return refused(strtol(words + 8, NULL, 10));
-        } else if (strcmp(words, "stored") != 0) {
-            return failed(EIO);
-        }
-    }
-    return turned_away;
-}
-
-/* Asks for the stores at these places of the piece. */
-static int store_places(struct leddwyfan *site, const struct piece *piece, uint16_t *places, size_t count, int64_t deadline) {
-    struct batch *batch = new_batch(count, ANSWER_BYTES, false);
-    if (batch == NULL) return -1;
-    for (size_t index = 0; index < count; index++) {
-        size_t place = places[index];
-        snprintf(batch->asks[index].line, ASK_BYTES, "store %d %zu %d", piece->at, piece->offset + place, piece->from[place]);
-    }
-    int result = exchange(site, batch, deadline);
-    if (result == 0) result = take_answers(batch, places);
-    free_batch(batch);
-    return result;
-}
-
-/* The first store brings the page here, then the others are asked in one go. */
-static int store_piece(struct leddwyfan *site, const struct piece *piece) {
-    uint16_t places[PAGE];
-    size_t left = piece->length, most = 1;
-    int64_t deadline = deadline_of(site);
-    for (size_t place = 0; place < left; place++) places[place] = (uint16_t)place;
-    while (left > 0) {
-        size_t asked = left < most ? left : most;
-        int result = store_places(site, piece, places, asked, deadline);
-        if (result < 0) return -1;
-        size_t turned_away = (size_t)result;
-        memmove(places + turned_away, places + asked, (left - asked) * sizeof *places);
-        left -= asked - turned_away;
-        most = turned_away > 0 ? 1 : MOST_AT_ONCE;
-        if (turned_away == asked) pause_for(TICK);
-    }
-    return 0;
-}
+static const char base64_letters[] = "ABCDEFGHIJKLMNOPQRSTUVWXYZabcdefghijklmnopqrstuvwxyz0123456789+/";
 
 /* The six bits that a letter of base64 says, or -1. */
 static int bits_of(char letter) {
-    static const char letters[] = "ABCDEFGHIJKLMNOPQRSTUVWXYZabcdefghijklmnopqrstuvwxyz0123456789+/";
-    const char *found = letter == '\0' ? NULL : strchr(letters, letter);
-    return found == NULL ? -1 : (int)(found - letters);
+    const char *found = letter == '\0' ? NULL : strchr(base64_letters, letter);
+    return found == NULL ? -1 : (int)(found - base64_letters);
 }
 
 /* Whether the text is the base64 of so many bytes, which are then put there; where it isn't, some may be. */
@@ -740,6 +692,19 @@ static bool decode(const char *text, unsigned char *into, size_t length) {
     return true;
 }
 
+/* Puts there the base64 of so many bytes, and an end. */
+static void encode(const unsigned char *from, size_t length, char *into) {
+    for (; length > 0; into += 4) {
+        size_t count = length < 3 ? length : 3;
+        uint32_t bits = 0;
+        for (size_t place = 0; place < 3; place++) bits = bits << 8 | (place < count ? from[place] : 0);
+        for (size_t place = 0; place < 4; place++) into[place] = place <= count ? base64_letters[bits >> (18 - 6 * place) & 63] : '=';
+        from += count;
+        length -= count;
+    }
+    *into = '\0';
+}
+
 /* Whether the text is the number of a byte, as a site spells it. The byte is then put there. */
 static bool read_byte(const char *text, unsigned char *into) {
     size_t digits = strspn(text, "0123456789");
@@ -750,30 +715,40 @@ static bool read_byte(const char *text, unsigned char *into) {
     return true;
 }
 
-/* Takes the answer of a load, or of a block. Where it found 64 asks waiting at the site it wasn't kept there, and the answer is 1. */
-static int take_block(const char *words, const struct piece *piece) {
-    if (piece->length == 1 && strncmp(words, "byte ", 5) == 0 && read_byte(words + 5, piece->into)) return 0;
-    if (piece->length > 1 && strncmp(words, "block ", 6) == 0 && decode(words + 6, piece->into, piece->length)) return 0;
+/* Asks for the piece as one block, and for one byte as a load or a store: where its page is here these need no place among the asks that wait,
+   and a block does. */
+static void ask_piece(const struct piece *piece, char line[ASK_BYTES]) {
+    if (piece->into != NULL && piece->length == 1) {
+        snprintf(line, ASK_BYTES, "load %d %zu", piece->at, piece->offset);
+    } else if (piece->into != NULL) {
+        snprintf(line, ASK_BYTES, "read %d %zu %zu", piece->at, piece->offset, piece->length);
+    } else if (piece->length == 1) {
+        snprintf(line, ASK_BYTES, "store %d %zu %d", piece->at, piece->offset, *piece->from);
+    } else {
+        int front = snprintf(line, ASK_BYTES, "write %d %zu ", piece->at, piece->offset);
+        encode(piece->from, piece->length, line + front);
+    }
+}
+
+/* Takes the answer. Where the ask found 64 others waiting at the site it wasn't kept there, and the answer is 1. */
+static int take_piece(const char *words, const struct piece *piece) {
+    bool reads = piece->into != NULL;
+    if (!reads && strcmp(words, "stored") == 0) return 0;
+    if (reads && piece->length == 1 && strncmp(words, "byte ", 5) == 0 && read_byte(words + 5, piece->into)) return 0;
+    if (reads && piece->length > 1 && strncmp(words, "block ", 6) == 0 && decode(words + 6, piece->into, piece->length)) return 0;
     if (strcmp(words, "waiting") == 0 || strcmp(words, "fault") == 0) return 1;
     if (strncmp(words, "refused ", 8) == 0) return refused(strtol(words + 8, NULL, 10));
     return failed(EIO);
 }
 
-/* Reads the piece as one block, and one byte as a load: where its page is here a load needs no place among the asks that wait, and a block
-   does. */
-static int read_piece(struct leddwyfan *site, const struct piece *piece) {
+static int access_piece(struct leddwyfan *site, const struct piece *piece) {
     int64_t deadline = deadline_of(site);
     for (;;) {
         struct batch *batch = new_batch(1, BLOCK_ANSWER_BYTES, false);
         if (batch == NULL) return -1;
-        char *line = batch->asks[0].line;
-        if (piece->length == 1) {
-            snprintf(line, ASK_BYTES, "load %d %zu", piece->at, piece->offset);
-        } else {
-            snprintf(line, ASK_BYTES, "read %d %zu %zu", piece->at, piece->offset, piece->length);
-        }
+        ask_piece(piece, batch->asks[0].line);
         int result = exchange(site, batch, deadline);
-        if (result == 0) result = take_block(batch->asks[0].answer, piece);
+        if (result == 0) result = take_piece(batch->asks[0].answer, piece);
         free_batch(batch);
         if (result <= 0) return result;
         pause_for(TICK);
@@ -790,7 +765,7 @@ static int access_all(struct leddwyfan *site, struct piece piece) {
     while (left > 0) {
         size_t of_page = PAGE - piece.offset % PAGE;
         piece.length = left < of_page ? left : of_page;
-        if ((piece.from == NULL ? read_piece(site, &piece) : store_piece(site, &piece)) < 0) return -1;
+        if (access_piece(site, &piece) < 0) return -1;
         left -= piece.length;
         piece.offset += piece.length;
         if (piece.from != NULL) piece.from += piece.length;

@@ -8,25 +8,15 @@
    daemon's own standard input and output. */
 #include "host.h"
 
-#include <errno.h>
-#include <fcntl.h>
 #include <getopt.h>
-#include <linux/userfaultfd.h>
 #include <poll.h>
 #include <signal.h>
 #include <stdarg.h>
-#include <stdio.h>
 #include <sys/epoll.h>
-#include <sys/ioctl.h>
 #include <sys/resource.h>
-#include <sys/stat.h>
-#include <sys/syscall.h>
-#include <sys/utsname.h>
 #include <sys/wait.h>
-#include <time.h>
-#include <unistd.h>
 
-enum { READ_BYTES = 1 << 16, MOST_UNWRITTEN = 1 << 22, PIPE_BYTES = 1 << 20, EVENTS = 64, OLDEST_MAJOR = 6, OLDEST_MINOR = 4 };
+enum { READ_BYTES = 1 << 16, MOST_UNWRITTEN = 1 << 22, PIPE_BYTES = 1 << 20, EVENTS = 64 };
 
 static const int64_t TICK = SECOND / 20, IDLE_TICK = SECOND, UNWRITTEN_WAIT = 200000;
 
@@ -37,7 +27,7 @@ static char **carriers[2]; /* the commands' words */
 static pid_t processes[2];
 static int64_t carrier_due, last_tick; /* when ended commands are started again, or 0 */
 static int poller;
-static bool heard, carried; /* something came since the last tick, and since the carrier was started */
+static bool heard, carried = true; /* something came since the last tick, and since the carrier was started again */
 static volatile sig_atomic_t ending;
 
 int64_t now(void) {
@@ -61,8 +51,8 @@ void complain(const char *format, ...) {
     va_end(values);
 }
 
-void watch(int descriptor, enum source source, int index) {
-    struct epoll_event event = {.events = EPOLLIN, .data.u64 = (uint64_t)source << 32 | (unsigned)index};
+void watch(int descriptor, struct source *source) {
+    struct epoll_event event = {.events = EPOLLIN, .data.ptr = source};
     if (epoll_ctl(poller, EPOLL_CTL_ADD, descriptor, &event) == 0) return;
     if (errno == EPERM) FAIL("nothing can be awaited from standard input: give a carrier behind --");
     FAIL("nothing more can be awaited: %s", strerror(errno));
@@ -97,37 +87,23 @@ void write_lines(struct channel *channel) {
     }
 }
 
-static void take_whole_lines(struct channel *channel, void (*take)(char *)) {
-    size_t start = 0;
-    for (char *feed; (feed = memchr(channel->bytes + start, '\n', channel->length - start)) != NULL;) {
-        char *line = channel->bytes + start;
+bool read_lines(struct channel *channel, void (*take)(char *)) {
+    reserve(channel, READ_BYTES);
+    ssize_t count = read(channel->descriptor, channel->bytes + channel->length, READ_BYTES);
+    if (count <= 0) return count < 0 && (errno == EAGAIN || errno == EINTR);
+    char *line = channel->bytes, *end = line + channel->length + count;
+    for (char *feed; (feed = memchr(line, '\n', (size_t)(end - line))) != NULL; line = feed + 1) {
         *feed = '\0';
-        start = (size_t)(feed + 1 - channel->bytes);
         take(line);
     }
-    take_off(channel, start);
-}
-
-bool read_lines(struct channel *channel, void (*take)(char *)) {
-    ssize_t count;
-    do {
-        reserve(channel, READ_BYTES);
-        count = read(channel->descriptor, channel->bytes + channel->length, READ_BYTES);
-        if (count <= 0) return count < 0 && (errno == EAGAIN || errno == EINTR);
-        channel->length += (size_t)count;
-        take_whole_lines(channel, take);
-    } while (count == READ_BYTES);
+    channel->length = (size_t)(end - channel->bytes);
+    take_off(channel, (size_t)(line - channel->bytes));
     return true;
 }
 
 /* Where too much is on its way already this line is lost: a tick sends it again. */
 void carry(const char *line) {
     if (to_carrier.length < MOST_UNWRITTEN) push_line(&to_carrier, line);
-}
-
-static void hear_line(char *line) {
-    heard = carried = true;
-    take_stream_line(line);
 }
 
 /* Processes. */
@@ -137,7 +113,8 @@ static void set_up(int descriptor) {
     fcntl(descriptor, F_SETFL, fcntl(descriptor, F_GETFL) | O_NONBLOCK);
 }
 
-pid_t start_process(char *const *words, int *input, int *output) {
+/* Starts a command whose input and output are the channels', where there are any. */
+pid_t start_process(char *const *words, struct channel *input, struct channel *output) {
     int into[2], out_of[2];
     if (pipe2(into, O_CLOEXEC) < 0 || pipe2(out_of, O_CLOEXEC) < 0) FAIL("no pipe: %s", strerror(errno));
     pid_t process = fork();
@@ -152,23 +129,16 @@ pid_t start_process(char *const *words, int *input, int *output) {
     }
     close(into[0]);
     close(out_of[1]);
-    set_up(*input = into[1]);
-    set_up(*output = out_of[0]);
+    set_up(input->descriptor = into[1]);
+    set_up(output->descriptor = out_of[0]);
     return process;
 }
 
-static void start_carrier(void) {
-    static int unused[2] = {-1, -1};
-    carrier_due = 0;
-    if (options.sites == 1 && carriers[0] == NULL) return;
-    if (carriers[0] == NULL) set_up(0), set_up(1);
-    else if (carriers[1] == NULL) processes[0] = start_process(carriers[0], &to_carrier.descriptor, &from_carrier.descriptor);
-    else {
-        for (int index = 0; index < 2; index++) close(unused[index]);
-        processes[0] = start_process(carriers[0], &unused[0], &from_carrier.descriptor);
-        processes[1] = start_process(carriers[1], &to_carrier.descriptor, &unused[1]);
-    }
-    watch(from_carrier.descriptor, CARRIER, 0);
+/* The carrier. */
+
+static void hear_line(char *line) {
+    heard = carried = true;
+    take_stream_line(line);
 }
 
 static void stop_carrier(void) {
@@ -182,33 +152,36 @@ static void stop_carrier(void) {
 }
 
 /* A daemon whose own standard input has ended goes on for the programs that are there. */
-static void carrier_ended(void) {
-    static bool said;
+static void carrier_ready(struct source *source) {
+    (void)source;
+    if (carrier_due != 0 || read_lines(&from_carrier, hear_line)) return;
     stop_carrier();
-    if (!said || carried) complain("%s", carriers[0] == NULL ? "the stream has ended" : "the carrier has ended, and is started again each second");
-    said = true;
+    if (carried) complain("%s", carriers[0] == NULL ? "the stream has ended" : "the carrier has ended, and is started again each second");
     carried = false;
     carrier_due = carriers[0] == NULL ? INT64_MAX : now() + SECOND;
 }
 
-/* The loop. */
-
-static void take_event(const struct epoll_event *event) {
-    int index = (int)(event->data.u64 & UINT32_MAX);
-    switch ((enum source)(event->data.u64 >> 32)) {
-    case CARRIER:
-        if (carrier_due == 0 && !read_lines(&from_carrier, hear_line)) carrier_ended();
-        break;
-    case SITE: site_ready(); break;
-    case LISTENER: accept_program(); break;
-    case CONNECTION: connection_ready(index); break;
-    case FAULTS: program_ready(index); break;
+static void start_carrier(void) {
+    static struct source source = {carrier_ready};
+    static struct channel unused[2] = {{.descriptor = -1}, {.descriptor = -1}};
+    carrier_due = 0;
+    if (options.sites == 1 && carriers[0] == NULL) return;
+    if (carriers[0] == NULL) {
+        set_up(0);
+        set_up(1);
+    } else {
+        bool two = carriers[1] != NULL;
+        for (int index = 0; index < 2; index++) close(unused[index].descriptor);
+        processes[0] = start_process(carriers[0], two ? &unused[0] : &to_carrier, &from_carrier);
+        if (two) processes[1] = start_process(carriers[1], &to_carrier, &unused[1]);
     }
+    watch(from_carrier.descriptor, &source);
 }
+
+/* The loop. */
 
 static void tick(void) {
     if (carrier_due != 0 && now() > carrier_due) start_carrier();
-    if (carrier_due == INT64_MAX && !segments_here()) ending = 1;
     bool waits = heard || site_waits() || pages_wait();
     if (now() < last_tick + (waits ? TICK : IDLE_TICK)) return;
     last_tick = now();
@@ -221,17 +194,18 @@ static void tick(void) {
 static void turn(void) {
     static bool idle;
     struct epoll_event events[EVENTS];
-    programs_turn();
-    int64_t due = pages_turn(), wait = due == INT64_MAX ? TICK : due - now();
-    segments_turn();
+    int64_t due = pages_turn(idle), wait = due == INT64_MAX ? TICK : due - now();
+    if (!segments_turn() && carrier_due == INT64_MAX) ending = 1;
     bool unwritten = !site_flush();
     if (carrier_due == 0) write_lines(&to_carrier);
-    pages_wake(idle);
     if ((unwritten || to_carrier.length > 0) && wait > UNWRITTEN_WAIT) wait = UNWRITTEN_WAIT;
     wait = wait < 0 ? 0 : wait < TICK ? wait : TICK;
     ppoll(&(struct pollfd){.fd = poller, .events = POLLIN}, 1, &(struct timespec){0, wait}, NULL);
     int count = epoll_wait(poller, events, EVENTS, 0);
-    for (int index = 0; index < count; index++) take_event(&events[index]);
+    for (int index = 0; index < count; index++) {
+        struct source *source = events[index].data.ptr;
+        source->ready(source);
+    }
     idle = count == 0;
     tick();
 }
@@ -252,68 +226,49 @@ static void finish(void) {
 
 /* The start. */
 
-/* Says what to set where something is lacking. */
-static void check_kernel(void) {
-    struct utsname name;
-    struct uffdio_api api = {.api = UFFD_API, .features = FAULT_FEATURES};
-    int major = 0, minor = 0, device = open("/dev/userfaultfd", O_RDWR | O_CLOEXEC);
-    uname(&name);
-    sscanf(name.release, "%d.%d", &major, &minor);
-    if (major < OLDEST_MAJOR || (major == OLDEST_MAJOR && minor < OLDEST_MINOR)) FAIL("Linux %d.%d or later is needed", OLDEST_MAJOR, OLDEST_MINOR);
-    int faults = (int)(device >= 0 ? ioctl(device, USERFAULTFD_IOC_NEW, O_CLOEXEC) : syscall(SYS_userfaultfd, O_CLOEXEC));
-    if (faults < 0) FAIL("page faults can't be served: run the daemon as root, or let it read and write /dev/userfaultfd (CONFIG_USERFAULTFD)");
-    if (device < 0) complain("/dev/userfaultfd can't be opened: programs that aren't root's need `sysctl vm.unprivileged_userfaultfd=1`");
-    if (ioctl(faults, UFFDIO_API, &api) < 0) FAIL("forks and stores can't be followed: run the daemon as root, or `setcap cap_sys_ptrace+ep` it");
-    close(faults);
-    if (device >= 0) close(device);
-}
-
 static void usage(void) {
     fputs("leddwyfan-host --sites N --me K [--journal FILE [--new]] [--socket PATH] [--stay MICROSECONDS] [--program shmdbg] [-- CARRIER.. [-- CARRIER..]]\n", stderr);
     exit(2);
 }
 
 static void take_options(int argc, char **argv) {
-    static const struct option names[] = {{"sites", 1, NULL, 'n'}, {"me", 1, NULL, 'm'},      {"journal", 1, NULL, 'j'}, {"socket", 1, NULL, 's'},
-                                          {"stay", 1, NULL, 't'},  {"program", 1, NULL, 'p'}, {"break", 1, NULL, 'b'},   {"new", 0, NULL, 'w'},
-                                          {NULL, 0, NULL, 0}};
+    const char *sites = "", *me = "-1", *stay = "200", *broken = "", *begins = NULL;
+    const char **values[] = {&sites, &me, &options.journal, &begins, &options.socket, &stay, &options.program, &broken};
+    static const struct option names[] = {{"sites", 1, NULL, 0},  {"me", 1, NULL, 1},   {"journal", 1, NULL, 2}, {"new", 0, NULL, 3},  {"socket", 1, NULL, 4},
+                                          {"stay", 1, NULL, 5}, {"program", 1, NULL, 6}, {"break", 1, NULL, 7},  {NULL, 0, NULL, 0}};
     for (int option; (option = getopt_long(argc, argv, "+", names, NULL)) >= 0;) {
-        switch (option) {
-        case 'n': options.sites = atoi(optarg); break;
-        case 'm': options.me = atoi(optarg); break;
-        case 'j': options.journal = optarg; break;
-        case 'w': options.begins = true; break;
-        case 's': options.socket = optarg; break;
-        case 't': options.stay = 1000 * (int64_t)atoi(optarg); break;
-        case 'p': options.program = optarg; break;
-        case 'b': options.broken = (enum broken)atoi(optarg); break; /* of the tests */
-        default: usage();
-        }
+        if (option == '?') usage();
+        *values[option] = optarg == NULL ? "" : optarg;
     }
+    options.sites = atoi(sites);
+    options.me = atoi(me);
+    options.stay = 1000 * (int64_t)atoi(stay);
+    options.broken = atoi(broken);
+    options.begins = begins != NULL;
+    options.fresh = options.journal == NULL || options.begins;
     if (options.sites < 1 || options.sites > 16 || options.me < 0 || options.me >= options.sites || (options.begins && options.journal == NULL)) usage();
-    if (optind < argc) carriers[0] = argv + optind;
-    for (int index = optind; index < argc && carriers[1] == NULL; index++) {
-        if (strcmp(argv[index], "--") == 0) argv[index] = NULL, carriers[1] = argv + index + 1;
-    }
 }
 
-/* Each program here costs two descriptors. */
-static void allow_descriptors(void) {
-    struct rlimit limit;
-    getrlimit(RLIMIT_NOFILE, &limit);
-    limit.rlim_cur = limit.rlim_max;
-    setrlimit(RLIMIT_NOFILE, &limit);
+static void take_carriers(char **words) {
+    if (*words != NULL) carriers[0] = words;
+    while (*words != NULL && strcmp(*words, "--") != 0) words++;
+    if (*words == NULL) return;
+    *words = NULL;
+    carriers[1] = words + 1;
 }
 
 int main(int argc, char **argv) {
+    struct rlimit limit;
     take_options(argc, argv);
-    allow_descriptors();
+    take_carriers(argv + optind);
+    getrlimit(RLIMIT_NOFILE, &limit); /* each program here costs two descriptors */
+    limit.rlim_cur = limit.rlim_max;
+    setrlimit(RLIMIT_NOFILE, &limit);
     check_kernel();
     signal(SIGPIPE, SIG_IGN);
     sigaction(SIGTERM, &(struct sigaction){.sa_handler = end}, NULL);
     sigaction(SIGINT, &(struct sigaction){.sa_handler = end}, NULL);
     poller = epoll_create1(EPOLL_CLOEXEC);
-    options.fresh = options.journal == NULL || options.begins;
     listen_to_programs();
     site_start();
     start_carrier();

@@ -1,45 +1,26 @@
 /* The way of a page at this machine.
 
-   A fault wants a right. Where the page is mapped so already, it is opened at once for the program that faults. Else the site is asked what it
-   has (`show`). With the right its bytes are put into the segment's memory, and the page is opened; without it the site asks for the right, and
-   is asked again when an envelope has come that may have brought it.
+   A fault wants a right. Where the page is mapped so already, it is opened for the program that faults. Else the site is asked what it has
+   (`show`). With the right its bytes are put into the segment's memory, and the page is opened; without it the site asks for the right, and is
+   asked again when an envelope has come that may have brought it.
 
    A right is taken back in this order: the page is protected in every program, so that each store is either seen here or waits; what changed is
    stored at the site; the page is punched out of the segment's memory, which unmaps it everywhere; the envelope passes, behind the stores;
    and who sleeps in futexes of the page is woken, to look again and fault: whoever stores next is elsewhere, and wakes nobody here. */
 #include "host.h"
 
-#include <fcntl.h>
 #include <linux/futex.h>
-#include <stdio.h>
-#include <stdlib.h>
 #include <sys/syscall.h>
-#include <unistd.h>
 
-enum { WOKEN_AT_ONCE = 512 }; /* bytes, which are so many futexes of four */
+enum { WOKEN_AT_ONCE = 512, RUNS_PARTED = 0 }; /* bytes: of futexes; that stand between two runs at least */
 
 /* Nanoseconds: until sleepers are woken though there is other work; for which a page stays at most, and until it is looked at again. */
 static const int64_t PATIENCE = 2000000, LONGEST_STAY = 20000000, LOOK_AGAIN = 50000;
 
 static struct page *busy_pages;
 
-/* A bit for each page that this machine ever stored to, by a hash: of any other one that nobody but its manager had, the bytes are zeros. */
-static uint8_t given[1 << 18];
-
-static size_t page_index(const struct page *page) {
-    return (size_t)(page - page->segment->pages);
-}
-
-uint64_t page_offset(const struct page *page) {
-    return page_index(page) * PAGE;
-}
-
-static uint8_t *page_bytes(const struct page *page) {
-    return page->segment->bytes + page_offset(page);
-}
-
-static size_t given_bit(const struct page *page) {
-    return ((size_t)page->segment->id * 256 + page_index(page)) % (8 * sizeof given);
+static uint8_t *bytes_of(const struct page *page) {
+    return page->segment->bytes + page->offset;
 }
 
 static void set_busy(struct page *page) {
@@ -51,15 +32,21 @@ static void set_busy(struct page *page) {
 
 /* Taking away. */
 
+/* Stores at the site what changed: runs of bytes, between which all is the site's already. */
 static void write_back(struct page *page) {
-    const uint8_t *bytes = page_bytes(page);
+    const uint8_t *bytes = bytes_of(page);
+    size_t start = 0, end = 0;
     if (memcmp(bytes, page->twin, PAGE) == 0) return;
     for (size_t place = 0; place < PAGE; place++) {
-        if (bytes[place] != page->twin[place]) store_byte(page, place, bytes[place]);
+        if (bytes[place] == page->twin[place]) continue;
+        if (place > end + RUNS_PARTED) {
+            store_run(page, start, end);
+            start = place;
+        }
+        end = place + 1;
     }
+    store_run(page, start, end);
     memcpy(page->twin, bytes, PAGE);
-    page->stored = true;
-    given[given_bit(page) / 8] |= (uint8_t)(1u << given_bit(page) % 8);
 }
 
 /* Brings back what programs stored to a page. Who stores to it now faults again. */
@@ -78,10 +65,14 @@ static void unmap_to(struct page *page, enum right right) {
     page->mapped = right;
     if (right != NONE) return;
     int mode = FALLOC_FL_PUNCH_HOLE | FALLOC_FL_KEEP_SIZE;
-    if (fallocate(page->segment->memory, mode, (off_t)page_offset(page), PAGE) < 0) FAIL("a page can't be taken out of memory");
+    if (fallocate(page->segment->memory, mode, (off_t)page->offset, PAGE) < 0) FAIL("a page can't be taken out of memory");
     if (page->sleepers == 0) page->left = now();
     page->sleepers = PAGE;
     set_busy(page);
+}
+
+void page_leaves(struct page *page) {
+    if (page->mapped != NONE) unmap_to(page, NONE);
 }
 
 /* Some at a time, as each is a system call, and faults don't wait meanwhile: but all of them where they waited long. */
@@ -89,72 +80,56 @@ static void wake_sleepers(struct page *page) {
     size_t end = now() > page->left + PATIENCE ? 0 : page->sleepers - WOKEN_AT_ONCE;
     while (page->sleepers > end) {
         page->sleepers -= sizeof(int);
-        syscall(SYS_futex, page_bytes(page) + page->sleepers, FUTEX_WAKE, INT32_MAX, NULL, NULL, 0);
+        syscall(SYS_futex, bytes_of(page) + page->sleepers, FUTEX_WAKE, INT32_MAX, NULL, NULL, 0);
     }
-}
-
-void page_leaves(struct page *page) {
-    if (page->mapped != NONE) unmap_to(page, NONE);
-}
-
-void drop_page(struct page *page) {
-    for (struct page **place = &busy_pages; *place != NULL; place = &(*place)->next_busy) {
-        if (*place != page) continue;
-        *place = page->next_busy;
-        break;
-    }
-    for (struct fault *fault; (fault = page->faults) != NULL; free(fault)) page->faults = fault->next;
-    for (int place = 0; place < page->held_count; place++) {
-        if (!site_recovers()) pass_line(page->held[place]);
-        free(page->held[place]);
-    }
-    free(page->twin);
-    free(page->brought);
 }
 
 /* Opening. */
 
-static void ask_site(struct page *page) {
-    if (page->asking == IDLE && page->wanted > page->mapped && !page->requested) ask_show(page);
-}
-
 /* How often a thread has run on a processor; 0 where that can't be known. */
 static uint64_t runs_of(pid_t thread) {
-    char name[32], text[80] = "";
+    char name[32];
     uint64_t runs = 0;
     snprintf(name, sizeof name, "/proc/%d/schedstat", thread);
-    int file = open(name, O_RDONLY | O_CLOEXEC);
-    if (file < 0) return 0;
-    if (read(file, text, sizeof text - 1) > 0) sscanf(text, "%*s %*s %lu", &runs);
-    close(file);
+    FILE *file = fopen(name, "re");
+    if (file == NULL) return 0;
+    if (fscanf(file, "%*s %*s %lu", &runs) != 1) runs = 0;
+    fclose(file);
     return runs;
 }
 
-static void open_for(struct page *page, const struct fault *fault) {
-    if (page->mapped == WRITE) page->opened = true;
-    open_page(fault, page->mapped);
-}
-
-static void open_for_all(struct page *page, enum right right) {
-    page->mapped = right;
-    page->wanted = NONE;
-    page->asking = IDLE;
+/* The right is here, and the bytes are in memory. */
+static void gain(struct page *page) {
+    page->mapped = page->shown;
     page->requested = false;
     page->since = now();
-    struct fault **place = &page->faults;
-    for (struct fault *fault; (fault = *place) != NULL;) {
-        if (fault->needed > right) {
-            page->wanted = fault->needed;
+    page->thread = page->faults == NULL ? 0 : page->faults->thread;
+    page->runs = runs_of(page->thread);
+    set_busy(page);
+}
+
+static void install(struct page *page) {
+    page->transaction = page->number;
+    memcpy(bytes_of(page), page->twin, PAGE);
+    gain(page);
+}
+
+/* Opens the page for those who need no more than what is mapped. */
+static void open_for_all(struct page *page) {
+    enum right wanted = NONE;
+    for (struct fault *fault, **place = &page->faults; (fault = *place) != NULL;) {
+        if (fault->needed > page->mapped) {
+            wanted = fault->needed > wanted ? fault->needed : wanted;
             place = &fault->next;
             continue;
         }
         *place = fault->next;
-        page->thread = fault->thread;
-        page->runs = runs_of(fault->thread);
-        open_for(page, fault);
+        if (page->mapped == WRITE) page->opened = true;
+        open_page(fault, page->mapped);
         free(fault);
     }
-    set_busy(page);
+    if (wanted > page->wanted) page->requested = false;
+    page->wanted = wanted;
 }
 
 /* The bytes of a page in base64. False where they aren't. */
@@ -172,65 +147,49 @@ static bool decode(const char *text, uint8_t bytes[PAGE]) {
     return true;
 }
 
-static void install(struct page *page, const char *text) {
-    if (page->twin == NULL) page->twin = room(NULL, PAGE);
-    if (text == NULL) memset(page->twin, 0, PAGE);
-    else if (!decode(text, page->twin)) FAIL("the site told no page");
-    memcpy(page_bytes(page), page->twin, PAGE);
-    open_for_all(page, page->shown);
+static enum right right_in(const char *state, const struct page *page) {
+    if (strcmp(state, "OwnWrite") == 0) return page->segment->writing >= 0 ? WRITE : READ;
+    return strcmp(state, "OwnRead") == 0 || strcmp(state, "Copy") == 0 ? READ : NONE;
 }
 
-/* The site has the right that is wanted, in this state. The bytes are those that are mapped; or those that the last envelope brought, if no
-   other came and nothing was stored since; or zeros; or the site is asked for them. */
-static void take_right(struct page *page, const char *state, uint64_t number) {
-    bool untouched = options.fresh && strcmp(state, "OwnWrite") == 0 && number == 0;
-    if (page->mapped != NONE) open_for_all(page, page->shown);
-    else if (page->brought != NULL && page->transaction == number && !page->stored) install(page, page->brought);
-    else if (untouched && !(given[given_bit(page) / 8] >> given_bit(page) % 8 & 1)) install(page, NULL);
-    else ask_bytes(page);
-}
-
+/* With the right that is wanted the bytes are those that are mapped; or the twin's, if no other transaction came; or the site is asked. */
 static void page_shown(struct page *page, const char *text) {
     char state[12] = "";
-    uint64_t number = 0;
-    sscanf(text, "page %11[^/]/%lu", state, &number);
-    page->asking = IDLE;
-    page->shown = strcmp(state, "OwnWrite") == 0 ? WRITE : strcmp(state, "OwnRead") == 0 || strcmp(state, "Copy") == 0 ? READ : NONE;
-    if (page->shown == WRITE && page->segment->writing < 0) page->shown = READ;
-    if (page->wanted > page->mapped && page->shown >= page->wanted) {
-        take_right(page, state, number);
-    } else if (page->wanted > page->mapped) {
+    sscanf(text, "page %11[^/]/%lu", state, &page->number);
+    page->shown = right_in(state, page);
+    if (page->wanted <= page->mapped) return;
+    if (page->shown < page->wanted) {
         page->requested = true;
         ask_right(page);
+    } else if (page->mapped != NONE) {
+        gain(page);
+    } else if (page->transaction == page->number) {
+        install(page);
+    } else {
+        ask_page(page, BYTES);
     }
-    set_busy(page);
 }
 
+/* What the site can't tell is asked for again at a tick. */
 void page_told(struct page *page, uint64_t ask, const char *text) {
     if (ask != page->ask) return;
-    if (page->asking == SHOWING && strncmp(text, "page ", 5) == 0) page_shown(page, text);
-    else if (page->asking == READING && strncmp(text, "block ", 6) == 0) install(page, text + 6);
-    else page->asking = IDLE, page->requested = true;
-}
-
-static void ask_again(struct page *page) {
-    page->requested = false;
-    ask_site(page);
+    bool shows = page->asked == STATE;
+    page->asked = NOTHING;
+    if (shows && strncmp(text, "page ", 5) == 0) page_shown(page, text);
+    else if (!shows && strncmp(text, "block ", 6) == 0 && decode(text + 6, page->twin)) install(page);
+    else page->requested = true;
     set_busy(page);
 }
 
 /* What was asked is lost, with the site's process. */
 void page_begins_again(struct page *page) {
-    page->asking = IDLE;
+    page->asked = NOTHING;
     page->ask = 0;
-    ask_again(page);
+    page->requested = false;
+    set_busy(page);
 }
 
 void page_fault(struct page *page, const struct fault *fault) {
-    if (page->mapped >= fault->needed) {
-        open_for(page, fault);
-        return;
-    }
     for (const struct fault *other = page->faults; other != NULL; other = other->next) {
         if (other->generation == fault->generation && other->address == fault->address && other->needed == fault->needed) return;
     }
@@ -238,11 +197,6 @@ void page_fault(struct page *page, const struct fault *fault) {
     *kept = *fault;
     kept->next = page->faults;
     page->faults = kept;
-    if (fault->needed > page->wanted) {
-        page->wanted = fault->needed;
-        page->requested = false;
-    }
-    ask_site(page);
     set_busy(page);
 }
 
@@ -252,18 +206,14 @@ void page_fault(struct page *page, const struct fault *fault) {
    there before programs here stored. */
 static void let_in(struct page *page, const struct envelope *envelope) {
     bool brings = strcmp(envelope->kind, "page") == 0;
+    bool counts = brings && page->mapped == NONE && page->requested && page->shown < page->wanted;
     pass_line(envelope->line);
-    if (brings && page->requested && page->shown < page->wanted) {
-        free(page->brought);
-        page->brought = strdup(strrchr(envelope->line, ' ') + 1);
-        page->transaction = envelope->number;
-        page->stored = false;
-    }
-    if (brings || envelope->site == options.me) ask_again(page);
+    if (counts) page->transaction = decode(strrchr(envelope->line, ' ') + 1, page->twin) ? envelope->number : UINT64_MAX;
+    if (brings || envelope->site == options.me) page->requested = false;
 }
 
-/* Until when a page stays: for a while, and longer where the thread that it was opened for hasn't run yet, or on busy machines two hosts would
-   take it from one another before either's instruction is repeated. */
+/* Until when a page stays: for a while, and longer where the thread that it came for hasn't run yet, or on busy machines two hosts would take it
+   from one another before either's instruction is repeated. */
 static int64_t stays_until(struct page *page) {
     if (page->thread == 0 || now() < page->since + options.stay) return page->since + options.stay;
     if (now() < page->since + LONGEST_STAY && page->runs > 0 && runs_of(page->thread) == page->runs) return now() + LOOK_AGAIN;
@@ -271,44 +221,63 @@ static int64_t stays_until(struct page *page) {
     return 0;
 }
 
-/* Takes the first of the held envelopes that may pass. False: it has to wait, until the time that is given. */
+/* Takes the first of the held envelopes if it may pass. Else it waits: until the time that is given, or until the site has told what it has, so
+   that this is what stands when the page is opened, and a store that only asks for its right (`ask_right`) finds none. */
 static bool let_first_in(struct page *page, int64_t *due) {
-    struct envelope envelope;
-    parse_stamped(page->held[0], &envelope);
-    enum verdict verdict = site_recovers() ? WAIT : verdict_on(&envelope, page->mapped, page->asking != IDLE);
-    if (verdict == WAIT) return false;
+    struct envelope first = page->held[0];
+    enum verdict verdict = verdict_on(brought_by(&first), page->mapped);
+    if (site_recovers() || (page->asked != NOTHING && options.broken != PASSES_WHILE_ASKING)) return false;
     if (verdict != TAKE && (*due = stays_until(page)) > now()) return false;
     *due = INT64_MAX;
     if (verdict != TAKE) unmap_to(page, verdict == UNMAP ? NONE : READ);
-    char *line = page->held[0];
     memmove(page->held, page->held + 1, sizeof *page->held * (size_t)--page->held_count);
-    let_in(page, &envelope);
-    free(line);
+    let_in(page, &first);
+    free(first.line);
     return true;
 }
 
 /* Of envelopes with the same words behind their stamps one is kept: a tick repeats them. What finds no room is lost, as a carrier may lose it. */
 void page_envelope(struct page *page, const struct envelope *envelope) {
-    struct envelope other;
     for (int place = 0; place < page->held_count; place++) {
-        parse_stamped(page->held[place], &other);
-        if (strcmp(other.said, envelope->said) == 0) return;
+        if (strcmp(page->held[place].said, envelope->said) == 0) return;
     }
-    if (page->held_count == HELD) return;
-    char *line = strdup(envelope->line);
+    char *line = page->held_count == HELD ? NULL : strdup(envelope->line);
     if (line == NULL) return;
-    page->held[page->held_count++] = line;
+    struct envelope *held = &page->held[page->held_count++];
+    *held = *envelope;
+    held->said = line + (envelope->said - envelope->line);
+    held->line = line;
     set_busy(page);
 }
 
-static bool turn(struct page *page, int64_t *due) {
-    while (page->held_count > 0 && let_first_in(page, due)) continue;
-    ask_site(page);
+void drop_page(struct page *page) {
+    struct page **place = &busy_pages;
+    while (*place != NULL && *place != page) place = &(*place)->next_busy;
+    if (*place == page) *place = page->next_busy;
+    for (struct fault *fault; (fault = page->faults) != NULL; free(fault)) page->faults = fault->next;
+    for (int index = 0; index < page->held_count; index++) {
+        if (!site_recovers()) pass_line(page->held[index].line);
+        free(page->held[index].line);
+    }
+}
+
+/* The loop. */
+
+/* Whether there is more to do for the page. */
+static bool turn(struct page *page, bool *idle, int64_t *due) {
+    open_for_all(page);
+    do {
+        if (page->wanted > page->mapped && page->asked == NOTHING && !page->requested) ask_page(page, STATE);
+    } while (page->held_count > 0 && let_first_in(page, due));
     if (page->sleepers > 0) *due = 0;
+    if (page->sleepers > 0 && (*idle || now() > page->left + PATIENCE)) {
+        wake_sleepers(page);
+        *idle = false;
+    }
     return page->held_count > 0 || page->sleepers > 0 || page->wanted > page->mapped;
 }
 
-int64_t pages_turn(void) {
+int64_t pages_turn(bool idle) {
     int64_t due = INT64_MAX;
     struct page *pages = busy_pages;
     busy_pages = NULL;
@@ -316,18 +285,10 @@ int64_t pages_turn(void) {
         int64_t page_due = INT64_MAX;
         pages = page->next_busy;
         page->busy = false;
-        if (turn(page, &page_due)) set_busy(page);
+        if (turn(page, &idle, &page_due)) set_busy(page);
         if (page_due < due) due = page_due;
     }
     return due;
-}
-
-void pages_wake(bool idle) {
-    for (struct page *page = busy_pages; page != NULL; page = page->next_busy) {
-        if (page->sleepers == 0 || (!idle && now() < page->left + PATIENCE)) continue;
-        wake_sleepers(page);
-        return;
-    }
 }
 
 bool pages_wait(void) {
@@ -335,7 +296,5 @@ bool pages_wait(void) {
 }
 
 void pages_tick(void) {
-    for (struct page *page = busy_pages; page != NULL; page = page->next_busy) {
-        if (page->wanted > page->mapped && page->asking == IDLE) ask_again(page);
-    }
+    for (struct page *page = busy_pages; page != NULL; page = page->next_busy) page->requested = false;
 }

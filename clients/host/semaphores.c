@@ -2,24 +2,16 @@
    in a futex of the set's page, which the daemon wakes when another machine takes the page.
 
    SEM_UNDO is made where a program ends by exit, and not where it is killed; GETNCNT and GETZCNT tell 0. */
-#include <errno.h>
+#include "wire.h"
+
 #include <linux/futex.h>
 #include <pthread.h>
 #include <sched.h>
 #include <stdarg.h>
-#include <stdbool.h>
-#include <stdint.h>
-#include <stdlib.h>
-#include <string.h>
 #include <sys/sem.h>
-#include <sys/shm.h>
 #include <sys/syscall.h>
-#include <time.h>
-#include <unistd.h>
 
-#define EXPORTED __attribute__((visibility("default")))
-
-enum { KEYS = 0x5e3a0000, MADE = 0x53454d31, MOST_SETS = 64, MOST = 200, GREATEST = 32767, SPINS = 50, PAUSE = 200000, NAP = 20000000, IPC_64_ = 0x100 };
+enum { KEYS = 0x5e3a0000, MADE = 0x53454d31, MOST_SETS = 64, MOST = 200, GREATEST = 32767, SPINS = 50, PAUSE = 200000, NAP = 20000000, NAPS = 100 };
 
 struct set {
     uint32_t made, count, lock, changes, removed;
@@ -33,11 +25,6 @@ static struct known {
     short undo[MOST];
 } known[MOST_SETS], *known_end = known;
 static pthread_mutex_t mutex = PTHREAD_MUTEX_INITIALIZER;
-
-static int failed(int error) {
-    errno = error;
-    return -1;
-}
 
 static void lock_set(struct set *set) {
     for (int turn = 0; __atomic_exchange_n(&set->lock, 1, __ATOMIC_ACQUIRE) != 0; turn++) {
@@ -77,7 +64,7 @@ __attribute__((constructor)) static void begin(void) {
 static struct known *attach(int id) {
     struct set *set = known_end == known + MOST_SETS ? (errno = ENOSPC, (void *)-1) : shmat(id, NULL, 0);
     if (set == (void *)-1) return NULL;
-    for (int turn = 0; turn < 100 && __atomic_load_n(&set->made, __ATOMIC_ACQUIRE) != MADE; turn++) nanosleep(&(struct timespec){0, NAP}, NULL);
+    for (int nap = 0; nap < NAPS && __atomic_load_n(&set->made, __ATOMIC_ACQUIRE) != MADE; nap++) nanosleep(&(struct timespec){0, NAP}, NULL);
     *known_end = (struct known){.id = id, .set = set};
     if (set->made == MADE && !set->removed) return known_end++;
     errno = set->made == MADE ? EIDRM : EINVAL;
@@ -86,12 +73,10 @@ static struct known *attach(int id) {
 }
 
 static struct known *find(int id) {
-    struct known *found = NULL;
+    struct known *found = known;
     pthread_mutex_lock(&mutex);
-    for (struct known *one = known; one < known_end; one++) {
-        if (one->id == id && !one->set->removed) found = one;
-    }
-    if (found == NULL) found = attach(id);
+    while (found < known_end && (found->id != id || found->set->removed)) found++;
+    if (found == known_end) found = attach(id);
     pthread_mutex_unlock(&mutex);
     return found;
 }
@@ -127,39 +112,41 @@ static int operate(struct known *one, const struct sembuf *operations, size_t co
     int values[MOST];
     memcpy(values, set->values, sizeof values);
     if (set->removed) return failed(EIDRM);
-    for (size_t index = 0; index < count; index++) {
-        int *value = &values[operations[index].sem_num], by = operations[index].sem_op;
-        if (by == 0 ? *value != 0 : *value + by < 0) return operations[index].sem_flg & IPC_NOWAIT ? failed(EAGAIN) : 1;
+    for (const struct sembuf *operation = operations; operation < operations + count; operation++) {
+        int *value = &values[operation->sem_num], by = operation->sem_op;
+        if (by == 0 ? *value != 0 : *value + by < 0) return operation->sem_flg & IPC_NOWAIT ? failed(EAGAIN) : 1;
         if ((*value += by) > GREATEST) return failed(ERANGE);
     }
-    memcpy(set->values, values, sizeof values);
-    for (size_t index = 0; index < count; index++) {
-        unsigned short number = operations[index].sem_num;
-        set->last[number] = getpid();
-        if (operations[index].sem_flg & SEM_UNDO) one->undo[number] = (short)(one->undo[number] - operations[index].sem_op);
+    for (const struct sembuf *operation = operations; operation < operations + count; operation++) {
+        set->last[operation->sem_num] = getpid();
+        if (operation->sem_flg & SEM_UNDO) one->undo[operation->sem_num] = (short)(one->undo[operation->sem_num] - operation->sem_op);
     }
+    memcpy(set->values, values, sizeof values);
     set->operated = time(NULL);
     return 0;
 }
 
+static bool is_past(const struct timespec *limit, const struct timespec *begun) {
+    struct timespec time;
+    clock_gettime(CLOCK_MONOTONIC, &time);
+    return limit != NULL && (time.tv_sec - begun->tv_sec - limit->tv_sec) * 1000000000 + time.tv_nsec - begun->tv_nsec > limit->tv_nsec;
+}
+
 EXPORTED int semtimedop(int id, struct sembuf *operations, size_t count, const struct timespec *limit) {
-    struct timespec begun, passed;
+    struct timespec begun;
     struct known *one = find(id);
-    if (one == NULL) return -1;
-    if (count == 0 || count > MOST) return failed(count == 0 ? EINVAL : E2BIG);
+    clock_gettime(CLOCK_MONOTONIC, &begun);
+    if (one == NULL || count == 0 || count > MOST) return one == NULL ? -1 : failed(count == 0 ? EINVAL : E2BIG);
     for (size_t index = 0; index < count; index++) {
         if (operations[index].sem_num >= one->set->count) return failed(EFBIG);
     }
-    clock_gettime(CLOCK_MONOTONIC, &begun);
     for (;;) {
         lock_set(one->set);
         uint32_t seen = one->set->changes;
         int result = operate(one, operations, count);
         unlock_set(one->set, result == 0);
         if (result != 1) return result;
-        clock_gettime(CLOCK_MONOTONIC, &passed);
-        int64_t nanoseconds = (passed.tv_sec - begun.tv_sec) * 1000000000 + passed.tv_nsec - begun.tv_nsec;
-        if (limit != NULL && nanoseconds > limit->tv_sec * 1000000000 + limit->tv_nsec) return failed(EAGAIN);
+        if (is_past(limit, &begun)) return failed(EAGAIN);
         if (syscall(SYS_futex, &one->set->changes, FUTEX_WAIT, seen, &(struct timespec){0, NAP}, NULL, 0) < 0 && errno == EINTR) return -1;
     }
 }
@@ -178,40 +165,50 @@ static int control_record(const struct known *one, int command, struct semid_ds 
     return 0;
 }
 
-static int control_values(struct set *set, int number, int command, unsigned short *array, int value) {
-    bool sets = command == SETVAL || command == SETALL;
-    if (command == GETVAL) return set->values[number];
-    if (command == GETPID) return set->last[number];
-    if (command == GETNCNT || command == GETZCNT) return 0;
-    if (!sets && command != GETALL) return failed(EINVAL);
-    if (command == SETVAL && (value < 0 || value > GREATEST)) return failed(ERANGE);
-    if (command == SETVAL) set->values[number] = value, set->last[number] = getpid();
-    for (uint32_t index = 0; command == GETALL && index < set->count; index++) array[index] = (unsigned short)set->values[index];
-    for (uint32_t index = 0; command == SETALL && index < set->count; index++) set->values[index] = array[index];
-    if (sets) set->changed = time(NULL);
+union argument {
+    int value;
+    struct semid_ds *status;
+    unsigned short *array;
+};
+
+static int control_values(struct set *set, int number, int command, union argument argument) {
+    switch (command) {
+    case GETVAL: return set->values[number];
+    case GETPID: return set->last[number];
+    case GETNCNT:
+    case GETZCNT: return 0;
+    case IPC_RMID: set->removed = 1; return 0;
+    case GETALL:
+        for (uint32_t index = 0; index < set->count; index++) argument.array[index] = (unsigned short)set->values[index];
+        return 0;
+    case SETALL:
+        for (uint32_t index = 0; index < set->count; index++) set->values[index] = argument.array[index];
+        break;
+    case SETVAL:
+        if (argument.value < 0 || argument.value > GREATEST) return failed(ERANGE);
+        set->values[number] = argument.value;
+        set->last[number] = getpid();
+        break;
+    default: return failed(EINVAL);
+    }
+    set->changed = time(NULL);
     return 0;
 }
 
 EXPORTED int semctl(int id, int number, int command, ...) {
-    union {
-        int value;
-        struct semid_ds *status;
-        unsigned short *array;
-    } argument;
     va_list arguments;
     va_start(arguments, command);
-    argument.array = va_arg(arguments, unsigned short *);
+    union argument argument = {.array = va_arg(arguments, unsigned short *)};
     va_end(arguments);
-    command &= ~IPC_64_;
+    command &= ~OF_64_BITS;
     struct known *one = find(id);
     if (one == NULL) return -1;
     if (command == IPC_STAT || command == IPC_SET) return control_record(one, command, argument.status);
-    bool removes = command == IPC_RMID, all = removes || command == GETALL || command == SETALL;
+    bool all = command == IPC_RMID || command == GETALL || command == SETALL;
     if (!all && (number < 0 || number >= (int)one->set->count)) return failed(EINVAL);
-    if (removes && shmctl(one->id, IPC_RMID, NULL) < 0) return -1;
+    if (command == IPC_RMID && shmctl(one->id, IPC_RMID, NULL) < 0) return -1;
     lock_set(one->set);
-    if (removes) one->set->removed = 1;
-    int result = removes ? 0 : control_values(one->set, all ? 0 : number, command, argument.array, argument.value);
+    int result = control_values(one->set, number, command, argument);
     unlock_set(one->set, true);
     return result;
 }

@@ -38,7 +38,6 @@ PAGE_BYTES = 4096
 TICK_SECONDS = 0.05
 IDLE_TICK_SECONDS = 1.0
 STOP_SECONDS = 5
-MOST_AT_ONCE = 512
 MOST_UNWRITTEN = 1 << 22
 LONGEST_LINE = 1 << 16
 NO_ATTACHMENT = 64
@@ -258,15 +257,18 @@ class Site:
         for places in page_by_page(offset, length):
             first, count = places.start, len(places)
             question = f'load {at} {first}' if count == 1 else f'read {at} {first} {count}'
-            data += block_of(self._access([question])[0], count)
+            data += block_of(self._access(question), count)
         return bytes(data)
 
     def shm_write(self, at, offset, data):
-        """Stores each of these bytes from this offset, in no promised order."""
+        """Stores these bytes from this offset, each by a store of its own, in their order. What lies in one page is asked for as one block,
+        and one byte as a store: where its page is here a store needs no place among the asks that wait, and a block does."""
         data = bytes(memoryview(data))
         check_places(at, offset, len(data))
         for places in page_by_page(offset, len(data)):
-            self._access([f'store {at} {place} {data[place - offset]}' for place in places])
+            first, part = places.start, data[places.start - offset:places.stop - offset]
+            words = f'store {at} {first} {part[0]}' if len(part) == 1 else f'write {at} {first} {base64.b64encode(part).decode()}'
+            self._access(words)
 
     # A lock over sites. Site K's flag is the byte at the lock's offset + PAGE_BYTES * K, so each lies on a page of its own where the offset is a
     # page's first, and a site alone stores its own (Burns and Lynch 1980; Lamport 1986, "The mutual exclusion problem", the one-bit algorithm).
@@ -393,25 +395,17 @@ class Site:
 
     # Asks and answers.
 
-    def _access(self, questions):
-        """Makes accesses of one page, or reads a block of it. The first brings the page here, then the rest is asked in one go. What found
-        64 asks waiting at the site wasn't kept there, and is asked again."""
+    def _access(self, question):
+        """Makes an access, or reads or stores a block of one page. What found 64 asks waiting at the site wasn't kept there, and is asked
+        again."""
         deadline = self._deadline()
-        answers = [None] * len(questions)
-        left = list(range(len(questions)))
-        most = 1
-        while left:
-            batch, left = left[:most], left[most:]
-            for place, answer in zip(batch, self._exchange([questions[place] for place in batch], deadline)):
-                if answer[0] == 'refused':
-                    raise refused(int(answer[1]))
-                answers[place] = answer
-            turned_away = [place for place in batch if answers[place][0] in ('fault', 'waiting')]
-            most = 1 if turned_away else MOST_AT_ONCE
-            left = turned_away + left
-            if len(turned_away) == len(batch):
-                time.sleep(TICK_SECONDS)
-        return answers
+        answer = self._exchange([question], deadline)[0]
+        while answer[0] in ('fault', 'waiting'):
+            time.sleep(TICK_SECONDS)
+            answer = self._exchange([question], deadline)[0]
+        if answer[0] == 'refused':
+            raise refused(int(answer[1]))
+        return answer
 
     def _call(self, question):
         """Makes a segment call, and gives the words of its reply. A site has one at a time: where another caller's isn't replied to yet, this

@@ -1,5 +1,5 @@
 #!/usr/bin/env python3
-"""Starts a site wrongly in each way that an operator may, and looks at what is told.
+"""Starts a site wrongly in each way that an operator may, and audits, and looks at what is told.
 
     starts.py [PROGRAM]      without PROGRAM: crates/shmdbg/out/shmdbg
 
@@ -125,6 +125,65 @@ def try_full(program, folder):
     start('a full disk, later', words(program, journal), 0, '', b'tell 0 b byte 0\n', given=b'ask 0 b load 0 5\n')
 
 
+def try_streams(program, folder):
+    """An input that can't be read, and an output that takes nothing: what was durable stays, and nothing counts as done."""
+    journal = os.path.join(folder, 'streams')
+
+    def over(streams, new=False):
+        return ['sh', '-c', f'exec "$@" {streams}', 'sh'] + words(program, journal, new)
+    start('an input that is a folder', over(f'< {folder}', new=True), 3, 'read fault')
+    stays('an input that is a folder', journal, HEADER)
+    start('an output that is full', over('> /dev/full'), 3, 'write fault')
+    stays('an output that is full', journal, HEADER + b'step 1 restart\nstep 2 ask 0 a store 0 5 7\n')
+    start('after both', words(program, journal), 0, '', b'tell 0 b byte 7\n', given=b'ask 0 b load 0 5\n')
+    for streams, fault in ((f'< {folder}', 'read fault'), ('> /dev/full', 'write fault')):
+        start(f'a prompt {streams}', ['sh', '-c', f'exec "$@" {streams}', 'sh', program, 'prompt'], 3, fault, given=b'sites 1\n')
+
+
+def audit(program, sites, *journals):
+    return [program, 'audit', '--sites', str(sites), *journals]
+
+
+def try_audits(program, folder):
+    """Each journal is read in its turn, and stays as it was; a cause has its file and its line."""
+    first, second = os.path.join(folder, 'first'), os.path.join(folder, 'second')
+    ticked = b'journal 2 1 1\nstep 1 ask 1 b tick\n'
+    invented = ticked + b'step 2 env 0 1 1 0 0 clear 0 0 1\n'
+    yes = b'audit yes\nsteps 2\naccesses 1\nenvelopes 0\n'
+    one_set = 'not one set of journals'
+    for name, text, journals, status, fault, told in [
+            ('an audit', ticked, (first, second), 0, '', yes),
+            ('an audit of another order', ticked, (second, first), 1, one_set, b''),
+            ('an audit of one file twice', ticked, (first, first), 1, one_set, b''),
+            ('an audit of too few', ticked, (first,), 1, one_set, b''),
+            ('an audit of what nobody sent', invented, (first, second), 4, f'audit no: unsent 1 1: {second}: line 3', b'')]:
+        write(first, STORED)
+        write(second, text)
+        start(name, audit(program, 2, *journals), status, fault, told)
+        stays(name, first, STORED)
+        stays(name, second, text)
+
+
+def try_saves(program, folder):
+    """What is saved has its name and its bytes, in the place of what was there; what can't be saved is told as unsaved."""
+    script = os.path.join(folder, 'script')
+    write(script, b'old\n' * 9)
+    start('a saved script', [program, 'prompt'], 0, '', f'1 ready\nsaved to {script}\n'.encode(), given=f'sites 1\nsave {script}\n'.encode())
+    stays('a saved script', script, b'sites 1\n')
+    for name in (os.path.join(folder, 'none', 'script'), folder, '/dev/full'):
+        start('a script that is not saved', [program, 'prompt'], 0, '', f"1 ready\nnot saved: {name} can't be written\n".encode(),
+              given=f'sites 1\nsave {name}\n'.encode())
+    logs = [os.path.join(folder, f'site-{site}.log') for site in range(2)]
+    write(logs[1], b'old\n' * 99)
+    start('the logs of a run', [program, 'run', '--sites', '2', '--seed', '1', '--log', folder], 0, '', b'1 ready\n2 stored\n3 byte 8\naudit yes\n',
+          given=b'preset 2\nstore 1 4096 8\nload 1 4096\n')
+    for site, step in ((0, b''), (1, b'1 store 1 0 4096 8 > ')):
+        with open(logs[site], 'rb') as file:
+            found = file.read()
+        if b'old' in found or not found.startswith(step):
+            sys.exit(f'the logs of a run: site {site} has {found}')
+
+
 def try_calls(program, folder):
     """Calls that fail, as strace makes them."""
     strace = ['strace', '-o', '/dev/null', '-e', 'trace=none']
@@ -136,8 +195,13 @@ def try_calls(program, folder):
     def failing(*calls, new=True):
         asked = [word for call in calls for word in ('-e', f'inject={call}')]
         return ['strace', '-o', '/dev/null', *asked, *words(program, journal, new)]
+    start('fsync of the folder fails', failing('fsync:error=EIO:when=2'), 3, "journal: its folder can't be made durable")
+    stays('fsync of the folder fails', journal, b'')
     start('fdatasync fails', failing('fdatasync:error=EIO:when=2'), 3, FAILED)
     stays('fdatasync fails', journal, HEADER)
+    write(journal, HEADER + b'step 1 ask 0')
+    start('ftruncate fails at the start', failing('ftruncate:error=EIO:when=1', new=False), 3, "journal: it can't be made durable")
+    write(journal, HEADER)
     start('fsync fails at the start', failing('fsync:error=EIO:when=1', new=False), 3, "journal: it can't be made durable")
     os.remove(journal)
     loose = f'{FAILED}: cut it to its first {len(HEADER)} bytes before the site starts again'
@@ -153,7 +217,7 @@ def try_calls(program, folder):
 def main():
     program = os.path.abspath(sys.argv[1] if len(sys.argv) > 1 else os.path.join(HERE, '..', '..', 'crates', 'shmdbg', 'out', 'shmdbg'))
     with tempfile.TemporaryDirectory() as folder:
-        for trial in (try_files, try_no_files, try_two, try_closed, try_full, try_calls):
+        for trial in (try_files, try_no_files, try_two, try_closed, try_full, try_streams, try_audits, try_saves, try_calls):
             trial(program, folder)
     print(f'starts: {tried[0]}, each told as it has to be')
 

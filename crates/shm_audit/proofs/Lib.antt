@@ -3,5 +3,7 @@ pub mod Counted
 pub mod Tellings
 pub mod Among
 pub mod Since
+pub mod StoredBytes
 pub mod LoadedBlocks
 pub mod ToldBlocks
+pub mod StoredBlocks

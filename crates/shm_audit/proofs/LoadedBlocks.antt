@@ -1,4 +1,4 @@
--- What a block that waits has so far was loaded since it was asked for, by steps that its site's process made.
+-- What a block that waits has so far was loaded or stored since it was asked for, by steps that its site's process made.
 use Rattle.std.proofs.Common.{◌≡◌, ◌⊎◌, inl, inr, ℕ, suc, ◌+◌, ◌<◌, ◌≤◌, ◌==◌, ◌||◌, Bool, true, false, List, [], ◌∷◌, ◌++◌, Some, None, length, set, take, drop, cond, refl, ap, sym, subst, ◌∙◌, append-nil, append_assoc, arith}
 use Rattle.std.specs.Prelude.{Option, nat_lt, option_map}
 use Rattle.std.specs.Option.{option_map_or}
@@ -20,27 +20,38 @@ use Rattle.shm_wire.specs.Line as stream
 use Rattle.shm_wire.specs.Line.{read_line}
 use Rattle.shm_wire.specs.declared.ask.Question.{Question}
 use Rattle.shm_wire.specs.declared.ask.Question.TheVariants as question
+use Rattle.shm_wire.specs.Writes.{WriteAsk, IsWrite}
 use Rattle.shm_process.specs.Blocks.{Block}
 use Rattle.shm_process.specs.Cause.{OfLine}
-use Rattle.shm_process.specs.WaitingAsks.{Access, Reads, WaitingAsk, after_answer, ask_in, goes_on, waiting_after}
+use Rattle.shm_process.specs.Writes.{Write}
+use Rattle.shm_process.proofs.WriteLemmas.{GoesOn, goes-on}
+use Rattle.shm_process.specs.WaitingAsks.{Access, Reads, Writes, WaitingAsk, after_answer, ask_in, goes_on, waiting_after}
 use Rattle.shm_process.specs.Node.{Node, Heard, Said, answer_to, heard, input_asked, is_beyond, is_late, under_tag, waits_for}
 use Rattle.shm_process.specs.Recorded.{Event, Line, TooLong, Again, Restarted, after_event, after_events, said_at}
-use Rattle.shm_process.specs.Waiting.{after_heard, after_read, after_restart, after_unheard, again_at, block_here, block_in, has_room, joining, joins, next_heard, next_line, ready, says_at, with_ask}
+use Rattle.shm_process.specs.Waiting.{after_heard, after_read, after_restart, after_unheard, again_at, block_here, block_in, has_room, joining, joins, next_heard, next_line, ready, says_at, unstored, with_ask, write_here}
 use Rattle.shm_audit.proofs.Among.{loads-push}
 use Rattle.shm_audit.proofs.Since.{after-both, since-more, since-push}
+use Rattle.shm_audit.proofs.StoredBytes.{stores-push}
 use Rattle.shm_audit.specs.Loads.{MadeSince, Made, loads, made_by}
+use Rattle.shm_audit.specs.Stores.{asked_write, stores}
 
 -- ---- asks that wait
 
 -- what a caller of this site asked for
-abbrev pub ask_of : ℕ → Block → Ask
-ask_of me block = record { site = me; tag = block.tag; asked = question.Read block.at block.offset block.count }
+abbrev pub ask_of : ℕ → Block → stream.Line
+ask_of me block = stream.Ask (record { site = me; tag = block.tag; asked = question.Read block.at block.offset block.count })
 
--- what a block has so far was loaded since it was asked for
+-- the stores of what a block has stored so far
+abbrev pub stored_of : ℕ → Write → List Made
+stored_of me write = stores me write.tag write.at write.offset (take write.stored write.bytes)
+
+-- what a block has so far was loaded or stored since it was asked for
 abbrev pub HasLoaded : ℕ → Node → List Event → WaitingAsk → Type 0
 HasLoaded me first events (Access tag asked) = Unit {0}
 HasLoaded me first events (Reads block) =
     MadeSince first events (ask_of me block) (loads me block.tag block.at block.offset block.bytes) × (length block.bytes < block.count)
+HasLoaded me first events (Writes write) =
+    MadeSince first events (stream.Write (asked_write me write)) (stored_of me write) × (write.stored < length write.bytes)
 
 abbrev AllLoaded : ℕ → Node → List Event → List WaitingAsk → Type 0
 AllLoaded me first events waiting = All (HasLoaded me first events) waiting
@@ -50,6 +61,8 @@ loaded-more : (me : ℕ) (first : Node) (events : List Event) (event : Event) (a
 loaded-more me first events event (Access tag asked) h = tt
 loaded-more me first events event (Reads block) h =
     (since-more first events event (ask_of me block) (loads me block.tag block.at block.offset block.bytes) h.0, h.1)
+loaded-more me first events event (Writes write) h =
+    (since-more first events event (stream.Write (asked_write me write)) (stored_of me write) h.0, h.1)
 
 all-more : (me : ℕ) (first : Node) (events : List Event) (event : Event) (waiting : List WaitingAsk) → AllLoaded me first events waiting
     → AllLoaded me first (events ++ event ∷ []) waiting
@@ -70,7 +83,7 @@ abbrev pub step_of : ℕ → WaitingAsk → Answer → Made
 step_of me ask answer = record { cause = OfLine (next_line me ask); answer = answer }
 
 -- this event makes this step
-abbrev Makes : Node → List Event → Event → Made → Type 0
+abbrev pub Makes : Node → List Event → Event → Made → Type 0
 Makes first events event step = (said : Said) × (said_at (after_events first events) event ≡ Some said) × (made_by said ≡ step)
 
 -- a block's next load
@@ -87,6 +100,27 @@ block-loads me first events event block byte makes h =
 more-to-load : (bytes : List ℕ) (byte count : ℕ) → nat_lt (length bytes + 1) count ≡ true → length (bytes ++ byte ∷ []) < count
 more-to-load bytes byte count on = subst (λ n. n < count) (sym (length-append bytes (byte ∷ []))) (lt-true (length bytes + 1) count on)
 
+-- a block's next store
+pub block-stores : (me : ℕ) (first : Node) (events : List Event) (event : Event) (write : Write)
+    → Makes first events event (step_of me (Writes write) Stored) → HasLoaded me first events (Writes write)
+    → MadeSince first (events ++ event ∷ []) (stream.Write (asked_write me write)) (stored_of me (record write { stored = write.stored + 1 }))
+block-stores me first events event write makes h =
+    let others = stored_of me write in
+    subst (MadeSince first (events ++ event ∷ []) (stream.Write (asked_write me write)))
+    (ap (λ step. others ++ step ∷ []) makes.2 ∙ sym (stores-push me write.tag write.at write.offset write.bytes write.stored h.1))
+    (since-push first events event makes.0 (stream.Write (asked_write me write)) others makes.1 h.0)
+
+write-stored : (me : ℕ) (first : Node) (events : List Event) (event : Event) (write : Write) (answer : Answer)
+    → Makes first events event (step_of me (Writes write) answer) → HasLoaded me first events (Writes write) → GoesOn write answer
+    → HasLoaded me first (events ++ event ∷ []) (after_answer (Writes write) answer)
+write-stored me first events event write answer makes h (inl on) =
+    let made = subst (λ a. Makes first events event (step_of me (Writes write) a)) on.0 makes in
+    subst (λ a. HasLoaded me first (events ++ event ∷ []) (after_answer (Writes write) a)) (sym on.0)
+    (block-stores me first events event write made h, on.1)
+write-stored me first events event write answer makes h (inr on) =
+    subst (λ n. HasLoaded me first (events ++ event ∷ []) (Writes (record write { stored = n }))) (sym on.1)
+    (loaded-more me first events event (Writes write) h)
+
 after-loaded : (me : ℕ) (first : Node) (events : List Event) (event : Event) (ask : WaitingAsk) (answer : Answer) → Makes first events event (step_of me ask answer)
     → HasLoaded me first events ask → goes_on ask answer ≡ true → HasLoaded me first (events ++ event ∷ []) (after_answer ask answer)
 after-loaded me first events event (Access tag asked) answer makes h on = tt
@@ -100,6 +134,7 @@ after-loaded me first events event (Reads block) (Replied number reply attachmen
 after-loaded me first events event (Reads block) Took makes h on = loaded-more me first events event (Reads block) h
 after-loaded me first events event (Reads block) Dropped makes h on = loaded-more me first events event (Reads block) h
 after-loaded me first events event (Reads block) (Refused refusal) makes h on = loaded-more me first events event (Reads block) h
+after-loaded me first events event (Writes write) answer makes h on = write-stored me first events event write answer makes h (goes-on write answer on)
 
 left-case : (me : ℕ) (first : Node) (events : List Event) (ask : WaitingAsk) (answer : Answer) (b : Bool) (xs ys : List WaitingAsk) → goes_on ask answer ≡ b
     → (goes_on ask answer ≡ true → AllLoaded me first events xs) → AllLoaded me first events ys → AllLoaded me first events (cond b xs ys)
@@ -186,9 +221,45 @@ ask-goes me first events node line true ask h room read =
     block-in me first events node line (ask.site == node.me) (is_late node 0) ask.site ask.tag ask.asked h (site-is ask.site node.me me h.own)
     (room, read, (line-is_spelled line (stream.Ask ask) read).0.2)
 
+-- what is known of a line that asks for bytes to be stored
+abbrev AsksWrite : Node → List ℕ → WriteAsk → Type 0
+AsksWrite node line write = (has_room node ≡ true) × (read_line line ≡ Some (stream.Write write)) × IsWrite write
+
+write-in : (me : ℕ) (first : Node) (events : List Event) (node : Node) (line : List ℕ) (here late : Bool) (write : WriteAsk)
+    → Holds me first events node → (here ≡ true → write.site ≡ me) → AsksWrite node line write
+    → Goes me first events (Line line) (after_unheard node (cond here (cond late None (Some (unstored write))) None))
+write-in me first events node line false late write h own is = goes-same me first events (Line line) node (after_unheard node None) refl refl h
+write-in me first events node line true true write h own is = goes-same me first events (Line line) node (after_unheard node None) refl refl h
+write-in me first events node line true false write h own is =
+    let now = events ++ Line line ∷ [] in
+    let asked : MadeSince first now (stream.Write (record write { site = me })) [] = record {
+      before = events;
+      line = line;
+      since = [];
+      are = refl;
+      room = subst (λ n. has_room n ≡ true) h.here is.0;
+      asked = subst (λ s. read_line line ≡ Some (stream.Write (record write { site = s }))) (own refl) is.1;
+      made = tt;
+    } in
+    record {
+      own = h.own;
+      all = All-push (HasLoaded me first now) node.waiting (unstored write) (all-more me first events (Line line) node.waiting h.all)
+          (asked, block-some write.offset (length write.bytes) is.2.4);
+    }
+
+write-goes : (me : ℕ) (first : Node) (events : List Event) (node : Node) (line : List ℕ) (room : Bool) (write : WriteAsk) → Holds me first events node
+    → has_room node ≡ room → read_line line ≡ Some (stream.Write write)
+    → Goes me first events (Line line) (after_unheard node (cond room (write_here node write) None))
+write-goes me first events node line false write h room read = goes-same me first events (Line line) node (after_unheard node None) refl refl h
+write-goes me first events node line true write h room read =
+    write-in me first events node line (write.site == node.me) (is_late node 0) write h (site-is write.site node.me me h.own)
+    (room, read, (line-is_spelled line (stream.Write write) read).0)
+
 unheard-goes : (me : ℕ) (first : Node) (events : List Event) (node : Node) (line : List ℕ) (is : stream.Line) → Holds me first events node
     → read_line line ≡ Some is → Goes me first events (Line line) (after_unheard node (joining node is))
 unheard-goes me first events node line (stream.Envelope sent) h read = goes-same me first events (Line line) node (after_unheard node None) refl refl h
+unheard-goes me first events node line (stream.Write write) h read =
+    write-goes me first events node line (has_room node) write h refl read
 unheard-goes me first events node line (stream.Ask ask) h read = ask-goes me first events node line (has_room node) ask h refl read
 
 -- what joins is an access
@@ -196,6 +267,7 @@ abbrev IsAccess : Option WaitingAsk → Type 0
 IsAccess None = Unit {0}
 IsAccess (Some (Access tag asked)) = Unit {0}
 IsAccess (Some (Reads block)) = ⊥
+IsAccess (Some (Writes write)) = ⊥
 
 with-loaded : (me : ℕ) (first : Node) (events : List Event) (waiting : List WaitingAsk) (ask : Option WaitingAsk) (joins : Bool) → IsAccess ask
     → AllLoaded me first events waiting → AllLoaded me first events (with_ask waiting ask joins)
@@ -203,6 +275,7 @@ with-loaded me first events waiting None joins is h = h
 with-loaded me first events waiting (Some (Access tag asked)) true is h = All-push (HasLoaded me first events) waiting (Access tag asked) h tt
 with-loaded me first events waiting (Some (Access tag asked)) false is h = h
 with-loaded me first events waiting (Some (Reads block)) joins is h = absurd is
+with-loaded me first events waiting (Some (Writes write)) joins is h = absurd is
 
 some-is : {A : Type 0} (a b : A) → Some a ≡ Some b → a ≡ b
 some-is a b h = cc
@@ -226,6 +299,7 @@ heard-access : (node : Node) (is : stream.Line) (x : Heard) → heard node is �
 heard-access node (stream.Envelope sent) x e =
     made-access (foreign node.sites node.me sent.envelope || (is_late node sent.source.at || is_beyond node sent))
     (record { input = Deliver sent.envelope; source = sent.source.at; tag = None; waits = None }) x tt e
+heard-access node (stream.Write write) x e = absurd (cc)
 heard-access node (stream.Ask ask) x e = asked-access ask.tag ask.asked x (ask.site == node.me) (is_late node 0) e
 
 line-goes : (me : ℕ) (first : Node) (events : List Event) (node : Node) (line : List ℕ) (is : stream.Line) (o : Option Heard) → Holds me first events node

@@ -3,7 +3,7 @@ use Rattle.std.proofs.Common.{◌≡◌, List, [], ◌∷◌, ◌++◌, Some, No
 use Rattle.std.specs.Prelude.{Option}
 use Rattle.shm_process.specs.Node.{Node, Said}
 use Rattle.shm_process.specs.Recorded.{Event, Line, after_event, after_events, said_at}
-use Rattle.shm_wire.specs.Asks.{Ask}
+use Rattle.shm_wire.specs.Line as stream
 use Rattle.shm_audit.proofs.Among.{among-more, among-push}
 use Rattle.shm_audit.specs.Loads.{Among, Made, MadeSince, made_at, made_by}
 use Rattle.shm_audit.specs.Told.{all_said, said_first}
@@ -40,7 +40,7 @@ are-more : (events before since : List Event) (ask event : Event) → events ≡
 are-more events before since ask event e = ap (λ l. l ++ event ∷ []) e ∙ append_assoc before (ask ∷ since) (event ∷ [])
 
 -- whatever happens next
-pub since-more : (first : Node) (events : List Event) (event : Event) (ask : Ask) (steps : List Made) → MadeSince first events ask steps
+pub since-more : (first : Node) (events : List Event) (event : Event) (ask : stream.Line) (steps : List Made) → MadeSince first events ask steps
     → MadeSince first (events ++ event ∷ []) ask steps
 since-more first events event ask steps m =
     let asked = after_events first (m.before ++ Line m.line ∷ []) in
@@ -63,7 +63,7 @@ now-is first events before since ask e =
     ∙ sym (ap (λ n. after_events n since) (after-both before (ask ∷ []) first))
 
 -- a step that is made next
-pub since-push : (first : Node) (events : List Event) (event : Event) (said : Said) (ask : Ask) (steps : List Made) → said_at (after_events first events) event ≡ Some said
+pub since-push : (first : Node) (events : List Event) (event : Event) (said : Said) (ask : stream.Line) (steps : List Made) → said_at (after_events first events) event ≡ Some said
     → MadeSince first events ask steps → MadeSince first (events ++ event ∷ []) ask (steps ++ made_by said ∷ [])
 since-push first events event said ask steps says m =
     let asked = after_events first (m.before ++ Line m.line ∷ []) in

@@ -8,7 +8,6 @@ use Rattle.shm_model.specs.Log.{Logged, Stamp}
 use Rattle.shm_model.specs.declared.asked.Asked.TheVariants as asked
 use Rattle.shm_model.specs.Message.{Input, Deliver, Restart}
 use Rattle.shm_model.specs.Step.{foreign}
-use Rattle.shm_process.specs.Blocks.{Block}
 use Rattle.shm_process.specs.Cause.{Cause, OfLine, OfRestart}
 use Rattle.shm_process.specs.Node.{Node, Heard, Said, heard, input_asked, is_beyond, is_late, new_node, next_clock, says, stepped, under_tag, waits_for}
 use Rattle.shm_process.specs.Recorded.{Entry, Event, Line, TooLong, Again, Restarted, after_event, entries_of, recorded, said_at}
@@ -103,6 +102,7 @@ line_taken : (node : Node) (pages : ℕ) (log : List Logged) (line : stream.Line
     → Takes node pages log (OfLine line) h (handed node.me (OfLine line))
 line_taken node pages log (stream.Envelope sent) h e =
     sent_by node pages log (OfLine (stream.Envelope sent)) sent h (foreign node.sites node.me sent.envelope || (is_late node sent.source.at || is_beyond node sent)) refl e
+line_taken node pages log (stream.Write write) h e = absurd (cc)
 line_taken node pages log (stream.Ask ask) h e =
     asked_by node pages log (OfLine (stream.Ask ask)) ask.tag (waits_for ask.tag ask.asked) h (input_asked ask.asked) (ask.site == node.me) (is_late node 0)
     (asked_own node.sites node.me ask.asked) refl e
@@ -133,7 +133,7 @@ one_step node pages log cause h entries told t rest =
     ∙ ap Some (map_more log t.logged told ∙ ap (λ x. map told_by_step log ++ (x ∷ told)) t.tells)
 
 -- a block that joins those that wait, and a line that is passed over, leave the box as it is
-unheard_box : (node : Node) (pages : ℕ) (log : List Logged) (block : Option Block) → box_at (after_unheard node block) pages log ≡ box_at node pages log
+unheard_box : (node : Node) (pages : ℕ) (log : List Logged) (block : Option WaitingAsk) → box_at (after_unheard node block) pages log ≡ box_at node pages log
 unheard_box node pages log None = refl
 unheard_box node pages log (Some block) = refl
 

@@ -11,7 +11,7 @@ use Rattle.shm_wire.specs.Line.{read_line}
 use Rattle.shm_wire.specs.declared.ask.Question.TheVariants as question
 use Rattle.shm_process.specs.Blocks.{Block, whole_after, goes_on as block_goes_on}
 use Rattle.shm_process.specs.Cause.{OfLine}
-use Rattle.shm_process.specs.WaitingAsks.{Access, Reads, WaitingAsk, all_bytes, ask_in, goes_on, tag_of}
+use Rattle.shm_process.specs.WaitingAsks.{Access, Reads, Writes, WaitingAsk, all_bytes, ask_in, goes_on, tag_of}
 use Rattle.shm_process.specs.Node.{Node, Heard, Said, answer_to, heard, is_late, new_node, says, tag_told}
 use Rattle.shm_process.specs.Recorded.{Event, Line, TooLong, Again, Restarted, after_events, said_at}
 use Rattle.shm_process.specs.Waiting.{joins, next_heard, ready, said_read, said_restart, says_at}
@@ -43,7 +43,7 @@ told-by-byte me first events block byte asked caller bytes false h last tag e =
       others = others;
       is_told = tag;
       loaded = sym (ap (loads me block.tag block.at block.offset) same) ∙ loads-push me block.tag block.at block.offset block.bytes byte;
-      since = subst (λ n. MadeSince first events (record { site = me; tag = block.tag; asked = question.Read block.at block.offset n }) others) count h.0;
+      since = subst (λ n. MadeSince first events (stream.Ask (record { site = me; tag = block.tag; asked = question.Read block.at block.offset n })) others) count h.0;
     }
 
 told-by-answer : (me : ℕ) (first : Node) (events : List Event) (block : Block) (answer : Answer) (asked caller : Option (List ℕ)) (bytes : List ℕ)
@@ -67,6 +67,7 @@ told-by-ask : (me : ℕ) (first : Node) (events : List Event) (ask : WaitingAsk)
 told-by-ask me first events (Access tag asked) answer caller bytes has w = absurd (cc)
 told-by-ask me first events (Reads block) answer caller bytes has w =
     told-by-answer me first events block answer (Some block.tag) caller bytes has refl w
+told-by-ask me first events (Writes write) answer caller bytes has w = absurd (cc)
 
 -- if a step is made, and told with a block, its bytes are what its loads were answered
 abbrev SaysLoaded : ℕ → Node → List Event → Option Said → Type 0
@@ -101,13 +102,20 @@ told-at me first events node TooLong h = tt
 told-at me first events node Again h = told-again me first events node (ready node) h
 told-at me first events node Restarted h = told-restart me first events node (is_late node 0)
 
+-- what holds of any node of these events
+pub all_hold : (sites me pages : ℕ) (events : List Event)
+    → Holds me (new_node sites me pages) events (after_events (new_node sites me pages) events)
+all_hold sites me pages events =
+    let first = new_node sites me pages in
+    let begun : Holds me first [] first = record { own = refl; here = refl; all = All-nil (HasLoaded me first []) } in
+    events-hold me first [] events first begun
+
 pub block_is_loaded : (sites me pages : ℕ) (events : List Event) (event : Event) (said : Said) (bytes : List ℕ)
     → said_at (after_events (new_node sites me pages) events) event ≡ Some said → said.block ≡ Some bytes
     → IsLoadedBlock me (new_node sites me pages) events said.tag (made_by said) bytes
 block_is_loaded sites me pages events event said bytes told has =
     let first = new_node sites me pages in
     let now = after_events first events in
-    let begun : Holds me first [] first = record { own = refl; here = refl; all = All-nil (HasLoaded me first []) } in
-    let h : Holds me first events now = events-hold me first [] events first begun in
+    let h : Holds me first events now = all_hold sites me pages events in
     let says_so : SaysLoaded me first events (Some said) = subst (SaysLoaded me first events) told (told-at me first events now event h) in
     says_so bytes has

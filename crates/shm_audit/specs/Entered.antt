@@ -29,10 +29,11 @@ delivered sent = record { input = Deliver sent.envelope; source = sent.source }
 abbrev pub asked_here : ℕ → Ask → Option Handed
 asked_here me ask = if (ask.site == me) then option_map unsent (input_asked ask.asked) else None
 
--- what made the step of an entry hands to this site
+-- what made the step of an entry hands to this site; a block that is to be stored makes none itself
 abbrev pub handed : ℕ → Cause → Option Handed
 handed me (OfLine (stream.Envelope sent)) = Some (delivered sent)
 handed me (OfLine (stream.Ask ask)) = asked_here me ask
+handed me (OfLine (stream.Write write)) = None
 handed me OfRestart = Some (unsent Restart)
 
 -- ---- the box

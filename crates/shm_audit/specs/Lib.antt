@@ -6,3 +6,4 @@ pub mod Totals
 pub mod OneSet
 pub mod Told
 pub mod Loads
+pub mod Stores

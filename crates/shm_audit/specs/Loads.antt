@@ -3,7 +3,6 @@ use Rattle.std.specs.Prelude.{⊤, ◌≡◌, ◌⊎◌, ℕ, ◌+◌, true, Lis
 use Rattle.shm_model.specs.declared.answer.Answer.{Answer}
 use Rattle.shm_model.specs.declared.answer.Answer.TheVariants.{Byte}
 use Rattle.shm_model.specs.declared.asked.Asked.TheVariants.{Load}
-use Rattle.shm_wire.specs.Asks.{Ask}
 use Rattle.shm_wire.specs.Line as stream
 use Rattle.shm_wire.specs.Line.{read_line}
 use Rattle.shm_wire.specs.declared.ask.Question.TheVariants.{Read}
@@ -39,13 +38,13 @@ Among (x ∷ xs) [] = ⊥
 Among (x ∷ xs) (step ∷ steps) = ((x ≡ step) × Among xs steps) ⊎ Among (x ∷ xs) steps
 
 -- Among these events a line asked this of the process, and found room to wait; and these steps stand among those that it made since.
-pub record MadeSince (first : Node) (events : List Event) (ask : Ask) (steps : List Made) : Type 0 where
+pub record MadeSince (first : Node) (events : List Event) (ask : stream.Line) (steps : List Made) : Type 0 where
   pub before : List Event
   pub line : List ℕ
   pub since : List Event
   pub are : events ≡ before ++ Line line ∷ since
   pub room : has_room (after_events first before) ≡ true
-  pub asked : read_line line ≡ Some (stream.Ask ask)
+  pub asked : read_line line ≡ Some ask
   pub made : Among steps (made_at (after_events first (before ++ Line line ∷ [])) since)
 
 -- A block of these bytes, told of this step after these events: a caller of this site asked, under the tag that is told, for as many bytes,
@@ -57,4 +56,4 @@ pub record IsLoadedBlock (me : ℕ) (first : Node) (events : List Event) (told :
   pub others : List Made
   pub is_told : told ≡ Some tag
   pub loaded : loads me tag at offset bytes ≡ others ++ step ∷ []
-  pub since : MadeSince first events (record { site = me; tag = tag; asked = Read at offset (length bytes) }) others
+  pub since : MadeSince first events (stream.Ask (record { site = me; tag = tag; asked = Read at offset (length bytes) })) others

@@ -2,8 +2,13 @@
 ghost use Rattle.std.specs.Prelude.{◌≡◌, ℕ, List, Some, option_map};
 ghost use Rattle.shm_process.specs.Node.{Said, new_node};
 ghost use Rattle.shm_process.specs.Recorded.{Event, after_events, entries_of, said_at};
+ghost use Rattle.shm_process.specs.WaitingAsks.{Writes, ask_in};
+ghost use Rattle.shm_process.specs.Waiting.{says_at};
+ghost use Rattle.shm_process.specs.Writes.{Write};
+ghost use Rattle.shm_model.specs.declared.answer.Answer.TheVariants.{Stored};
 ghost use Rattle.shm_logs.specs.Boxes.Box.{new_box};
 ghost use Rattle.shm_audit.specs.Loads.{IsLoadedBlock, made_by};
+ghost use Rattle.shm_audit.specs.Stores.{IsStoredBlock};
 ghost use Rattle.shm_audit.specs.Told.{box_after_all, told_at, told_by_log};
 
 /// Whatever happened to a site's process from its first line on, restarts among it: the entries that it recorded lead a box to a log whose
@@ -20,4 +25,15 @@ pub fn a_block_is_what_its_loads_gave()
     ensures { (sites me pages : ℕ) (events : List Event) (event : Event) (said : Said) (bytes : List ℕ)
         → said_at (after_events (new_node sites me pages) events) event ≡ Some said → said.block ≡ Some bytes
         → IsLoadedBlock me (new_node sites me pages) events said.tag (made_by said) bytes }
+{}
+
+/// A block of which a caller is told that it is stored has all its stores among the steps that the site's process made since the ask came:
+/// each byte at its own place, in their order, of the line `store` under the ask's tag. The last of these steps is the one that is told of.
+pub fn a_block_is_stored_by_its_stores()
+    ensures { (sites me pages : ℕ) (events : List Event) (at : ℕ) (write : Write) (tag : List ℕ)
+        → ask_in (after_events (new_node sites me pages) events).waiting at ≡ Writes write
+        → (says_at (after_events (new_node sites me pages) events) at).answer ≡ Stored
+        → (says_at (after_events (new_node sites me pages) events) at).tag ≡ Some tag
+        → IsStoredBlock me (new_node sites me pages) events (says_at (after_events (new_node sites me pages) events) at).tag
+        (made_by (says_at (after_events (new_node sites me pages) events) at)) write }
 {}

@@ -13,7 +13,7 @@ after_acts-append [] ys disk = refl
 after_acts-append (x ∷ xs) ys disk = after_acts-append xs ys (after_act disk x)
 
 -- keeping makes the entries durable, and tells nothing
-kept-disk : (entries durable : List ℕ) → after_acts (disk_of durable) (keeping entries) ≡ disk_of (durable ++ entries)
+pub kept-disk : (entries durable : List ℕ) → after_acts (disk_of durable) (keeping entries) ≡ disk_of (durable ++ entries)
 unfolding after_acts
 kept-disk [] durable = ap disk_of (sym (append-nil durable))
 kept-disk (byte ∷ bytes) durable = refl
@@ -25,10 +25,10 @@ told-disk (byte ∷ bytes) disk = refl
 
 -- ---- where in a run something is told
 
-head-of : {x y : Act} {xs ys : List Act} → x ∷ xs ≡ y ∷ ys → x ≡ y
+pub head-of : {x y : Act} {xs ys : List Act} → x ∷ xs ≡ y ∷ ys → x ≡ y
 head-of e = cc
 
-tail-of : {x y : Act} {xs ys : List Act} → x ∷ xs ≡ y ∷ ys → xs ≡ ys
+pub tail-of : {x y : Act} {xs ys : List Act} → x ∷ xs ≡ y ∷ ys → xs ≡ ys
 tail-of e = cc
 
 -- behind an act that tells nothing
@@ -70,7 +70,7 @@ is-kept first file told bytes disk t d = record {
   settled = ap (λ (disk : Disk). disk.loose) d;
 }
 
-published-disk : (desk : Desk) (durable : List ℕ) → after_acts (disk_of durable) (publishing desk) ≡ disk_of (durable ++ desk.recorded)
+pub published-disk : (desk : Desk) (durable : List ℕ) → after_acts (disk_of durable) (publishing desk) ≡ disk_of (durable ++ desk.recorded)
 published-disk desk durable =
     after_acts-append (keeping desk.recorded) (telling desk.told) (disk_of durable)
     ∙ ap (λ disk. after_acts disk (telling desk.told)) (kept-disk desk.recorded durable)

@@ -47,7 +47,7 @@ line_first : (line more : List ℕ) → Unended line → lines_of ((line ++ 10 �
 unfolding lines_behind
 line_first line more h = ap lines_of (append_assoc line (10 ∷ []) more) ∙ front_grows [] line (10 ∷ more) h
 
-line_is_torn : (line : List ℕ) → Unended line → lines_of line ≡ torn_alone line
+pub line_is_torn : (line : List ℕ) → Unended line → lines_of line ≡ torn_alone line
 unfolding lines_behind
 line_is_torn line h = ap lines_of (sym (append-nil line)) ∙ front_grows [] line [] h
 
@@ -89,7 +89,8 @@ none-before n = omega arith
 
 pub begun : {T : Type 0} → (next : T → List ℕ → Option T) (left : Option (List ℕ)) (number : ℕ) (state : T)
     → Leads next (λ rest. found_behind next number state rest) left left number state 0
-begun next left number state = record { bytes = []; taken = Consumes-nil left; onward = λ more. refl; counted = λ more. none-before (bytes_of_lines (lines_of more).whole) }
+begun next left number state =
+    record { bytes = []; taken = Consumes-nil left; onward = λ more. refl; counted = λ more. none-before (bytes_of_lines (lines_of more).whole); torn = λ more. refl }
 
 -- it leads to where it stands
 sound-so-far : {T : Type 0} → (next : T → List ℕ → Option T) (says : List ℕ → Found T) (before left : Option (List ℕ)) (number : ℕ) (state : T) (whole : ℕ)
@@ -99,7 +100,7 @@ sound-so-far next says before left number state whole l = ap says (sym (append-n
 
 -- ---- one more line
 
-one_line : {T : Type 0} → (next : T → List ℕ → Option T) (number : ℕ) (state : T) (line more : List ℕ) → Unended line → length line ≤ max_journal_line
+pub one_line : {T : Type 0} → (next : T → List ℕ → Option T) (number : ℕ) (state : T) (line more : List ℕ) → Unended line → length line ≤ max_journal_line
     → found_behind next number state ((line ++ 10 ∷ []) ++ more) ≡ next_found number (next state line) (λ after. found_behind next (number + 1) after more)
 unfolding found_from
 one_line next number state line more h short =
@@ -108,7 +109,7 @@ one_line next number state line more h short =
 counts : (w l b : ℕ) → w + (l + 1 + b) ≡ w + (l + 1) + b
 counts w l b = omega arith
 
-counts-line : (line more : List ℕ) → Unended line → bytes_of_lines (lines_of ((line ++ 10 ∷ []) ++ more)).whole ≡ length line + 1 + bytes_of_lines (lines_of more).whole
+pub counts-line : (line more : List ℕ) → Unended line → bytes_of_lines (lines_of ((line ++ 10 ∷ []) ++ more)).whole ≡ length line + 1 + bytes_of_lines (lines_of more).whole
 counts-line line more h = ap (λ (l : Lines). bytes_of_lines l.whole) (line_first line more h)
 
 pub one_more : {T : Type 0} → (next : T → List ℕ → Option T) (says : List ℕ → Found T) (before left now : Option (List ℕ)) (number : ℕ) (state after : T) (whole : ℕ) (line : List ℕ)
@@ -123,11 +124,14 @@ one_more next says before left now number state after whole line l taken h short
   counted = λ more.
       ap (λ b. bytes_of_lines (lines_of b).whole) (append_assoc l.bytes (line ++ 10 ∷ []) more) ∙ l.counted ((line ++ 10 ∷ []) ++ more)
       ∙ ap (λ n. whole + n) (counts-line line more h) ∙ counts whole (length line) (bytes_of_lines (lines_of more).whole);
+  torn = λ more.
+      ap (λ b. (lines_of b).torn) (append_assoc l.bytes (line ++ 10 ∷ []) more) ∙ l.torn ((line ++ 10 ∷ []) ++ more)
+      ∙ ap (λ (x : Lines). x.torn) (line_first line more h);
 }
 
 -- ---- the end
 
-ended-says : {T : Type 0} → (next : T → List ℕ → Option T) (number : ℕ) (state : T) (torn : List ℕ) → Unended torn → length torn ≤ max_journal_line
+pub ended-says : {T : Type 0} → (next : T → List ℕ → Option T) (number : ℕ) (state : T) (torn : List ℕ) → Unended torn → length torn ≤ max_journal_line
     → found_behind next number state torn ≡ Sound state
 unfolding found_from
 ended-says next number state torn h short =
@@ -138,15 +142,18 @@ none-more w = omega arith
 
 pub ended : {T : Type 0} → (next : T → List ℕ → Option T) (says : List ℕ → Found T) (before left now : Option (List ℕ)) (number : ℕ) (state : T) (whole : ℕ) (torn : List ℕ)
     → Leads next says before left number state whole → Consumes left now torn → Unended torn → length torn ≤ max_journal_line → IsAtEnd now
-    → ReadsWhole says before now state whole
-ended next says before left now number state whole torn l taken h short end = record {
-  bytes = l.bytes ++ torn;
-  taken = Consumes-trans before left now l.bytes torn l.taken taken;
-  end = end;
-  sound = l.onward torn ∙ ended-says next number state torn h short;
-  counted =
-      sym (l.counted torn ∙ ap (λ (x : Lines). whole + bytes_of_lines x.whole) (line_is_torn torn h) ∙ none-more whole);
-}
+    → (read : ReadsWhole says before now state whole) × (torn ≡ (lines_of read.bytes).torn)
+ended next says before left now number state whole torn l taken h short end = (
+  record {
+    bytes = l.bytes ++ torn;
+    taken = Consumes-trans before left now l.bytes torn l.taken taken;
+    end = end;
+    sound = l.onward torn ∙ ended-says next number state torn h short;
+    counted =
+        sym (l.counted torn ∙ ap (λ (x : Lines). whole + bytes_of_lines x.whole) (line_is_torn torn h) ∙ none-more whole);
+  },
+  sym (l.torn torn ∙ ap (λ (x : Lines). x.torn) (line_is_torn torn h)),
+)
 
 -- ---- a line that can't be next
 
@@ -269,7 +276,7 @@ joined_whole next says before left now state after whole more l r = record {
 
 -- ---- the first line
 
-one-first : {T : Type 0} → (kind : Kind T) (line more : List ℕ) → Unended line → length line ≤ max_journal_line
+pub one-first : {T : Type 0} → (kind : Kind T) (line more : List ℕ) → Unended line → length line ≤ max_journal_line
     → found_of kind ((line ++ 10 ∷ []) ++ more) ≡ then_found (kind.first line) (λ state. found_behind kind.next 2 state more)
 one-first kind line more h short = ap (λ (l : Lines). found_in kind l.whole l.torn) (line_first line more h) ∙ unless-short 1 line _ short
 
@@ -280,6 +287,7 @@ first_leads kind before left state line taken h short e = record {
   taken = taken;
   onward = λ more. one-first kind line more h short ∙ ap (λ f. then_found f (λ state. found_behind kind.next 2 state more)) e;
   counted = λ more. counts-line line more h;
+  torn = λ more. ap (λ (x : Lines). x.torn) (line_first line more h);
 }
 
 pub first_stops : {T : Type 0} → (kind : Kind T) (before now : Option (List ℕ)) (line over : List ℕ) (what : Found T) → Consumes before now ((line ++ 10 ∷ []) ++ over) → Unended line
@@ -324,7 +332,7 @@ first_breaks kind before now why b = record {
 }
 
 -- there is none
-alone-says : {T : Type 0} → (kind : Kind T) (torn : List ℕ) → Unended torn → length torn ≤ max_journal_line → found_of kind torn ≡ kind.alone torn
+pub alone-says : {T : Type 0} → (kind : Kind T) (torn : List ℕ) → Unended torn → length torn ≤ max_journal_line → found_of kind torn ≡ kind.alone torn
 alone-says kind torn h short = ap (λ (l : Lines). found_in kind l.whole l.torn) (line_is_torn torn h) ∙ unless-short 1 torn (kind.alone torn) short
 
 pub first_lacks : {T : Type 0} → (kind : Kind T) (before now : Option (List ℕ)) (torn : List ℕ) (what : Found T) → Consumes before now torn → Unended torn → length torn ≤ max_journal_line

@@ -7,3 +7,9 @@ pub mod RecoveryLemmas
 pub mod ActLemmas
 pub mod ServingLemmas
 pub mod CrashLemmas
+pub mod SummaryLemmas
+pub mod Fits
+pub mod EntriesFit
+pub mod Lives
+pub mod DeskLives
+pub mod Leaving

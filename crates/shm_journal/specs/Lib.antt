@@ -13,3 +13,5 @@ pub mod Acts
 pub mod Publishing
 pub mod DeskFrom
 pub mod Crash
+pub mod Summed
+pub mod Lives

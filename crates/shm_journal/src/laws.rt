@@ -1,9 +1,12 @@
 //! What holds of the definitions: of whichever line is read, and of each run of a process, whatever it reads.
-ghost use Rattle.std.specs.Prelude.{◌≡◌, ℕ, List, Some};
+ghost use Rattle.std.specs.Prelude.{◌≡◌, ℕ, List, Some, false};
 ghost use Rattle.shm_journal.specs.Crash.{KeepsBeforeTelling};
+ghost use Rattle.shm_journal.specs.Found.{opened};
 ghost use Rattle.shm_journal.specs.Lines.{Header, IsHeader, header_line, read_entry, read_header};
+ghost use Rattle.shm_journal.specs.Lives.{AreTaken, FindsLives, LeavesNewSound, LeavesSound, after_lives, journal_text};
 ghost use Rattle.shm_process.specs.Desk.{Desk};
-ghost use Rattle.shm_process.specs.Recorded.{Entry, IsEntry, entry_line};
+ghost use Rattle.shm_process.specs.Node.{is_late};
+ghost use Rattle.shm_process.specs.Recorded.{Entry, Event, IsEntry, entry_line};
 
 /// Each header has one spelling: what is read is spelled so, and what is spelled so is read.
 pub fn headers_have_one_spelling()
@@ -20,4 +23,19 @@ pub fn entries_have_one_spelling()
 /// Nothing is told before the entries of all steps that it tells of are durable in the journal: so a crash at any moment leaves them there.
 pub fn nothing_is_told_before_it_is_durable()
     ensures { (desk : Desk) (reads : List (List ℕ)) (file : List ℕ) → KeepsBeforeTelling desk reads file }
+{}
+
+/// A journal that a site left is found sound, whatever it took in each of its lives: its header, and the entries of all that happened. It leads
+/// to the site after them, less the asks that waited and the counts of lines.
+pub fn a_journal_that_was_served_is_found_sound()
+    ensures { (header : Header) (lives : List (List Event)) → IsHeader header → AreTaken lives → FindsLives header lives (journal_text header lives) }
+{}
+
+/// So is what a crash leaves of it, at any moment of a further life, whatever comes in that life: it leads to the site after all whose entries
+/// were durable, and at most what had happened since; and its whole lines are the journal that the next life begins with. That life begins
+/// with a restart, for which there has to be a clock.
+pub fn a_crash_leaves_a_sound_journal()
+    ensures begun { (header : Header) → IsHeader header → LeavesNewSound header }
+    ensures goes_on { (header : Header) (lives : List (List Event)) → IsHeader header → AreTaken lives → is_late (after_lives (opened header) lives) 0 ≡ false
+        → LeavesSound header lives }
 {}

@@ -1,7 +1,7 @@
 //! A journal's lines are made steps again.
 ghost use Rattle.std.specs.Prelude.{◌≡◌, ◌+◌, ℕ, IfErr, OnOk};
-ghost use Rattle.shm_journal.specs.Found.{found_behind};
-ghost use Rattle.shm_journal.specs.LinesOf.{left_of};
+ghost use Rattle.shm_journal.specs.Found.{found_behind, lines_of};
+ghost use Rattle.shm_journal.specs.LinesOf.{left_of, line_in};
 ghost use Rattle.shm_journal.specs.ReadUpTo.{ReadsToLine, ReadsWhole};
 
 use crate::journal_fault::JournalFault;
@@ -28,7 +28,7 @@ pub trait Replay<A: Allocator + Copy> {
         ensures { IfOk result (λ made. IsNext made (next (state self.old) line.now) (state self.new)) };
 }
 
-/// The site makes each step again that the lines behind the first record, one after another.
+/// The site makes each step again that the lines behind the first record, one after another. What is torn is the line that was taken last.
 pub fn replay_rest<A: Allocator + Copy, T: Replay<A>, R: Read>(
     alloc: A,
     lines: &mut Lines<A>,
@@ -36,8 +36,9 @@ pub fn replay_rest<A: Allocator + Copy, T: Replay<A>, R: Read>(
     reader: &mut R,
 ) -> Result<(), JournalFault>
     ensures whole { OnOk result ((more : ℕ) × (lines.new.whole ≡ lines.old.whole + more)
-        × ReadsWhole (λ rest. found_behind T.next 2 (T.state site.old) rest) (left_of lines.old (R.remaining reader.old)) (R.remaining reader.new)
-        (T.state site.new) more) }
+        × (read : ReadsWhole (λ rest. found_behind T.next 2 (T.state site.old) rest) (left_of lines.old (R.remaining reader.old))
+        (R.remaining reader.new) (T.state site.new) more)
+        × (line_in lines.new ≡ (lines_of read.bytes).torn)) }
     ensures left { IfErr result (ReadsToLine (λ rest. found_behind T.next 2 (T.state site.old) rest) (left_of lines.old (R.remaining reader.old))
         (R.remaining reader.new)) }
 {

@@ -1,3 +1,4 @@
+mod Bits
 pub mod Purges
 pub mod Segments
 pub mod Changes

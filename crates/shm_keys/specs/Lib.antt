@@ -1,3 +1,4 @@
+pub mod Class
 pub mod Purge
 pub mod Table
 pub mod Answer

@@ -8,6 +8,7 @@ ghost use Rattle.shm_model.specs.Permission.{Segment as Record};
 use crate::purge::Purge;
 use crate::segment::Segment;
 use crate::table::SegTable;
+use bitflags::Flags;
 use indexmap::IndexMap;
 use shm_model::refusal::{Numbered, OUT_OF_MEMORY};
 use shm_model::{Cred, Errno, GetFlags, Mode};
@@ -118,7 +119,7 @@ impl<A: Allocator + Copy> SegTable<A> {
         }
     }
 
-    /// Makes a segment. EINVAL: the size is 0 or above the greatest. ENOSPC: the home can't have another.
+    /// Makes a segment: EINVAL for a size of 0 or above the greatest, ENOSPC where the home may have no more.
     fn make(&mut self, cred: Cred, key: Key, size: u32, mode: Mode) -> Result<SegId, GetFault>
         requires { key ≢ 0 → with_key key self.old.segments ≡ None }
         ensures answer { IsGetAnswer result (next_id self.old.sites self.old.home self.old.segments)
@@ -161,17 +162,19 @@ fn id_at(place: usize, sites: Sites, home: SiteId) -> SegId
 }
 
 /// Checks that `IPC_CREAT` is given.
+#[tactic(auto, using(crate::proofs::Bits::creat_flag))]
 fn creates(flags: GetFlags) -> bool
     ensures { result ≡ has_creat flags.0 }
 {
-    flags.0 / 0o1000 % 2 == 1
+    flags.contains(GetFlags::CREAT)
 }
 
 /// Checks that `IPC_CREAT` and `IPC_EXCL` are given: the key has to be free.
+#[tactic(auto, using(crate::proofs::Bits::excl_flag))]
 fn creates_only(flags: GetFlags) -> bool
     ensures { result ≡ (has_creat flags.0 && has_excl flags.0) }
 {
-    creates(flags) && flags.0 / 0o2000 % 2 == 1
+    creates(flags) && flags.contains(GetFlags::EXCL)
 }
 
 impl Segment {

@@ -1,40 +1,54 @@
 ghost use Rattle.std.specs.Prelude.{◌≡◌};
 ghost use Rattle.shm_model.specs.Permission.{is_owner, is_in_group, class_of, may_read, may_write, asks_to_read, asks_to_write, permits, may_get, may_attach, may_stat};
+ghost use Rattle.shm_keys.specs.Class.{bits_of};
 
 use crate::segment::Segment;
-use shm_model::{Cred, Mode};
+use shm_model::{Cred, Mode, Permissions};
 
-/// Checks that a class of three bits permits reading.
-fn may_read(bits: u32) -> bool
-    ensures { result ≡ may_read bits }
-{
-    bits / 4 % 2 == 1
+/// A class of users. One alone counts for a caller (`shmget(2)`).
+#[derive(Clone, Copy)]
+enum Class {
+    Owner,
+    Group,
+    Others,
 }
 
-/// Checks that a class of three bits permits writing.
-fn may_write(bits: u32) -> bool
-    ensures { result ≡ may_write bits }
-{
-    bits / 2 % 2 == 1
+impl Class {
+    /// Checks that a mode lets the class read.
+    fn may_read(self, mode: Mode) -> bool
+        ensures { result ≡ may_read (bits_of self mode) }
+    {
+        match self {
+            Class::Owner => mode.contains(Permissions::OWNER_READ),
+            Class::Group => mode.contains(Permissions::GROUP_READ),
+            Class::Others => mode.contains(Permissions::OTHERS_READ),
+        }
+    }
+
+    /// Checks that a mode lets the class write.
+    fn may_write(self, mode: Mode) -> bool
+        ensures { result ≡ may_write (bits_of self mode) }
+    {
+        match self {
+            Class::Owner => mode.contains(Permissions::OWNER_WRITE),
+            Class::Group => mode.contains(Permissions::GROUP_WRITE),
+            Class::Others => mode.contains(Permissions::OTHERS_WRITE),
+        }
+    }
 }
 
-/// Checks that the bits of a class permit what is asked.
-fn permits(reads: bool, writes: bool, bits: u32) -> bool
-    ensures { result ≡ permits reads writes bits }
-{
-    (!reads || may_read(bits)) && (!writes || may_write(bits))
-}
-
+/// Checks that a `get` of this mode asks to read.
 fn asks_to_read(mode: Mode) -> bool
     ensures { result ≡ asks_to_read mode }
 {
-    may_read(mode.bits() / 0o100) || may_read(mode.bits() / 0o10) || may_read(mode.bits())
+    Class::Owner.may_read(mode) || Class::Group.may_read(mode) || Class::Others.may_read(mode)
 }
 
+/// Checks that a `get` of this mode asks to write.
 fn asks_to_write(mode: Mode) -> bool
     ensures { result ≡ asks_to_write mode }
 {
-    may_write(mode.bits() / 0o100) || may_write(mode.bits() / 0o10) || may_write(mode.bits())
+    Class::Owner.may_write(mode) || Class::Group.may_write(mode) || Class::Others.may_write(mode)
 }
 
 impl Segment {
@@ -51,37 +65,45 @@ impl Segment {
         cred.gid == self.gid || cred.gid == self.cgid
     }
 
-    /// The bits of the one class that counts for the caller, in the last three places.
-    fn class_of(&self, cred: Cred) -> u32
-        ensures { result ≡ class_of cred self.now }
+    /// The one class that counts for the caller.
+    fn class_of(&self, cred: Cred) -> Class
+        ensures { bits_of result self.now.mode ≡ class_of cred self.now }
     {
         if self.is_owner(cred) {
-            return self.mode.bits() / 0o100;
+            return Class::Owner;
         }
         if self.is_in_group(cred) {
-            return self.mode.bits() / 0o10;
+            return Class::Group;
         }
-        self.mode.bits()
+        Class::Others
+    }
+
+    /// Checks that the caller's class permits what is asked.
+    fn permits(&self, cred: Cred, reads: bool, writes: bool) -> bool
+        ensures { result ≡ permits reads writes (class_of cred self.now) }
+    {
+        let class = self.class_of(cred);
+        (!reads || class.may_read(self.mode)) && (!writes || class.may_write(self.mode))
     }
 
     /// Checks that the caller has the permission that a `get` with this mode asks for.
     pub fn may_get(&self, cred: Cred, mode: Mode) -> bool
         ensures { result ≡ may_get cred mode self.now }
     {
-        permits(asks_to_read(mode), asks_to_write(mode), self.class_of(cred))
+        self.permits(cred, asks_to_read(mode), asks_to_write(mode))
     }
 
     /// Checks that the caller may attach: only to read, or to write too.
     pub fn may_attach(&self, cred: Cred, ro: bool) -> bool
         ensures { result ≡ may_attach cred ro self.now }
     {
-        permits(true, !ro, self.class_of(cred))
+        self.permits(cred, true, !ro)
     }
 
-    /// Checks that the caller may read the segment's record.
+    /// Checks that the caller may be told of the segment.
     pub fn may_stat(&self, cred: Cred) -> bool
         ensures { result ≡ may_stat cred self.now }
     {
-        permits(true, false, self.class_of(cred))
+        self.permits(cred, true, false)
     }
 }

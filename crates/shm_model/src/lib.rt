@@ -18,6 +18,6 @@ pub use call::{Attached, Cred, Errno, Op, Reply, Request, Stat};
 pub use event::Event;
 pub use kind::Kind;
 pub use limits::MAX_SENT;
-pub use mode::{GetFlags, Mode};
+pub use mode::{GetFlags, Mode, Permissions};
 pub use opening::Opening;
 pub use refusal::Numbered;

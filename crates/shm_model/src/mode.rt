@@ -1,39 +1,88 @@
-ghost use Rattle.std.specs.Prelude.{⊤, [], ◌∷◌, codes, ℕ, ◌≡◌, ◌<◌, Some, None, nat_lt, if◌then◌else◌};
+ghost use Rattle.std.specs.Prelude.{⊤, [], ◌∷◌, codes, ℕ, ◌≡◌, ◌==◌, ◌<◌, Some, None, nat_lt, if◌then◌else◌};
+ghost use Rattle.std.specs.Int.RustNames.{bit_and};
 
 use bitflags::{Flag, Flags, bitflag_items};
 use std::fmt;
 use std::marker::Model;
 
-/// The nine mode bits of a segment: read, write and execute for the owner, the group and the others, in octal 400 to 001
-/// (`shmget(2)`). Execute bits are kept and have no use.
+/// Permissions by name: to read, write and execute, for the owner, the group and the others (`chmod(2)`). Execute permissions are kept and
+/// have no use.
+#[derive(Clone, Copy, Debug, PartialEq, Eq)]
+pub struct Permissions(pub u32);
+
+bitflag_items! {
+    impl Permissions: u32 {
+        const OWNER_READ = 0o400;
+        const OWNER_WRITE = 0o200;
+        const OWNER_EXECUTE = 0o100;
+        const GROUP_READ = 0o040;
+        const GROUP_WRITE = 0o020;
+        const GROUP_EXECUTE = 0o010;
+        const OTHERS_READ = 0o004;
+        const OTHERS_WRITE = 0o002;
+        const OTHERS_EXECUTE = 0o001;
+    }
+}
+
+impl Flags for Permissions {
+    type Bits = u32;
+
+    ghost exact = { ⊤ };
+
+    ghost table = { (codes "OWNER_READ", 0o400) ∷ (codes "OWNER_WRITE", 0o200) ∷ (codes "OWNER_EXECUTE", 0o100)
+        ∷ (codes "GROUP_READ", 0o040) ∷ (codes "GROUP_WRITE", 0o020) ∷ (codes "GROUP_EXECUTE", 0o010)
+        ∷ (codes "OTHERS_READ", 0o004) ∷ (codes "OTHERS_WRITE", 0o002) ∷ (codes "OTHERS_EXECUTE", 0o001) ∷ [] };
+
+    ghost set_of = { λ permissions. permissions.0 };
+
+    fn flags<'a>() -> &'a [Flag<Permissions>] {
+        Permissions::FLAGS
+    }
+
+    fn bits(&self) -> u32 {
+        self.0
+    }
+
+    fn from_bits_retain(bits: u32) -> Permissions {
+        Permissions(bits)
+    }
+}
+
+/// The mode of a segment (`shmget(2)`): permissions, and no other bit.
 #[derive(Clone, Copy, Debug, PartialEq, Eq)]
 pub struct Mode {
-    bits: u32,
+    permissions: Permissions,
 }
 
 impl Model for Mode {
     ghost Value = { ℕ };
 
-    ghost view = { λ mode. mode.bits };
+    ghost view = { λ mode. mode.permissions.0 };
 
-    ghost invariant = { λ mode. mode.bits < 512 };
+    ghost invariant = { λ mode. mode.permissions.0 < 512 };
 
-    ghost inverse = { λ n. record { bits = n } };
+    ghost inverse = { λ n. record { permissions = record { 0 = n } } };
 }
 
 impl Mode {
     /// The owner may read and write, and nobody else: octal 600.
-    pub const OWNER_READ_WRITE: Mode = Mode { bits: 0o600 };
+    pub const OWNER_READ_WRITE: Mode = Mode {
+        permissions: Permissions(0o600),
+    };
 
     /// All may read and write: octal 666, the mode of the segment that a preset has.
-    pub const ALL_READ_WRITE: Mode = Mode { bits: 0o666 };
+    pub const ALL_READ_WRITE: Mode = Mode {
+        permissions: Permissions(0o666),
+    };
 
     /// The mode of these bits, or `None` where there are others than the nine.
     pub fn from_bits(bits: u32) -> Option<Mode>
         ensures { result ≡ (if nat_lt bits 512 then Some bits else None) }
     {
         if bits < 0o1000 {
-            return Some(Mode { bits });
+            return Some(Mode {
+                permissions: Permissions(bits),
+            });
         }
         None
     }
@@ -43,7 +92,14 @@ impl Mode {
         ensures bits { result ≡ self }
         ensures nine { result < 512 }
     {
-        self.bits
+        self.permissions.0
+    }
+
+    /// Checks that the mode gives all of these permissions.
+    pub fn contains(self, permissions: Permissions) -> bool
+        ensures { result ≡ (bit_and self permissions.0 == permissions.0) }
+    {
+        self.permissions.contains(permissions)
     }
 }
 

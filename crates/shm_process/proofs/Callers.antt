@@ -1,10 +1,12 @@
 -- Who is told of a step: not the caller whose ask goes on waiting, and such an ask has nothing to do with a segment call's.
-use Rattle.std.proofs.Common.{◌≡◌, ℕ, ◌&&◌, Bool, true, false, List, Option, None, cond, refl, ap, sym, ◌∙◌}
+use Rattle.std.proofs.Common.{◌≡◌, inl, inr, ℕ, ◌&&◌, Bool, true, false, List, Option, None, cond, refl, ap, sym, ◌∙◌}
 use Rattle.shm_model.specs.declared.answer.Answer.{Answer}
 use Rattle.shm_model.specs.declared.answer.Answer.TheVariants.{Byte, Stored, Fault, Waiting, Began, Replied, Took, Dropped, Refused}
 use Rattle.shm_process.specs.Access.{is_open}
 use Rattle.shm_process.specs.Node.{caller_after, tag_told}
-use Rattle.shm_process.specs.WaitingAsks.{Access, Reads, WaitingAsk, goes_on}
+use Rattle.shm_process.specs.WaitingAsks.{Access, Reads, Writes, WaitingAsk, goes_on}
+use Rattle.shm_process.specs.Writes.{Write}
+use Rattle.shm_process.proofs.WriteLemmas.{GoesOn, goes-on}
 
 -- no segment call begins, or is replied to
 abbrev pub is_callers : Answer → Bool
@@ -23,6 +25,10 @@ open-callers Took h = refl
 open-callers Dropped h = refl
 open-callers (Refused refusal) h = refl
 
+writes-callers : (write : Write) (answer : Answer) → GoesOn write answer → is_callers answer ≡ true
+writes-callers write answer (inl h) = ap is_callers h.0
+writes-callers write answer (inr h) = open-callers answer h.0
+
 goes_on-callers : (ask : WaitingAsk) (answer : Answer) → goes_on ask answer ≡ true → is_callers answer ≡ true
 goes_on-callers (Access tag asked) answer h = open-callers answer h
 goes_on-callers (Reads block) (Byte byte) h = refl
@@ -34,6 +40,7 @@ goes_on-callers (Reads block) (Replied number reply attachment) h = absurd (cc)
 goes_on-callers (Reads block) Took h = refl
 goes_on-callers (Reads block) Dropped h = refl
 goes_on-callers (Reads block) (Refused refusal) h = refl
+goes_on-callers (Writes write) answer h = writes-callers write answer (goes-on write answer h)
 
 any-caller : (answer : Answer) (one other caller : Option (List ℕ)) → is_callers answer ≡ true → caller_after one caller answer ≡ caller_after other caller answer
 any-caller (Byte byte) one other caller h = refl

@@ -14,7 +14,6 @@ use Rattle.shm_wire.specs.Line.{read_line}
 use Rattle.shm_wire.specs.Sent.{Sent}
 use Rattle.shm_wire.specs.declared.ask.Question.{Question}
 use Rattle.shm_wire.specs.declared.ask.Question.TheVariants as question
-use Rattle.shm_process.specs.Blocks.{Block}
 use Rattle.shm_process.specs.Cause.{Cause, OfLine, OfRestart}
 use Rattle.shm_process.specs.Node.{Node, Heard, Said, handed, heard, input_asked, is_ahead, is_beyond, is_late, most_ahead, new_node, next_clock, says, stepped, under_tag, waits_for}
 use Rattle.shm_process.specs.Numbers.{NumbersWithin, number_named, numbers_fit}
@@ -84,6 +83,7 @@ ask-heeds node tag waits x (Some input) true false number e =
 
 line-heeds : (node : Node) (line : stream.Line) (x : Heard) → heard node line ≡ Some x → Heeds node x
 line-heeds node (stream.Envelope sent) x e = envelope-heeds node sent x e
+line-heeds node (stream.Write write) x e = absurd (cc)
 line-heeds node (stream.Ask ask) x e =
     ask-heeds node ask.tag (waits_for ask.tag ask.asked) x (input_asked ask.asked) (ask.site == node.me) (is_late node 0) (asked-number ask.asked) e
 
@@ -104,7 +104,7 @@ still-reach clock = omega arith
 abbrev Reach : Node → Node → Type 0
 Reach node next = next.clock ≤ node.clock + most_ahead + 1
 
-heard-reach : (node : Node) (block : Option Block) (o : Option Heard) → ((x : Heard) → o ≡ Some x → Heeds node x) → Reach node (after_heard node block o)
+heard-reach : (node : Node) (block : Option WaitingAsk) (o : Option Heard) → ((x : Heard) → o ≡ Some x → Heeds node x) → Reach node (after_heard node block o)
 heard-reach node None None is = still-reach node.clock
 heard-reach node (Some block) None is = still-reach node.clock
 heard-reach node block (Some x) is = step-reach node.clock x.source (is x refl).near
@@ -173,7 +173,7 @@ heard-good node x is within =
     good-step node.sites node.me node.clock (next_clock node x.source) node.site (later-clock node.clock x.source) within x.input
     (input-later x.source (next_clock node x.source) x.input (later-source node.clock x.source) is.number)
 
-heard-within : (node : Node) (block : Option Block) (o : Option Heard) → ((x : Heard) → o ≡ Some x → Heeds node x) → Within node
+heard-within : (node : Node) (block : Option WaitingAsk) (o : Option Heard) → ((x : Heard) → o ≡ Some x → Heeds node x) → Within node
     → Within (after_heard node block o)
 heard-within node None None is within = within
 heard-within node (Some block) None is within = within

@@ -13,17 +13,17 @@ more-recorded : (said : Option Said) (xs ys : List Entry) → recorded said (xs 
 more-recorded None xs ys = refl
 more-recorded (Some said) xs ys = refl
 
-after-both : (xs ys : List Event) (node : Node) → after_events node (xs ++ ys) ≡ after_events (after_events node xs) ys
+pub after-both : (xs ys : List Event) (node : Node) → after_events node (xs ++ ys) ≡ after_events (after_events node xs) ys
 after-both [] ys node = refl
 after-both (x ∷ xs) ys node = after-both xs ys (after_event node x)
 
-entries-both : (xs ys : List Event) (node : Node) → entries_of node (xs ++ ys) ≡ entries_of node xs ++ entries_of (after_events node xs) ys
+pub entries-both : (xs ys : List Event) (node : Node) → entries_of node (xs ++ ys) ≡ entries_of node xs ++ entries_of (after_events node xs) ys
 entries-both [] ys node = refl
 entries-both (x ∷ xs) ys node =
     ap (recorded (said_at node x)) (entries-both xs ys (after_event node x))
     ∙ more-recorded (said_at node x) (entries_of (after_event node x) xs) (entries_of (after_events (after_event node x) xs) ys)
 
-text-both : (xs ys : List Entry) → entries_text (xs ++ ys) ≡ entries_text xs ++ entries_text ys
+pub text-both : (xs ys : List Entry) → entries_text (xs ++ ys) ≡ entries_text xs ++ entries_text ys
 text-both [] ys = refl
 text-both (x ∷ xs) ys =
     ap (λ t. entry_line x ++ 10 ∷ t) (text-both xs ys) ∙ sym (append_assoc (entry_line x) (10 ∷ entries_text xs) (entries_text ys))

@@ -13,9 +13,10 @@ use Rattle.shm_model.specs.Receipt.{access_of}
 use Rattle.shm_process.specs.Access.{is_access, is_waiting}
 use Rattle.shm_process.specs.Blocks.{Block}
 use Rattle.shm_process.specs.Desk.{Desk, made_again as desk_made_again, settled}
-use Rattle.shm_process.specs.WaitingAsks.{Access, Reads, WaitingAsk, after_answer, ask_in, goes_on, next_access}
+use Rattle.shm_process.specs.WaitingAsks.{Access, Reads, Writes, WaitingAsk, after_answer, ask_in, goes_on, next_access}
 use Rattle.shm_process.specs.Node.{Node, Heard, Said, answer_to, is_late, new_node}
 use Rattle.shm_process.specs.Recorded.{Event, after_events}
+use Rattle.shm_process.specs.Writes.{Write}
 use Rattle.shm_process.specs.Waiting.{after_again, again_at, can_be_made, most_steps, most_waiting, next_heard, ready, said_again, says_at}
 use Rattle.shm_process.proofs.Few.{few_wait}
 use Rattle.shm_process.proofs.Lasting.{is_fault, lasts, waits_next}
@@ -29,10 +30,12 @@ use Rattle.shm_process.proofs.Totals.{Found, found_at, total, total-most, total-
 abbrev weight : WaitingAsk → ℕ
 weight (Access tag asked) = 1
 weight (Reads block) = (block.count - (length block.bytes + 1)) + 1
+weight (Writes w) = (length w.bytes - (w.stored + 1)) + 1
 
 some-weight : (ask : WaitingAsk) → 0 < weight ask
 some-weight (Access tag asked) = omega arith
 some-weight (Reads block) = omega arith
+some-weight (Writes w) = omega arith
 
 -- none, as long as it only waits
 abbrev left : Node → WaitingAsk → ℕ
@@ -115,6 +118,15 @@ module _ (node : Node) (at : ℕ) (can : can_be_made node (ask_in node.waiting a
       let room : length block.bytes + 1 < block.count = below (length block.bytes + 1) block.count on in
       omega (arith, most, more, room)
 
+  -- a byte more is stored
+  stored-less : (w : Write) → nat_lt (w.stored + 1) (length w.bytes) ≡ true → left (again_at node at) (after_answer (Writes w) Stored) < weight (Writes w)
+  stored-less w on =
+      let next = Writes (record w { stored = w.stored + 1 }) in
+      let most : left (again_at node at) next ≤ (length w.bytes - ((w.stored + 1) + 1)) + 1 =
+      left-most (can_be_made (again_at node at) next) (weight next) in
+      let room : w.stored + 1 < length w.bytes = below (w.stored + 1) (length w.bytes) on in
+      omega (arith, most, room)
+
   own-less : (ask : WaitingAsk) (answer : Answer) → next_heard ask ≡ x → answer_to node x ≡ answer → goes_on ask answer ≡ true
       → left (again_at node at) (after_answer ask answer) < weight ask
   own-less (Access tag asked) (Byte byte) same is on = absurd (cc)
@@ -135,6 +147,15 @@ module _ (node : Node) (at : ℕ) (can : can_be_made node (ask_in node.waiting a
   own-less (Reads block) Took same is on = absurd (cc)
   own-less (Reads block) Dropped same is on = absurd (cc)
   own-less (Reads block) (Refused refusal) same is on = absurd (cc)
+  own-less (Writes w) (Byte byte) same is on = absurd (cc)
+  own-less (Writes w) Stored same is on = stored-less w on
+  own-less (Writes w) Fault same is on = fault-less (Writes w) same (ap is_fault is)
+  own-less (Writes w) Waiting same is on = absurd (let no_wait = waits-not Waiting is in cc)
+  own-less (Writes w) (Began number) same is on = absurd (cc)
+  own-less (Writes w) (Replied number reply attachment) same is on = absurd (cc)
+  own-less (Writes w) Took same is on = absurd (cc)
+  own-less (Writes w) Dropped same is on = absurd (cc)
+  own-less (Writes w) (Refused refusal) same is on = absurd (cc)
 
   own-left : left node (ask_in node.waiting at) ≡ weight (ask_in node.waiting at)
   own-left =
@@ -199,6 +220,12 @@ small-left node (Reads block) proper =
     left-most (can_be_made node (Reads block)) (weight (Reads block)) in
     let small : block.count ≤ page_bytes = block-size block.offset block.count proper.0.2.3 in
     omega (arith, most, small)
+small-left node (Writes w) proper =
+    let most : left node (Writes w) ≤ (length w.bytes - (w.stored + 1)) + 1 =
+    left-most (can_be_made node (Writes w)) (weight (Writes w)) in
+    let small : length w.bytes ≤ page_bytes = block-size w.offset (length w.bytes) proper.0.4 in
+    let more = proper.1 in
+    omega (arith, most, small, more)
 
 bounded : (sites me pages : ℕ) (events : List Event) → all_left (after_events (new_node sites me pages) events) ≤ most_steps
 bounded sites me pages events =

@@ -10,10 +10,11 @@ use Rattle.shm_wire.specs.Line as stream
 use Rattle.shm_wire.specs.Line.{read_line}
 use Rattle.shm_wire.specs.declared.ask.Question.{Question}
 use Rattle.shm_wire.specs.declared.ask.Question.TheVariants as question
+use Rattle.shm_wire.specs.Writes.{WriteAsk}
 use Rattle.shm_process.specs.WaitingAsks.{Reads, WaitingAsk, after_answer, ask_in, goes_on, waiting_after}
 use Rattle.shm_process.specs.Node.{Node, Heard, answer_to, heard, is_late, new_node}
 use Rattle.shm_process.specs.Recorded.{Event, Line, TooLong, Again, Restarted, after_event, after_events}
-use Rattle.shm_process.specs.Waiting.{after_heard, after_read, after_restart, after_unheard, again_at, block_in, has_room, joining, joins, most_waiting, next_heard, ready, with_ask}
+use Rattle.shm_process.specs.Waiting.{after_heard, after_read, after_restart, after_unheard, again_at, block_in, has_room, joining, joins, most_waiting, next_heard, ready, unstored, with_ask}
 
 abbrev Few : Node → Type 0
 Few node = length node.waiting ≤ most_waiting
@@ -60,8 +61,16 @@ ask-few : (node : Node) (room here late : Bool) (tag : List ℕ) (q : Question) 
 ask-few node false here late tag q room few = few
 ask-few node true here late tag q room few = block-few node here late tag q room few
 
+write-few : (node : Node) (write : WriteAsk) (room here late : Bool) → has_room node ≡ room → Few node
+    → Few (after_unheard node (cond room (cond here (cond late None (Some (unstored write))) None) None))
+write-few node write false here late room few = few
+write-few node write true false late room few = few
+write-few node write true true true room few = few
+write-few node write true true false room few = room-for-one node.waiting (unstored write) room
+
 unheard-few : (node : Node) (line : stream.Line) → Few node → Few (after_unheard node (joining node line))
 unheard-few node (stream.Envelope sent) few = few
+unheard-few node (stream.Write write) few = write-few node write (has_room node) (write.site == node.me) (is_late node 0) refl few
 unheard-few node (stream.Ask ask) few = ask-few node (has_room node) (ask.site == node.me) (is_late node 0) ask.tag ask.asked refl few
 
 joins-room : (a b c : Bool) → ((a && b) && c) ≡ true → b ≡ true

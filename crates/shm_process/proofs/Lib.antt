@@ -6,6 +6,7 @@ pub mod Asks
 pub mod AskedBlock
 pub mod Few
 pub mod Tests
+pub mod WriteLemmas
 pub mod Totals
 pub mod Proper
 pub mod Callers

@@ -21,20 +21,23 @@ use Rattle.shm_wire.specs.Line as stream
 use Rattle.shm_wire.specs.Line.{IsLine, read_line}
 use Rattle.shm_wire.specs.declared.ask.Question.{Question}
 use Rattle.shm_wire.specs.declared.ask.Question.TheVariants as question
+use Rattle.shm_wire.specs.Writes.{WriteAsk, IsWrite}
 use Rattle.shm_process.specs.Access.{access_ask}
 use Rattle.shm_process.specs.Cause.{OfLine}
-use Rattle.shm_process.specs.WaitingAsks.{Access, Reads, WaitingAsk, after_answer, ask_in, goes_on, waiting_after}
+use Rattle.shm_process.specs.WaitingAsks.{Access, Reads, Writes, WaitingAsk, after_answer, ask_in, goes_on, waiting_after}
 use Rattle.shm_process.specs.Node.{Node, Heard, Said, answer_to, heard, input_asked, is_beyond, is_late, new_node, says, under_tag, waits_for}
 use Rattle.shm_process.specs.Recorded.{Entry, Event, Line, TooLong, Again, Restarted, IsEntry, entry_of, after_event, after_events, entries_of, recorded, said_at}
-use Rattle.shm_process.specs.Waiting.{after_heard, after_read, after_restart, after_unheard, again_at, block_in, can_be_made, has_room, joining, joins, next_heard, next_line, ready, said_read, said_restart, says_at, with_ask}
+use Rattle.shm_process.specs.Waiting.{after_heard, after_read, after_restart, after_unheard, again_at, block_in, can_be_made, has_room, joining, joins, next_heard, next_line, ready, said_read, said_restart, says_at, unstored, with_ask}
 use Rattle.shm_process.proofs.Tests.{below, unless-some}
 use Rattle.shm_process.proofs.Totals.{Found, found_at}
+use Rattle.shm_process.proofs.WriteLemmas.{goes-on, more-to-store}
 
--- an access, or the access of a block of which more is to be loaded
+-- an access, or the access of a block of which more is to be loaded or stored
 abbrev pub IsProper : ℕ → WaitingAsk → Type 0
 IsProper me (Access tag asked) = IsAsk (access_ask me tag asked)
 IsProper me (Reads block) =
     IsAsk (record { site = me; tag = block.tag; asked = question.Read block.at block.offset block.count }) × (length block.bytes < block.count)
+IsProper me (Writes w) = IsWrite (record { site = me; tag = w.tag; at = w.at; offset = w.offset; bytes = w.bytes }) × (w.stored < length w.bytes)
 
 pub block-size : (offset count : ℕ) → is_block offset count ≡ true → count ≤ page_bytes
 block-size offset count h = grind (arith, nat_tests)
@@ -49,9 +52,10 @@ block-end offset count here h more = grind (arith, nat_tests)
 next-is : (me : ℕ) (ask : WaitingAsk) → IsProper me ask → IsLine (next_line me ask)
 next-is me (Access tag asked) is = is
 next-is me (Reads block) is = (is.0.0, is.0.1, (is.0.2.0, block-end block.offset block.count (length block.bytes) is.0.2.3 is.1))
+next-is me (Writes w) is = (is.0.0, is.0.1, (is.0.2, block-end w.offset (length w.bytes) w.stored is.0.4 is.1, is.0.5 w.stored))
 
 -- what waits, and the clock: no number is too large for a line
-record Sound (node : Node) : Type 0 where
+pub record Sound (node : Node) : Type 0 where
   pub clock : IsWide node.clock
   pub asks : All (IsProper node.me) node.waiting
 
@@ -71,6 +75,7 @@ answered-proper me (Reads block) (Replied number reply attachment) on is = is
 answered-proper me (Reads block) Took on is = is
 answered-proper me (Reads block) Dropped on is = is
 answered-proper me (Reads block) (Refused refusal) on is = is
+answered-proper me (Writes w) answer on is = (is.0, more-to-store w answer is.1 (goes-on w answer on))
 
 cond-all : {X : Type 0} (P : X → Type 0) (b : Bool) (xs ys : List X) → (b ≡ true → All P xs) → All P ys → All P (cond b xs ys)
 cond-all P true xs ys p q = p refl
@@ -139,6 +144,7 @@ line-heard : (node : Node) (line : stream.Line) (x : Heard) → IsLine line → 
 line-heard node (stream.Envelope sent) x is e =
     idle (foreign node.sites node.me sent.envelope) (is_late node sent.source.at) (is_beyond node sent) node
     (record { input = Deliver sent.envelope; source = sent.source.at; tag = None; waits = None }) x is.2.0 refl refl e
+line-heard node (stream.Write write) x is e = absurd (cc)
 line-heard node (stream.Ask ask) x is e = asks-here node ask.site ask.tag ask.asked x (ask.site == node.me) (is_late node 0) (same-site ask.site node.me) refl is e
 
 with-proper : (me : ℕ) (waiting : List WaitingAsk) (ask : Option WaitingAsk) (joins : Bool) → ((a : WaitingAsk) → ask ≡ Some a → IsProper me a)
@@ -164,8 +170,21 @@ blocks-here node site tag (question.Begin request) true true false own is sound 
 blocks-here node site tag question.Tick true true false own is sound = record { clock = sound.clock; asks = sound.asks }
 blocks-here node site tag (question.Show page) true true false own is sound = record { clock = sound.clock; asks = sound.asks }
 
+writes-here : (node : Node) (write : WriteAsk) (room here late : Bool) → (here ≡ true → write.site ≡ node.me) → IsWrite write → Sound node
+    → Sound (after_unheard node (cond room (cond here (cond late None (Some (unstored write))) None) None))
+writes-here node write false here late own is sound = record { clock = sound.clock; asks = sound.asks }
+writes-here node write true false late own is sound = record { clock = sound.clock; asks = sound.asks }
+writes-here node write true true true own is sound = record { clock = sound.clock; asks = sound.asks }
+writes-here node write true true false own is sound = record {
+  clock = sound.clock;
+  asks = All-push (IsProper node.me) node.waiting (unstored write) sound.asks
+      (subst (λ s. IsWrite (record write { site = s })) (own refl) is, block-some write.offset (length write.bytes) is.4);
+}
+
 unheard-sound : (node : Node) (line : stream.Line) → IsLine line → Sound node → Sound (after_unheard node (joining node line))
 unheard-sound node (stream.Envelope sent) is sound = record { clock = sound.clock; asks = sound.asks }
+unheard-sound node (stream.Write write) is sound =
+    writes-here node write (has_room node) (write.site == node.me) (is_late node 0) (same-site write.site node.me) is sound
 unheard-sound node (stream.Ask ask) is sound =
     blocks-here node ask.site ask.tag ask.asked (has_room node) (ask.site == node.me) (is_late node 0) (same-site ask.site node.me) is sound
 
@@ -211,17 +230,17 @@ restart-sound : (node : Node) (late : Bool) → is_late node 0 ≡ late → Soun
 restart-sound node true is sound = sound
 restart-sound node false is sound = record { clock = later node.clock 0 sound.clock wide-zero is; asks = All-nil (IsProper node.me) }
 
-event-sound : (node : Node) (event : Event) → Sound node → Sound (after_event node event)
+pub event-sound : (node : Node) (event : Event) → Sound node → Sound (after_event node event)
 event-sound node (Line bytes) sound = read-sound node bytes (read_line bytes) refl sound
 event-sound node TooLong sound = record { clock = sound.clock; asks = sound.asks }
 event-sound node Again sound = again-sound node (ready node) refl sound
 event-sound node Restarted sound = restart-sound node (is_late node 0) refl sound
 
-events-sound : (events : List Event) (node : Node) → Sound node → Sound (after_events node events)
+pub events-sound : (events : List Event) (node : Node) → Sound node → Sound (after_events node events)
 events-sound [] node sound = sound
 events-sound (event ∷ events) node sound = events-sound events (after_event node event) (event-sound node event sound)
 
-new-sound : (sites me pages : ℕ) → Sound (new_node sites me pages)
+pub new-sound : (sites me pages : ℕ) → Sound (new_node sites me pages)
 new-sound sites me pages = record { clock = wide-zero; asks = All-nil (IsProper me) }
 
 pub proper_asks : (sites me pages : ℕ) (events : List Event)
@@ -256,7 +275,7 @@ restart-entry node true said is sound made = absurd (cc)
 restart-entry node false said is sound made =
     subst (λ (s : Said). IsEntry (entry_of s)) (some-is (said_restart node) said made) (later node.clock 0 sound.clock wide-zero is, tt)
 
-event-entry : (node : Node) (event : Event) (said : Said) → Sound node → said_at node event ≡ Some said → IsEntry (entry_of said)
+pub event-entry : (node : Node) (event : Event) (said : Said) → Sound node → said_at node event ≡ Some said → IsEntry (entry_of said)
 event-entry node (Line bytes) said sound made = read-entry node bytes (read_line bytes) said refl sound made
 event-entry node TooLong said sound made = absurd (cc)
 event-entry node Again said sound made = again-entry node (ready node) said refl sound made

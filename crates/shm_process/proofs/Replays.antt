@@ -6,7 +6,6 @@ use Rattle.std.specs.List.{position_from}
 use Rattle.std.proofs.lemmas.Bool.Decides.{nat_tests}
 use Rattle.shm_wire.specs.Line as stream
 use Rattle.shm_wire.specs.Line.{read_line}
-use Rattle.shm_process.specs.Blocks.{Block}
 use Rattle.shm_process.specs.Cause.{Cause, OfLine, OfRestart}
 use Rattle.shm_process.specs.Node.{Node, Heard, heard, is_late, next_clock, says, stepped}
 use Rattle.shm_process.specs.Waiting.{after_heard, after_read, after_unheard, again_at, can_be_made, heard_again, joining, joins, next_heard, next_line, ready, replayed, replayed_heard, restarting, said_read, said_restart, after_restart, says_at}
@@ -18,6 +17,7 @@ use Rattle.shm_process.proofs.Tests.{unless-some}
 kept-heard : (node : Node) (line : stream.Line) → heard (kept node) line ≡ heard node line
 kept-heard node (stream.Envelope sent) = refl
 kept-heard node (stream.Ask ask) = refl
+kept-heard node (stream.Write write) = refl
 
 same-is : (n : ℕ) → (n == n) ≡ true
 same-is n = grind (arith, nat_tests)
@@ -35,7 +35,7 @@ one-more : (node : Node) (next : Option Node) (made : Node) (entries : List Entr
 one-more node next made entries final e h = ap (option_and_then (λ n. replayed_all n entries)) e ∙ h
 
 -- a block that joins those that wait, and a line that is passed over, are no step
-kept-unheard : (node : Node) (block : Option Block) → kept (after_unheard node block) ≡ kept node
+kept-unheard : (node : Node) (block : Option WaitingAsk) → kept (after_unheard node block) ≡ kept node
 kept-unheard node None = refl
 kept-unheard node (Some block) = refl
 

@@ -2,13 +2,19 @@
 use Rattle.shm_wire.specs.TagOf.{tag_text}
 use Rattle.shm_process.specs.Blocks as spec
 use Rattle.shm_process.specs.WaitingAsks as asks
+use Rattle.shm_process.specs.Writes as writes
 use Rattle.shm_process.specs.declared.block.Block.{Block}
 use Rattle.shm_process.specs.declared.waiting_ask.WaitingAsk.{WaitingAsk}
 use Rattle.shm_process.specs.declared.waiting_ask.WaitingAsk.TheVariants as code
+use Rattle.shm_process.specs.declared.write.Write.{Write}
 
 abbrev pub block_of : {A : Type 0} → Block A → spec.Block
 block_of block = record { tag = tag_text block.tag; at = block.at; offset = block.offset; count = block.length; bytes = block.bytes.items }
 
+abbrev pub write_of : {A : Type 0} → Write A → writes.Write
+write_of write = record { tag = tag_text write.tag; at = write.at; offset = write.offset; bytes = write.bytes.items; stored = write.stored }
+
 abbrev pub ask_of : {A : Type 0} → WaitingAsk A → asks.WaitingAsk
 ask_of (code.Access tag asked) = asks.Access (tag_text tag) asked
 ask_of (code.Reads block) = asks.Reads (block_of block)
+ask_of (code.Writes write) = asks.Writes (write_of write)

@@ -1,4 +1,4 @@
--- A block: so many loads of bytes one after another, each a step of its own. It is answered once: when the last of them is made, or one
+-- A block that is loaded: so many loads of bytes one after another, each a step of its own. It is answered once: when the last of them is made, or one
 -- is refused.
 use Rattle.std.specs.Prelude.{ℕ, ◌+◌, Bool, List, [], ◌∷◌, ◌++◌, Option, Some, None, if◌then◌else◌, length, nat_lt}
 use Rattle.shm_model.specs.declared.answer.Answer.{Answer}

@@ -2,6 +2,7 @@ pub mod Access
 pub mod Cause
 pub mod CauseOf
 pub mod Blocks
+pub mod Writes
 pub mod WaitingAsks
 pub mod AskOf
 pub mod Numbers

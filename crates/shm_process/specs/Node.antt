@@ -102,9 +102,11 @@ asked_here node ask =
     then (if is_late node 0 then None else option_map (under_tag ask.tag (waits_for ask.tag ask.asked)) (input_asked ask.asked))
     else None
 
+-- a block that is to be stored hands over nothing yet
 abbrev pub heard : Node → stream.Line → Option Heard
 heard node (stream.Envelope sent) = handed node sent
 heard node (stream.Ask ask) = asked_here node ask
+heard node (stream.Write write) = None
 
 -- ---- one step
 

@@ -12,10 +12,10 @@ use Rattle.shm_wire.specs.Asks.{Ask}
 use Rattle.shm_wire.specs.Line as stream
 use Rattle.shm_wire.specs.declared.ask.Question.{Question}
 use Rattle.shm_wire.specs.declared.ask.Question.TheVariants as question
+use Rattle.shm_wire.specs.Writes.{WriteAsk}
 use Rattle.shm_process.specs.Access.{access_ask, is_open, is_waiting}
-use Rattle.shm_process.specs.Blocks.{Block}
 use Rattle.shm_process.specs.Cause.{Cause, OfLine, OfRestart}
-use Rattle.shm_process.specs.WaitingAsks.{Access, Reads, WaitingAsk, all_bytes, ask_in, goes_on, next_access, tag_of, waiting_after}
+use Rattle.shm_process.specs.WaitingAsks.{Access, Reads, Writes, WaitingAsk, all_bytes, ask_in, goes_on, next_access, tag_of, waiting_after}
 use Rattle.shm_process.specs.Node.{Node, Heard, Said, answer_to, heard, is_late, next_clock, says, stepped, under_tag}
 
 -- so many asks wait at most; a further access is answered at once, as one that is only tried, and a further block isn't tried
@@ -45,32 +45,41 @@ taken node heard = record (stepped node heard) {
   waiting = with_ask node.waiting heard.waits (joins node heard);
 }
 
-abbrev pub block_in : List ℕ → Question → Option Block
-block_in tag (question.Read at offset count) = Some (record { tag = tag; at = at; offset = offset; count = count; bytes = [] })
+-- a block of which nothing is loaded yet
+abbrev pub block_in : List ℕ → Question → Option WaitingAsk
+block_in tag (question.Read at offset count) = Some (Reads (record { tag = tag; at = at; offset = offset; count = count; bytes = [] }))
 block_in tag _ = None
 
 -- the block that a caller asks of this site, while there is a clock for a step
-abbrev pub block_here : Node → Ask → Option Block
+abbrev pub block_here : Node → Ask → Option WaitingAsk
 block_here node ask = if (ask.site == node.me) then (if is_late node 0 then None else block_in ask.tag ask.asked) else None
 
+-- a block of which nothing is stored yet
+abbrev pub unstored : WriteAsk → WaitingAsk
+unstored write = Writes (record { tag = write.tag; at = write.at; offset = write.offset; bytes = write.bytes; stored = 0 })
+
+abbrev pub write_here : Node → WriteAsk → Option WaitingAsk
+write_here node write = if (write.site == node.me) then (if is_late node 0 then None else Some (unstored write)) else None
+
 -- the block that a line brings, if it finds room to wait
-abbrev pub joining : Node → stream.Line → Option Block
+abbrev pub joining : Node → stream.Line → Option WaitingAsk
 joining node (stream.Envelope sent) = None
 joining node (stream.Ask ask) = if has_room node then block_here node ask else None
+joining node (stream.Write write) = if has_room node then write_here node write else None
 
-abbrev pub joined : Node → Block → Node
-joined node block = record node { taken = counted node.taken; waiting = node.waiting ++ Reads block ∷ [] }
+abbrev pub joined : Node → WaitingAsk → Node
+joined node block = record node { taken = counted node.taken; waiting = node.waiting ++ block ∷ [] }
 
 -- a line that is passed over
 abbrev pub passed_over : Node → Node
 passed_over node = record node { passed = counted node.passed }
 
 -- a line that makes no step
-abbrev pub after_unheard : Node → Option Block → Node
+abbrev pub after_unheard : Node → Option WaitingAsk → Node
 after_unheard node None = passed_over node
 after_unheard node (Some block) = joined node block
 
-abbrev pub after_heard : Node → Option Block → Option Heard → Node
+abbrev pub after_heard : Node → Option WaitingAsk → Option Heard → Node
 after_heard node block None = after_unheard node block
 after_heard node block (Some heard) = taken node heard
 
@@ -114,7 +123,7 @@ can_be_made node ask = not (is_waiting (answer_to node (next_heard ask)))
 abbrev pub ready : Node → Option ℕ
 ready node = if is_late node 0 then None else position_from (can_be_made node) 0 node.waiting
 
--- it waits on where its right has to be asked for anew, and where it is a block of which more is to be loaded
+-- it waits on where its right has to be asked for anew, and where it is a block of which more is to be loaded or stored
 abbrev pub again_at : Node → ℕ → Node
 again_at node at =
     let heard = next_heard (ask_in node.waiting at) in

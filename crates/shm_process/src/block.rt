@@ -5,7 +5,7 @@ use shm_model::{Answer, Asked};
 use shm_wire::Tag;
 use std::alloc::{AllocError, Allocator, Global};
 
-/// A block that a caller asks for: so many loads of bytes one after another. Not all of them are made yet, and there is room for all their
+/// A block that a caller has loaded: so many loads of bytes one after another. Not all of them are made yet, and there is room for all their
 /// bytes.
 #[derive(Drop)]
 pub(crate) struct Block<A: Allocator + Copy = Global> {

@@ -1,7 +1,7 @@
 //! A site as a process, but for its streams: a line comes, and the site makes a step; what it says are lines again.
 //!
 //! All sites and callers share one stream. A line for another site, or that is no line of the stream (`shm_wire`), is passed over. A load
-//! or a store waits for its right, and is made again when it may be there. A block is loaded byte by byte.
+//! or a store waits for its right, and is made again when it may be there. A block is loaded or stored byte by byte.
 #![tactic(auto)]
 
 mod again;
@@ -21,6 +21,7 @@ mod node_take;
 mod said;
 mod tell_lines;
 mod waiting_ask;
+mod write;
 
 pub use again::Again;
 pub use cause::Cause;

@@ -21,7 +21,7 @@ use std::alloc::Allocator;
 const MOST_AHEAD: u64 = 1 << 32;
 
 impl<A: Allocator + Copy> Node<A> {
-    /// What the line hands to the site, if it is for this site.
+    /// What the line hands to the site, if it is for this site. A block that is to be stored hands over nothing yet.
     pub(crate) fn hear(&self, line: Line<A>) -> Option<Heard<A>>
         ensures heard { option_map heard_of result ≡ spec.heard (node_of self.now) (line_of line) }
         ensures proper { IfSome result (λ h. is_foreign self.now.sites self.now.me (input_of h.input) ≡ false) }
@@ -30,6 +30,7 @@ impl<A: Allocator + Copy> Node<A> {
         match line {
             Line::Envelope(sent) => self.hear_envelope(sent),
             Line::Ask(ask) => self.hear_ask(&ask),
+            Line::Write(_) => None,
         }
     }
 

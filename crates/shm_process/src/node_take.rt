@@ -2,7 +2,7 @@
 ghost use Rattle.std.specs.Prelude.{◌≡◌, ◌<◌, ◌&&◌, false, is_some, map, max, None, option_map, IfOk, OnErr, OnOk, if◌then◌else◌, vec_capacity, vec_len};
 ghost use Rattle.shm_model.specs.Basics.{greatest};
 ghost use Rattle.shm_process.specs.Access.{is_open};
-ghost use Rattle.shm_process.specs.AskOf.{ask_of, block_of};
+ghost use Rattle.shm_process.specs.AskOf.{ask_of};
 ghost use Rattle.shm_process.specs.Cause.{Cause, OfLine};
 ghost use Rattle.shm_process.specs.Node.{next_clock, says};
 ghost use Rattle.shm_process.specs.NodeOf.{access_under, heard_of, node_of, said_of};
@@ -15,6 +15,8 @@ ghost use Rattle.shm_wire.specs.Line.{IsLine};
 ghost use Rattle.shm_wire.specs.LineOf.{line_of};
 ghost use Rattle.shm_wire.specs.SentOf.{sent_of};
 ghost use Rattle.shm_wire.specs.TagOf.{tag_text};
+ghost use Rattle.shm_wire.specs.WriteOf.{write_of};
+ghost use Rattle.shm_wire.specs.Writes.{IsWrite};
 
 use crate::block::Block;
 use crate::heard::Heard;
@@ -22,10 +24,11 @@ use crate::node::Node;
 use crate::node_say::is_open;
 use crate::said::Said;
 use crate::waiting_ask::WaitingAsk;
+use crate::write::Write;
 use shm_model::Asked;
 use shm_place::PAGE_BYTES;
 use shm_site::Answer;
-use shm_wire::{Ask, Line, Question, Sent, Tag};
+use shm_wire::{Ask, Line, Question, Sent, Tag, WriteAsk};
 use std::alloc::{AllocError, Allocator};
 
 /// So many asks wait at most. A further access is answered at once, as one that is only tried; a further block is answered `waiting`, and
@@ -48,6 +51,7 @@ impl<A: Allocator + Copy> Node<A> {
         match line {
             Line::Envelope(sent) => self.take_envelope(sent),
             Line::Ask(ask) => self.take_ask(&ask),
+            Line::Write(write) => self.take_write(write),
         }
     }
 
@@ -103,10 +107,26 @@ impl<A: Allocator + Copy> Node<A> {
         }
     }
 
+    /// Takes a block that is to be stored: it joins those that wait, or it is passed over.
+    fn take_write(&mut self, write: WriteAsk<A>) -> Result<Option<Said<A>>, AllocError>
+        requires { IsWrite (write_of write) }
+        ensures said { IfOk result (λ said_now. option_map (said_of (OfLine (stream.Write (write_of write)))) said_now
+            ≡ said (node_of self.old) (stream.Write (write_of write))) }
+        ensures after { OnOk result (node_of self.new ≡ after (node_of self.old) (stream.Write (write_of write))) }
+        ensures refused { OnErr result (node_of self.new ≡ node_of self.old) }
+    {
+        if !self.has_room() || write.site != self.me || self.is_late(0) {
+            self.pass_over();
+            return Ok(None);
+        }
+        self.join_block(WaitingAsk::Writes(Write::new(write)))?;
+        Ok(None)
+    }
+
     /// The block that is asked for, if it finds room to wait.
-    fn joining_block(&self, ask: &Ask) -> Result<Option<Block<A>>, AllocError>
+    fn joining_block(&self, ask: &Ask) -> Result<Option<WaitingAsk<A>>, AllocError>
         requires { IsAsk (asks.ask_of ask.now) }
-        ensures { IfOk result (λ block. option_map block_of block ≡ joining (node_of self.now) (stream.Ask (asks.ask_of ask.now))) }
+        ensures { IfOk result (λ block. option_map ask_of block ≡ joining (node_of self.now) (stream.Ask (asks.ask_of ask.now))) }
     {
         if !self.has_room() || ask.site != self.me || self.is_late(0) {
             return Ok(None);
@@ -115,18 +135,18 @@ impl<A: Allocator + Copy> Node<A> {
             return Ok(None);
         };
         let block = Block::new(self.alloc, ask.tag, at, offset, length)?;
-        Ok(Some(block))
+        Ok(Some(WaitingAsk::Reads(block)))
     }
 
     /// The block joins those that wait.
     #[tactic(auto, using(crate::proofs::Asks::map_push))]
-    fn join_block(&mut self, block: Block<A>) -> Result<(), AllocError>
-        ensures after { OnOk result (node_of self.new ≡ joined (node_of self.old) (block_of block)) }
+    fn join_block(&mut self, block: WaitingAsk<A>) -> Result<(), AllocError>
+        ensures after { OnOk result (node_of self.new ≡ joined (node_of self.old) (ask_of block)) }
         ensures refused { OnErr result (node_of self.new ≡ node_of self.old) }
     {
         self.waiting.reserve(1)?;
         self.taken = one_more(self.taken);
-        self.waiting.push_reserved(WaitingAsk::Reads(block));
+        self.waiting.push_reserved(block);
         Ok(())
     }
 

@@ -2,9 +2,12 @@
 ghost use Rattle.std.specs.Prelude.{◌≡◌, option_map, string_bytes, IfOk};
 ghost use Rattle.shm_process.specs.Cause.{OfRestart};
 ghost use Rattle.shm_process.specs.NodeOf.{node_of, said_of};
-ghost use Rattle.shm_process.specs.Telling.{answer_line_of, crowded_out, shown_for, shown_line};
+ghost use Rattle.shm_process.specs.Telling.{answer_line_of, crowded_out, shown_for, shown_here, shown_line};
+ghost use Rattle.shm_wire.specs.Asks.{ask_of};
+ghost use Rattle.shm_wire.specs.Line as stream;
 ghost use Rattle.shm_wire.specs.LineOf.{line_of};
 ghost use Rattle.shm_wire.specs.TagOf.{tag_text};
+ghost use Rattle.shm_wire.specs.WriteOf.{write_of};
 ghost use Rattle.shm_wire.specs.declared.ask.Question.TheVariants.{Show};
 
 use crate::node::Node;
@@ -13,7 +16,7 @@ use shm_model::refusal::FOREIGN;
 use shm_model::{Answer, Shown, State};
 use shm_place::PageId;
 use shm_text::AnswerText;
-use shm_wire::{Ask, BlockText, Line, Question, Tag};
+use shm_wire::{Ask, BlockText, Line, Question, Tag, WriteAsk};
 use std::alloc::{AllocError, Allocator};
 use std::fmt;
 
@@ -73,9 +76,16 @@ impl<A: Allocator + Copy> Node<A> {
     pub fn line_at_once(&self, line: &Line<A>) -> Result<Option<String<A>>, AllocError>
         ensures { IfOk result (λ told. option_map string_bytes told ≡ shown_line (node_of self.now) (line_of line.now)) }
     {
-        let Line::Ask(ask) = line else {
-            return Ok(None);
-        };
+        match line {
+            Line::Envelope(_) => Ok(None),
+            Line::Ask(ask) => self.ask_at_once(ask),
+            Line::Write(write) => self.write_at_once(write),
+        }
+    }
+
+    fn ask_at_once(&self, ask: &Ask) -> Result<Option<String<A>>, AllocError>
+        ensures { IfOk result (λ told. option_map string_bytes told ≡ shown_here (node_of self.now) (ask_of ask.now)) }
+    {
         let Ask { site, tag, asked } = *ask;
         if site != self.me {
             return Ok(None);
@@ -85,6 +95,15 @@ impl<A: Allocator + Copy> Node<A> {
             Question::Read { .. } => self.crowd_out(tag),
             _ => Ok(None),
         }
+    }
+
+    fn write_at_once(&self, write: &WriteAsk<A>) -> Result<Option<String<A>>, AllocError>
+        ensures { IfOk result (λ told. option_map string_bytes told ≡ shown_line (node_of self.now) (stream.Write (write_of write.now))) }
+    {
+        if write.site != self.me {
+            return Ok(None);
+        }
+        self.crowd_out(write.tag)
     }
 
     fn show_page(&self, tag: Tag, page: PageId) -> Result<Option<String<A>>, AllocError>

@@ -1,5 +1,6 @@
 use crate::block::Block;
 use crate::node_say::is_open;
+use crate::write::Write;
 use shm_model::{Answer, Asked};
 use shm_wire::Tag;
 use std::alloc::{Allocator, Global};
@@ -10,6 +11,7 @@ pub(crate) enum WaitingAsk<A: Allocator + Copy = Global> {
     /// An access, under the tag of its caller.
     Access { tag: Tag, asked: Asked },
     Reads(Block<A>),
+    Writes(Write<A>),
 }
 
 /// An ask that was answered.
@@ -17,7 +19,7 @@ pub(crate) enum WaitingAsk<A: Allocator + Copy = Global> {
 pub(crate) struct Ended<A: Allocator + Copy = Global> {
     /// The tag of the caller who is told.
     pub(crate) tag: Tag,
-    /// All bytes of a block.
+    /// All bytes of a block that was loaded.
     pub(crate) bytes: Option<Vec<u8, A>>,
 }
 
@@ -34,6 +36,7 @@ impl<A: Allocator + Copy> WaitingAsk<A> {
         match self {
             WaitingAsk::Access { tag, asked: _ } => *tag,
             WaitingAsk::Reads(block) => block.tag,
+            WaitingAsk::Writes(write) => write.tag,
         }
     }
 
@@ -44,6 +47,7 @@ impl<A: Allocator + Copy> WaitingAsk<A> {
         match self {
             WaitingAsk::Access { tag: _, asked } => *asked,
             WaitingAsk::Reads(block) => block.next_load(),
+            WaitingAsk::Writes(write) => write.next_store(),
         }
     }
 
@@ -54,6 +58,7 @@ impl<A: Allocator + Copy> WaitingAsk<A> {
         match self {
             WaitingAsk::Access { .. } => is_open(answer),
             WaitingAsk::Reads(block) => block.goes_on(answer),
+            WaitingAsk::Writes(write) => write.goes_on(answer),
         }
     }
 
@@ -65,10 +70,11 @@ impl<A: Allocator + Copy> WaitingAsk<A> {
         match self {
             WaitingAsk::Access { .. } => {}
             WaitingAsk::Reads(block) => block.take(answer),
+            WaitingAsk::Writes(write) => write.take(answer),
         }
     }
 
-    /// It ends with this answer, which is the last of a block's if it gives all its bytes.
+    /// It ends with this answer, which is the last of a block that was loaded if it gives all its bytes.
     pub(crate) fn end(self, answer: &Answer) -> Ended<A>
         requires { goes_on (ask_of self) answer.now ≡ false }
         ensures tag { tag_text result.tag ≡ tag_of (ask_of self) }
@@ -77,6 +83,10 @@ impl<A: Allocator + Copy> WaitingAsk<A> {
         match self {
             WaitingAsk::Access { tag, asked: _ } => Ended { tag, bytes: None },
             WaitingAsk::Reads(block) => block.end(answer),
+            WaitingAsk::Writes(write) => Ended {
+                tag: write.tag,
+                bytes: None,
+            },
         }
     }
 }

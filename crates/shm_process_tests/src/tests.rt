@@ -4,6 +4,7 @@ mod exchanges;
 mod full_heap;
 mod process;
 mod wire;
+mod writes;
 
 use shm_model::Answer;
 use shm_place::{SiteId, Sites};

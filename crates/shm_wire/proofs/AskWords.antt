@@ -9,10 +9,9 @@ use Rattle.shm_lines.proofs.ReadLemmas.{onto, onto2}
 use Rattle.shm_lines.proofs.StepLemmas.{step, some-is}
 use Rattle.shm_lines.specs.Calls.{request_of}
 use Rattle.shm_wire.proofs.MessageWords.{took_page}
-use Rattle.shm_wire.proofs.Reading.{took, ended-is, cond-of, Reads, Sound, SoundReader, SoundWords, by_verb-is, verb-is}
-use Rattle.shm_wire.proofs.TagWords.{tag}
-use Rattle.shm_wire.specs.Asks.{Ask, IsAsk, IsAsked, ask_after, ask_words, asked_of, asked_words, begun_of, is_block, load_of, own, read_of, show_of, store_of, try_load_of, try_store_of}
-use Rattle.shm_wire.specs.Words.{by_verb, ended}
+use Rattle.shm_wire.proofs.Reading.{took, ended-is, cond-of, Reads, Sound, SoundReader, by_verb-is}
+use Rattle.shm_wire.specs.Asks.{IsAsked, asked_by, asked_words, begun_of, is_block, load_of, own, read_of, show_of, store_of, try_load_of, try_store_of}
+use Rattle.shm_wire.specs.Words.{ended}
 use Rattle.shm_wire.specs.declared.ask.Question.{Question}
 use Rattle.shm_wire.specs.declared.ask.Question.TheVariants.{Access, Try, Read, Begin, Tick, Show}
 
@@ -81,14 +80,6 @@ begun-is word words asked h =
 sound : Sound IsAsked asked_words own
 sound = (load-is, (store-is, (try_load-is, (try_store-is, (read-is, (tick-is, (show-is, tt)))))))
 
-asked-is : (words : List (List ℕ)) (asked : Question) → asked_of words ≡ Some asked → ReadsAsked words asked
-asked-is words asked h = verb-is IsAsked asked_words (by_verb own begun_of) (by_verb-is IsAsked asked_words own begun_of sound begun-is) words asked h
-
-pub ask-is : SoundWords IsAsk ask_words (codes "ask") ask_after
-ask-is words ask h =
-    let s = took number words _ ask h in
-    let t = took tag s.others _ ask s.gives in
-    let a = step (asked_of t.others) _ ask t.gives in
-    let r = asked-is t.others a.value a.gave in
-    let made : Ask = record { site = s.value; tag = t.value; asked = a.value } in
-    subst (Reads IsAsk ask_words (codes "ask" ∷ words)) (some-is made ask a.gives) ((s.is, t.is, r.0), ap (λ l. codes "ask" ∷ l) (onto s.are (onto t.are r.1)))
+-- what is asked under a verb
+pub asked-is : SoundReader IsAsked asked_words asked_by
+asked-is = by_verb-is IsAsked asked_words own begun_of sound begun-is

@@ -1,6 +1,7 @@
 pub mod NameWords
 pub mod Reading
 pub mod ReplyWords
+pub mod BytesWords
 pub mod PageWords
 pub mod MessageWords
 pub mod SpelledMessages

@@ -1,46 +1,12 @@
--- A page's bytes as a word: what is read is their base64, and their base64 is read as them.
-use Rattle.std.proofs.Common.{◌≡◌, ℕ, lit<, ◌+◌, ◌*◌, ◌/◌, ◌%◌, ◌<◌, ◌≤◌, ◌==◌, ◌&&◌, Bool, true, false, List, [], ◌∷◌, length, replicate, map, slice_index, None, Some, cond, nat_lt, ◌⊎◌, inl, inr, refl, sym, ap, subst, ◌∙◌, arith}
-use Rattle.std.specs.List.{list_all}
-use Rattle.std.specs.Str.{bytes_eq}
-use Rattle.std.specs.declared.result.Result.{Result}
-use Rattle.std.specs.declared.result.Result.TheVariants.{Ok, Err}
-use Rattle.std.proofs.lemmas.Bool.{cases_lt}
+-- A page's bytes as a word.
+use Rattle.std.proofs.Common.{◌≡◌, ℕ, ◌==◌, true, List, length, None, Some, cond, ap, subst, ◌∙◌, arith}
 use Rattle.std.proofs.lemmas.Bool.Decides.{nat_tests}
-use Rattle.std.proofs.lemmas.List.{get_or_past}
-use Rattle.std.proofs.lemmas.List.Elements.{All-nil, All-cons, All-append, All-replicate, All-get_or, All-from_get_or}
-use Rattle.std.proofs.lemmas.List.Sums.{AllPass-from_list_all, list_all-from_AllPass}
-use Rattle.std.proofs.lemmas.Slice.Eq.{bytes_eq-Decides}
-use Rattle.base64.specs.declared.decode.DecodeError.{DecodeError}
-use Rattle.base64.specs.Engines.{standard}
-use Rattle.base64.specs.GeneralPurpose.{IsBytes, decode_of}
-use Rattle.base64.specs.Rfc4648.{encode_group, encode_symbols}
-use Rattle.base64.proofs.EngineFacts.{decode_of-encode_of}
 use Rattle.shm_place.specs.Limits.{page_bytes}
 use Rattle.shm_lines.proofs.NumberWords.{IsPrinter}
-use Rattle.shm_lines.proofs.StepLemmas.{NoBlank, NoBlank-test, cond-some, lt-true, lt-test}
-use Rattle.shm_wire.specs.PageWord.{IsPage, page_word, spells, decoded, bytes_of}
-
--- ---- bytes, as a test
-
-bytes-from_test : (bytes : List ℕ) → list_all (λ byte. nat_lt byte 256) bytes ≡ true → IsBytes bytes
-bytes-from_test bytes h i = go (cases_lt i (length bytes))
-  where
-    go : (i < length bytes) ⊎ (length bytes ≤ i) → slice_index bytes i < 256
-    go (inl lt) = lt-true (slice_index bytes i) 256 (All-get_or (λ byte. nat_lt byte 256 ≡ true) bytes i 0 lt (AllPass-from_list_all (λ byte. nat_lt byte 256) bytes h))
-    go (inr ge) = subst (λ n. n < 256) (sym (get_or_past bytes i 0 ge)) (lit< tt)
-
-bytes-test : (bytes : List ℕ) → IsBytes bytes → list_all (λ byte. nat_lt byte 256) bytes ≡ true
-bytes-test bytes h =
-    list_all-from_AllPass (λ byte. nat_lt byte 256) bytes
-    (All-from_get_or (λ byte. nat_lt byte 256 ≡ true) bytes 0 (λ i lt. lt-test (slice_index bytes i) 256 (h i)))
-
--- ---- what is read
-
-parts : (a b c : Bool) → (a && b && c) ≡ true → (a ≡ true) × (b ≡ true) × (c ≡ true)
-parts true true true h = (refl, refl, refl)
-parts true true false h = absurd (cc)
-parts true false c h = absurd (cc)
-parts false b c h = absurd (cc)
+use Rattle.shm_lines.proofs.StepLemmas.{cond-some, step, step-is}
+use Rattle.shm_wire.proofs.BytesWords.{base64}
+use Rattle.shm_wire.specs.BytesWord.{bytes_of, bytes_word}
+use Rattle.shm_wire.specs.PageWord.{IsPage, page_bytes_of}
 
 length-is : (bytes : List ℕ) → (length bytes == page_bytes) ≡ true → length bytes ≡ page_bytes
 length-is bytes h = grind (arith, nat_tests)
@@ -48,71 +14,21 @@ length-is bytes h = grind (arith, nat_tests)
 is-length : (bytes : List ℕ) → length bytes ≡ page_bytes → (length bytes == page_bytes) ≡ true
 is-length bytes h = grind (arith, nat_tests)
 
-decoded-is : (word : List ℕ) (r : Result (List ℕ) DecodeError) (bytes : List ℕ) → decoded word r ≡ Some bytes → (word ≡ page_word bytes) × IsPage bytes
-decoded-is word (Err error) bytes h = absurd (cc)
-decoded-is word (Ok made) bytes h =
-    let c = cond-some (spells word made) made bytes h in
-    let p = parts (length made == page_bytes) (bytes_eq word (page_word made)) (list_all (λ byte. nat_lt byte 256) made) c.0 in
-    subst (λ b. (word ≡ page_word b) × IsPage b) c.1
-    ((bytes_eq-Decides word (page_word made)).0 p.1, (length-is made p.0, bytes-from_test made p.2))
+page-is : (word page : List ℕ) → page_bytes_of word ≡ Some page → (word ≡ bytes_word page) × IsPage page
+page-is word page h =
+    let s = step (bytes_of word) _ page h in
+    let c = cond-some (length s.value == page_bytes) s.value page s.gives in
+    let w = base64.reads word s.value s.gave in
+    subst (λ p. (word ≡ bytes_word p) × IsPage p) c.1 (w.0, (length-is s.value c.0, w.1))
 
--- ---- the base64 of bytes has no blank
+page-read : (page : List ℕ) → IsPage page → page_bytes_of (bytes_word page) ≡ Some page
+page-read page h =
+    step-is (bytes_of (bytes_word page)) (λ b. cond (length b == page_bytes) (Some b) None) page (base64.prints page h.1)
+    ∙ ap (λ b. cond b (Some page) None) (is-length page h.0)
 
-abbrev IsInk : ℕ → Type 0
-IsInk byte = (byte == 32) ≡ false
-
-abbrev AreInk : List ℕ → Type 0
-AreInk symbols = (i : ℕ) → IsInk (slice_index symbols i)
-
-ink : (symbols : List ℕ) → NoBlank symbols → AreInk symbols
-ink symbols h i = go (cases_lt i (length symbols))
-  where
-    go : (i < length symbols) ⊎ (length symbols ≤ i) → IsInk (slice_index symbols i)
-    go (inl lt) = All-get_or IsInk symbols i 0 lt h
-    go (inr ge) = ap (λ n. n == 32) (get_or_past symbols i 0 ge)
-
--- the symbols at these places
-inked : (symbols places : List ℕ) → AreInk symbols → NoBlank (map (λ i. slice_index symbols i) places)
-inked symbols [] h = All-nil IsInk
-inked symbols (i ∷ is) h = All-cons IsInk (slice_index symbols i) (map (λ i. slice_index symbols i) is) (h i) (inked symbols is h)
-
-NoBlank-symbols : (t m : List ℕ) → AreInk t → NoBlank (encode_symbols t m)
-unfolding encode_symbols
-NoBlank-symbols t [] h = All-nil IsInk
-NoBlank-symbols t (a ∷ []) h = inked t ((a / 4) ∷ (a % 4 * 16) ∷ []) h
-NoBlank-symbols t (a ∷ b ∷ []) h = inked t ((a / 4) ∷ (a % 4 * 16 + b / 16) ∷ (b % 16 * 4) ∷ []) h
-NoBlank-symbols t (a ∷ b ∷ c ∷ rest) h =
-    All-append IsInk (encode_group t a b c) (encode_symbols t rest)
-    (inked t ((a / 4) ∷ (a % 4 * 16 + b / 16) ∷ (b % 16 * 4 + c / 64) ∷ (c % 64) ∷ []) h)
-    (NoBlank-symbols t rest h)
-
-NoBlank-page : (bytes : List ℕ) → NoBlank (page_word bytes)
-NoBlank-page bytes =
-    All-append IsInk (encode_symbols standard.encode_table bytes) (replicate _ 61)
-    (NoBlank-symbols standard.encode_table bytes (ink standard.encode_table (NoBlank-test standard.encode_table refl)))
-    (All-replicate IsInk _ 61 refl)
-
--- ---- both
-
-spelled : (bytes : List ℕ) (a b c : Bool) → a ≡ true → b ≡ true → c ≡ true → cond (a && b && c) (Some bytes) None ≡ Some bytes
-spelled bytes true true true p q r = refl
-spelled bytes true true false p q r = absurd (cc)
-spelled bytes true false c p q r = absurd (cc)
-spelled bytes false b c p q r = absurd (cc)
-
--- what decodes to a page, and is how that is spelled
-pub page-decoded : (word bytes : List ℕ) → decode_of standard word ≡ Ok bytes → word ≡ page_word bytes → IsPage bytes → bytes_of word ≡ Some bytes
-page-decoded word bytes ok exact h =
-    ap (decoded word) ok
-    ∙ spelled bytes (length bytes == page_bytes) (bytes_eq word (page_word bytes)) (list_all (λ byte. nat_lt byte 256) bytes)
-    (is-length bytes h.0) ((bytes_eq-Decides word (page_word bytes)).1 exact) (bytes-test bytes h.1)
-
-bytes_of-word : (bytes : List ℕ) → IsPage bytes → bytes_of (page_word bytes) ≡ Some bytes
-bytes_of-word bytes h = page-decoded (page_word bytes) bytes (decode_of-encode_of standard bytes refl h.1) refl h
-
-pub page : IsPrinter bytes_of IsPage page_word
+pub page : IsPrinter page_bytes_of IsPage bytes_word
 page = record {
-  reads = λ word bytes h. decoded-is word (decode_of standard word) bytes h;
-  prints = bytes_of-word;
-  unparted = λ bytes h. NoBlank-page bytes;
+  reads = page-is;
+  prints = page-read;
+  unparted = λ page h. base64.unparted page h.1;
 }

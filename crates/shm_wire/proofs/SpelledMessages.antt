@@ -14,7 +14,7 @@ use Rattle.shm_wire.proofs.Reading.{prints, Spelled}
 use Rattle.shm_wire.proofs.ReplyWords.{reply-spelled}
 use Rattle.shm_lines.specs.Calls.{call_words}
 use Rattle.shm_wire.specs.Messages.{IsPageId, IsNote, IsMessage, message_words, message_of, next_page, note_words, of_page}
-use Rattle.shm_wire.specs.PageWord.{page_word}
+use Rattle.shm_wire.specs.BytesWord.{bytes_word}
 use Rattle.shm_wire.specs.Replies.{reply_words}
 use Rattle.shm_lines.specs.Words.{IsWide}
 use Rattle.shm_wire.specs.Words.{kind_word}
@@ -49,11 +49,11 @@ module _ (p : PageId) (i : IsPageId p) where
     ) refl;
   }
   note-spelled (Page n k bytes) h = record {
-    unparted = (NoBlank-test (codes "page") refl, unparted_page p n (kind_word k ∷ page_word bytes ∷ []) i h.0 (kind.unparted k tt, (page.unparted bytes h.2, tt)));
+    unparted = (NoBlank-test (codes "page") refl, unparted_page p n (kind_word k ∷ bytes_word bytes ∷ []) i h.0 (kind.unparted k tt, (page.unparted bytes h.2, tt)));
     back = rw (
-      prints_page p (decimal n ∷ kind_word k ∷ page_word bytes ∷ []) i,
-      prints wide n (kind_word k ∷ page_word bytes ∷ []) h.0,
-      prints kind k (page_word bytes ∷ []) tt,
+      prints_page p (decimal n ∷ kind_word k ∷ bytes_word bytes ∷ []) i,
+      prints wide n (kind_word k ∷ bytes_word bytes ∷ []) h.0,
+      prints kind k (bytes_word bytes ∷ []) tt,
       prints page bytes [] h.2,
       lt-test 0 n h.1,
     ) refl;

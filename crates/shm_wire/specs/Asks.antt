@@ -1,5 +1,6 @@
 -- What a caller asks of a site, under a tag of its own: `ask SITE TAG`, and what a script's line says, less the site; or, in words that no
--- script has, an access that is tried once (`try-load`, `try-store`), or a block that is read.
+-- script has, an access that is tried once (`try-load`, `try-store`), or a block that is read. What it asks to be stored at once stands in
+-- Writes.antt.
 use Rattle.std.specs.Prelude.{⊤, ◌≡◌, ℕ, ◌+◌, ◌^◌, ◌<◌, ◌&&◌, Bool, true, if◌then◌else◌, List, [], ◌∷◌, codes, nat_lt, Option, None, Some}
 use Rattle.std.specs.Fmt.{decimal}
 use Rattle.std.specs.List.{join_with_byte}
@@ -7,11 +8,11 @@ use Rattle.shm_place.specs.Limits.{page_bytes}
 use Rattle.shm_model.specs.declared.asked.Asked.TheVariants.{Load, Store}
 use Rattle.shm_model.specs.declared.event.Event.TheVariants as event
 use Rattle.shm_lines.specs.Calls.{IsRequest, request_of, request_words}
-use Rattle.shm_lines.specs.Words.{◌>>=◌, byte_of, next_word, next_of, next_number}
+use Rattle.shm_lines.specs.Words.{◌>>=◌, byte_of, next_of, next_number}
 use Rattle.shm_lines.specs.Spelling as script
 use Rattle.shm_lines.specs.Spelling.{IsNumber}
 use Rattle.shm_wire.specs.Messages.{IsPageId, next_page}
-use Rattle.shm_wire.specs.Tag.{IsTag, tag_of}
+use Rattle.shm_wire.specs.Tag.{IsTag}
 use Rattle.shm_wire.specs.TagOf.{tag_text}
 use Rattle.shm_wire.specs.Words.{Verbs, by_verb, ended}
 use Rattle.shm_wire.specs.declared.ask.Ask.{Ask as CodeAsk}
@@ -107,10 +108,8 @@ own =
     (codes "load", load_of) ∷ (codes "store", store_of) ∷ (codes "try-load", try_load_of) ∷ (codes "try-store", try_store_of)
     ∷ (codes "read", read_of) ∷ (codes "tick", ended Tick) ∷ (codes "show", show_of) ∷ []
 
-abbrev pub asked_of : List (List ℕ) → Option Question
-asked_of words = do
-  (verb, words) ← next_word words
-  by_verb own begun_of verb words
+abbrev pub asked_by : List ℕ → List (List ℕ) → Option Question
+asked_by = by_verb own begun_of
 
 -- ---- the line
 
@@ -132,10 +131,8 @@ ask_words ask = codes "ask" ∷ decimal ask.site ∷ ask.tag ∷ asked_words ask
 abbrev pub ask_line : Ask → List ℕ
 ask_line ask = join_with_byte 32 (ask_words ask)
 
--- `site tag ..`
-abbrev pub ask_after : List (List ℕ) → Option Ask
-ask_after words = do
-  (site, words) ← next_number words
-  (tag, words) ← next_of tag_of words
-  asked ← asked_of words
+-- behind a site and a tag
+abbrev pub ask_under : ℕ → List ℕ → List ℕ → List (List ℕ) → Option Ask
+ask_under site tag verb words = do
+  asked ← asked_by verb words
   Some (record { site = site; tag = tag; asked = asked })

@@ -2,11 +2,14 @@ pub mod Words
 pub mod Tag
 pub mod TagOf
 pub mod Replies
+pub mod BytesWord
 pub mod PageWord
 pub mod Messages
 pub mod Sent
 pub mod SentOf
 pub mod Asks
+pub mod Writes
+pub mod WriteOf
 pub mod Line
 pub mod LineOf
 pub mod Answers

@@ -7,7 +7,8 @@ use Rattle.shm_model.specs.Message.{Message, Of, Call, Replies, Purge, Purged}
 use Rattle.shm_lines.specs.Words.{◌>>=◌, next_word, next_of, next_number, IsWide, wide_of}
 use Rattle.shm_lines.specs.Spelling.{IsNumber}
 use Rattle.shm_lines.specs.Calls.{IsCall, call_of, call_words}
-use Rattle.shm_wire.specs.PageWord.{IsPage, page_word, bytes_of}
+use Rattle.shm_wire.specs.BytesWord.{bytes_word}
+use Rattle.shm_wire.specs.PageWord.{IsPage, page_bytes_of}
 use Rattle.shm_wire.specs.Replies.{IsReply, reply_of, reply_words}
 use Rattle.shm_wire.specs.Words.{Verbs, by_verb, ended, kind_of, kind_word, nothing}
 
@@ -42,7 +43,7 @@ note_words page (Ask request kind) = codes "ask" ∷ of_page page request (kind_
 note_words page (Clear number) = codes "clear" ∷ of_page page number []
 note_words page (Cleared number) = codes "cleared" ∷ of_page page number []
 note_words page (Hand number kind to) = codes "hand" ∷ of_page page number (kind_word kind ∷ decimal to ∷ [])
-note_words page (Page number kind bytes) = codes "page" ∷ of_page page number (kind_word kind ∷ page_word bytes ∷ [])
+note_words page (Page number kind bytes) = codes "page" ∷ of_page page number (kind_word kind ∷ bytes_word bytes ∷ [])
 note_words page (Confirm number) = codes "confirm" ∷ of_page page number []
 
 abbrev pub message_words : Message → List (List ℕ)
@@ -91,7 +92,7 @@ page_of words = do
   (page, words) ← next_page words
   (number, words) ← next_of wide_of words
   (kind, words) ← next_of kind_of words
-  (bytes, words) ← next_of bytes_of words
+  (bytes, words) ← next_of page_bytes_of words
   if nat_lt 0 number then ended (Of page (Page number kind bytes)) words else None
 
 -- `call number call`

@@ -1,27 +1,14 @@
--- A page's bytes as one word: their base64.
-use Rattle.std.specs.Prelude.{◌≡◌, ℕ, ◌==◌, ◌&&◌, Bool, if◌then◌else◌, List, length, nat_lt, Option, None, Some}
-use Rattle.std.specs.List.{list_all}
-use Rattle.std.specs.Str.{bytes_eq}
-use Rattle.std.specs.declared.result.Result.{Result}
-use Rattle.std.specs.declared.result.Result.TheVariants.{Ok, Err}
-use Rattle.base64.specs.declared.decode.DecodeError.{DecodeError}
-use Rattle.base64.specs.Engines.{standard}
-use Rattle.base64.specs.GeneralPurpose.{IsBytes, decode_of, encode_of}
+-- A page's bytes as one word.
+use Rattle.std.specs.Prelude.{◌≡◌, ℕ, ◌==◌, if◌then◌else◌, List, length, Option, None, Some}
+use Rattle.base64.specs.GeneralPurpose.{IsBytes}
 use Rattle.shm_place.specs.Limits.{page_bytes}
+use Rattle.shm_lines.specs.Words.{◌>>=◌}
+use Rattle.shm_wire.specs.BytesWord.{bytes_of}
 
 abbrev pub IsPage : List ℕ → Type 0
 IsPage bytes = (length bytes ≡ page_bytes) × IsBytes bytes
 
-abbrev pub page_word : List ℕ → List ℕ
-page_word bytes = encode_of standard bytes
-
--- these are a page's bytes, and the word is how they are spelled
-abbrev pub spells : List ℕ → List ℕ → Bool
-spells word bytes = (length bytes == page_bytes) && bytes_eq word (page_word bytes) && list_all (λ byte. nat_lt byte 256) bytes
-
-abbrev pub decoded : List ℕ → Result (List ℕ) DecodeError → Option (List ℕ)
-decoded word (Ok bytes) = if spells word bytes then Some bytes else None
-decoded word (Err error) = None
-
-abbrev pub bytes_of : List ℕ → Option (List ℕ)
-bytes_of word = decoded word (decode_of standard word)
+abbrev pub page_bytes_of : List ℕ → Option (List ℕ)
+page_bytes_of word = do
+  bytes ← bytes_of word
+  if length bytes == page_bytes then Some bytes else None

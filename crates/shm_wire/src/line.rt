@@ -1,5 +1,6 @@
 use crate::ask::Ask;
 use crate::sent::Sent;
+use crate::write_ask::WriteAsk;
 use std::alloc::{Allocator, Global};
 
 /// What a line of the stream tells a site.
@@ -9,4 +10,6 @@ pub enum Line<A: Allocator + Copy = Global> {
     Envelope(Sent<A>),
     /// What a caller asks.
     Ask(Ask),
+    /// Bytes that a caller asks to be stored.
+    Write(WriteAsk<A>),
 }

@@ -3,11 +3,13 @@ ghost use Rattle.std.specs.Prelude.{◌≡◌, Some, None, IfOk, IfSome, IfNone,
 ghost use Rattle.shm_parts.specs.Message as parts;
 ghost use Rattle.shm_wire.specs.Sent.{next_stamp};
 ghost use Rattle.shm_wire.specs.Sent as said;
-ghost use Rattle.shm_wire.specs.Asks.{ask_after};
+ghost use Rattle.shm_wire.specs.Asks.{ask_under};
 ghost use Rattle.shm_wire.specs.Line as stream;
-ghost use Rattle.shm_wire.specs.Line.{IsLine, line_of_words, line_text, read_line};
+ghost use Rattle.shm_wire.specs.Line.{IsLine, asked_of, line_of_words, line_text, read_line};
 ghost use Rattle.shm_wire.specs.LineOf.{line_of};
 ghost use Rattle.shm_wire.specs.SentOf.{sent_of, source_of};
+ghost use Rattle.shm_wire.specs.TagOf.{tag_text};
+ghost use Rattle.shm_wire.specs.Writes.{stores_of};
 ghost use Rattle.shm_wire.specs.Messages.{message_of};
 
 use crate::line::Line;
@@ -15,13 +17,15 @@ use crate::parse_ask::ask;
 use crate::parse_message::plain;
 use crate::parse_page::page;
 use crate::parse_word::wide;
+use crate::parse_write::stores;
 use crate::sent::{Sent, Source};
+use crate::tag::Tag;
 use shm_lines::Words;
 use shm_parts::{Envelope, Message};
 use shm_place::SiteId;
 use std::alloc::{AllocError, Allocator};
 
-/// What this line tells a site, which stands without its line feed; `None` where it tells none anything. Only a page's bytes take memory.
+/// What this line tells a site, which stands without its line feed; `None` where it tells none anything. Only a page's bytes, and those that are to be stored, take memory.
 pub fn parse_line<A: Allocator + Copy>(alloc: A, line: &[u8]) -> Result<Option<Line<A>>, AllocError>
     ensures read { IfOk result (λ read. option_map line_of read ≡ read_line line.now) }
     ensures spelled { IfOk result (λ read. IfSome read (λ is. IsLine (line_of is) × (line.now ≡ line_text (line_of is)))) }
@@ -36,7 +40,7 @@ fn read<A: Allocator + Copy>(alloc: A, words: Words<'_>) -> Result<Option<Line<A
         return Ok(None);
     };
     if verb == b"ask".as_slice() {
-        return Ok(asked(words));
+        return asked(alloc, words);
     }
     if verb == b"env".as_slice() {
         return sent(alloc, words);
@@ -44,10 +48,51 @@ fn read<A: Allocator + Copy>(alloc: A, words: Words<'_>) -> Result<Option<Line<A
     Ok(None)
 }
 
-fn asked<A: Allocator + Copy>(words: Words<'_>) -> Option<Line<A>>
-    ensures { option_map line_of result ≡ option_map stream.Ask (ask_after words.entry) }
+fn asked<A: Allocator + Copy>(alloc: A, words: Words<'_>) -> Result<Option<Line<A>>, AllocError>
+    ensures { IfOk result (λ read. option_map line_of read ≡ asked_of words.entry) }
 {
-    let ask = ask(words)?;
+    let Some((site, words)) = words.number() else {
+        return Ok(None);
+    };
+    let Some((word, words)) = words.word() else {
+        return Ok(None);
+    };
+    let Some(tag) = Tag::new(word) else {
+        return Ok(None);
+    };
+    let Some((verb, words)) = words.word() else {
+        return Ok(None);
+    };
+    let site = SiteId(site);
+    if verb == b"write".as_slice() {
+        return write_of_words(alloc, site, tag, words);
+    }
+    Ok(ask_of_words(site, tag, verb, words))
+}
+
+fn write_of_words<A: Allocator + Copy>(
+    alloc: A,
+    site: SiteId,
+    tag: Tag,
+    words: Words<'_>,
+) -> Result<Option<Line<A>>, AllocError>
+    ensures { IfOk result (λ read. option_map line_of read ≡ option_map stream.Write (stores_of site (tag_text tag) words.entry)) }
+{
+    match stores(alloc, site, tag, words)? {
+        Some(write) => Ok(Some(Line::Write(write))),
+        None => Ok(None),
+    }
+}
+
+fn ask_of_words<A: Allocator + Copy>(
+    site: SiteId,
+    tag: Tag,
+    verb: &[u8],
+    words: Words<'_>,
+) -> Option<Line<A>>
+    ensures { option_map line_of result ≡ option_map stream.Ask (ask_under site (tag_text tag) verb.now words.entry) }
+{
+    let ask = ask(site, tag, verb, words)?;
     Some(Line::Ask(ask))
 }
 

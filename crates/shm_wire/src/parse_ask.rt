@@ -2,7 +2,8 @@
 ghost use Rattle.std.specs.Prelude.{◌≡◌, option_map};
 ghost use Rattle.shm_wire.specs.Words.{ended};
 ghost use Rattle.shm_wire.specs.Asks as said;
-ghost use Rattle.shm_wire.specs.Asks.{ask_of, asked_of, begun_of, load_of, read_of, show_of, store_of, try_load_of, try_store_of};
+ghost use Rattle.shm_wire.specs.TagOf.{tag_text};
+ghost use Rattle.shm_wire.specs.Asks.{ask_of, asked_by, begun_of, load_of, read_of, show_of, store_of, try_load_of, try_store_of};
 
 use crate::ask::{Ask, Question};
 use crate::parse_message::page_id;
@@ -11,25 +12,17 @@ use shm_lines::{Words, parse_request};
 use shm_model::Asked;
 use shm_place::{PAGE_BYTES, SiteId};
 
-/// What is asked, of which site and under which tag.
-pub fn ask(words: Words<'_>) -> Option<Ask>
-    ensures { option_map ask_of result ≡ said.ask_after words.entry }
+/// What is asked under this verb, of this site and under this tag.
+pub fn ask(site: SiteId, tag: Tag, verb: &[u8], words: Words<'_>) -> Option<Ask>
+    ensures { option_map ask_of result ≡ said.ask_under site (tag_text tag) verb.now words.entry }
 {
-    let (site, words) = words.number()?;
-    let (word, words) = words.word()?;
-    let tag = Tag::new(word)?;
-    let asked = ask_of_words(words)?;
-    Some(Ask {
-        site: SiteId(site),
-        tag,
-        asked,
-    })
+    let asked = question(verb, words)?;
+    Some(Ask { site, tag, asked })
 }
 
-fn ask_of_words(words: Words<'_>) -> Option<Question>
-    ensures { result ≡ asked_of words.entry }
+fn question(verb: &[u8], words: Words<'_>) -> Option<Question>
+    ensures { result ≡ asked_by verb.now words.entry }
 {
-    let (verb, words) = words.word()?;
     if verb == b"load".as_slice() {
         return load(words);
     }
@@ -106,17 +99,17 @@ fn read(words: Words<'_>) -> Option<Question>
     let (at, words) = words.number()?;
     let (offset, words) = words.number()?;
     let (length, words) = words.number()?;
-    if !is_block(offset, length) || !words.is_empty() {
+    if !is_block(offset, length as usize) || !words.is_empty() {
         return None;
     }
     Some(Question::Read { at, offset, length })
 }
 
 /// Whether these are bytes of a block: at most a page, and each at an offset that there is.
-fn is_block(offset: u32, length: u32) -> bool
+pub fn is_block(offset: u32, length: usize) -> bool
     ensures { result ≡ said.is_block offset length }
 {
-    length > 0 && length <= PAGE_BYTES as u32 && u64::from(offset) + u64::from(length) <= 1 << 32
+    length > 0 && length <= PAGE_BYTES && u64::from(offset) + length as u64 <= 1 << 32
 }
 
 fn tick(words: Words<'_>) -> Option<Question>

@@ -1,16 +1,15 @@
 //! How a page's bytes are read, and the note that brings them.
 ghost use Rattle.std.specs.Prelude.{◌≡◌, ◌<◌, length, option_map, IfOk, IfSome};
-ghost use Rattle.shm_place.specs.Limits.{page_bytes};
+ghost use Rattle.shm_place.specs.Limits as limits;
 ghost use Rattle.shm_model.specs.Entry as note;
 ghost use Rattle.shm_page.specs.State as state;
 ghost use Rattle.shm_parts.specs.Message.{message_of, note_of};
 ghost use Rattle.shm_wire.specs.Messages.{page_of};
-ghost use Rattle.shm_wire.specs.PageWord.{bytes_of};
+ghost use Rattle.shm_wire.specs.PageWord.{page_bytes_of};
 
+use crate::parse_bytes::decode;
 use crate::parse_message::page_id;
 use crate::parse_word::{kind, wide};
-use base64::DecodeAllocError;
-use base64::engine::general_purpose::STANDARD;
 use shm_lines::Words;
 use shm_model::Kind;
 use shm_page::{Entry, OwnWritePage};
@@ -37,7 +36,7 @@ pub fn page<A: Allocator + Copy>(
     let Some((word, words)) = words.word() else {
         return Ok(None);
     };
-    let Some(bytes) = decode(alloc, word)? else {
+    let Some(bytes) = page_bytes(alloc, word)? else {
         return Ok(None);
     };
     if number == 0 || !words.is_empty() {
@@ -48,20 +47,17 @@ pub fn page<A: Allocator + Copy>(
 }
 
 /// The bytes of a page that the word is the base64 of.
-fn decode<A: Allocator + Copy>(alloc: A, word: &[u8]) -> Result<Option<Vec<u8, A>>, AllocError>
-    ensures bytes { IfOk result (λ bytes. option_map (λ v. v.items) bytes ≡ bytes_of word.now) }
-    ensures whole { IfOk result (λ bytes. IfSome bytes (λ v. length v.items ≡ page_bytes)) }
+fn page_bytes<A: Allocator + Copy>(alloc: A, word: &[u8]) -> Result<Option<Vec<u8, A>>, AllocError>
+    ensures bytes { IfOk result (λ bytes. option_map (λ v. v.items) bytes ≡ page_bytes_of word.now) }
+    ensures whole { IfOk result (λ bytes. IfSome bytes (λ v. length v.items ≡ limits.page_bytes)) }
 {
-    match STANDARD.decode(alloc, word) {
-        Ok(bytes) => {
-            if bytes.len() != PAGE_BYTES {
-                return Ok(None);
-            }
-            Ok(Some(bytes))
-        }
-        Err(DecodeAllocError::OutOfMemory) => Err(AllocError),
-        Err(DecodeAllocError::DecodeError(_)) => Ok(None),
+    let Some(bytes) = decode(alloc, word)? else {
+        return Ok(None);
+    };
+    if bytes.len() != PAGE_BYTES {
+        return Ok(None);
     }
+    Ok(Some(bytes))
 }
 
 /// The note that grants a page with these bytes. As each grant it is made by an owner's page, which is lent or handed.
@@ -72,7 +68,7 @@ fn grant_note<A: Allocator + Copy>(
     bytes: &[u8],
 ) -> Result<Note<A>, AllocError>
     requires number { 0 < number }
-    requires whole { length bytes.now ≡ page_bytes }
+    requires whole { length bytes.now ≡ limits.page_bytes }
     ensures { IfOk result (λ n. note_of n ≡ note.Page number kind bytes.now) }
 {
     let owned = owned_page(alloc, bytes)?;
@@ -90,7 +86,7 @@ fn grant_note<A: Allocator + Copy>(
 
 /// A page with these bytes, at an owner that has met no transaction.
 fn owned_page<A: Allocator + Copy>(alloc: A, bytes: &[u8]) -> Result<OwnWritePage<A>, AllocError>
-    requires { length bytes.now ≡ page_bytes }
+    requires { length bytes.now ≡ limits.page_bytes }
     ensures { IfOk result (λ page. page ≡ state.page_of 0 bytes.now) }
 {
     let Entry::OwnWrite(mut page) = Entry::opening(alloc, true)? else {
@@ -102,8 +98,8 @@ fn owned_page<A: Allocator + Copy>(alloc: A, bytes: &[u8]) -> Result<OwnWritePag
 
 /// Stores each of a page's bytes.
 fn fill<A: Allocator + Copy>(page: &mut OwnWritePage<A>, bytes: &[u8])
-    requires page { length page.old.bytes ≡ page_bytes }
-    requires whole { length bytes.now ≡ page_bytes }
+    requires page { length page.old.bytes ≡ limits.page_bytes }
+    requires whole { length bytes.now ≡ limits.page_bytes }
     ensures { page.new ≡ state.page_of page.old.seen bytes.now }
 {
     'bytes: for (at, byte) in bytes.iter().enumerate() {

@@ -1,4 +1,5 @@
 mod failed_runs;
+mod files;
 mod journals;
 mod logs;
 mod prompts;

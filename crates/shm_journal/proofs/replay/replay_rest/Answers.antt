@@ -38,11 +38,13 @@ returns-in-Ok-Torn-clause-whole g c =
     let left = left_of c.lines.lines (remaining c.lines.reader) in
     let now = remaining c.take.new.reader in
     let o = c.in-Ok-Torn in
-    let torn = taken_torn o.field-0 left (left_of lines now) now line o.field-0-is o.ensures.takes in (
+    let torn = taken_torn o.field-0 left (left_of lines now) now line o.field-0-is o.ensures.takes in
+    let all = ended next (λ rest. found_behind next 2 (state c.args.site.now) rest) (left_of c.args.lines.now (remaining c.args.reader.now)) left now c.lines.number
+    (state c.lines.site) c.lines.invariant.0 line c.lines.invariant.2 (through_end left now line (behind lines) torn.0 torn.2) o.ensures.unended o.ensures.short torn.1 in (
       c.lines.invariant.0,
       count_torn o.field-0 lines.whole c.lines.lines.whole line o.field-0-is o.ensures.whole ∙ c.lines.invariant.1,
-      ended next (λ rest. found_behind next 2 (state c.args.site.now) rest) (left_of c.args.lines.now (remaining c.args.reader.now)) left now c.lines.number
-          (state c.lines.site) c.lines.invariant.0 line c.lines.invariant.2 (through_end left now line (behind lines) torn.0 torn.2) o.ensures.unended o.ensures.short torn.1,
+      all.0,
+      all.1,
     )
 
 pub returns-in-Ok-TooLong-clause-left : goal.returns-in-Ok-TooLong-clause-left

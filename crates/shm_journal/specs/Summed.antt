@@ -1,0 +1,121 @@
+-- What a journal has, whichever site's it is: its site, how many entries, where they lead, and how many bytes.
+use Rattle.std.specs.Prelude.{⊤, ◌≡◌, ◌<◌, ◌⊎◌, ℕ, ◌+◌, ◌&&◌, Bool, true, false, List, [], ◌∷◌, ◌++◌, Option, Some, None, Result, Ok, Err, IfSome, codes, drop, if◌then◌else◌, length, nat_lt, option_and_then}
+use Rattle.std.specs.Fmt.{decimal}
+use Rattle.shm_place.specs.Limits.{max_sites}
+use Rattle.shm_place.specs.Limits as limit
+use Rattle.shm_process.specs.Node.{Node}
+use Rattle.shm_journal.specs.Found.{Found, Sound, Foreign, Bad, Kind, found, found_behind, found_of, is_empty, lines_of, opened, replayed_line}
+use Rattle.shm_journal.specs.Leading.{Leads}
+use Rattle.shm_journal.specs.Lines.{Header, read_header}
+use Rattle.shm_journal.specs.ReadUpTo.{BreaksAt, LacksLine, ReadsWhole, StopsAt}
+use Rattle.shm_journal.specs.Recovers.{ReadsAll}
+use Rattle.shm_journal.specs.declared.journal_fault.JournalFault.{JournalFault}
+use Rattle.shm_journal.specs.declared.journal_fault.JournalFault.TheVariants as fault
+use Rattle.shm_journal.specs.declared.summary.Summary.{Summary}
+
+-- ---- whose it is
+
+-- a process may have so many sites and pages
+abbrev pub in_limits : Header → Bool
+in_limits header =
+    nat_lt 0 header.sites && nat_lt header.sites (max_sites + 1) && nat_lt header.me header.sites
+    && nat_lt 0 header.pages && nat_lt header.pages (limit.pages + 1)
+
+abbrev pub opened_if : Header → Option Node
+opened_if header = if in_limits header then Some (opened header) else None
+
+-- the site that a first line names, at which nothing has happened
+abbrev pub node_named : List ℕ → Option Node
+node_named line = option_and_then opened_if (read_header line)
+
+abbrev pub first_found : Option Node → Found Node
+first_found None = Bad 1
+first_found (Some node) = Sound node
+
+-- any site's journal
+abbrev pub any : Kind Node
+any = record { first = λ line. first_found (node_named line); alone = λ torn. Bad 1; next = replayed_line }
+
+abbrev pub found_any : List ℕ → Found Node
+found_any file = found_of any file
+
+-- ---- what it has
+
+-- the whole lines behind the first
+abbrev pub entries_in : List ℕ → List (List ℕ)
+entries_in file = drop 1 (lines_of file).whole
+
+-- of a file with this header, whose entries lead to this node: the clock is that of the last step, or 0
+abbrev pub summary_of : Header → List ℕ → Node → Summary
+summary_of header file node = record {
+  site = header.me;
+  sites = header.sites;
+  pages = header.pages;
+  steps = length (entries_in file);
+  clock = node.clock;
+  bytes = length file;
+  torn = length (lines_of file).torn;
+}
+
+-- There is a whole first line; it is the header of a site that a process may be; and what that site finds in the file is summed up.
+pub record IsSummary (file : List ℕ) (summary : Summary) : Type 0 where
+  pub header : Header
+  pub node : Node
+  pub limits : in_limits header ≡ true
+  pub begun : is_empty (lines_of file).whole ≡ false
+  pub sound : found header file ≡ Sound node
+  pub summed : summary ≡ summary_of header file node
+
+-- a fault of memory or of the reader says nothing
+abbrev pub SumsUp : List ℕ → Result Summary JournalFault → Type 0
+SumsUp file (Ok summary) = IsSummary file summary
+SumsUp file (Err (fault.BadLine number)) = found_any file ≡ Bad number
+SumsUp file (Err fault.OutOfMemory) = ⊤
+SumsUp file (Err fault.ReadFault) = ⊤
+
+-- there is a file of which the result says what it has: what was left to be read, where the reader tells its bytes
+abbrev pub SumsUpKnown : Option (List ℕ) → Result Summary JournalFault → Type 0
+SumsUpKnown remaining result = (file : List ℕ) × IfSome remaining (λ known. file ≡ known) × SumsUp file result
+
+-- a line for each
+abbrev pub summary_text : Summary → List ℕ
+summary_text summary =
+    codes "site " ++ (decimal summary.site ++ (codes "\nsites " ++ (decimal summary.sites ++ (codes "\npages " ++ (decimal summary.pages
+    ++ (codes "\nsteps " ++ (decimal summary.steps ++ (codes "\nclock " ++ (decimal summary.clock ++ (codes "\nbytes " ++ (decimal summary.bytes
+    ++ (codes "\ntorn " ++ (decimal summary.torn ++ 10 ∷ [])))))))))))))
+
+-- ---- what was read
+
+-- Where memory is missing: lines that lead to a site, and what may be the front of one. Where the reader fails: the same; or all was read, and
+-- has more bytes than there are numbers for. Else the line that is bad is the last that was taken, or the first is missing.
+abbrev pub SummaryReadsUpTo : Option (List ℕ) → Option (List ℕ) → JournalFault → Type 0
+SummaryReadsUpTo old new fault.OutOfMemory = BreaksAt found_any old new
+SummaryReadsUpTo old new fault.ReadFault = BreaksAt found_any old new ⊎ ReadsAll old new
+SummaryReadsUpTo old new (fault.BadLine number) = StopsAt found_any old new (Bad number) ⊎ LacksLine found_any old new (Bad number)
+
+-- the first line is this header, and what follows leads on from the site that it names
+pub record NamesFirst (before left : Option (List ℕ)) (header : Header) (node : Node) (whole : ℕ) : Type 0 where
+  pub limits : in_limits header ≡ true
+  pub begins : node ≡ opened header
+  pub some : 0 < whole
+  pub as_own : Leads replayed_line (found header) before left 2 node whole
+  pub as_any : Leads replayed_line found_any before left 2 node whole
+
+-- all that was left behind the first line, of so many bytes, is summed up
+pub record SumsRest (node : Node) (old new : Option (List ℕ)) (header : Header) (first : ℕ) (summary : Summary) : Type 0 where
+  pub after : Node
+  pub more : ℕ
+  pub rest : ReadsWhole (λ rest. found_behind replayed_line 2 node rest) old new after more
+  pub site : summary.site ≡ header.me
+  pub sites : summary.sites ≡ header.sites
+  pub pages : summary.pages ≡ header.pages
+  pub steps : summary.steps ≡ after.steps
+  pub clock : summary.clock ≡ after.clock
+  pub torn : summary.torn ≡ length (lines_of rest.bytes).torn
+  pub bytes : summary.bytes ≡ first + more + summary.torn
+
+-- what was read of the rest where it isn't: up to a fault, or all of it
+abbrev pub RestReadsUpTo : Node → Option (List ℕ) → Option (List ℕ) → JournalFault → Type 0
+RestReadsUpTo node old new fault.OutOfMemory = BreaksAt (λ rest. found_behind replayed_line 2 node rest) old new
+RestReadsUpTo node old new fault.ReadFault = BreaksAt (λ rest. found_behind replayed_line 2 node rest) old new ⊎ ReadsAll old new
+RestReadsUpTo node old new (fault.BadLine number) = StopsAt (λ rest. found_behind replayed_line 2 node rest) old new (Bad number)

@@ -1,0 +1,12 @@
+use Rattle.std.proofs.Common.{◌∙◌}
+use Rattle.shm_keys.proofs.Bits.{owner_write, group_write, others_write}
+use Rattle.shm_keys.proofs.permission.Class.may_write.Goals as goal
+
+pub returns-in-Owner : goal.returns-in-Owner
+returns-in-Owner c = rw c.in-Owner.is (c.contains.ensures ∙ owner_write c.args.mode)
+
+pub returns-in-Group : goal.returns-in-Group
+returns-in-Group c = rw c.in-Group.is (c.contains-in-Group.ensures ∙ group_write c.args.mode)
+
+pub returns-in-Others : goal.returns-in-Others
+returns-in-Others c = rw c.in-Others.is (c.contains-in-Others.ensures ∙ others_write c.args.mode)

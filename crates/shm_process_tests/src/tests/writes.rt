@@ -1,0 +1,193 @@
+//! Blocks that are stored: many stores that one caller asks for at once, and is told of once.
+use crate::tests::exchanges::{asks_waiting, counts, new_desks, page_line};
+use shm_process::Desk;
+use shm_wire::{Line, parse_line, parse_tell_line};
+use std::alloc::{AllocError, Global};
+use std::test::Fail;
+
+/// What callers are told once these lines, and all that the sites send for them, have come to each site.
+fn answers(alloc: Global, desks: &mut [Desk], lines: &str) -> Result<String, AllocError> {
+    let mut told = String::new(alloc);
+    let mut coming = String::from_str(alloc, lines)?;
+    'rounds: for _ in 0..20 {
+        coming = carried(alloc, desks, coming.as_str())?;
+        'lines: for line in coming.as_str().lines() {
+            if line.starts_with("tell ") {
+                told.push_str(line)?;
+                told.push_str("\n")?;
+            }
+        }
+    }
+    Ok(told)
+}
+
+/// What the sites tell of these lines.
+fn carried(alloc: Global, desks: &mut [Desk], lines: &str) -> Result<String, AllocError> {
+    let mut output = String::new(alloc);
+    'desks: for desk in desks.iter_mut() {
+        desk.clear();
+        desk.take(lines.as_bytes())?;
+        output.push_str(desk.output())?;
+    }
+    Ok(output)
+}
+
+/// Lines, and what callers are told of them.
+type Told<'a> = (&'a str, &'a str);
+
+/// The first of these that isn't told so, from 0.
+fn first_untold(
+    alloc: Global,
+    desks: &mut [Desk],
+    all: &[Told<'_>],
+) -> Result<Option<usize>, AllocError> {
+    'all: for (number, (lines, told)) in all.iter().enumerate() {
+        let answers = answers(alloc, desks, lines)?;
+        if answers.as_str() != *told {
+            return Ok(Some(number));
+        }
+    }
+    Ok(None)
+}
+
+/// The bytes are 7, 255, 0 and 16.
+#[test]
+fn a_block_is_stored_byte_by_byte_and_told_once(rt: HostRuntime) -> Result<(), Fail> {
+    let mut desks = new_desks(rt.alloc(), 1)?;
+    let Some(desk) = desks.get_mut(0) else {
+        return Err(Fail::new("a desk"));
+    };
+    desk.take(b"ask 0 a write 0 5 B/8AEA==\n".as_slice())?;
+    assert_eq!(rt; desk.output(), "tell 0 a stored\n");
+    assert_eq!(rt;
+        desk.entries(),
+        b"step 1 ask 0 a store 0 5 7\nstep 2 ask 0 a store 0 6 255\nstep 3 ask 0 a store 0 7 0\nstep 4 ask 0 a store 0 8 16\n".as_slice()
+    );
+    assert_eq!(rt; counts(desks.as_slice(), 0), Some((4, 1, 0, 0)));
+    Ok(())
+}
+
+/// Page 0 is at site 0 and page 1 at site 1. Site 2 has neither, and stores at the end of one and the beginning of the other.
+#[test]
+fn a_block_waits_for_each_page_that_it_is_stored_to(rt: HostRuntime) -> Result<(), Fail> {
+    let mut desks = new_desks(rt.alloc(), 3)?;
+    let told = [
+        ("ask 2 a write 0 4094 AQIDBAU=\n", "tell 2 a stored\n"),
+        (
+            "ask 0 b read 0 4093 7\nask 1 c read 0 4096 1\n",
+            "tell 1 c block Aw==\ntell 0 b block AAECAwQFAA==\n",
+        ),
+    ];
+    assert_eq!(rt;
+        first_untold(rt.alloc(), desks.as_mut_slice(), &told)?,
+        None
+    );
+    assert_eq!(rt; asks_waiting(desks.as_slice(), 2), Some(0));
+    Ok(())
+}
+
+/// The segment has four pages.
+#[test]
+fn a_block_that_is_refused_leaves_what_was_stored_before(rt: HostRuntime) -> Result<(), Fail> {
+    let mut desks = new_desks(rt.alloc(), 1)?;
+    let told = [
+        (
+            "ask 0 a write 0 16382 AQIDBA==\n",
+            "tell 0 a refused: no page\n",
+        ),
+        ("ask 0 b read 0 16381 3\n", "tell 0 b block AAEC\n"),
+        (
+            "ask 0 c write 1 0 AQ==\n",
+            "tell 0 c refused: no such attachment\n",
+        ),
+    ];
+    assert_eq!(rt;
+        first_untold(rt.alloc(), desks.as_mut_slice(), &told)?,
+        None
+    );
+    assert_eq!(rt; counts(desks.as_slice(), 0), Some((7, 3, 0, 0)));
+    Ok(())
+}
+
+/// 64 loads wait for one page.
+#[test]
+fn a_block_that_finds_no_room_is_not_stored(rt: HostRuntime) -> Result<(), Fail> {
+    let mut desks = new_desks(rt.alloc(), 2)?;
+    let Some(desk) = desks.get_mut(1) else {
+        return Err(Fail::new("a desk"));
+    };
+    'asks: for _ in 0..64 {
+        desk.take(b"ask 1 a load 0 2\n".as_slice())?;
+    }
+    desk.clear();
+    desk.take(b"ask 1 b write 0 4096 AQ==\nask 0 b write 0 0 AQ==\n".as_slice())?;
+    assert_eq!(rt; desk.output(), "tell 1 b waiting\n");
+    assert_eq!(rt; counts(desks.as_slice(), 1), Some((64, 64, 2, 64)));
+    Ok(())
+}
+
+/// A write that waits for a page is forgotten at a restart.
+#[test]
+fn a_restart_forgets_a_block_that_is_to_be_stored(rt: HostRuntime) -> Result<(), Fail> {
+    let mut desks = new_desks(rt.alloc(), 2)?;
+    let Some(desk) = desks.get_mut(1) else {
+        return Err(Fail::new("a desk"));
+    };
+    desk.take(b"ask 1 b write 0 4095 AQI=\n".as_slice())?;
+    assert_eq!(rt; desk.output(), "env 1 0 1 0 0 ask 0 0 1 write\n");
+    assert_eq!(rt; desk.node().asks_waiting(), 1);
+    desk.restart()?;
+    assert_eq!(rt; desk.node().asks_waiting(), 0);
+    Ok(())
+}
+
+/// Bytes without their padding, with bits left over, none, or too many; and offsets that there aren't.
+#[test]
+fn what_is_no_block_is_passed_over(rt: HostRuntime) -> Result<(), Fail> {
+    let alloc = rt.alloc();
+    let mut desks = new_desks(alloc, 1)?;
+    let Some(desk) = desks.get_mut(0) else {
+        return Err(Fail::new("a desk"));
+    };
+    let too_many = page_line(alloc, "ask 0 a write 0 0 ", 1365, "AAA=\n")?;
+    desk.take(too_many.as_bytes())?;
+    let lines =
+        "ask 0 a write 0 0 AQ\nask 0 a write 0 0 AQ=\nask 0 a write 0 0 AR==\nask 0 a write 0 0 \nask 0 a write 0 0\nask 0 a write 0 0 AQ== \nask 0 a write 0 4294967295 AQI=\nask 0 a write 0 4294967296 AQ==\n";
+    desk.take(lines.as_bytes())?;
+    assert_eq!(rt; desk.output(), "");
+    assert_eq!(rt; counts(desks.as_slice(), 0), Some((0, 0, 9, 0)));
+    Ok(())
+}
+
+/// A page's bytes, at the last offsets of a page.
+#[test]
+fn a_whole_page_is_stored_by_one_line(rt: HostRuntime) -> Result<(), Fail> {
+    let alloc = rt.alloc();
+    let mut desks = new_desks(alloc, 1)?;
+    let Some(desk) = desks.get_mut(0) else {
+        return Err(Fail::new("a desk"));
+    };
+    let line = page_line(alloc, "ask 0 a write 0 4096 ", 1365, "AA==\n")?;
+    desk.take(line.as_bytes())?;
+    assert_eq!(rt; desk.output(), "tell 0 a stored\n");
+    assert_eq!(rt; counts(desks.as_slice(), 0), Some((4096, 1, 0, 0)));
+    Ok(())
+}
+
+#[test]
+fn writes_are_printed_as_they_were_read(rt: HostRuntime) -> Result<(), Fail> {
+    let alloc = rt.alloc();
+    for line in [
+        "ask 0 a write 0 0 AA==",
+        "ask 15 a write 63 4294967293 AQID",
+    ] {
+        let read = parse_line(alloc, line.as_bytes())?;
+        let Some(Line::Write(write)) = &read else {
+            return Err(Fail::new("a write's line"));
+        };
+        let printed = format!(in alloc; "{write}")?;
+        assert_eq!(rt; printed.as_str(), line);
+        assert!(rt; parse_tell_line(line.as_bytes()).is_none(), "at {line}");
+    }
+    Ok(())
+}
