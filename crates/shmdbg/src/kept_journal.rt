@@ -31,7 +31,7 @@ impl Lock for File {
 pub(crate) struct Kept<'a> {
     /// Its file.
     pub(crate) name: &'a str,
-    /// Whether the site begins the journal, or goes on with it.
+    /// Whether it is to be begun, or to be gone on with.
     pub(crate) begins: bool,
 }
 
@@ -44,8 +44,7 @@ pub(crate) struct Begun {
     pub(crate) durable: u64,
 }
 
-/// Looks at the journal's name: it has to name a plain file or, if the journal is to be begun, may name nothing. A pipe or a device isn't
-/// even opened.
+/// Looks at what has the journal's name: it has to be a plain file, or nothing where it is to be begun. A pipe or a device isn't even opened.
 fn look_at<R: Files>(rt: &R, kept: Kept<'_>) -> Result<(), SiteFault>
     ensures { IfErr result IsUnbegun }
 {
@@ -58,7 +57,7 @@ fn look_at<R: Files>(rt: &R, kept: Kept<'_>) -> Result<(), SiteFault>
     }
 }
 
-/// Opens the journal's file. Makes it, if the journal is to be begun and there is none.
+/// Opens the journal's file, and makes it where it is to be begun and isn't there.
 pub(crate) fn open_journal<R: Files>(rt: &R, kept: Kept<'_>) -> Result<R::File, SiteFault>
 where
     R::File: Lock,
@@ -83,8 +82,8 @@ where
     }
 }
 
-/// Begins a site with what it finds in its journal. There has to be no whole line exactly where the journal is to be begun. Cuts off what
-/// is torn, and makes that durable; for a new journal it makes the file's name durable too.
+/// A site that begins with what it finds in its journal. There is no whole line exactly where the journal is to be begun. What is torn is cut
+/// off, and that is made durable; of a new journal also that there is a file of its name.
 pub(crate) fn begin_kept<R: AllocGlobal + Files, F: Read + OpenFile>(
     rt: &R,
     sites: Sites,
@@ -138,7 +137,7 @@ pub(crate) fn begin_kept<R: AllocGlobal + Files, F: Read + OpenFile>(
     }
 }
 
-/// Checks that a journal is new exactly where it is to be begun.
+/// Tests that a journal is new where it is to be begun, and only there.
 fn is_as_asked(begins: bool, is_new: bool) -> bool
     ensures { result ≡ (if begins then is_new else not is_new) }
 {
@@ -157,7 +156,7 @@ fn list_new<R: AllocGlobal + Files>(rt: &R, name: &str, is_new: bool) -> io::Res
     }
 }
 
-/// Cuts the file to this many bytes, and makes that durable.
+/// Cuts the file to so many bytes, and makes that durable.
 pub(crate) fn cut<F: OpenFile>(file: &F, bytes: u64) -> io::Result<()> {
     file.set_len(bytes)?;
     file.sync_all()

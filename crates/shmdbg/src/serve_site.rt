@@ -18,7 +18,7 @@ use std::fs::OpenFile;
 use std::io::{Read, Write};
 use std::rt::Files;
 
-/// Runs this site until its input ends. Without a journal, all that the site holds ends with it.
+/// Is this site until its lines end. Without a journal what it holds ends with it.
 pub(crate) fn be_site<R: AllocGlobal, I: Read, O: Write>(
     rt: &R,
     sites: Sites,
@@ -42,7 +42,7 @@ pub(crate) fn be_site<R: AllocGlobal, I: Read, O: Write>(
     }
 }
 
-/// Runs this site until its input ends, and keeps its steps in this journal.
+/// Is this site until its lines end, and keeps what it does in this journal.
 pub(crate) fn be_kept_site<R: AllocGlobal + Files, I: Read, O: Write>(
     rt: &R,
     sites: Sites,

@@ -46,7 +46,7 @@ fn number(found: &ArgMatches<'_>, option: &str) -> Option<u32>
     }
 }
 
-/// The task of `draw`.
+/// What is to be drawn.
 pub(crate) fn draw_task<'a>(found: &ArgMatches<'a>) -> Option<Task<'a>>
     ensures { IfSome result (λ task. IsAsked (codes "draw") (rows_of (found_of found.now)) task) }
 {

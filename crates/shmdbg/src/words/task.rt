@@ -1,12 +1,12 @@
 use shm_place::{PageId, SiteId, Sites};
 
-/// The task that the words behind the program's name ask for.
+/// What the words behind the program's name ask for.
 #[derive(Debug, PartialEq, Eq, Drop)]
 pub enum Task<'a> {
     /// Replay the script on standard input.
     Replay,
-    /// Run the workload on standard input on this many sites in threads, with losses and repeats drawn from the seed. Add a summary, or
-    /// not. Save the logs in a folder, if one is named.
+    /// Run the workload on standard input on so many sites in threads, with losses and repeats drawn from the seed. Add a summary, or not.
+    /// Save the logs in a folder, if one is named.
     Run {
         sites: Sites,
         seed: u32,
@@ -19,8 +19,8 @@ pub enum Task<'a> {
     Draw {
         page: Option<PageId>,
     },
-    /// Run this site of `sites`, where segment 0 has this number of pages, on the lines of standard input. Keep its journal in a file, if
-    /// one is named, which it begins or goes on with.
+    /// Run this site of so many, where segment 0 has so many pages, on the lines of standard input. Keep its journal in a file, if one is
+    /// named, which it begins or goes on with.
     Site {
         sites: Sites,
         me: SiteId,
@@ -28,7 +28,7 @@ pub enum Task<'a> {
         journal: Option<&'a str>,
         begins: bool,
     },
-    /// Audit the journals of this many sites, which are in these files.
+    /// Audit the journals of so many sites, which are in these files.
     Audit {
         sites: Sites,
         journals: Vec<&'a str>,
