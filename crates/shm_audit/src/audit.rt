@@ -11,8 +11,8 @@ use shm_logs::{AuditFault, Receipt, SiteLog, audit, logs_match};
 use shm_place::Sites;
 use std::alloc::Allocator;
 
-/// How much the sites did whose logs these are, where they shared one plain memory; or why they can't have. There is to be one log for each
-/// site, in the order of the sites. No receipts are asked for: a box answers as its site does, so what callers were told stands in the logs.
+/// Counts what the sites of these logs did, if they shared one plain memory, or says why they can't have. The logs have to be one for each
+/// site, in order. It needs no receipts: a box answers as its site does, so the logs have what callers were told.
 ///
 /// Takes time and memory in proportion to the steps and envelopes.
 pub fn audit_journals<A: Allocator + Copy>(
@@ -37,7 +37,7 @@ pub fn audit_journals<A: Allocator + Copy>(
     }
 }
 
-/// Whether the sites whose logs these are shared one plain memory.
+/// Checks that the sites of these logs shared one plain memory.
 fn judge<A: Allocator + Copy>(
     alloc: A,
     sites: Sites,

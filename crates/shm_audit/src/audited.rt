@@ -51,7 +51,7 @@ fn enter<A: Allocator + Copy>(
     }
 }
 
-/// The box takes what is handed to it, if it can be its next step under this clock.
+/// The box takes the input of an entry, if that can be its next step under this clock.
 fn take<A: Allocator + Copy>(
     site_box: &mut SiteBox<A>,
     clock: u64,

@@ -1,4 +1,4 @@
-//! What is counted of logs.
+//! Counts of logs.
 ghost use Rattle.std.specs.Prelude.{◌≡◌, ◌+◌, if◌then◌else◌, length, map, IfSome};
 ghost use Rattle.shm_logs.specs.Auditing.Complete.{completes};
 ghost use Rattle.shm_logs.specs.Auditing.Logs.{logs_of};
@@ -9,7 +9,7 @@ use crate::totals::Totals;
 use shm_logs::{Answer, SiteLog, Step};
 use std::alloc::Allocator;
 
-/// What is counted in these logs. `None`: a number can't hold a count.
+/// The counts of these logs. `None`: a number can't hold a count.
 pub(crate) fn count<A: Allocator + Copy>(logs: &[SiteLog<A>]) -> Option<Totals>
     ensures { IfSome result (λ counts. counts ≡ totals_of (logs_of logs.now)) }
 {

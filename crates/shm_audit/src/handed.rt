@@ -1,4 +1,4 @@
-//! What an entry hands to the box of its site.
+//! The input that an entry brings to the box of its site.
 ghost use Rattle.std.specs.Prelude.{◌≡◌, option_map};
 ghost use Rattle.shm_site.specs.Step.{input_of};
 ghost use Rattle.shm_process.specs.CauseOf.{cause_of};
@@ -20,7 +20,7 @@ pub(crate) struct Handed<A: Allocator + Copy = Global> {
     pub(crate) source: Stamp,
 }
 
-/// What made the step of an entry hands to this site.
+/// The input that the cause of an entry's step brings to this site.
 pub(crate) fn handed_input<A: Allocator + Copy>(me: SiteId, cause: Cause<A>) -> Option<Handed<A>>
     ensures { option_map handed_of result ≡ spec.handed me (cause_of cause) }
 {
@@ -46,7 +46,7 @@ fn delivered_input<A: Allocator + Copy>(sent: Sent<A>) -> Handed<A>
     }
 }
 
-/// What a caller asked of this site.
+/// The input that a caller's ask brings to this site.
 fn asked_input<A: Allocator + Copy>(me: SiteId, ask: Ask) -> Option<Handed<A>>
     ensures { option_map handed_of result ≡ spec.asked_here me (ask_of ask) }
 {
@@ -57,7 +57,7 @@ fn asked_input<A: Allocator + Copy>(me: SiteId, ask: Ask) -> Option<Handed<A>>
     Some(unsent_input(input))
 }
 
-/// What is no envelope.
+/// An input that is no envelope.
 fn unsent_input<A: Allocator + Copy>(input: Input<A>) -> Handed<A>
     ensures { handed_of result ≡ spec.unsent (input_of input) }
 {

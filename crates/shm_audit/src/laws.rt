@@ -1,4 +1,4 @@
-//! What is proved of journals: each law is the contract of a function that does nothing.
+//! Laws of journals: each is the contract of a function that does nothing.
 ghost use Rattle.std.specs.Prelude.{◌≡◌, ℕ, List, Some, option_map};
 ghost use Rattle.shm_process.specs.Node.{Said, new_node};
 ghost use Rattle.shm_process.specs.Recorded.{Event, after_events, entries_of, said_at};
@@ -11,24 +11,25 @@ ghost use Rattle.shm_audit.specs.Loads.{IsLoadedBlock, made_by};
 ghost use Rattle.shm_audit.specs.Stores.{IsStoredBlock};
 ghost use Rattle.shm_audit.specs.Told.{box_after_all, told_at, told_by_log};
 
-/// Whatever happened to a site's process from its first line on, restarts among it: the entries that it recorded lead a box to a log whose
-/// stamps, answers and envelopes are those of what the process said, step by step. So an audit of the logs speaks of what callers were told.
+/// Take any run of a site's process from its first line on, restarts included. The entries that it recorded lead a box to a log whose
+/// stamps, answers and envelopes are those of what the process said, step by step. So an audit of the logs speaks of what callers were
+/// told.
 pub fn a_log_tells_what_was_said()
     ensures { (sites me pages : ℕ) (events : List Event) → option_map told_by_log
         (box_after_all (new_box sites me pages) (entries_of (new_node sites me pages) events)) ≡ Some (told_at (new_node sites me pages) events) }
 {}
 
-/// A block that a caller is told has exactly the bytes that were asked for, one after another from the ask's offset on, through its attachment;
-/// each is what a load of its own place was answered, which is a step that the site's process made since the ask came, of the line `load` under
-/// the ask's tag. The last of these steps is the one that the block is told of. So what an audit says of loads holds of each byte of it.
+/// A block that a caller gets has exactly the bytes that were asked for, in order, from the ask's offset on, through its attachment. Each
+/// is the answer to a load of its own place: a step that the site's process made since the ask came, of the line `load` under the ask's
+/// tag. The last of these steps is the one that answers the block. So what an audit says of loads holds of each of its bytes.
 pub fn a_block_is_what_its_loads_gave()
     ensures { (sites me pages : ℕ) (events : List Event) (event : Event) (said : Said) (bytes : List ℕ)
         → said_at (after_events (new_node sites me pages) events) event ≡ Some said → said.block ≡ Some bytes
         → IsLoadedBlock me (new_node sites me pages) events said.tag (made_by said) bytes }
 {}
 
-/// A block of which a caller is told that it is stored has all its stores among the steps that the site's process made since the ask came:
-/// each byte at its own place, in their order, of the line `store` under the ask's tag. The last of these steps is the one that is told of.
+/// A block that a caller is told is stored has all its stores among the steps that the site's process made since the ask came: each byte at
+/// its own place, in order, of the line `store` under the ask's tag. The last of these steps is the one that answers the block.
 pub fn a_block_is_stored_by_its_stores()
     ensures { (sites me pages : ℕ) (events : List Event) (at : ℕ) (write : Write) (tag : List ℕ)
         → ask_in (after_events (new_node sites me pages) events).waiting at ≡ Writes write

@@ -16,10 +16,10 @@ use shm_logs::SiteLog;
 use std::alloc::Allocator;
 use std::io::Read;
 
-/// The log of the site whose journal this is: its box takes each step that is recorded, one after another. A last line without its line feed
-/// counts for nothing. A line that is longer than a journal's may be is wrong, the last one too, and is told as soon as it has a byte too many,
-/// whatever follows. So memory for a line is bounded, by `shm_journal::MAX_LINE_BYTES`; beside it some is needed for the log. After a fault the
-/// reader stands a little behind the line that is wrong, or behind its byte too many.
+/// Reads a journal as its site's log: the site's box takes each step that is recorded. A last line without its line feed counts for
+/// nothing. A line that is longer than a journal's may be is wrong, even the last one, and it is told as soon as it has a byte too many. So
+/// `shm_journal::MAX_LINE_BYTES` bounds the memory for a line; the log takes some too. After a fault the reader stands a little behind the
+/// wrong line, or behind its byte too many.
 pub fn read_log<A: Allocator + Copy, R: Read>(
     alloc: A,
     reader: &mut R,

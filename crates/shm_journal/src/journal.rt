@@ -1,18 +1,18 @@
 use std::io::{Read, Write};
 
-/// It couldn't be read, appended, made durable or told.
+/// Reading, appending, making durable or writing failed.
 #[derive(Clone, Copy, Debug)]
 pub struct Failed;
 
-/// A journal, through which a process reads, keeps and tells, so that all it does stands in one order.
+/// A journal, through which a process reads, keeps and writes, so that all it does is in one order.
 ///
-/// Of what was appended and not yet made durable a crash leaves a front; what is durable it leaves whole.
+/// A crash leaves a front of what was appended and not yet made durable; what is durable it leaves whole.
 pub trait Journal {
     ghost use Rattle.std.specs.Prelude.{◌≡◌, ◌≤◌, ◌<◌, [], ◌∷◌, ℕ, List, Option, IfOk, OnErr, OnOk, length, take};
     ghost use Rattle.std.specs.Io.KnownBytes.{Appends, Consumes, IsAtEnd, Keeps};
     ghost use Rattle.shm_journal.specs.Acts.{Act, Append, GoesOn, Read as ReadAct, Sync, Tell};
 
-    /// What was done through it, if that is known.
+    /// The acts done through it, if they are known.
     ghost acts: { Self → Option (List Act) };
 
     /// Reads once, into the front of a chunk; 0 means that no bytes are left, where the chunk has room.

@@ -1,4 +1,4 @@
-//! What a journal has is read of it, whichever site's it is.
+//! Reads the summary of a journal, whichever site's it is.
 ghost use Rattle.std.specs.Prelude.{◌≡◌, ◌⊎◌, None, Some, true, IfErr, IfOk, OnOk};
 ghost use Rattle.std.specs.Io.KnownBytes.{IsAtEnd};
 ghost use Rattle.shm_journal.specs.Found.{opened};
@@ -29,8 +29,8 @@ struct Named<A: Allocator + Copy = Global> {
     node: Node<A>,
 }
 
-/// What this journal has, whichever site's it is: each of its steps is made again, as at its site's start. No more than a line of it is held at
-/// once. After a fault the reader stands a little behind the line that is wrong.
+/// Reads the summary of this journal, whichever site's it is: it makes each of its steps again, as at its site's start. At most one line of
+/// it is held at once. After a fault the reader stands a little behind the wrong line.
 pub fn read_summary<A: Allocator + Copy, R: Read>(
     alloc: A,
     reader: &mut R,
@@ -88,7 +88,7 @@ fn open_named<A: Allocator + Copy>(alloc: A, line: &[u8]) -> Result<Named<A>, Jo
     }
 }
 
-/// What the journal has of this site, which makes the steps again that the other lines record.
+/// The summary of the journal of this site, which makes the steps again that the other lines record.
 fn sum_rest<A: Allocator + Copy, R: Read>(
     alloc: A,
     lines: Lines<A>,

@@ -1,4 +1,4 @@
-//! What holds of the definitions: of whichever line is read, and of each run of a process, whatever it reads.
+//! Laws of the definitions: of every line, and of every run of a process.
 ghost use Rattle.std.specs.Prelude.{◌≡◌, ℕ, List, Some, false};
 ghost use Rattle.shm_journal.specs.Crash.{KeepsBeforeTelling};
 ghost use Rattle.shm_journal.specs.Found.{opened};
@@ -20,7 +20,8 @@ pub fn entries_have_one_spelling()
     ensures spelled { (entry : Entry) → IsEntry entry → read_entry (entry_line entry) ≡ Some entry }
 {}
 
-/// Nothing is told before the entries of all steps that it tells of are durable in the journal: so a crash at any moment leaves them there.
+/// Whenever an answer or an envelope is written, the entries of all steps that it tells of are durable in the journal. So a crash at any
+/// moment leaves them there.
 pub fn nothing_is_told_before_it_is_durable()
     ensures { (desk : Desk) (reads : List (List ℕ)) (file : List ℕ) → KeepsBeforeTelling desk reads file }
 {}

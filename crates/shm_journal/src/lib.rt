@@ -1,5 +1,5 @@
-//! A site's journal: the lines that made its steps, kept before anything is told of them, and read again at its start; and the process that
-//! keeps it.
+//! A site's journal: the lines that made its steps, made durable before any answer to them is written, and read again at its start; and the
+//! process that keeps it.
 #![tactic(auto)]
 
 mod entry;

@@ -37,7 +37,7 @@ impl<A: Allocator + Copy> Lines<A> {
     ghost use Rattle.shm_journal.specs.LinesOf.{behind, is_used_up, left_of, line_in, Unended};
     ghost use Rattle.shm_journal.specs.Taking.{BreaksOff, IsOther, ReadsOver, Takes, TakesPart, whole_with};
 
-    /// Nothing was read yet.
+    /// A reader's lines, before any was read.
     pub fn new(alloc: A) -> Lines<A>
         ensures left { (remaining : Option (List ℕ)) → left_of result remaining ≡ remaining }
         ensures whole { result.whole ≡ 0 }
@@ -139,7 +139,7 @@ impl<A: Allocator + Copy> Lines<A> {
         }
     }
 
-    /// How many bytes stand before the next line feed.
+    /// The number of bytes before the next line feed.
     fn line_feed(&self) -> Option<usize>
         requires { self.now.at < length self.now.bytes.items }
         ensures cut { IfSome result (λ len. behind self.now ≡ take len (behind self.now) ++ 10 ∷ drop (len + 1) (behind self.now)) }
@@ -150,7 +150,7 @@ impl<A: Allocator + Copy> Lines<A> {
         memchr(b'\n', &self.bytes[self.at..])
     }
 
-    /// The line ends with so many bytes. They are copied only where its front was.
+    /// Ends the line after this many bytes. Copies them only where an earlier read has its front.
     fn end_line(&mut self, len: usize) -> Result<Taken, JournalFault>
         requires begun { self.old.len ≡ 0 }
         requires within { len < length (behind self.old) }
@@ -204,7 +204,7 @@ impl<A: Allocator + Copy> Lines<A> {
         }
     }
 
-    /// The line has a byte too many among the next so many.
+    /// The line has a byte too many among these.
     fn overrun(&mut self, len: usize) -> Taken
         requires begun { self.old.len ≡ 0 }
         requires within { len ≤ length (behind self.old) }

@@ -1,4 +1,4 @@
-//! How the lines of a journal are read.
+//! Reads the lines of a journal.
 ghost use Rattle.std.specs.Prelude.{◌≡◌, None, Some, IfNone, IfOk, IfSome, option_map};
 ghost use Rattle.shm_process.specs.CauseOf.{cause_of};
 ghost use Rattle.shm_journal.specs.EntryOf.{entry_of};
@@ -12,7 +12,7 @@ use shm_process::Cause;
 use shm_wire::parse_line;
 use std::alloc::{AllocError, Allocator};
 
-/// The header that this line spells, which stands without its line feed; `None` where it spells none.
+/// Reads a line, without its line feed, as a header. `None` where it is none.
 pub fn parse_header(line: &[u8]) -> Option<Header>
     ensures { option_map header_of result ≡ read_header line.now }
 {
@@ -29,7 +29,7 @@ pub fn parse_header(line: &[u8]) -> Option<Header>
     Some(Header { sites, me, pages })
 }
 
-/// The step that this line records, which stands without its line feed; `None` where it is no entry. Only a page's bytes take memory.
+/// Reads a line, without its line feed, as an entry. `None` where it is none. Only a page's bytes take memory.
 pub fn parse_entry<A: Allocator + Copy>(
     alloc: A,
     line: &[u8],
@@ -60,7 +60,7 @@ fn split_entry(line: &[u8]) -> Option<(u64, &[u8])>
     Some((clock, text))
 }
 
-/// What made a step: a line, or the site's restart.
+/// Reads the cause of a step: a line, or the site's restart.
 fn parse_cause<A: Allocator + Copy>(alloc: A, text: &[u8]) -> Result<Option<Cause<A>>, AllocError>
     ensures { IfOk result (λ cause. option_map cause_of cause ≡ read_cause text.now) }
 {

@@ -1,7 +1,7 @@
 use shm_model::refusal::{self, Numbered};
 use thiserror::Error;
 
-/// Why a process ended before its lines did.
+/// Why a process ended before its input did.
 #[derive(Clone, Copy, Debug, PartialEq, Eq, Error)]
 pub enum ProcessFault {
     /// An allocation was refused.
@@ -13,7 +13,7 @@ pub enum ProcessFault {
     /// The writer answered an error, or took nothing.
     #[error("write fault")]
     WriteFault,
-    /// The journal couldn't be appended to, or not be made durable: its disk may be full. Nothing was told of the steps that it lacks.
+    /// The journal couldn't be appended to, or not be made durable: its disk may be full. Of the steps that it lacks nothing was written.
     #[error("journal: write fault")]
     JournalFault,
 }

@@ -1,4 +1,4 @@
-//! A process: what comes is taken, what it recorded is kept, and only then told.
+//! A process: it takes what comes, makes what it recorded durable, and only then writes its answers.
 ghost use Rattle.std.specs.Prelude.{◌≡◌, ◌≢◌, [], ◌∷◌, ℕ, List, Option, take, IfErr, OnErr, OnOk};
 ghost use Rattle.std.specs.Io.KnownBytes.{Appends, IsAtEnd};
 ghost use Rattle.shm_journal.specs.Acts.{Append, Did, GoesOn, Served, Tell, around, keeping, publishing, telling};
@@ -15,8 +15,8 @@ use std::io::{Read, Write};
 /// How many bytes are read at once.
 const CHUNK: usize = 8192;
 
-/// Takes lines until there are no more. First, and after each read, what the desk has recorded is appended to the journal and made durable,
-/// and then what it has to tell is told. A last line without its line feed isn't taken.
+/// Takes lines until the input ends. First, and after each read, it appends what the desk has recorded to the journal, makes that durable,
+/// and then writes the desk's output. It doesn't take a last line without its line feed.
 pub fn serve<A: Allocator + Copy, R: Read, W: Write, J: Journal>(
     desk: Desk<A>,
     reader: &mut R,
@@ -53,7 +53,7 @@ pub fn serve<A: Allocator + Copy, R: Read, W: Write, J: Journal>(
     Err(ProcessFault::ReadFault)
 }
 
-/// Keeps what the desk has recorded, and then tells what it has to tell.
+/// Makes the desk's entries durable, and then writes its output.
 fn publish<A: Allocator + Copy, W: Write, J: Journal>(
     desk: &mut Desk<A>,
     writer: &mut W,

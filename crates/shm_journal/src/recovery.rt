@@ -23,9 +23,9 @@ use shm_process::Node;
 use std::alloc::Allocator;
 use std::io::Read;
 
-/// The site after the steps that its journal records; of so many sites, where segment 0 began with so many pages. What stands behind the last
-/// line feed is torn: it counts for nothing, unless it is too long for a line, or stands alone and is no front of the header. No more than a
-/// line of the journal is held at once. After a fault the reader stands a little behind the line that is wrong.
+/// Recovers the site after the steps that its journal records; one of these sites, where segment 0 began with this number of pages. What
+/// stands behind the last line feed is torn: it counts for nothing, unless it is too long for a line, or stands alone and is no front of
+/// the header. At most one line of the journal is held at once. After a fault the reader stands a little behind the wrong line.
 pub fn recover<A: Allocator + Copy, R: Read>(
     alloc: A,
     sites: Sites,
@@ -76,7 +76,8 @@ fn read_journal<A: Allocator + Copy, R: Read>(
     }
 }
 
-/// Whether there is a whole first line, which is this header. If not, what is torn is a front of it.
+/// Checks that the whole first line, if there is one, is this header. If there is none, what is torn has to be a front of it. Answers
+/// whether there is one.
 fn read_header<A: Allocator + Copy, R: Read>(
     alloc: A,
     header: Header,
@@ -102,7 +103,7 @@ fn read_header<A: Allocator + Copy, R: Read>(
     }
 }
 
-/// Whether a whole first line is the own header: `true`, or a fault.
+/// Checks that a whole first line is the site's own header: `true`, or a fault.
 fn check_header(own: &[u8], line: &[u8]) -> Result<bool, RecoveryFault>
     ensures { result ≡ header_checked own.now line.now }
 {
@@ -115,7 +116,7 @@ fn check_header(own: &[u8], line: &[u8]) -> Result<bool, RecoveryFault>
     }
 }
 
-/// Whether the bytes of a file with no whole line are a front of the own header: `false`, or a fault.
+/// Checks that the bytes of a file without a whole line are a front of the site's own header: `false`, or a fault.
 fn check_front(own: &[u8], torn: &[u8]) -> Result<bool, RecoveryFault>
     ensures { result ≡ front_checked own.now torn.now }
 {

@@ -9,7 +9,7 @@ pub enum RecoveryFault {
     /// The reader answered an error, or the journal is longer than any file.
     #[error("read fault")]
     ReadFault,
-    /// Its header is that of another site, of so many others, or of another opening.
+    /// Its header is that of another site, of another number of sites, or of another opening.
     #[error("journal: of another site, number of sites or opening")]
     Foreign,
     /// The line of this number, from 1, is none of a journal's, or records no step that can be the site's next.

@@ -15,12 +15,12 @@ pub trait Replay<A: Allocator + Copy> {
     ghost use Rattle.std.specs.Prelude.{Bool, ℕ, List, Option, Some, None, IfOk};
     ghost use Rattle.shm_journal.specs.Replaying.{IsNext};
 
-    /// What a contract sees of it.
+    /// The state that a contract sees of it.
     ghost State: { Type 0 };
 
     ghost state: { Self → State };
 
-    /// What it is after the step that a line records, if that can be its next.
+    /// The state after the step that a line records, if that can be its next.
     ghost next: { State → List ℕ → Option State };
 
     /// Makes the step that this line records. `false`: it records none that can be next.

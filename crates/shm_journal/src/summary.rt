@@ -1,6 +1,6 @@
 use std::fmt;
 
-/// What a journal has.
+/// A journal's summary.
 #[derive(Clone, Copy, Debug, PartialEq, Eq)]
 pub struct Summary {
     /// The site whose steps are recorded.

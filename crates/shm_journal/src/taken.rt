@@ -1,4 +1,4 @@
-/// What was taken of a reader's next line, less its line feed.
+/// The outcome of reading the next line, without its line feed.
 #[derive(Clone, Copy)]
 pub enum Taken {
     /// All of it.

@@ -119,7 +119,7 @@ impl<A: Allocator + Copy> SegTable<A> {
         }
     }
 
-    /// Makes a segment: EINVAL for a size of 0 or above the greatest, ENOSPC where the home may have no more.
+    /// Makes a segment. EINVAL: the size is 0 or above the greatest. ENOSPC: the home can't have another.
     fn make(&mut self, cred: Cred, key: Key, size: u32, mode: Mode) -> Result<SegId, GetFault>
         requires { key ≢ 0 → with_key key self.old.segments ≡ None }
         ensures answer { IsGetAnswer result (next_id self.old.sites self.old.home self.old.segments)

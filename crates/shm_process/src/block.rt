@@ -5,15 +5,14 @@ use shm_model::{Answer, Asked};
 use shm_wire::Tag;
 use std::alloc::{AllocError, Allocator, Global};
 
-/// A block that a caller has loaded: so many loads of bytes one after another. Not all of them are made yet, and there is room for all their
-/// bytes.
+/// A block that a caller has loaded: a row of loads of bytes. Not all of them are made yet, and there is room for all their bytes.
 #[derive(Drop)]
 pub(crate) struct Block<A: Allocator + Copy = Global> {
     pub(crate) tag: Tag,
     pub(crate) at: u32,
     pub(crate) offset: u32,
     pub(crate) length: u32,
-    /// What was loaded so far.
+    /// The bytes loaded so far.
     pub(crate) bytes: Vec<u8, A>,
     ghost more_to_load: { vec_len bytes < length },
     ghost room_for_all: { length ≤ vec_capacity bytes },
@@ -58,7 +57,7 @@ impl<A: Allocator + Copy> Block<A> {
         }
     }
 
-    /// Whether it goes on waiting when its load is answered so.
+    /// Checks that it goes on waiting after its load has this answer.
     pub(crate) fn goes_on(&self, answer: &Answer) -> bool
         ensures { result ≡ goes_on (block_of self.now) answer.now }
     {

@@ -1,7 +1,7 @@
 use shm_wire::Line;
 use std::alloc::{Allocator, Global};
 
-/// What makes a step.
+/// The cause of a step.
 #[derive(Drop)]
 pub enum Cause<A: Allocator + Copy = Global> {
     Line(Line<A>),

@@ -1,4 +1,4 @@
-//! Bytes that come, and what is recorded and told of the lines that they end.
+//! Takes bytes, and gathers the entries and the output of the lines that they end.
 ghost use Rattle.std.specs.Prelude.{◌≡◌, ◌<◌, ◌==◌, ◌++◌, ◌∷◌, [], All, codes, false, if◌then◌else◌, is_some, string_bytes, IfNone, IfOk, IfSome, OnOk};
 ghost use Rattle.std.specs.Fmt.{decimal};
 ghost use Rattle.shm_model.specs.Basics.{greatest};
@@ -24,8 +24,7 @@ use std::mem;
 /// How many bytes a line has at most, less its line feed. A longer one is passed over.
 const MAX_LINE_BYTES: usize = 8192;
 
-/// A node whose lines come as bytes; what is to be recorded: an entry for each step; and what is to be told: answers, and what its site
-/// sent.
+/// A node whose lines come as bytes. It gathers entries, one for each step, and output: answers, and what its site sent.
 #[derive(Drop)]
 pub struct Desk<A: Allocator + Copy = Global> {
     pub(crate) node: Node<A>,
@@ -36,7 +35,7 @@ pub struct Desk<A: Allocator + Copy = Global> {
 }
 
 impl<A: Allocator + Copy> Desk<A> {
-    /// Nothing was read yet.
+    /// A desk that has read nothing yet.
     pub fn new(alloc: A, node: Node<A>) -> Desk<A>
         ensures { desk_of result ≡ desk_at (node_of node) }
     {
@@ -56,21 +55,22 @@ impl<A: Allocator + Copy> Desk<A> {
         &self.node
     }
 
-    /// The entries of the steps that were made, each `step CLOCK LINE` and a line feed. They are to be kept before anything is told.
+    /// The entries of the steps that were made, each `step CLOCK LINE` and a line feed. They have to be durable before any output is
+    /// written.
     pub fn entries(&self) -> &[u8]
         ensures { result.now ≡ (desk_of self.now).recorded }
     {
         self.recorded.as_slice()
     }
 
-    /// All that is to be told.
+    /// The output, still to be written.
     pub fn output(&self) -> &str
         ensures { result.now ≡ (desk_of self.now).told }
     {
         self.told.as_str()
     }
 
-    /// Forgets what was to be recorded and told: it was.
+    /// Forgets the entries and the output, which were written.
     pub fn clear(&mut self)
         ensures { desk_of self.new ≡ cleared (desk_of self.old) }
     {
@@ -85,8 +85,7 @@ impl<A: Allocator + Copy> Desk<A> {
         self.recorded.extend_from_slice(text)
     }
 
-    /// The site's restart, one step. The asks that wait are forgotten: their callers ask again. Where memory is refused the desk is of no
-    /// use any more.
+    /// Restarts the site, one step. It forgets the asks that wait: their callers ask again. Where memory is refused the desk is useless.
     #[tactic(auto, unfolding(crate::specs::Desk::restarted))]
     pub fn restart(&mut self) -> Result<(), AllocError>
         requires { (desk_of self.old).node.clock < greatest }
@@ -96,8 +95,8 @@ impl<A: Allocator + Copy> Desk<A> {
         self.push_step(b"restart".as_slice(), &said)
     }
 
-    /// These bytes come: each line that they end is taken, and the asks that wait are made again after it, as far as they can. Where
-    /// memory is refused a part of it may be done: the desk is of no use then.
+    /// Takes these bytes: each line that they end, and after each line the waiting asks, as far as they can be made. Where memory is
+    /// refused a part may be done, and the desk is useless.
     pub fn take(&mut self, bytes: &[u8]) -> Result<(), AllocError>
         ensures { OnOk result (desk_of self.new ≡ on_bytes (desk_of self.old) bytes.now) }
     {
@@ -160,7 +159,7 @@ impl<A: Allocator + Copy> Desk<A> {
         }
     }
 
-    /// A line that tells a site nothing is passed over.
+    /// Passes over a line that isn't for a site.
     fn pass_line(&mut self) -> Result<(), AllocError>
         ensures { OnOk result (desk_of self.new ≡ settled most_steps (record (desk_of self.old) { node = passed_over (desk_of self.old).node })) }
     {
@@ -168,7 +167,7 @@ impl<A: Allocator + Copy> Desk<A> {
         self.settle()
     }
 
-    /// Takes what the line is, and tells what is told of it. What is recorded of a step is the line itself: each has one spelling.
+    /// Takes the line, and gathers its output. The entry of a step has the line itself: each has one spelling.
     #[tactic(auto, unfolding(crate::specs::Desk::taken))]
     fn take_read(&mut self, line: &[u8], read: Line<A>) -> Result<(), AllocError>
         requires is_line { IsLine (line_of read) }
@@ -182,7 +181,7 @@ impl<A: Allocator + Copy> Desk<A> {
         }
     }
 
-    /// Tells what is told of the line at once: of a page, or that a block finds no room.
+    /// Answers the line at once: with a page's state, or that a block finds no room.
     fn show(&mut self, read: &Line<A>) -> Result<(), AllocError>
         ensures { OnOk result (desk_of self.new ≡ tell (desk_of self.old) (line_text (shown_line (desk_of self.old).node (line_of read.now)))) }
     {
@@ -192,7 +191,7 @@ impl<A: Allocator + Copy> Desk<A> {
         }
     }
 
-    /// Makes steps of the asks that wait, as long as one can be made, and at most `MOST_STEPS`.
+    /// Makes steps of the waiting asks, as long as one can be made, and at most `MOST_STEPS`.
     fn settle(&mut self) -> Result<(), AllocError>
         ensures { OnOk result (desk_of self.new ≡ settled most_steps (desk_of self.old)) }
     {
@@ -219,7 +218,7 @@ impl<A: Allocator + Copy> Desk<A> {
         Ok(true)
     }
 
-    /// Records a step of an ask that waited, and tells what is told of it.
+    /// Records a step of an ask that waited, and gathers its output.
     fn push_again(&mut self, again: &Again<A>) -> Result<(), AllocError>
         ensures { OnOk result (desk_of self.new ≡ with_step (desk_of self.old) (Some (again_of again.now))) }
     {
@@ -228,7 +227,7 @@ impl<A: Allocator + Copy> Desk<A> {
         self.push_step(line.as_bytes(), &again.said)
     }
 
-    /// Records the step that this line made, and tells what is told of it.
+    /// Records the step that this line made, and gathers its output.
     fn push_step(&mut self, line: &[u8], said: &Said<A>) -> Result<(), AllocError>
         ensures { (cause : Cause) → cause_text cause ≡ line.now → OnOk result (desk_of self.new ≡ with_step (desk_of self.old) (Some (said_of cause said.now))) }
     {
@@ -261,7 +260,7 @@ fn push_entry<A: Allocator + Copy>(
     Ok(())
 }
 
-/// Appends what is told of a step: the answer, if a caller is told it, and what the site sent.
+/// Appends the output of a step: the answer, if it has a caller, and what the site sent.
 #[tactic(auto, unfolding(crate::specs::Desk::step_text))]
 fn push_text<A: Allocator + Copy>(
     alloc: A,
@@ -277,7 +276,7 @@ fn push_text<A: Allocator + Copy>(
     told.push_str(sent.as_str())
 }
 
-/// What stands before the first line feed, and what stands after it.
+/// Splits the bytes at the first line feed.
 fn cut_line(bytes: &[u8]) -> Option<(&[u8], &[u8])>
     ensures cut { IfSome result (λ cut. bytes.now ≡ cut.0.now ++ 10 ∷ cut.1.now) }
     ensures first { IfSome result (λ cut. All (λ byte. (byte == 10) ≡ false) cut.0.now) }

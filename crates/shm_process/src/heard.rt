@@ -3,7 +3,7 @@ use shm_site::Input;
 use shm_wire::Tag;
 use std::alloc::{Allocator, Global};
 
-/// What a line hands to a site.
+/// The input that a line brings to a site.
 #[derive(Drop)]
 pub(crate) struct Heard<A: Allocator + Copy = Global> {
     pub(crate) input: Input<A>,

@@ -1,4 +1,4 @@
-//! What holds of the definitions, whatever a node is made to do.
+//! Laws of the definitions, for every run of a node.
 ghost use Rattle.std.specs.Prelude.{◌≡◌, ◌≤◌, ◌+◌, ◌*◌, All, List, ℕ, None, Some, length, true};
 ghost use Rattle.shm_process.specs.Cause.{Cause};
 ghost use Rattle.shm_process.specs.Desk.{Desk, on_bytes, settled};
@@ -22,7 +22,7 @@ pub fn each_entry_has_a_line()
     ensures { (sites me pages : ℕ) (events : List Event) → All IsEntry (entries_of (spec.new_node sites me pages) events) }
 {}
 
-/// What a desk records of bytes is the entries of the events that its node had, each of them, in their order.
+/// From bytes a desk records exactly the entries of the events that its node had, in order.
 #[tactic(auto, using(crate::proofs::DeskEvents::did_events))]
 pub fn a_desk_records_each_step()
     ensures { (desk : Desk) (bytes : List ℕ) → DidEvents desk (on_bytes desk bytes) }
@@ -47,7 +47,7 @@ pub fn a_line_raises_the_clock_within_a_bound()
     ensures { (node : spec.Node) (line : stream.Line) → (after node line).clock ≤ node.clock + most_ahead + 1 }
 {}
 
-/// So many events bring a node's clock at most so far: to its end, 2^64 - 1, no fewer than 2^32 - 1.
+/// The bound on a node's clock after this many events. So bringing it to its end, 2^64 - 1, takes at least 2^32 - 1 events.
 #[tactic(auto, using(crate::proofs::Clocks::clock_reach))]
 pub fn a_clock_is_bounded_by_its_events()
     ensures { (sites me pages : ℕ) (events : List Event) → (after_events (spec.new_node sites me pages) events).clock ≤ (most_ahead + 1) * length events }
@@ -64,7 +64,7 @@ pub fn no_number_is_above_the_clock()
         → NumbersWithin node.clock node.site → NumbersWithin next.clock next.site }
 {}
 
-/// What such a node sends names no number above the clock of its step. So no node passes it over for its number.
+/// An envelope that such a node sends names no number above the clock of its step. So no node passes it over for its number.
 #[tactic(auto, using(crate::proofs::Clocks::sent_fits))]
 pub fn what_is_sent_names_no_number_above_its_clock()
     ensures { (node : spec.Node) (event : Event) (said : spec.Said) → said_at node event ≡ Some said → NumbersWithin node.clock node.site

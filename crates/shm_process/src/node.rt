@@ -30,8 +30,8 @@ impl<A: Allocator + Copy> Node<A> {
     ghost use Rattle.shm_process.specs.NodeOf.{node_of};
     ghost use Rattle.shm_site.specs.Site.{site_of};
 
-    /// A site of so many at which nothing has happened, where segment 0 has so many pages and is attached, to read and write, as
-    /// attachment 0. Its home is site 0.
+    /// One of these sites, where nothing has happened, segment 0 has this number of pages and is attached, to read and write, as attachment
+    /// 0. The segment's home is site 0.
     pub fn new(alloc: A, sites: Sites, me: SiteId, pages: u32) -> Result<Node<A>, AllocError>
         requires below { me < sites }
         requires from { 1 ≤ pages }

@@ -22,10 +22,10 @@ use shm_wire::{Ask, Question, Tag};
 use std::alloc::{AllocError, Allocator};
 
 impl<A: Allocator + Copy> Node<A> {
-    /// Makes one step of the oldest ask that waits and can be made or refused now, or has to ask for its right anew: the access, or a block's
-    /// next load. `None`: there is none. Where memory is refused the node is as before.
+    /// Makes one step of the oldest waiting ask that can be made or refused now, or has to ask for its right again: the access, or a
+    /// block's next load. `None`: there is none. Where memory is refused the node is as before.
     ///
-    /// Whoever takes lines calls this after each, until there is none.
+    /// Call this after each line, until there is none.
     pub fn again(&mut self) -> Result<Option<Again<A>>, AllocError>
         ensures said { IfOk result (λ again. option_map again_of again ≡ said_again (node_of self.old)) }
         ensures after { OnOk result (node_of self.new ≡ after_again (node_of self.old)) }
@@ -42,8 +42,8 @@ impl<A: Allocator + Copy> Node<A> {
         Ok(None)
     }
 
-    /// Makes the access that the ask at this place comes to next, an ask's own or a block's next load, unless it only waits for what was
-    /// asked already.
+    /// Makes the next access of the ask at this place, its own or a block's next load, unless it only waits for a right that was asked for
+    /// before.
     fn make_at(&mut self, at: usize) -> Result<Option<Again<A>>, AllocError>
         requires at { at < vec_len self.old.waiting }
         requires early { max self.old.clock 0 < greatest }
@@ -115,7 +115,7 @@ fn step_access<A: Allocator + Copy>(
     site.step_spending(input)
 }
 
-/// Whether the ask at this place goes on waiting.
+/// Checks that the ask at this place goes on waiting.
 #[tactic(auto, using(crate::proofs::Asks::map_read))]
 fn goes_on_at<A: Allocator + Copy>(waiting: &[WaitingAsk<A>], at: usize, answer: &Answer) -> bool
     requires { at < length waiting.now }

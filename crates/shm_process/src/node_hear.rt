@@ -1,4 +1,4 @@
-//! What a line is to a node: an envelope for its site, what a caller asks of it, or nothing.
+//! The meaning of a line to a node: an envelope for its site, a caller's ask, or nothing.
 ghost use Rattle.std.specs.Prelude.{◌≡◌, ◌<◌, ℕ, List, false, max, IfSome, Some, option_map};
 ghost use Rattle.shm_model.specs.Basics.{greatest};
 ghost use Rattle.shm_process.specs.Node as spec;
@@ -16,12 +16,12 @@ use shm_site::Input;
 use shm_wire::{Ask, Line, Question, Sent};
 use std::alloc::Allocator;
 
-/// An envelope's clock may be so much above its receiver's. So one line takes the clock no further, and some 2^32 lines are needed to bring
-/// it to its end.
+/// The most by which an envelope's clock may be above its receiver's. So one line raises the clock no further, and bringing it to its end
+/// takes some 2^32 lines.
 const MOST_AHEAD: u64 = 1 << 32;
 
 impl<A: Allocator + Copy> Node<A> {
-    /// What the line hands to the site, if it is for this site. A block that is to be stored hands over nothing yet.
+    /// The input that the line brings to the site, if it is for this site. A block that is to be stored brings none yet.
     pub(crate) fn hear(&self, line: Line<A>) -> Option<Heard<A>>
         ensures heard { option_map heard_of result ≡ spec.heard (node_of self.now) (line_of line) }
         ensures proper { IfSome result (λ h. is_foreign self.now.sites self.now.me (input_of h.input) ≡ false) }
@@ -34,7 +34,7 @@ impl<A: Allocator + Copy> Node<A> {
         }
     }
 
-    /// What an envelope hands to the site, unless it can't be for this site, or no site that keeps up can have sent it.
+    /// The input that an envelope brings to the site, unless it can't be for this site, or no site that keeps up can have sent it.
     pub(crate) fn hear_envelope(&self, sent: Sent<A>) -> Option<Heard<A>>
         ensures heard { option_map heard_of result ≡ spec.handed (node_of self.now) (sent_of sent) }
         ensures proper { IfSome result (λ h. is_foreign self.now.sites self.now.me (input_of h.input) ≡ false) }
@@ -55,7 +55,7 @@ impl<A: Allocator + Copy> Node<A> {
         })
     }
 
-    /// What a caller asks of this site.
+    /// The input that a caller's ask brings to this site.
     pub(crate) fn hear_ask(&self, ask: &Ask) -> Option<Heard<A>>
         ensures heard { option_map heard_of result ≡ spec.asked_here (node_of self.now) (ask_of ask.now) }
         ensures proper { IfSome result (λ h. is_foreign self.now.sites self.now.me (input_of h.input) ≡ false) }
@@ -98,7 +98,7 @@ impl<A: Allocator + Copy> Node<A> {
     }
 }
 
-/// What the site is made to do. A page is only shown, and a block is loaded byte by byte.
+/// The input for a question. A page is only shown, and a block is loaded byte by byte, so these have none.
 pub fn input_asked<A: Allocator + Copy>(question: Question) -> Option<Input<A>>
     ensures input { option_map input_of result ≡ spec.input_asked question }
     ensures proper { (sites me : ℕ) → IfSome result (λ input. is_foreign sites me (input_of input) ≡ false) }

@@ -17,8 +17,8 @@ use shm_site::{Input, Made};
 use std::alloc::{AllocError, Allocator};
 
 impl<A: Allocator + Copy> Node<A> {
-    /// The site's restart, one step, which is recorded as `restart`. The asks that wait are forgotten: their callers ask again. A segment
-    /// call that is outstanding stays so, and its caller is told.
+    /// Restarts the site, one step, which is recorded as `restart`. It forgets the asks that wait: their callers ask again. An outstanding
+    /// segment call stays, and its caller gets the reply.
     pub fn restart(&mut self) -> Result<Said<A>, AllocError>
         requires { (node_of self.old).clock < greatest }
         ensures said { IfOk result (λ said. said_of OfRestart said ≡ said_restart (node_of self.old)) }
@@ -48,7 +48,7 @@ impl<A: Allocator + Copy> Node<A> {
         Ok(true)
     }
 
-    /// What the cause of a recorded step handed to the site.
+    /// The input that the cause of a recorded step brought to the site.
     fn hear_again(&self, cause: Cause<A>) -> Option<Heard<A>>
         ensures heard { option_map heard_of result ≡ heard_again (node_of self.now) (cause_of cause) }
         ensures proper { IfSome result (λ h. is_foreign self.now.sites self.now.me (input_of h.input) ≡ false) }

@@ -1,4 +1,4 @@
-//! What is said of a step: who is told its answer, and what an access's answer means for it.
+//! The output of a step: who gets its answer, and what an access's answer means for the access.
 ghost use Rattle.std.specs.Prelude.{◌≡◌, ◌+◌, ◌<◌, if◌then◌else◌, map, None, option_map};
 ghost use Rattle.shm_parts.specs.Message.{envelope_of};
 ghost use Rattle.shm_process.specs.Cause.{Cause};
@@ -15,7 +15,7 @@ use shm_wire::Tag;
 use std::alloc::Allocator;
 
 impl<A: Allocator + Copy> Node<A> {
-    /// Counts a step that its site made under this clock, and says it; nobody is told the answer where the ask stays among those that wait.
+    /// Counts a step that its site made under this clock, and says it. The answer has no caller where the ask stays among those that wait.
     pub(crate) fn say(
         &mut self,
         clock: u64,
@@ -58,7 +58,8 @@ impl<A: Allocator + Copy> Node<A> {
     }
 }
 
-/// Who is told the answer, unless the ask stays among those that wait. A segment call that begins has its caller until it is replied to.
+/// The tag of the caller who gets the answer, unless the ask stays among those that wait. A segment call that begins keeps its caller until
+/// the reply comes.
 pub(crate) fn take_tag(
     stays: bool,
     tag: Option<Tag>,
@@ -88,14 +89,14 @@ fn unless(stays: bool, tag: Option<Tag>) -> Option<Tag>
     tag
 }
 
-/// Whether an access was neither made nor refused.
+/// Checks that an access was neither made nor refused.
 pub(crate) fn is_open(answer: &Answer) -> bool
     ensures { result ≡ is_open answer.now }
 {
     matches!(answer, Answer::Fault | Answer::Waiting)
 }
 
-/// Whether an access waits for what was asked already.
+/// Checks that an access waits for a right that was asked for before.
 pub(crate) fn is_waiting(answer: &Answer) -> bool
     ensures { result ≡ is_waiting answer.now }
 {

@@ -1,4 +1,4 @@
-//! What a node does with a line.
+//! A node takes a line.
 ghost use Rattle.std.specs.Prelude.{◌≡◌, ◌<◌, ◌&&◌, false, is_some, map, max, None, option_map, IfOk, OnErr, OnOk, if◌then◌else◌, vec_capacity, vec_len};
 ghost use Rattle.shm_model.specs.Basics.{greatest};
 ghost use Rattle.shm_process.specs.Access.{is_open};
@@ -31,12 +31,12 @@ use shm_site::Answer;
 use shm_wire::{Ask, Line, Question, Sent, Tag, WriteAsk};
 use std::alloc::{AllocError, Allocator};
 
-/// So many asks wait at most. A further access is answered at once, as one that is only tried; a further block is answered `waiting`, and
+/// The most asks that wait. A further access is answered at once, as one that is only tried; a further block is answered `waiting`, and
 /// isn't tried.
 pub(crate) const MOST_WAITING: usize = 64;
 
-/// So many steps are made at most of the asks that wait, after one line: for each ask a page's bytes, and one step more that asks for a
-/// right. They are always enough (`laws::no_ask_is_left_that_can_be_made`).
+/// The most steps of waiting asks after one line: for each ask a page's bytes, and one step more that asks for a right. They are always
+/// enough (`laws::no_ask_is_left_that_can_be_made`).
 pub(crate) const MOST_STEPS: usize = MOST_WAITING * (PAGE_BYTES + 1);
 
 impl<A: Allocator + Copy> Node<A> {
@@ -180,7 +180,7 @@ impl<A: Allocator + Copy> Node<A> {
         Ok(self.say(clock, tag, stays, made, None))
     }
 
-    /// Whether one more ask may wait.
+    /// Checks that one more ask may wait.
     #[tactic(auto, using(crate::proofs::Asks::length_map))]
     pub(crate) fn has_room(&self) -> bool
         ensures { result ≡ has_room (node_of self.now) }

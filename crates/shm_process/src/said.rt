@@ -4,7 +4,7 @@ use shm_place::SiteId;
 use shm_wire::Tag;
 use std::alloc::{Allocator, Global};
 
-/// What a node says of a step.
+/// A step, as a node says it.
 #[derive(Drop)]
 pub struct Said<A: Allocator + Copy = Global> {
     /// The site that made it.
@@ -13,12 +13,12 @@ pub struct Said<A: Allocator + Copy = Global> {
     pub clock: u64,
     /// How many steps the node made before.
     pub index: u64,
-    /// What the step sent, the first envelope first.
+    /// The envelopes that the step sent, in order.
     pub sent: Vec<Envelope<A>, A>,
-    /// The tag of the caller who is told the answer; `None`: nobody is, or the ask still waits.
+    /// The tag of the caller who gets the answer; `None`: no caller does, or the ask still waits.
     pub tag: Option<Tag>,
-    /// What the site answers. For an ask it stands under the ask's tag, but that a segment call is answered when it is replied to.
+    /// The site's answer. An ask's answer is written under its tag, except that a segment call is answered when its reply comes.
     pub answer: Answer,
-    /// All bytes of a block, where the step is its last load. They are told in place of the answer.
+    /// All bytes of a block, where the step is its last load. They are written in place of the answer.
     pub block: Option<Vec<u8, A>>,
 }

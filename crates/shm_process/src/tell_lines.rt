@@ -1,4 +1,4 @@
-//! What callers are told: answers, blocks, and what a page holds.
+//! The lines that callers get: answers, blocks, and a page's state.
 ghost use Rattle.std.specs.Prelude.{◌≡◌, option_map, string_bytes, IfOk};
 ghost use Rattle.shm_process.specs.Cause.{OfRestart};
 ghost use Rattle.shm_process.specs.NodeOf.{node_of, said_of};
@@ -21,7 +21,7 @@ use std::alloc::{AllocError, Allocator};
 use std::fmt;
 
 impl<A: Allocator + Copy> Said<A> {
-    /// The line that tells the answer, without a line feed, if somebody is told.
+    /// The line with the answer, without a line feed, if there is a caller who gets it.
     pub fn answer_line(&self, alloc: A) -> Result<Option<String<A>>, AllocError>
         ensures { IfOk result (λ line. option_map string_bytes line ≡ answer_line_of (said_of OfRestart self.now)) }
     {
@@ -70,9 +70,8 @@ impl<'a> fmt::Display for ToldText<'a> {
 }
 
 impl<A: Allocator + Copy> Node<A> {
-    /// The line that is told at once of this one, without a line feed: what the site has of a page, where that is asked of it, and that a
-    /// block finds no room to wait. It makes no step, and is to be asked for before the line is taken: a block that has joined may have
-    /// taken the last room.
+    /// The line that answers this one at once, without a line feed: the site's state of a page, where that is asked for, or that a block
+    /// finds no room to wait. It makes no step. Ask for it before the line is taken: a block that has joined may have taken the last room.
     pub fn line_at_once(&self, line: &Line<A>) -> Result<Option<String<A>>, AllocError>
         ensures { IfOk result (λ told. option_map string_bytes told ≡ shown_line (node_of self.now) (line_of line.now)) }
     {
@@ -115,7 +114,7 @@ impl<A: Allocator + Copy> Node<A> {
         Ok(Some(line))
     }
 
-    /// A block is told that it finds no room to wait.
+    /// The answer to a block that finds no room to wait.
     fn crowd_out(&self, tag: Tag) -> Result<Option<String<A>>, AllocError>
         ensures { IfOk result (λ told. option_map string_bytes told ≡ crowded_out (node_of self.now) (tag_text tag)) }
     {
@@ -129,7 +128,7 @@ impl<A: Allocator + Copy> Node<A> {
     }
 }
 
-/// What a site has of a page: its state, and the greatest transaction number that it met.
+/// A site's state of a page, and the greatest transaction number that it met.
 #[derive(Clone, Copy)]
 struct ShownText(Option<Shown>);
 

@@ -17,7 +17,7 @@ pub(crate) enum WaitingAsk<A: Allocator + Copy = Global> {
 /// An ask that was answered.
 #[derive(Drop)]
 pub(crate) struct Ended<A: Allocator + Copy = Global> {
-    /// The tag of the caller who is told.
+    /// The tag of the caller who gets the answer.
     pub(crate) tag: Tag,
     /// All bytes of a block that was loaded.
     pub(crate) bytes: Option<Vec<u8, A>>,
@@ -51,7 +51,7 @@ impl<A: Allocator + Copy> WaitingAsk<A> {
         }
     }
 
-    /// Whether it goes on waiting when its step is answered so.
+    /// Checks that it goes on waiting after its step has this answer.
     pub(crate) fn goes_on(&self, answer: &Answer) -> bool
         ensures { result ≡ goes_on (ask_of self.now) answer.now }
     {

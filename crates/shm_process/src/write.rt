@@ -4,7 +4,7 @@ use shm_model::{Answer, Asked};
 use shm_wire::{Tag, WriteAsk};
 use std::alloc::{Allocator, Global};
 
-/// A block that a caller has stored: so many stores of bytes one after another. Not all of them are made yet.
+/// A block that a caller has stored: a row of stores of bytes. Not all of them are made yet.
 #[derive(Drop)]
 pub(crate) struct Write<A: Allocator + Copy = Global> {
     pub(crate) tag: Tag,
@@ -56,7 +56,7 @@ impl<A: Allocator + Copy> Write<A> {
         }
     }
 
-    /// Whether it goes on waiting when its store is answered so.
+    /// Checks that it goes on waiting after its store has this answer.
     pub(crate) fn goes_on(&self, answer: &Answer) -> bool
         ensures { result ≡ goes_on (write_of self.now) answer.now }
     {

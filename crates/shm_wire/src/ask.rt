@@ -1,11 +1,11 @@
-//! What a caller asks of a site, under a tag of its own.
+//! A caller's ask of a site, under a tag of its own.
 use crate::tag::Tag;
 use shm_lines::RequestWords;
 use shm_model::{Asked, Request};
 use shm_place::{PageId, SiteId};
 use std::fmt;
 
-/// What a caller may ask of a site: each event that a site can be made to have, a block of loads, and what it holds of a page.
+/// A caller's question to a site: each event that a site can be made to have, a block of loads, and the state of a page.
 #[derive(Clone, Copy, Debug, PartialEq, Eq)]
 pub enum Question {
     /// It waits for its right.
@@ -20,7 +20,7 @@ pub enum Question {
     Show(PageId),
 }
 
-/// What a caller asks of a site.
+/// A caller's ask of a site.
 #[derive(Clone, Copy, Debug, PartialEq, Eq)]
 pub struct Ask {
     pub site: SiteId,

@@ -126,7 +126,7 @@ impl<'a, A: Allocator + Copy> fmt::Display for ToldNote<'a, A> {
     }
 }
 
-/// What a transaction gives, as a word.
+/// The word for a transaction's kind.
 #[derive(Clone, Copy)]
 struct KindWord(Kind);
 

@@ -1,4 +1,4 @@
-//! How the replies to segment calls are spelled.
+//! Spells the replies to segment calls.
 use shm_lines::AccessWord;
 use shm_model::{Errno, Reply, Stat};
 use std::fmt;
@@ -31,7 +31,7 @@ impl fmt::Display for ReplyWords {
     }
 }
 
-/// What `stat` tells of a segment, as words.
+/// The words of a segment's record.
 #[derive(Clone, Copy)]
 struct StatWords(Stat);
 
@@ -63,7 +63,7 @@ impl fmt::Display for StatWords {
     }
 }
 
-/// Whether a segment is marked to be destroyed, as a word.
+/// The word that says whether a segment is marked to be destroyed.
 #[derive(Clone, Copy)]
 struct StandingWord(bool);
 

@@ -3,12 +3,12 @@ use crate::sent::Sent;
 use crate::write_ask::WriteAsk;
 use std::alloc::{Allocator, Global};
 
-/// What a line of the stream tells a site.
+/// A line of the stream, as a site reads it.
 #[derive(Drop)]
 pub enum Line<A: Allocator + Copy = Global> {
-    /// What another site sent.
+    /// An envelope from another site.
     Envelope(Sent<A>),
-    /// What a caller asks.
+    /// A caller's ask.
     Ask(Ask),
     /// Bytes that a caller asks to be stored.
     Write(WriteAsk<A>),

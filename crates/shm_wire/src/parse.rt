@@ -25,7 +25,8 @@ use shm_parts::{Envelope, Message};
 use shm_place::SiteId;
 use std::alloc::{AllocError, Allocator};
 
-/// What this line tells a site, which stands without its line feed; `None` where it tells none anything. Only a page's bytes, and those that are to be stored, take memory.
+/// Reads a line without its line feed: an envelope or an ask; `None` where it is neither. Only a page's bytes, and those that are to be
+/// stored, take memory.
 pub fn parse_line<A: Allocator + Copy>(alloc: A, line: &[u8]) -> Result<Option<Line<A>>, AllocError>
     ensures read { IfOk result (λ read. option_map line_of read ≡ read_line line.now) }
     ensures spelled { IfOk result (λ read. IfSome read (λ is. IsLine (line_of is) × (line.now ≡ line_text (line_of is)))) }

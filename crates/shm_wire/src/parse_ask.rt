@@ -1,4 +1,4 @@
-//! How the words of a caller are read.
+//! Reads the words of a caller.
 ghost use Rattle.std.specs.Prelude.{◌≡◌, option_map};
 ghost use Rattle.shm_wire.specs.Words.{ended};
 ghost use Rattle.shm_wire.specs.Asks as said;
@@ -12,7 +12,7 @@ use shm_lines::{Words, parse_request};
 use shm_model::Asked;
 use shm_place::{PAGE_BYTES, SiteId};
 
-/// What is asked under this verb, of this site and under this tag.
+/// Reads the ask under this verb, of this site and under this tag.
 pub fn ask(site: SiteId, tag: Tag, verb: &[u8], words: Words<'_>) -> Option<Ask>
     ensures { option_map ask_of result ≡ said.ask_under site (tag_text tag) verb.now words.entry }
 {
@@ -105,7 +105,7 @@ fn read(words: Words<'_>) -> Option<Question>
     Some(Question::Read { at, offset, length })
 }
 
-/// Whether these are bytes of a block: at most a page, and each at an offset that there is.
+/// Checks that these are the bytes of a block: at most a page, and each at an offset that there is.
 pub fn is_block(offset: u32, length: usize) -> bool
     ensures { result ≡ said.is_block offset length }
 {

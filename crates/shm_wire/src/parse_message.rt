@@ -1,4 +1,4 @@
-//! How messages are read, but for a page's bytes.
+//! Reads messages, except a page's bytes.
 ghost use Rattle.std.specs.Prelude.{◌≡◌, option_map};
 ghost use Rattle.shm_model.specs.Entry.{Clear, Cleared, Confirm};
 ghost use Rattle.shm_model.specs.Message.{Purge, Purged};

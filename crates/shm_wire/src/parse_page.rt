@@ -60,7 +60,7 @@ fn page_bytes<A: Allocator + Copy>(alloc: A, word: &[u8]) -> Result<Option<Vec<u
     Ok(Some(bytes))
 }
 
-/// The note that grants a page with these bytes. As each grant it is made by an owner's page, which is lent or handed.
+/// The note that grants a page with these bytes. Like each grant, an owner's page makes it, which is lent or handed.
 fn grant_note<A: Allocator + Copy>(
     alloc: A,
     number: u64,

@@ -1,4 +1,4 @@
-//! How the replies to segment calls are read.
+//! Reads the replies to segment calls.
 ghost use Rattle.std.specs.Prelude.{◌≡◌};
 ghost use Rattle.shm_wire.specs.Replies.{reply_of, id_of, attached_of, stat_of, refused_of};
 

@@ -11,7 +11,7 @@ use shm_lines::{Words, split_at};
 use shm_place::SiteId;
 use std::str;
 
-/// What this line answers, which stands without its line feed; `None` where it is no answer. It takes no memory.
+/// Reads a line, without its line feed, as an answer. `None` where it is none. Takes no memory.
 pub fn parse_tell_line(line: &[u8]) -> Option<TellLine<'_>>
     ensures { option_map tell_line_of result ≡ read_tell_line line.now }
 {
@@ -22,7 +22,7 @@ pub fn parse_tell_line(line: &[u8]) -> Option<TellLine<'_>>
     answer(rest?)
 }
 
-/// What is answered, by which site and under which tag.
+/// Reads the answer, with its site and its tag.
 fn answer(line: &[u8]) -> Option<TellLine<'_>>
     ensures { option_map tell_line_of result ≡ tell_line_after (words_of line.now) }
 {
@@ -45,7 +45,7 @@ fn text_after_two(line: &[u8]) -> Option<&str>
     text(rest)
 }
 
-/// What stands behind the first two words.
+/// The bytes behind the first two words.
 fn after_two(line: &[u8]) -> Option<&[u8]>
     ensures { option_map_or (λ rest. words_of rest.now) result [] ≡ drop 2 (words_of line.now) }
 {

@@ -37,7 +37,7 @@ fn kind_named(word: &[u8]) -> Option<Kind>
     None
 }
 
-/// Whether the next word says that a segment is marked to be destroyed, and the words after it.
+/// Reads the word that says whether a segment is marked to be destroyed. Answers that, and the words after it.
 pub fn standing(words: Words<'_>) -> Option<(bool, Words<'_>)>
     ensures { result ≡ next_of standing_of words.entry }
 {
@@ -94,7 +94,7 @@ fn errno_named(word: &[u8]) -> Option<Errno>
     None
 }
 
-/// What was read, if no word is left.
+/// The value that was read, if no word is left.
 pub fn if_ended<T: Drop>(value: T, words: Words<'_>) -> Option<T>
     ensures { result ≡ said.ended value words.entry }
 {

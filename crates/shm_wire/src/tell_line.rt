@@ -1,11 +1,11 @@
-//! What a caller is answered, under its tag.
+//! An answer to a caller, under its tag.
 use crate::tag::Tag;
 use base64::display::Base64Display;
 use base64::engine::general_purpose::STANDARD;
 use shm_place::SiteId;
 use std::fmt;
 
-/// What a caller is answered. The tag is that of its ask, and the text is printable ASCII, in which blanks may stand.
+/// An answer to a caller. The tag is that of its ask, and the text is printable ASCII, in which blanks may stand.
 #[derive(Clone, Copy, Debug, PartialEq, Eq)]
 pub struct TellLine<'a> {
     pub site: SiteId,

@@ -15,7 +15,7 @@ use std::fs::File;
 use std::io::Write;
 use std::rt::Files;
 
-/// Audits the journals of these names, one for each of so many sites, in their order, and answers the exit status.
+/// Audits the journals of these names, one for each site, in order, and answers the exit status.
 pub(crate) fn audit<R: AllocGlobal + Files, O: Write, E: Write>(
     rt: &R,
     sites: Sites,
@@ -36,7 +36,7 @@ pub(crate) fn audit<R: AllocGlobal + Files, O: Write, E: Write>(
     }
 }
 
-/// Audits the journals, and tells what was counted of them.
+/// Audits the journals, and writes the counts.
 fn tell_audit<R: AllocGlobal + Files, O: Write>(
     rt: &R,
     sites: Sites,
@@ -90,7 +90,7 @@ fn read_journal<R: AllocGlobal + Files>(rt: &R, at: usize, name: &str) -> Result
     }
 }
 
-/// What is counted of the logs, where they are those of so many sites that shared one plain memory.
+/// Counts the logs, if they are those of these sites with one plain memory.
 fn judge(alloc: Global, sites: Sites, logs: &[SiteLog]) -> Result<Totals, Unaudited>
     ensures accepted { IfOk result (λ counts. IsOfSites sites logs.now counts) }
     ensures why { IfErr result (IsWhyNot sites logs.now) }

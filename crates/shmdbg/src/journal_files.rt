@@ -47,7 +47,7 @@ pub(crate) struct JournalFile<F> {
 }
 
 impl<F: OpenFile> JournalFile<F> {
-    /// A file that has so many bytes, all of them durable.
+    /// A file of this many bytes, all of them durable.
     pub(crate) fn new(file: F, durable: u64) -> JournalFile<F> {
         JournalFile {
             file,

@@ -1,4 +1,4 @@
-//! A run of a workload, and what is told of it.
+//! A run of a workload, and its report.
 ghost use Rattle.std.specs.Prelude.{◌≡◌, ◌⊎◌, ℕ, List, false, true, IfErr, IfSome, OnOk};
 ghost use Rattle.std.specs.Io.KnownBytes.{Appends};
 ghost use Rattle.shm_report.specs.Audited.{TellsRun};
@@ -18,7 +18,7 @@ use std::sync::Wait;
 use std::thread::Threads;
 use std::time::Instant;
 
-/// What is wanted beside the report.
+/// The output beside the report.
 #[derive(Clone, Copy)]
 pub struct Wanted<'a> {
     /// A summary, behind the report.
@@ -27,8 +27,8 @@ pub struct Wanted<'a> {
     pub log: Option<&'a str>,
 }
 
-/// Runs the workload, and tells its report. Where they are wanted, the logs are saved before that, and a summary stands behind it. How
-/// long it took is told where the clock could be read.
+/// Runs the workload, and writes its report. Where they are wanted, it saves the logs before that, and a summary stands behind the report,
+/// with the time, if the clock could be read.
 pub fn tell_run<
     R: AllocGlobal + Clock + Files + Threads + Wait + Copy + Send + Sync + 'static,
     I: Read,

@@ -1,4 +1,4 @@
-//! Shows a wrong line below what is told of it: the line, where it can't be read on, and what it seems to be.
+//! Shows a wrong line below its fault: the line, where it goes wrong, and what it seems to be.
 ghost use Rattle.std.specs.Prelude.{◌≡◌};
 ghost use Rattle.shmdbg.specs.Status.{fault_status, run_status};
 
@@ -24,7 +24,7 @@ pub fn script_fault<I: Recalls, E: Write>(fault: DebugFault, reader: &I, errors:
     status
 }
 
-/// The same of a run over so many sites.
+/// The same for a run over these sites.
 pub fn workload_fault<I: Recalls, E: Write>(
     fault: ReportFault,
     sites: Sites,

@@ -1,7 +1,7 @@
 use shm_journal::{OpeningFault, ProcessFault, RecoveryFault};
 use thiserror::Error;
 
-/// Why a site's process ended before its lines did.
+/// Why a site's process ended before its input did.
 #[derive(Clone, Copy, Debug, PartialEq, Eq, Error)]
 pub enum SiteFault {
     /// An allocation was refused before it began.
@@ -25,7 +25,7 @@ pub enum SiteFault {
     /// Another process has the journal.
     #[error("journal: another process has it")]
     Taken,
-    /// What is torn at the journal's end couldn't be cut off, or what stands before it not be made durable.
+    /// The torn end of the journal couldn't be cut off, or what stands before it not be made durable.
     #[error("journal: it can't be made durable")]
     Uncut,
     /// The folder of a new journal couldn't be made durable.
@@ -40,8 +40,8 @@ pub enum SiteFault {
     /// Memory, reading or writing failed while it ran. Where the journal failed, what wasn't durable was cut off it.
     #[error("{0}")]
     Ended(ProcessFault),
-    /// The journal failed, and then what isn't durable couldn't be cut off either: what stands behind so many bytes may be read, and be lost
-    /// later.
+    /// The journal failed, and then what isn't durable couldn't be cut off either. What stands behind this many bytes may be read, and be
+    /// lost later.
     #[error("journal: write fault: cut it to its first {0} bytes before the site starts again")]
     Loose(u64),
 }

@@ -1,7 +1,7 @@
 use shm_lines::RecallingReader;
 use std::io::{self, Read};
 
-/// A reader from which the lines can be had that it gave last, where wrong ones are to be shown.
+/// A reader that remembers the lines that it gave last, so that a wrong one can be shown.
 pub trait Recalls {
     /// The beginning of the line of this number, from 1; `None`: it isn't to be shown, is no longer kept, or wasn't read.
     fn recall(&self, number: u64) -> Option<&[u8]>;

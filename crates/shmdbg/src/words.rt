@@ -1,4 +1,4 @@
-//! The words of the command line of `shmdbg`: what they ask for, what is wrong with them, and what help tells.
+//! The command line of `shmdbg`: its tasks, its errors and its help.
 
 mod check_site;
 mod commands;

@@ -1,4 +1,4 @@
-//! Checks that `--me` is below `--sites`, and that a journal that is to be begun has a file.
+//! Checks that `--me` is below `--sites`, and that `--new` has a journal's file.
 ghost use Rattle.std.specs.Prelude.{◌≡◌, true, IfOk, OnOk};
 ghost use Rattle.clap.specs.Kinds.{FailsBy};
 ghost use Rattle.clap.specs.Words.{kind_of};
@@ -55,7 +55,7 @@ fn has_file(task: &Task<'_>) -> bool
     }
 }
 
-/// The error for a journal that is to be begun without a file.
+/// The error for `--new` without a journal's file.
 fn missing_file_error(alloc: Global) -> Result<Error, AllocError>
     ensures { IfOk result (λ error. kind_of error ≡ MissingRequiredArgument) }
 {

@@ -14,7 +14,7 @@ use clap::{ArgMatches, Error};
 use std::alloc::{AllocError, Global};
 use std::convert::AsStr;
 
-/// Reads the words, the first of which is the program's name. A request for help is an `Err` too, whose text is the help.
+/// Reads the words, the first of which is the program's name. A request for help is an `Err` too, and its text is the help.
 pub fn parse_words<'a, S: AsStr>(alloc: Global, words: &'a [S]) -> Result<Task<'a>, Error>
     ensures fault { FailsBy (fault_in (map S.text words.now)) result }
     ensures task { IfOk result (λ task. IsSomeAnd (subcommand_of app (map S.text words.now)) (λ named. IsAsked named.0 named.1 task)) }
@@ -39,8 +39,8 @@ pub fn parse_words<'a, S: AsStr>(alloc: Global, words: &'a [S]) -> Result<Task<'
     }
 }
 
-/// What the words behind a subcommand's name ask for. Words that were taken have all options that are required, in range; so nothing is
-/// given only where memory for it is refused.
+/// The task of the words behind a subcommand's name. Words that were taken have all options that are required, in range; so `None` means
+/// that memory for it is refused.
 fn task_of<'a>(alloc: Global, name: &str, found: &ArgMatches<'a>) -> Option<Task<'a>>
     ensures { IfSome result (IsAsked name.now (rows_of (found_of found.now))) }
 {

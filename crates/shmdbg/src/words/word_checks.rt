@@ -13,10 +13,10 @@ use clap::{ArgMatches, Error};
 use std::alloc::{AllocError, Global};
 use std::convert::AsStr;
 
-/// The most bytes that are told of a word.
+/// The most bytes of a word that an error shows.
 const MOST_BYTES: usize = 80;
 
-/// Checks that some word behind the program's name is longer than any that is told whole.
+/// Checks that some word behind the program's name is longer than errors show.
 pub fn has_long_word<S: AsStr>(words: &[S]) -> bool
     ensures { result ≡ spec.has_long_word (map S.text words.now) }
 {
