@@ -81,6 +81,7 @@ static bool serves(const struct program *program, uint64_t address, uint64_t len
 
 int program_new(int faults, uint64_t names, struct program **program) {
     int error = begin_faults(faults, FEATURES);
+    if (error != 0) close(faults);
     if (error != 0) return error;
     *program = new_program(faults, names);
     return serves(*program, names, PAGE, UFFDIO_REGISTER_MODE_MISSING) ? 0 : EINVAL;

@@ -259,6 +259,7 @@ static void take_ask(struct call *call, int handed) {
     const struct ipc_perm *owner = &ask->owner;
     uid_t uid = connection->peer.uid;
     gid_t gid = connection->peer.gid;
+    if (handed >= 0 && ask->kind != ASK_FAULTS) close(handed);
     switch (ask->kind) {
     case ASK_DEVICE: give_device(call); break;
     case ASK_FAULTS: finish(call, program_new(handed, ask->address, &connection->program), lock); break;
@@ -271,7 +272,6 @@ static void take_ask(struct call *call, int handed) {
     case ASK_REMOVE: make_call(call, answered, "remove %u %u %d", uid, gid, ask->id); break;
     default: finish(call, EINVAL, -1);
     }
-    if (handed >= 0 && ask->kind != ASK_FAULTS) close(handed);
 }
 
 static void end_connection(struct connection *connection) {
