@@ -91,15 +91,9 @@ fn a_block_waits_for_each_page_that_it_is_stored_to(rt: HostRuntime) -> Result<(
 fn a_block_that_is_refused_leaves_what_was_stored_before(rt: HostRuntime) -> Result<(), Fail> {
     let mut desks = new_desks(rt.alloc(), 1)?;
     let told = [
-        (
-            "ask 0 a write 0 16382 AQIDBA==\n",
-            "tell 0 a refused: no page\n",
-        ),
+        ("ask 0 a write 0 16382 AQIDBA==\n", "tell 0 a refused 11\n"),
         ("ask 0 b read 0 16381 3\n", "tell 0 b block AAEC\n"),
-        (
-            "ask 0 c write 1 0 AQ==\n",
-            "tell 0 c refused: no such attachment\n",
-        ),
+        ("ask 0 c write 1 0 AQ==\n", "tell 0 c refused 9\n"),
     ];
     assert_eq!(rt;
         first_untold(rt.alloc(), desks.as_mut_slice(), &told)?,
