@@ -122,12 +122,18 @@ fn is_refused(alloc: Global, nodes: &mut [Node]) -> Result<bool, AllocError> {
         return Ok(false);
     };
     let silent = is_silent(alloc, node, b"ask 0 b read 1 0 4")?;
-    Ok(silent && tells(&said_again(node.again()?), "b", Answer::Refused(9)))
+    let said = said_again(node.again()?);
+    let told = tells(&said, "b", Answer::Refused(9));
+    drop(said);
+    Ok(silent && told)
 }
 
 /// Whether the node says nothing of the line.
 fn is_silent(alloc: Global, node: &mut Node, line: &[u8]) -> Result<bool, AllocError> {
-    Ok(take_line(alloc, node, line)?.is_none())
+    let said = take_line(alloc, node, line)?;
+    let silent = said.is_none();
+    drop(said);
+    Ok(silent)
 }
 
 /// How many steps a node made, how many lines it took and passed over, and how many asks wait.

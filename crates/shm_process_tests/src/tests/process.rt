@@ -36,7 +36,8 @@ fn stores(alloc: Global, owner: &mut Node) -> Result<bool, AllocError> {
 fn asks(alloc: Global, reader: &mut Node) -> Result<bool, AllocError> {
     let fault = take_line(alloc, reader, b"ask 1 b load 0 5")?;
     let is_told_nobody = tells_nobody(&fault);
-    Ok(is_told_nobody && sent_line(alloc, fault)?.as_str() == "env 1 0 1 0 0 ask 0 0 1 read\n")
+    let sent = sent_line(alloc, fault)?;
+    Ok(is_told_nobody && sent.as_str() == "env 1 0 1 0 0 ask 0 0 1 read\n")
 }
 
 /// What the owner's manager tells the owner on that ask.
