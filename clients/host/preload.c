@@ -1,4 +1,4 @@
-/* The library that leddwyfan-run preloads: shmget, shmat, shmdt and shmctl over this machine's leddwyfan-host.
+/* The library that leddwyfan-run preloads: ftok, shmget, shmat, shmdt and shmctl over this machine's leddwyfan-host.
 
    A program keeps its userfaultfd and the daemon's lock open: when the daemon dies, a new fault waits, and nobody sees zeros. */
 #include "wire.h"
@@ -218,6 +218,16 @@ EXPORTED int shmctl(int id, int command, struct shmid_ds *buffer) {
     int result = connect_host() ? control(id, command & ~OF_64_BITS, buffer) : -1;
     pthread_mutex_unlock(&mutex);
     return result;
+}
+
+/* The C library makes a key of a file's inode, which no two machines have in common. Here it is of the file's whole name. */
+EXPORTED key_t ftok(const char *path, int project) {
+    char *name = realpath(path, NULL);
+    uint32_t hash = 2166136261;
+    if (name == NULL) return -1;
+    for (const char *letter = name; *letter != '\0'; letter++) hash = (hash ^ (uint8_t)*letter) * 16777619;
+    free(name);
+    return (key_t)((uint32_t)project << 24 | ((hash ^ hash >> 24) & 0xffffff));
 }
 
 /* ipcs reads this machine's own segments here, and asks shmctl where the file isn't there. */

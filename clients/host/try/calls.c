@@ -128,6 +128,8 @@ int main(int argc, char **argv) {
     int id = shmget(IPC_PRIVATE, 10000, 0600);
     EXPECT(id >= 0 && shmctl(id, IPC_STAT, &status) == 0 && status.shm_segsz == 10000 && status.shm_cpid == getpid());
     EXPECT(status.shm_perm.mode == 0600 && status.shm_perm.uid == geteuid() && status.shm_perm.cgid == getegid() && status.shm_nattch == 0);
+    EXPECT(ftok("/usr", 7) != -1 && ftok("/usr", 7) == ftok("/usr/../usr", 7) && ftok("/usr", 7) != ftok("/usr", 8) && ftok("/usr", 7) != ftok("/etc", 7));
+    EXPECT_ERROR(ENOENT, ftok("/nowhere", 7));
     EXPECT_ERROR(EINVAL, shmget(IPC_PRIVATE, (1 << 20) + 1, 0600));
     EXPECT_ERROR(EINVAL, shmget(IPC_PRIVATE, 0, 0600));
     EXPECT_ERROR(EFAULT, shmctl(id, IPC_STAT, NULL));
