@@ -86,7 +86,7 @@ fn a_block_waits_for_each_page_that_it_is_stored_to(rt: HostRuntime) -> Result<(
     Ok(())
 }
 
-/// The segment has four pages.
+/// The segment has four pages. The answers, which come back on the stream, are passed over.
 #[test]
 fn a_block_that_is_refused_leaves_what_was_stored_before(rt: HostRuntime) -> Result<(), Fail> {
     let mut desks = new_desks(rt.alloc(), 1)?;
@@ -99,7 +99,7 @@ fn a_block_that_is_refused_leaves_what_was_stored_before(rt: HostRuntime) -> Res
         first_untold(rt.alloc(), desks.as_mut_slice(), &told)?,
         None
     );
-    assert_eq!(rt; counts(desks.as_slice(), 0), Some((7, 3, 0, 0)));
+    assert_eq!(rt; counts(desks.as_slice(), 0), Some((7, 3, 3, 0)));
     Ok(())
 }
 
