@@ -6,9 +6,14 @@ _shmdbg() {
   [ "$word" != = ] || word=
   [ "$before" != = ] || before=${COMP_WORDS[COMP_CWORD - 2]}
   case $COMP_CWORD:${COMP_WORDS[1]} in
-    1:*) offered='replay run prompt draw site audit help -h --help -V --version' ;;
-    2:help) offered='replay run prompt draw site audit help' ;;
-    *:replay | *:prompt) offered='-h --help' ;;
+    1:*) offered='replay run prompt draw site audit journal help -h --help -V --version' ;;
+    2:help) offered='replay run prompt draw site audit journal help' ;;
+    *:replay)
+      mapfile -t COMPREPLY < <(compgen -W '-h --help' -- "$word"; compgen -f -- "$word")
+      compopt -o filenames 2> /dev/null
+      return
+      ;;
+    *:prompt) offered='-h --help' ;;
     *:run)
       case $before in
         --sites) offered='1 2 3 4 5 6 7 8 9 10 11 12 13 14 15 16' ;;
@@ -21,7 +26,12 @@ _shmdbg() {
         *) offered='--sites --seed --summary --log -h --help' ;;
       esac
       ;;
-    *:draw) [ "$before" = --page ] || offered='--page -h --help' ;;
+    *:draw)
+      [ "$before" != --page ] || return
+      mapfile -t COMPREPLY < <(compgen -W '--page -h --help' -- "$word"; compgen -f -- "$word")
+      compopt -o filenames 2> /dev/null
+      return
+      ;;
     *:site)
       case $before in
         --sites) offered='1 2 3 4 5 6 7 8 9 10 11 12 13 14 15 16' ;;
@@ -34,6 +44,11 @@ _shmdbg() {
           ;;
         *) offered='--sites --me --preset --journal --new -h --help' ;;
       esac
+      ;;
+    *:journal)
+      mapfile -t COMPREPLY < <(compgen -W '-h --help' -- "$word"; compgen -f -- "$word")
+      compopt -o filenames 2> /dev/null
+      return
       ;;
     *:audit)
       case $before in

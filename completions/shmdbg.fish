@@ -1,15 +1,17 @@
 # What fish offers behind the word shmdbg. To use it: put this file into ~/.config/fish/completions
 
 complete -c shmdbg -f
-complete -c shmdbg -n __fish_use_subcommand -a replay -d 'Replay the script on standard input'
+complete -c shmdbg -n __fish_use_subcommand -a replay -d 'Replay a script, of a file or of standard input'
 complete -c shmdbg -n __fish_use_subcommand -a run -d 'Run the workload on standard input on sites in threads, and audit it'
 complete -c shmdbg -n __fish_use_subcommand -a prompt -d 'Answer each line as it is typed'
-complete -c shmdbg -n __fish_use_subcommand -a draw -d 'Draw the run that the script on standard input leaves'
+complete -c shmdbg -n __fish_use_subcommand -a draw -d 'Draw the run that a script leaves, of a file or of standard input'
 complete -c shmdbg -n __fish_use_subcommand -a site -d 'Run one site of a cluster on the lines of standard input'
 complete -c shmdbg -n __fish_use_subcommand -a audit -d 'Audit the journals of all sites of a cluster'
+complete -c shmdbg -n __fish_use_subcommand -a journal -d "Tell what a site's journal has"
 complete -c shmdbg -n __fish_use_subcommand -a help -d 'Print help'
 complete -c shmdbg -n __fish_use_subcommand -s h -l help -d 'Print help'
 complete -c shmdbg -n __fish_use_subcommand -s V -l version -d 'Print the version'
+complete -c shmdbg -n '__fish_seen_subcommand_from replay' -F
 complete -c shmdbg -n '__fish_seen_subcommand_from replay' -s h -l help -d 'Print help'
 complete -c shmdbg -n '__fish_seen_subcommand_from run' -l sites -x -a '(seq 16)' -d 'How many sites, 1 to 16'
 complete -c shmdbg -n '__fish_seen_subcommand_from run' -l seed -x -d 'The seed of the losses and repeats'
@@ -17,6 +19,7 @@ complete -c shmdbg -n '__fish_seen_subcommand_from run' -l summary -d 'Add how m
 complete -c shmdbg -n '__fish_seen_subcommand_from run' -l log -r -a '(__fish_complete_directories)' -d "Leave each site's log in this folder, which exists"
 complete -c shmdbg -n '__fish_seen_subcommand_from run' -s h -l help -d 'Print help'
 complete -c shmdbg -n '__fish_seen_subcommand_from prompt' -s h -l help -d 'Print help'
+complete -c shmdbg -n '__fish_seen_subcommand_from draw' -F
 complete -c shmdbg -n '__fish_seen_subcommand_from draw' -l page -x -d 'The page to show, by its segment and its index'
 complete -c shmdbg -n '__fish_seen_subcommand_from draw' -s h -l help -d 'Print help'
 complete -c shmdbg -n '__fish_seen_subcommand_from site' -l sites -x -a '(seq 16)' -d 'How many sites, 1 to 16'
@@ -28,4 +31,6 @@ complete -c shmdbg -n '__fish_seen_subcommand_from site' -s h -l help -d 'Print 
 complete -c shmdbg -n '__fish_seen_subcommand_from audit' -F
 complete -c shmdbg -n '__fish_seen_subcommand_from audit' -l sites -x -a '(seq 16)' -d 'How many sites, 1 to 16'
 complete -c shmdbg -n '__fish_seen_subcommand_from audit' -s h -l help -d 'Print help'
-complete -c shmdbg -n '__fish_seen_subcommand_from help' -a 'replay run prompt draw site audit help'
+complete -c shmdbg -n '__fish_seen_subcommand_from journal' -F
+complete -c shmdbg -n '__fish_seen_subcommand_from journal' -s h -l help -d 'Print help'
+complete -c shmdbg -n '__fish_seen_subcommand_from help' -a 'replay run prompt draw site audit journal help'

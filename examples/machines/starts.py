@@ -26,6 +26,7 @@ BLANK = 'journal: nothing is begun in it: --new begins it'
 OTHER = 'journal: of another site, number of sites or opening'
 NO_FILE = 'journal: it is no plain file'
 FAILED = 'journal: write fault'
+AGAIN = 'journal: 0 steps taken again, clock 0, 0 torn bytes cut off'
 tried = [0]
 
 
@@ -122,7 +123,7 @@ def try_full(program, folder):
         resource.setrlimit(resource.RLIMIT_FSIZE, (30, 30))
     start('a full disk', words(program, journal, new=True), 3, FAILED, preexec_fn=limit)
     stays('a full disk', journal, HEADER)
-    start('a full disk, later', words(program, journal), 0, '', b'tell 0 b byte 0\n', given=b'ask 0 b load 0 5\n')
+    start('a full disk, later', words(program, journal), 0, AGAIN, b'tell 0 b byte 0\n', given=b'ask 0 b load 0 5\n')
 
 
 def try_streams(program, folder):
@@ -207,7 +208,7 @@ def try_calls(program, folder):
     loose = f'{FAILED}: cut it to its first {len(HEADER)} bytes before the site starts again'
     start('fdatasync and ftruncate fail', failing('fdatasync:error=EIO:when=2', 'ftruncate:error=EIO:when=2'), 3, loose)
     os.truncate(journal, len(HEADER))
-    start('after both', words(program, journal), 0, '', TOLD)
+    start('after both', words(program, journal), 0, AGAIN, TOLD)
     os.remove(journal)
     start('the first fdatasync fails', failing('fdatasync:error=EIO:when=1'), 3, FAILED)
     stays('the first fdatasync fails', journal, b'')

@@ -10,7 +10,7 @@ use Rattle.shmdbg.specs.Commands.{app}
 use Rattle.shmdbg.specs.Done.{has_audit}
 use Rattle.shmdbg.specs.Words.{among_fault, asked_for, fault_in, file_fault, has_file, has_plain_numbers, is_among, name_of, names_file, names_one, task_fault, AskFor, IsAsked, IsOneOfSites}
 use Rattle.shmdbg.specs.declared.words.task.Task.{Task}
-use Rattle.shmdbg.specs.declared.words.task.Task.TheVariants.{Audit, Draw, Prompt, Replay, Run, Site}
+use Rattle.shmdbg.specs.declared.words.task.Task.TheVariants.{Audit, Draw, Journal, Prompt, Replay, Run, Site}
 use Rattle.shmdbg.specs.Status.{Asks, AsksForAudit, Takes}
 use Rattle.shmdbg.proofs.Wrong.{plainly_spelled}
 
@@ -35,12 +35,13 @@ pub is_below : (sites me : ℕ) → nat_lt me sites ≡ true → me < sites
 is_below sites me among = grind (arith, nat_tests)
 
 one_of_sites : (name : Text) (rows : List Row) (task : Task) → is_among task ≡ true → IsAsked name rows task → IsOneOfSites task
-one_of_sites name rows Replay among asked = tt
+one_of_sites name rows (Replay file) among asked = tt
 one_of_sites name rows (Run sites seed summary log) among asked = tt
 one_of_sites name rows Prompt among asked = tt
-one_of_sites name rows (Draw page) among asked = tt
+one_of_sites name rows (Draw page file) among asked = tt
 one_of_sites name rows (Site sites me pages journal begins) among asked = (is_below sites me among, asked.options.3)
 one_of_sites name rows (Audit sites journals) among asked = tt
+one_of_sites name rows (Journal file) among asked = tt
 
 pub one_of_asked : (words : List Text) (task : Task) → is_among task ≡ true → AskFor words task → IsOneOfSites task
 one_of_asked words task among asked =
@@ -48,12 +49,13 @@ one_of_asked words task among asked =
     one_of_sites of.0.0 of.0.1 task among of.2
 
 one_named : (name : Text) (rows : List Row) (task : Task) → IsAsked name rows task → names_one (name, rows) ≡ is_among task
-one_named name rows Replay asked = rw asked.called refl
+one_named name rows (Replay file) asked = rw asked.called refl
 one_named name rows (Run sites seed summary log) asked = rw asked.called refl
 one_named name rows Prompt asked = rw asked.called refl
-one_named name rows (Draw page) asked = rw asked.called refl
+one_named name rows (Draw page file) asked = rw asked.called refl
 one_named name rows (Site sites me pages journal begins) asked = rw (asked.called, asked.options.0, asked.options.1) refl
 one_named name rows (Audit sites journals) asked = rw asked.called refl
+one_named name rows (Journal file) asked = rw asked.called refl
 
 -- the words name a site that is there where their task does
 pub among_asked : (words : List Text) (task : Task) → AskFor words task → option_map_or names_one (subcommand_of app words) true ≡ is_among task
@@ -62,13 +64,14 @@ among_asked words task asked =
     rw of.1 (one_named of.0.0 of.0.1 task of.2)
 
 file_named : (name : Text) (rows : List Row) (task : Task) → IsAsked name rows task → names_file (name, rows) ≡ has_file task
-file_named name rows Replay asked = rw asked.called refl
+file_named name rows (Replay file) asked = rw asked.called refl
 file_named name rows (Run sites seed summary log) asked = rw asked.called refl
 file_named name rows Prompt asked = rw asked.called refl
-file_named name rows (Draw page) asked = rw asked.called refl
+file_named name rows (Draw page file) asked = rw asked.called refl
 file_named name rows (Site sites me pages None begins) asked = rw (asked.called, asked.options.4, asked.options.5) refl
 file_named name rows (Site sites me pages (Some file) begins) asked = rw (asked.called, asked.options.4, asked.options.5) refl
 file_named name rows (Audit sites journals) asked = rw asked.called refl
+file_named name rows (Journal file) asked = rw asked.called refl
 
 -- the words name a file for the journal that is to be begun where their task does
 pub file_asked : (words : List Text) (task : Task) → AskFor words task → option_map_or names_file (subcommand_of app words) true ≡ has_file task
@@ -88,20 +91,22 @@ abbrev names_audit : Text → Bool
 names_audit name = bytes_eq name (codes "run") || bytes_eq name (codes "audit")
 
 by_name : (task : Task) → has_audit task ≡ names_audit (name_of task)
-by_name Replay = refl
+by_name (Replay file) = refl
 by_name (Run sites seed summary log) = refl
 by_name Prompt = refl
-by_name (Draw page) = refl
+by_name (Draw page file) = refl
 by_name (Site sites me pages journal begins) = refl
 by_name (Audit sites journals) = refl
+by_name (Journal file) = refl
 
 of_audit : (task : Task) → has_audit task ≡ true → (name_of task ≡ codes "run") ⊎ (name_of task ≡ codes "audit")
-of_audit Replay is = absurd (cc)
+of_audit (Replay file) is = absurd (cc)
 of_audit (Run sites seed summary log) is = inl refl
 of_audit Prompt is = absurd (cc)
-of_audit (Draw page) is = absurd (cc)
+of_audit (Draw page file) is = absurd (cc)
 of_audit (Site sites me pages journal begins) is = absurd (cc)
 of_audit (Audit sites journals) is = inr refl
+of_audit (Journal file) is = absurd (cc)
 
 -- words ask for an audit where their task has one
 pub audit_asked : (words : List Text) (task : Task) → Takes words → AskFor words task → has_audit task ≡ true → AsksForAudit words

@@ -5,3 +5,4 @@ mod Numbers
 mod Streaming
 mod NotAccepted
 mod Unbegun
+pub mod Untold

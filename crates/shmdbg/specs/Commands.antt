@@ -29,8 +29,12 @@ text_rule name = record (new_rule name) { long = Some name; action = Some Set; v
 abbrev pub log_rule : Rule
 log_rule = text_rule (codes "log")
 
+-- a text that stands by no option's name, or none
+abbrev pub file_rule : Rule
+file_rule = record (new_rule (codes "file")) { action = Some Set; value_names = 1 }
+
 abbrev pub replay_app : App
-replay_app = new_app (codes "replay")
+replay_app = with_rule (new_app (codes "replay")) file_rule
 
 abbrev pub run_app : App
 run_app = with_rule (with_rule (with_rule (with_rule (new_app (codes "run")) sites_rule) seed_rule) summary_rule) log_rule
@@ -42,7 +46,7 @@ abbrev pub page_rule : Rule
 page_rule = record (new_rule (codes "page")) { long = Some (codes "page"); action = Some Set; value_names = 2; parser = Some (Signed (pos 0) (pos 4294967295)) }
 
 abbrev pub draw_app : App
-draw_app = with_rule (new_app (codes "draw")) page_rule
+draw_app = with_rule (with_rule (new_app (codes "draw")) page_rule) file_rule
 
 abbrev pub me_rule : Rule
 me_rule = number_rule (codes "me") (Signed (pos 0) (pos 15))
@@ -71,6 +75,13 @@ journals_rule = record (new_rule (codes "journals")) {
 abbrev pub audit_app : App
 audit_app = with_rule (with_rule (new_app (codes "audit")) sites_rule) journals_rule
 
+-- one text that stands by no option's name
+abbrev pub journal_file_rule : Rule
+journal_file_rule = record (new_rule (codes "file")) { required = true; action = Some Set; value_names = 1 }
+
+abbrev pub journal_app : App
+journal_app = with_rule (new_app (codes "journal")) journal_file_rule
+
 -- a subcommand is required, and `--version` tells the version
 abbrev pub bare_app : App
 bare_app = record { top = record (new_app (codes "shmdbg")).top { subcommand_required = true; has_version = true }; subs = [] }
@@ -78,6 +89,7 @@ bare_app = record { top = record (new_app (codes "shmdbg")).top { subcommand_req
 -- the program with all its subcommands
 abbrev pub app : App
 app =
-    with_subcommand (with_subcommand (with_subcommand (with_subcommand (with_subcommand (with_subcommand bare_app replay_app.top)
+    with_subcommand (with_subcommand (with_subcommand (with_subcommand (with_subcommand (with_subcommand (with_subcommand bare_app replay_app.top)
     run_app.top) prompt_app.top) draw_app.top) site_app.top)
-    audit_app.top
+    audit_app.top)
+    journal_app.top

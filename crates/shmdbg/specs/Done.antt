@@ -1,15 +1,17 @@
 -- What is done of a task, by the exit status, with what is on the input and on the output.
-use Rattle.std.specs.Prelude.{◌≡◌, ◌≢◌, ◌⊎◌, ℕ, Bool, false, true, List, [], length, option_map, IfSome}
+use Rattle.std.specs.Prelude.{◌≡◌, ◌≢◌, ◌⊎◌, ℕ, Bool, false, true, List, [], length, None, Option, option_map, IfSome, Some}
 use Rattle.clap.specs.Words.{Text}
 use Rattle.shm_debug.specs.Script.{script_of}
 use Rattle.shm_journal.specs.Acts.{Around, Did}
+use Rattle.shm_place.specs.declared.page.PageId.{PageId}
 use Rattle.shmdbg.specs.Audited.{FailsAudit, TellsAudit}
 use Rattle.shmdbg.specs.Begun.{header_at}
 use Rattle.shmdbg.specs.Served.{IsSite}
-use Rattle.shmdbg.specs.Status.{Fails, Pictures, Replays, Reports}
+use Rattle.shmdbg.specs.Summarized.{Summarizes}
+use Rattle.shmdbg.specs.Status.{Fails, Pictures, PicturesFile, Replays, ReplaysFile, Reports}
 use Rattle.shmdbg.specs.Words.{AskFor}
 use Rattle.shmdbg.specs.declared.words.task.Task.{Task}
-use Rattle.shmdbg.specs.declared.words.task.Task.TheVariants.{Replay, Run, Prompt, Draw, Site, Audit}
+use Rattle.shmdbg.specs.declared.words.task.Task.TheVariants.{Replay, Run, Prompt, Draw, Site, Audit, Journal}
 
 -- A run of a workload failed; or the logs that were wanted couldn't be made ready, and nothing was done.
 abbrev pub IsUnrun : ℕ → Bool → ℕ → Around → Around → Type 0
@@ -27,14 +29,25 @@ pub record Audits (journals sites status : ℕ) (old new : Around) : Type 0 wher
   pub accepted : status ≡ 0 → TellsAudit sites old.contents new.contents
   pub failed : status ≢ 0 → FailsAudit journals sites status
 
+-- a script was replayed: that of a file, where one is named, and the input wasn't read; else the one on the input
+abbrev pub ReplaysFrom : {F : Type 0} → Option F → ℕ → Around → Around → Type 0
+ReplaysFrom None status old new = IfSome old.remaining (λ script. Replays (script_of script) status old.contents new.contents)
+ReplaysFrom (Some file) status old new = (new.remaining ≡ old.remaining) × ReplaysFile status old.contents new.contents
+
+-- so what it leaves was drawn
+abbrev pub PicturesFrom : {F : Type 0} → Option F → Option PageId → ℕ → Around → Around → Type 0
+PicturesFrom None page status old new = IfSome old.remaining (λ script. Pictures page (script_of script) status old.contents new.contents)
+PicturesFrom (Some file) page status old new = (new.remaining ≡ old.remaining) × PicturesFile page status old.contents new.contents
+
 -- this was done, to an end of this status
 abbrev pub Does : Task → ℕ → Around → Around → Type 0
-Does Replay status old new = IfSome old.remaining (λ script. Replays (script_of script) status old.contents new.contents)
+Does (Replay file) status old new = ReplaysFrom file status old new
 Does (Run sites seed summary log) status old new = Runs sites summary status old new
 Does Prompt status old new = (status ≡ 0) ⊎ (status ≡ 3)
-Does (Draw page) status old new = IfSome old.remaining (λ script. Pictures page (script_of script) status old.contents new.contents)
+Does (Draw page file) status old new = PicturesFrom file page status old new
 Does (Site sites me pages journal begins) status old new = IsSite (option_map (λ file. begins) journal) (header_at sites me pages) status old new
 Does (Audit sites journals) status old new = Audits (length journals.items) sites status old new
+Does (Journal file) status old new = Summarizes status old.contents new.contents
 
 -- an audit judges its end
 abbrev pub has_audit : Task → Bool

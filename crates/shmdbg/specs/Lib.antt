@@ -6,3 +6,5 @@ pub mod Status
 pub mod Done
 pub mod Commands
 pub mod Words
+pub mod Summarized
+pub mod TakenAgain

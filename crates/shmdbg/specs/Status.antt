@@ -2,7 +2,7 @@
 use Rattle.std.specs.Prelude.{◌≡◌, ◌≢◌, ◌⊎◌, ℕ, Bool, true, List, [], codes, IfSome, Option, Some, Result, Ok, Err}
 use Rattle.std.specs.Io.KnownBytes.{Appends}
 use Rattle.clap.specs.Words.{Text}
-use Rattle.shm_debug.specs.Script.{Script}
+use Rattle.shm_debug.specs.Script.{Script, script_of}
 use Rattle.shm_debug.specs.Replay.{Ends}
 use Rattle.shm_debug.specs.declared.outcome.Summary.{Summary}
 use Rattle.shm_draw.specs.Drawn.{Draws}
@@ -61,6 +61,10 @@ abbrev pub Replays : Script → ℕ → Option (List ℕ) → Option (List ℕ) 
 Replays script status old new =
     (end : Result Summary DebugFault) × (text : List ℕ) × (status ≡ status_of end) × Appends old new text × Ends script end text
 
+-- so a script that lies in a file; or there was none to be read, and nothing was written
+abbrev pub ReplaysFile : ℕ → Option (List ℕ) → Option (List ℕ) → Type 0
+ReplaysFile status old new = ((bytes : List ℕ) × Replays (script_of bytes) status old new) ⊎ ((status ≡ 3) × (new ≡ old))
+
 abbrev pub drawn_status : Result (Unit {0}) DebugFault → ℕ
 drawn_status (Ok _) = 0
 drawn_status (Err fault) = fault_status fault
@@ -69,6 +73,10 @@ drawn_status (Err fault) = fault_status fault
 abbrev pub Pictures : Option PageId → Script → ℕ → Option (List ℕ) → Option (List ℕ) → Type 0
 Pictures page script status old new =
     (end : Result (Unit {0}) DebugFault) × (text : List ℕ) × (status ≡ drawn_status end) × Appends old new text × Draws page script end text
+
+-- so a script that lies in a file; or there was none to be read, and nothing was written
+abbrev pub PicturesFile : Option PageId → ℕ → Option (List ℕ) → Option (List ℕ) → Type 0
+PicturesFile page status old new = ((bytes : List ℕ) × Pictures page (script_of bytes) status old new) ⊎ ((status ≡ 3) × (new ≡ old))
 
 -- a workload was run over so many sites, and what was then written is the report of it, with a summary or without
 abbrev pub Reports : ℕ → Bool → Option (List ℕ) → Option (List ℕ) → Option (List ℕ) → Type 0

@@ -13,7 +13,7 @@ use Rattle.shm_place.specs.Limits.{pages as most_pages}
 use Rattle.shm_place.specs.declared.page.PageId.{PageId}
 use Rattle.shmdbg.specs.Commands.{app}
 use Rattle.shmdbg.specs.declared.words.task.Task.{Task}
-use Rattle.shmdbg.specs.declared.words.task.Task.TheVariants.{Replay, Run, Prompt, Draw, Site, Audit}
+use Rattle.shmdbg.specs.declared.words.task.Task.TheVariants.{Replay, Run, Prompt, Draw, Site, Audit, Journal}
 
 -- the name of the subcommand that the words ask for, where the program takes them; the first word is the program's name
 abbrev pub asked_for : List Text → Option Text
@@ -21,12 +21,13 @@ asked_for words = option_map (λ named. named.0) (subcommand_of app words)
 
 -- the name of the subcommand that has this task
 abbrev pub name_of : Task → Text
-name_of Replay = codes "replay"
+name_of (Replay file) = codes "replay"
 name_of (Run sites seed summary log) = codes "run"
 name_of Prompt = codes "prompt"
-name_of (Draw page) = codes "draw"
+name_of (Draw page file) = codes "draw"
 name_of (Site sites me pages journal begins) = codes "site"
 name_of (Audit sites journals) = codes "audit"
+name_of (Journal file) = codes "journal"
 
 -- ---- what is given for an option
 
@@ -65,17 +66,18 @@ HasPages pages = (1 ≤ pages) × (pages ≤ most_pages)
 
 -- the task has what is written for its options
 abbrev pub HasOptions : List Row → Task → Type 0
-HasOptions rows Replay = Unit {0}
+HasOptions rows (Replay file) = first_of (codes "file") rows ≡ option_map (λ script. script.now) file
 HasOptions rows (Run sites seed summary log) =
     (number_at (codes "sites") rows ≡ Some sites) × (number_at (codes "seed") rows ≡ Some seed) × (is_set_at (codes "summary") rows ≡ summary)
     × (first_of (codes "log") rows ≡ option_map (λ folder. folder.now) log)
 HasOptions rows Prompt = Unit {0}
-HasOptions rows (Draw page) = page ≡ page_at rows
+HasOptions rows (Draw page file) = (page ≡ page_at rows) × (first_of (codes "file") rows ≡ option_map (λ script. script.now) file)
 HasOptions rows (Site sites me pages journal begins) =
     (number_at (codes "sites") rows ≡ Some sites) × (number_at (codes "me") rows ≡ Some me) × (number_at (codes "preset") rows ≡ Some pages)
     × HasPages pages × (first_of (codes "journal") rows ≡ option_map (λ file. file.now) journal) × (is_set_at (codes "new") rows ≡ begins)
 HasOptions rows (Audit sites journals) =
     (number_at (codes "sites") rows ≡ Some sites) × (all_of (codes "journals") rows ≡ Some (map (λ file. file.now) journals.items))
+HasOptions rows (Journal file) = first_of (codes "file") rows ≡ Some file.now
 
 -- a subcommand's name, and what stands behind it, ask for the task
 pub record IsAsked (name : Text) (rows : List Row) (task : Task) : Type 0 where

@@ -4,9 +4,11 @@ ghost use Rattle.shm_journal.specs.Found.{bytes_of_lines, lines_of};
 ghost use Rattle.shm_journal.specs.Recovers.{ReadsAll};
 ghost use Rattle.shmdbg.specs.Begun.{BeginsKept, ReadsUnbegun, header_at};
 ghost use Rattle.shmdbg.specs.Served.{IsUnbegun};
+ghost use Rattle.shmdbg.specs.TakenAgain.{IsTakenAgain};
 ghost use Rattle.shm_process.specs.DeskOf.{desk_of};
 
 use crate::site_fault::SiteFault;
+use crate::taken_again::TakenAgain;
 use shm_journal::{Header, Recovered, open_desk, recover};
 use shm_place::{PAGES, SiteId, Sites};
 use shm_process::Desk;
@@ -42,6 +44,8 @@ pub(crate) struct Begun {
     pub(crate) desk: Desk,
     /// How many bytes the journal has. They are durable.
     pub(crate) durable: u64,
+    /// What was taken again.
+    pub(crate) again: TakenAgain,
 }
 
 /// Looks at what has the journal's name: it has to be a plain file, or nothing where it is to be begun. A pipe or a device isn't even opened.
@@ -98,6 +102,7 @@ pub(crate) fn begin_kept<R: AllocGlobal + Files, F: Read + OpenFile>(
     ensures begun { IfOk result (λ begun. (journal : List ℕ) × IfSome (F.remaining file.old) (λ known. journal ≡ known)
         × (begun.durable ≡ bytes_of_lines (lines_of journal).whole)
         × BeginsKept kept.entry.begins (header_at sites me pages) journal (desk_of begun.desk)) }
+    ensures again { IfOk result (λ begun. IsTakenAgain (header_at sites me pages) (F.remaining file.old) begun.again) }
     ensures all { OnOk result (ReadsAll (F.remaining file.old) (F.remaining file.new)) }
     ensures left { IfErr result (ReadsUnbegun (header_at sites me pages) (F.remaining file.old) (F.remaining file.new)) }
     ensures unbegun { IfErr result IsUnbegun }
@@ -117,6 +122,11 @@ pub(crate) fn begin_kept<R: AllocGlobal + Files, F: Read + OpenFile>(
         }
         return Err(SiteFault::Blank);
     }
+    let again = TakenAgain {
+        steps: node.steps(),
+        clock: node.clock(),
+        torn: bytes_behind(file, whole),
+    };
     if cut(file, whole).is_err() {
         return Err(SiteFault::Uncut);
     }
@@ -132,6 +142,7 @@ pub(crate) fn begin_kept<R: AllocGlobal + Files, F: Read + OpenFile>(
         Ok(desk) => Ok(Begun {
             desk,
             durable: whole,
+            again,
         }),
         Err(fault) => Err(SiteFault::Unopenable(fault)),
     }
@@ -153,6 +164,14 @@ fn list_new<R: AllocGlobal + Files>(rt: &R, name: &str, is_new: bool) -> io::Res
     match file.parent() {
         Some(folder) => File::open(rt, folder)?.sync_all(),
         None => Ok(()),
+    }
+}
+
+/// How many bytes the file has behind so many; 0 where that can't be told.
+fn bytes_behind<F: OpenFile>(file: &F, bytes: u64) -> u64 {
+    match file.metadata() {
+        Ok(found) => found.len().saturating_sub(bytes),
+        Err(_) => 0,
     }
 }
 

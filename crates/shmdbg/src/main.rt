@@ -1,19 +1,23 @@
 //! `shmdbg`: the command line of the debugger: a script is replayed or drawn, what is typed is answered, a workload is run on sites in
-//! threads, a site is a process, journals are audited.
+//! threads, a site is a process, journals are audited, and told of.
 #![tactic(auto)]
 
 mod audit;
 mod disk;
 mod journal_files;
+mod journal_summary;
 mod kept_journal;
 mod log_files;
 mod program;
 mod run_report;
+mod script_file;
+mod script_file_fault;
 mod serve_site;
 mod show_fault;
 mod site_fault;
 mod source;
 mod standard_streams;
+mod taken_again;
 mod tell;
 #[cfg(test)]
 mod tests;

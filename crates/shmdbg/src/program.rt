@@ -2,16 +2,18 @@ ghost use Rattle.std.specs.Prelude.{◌≡◌, ◌≢◌, ◌≤◌, ◌<◌, �
 ghost use Rattle.shm_debug.specs.Script.{script_of};
 ghost use Rattle.shmdbg.specs.Around.{streams};
 ghost use Rattle.shmdbg.specs.Begun.{header_at};
-ghost use Rattle.shmdbg.specs.Done.{Does, IsDone, IsUnrun, has_audit};
+ghost use Rattle.shmdbg.specs.Done.{Does, IsDone, IsUnrun, PicturesFrom, ReplaysFrom, has_audit};
 ghost use Rattle.shmdbg.specs.Served.{site_status, IsSite};
-ghost use Rattle.shmdbg.specs.Status.{AsksForAudit, Pictures, Replays, Reports, Takes};
+ghost use Rattle.shmdbg.specs.Status.{AsksForAudit, Pictures, PicturesFile, Replays, ReplaysFile, Reports, Takes};
 ghost use Rattle.shmdbg.specs.Words.{IsOneOfSites};
 
 use crate::audit::audit;
 use crate::disk::Disk;
+use crate::journal_summary::tell_journal;
 use crate::kept_journal::{Kept, Lock};
 use crate::log_files::{Unlogged, open_logs};
 use crate::run_report::{Wanted, tell_run};
+use crate::script_file::{WholeScript, read_script_file};
 use crate::serve_site::{be_kept_site, be_site};
 use crate::show_fault::{script_fault, workload_fault};
 use crate::site_fault::SiteFault;
@@ -22,6 +24,7 @@ use shm_debug::replay;
 use shm_draw::draw;
 use shm_place::{PAGES, PageId, SiteId, Sites};
 use shm_prompt::prompt;
+use std::alloc::Global;
 use std::convert::AsStr;
 use std::io::{Read, Write};
 use std::rt::{Clock, Files};
@@ -29,8 +32,8 @@ use std::sync::Wait;
 use std::thread::Threads;
 
 /// Does what the words ask for, and answers the exit status: 0 done, 1 the script has a fault, 2 the words were refused,
-/// 3 memory, reading or writing failed, or a site's clock ended, or there was no thread, or another process has the journal, 4 a run gave
-/// up, or an audit found a cause. At 2 the parser's text goes to `errors`, at 1, 3 and 4 one line; below it stands a wrong line that the
+/// 3 memory, reading or writing failed, or a file couldn't be opened, or a site's clock ended, or there was no thread, or another process has
+/// the journal, 4 a run gave up, or an audit found a cause. At 2 the parser's text goes to `errors`, at 1, 3 and 4 one line; below it stands a wrong line that the
 /// reader recalls. A journal that isn't as it is asked for counts as a script with a fault: there is none, or it is begun already, or it is
 /// another's.
 pub fn run_words<
@@ -77,7 +80,7 @@ where
     ensures quiet { has_audit task.entry ≡ true → (result ≡ 1) ⊎ (result ≡ 4) → out.new ≡ out.old }
 {
     match task {
-        Task::Replay => replay_script(rt, reader, out, errors),
+        Task::Replay { file } => replay_from(rt, file, reader, out, errors),
         Task::Run {
             sites,
             seed,
@@ -88,7 +91,7 @@ where
             run(rt, sites, seed, &wanted, reader, out, errors)
         }
         Task::Prompt => talk(rt, reader, out, errors),
-        Task::Draw { page } => picture(rt, page, reader, out, errors),
+        Task::Draw { page, file } => picture_from(rt, page, file, reader, out, errors),
         Task::Site {
             sites,
             me,
@@ -97,10 +100,60 @@ where
             begins,
         } => site(rt, sites, me, pages, journal, begins, reader, out, errors),
         Task::Audit { sites, journals } => audit(rt, sites, journals.as_slice(), out, errors),
+        Task::Journal { file } => tell_journal(rt, file, out, errors),
     }
 }
 
-/// Replays a script, and answers the exit status.
+/// Replays the script of a file, if one is named, or else the one on the input, and answers the exit status.
+fn replay_from<R: AllocGlobal + Files, I: Read + Recalls, O: Write, E: Write>(
+    rt: &R,
+    file: Option<&str>,
+    reader: &mut I,
+    out: &mut O,
+    errors: &mut E,
+) -> u8
+    ensures range { result < 4 }
+    ensures taken { result ≢ 2 }
+    ensures replayed { ReplaysFrom file.entry result
+        (streams (I.remaining reader.old) (O.contents out.old)) (streams (I.remaining reader.new) (O.contents out.new)) }
+{
+    match file {
+        Some(name) => replay_file(rt, name, out, errors),
+        None => replay_script(rt, reader, out, errors),
+    }
+}
+
+/// Replays the script of the file of this name, and answers the exit status.
+fn replay_file<R: AllocGlobal + Files, O: Write, E: Write>(
+    rt: &R,
+    name: &str,
+    out: &mut O,
+    errors: &mut E,
+) -> u8
+    ensures range { result < 4 }
+    ensures taken { result ≢ 2 }
+    ensures replayed { ReplaysFile result (O.contents out.old) (O.contents out.new) }
+{
+    match read_script_file(rt, name) {
+        Ok(script) => replay_whole(rt.alloc(), script.as_slice(), out, errors),
+        Err(fault) => tell::script_file_fault(fault, name, errors),
+    }
+}
+
+/// Replays a script that was read whole, and answers the exit status.
+fn replay_whole<O: Write, E: Write>(alloc: Global, script: &[u8], out: &mut O, errors: &mut E) -> u8
+    ensures range { result < 4 }
+    ensures taken { result ≢ 2 }
+    ensures replayed { Replays (script_of script.now) result (O.contents out.old) (O.contents out.new) }
+{
+    let mut rest = script;
+    match replay(alloc, &mut rest, out) {
+        Ok(_) => 0,
+        Err(fault) => script_fault(fault, &WholeScript { bytes: script }, errors),
+    }
+}
+
+/// Replays the script on the input, and answers the exit status.
 fn replay_script<R: AllocGlobal, I: Read + Recalls, O: Write, E: Write>(
     rt: &R,
     reader: &mut I,
@@ -118,7 +171,64 @@ fn replay_script<R: AllocGlobal, I: Read + Recalls, O: Write, E: Write>(
     }
 }
 
-/// Draws what a script leaves, and answers the exit status.
+/// Draws what the script of a file leaves, if one is named, or else the one on the input, and answers the exit status.
+fn picture_from<R: AllocGlobal + Files, I: Read + Recalls, O: Write, E: Write>(
+    rt: &R,
+    page: Option<PageId>,
+    file: Option<&str>,
+    reader: &mut I,
+    out: &mut O,
+    errors: &mut E,
+) -> u8
+    ensures range { result < 4 }
+    ensures taken { result ≢ 2 }
+    ensures drawn { PicturesFrom file.entry page result
+        (streams (I.remaining reader.old) (O.contents out.old)) (streams (I.remaining reader.new) (O.contents out.new)) }
+{
+    match file {
+        Some(name) => picture_file(rt, page, name, out, errors),
+        None => picture(rt, page, reader, out, errors),
+    }
+}
+
+/// Draws what the script of the file of this name leaves, and answers the exit status.
+fn picture_file<R: AllocGlobal + Files, O: Write, E: Write>(
+    rt: &R,
+    page: Option<PageId>,
+    name: &str,
+    out: &mut O,
+    errors: &mut E,
+) -> u8
+    ensures range { result < 4 }
+    ensures taken { result ≢ 2 }
+    ensures drawn { PicturesFile page result (O.contents out.old) (O.contents out.new) }
+{
+    match read_script_file(rt, name) {
+        Ok(script) => picture_whole(rt.alloc(), page, script.as_slice(), out, errors),
+        Err(fault) => tell::script_file_fault(fault, name, errors),
+    }
+}
+
+/// Draws what a script leaves that was read whole, and answers the exit status.
+fn picture_whole<O: Write, E: Write>(
+    alloc: Global,
+    page: Option<PageId>,
+    script: &[u8],
+    out: &mut O,
+    errors: &mut E,
+) -> u8
+    ensures range { result < 4 }
+    ensures taken { result ≢ 2 }
+    ensures drawn { Pictures page (script_of script.now) result (O.contents out.old) (O.contents out.new) }
+{
+    let mut rest = script;
+    match draw(alloc, &mut rest, out, page) {
+        Ok(()) => 0,
+        Err(undrawn) => script_fault(undrawn, &WholeScript { bytes: script }, errors),
+    }
+}
+
+/// Draws what the script on the input leaves, and answers the exit status.
 fn picture<R: AllocGlobal, I: Read + Recalls, O: Write, E: Write>(
     rt: &R,
     page: Option<PageId>,
@@ -177,7 +287,7 @@ where
     match journal {
         Some(name) => {
             let kept = Kept { name, begins };
-            let ended = be_kept_site(rt, sites, me, pages, kept, reader, out);
+            let ended = be_kept_site(rt, sites, me, pages, kept, reader, out, errors);
             tell_end(ended, errors)
         }
         None => {

@@ -10,6 +10,7 @@ ghost use Rattle.shmdbg.specs.Served.{IsServed, ServesFrom};
 use crate::journal_files::{JournalFile, NoJournal};
 use crate::kept_journal::{Begun, Kept, Lock, begin_kept, open_journal};
 use crate::site_fault::SiteFault;
+use crate::tell;
 use shm_journal::{ProcessFault, serve};
 use shm_place::{PAGES, SiteId, Sites};
 use shm_process::{Desk, Node};
@@ -42,8 +43,9 @@ pub(crate) fn be_site<R: AllocGlobal, I: Read, O: Write>(
     }
 }
 
-/// Is this site until its lines end, and keeps what it does in this journal.
-pub(crate) fn be_kept_site<R: AllocGlobal + Files, I: Read, O: Write>(
+/// Is this site until its lines end, and keeps what it does in this journal. What it takes again of one that it goes on with is told on
+/// `errors`.
+pub(crate) fn be_kept_site<R: AllocGlobal + Files, I: Read, O: Write, E: Write>(
     rt: &R,
     sites: Sites,
     me: SiteId,
@@ -51,6 +53,7 @@ pub(crate) fn be_kept_site<R: AllocGlobal + Files, I: Read, O: Write>(
     kept: Kept<'_>,
     reader: &mut I,
     out: &mut O,
+    errors: &mut E,
 ) -> Result<(), SiteFault>
 where
     R::File: Lock,
@@ -66,7 +69,14 @@ where
     };
     match begin_kept(rt, sites, me, pages, kept, &mut file) {
         Ok(begun) => {
-            let Begun { desk, durable } = begun;
+            let Begun {
+                desk,
+                durable,
+                again,
+            } = begun;
+            if !kept.begins {
+                tell::taken_again(again, errors);
+            }
             serve_kept(desk, reader, out, JournalFile::new(file, durable))
         }
         Err(fault) => Err(fault),

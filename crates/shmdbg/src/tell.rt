@@ -8,8 +8,10 @@ ghost use Rattle.shmdbg.specs.Served.{site_status};
 ghost use Rattle.shmdbg.specs.Status.{fault_status, run_status};
 
 use crate::log_files::Unlogged;
+use crate::script_file_fault::ScriptFileFault;
 use crate::site_fault::SiteFault;
 use crate::standard_streams::Stream;
+use crate::taken_again::TakenAgain;
 use crate::unaudited::Unaudited;
 use clap::error::ErrorKind;
 use shm_audit::{JournalFault, JournalsFault};
@@ -30,6 +32,17 @@ pub fn fault<E: Write>(fault: DebugFault, errors: &mut E) -> u8
         DebugFault::BadLine(_) | DebugFault::LineTooLong(_) | DebugFault::TooManyLines => 1,
         DebugFault::OutOfMemory | DebugFault::ReadFault | DebugFault::WriteFault => 3,
     }
+}
+
+/// The exit status where the file of this name gives no script. Its one line goes to `errors`.
+pub fn script_file_fault<E: Write>(fault: ScriptFileFault, name: &str, errors: &mut E) -> u8
+    ensures { result ≡ 3 }
+{
+    let _ = match fault {
+        ScriptFileFault::OutOfMemory => writeln!(errors, "shmdbg: out of memory"),
+        _ => writeln!(errors, "shmdbg: {name}: {fault}"),
+    };
+    3
 }
 
 /// The exit status where a dialog ended by this fault. Its one line goes to `errors`.
@@ -69,6 +82,11 @@ pub fn site_fault<E: Write>(fault: SiteFault, errors: &mut E) -> u8
         SiteFault::Unrecovered(RecoveryFault::Foreign | RecoveryFault::BadLine(_)) => 1,
         _ => 3,
     }
+}
+
+/// Tells what a site took again of its journal. A failure to write it is passed over.
+pub fn taken_again<E: Write>(again: TakenAgain, errors: &mut E) {
+    let _ = writeln!(errors, "shmdbg: {again}");
 }
 
 /// The exit status where journals of these names weren't accepted. Its one line goes to `errors`: with the journal and the line, where there

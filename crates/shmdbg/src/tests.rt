@@ -5,8 +5,10 @@ mod logs;
 mod prompts;
 mod rows;
 mod runs;
+mod script_files;
 mod sites;
 mod streams;
+mod summaries;
 mod words;
 
 use crate::kept_journal::Lock;

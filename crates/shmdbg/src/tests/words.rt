@@ -15,8 +15,8 @@ fn refused_words(rt: HostRuntime) {
             b"error: unrecognized subcommand 'nonsense'\n",
         ),
         (
-            &["shmdbg", "replay", "script"],
-            b"error: unexpected argument 'script' found\n",
+            &["shmdbg", "replay", "my.shm", "more"],
+            b"error: unexpected argument 'more' found\n",
         ),
         (&["shmdbg", "help"], b"Shared memory segments"),
         (&["shmdbg", "--help"], b"Shared memory segments"),

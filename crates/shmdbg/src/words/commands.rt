@@ -16,12 +16,13 @@ pub(crate) fn command<'a>(alloc: Global) -> Result<Command<'a>, AllocError>
     ensures app { IfOk result (λ c. app_of c ≡ spec.app) }
 {
     bare_command(alloc)
-        .subcommand(replay_command(alloc))?
+        .subcommand(replay_command(alloc)?)?
         .subcommand(run_command(alloc)?)?
         .subcommand(prompt_command(alloc))?
         .subcommand(draw_command(alloc)?)?
         .subcommand(site_command(alloc)?)?
-        .subcommand(audit_command(alloc)?)
+        .subcommand(audit_command(alloc)?)?
+        .subcommand(journal_command(alloc)?)
 }
 
 /// The program without its subcommands.
@@ -35,13 +36,14 @@ fn bare_command<'a>(alloc: Global) -> Command<'a>
         .subcommand_required(true)
 }
 
-fn replay_command<'a>(alloc: Global) -> Command<'a>
-    ensures app { app_of result ≡ spec.replay_app }
-    ensures local { (out-Command result).has_globals ≡ false }
+fn replay_command<'a>(alloc: Global) -> Result<Command<'a>, AllocError>
+    ensures app { IfOk result (λ c. app_of c ≡ spec.replay_app) }
+    ensures local { IfOk result (λ c. (out-Command c).has_globals ≡ false) }
 {
     Command::new(alloc, "replay")
-        .about("Replay the script on standard input")
+        .about("Replay a script, of a file or of standard input")
         .after_help(help::REPLAY)
+        .arg(file_arg(alloc))
 }
 
 fn run_command<'a>(alloc: Global) -> Result<Command<'a>, AllocError>
@@ -71,9 +73,10 @@ fn draw_command<'a>(alloc: Global) -> Result<Command<'a>, AllocError>
     ensures local { IfOk result (λ c. (out-Command c).has_globals ≡ false) }
 {
     Command::new(alloc, "draw")
-        .about("Draw the run that the script on standard input leaves")
+        .about("Draw the run that a script leaves, of a file or of standard input")
         .after_help(help::DRAW)
-        .arg(page_arg(alloc))
+        .arg(page_arg(alloc))?
+        .arg(file_arg(alloc))
 }
 
 fn site_command<'a>(alloc: Global) -> Result<Command<'a>, AllocError>
@@ -99,6 +102,16 @@ fn audit_command<'a>(alloc: Global) -> Result<Command<'a>, AllocError>
         .after_help(help::AUDIT)
         .arg(sites_arg(alloc))?
         .arg(journals_arg(alloc))
+}
+
+fn journal_command<'a>(alloc: Global) -> Result<Command<'a>, AllocError>
+    ensures app { IfOk result (λ c. app_of c ≡ spec.journal_app) }
+    ensures local { IfOk result (λ c. (out-Command c).has_globals ≡ false) }
+{
+    Command::new(alloc, "journal")
+        .about("Tell what a site's journal has")
+        .after_help(help::JOURNAL)
+        .arg(journal_file_arg(alloc))
 }
 
 fn sites_arg<'a>(alloc: Global) -> Arg<'a>
@@ -165,6 +178,16 @@ fn page_arg<'a>(alloc: Global) -> Arg<'a>
         .value_parser(value_parser!(u32))
 }
 
+fn file_arg<'a>(alloc: Global) -> Arg<'a>
+    ensures rule { rule_of result ≡ spec.file_rule }
+    ensures local { result.global ≡ false }
+{
+    Arg::new(alloc, "file")
+        .value_name("FILE")
+        .help("The file of the script; without it standard input is read")
+        .action(ArgAction::Set)
+}
+
 fn summary_arg<'a>(alloc: Global) -> Arg<'a>
     ensures rule { rule_of result ≡ spec.summary_rule }
     ensures local { result.global ≡ false }
@@ -194,6 +217,17 @@ fn journal_arg<'a>(alloc: Global) -> Arg<'a>
         .long("journal")
         .value_name("FILE")
         .help("Keep the site's journal in this file, and go on from it")
+        .action(ArgAction::Set)
+}
+
+fn journal_file_arg<'a>(alloc: Global) -> Arg<'a>
+    ensures rule { rule_of result ≡ spec.journal_file_rule }
+    ensures local { result.global ≡ false }
+{
+    Arg::new(alloc, "file")
+        .value_name("FILE")
+        .help("The journal")
+        .required(true)
         .action(ArgAction::Set)
 }
 

@@ -6,7 +6,8 @@ pub const VERSION: &str = "1.0.0";
 /// Of the program: what goes in, what comes out, and the exit statuses.
 pub const PROGRAM: &str = "\
 A script says what each site does and which message arrives; `shmdbg replay`
-answers each line of it. Input comes from standard input; journals are files:
+answers each line of it. Input comes from standard input, or a script from a
+file (`shmdbg replay my.shm`); journals are files:
 
     $ printf 'sites 2 preset 1\\nload 1 0 0\\ndeliver 0\\n' | shmdbg replay
     1 ready
@@ -23,8 +24,8 @@ Exit status:
   2  these words were refused, or asked for help or the version; nothing was
      read
   3  memory, reading, writing or a thread failed, standard input or output was
-     closed, a journal can't be opened or another process has it, or a site's
-     clock ended
+     closed, a script's file or a journal can't be opened, another process has
+     the journal, or a site's clock ended
   4  a run gave up, or an audit found a cause";
 
 /// Of a replay: the lines of a script.
@@ -46,12 +47,13 @@ Then lines of these, for a site S, an attachment A, an envelope K, a segment ID:
   back N                             take off the last N events
 One blank between words, a line feed after each line, 200 bytes a line at most.
 Output: the line's number, the answer, each envelope sent as mK>SITE:KIND.
+A FILE is read whole before its first line is answered.
   $ printf 'sites 1 preset 1\\nstore 0 0 0 7\\nload 0 0 0\\n' | shmdbg replay
   1 ready
   2 stored
   3 byte 7
 Exit status: 0 done, 1 the script has a fault, 2 these words were refused,
-3 memory, reading or writing failed.";
+3 memory, reading or writing failed, or the file can't be opened.";
 
 /// Of a run: the lines of a workload.
 pub const RUN: &str = "\
@@ -144,6 +146,26 @@ and the line), or they aren't those of one set of sites, 2 these words were
 refused, 3 memory, reading or writing failed, or a file can't be opened, 4 the
 audit found a cause.";
 
+/// Of what a journal has.
+pub const JOURNAL: &str = "\
+Reads the journal of a site, whichever it is, and changes nothing. Standard input
+isn't read. A file whose name begins with a hyphen comes after --.
+Output: the site, of how many, and how many pages segment 0 has; how many steps
+are recorded, and the clock of the last; how many bytes the file has, and how
+many of them are torn: they stand behind the last whole line, as a crash may
+leave them, and the site's next start cuts them off.
+  $ shmdbg journal site-0.journal
+  site 0
+  sites 2
+  pages 1
+  steps 12
+  clock 17
+  bytes 5902
+  torn 0
+Exit status: 0 done, 1 the file is no journal (standard error tells the line), 2
+these words were refused, 3 memory, reading or writing failed, or the file can't
+be opened.";
+
 /// Of the prompt.
 pub const PROMPT: &str = "\
 Lines are those of a script, and
@@ -171,4 +193,5 @@ A picture is of one page, and has what is about this page, or about none. With
 below the other, in the order in which they are first touched.
   $ printf 'sites 2 preset 1\\nload 1 0 0\\ndeliver 0\\n' | shmdbg draw > run.svg
 Exit status: 0 done, 1 the script has a fault, and nothing is written, 2 these
-words were refused, 3 memory, reading or writing failed.";
+words were refused, 3 memory, reading or writing failed, or the file can't be
+opened.";

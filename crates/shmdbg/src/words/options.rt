@@ -46,16 +46,28 @@ fn number(found: &ArgMatches<'_>, option: &str) -> Option<u32>
     }
 }
 
+/// What is to be replayed.
+pub(crate) fn replay_task<'a>(found: &ArgMatches<'a>) -> Task<'a>
+    ensures { IsAsked (codes "replay") (rows_of (found_of found.now)) result }
+{
+    let file = found.get_str("file");
+    Task::Replay { file }
+}
+
 /// What is to be drawn.
 pub(crate) fn draw_task<'a>(found: &ArgMatches<'a>) -> Option<Task<'a>>
     ensures { IfSome result (λ task. IsAsked (codes "draw") (rows_of (found_of found.now)) task) }
 {
+    let file = found.get_str("file");
     match found.get_raw("page") {
         Some(values) => {
             let page = page_of(values)?;
-            Some(Task::Draw { page: Some(page) })
+            Some(Task::Draw {
+                page: Some(page),
+                file,
+            })
         }
-        None => Some(Task::Draw { page: None }),
+        None => Some(Task::Draw { page: None, file }),
     }
 }
 
@@ -87,6 +99,16 @@ pub(crate) fn audit_task<'a>(alloc: Global, found: &ArgMatches<'a>) -> Option<Ta
     let sites = Sites::new(number(found, "sites")?).ok()?;
     let journals = texts(alloc, found, "journals")?;
     Some(Task::Audit { sites, journals })
+}
+
+/// The file of a journal.
+pub(crate) fn journal_task<'a>(found: &ArgMatches<'a>) -> Option<Task<'a>>
+    ensures { IfSome result (λ task. IsAsked (codes "journal") (rows_of (found_of found.now)) task) }
+{
+    match found.get_str("file") {
+        Some(file) => Some(Task::Journal { file }),
+        None => None,
+    }
 }
 
 /// The texts that are written for an option, in their order; nothing where memory for the list is refused.

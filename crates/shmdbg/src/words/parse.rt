@@ -5,7 +5,9 @@ ghost use Rattle.shmdbg.specs.Words.{fault_in, is_among, IsAsked};
 
 use crate::words::check_site::look_for_site;
 use crate::words::commands::command;
-use crate::words::options::{audit_task, draw_task, run_task, site_task};
+use crate::words::options::{
+    audit_task, draw_task, journal_task, replay_task, run_task, site_task,
+};
 use crate::words::task::Task;
 use crate::words::word_checks::{has_plain_numbers, short_error, spelling_error};
 use clap::{ArgMatches, Error};
@@ -43,7 +45,7 @@ fn task_of<'a>(alloc: Global, name: &str, found: &ArgMatches<'a>) -> Option<Task
     ensures { IfSome result (IsAsked name.now (rows_of (found_of found.now))) }
 {
     if name == "replay" {
-        return Some(Task::Replay);
+        return Some(replay_task(found));
     }
     if name == "prompt" {
         return Some(Task::Prompt);
@@ -59,6 +61,9 @@ fn task_of<'a>(alloc: Global, name: &str, found: &ArgMatches<'a>) -> Option<Task
     }
     if name == "audit" {
         return audit_task(alloc, found);
+    }
+    if name == "journal" {
+        return journal_task(found);
     }
     None
 }

@@ -3,8 +3,10 @@ use shm_place::{PageId, SiteId, Sites};
 /// What the words behind the program's name ask for.
 #[derive(Debug, PartialEq, Eq, Drop)]
 pub enum Task<'a> {
-    /// Replay the script on standard input.
-    Replay,
+    /// Replay the script that lies in a file, or else the one on standard input.
+    Replay {
+        file: Option<&'a str>,
+    },
     /// Run the workload on standard input on so many sites in threads, with losses and repeats drawn from the seed. Add a summary, or not.
     /// Save the logs in a folder, if one is named.
     Run {
@@ -15,9 +17,11 @@ pub enum Task<'a> {
     },
     /// Answer what is typed, line by line.
     Prompt,
-    /// Draw the run that the script on standard input leaves: what the sites have of this page, or of the first of segment 0.
+    /// Draw the run that a script leaves, which lies in a file, or else stands on standard input: what is about this page, or each page that
+    /// it touches.
     Draw {
         page: Option<PageId>,
+        file: Option<&'a str>,
     },
     /// Run this site of so many, where segment 0 has so many pages, on the lines of standard input. Keep its journal in a file, if one is
     /// named, which it begins or goes on with.
@@ -32,5 +36,9 @@ pub enum Task<'a> {
     Audit {
         sites: Sites,
         journals: Vec<&'a str>,
+    },
+    /// Tell what the journal in this file has.
+    Journal {
+        file: &'a str,
     },
 }

@@ -28,3 +28,17 @@ returns-in-Ok-open_desk-clause-begun g c =
       found.2.1,
       record { asked = asked; node = node_of c.in-Ok.found.node; sound = found.2.0; begun = begun ∙ ap begin asked },
     )
+
+pub returns-in-Ok-open_desk-clause-again : goal.returns-in-Ok-open_desk-clause-again
+returns-in-Ok-open_desk-clause-again g c =
+    let found = c.in-Ok.ensures.found in
+    let sites = c.count.ensures.value in
+    let me = c.me.view_is in
+    record {
+      journal = found.0;
+      known = found.1;
+      node = node_of c.in-Ok.found.node;
+      sound = found.2.0;
+      steps = c.steps.ensures;
+      clock = c.clock.ensures;
+    }
