@@ -59,7 +59,7 @@ fn new_desk<A: Allocator + Copy>(
     Ok(desk)
 }
 
-/// The restart is recorded, and told.
+/// Records the restart, and gathers what it sends.
 fn restarted_desk<A: Allocator + Copy>(alloc: A, node: Node<A>) -> Result<Desk<A>, AllocError>
     requires { (node_of node).clock < greatest }
     ensures { IfOk result (λ desk. desk_of desk ≡ restarted (desk_at (node_of node))) }

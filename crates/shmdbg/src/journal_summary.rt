@@ -1,4 +1,4 @@
-//! What a journal has that lies in a file.
+//! The summary of a journal in a file.
 ghost use Rattle.std.specs.Prelude.{◌≡◌, ◌≢◌, ◌<◌, ◌⊎◌, ℕ, List, IfErr, IfOk, OnOk};
 ghost use Rattle.std.specs.Io.KnownBytes.{Appends};
 ghost use Rattle.shm_journal.specs.Summed.{IsSummary, summary_text};
@@ -49,7 +49,7 @@ fn tell_summary<R: AllocGlobal + Files, O: Write>(
     }
 }
 
-/// What the journal of this name has.
+/// The summary of the journal of this name.
 fn read_file<R: AllocGlobal + Files>(rt: &R, name: &str) -> Result<Summary, Unaudited>
     ensures ok { IfOk result (λ summary. (file : List ℕ) × IsSummary file summary) }
     ensures err { IfErr result IsUntold }

@@ -33,7 +33,7 @@ impl Lock for File {
 pub(crate) struct Kept<'a> {
     /// Its file.
     pub(crate) name: &'a str,
-    /// Whether it is to be begun, or to be gone on with.
+    /// Whether the site begins the journal, or goes on with it.
     pub(crate) begins: bool,
 }
 
@@ -44,11 +44,12 @@ pub(crate) struct Begun {
     pub(crate) desk: Desk,
     /// How many bytes the journal has. They are durable.
     pub(crate) durable: u64,
-    /// What was taken again.
+    /// The count of what the site took again.
     pub(crate) again: TakenAgain,
 }
 
-/// Looks at what has the journal's name: it has to be a plain file, or nothing where it is to be begun. A pipe or a device isn't even opened.
+/// Looks at the journal's name: it has to name a plain file or, if the journal is to be begun, may name nothing. A pipe or a device isn't
+/// even opened.
 fn look_at<R: Files>(rt: &R, kept: Kept<'_>) -> Result<(), SiteFault>
     ensures { IfErr result IsUnbegun }
 {
@@ -61,7 +62,7 @@ fn look_at<R: Files>(rt: &R, kept: Kept<'_>) -> Result<(), SiteFault>
     }
 }
 
-/// Opens the journal's file, and makes it where it is to be begun and isn't there.
+/// Opens the journal's file. Makes it, if the journal is to be begun and there is none.
 pub(crate) fn open_journal<R: Files>(rt: &R, kept: Kept<'_>) -> Result<R::File, SiteFault>
 where
     R::File: Lock,
@@ -86,8 +87,8 @@ where
     }
 }
 
-/// A site that begins with what it finds in its journal. There is no whole line exactly where the journal is to be begun. What is torn is cut
-/// off, and that is made durable; of a new journal also that there is a file of its name.
+/// Begins a site with what it finds in its journal. There has to be no whole line exactly where the journal is to be begun. Cuts off what
+/// is torn, and makes that durable; for a new journal it makes the file's name durable too.
 pub(crate) fn begin_kept<R: AllocGlobal + Files, F: Read + OpenFile>(
     rt: &R,
     sites: Sites,
@@ -148,7 +149,7 @@ pub(crate) fn begin_kept<R: AllocGlobal + Files, F: Read + OpenFile>(
     }
 }
 
-/// Tests that a journal is new where it is to be begun, and only there.
+/// Checks that a journal is new exactly where it is to be begun.
 fn is_as_asked(begins: bool, is_new: bool) -> bool
     ensures { result ≡ (if begins then is_new else not is_new) }
 {
@@ -167,7 +168,7 @@ fn list_new<R: AllocGlobal + Files>(rt: &R, name: &str, is_new: bool) -> io::Res
     }
 }
 
-/// How many bytes the file has behind so many; 0 where that can't be told.
+/// The number of bytes behind this many; 0 where the file doesn't tell its length.
 fn bytes_behind<F: OpenFile>(file: &F, bytes: u64) -> u64 {
     match file.metadata() {
         Ok(found) => found.len().saturating_sub(bytes),
@@ -175,7 +176,7 @@ fn bytes_behind<F: OpenFile>(file: &F, bytes: u64) -> u64 {
     }
 }
 
-/// Cuts the file to so many bytes, and makes that durable.
+/// Cuts the file to this many bytes, and makes that durable.
 pub(crate) fn cut<F: OpenFile>(file: &F, bytes: u64) -> io::Result<()> {
     file.set_len(bytes)?;
     file.sync_all()

@@ -1,5 +1,5 @@
-//! `shmdbg`: the command line of the debugger: a script is replayed or drawn, what is typed is answered, a workload is run on sites in
-//! threads, a site is a process, journals are audited, and told of.
+//! `shmdbg`, the command line: it replays and draws scripts, answers at the prompt, runs a workload on sites in threads, runs a site as a
+//! process, audits journals, and summarises one.
 #![tactic(auto)]
 
 mod audit;

@@ -31,11 +31,11 @@ use std::rt::{Clock, Files};
 use std::sync::Wait;
 use std::thread::Threads;
 
-/// Does what the words ask for, and answers the exit status: 0 done, 1 the script has a fault, 2 the words were refused,
-/// 3 memory, reading or writing failed, or a file couldn't be opened, or a site's clock ended, or there was no thread, or another process has
-/// the journal, 4 a run gave up, or an audit found a cause. At 2 the parser's text goes to `errors`, at 1, 3 and 4 one line; below it stands a wrong line that the
-/// reader recalls. A journal that isn't as it is asked for counts as a script with a fault: there is none, or it is begun already, or it is
-/// another's.
+/// Does what the words ask for, and answers the exit status: 0 done; 1 the script has a fault; 2 the words were refused; 3 memory, reading
+/// or writing failed, or a file couldn't be opened, or a site's clock ended, or there was no thread, or another process has the journal; 4
+/// a run gave up, or an audit found a cause. At 2 the parser's text goes to `errors`; at 1, 3 and 4 one line does, and below it a wrong
+/// line that the reader recalls. A journal that isn't as the words say counts as a script with a fault: there is none, or it is begun
+/// already, or it is another's.
 pub fn run_words<
     R: AllocGlobal + Clock + Files + Threads + Wait + Copy + Send + Sync + 'static,
     S: AsStr,
@@ -262,7 +262,7 @@ fn talk<R: AllocGlobal + Files, I: Read, O: Write, E: Write>(
     }
 }
 
-/// Is a site as a process until its lines end, and answers the exit status.
+/// Runs a site as a process until its input ends, and answers the exit status.
 fn site<R: AllocGlobal + Files, I: Read, O: Write, E: Write>(
     rt: &R,
     sites: Sites,
@@ -297,7 +297,7 @@ where
     }
 }
 
-/// The exit status of a site's process that ended so; a fault is told.
+/// The exit status of a site's process that ended so. Writes a fault to `errors`.
 fn tell_end<E: Write>(ended: Result<(), SiteFault>, errors: &mut E) -> u8
     ensures { result ≡ site_status ended }
 {

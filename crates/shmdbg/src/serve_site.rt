@@ -19,7 +19,7 @@ use std::fs::OpenFile;
 use std::io::{Read, Write};
 use std::rt::Files;
 
-/// Is this site until its lines end. Without a journal what it holds ends with it.
+/// Runs this site until its input ends. Without a journal, all that the site holds ends with it.
 pub(crate) fn be_site<R: AllocGlobal, I: Read, O: Write>(
     rt: &R,
     sites: Sites,
@@ -43,8 +43,8 @@ pub(crate) fn be_site<R: AllocGlobal, I: Read, O: Write>(
     }
 }
 
-/// Is this site until its lines end, and keeps what it does in this journal. What it takes again of one that it goes on with is told on
-/// `errors`.
+/// Runs this site until its input ends, and keeps its steps in this journal. Writes to `errors` what it takes again of a journal that it
+/// goes on with.
 pub(crate) fn be_kept_site<R: AllocGlobal + Files, I: Read, O: Write, E: Write>(
     rt: &R,
     sites: Sites,

@@ -1,6 +1,6 @@
 use std::fmt;
 
-/// What a site took again of its journal at its start.
+/// The steps that a site took again of its journal at its start.
 #[derive(Clone, Copy, Debug, PartialEq, Eq)]
 pub struct TakenAgain {
     /// How many steps.

@@ -46,7 +46,7 @@ fn number(found: &ArgMatches<'_>, option: &str) -> Option<u32>
     }
 }
 
-/// What is to be replayed.
+/// The task of `replay`.
 pub(crate) fn replay_task<'a>(found: &ArgMatches<'a>) -> Task<'a>
     ensures { IsAsked (codes "replay") (rows_of (found_of found.now)) result }
 {
@@ -54,7 +54,7 @@ pub(crate) fn replay_task<'a>(found: &ArgMatches<'a>) -> Task<'a>
     Task::Replay { file }
 }
 
-/// What is to be drawn.
+/// The task of `draw`.
 pub(crate) fn draw_task<'a>(found: &ArgMatches<'a>) -> Option<Task<'a>>
     ensures { IfSome result (λ task. IsAsked (codes "draw") (rows_of (found_of found.now)) task) }
 {

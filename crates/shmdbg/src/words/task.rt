@@ -1,14 +1,14 @@
 use shm_place::{PageId, SiteId, Sites};
 
-/// What the words behind the program's name ask for.
+/// The task that the words behind the program's name ask for.
 #[derive(Debug, PartialEq, Eq, Drop)]
 pub enum Task<'a> {
     /// Replay the script that lies in a file, or else the one on standard input.
     Replay {
         file: Option<&'a str>,
     },
-    /// Run the workload on standard input on so many sites in threads, with losses and repeats drawn from the seed. Add a summary, or not.
-    /// Save the logs in a folder, if one is named.
+    /// Run the workload on standard input on this many sites in threads, with losses and repeats drawn from the seed. Add a summary, or
+    /// not. Save the logs in a folder, if one is named.
     Run {
         sites: Sites,
         seed: u32,
@@ -23,8 +23,8 @@ pub enum Task<'a> {
         page: Option<PageId>,
         file: Option<&'a str>,
     },
-    /// Run this site of so many, where segment 0 has so many pages, on the lines of standard input. Keep its journal in a file, if one is
-    /// named, which it begins or goes on with.
+    /// Run this site of `sites`, where segment 0 has this number of pages, on the lines of standard input. Keep its journal in a file, if
+    /// one is named, which it begins or goes on with.
     Site {
         sites: Sites,
         me: SiteId,
@@ -32,7 +32,7 @@ pub enum Task<'a> {
         journal: Option<&'a str>,
         begins: bool,
     },
-    /// Audit the journals of so many sites, which are in these files.
+    /// Audit the journals of this many sites, which are in these files.
     Audit {
         sites: Sites,
         journals: Vec<&'a str>,
