@@ -130,6 +130,7 @@ void pass_line(const char *line);
 void ask_page(struct page *page, enum asked asked);
 void ask_right(const struct page *page);
 void store_run(const struct page *page, size_t start, size_t end);
+bool decode(const char *text, uint8_t bytes[PAGE]); /* of a page in base64: false where it isn't one */
 typedef void call_done(struct call *call, int error, const char *reply);
 __attribute__((format(printf, 3, 4))) void make_call(struct call *call, call_done *done, const char *format, ...);
 

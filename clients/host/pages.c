@@ -12,7 +12,7 @@
 #include <linux/futex.h>
 #include <sys/syscall.h>
 
-enum { WOKEN_AT_ONCE = 512, RUNS_PARTED = 0 }; /* bytes: of futexes; that stand between two runs at least */
+enum { WOKEN_AT_ONCE = 512, PARTED = 3 }; /* bytes: of futexes; more than that part two runs */
 
 /* Nanoseconds: until sleepers are woken though there is other work; for which a page stays at most, and until it is looked at again. */
 static const int64_t PATIENCE = 2000000, LONGEST_STAY = 20000000, LOOK_AGAIN = 50000;
@@ -32,15 +32,15 @@ static void set_busy(struct page *page) {
 
 /* Taking away. */
 
-/* Stores at the site what changed: runs of bytes, between which all is the site's already. */
+/* Stores what changed at the site: runs of bytes. Those that few bytes part are one, as what is between them is the site's own. */
 static void write_back(struct page *page) {
     const uint8_t *bytes = bytes_of(page);
     size_t start = 0, end = 0;
     if (memcmp(bytes, page->twin, PAGE) == 0) return;
     for (size_t place = 0; place < PAGE; place++) {
         if (bytes[place] == page->twin[place]) continue;
-        if (place > end + RUNS_PARTED) {
-            store_run(page, start, end);
+        if (start == end || place > end + PARTED) {
+            if (start < end) store_run(page, start, end);
             start = place;
         }
         end = place + 1;
@@ -130,21 +130,6 @@ static void open_for_all(struct page *page) {
     }
     if (wanted > page->wanted) page->requested = false;
     page->wanted = wanted;
-}
-
-/* The bytes of a page in base64. False where they aren't. */
-static bool decode(const char *text, uint8_t bytes[PAGE]) {
-    static const char letters[] = "ABCDEFGHIJKLMNOPQRSTUVWXYZabcdefghijklmnopqrstuvwxyz0123456789+/";
-    static uint8_t values[256];
-    for (uint8_t value = 0; values['/'] == 0 && value < 64; value++) values[(uint8_t)letters[value]] = value;
-    size_t length = 0;
-    if (strlen(text) < (PAGE + 2) / 3 * 4) return false;
-    for (; length < PAGE; text += 4) {
-        uint32_t bits = 0;
-        for (int letter = 0; letter < 4; letter++) bits = bits << 6 | values[(uint8_t)text[letter]];
-        for (int shift = 16; shift >= 0 && length < PAGE; shift -= 8) bytes[length++] = (uint8_t)(bits >> shift);
-    }
-    return true;
 }
 
 static enum right right_in(const char *state, const struct page *page) {

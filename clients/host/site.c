@@ -1,7 +1,7 @@
 /* The site's process: what it is asked, and what it tells (docs/lines.md). All that asks it stands here.
 
    It has no ask yet that maps a page, so a page is mapped by four: `show` tells whether the right is here; where it isn't, a `try-load` or
-   `try-store`, which then can't be made, asks for it; `read` gives bytes that no envelope brought; and a changed byte is a `try-store`.
+   `try-store`, which then can't be made, asks for it; `read` gives bytes that no envelope brought; and `write` stores those that changed.
 
    A site that is killed is started again from its journal. What it was told and hadn't made durable is said again: calls, where that does no
    harm, and the stores that had no answer, before any envelope may pass. */
@@ -11,7 +11,7 @@
 #include <stdarg.h>
 #include <sys/wait.h>
 
-enum { LINE = 200, NO_ATTACHMENT = 64 };
+enum { LINE = 5700, NO_ATTACHMENT = 64 };
 
 static struct channel to_site = {.descriptor = -1}, from_site = {.descriptor = -1};
 static struct channel stores; /* the lines of those whose answers aren't here: so many, from `answered` on */
@@ -20,6 +20,8 @@ static pid_t process;
 static struct call *calls;
 static uint64_t calls_made, asks;
 static bool ticking; /* a tick has no answer yet */
+
+static const char letters[] = "ABCDEFGHIJKLMNOPQRSTUVWXYZabcdefghijklmnopqrstuvwxyz0123456789+/";
 
 /* Says an ask, and gives its line. */
 __attribute__((format(printf, 1, 2))) static const char *say(const char *format, ...) {
@@ -61,13 +63,36 @@ static void page_answered(const char *tag, const char *text) {
     if (page != NULL) page_told(page, ask, text);
 }
 
+/* Bytes in base64. */
+
+static void encode(const uint8_t *bytes, size_t count, char *text) {
+    for (size_t place = 0; place < count; place += 3) {
+        uint32_t bits = 0;
+        for (size_t byte = place; byte < place + 3; byte++) bits = bits << 8 | (byte < count ? bytes[byte] : 0);
+        for (size_t letter = 0; letter < 4; letter++) *text++ = place + letter > count ? '=' : letters[bits >> (18 - 6 * letter) & 63];
+    }
+    *text = '\0';
+}
+
+bool decode(const char *text, uint8_t bytes[PAGE]) {
+    static uint8_t values[256];
+    for (uint8_t value = 0; values['/'] == 0 && value < 64; value++) values[(uint8_t)letters[value]] = value;
+    if (strlen(text) < (PAGE + 2) / 3 * 4) return false;
+    for (size_t length = 0; length < PAGE; text += 4) {
+        uint32_t bits = 0;
+        for (int letter = 0; letter < 4; letter++) bits = bits << 6 | values[(uint8_t)text[letter]];
+        for (int shift = 16; shift >= 0 && length < PAGE; shift -= 8) bytes[length++] = (uint8_t)(bits >> shift);
+    }
+    return true;
+}
+
 /* Stores. */
 
 void store_run(const struct page *page, size_t start, size_t end) {
-    for (size_t place = start; place < end; place++) {
-        push_line(&stores, say("s try-store %d %zu %d", page->segment->writing, page->offset + place, page->segment->bytes[page->offset + place]));
-        unanswered++;
-    }
+    char text[(PAGE + 2) / 3 * 4 + 1];
+    encode(page->segment->bytes + page->offset + start, end - start, text);
+    push_line(&stores, say("s write %d %zu %s", page->segment->writing, page->offset + start, text));
+    unanswered++;
 }
 
 static char *line_behind(char *line) {
@@ -75,7 +100,7 @@ static char *line_behind(char *line) {
 }
 
 static void store_answered(const char *text) {
-    if (strcmp(text, "stored") != 0 && said_again == 0) complain("a byte wasn't stored: %s", text);
+    if (strcmp(text, "stored") != 0 && said_again == 0) complain("bytes weren't stored: %s", text);
     if (said_again > 0) said_again--;
     if (unanswered == 0) return;
     answered = (size_t)(line_behind(stores.bytes + answered) - stores.bytes);
