@@ -7,6 +7,7 @@ use Rattle.shm_lines.specs.declared.line.Line.TheVariants as line
 use Rattle.shm_text.specs.Text.{line_text}
 use Rattle.shm_debug.specs.Said.{next, said}
 use Rattle.shm_debug.specs.Standing.{Standing, with_event, world_of}
+use Rattle.shm_prompt.specs.Command.{command_of, is_quit}
 use Rattle.shm_prompt.specs.declared.command.Command.{Command}
 use Rattle.shm_prompt.specs.declared.command.Command.TheVariants as command
 use Rattle.shm_prompt.specs.declared.help.TheConstants.{HELP}
@@ -134,3 +135,14 @@ HaltedCommand old _ new = new ≡ old
 abbrev pub HaltedTyped : Option Standing → Option Command → Option Standing → Type 0
 HaltedTyped old None new = new ≡ old
 HaltedTyped old (Some command) new = HaltedCommand old command new
+
+-- ---- a line that ends
+
+-- what is told of a line that is too long
+abbrev pub too_long : List ℕ
+too_long = codes "a line has at most 200 bytes\n"
+
+-- it is done once, and whole, and says whether the session ends; one that is too long isn't done
+abbrev pub LineEnds : Bool → Option Standing → List ℕ → Option Standing → Bool → List ℕ → List ℕ → Type 0
+LineEnds true old line new quits text text' = (new ≡ old) × (text' ≡ text ++ too_long)
+LineEnds false old line new quits text text' = ObeyedTyped old (command_of line) new text text' × (quits ≡ is_quit (command_of line))

@@ -1,7 +1,8 @@
 //! What each command does to the session, and its answer.
-ghost use Rattle.std.specs.Prelude.{◌≡◌, ◌++◌, Some, false, IfOk, OnErr, OnOk};
+ghost use Rattle.std.specs.Prelude.{◌≡◌, ◌++◌, Some, codes, false, true, IfOk, IfSome, OnErr, OnOk};
 ghost use Rattle.shm_prompt.specs.Command.{IsCommand, command_of, is_quit, is_save};
 ghost use Rattle.shm_prompt.specs.Dialog.{HaltedCommand, HaltedRun, HaltedTyped, Obeyed, ObeyedTyped, Ran, Runs, SomeDelivered, TellsMore, TellsOfStanding, run_end};
+ghost use Rattle.shm_prompt.specs.Saves.{SavesScript, SavesTyped, TellsUnsaved, Writes, name_typed, saved_to};
 
 use crate::command::{Command, parse_command};
 use crate::deliver_all::deliver_all;
@@ -12,6 +13,7 @@ use crate::help::HELP;
 use crate::hints::tell_hint;
 use crate::pages_table::show_pages;
 use crate::save_file::SaveFile;
+use crate::save_refusal::SaveRefusal;
 use crate::save_script::saved_script;
 use crate::segments::list_segments;
 use shm_debug::Session;
@@ -22,7 +24,8 @@ impl<A: Allocator + Copy> Dialog<A> {
     /// Does what a line asks for, without its line feed, and answers whether it was `quit`, which has no answer of its own. The answer to a
     /// wrong line shows where it goes wrong and what could stand there.
     ///
-    /// No clause says what the tables and hints print, or which script `save` writes under which name.
+    /// `save` writes the whole script under the name in the line, or nothing, and says whether it did. No clause says what the tables and hints
+    /// print.
     pub fn obey<S: SaveFile>(
         &mut self,
         typed: &[u8],
@@ -32,6 +35,8 @@ impl<A: Allocator + Copy> Dialog<A> {
         ensures obeyed { OnOk result (ObeyedTyped self.old (command_of typed.now) self.new out.old.items out.new.items) }
         ensures quits { IfOk result (λ quits. quits ≡ is_quit (command_of typed.now)) }
         ensures halted { OnErr result (HaltedTyped self.old (command_of typed.now) self.new) }
+        ensures saves { is_save (command_of typed.now) ≡ true
+            → OnOk result (SavesTyped self.old typed.now (S.saves files.old) (S.saves files.new) out.old.items out.new.items) }
         ensures unsaved { is_save (command_of typed.now) ≡ false → files.new ≡ files.old }
     {
         let Some(command) = parse_command(typed) else {
@@ -53,6 +58,8 @@ impl<A: Allocator + Copy> Dialog<A> {
         requires { IsCommand command }
         ensures obeyed { OnOk result (Obeyed self.old command self.new out.old.items out.new.items) }
         ensures halted { OnErr result (HaltedCommand self.old command self.new) }
+        ensures saves { is_save (Some command) ≡ true
+            → OnOk result (SavesTyped self.old typed.now (S.saves files.old) (S.saves files.new) out.old.items out.new.items) }
         ensures unsaved { is_save (Some command) ≡ false → files.new ≡ files.old }
     {
         match command {
@@ -94,14 +101,12 @@ impl<A: Allocator + Copy> Dialog<A> {
         files: &mut S,
         out: &mut Vec<u8, A>,
     ) -> Result<(), AllocError>
-        ensures { OnOk result (TellsMore out.old.items out.new.items) }
+        ensures tells { OnOk result (TellsMore out.old.items out.new.items) }
+        ensures saves { OnOk result (SavesTyped self.now typed.now (S.saves files.old) (S.saves files.new) out.old.items out.new.items) }
     {
-        let Some(name) = file_name(typed) else {
-            return out.extend_from_slice(b"not saved: the file's name is no text\n");
-        };
         match &self.session {
             None => out.extend_from_slice(NOT_BEGUN.as_bytes()),
-            Some(session) => save_to(session, self.alloc, name, files, out),
+            Some(session) => save_to(session, self.alloc, typed, files, out),
         }
     }
 }
@@ -172,29 +177,82 @@ fn show_view<A: Allocator + Copy>(
     out.extend_from_slice(text.as_bytes())
 }
 
-/// Saves the script of the events that stand to a file, and says so or why not.
+/// Saves the script of the events that stand to the file that the line names, and says so or why not.
 fn save_to<A: Allocator + Copy, S: SaveFile>(
     session: &Session<A>,
     alloc: A,
+    typed: &[u8],
+    files: &mut S,
+    out: &mut Vec<u8, A>,
+) -> Result<(), AllocError>
+    ensures tells { OnOk result (TellsMore out.old.items out.new.items) }
+    ensures saves { OnOk result (SavesScript session.now typed.now (S.saves files.old) (S.saves files.new) out.old.items out.new.items) }
+{
+    let Some(name) = file_name(typed) else {
+        return tell_unsaved(b"the file's name is no text\n", out);
+    };
+    match saved_script(alloc, session) {
+        Ok(script) => write_script(script.as_slice(), name, files, out),
+        Err(refusal) => tell_refusal(refusal, out),
+    }
+}
+
+/// Writes the file, and says so or that it can't be.
+fn write_script<A: Allocator + Copy, S: SaveFile>(
+    script: &[u8],
     name: &str,
     files: &mut S,
     out: &mut Vec<u8, A>,
 ) -> Result<(), AllocError>
-    ensures { OnOk result (TellsMore out.old.items out.new.items) }
+    ensures tells { OnOk result (TellsMore out.old.items out.new.items) }
+    ensures writes { OnOk result (Writes name.now script.now (S.saves files.old) (S.saves files.new) out.old.items out.new.items) }
 {
-    let text = match saved_script(alloc, session) {
-        Err(refusal) => format!(in alloc; "not saved: {refusal}\n")?,
-        Ok(script) => match files.save(name, script.as_slice()) {
-            Ok(()) => format!(in alloc; "saved to {name}\n")?,
-            Err(_) => format!(in alloc; "not saved: {name} can't be written\n")?,
-        },
-    };
+    match files.save(name, script) {
+        Ok(()) => tell_saved(name, out),
+        Err(_) => tell_unwritten(name, out),
+    }
+}
+
+fn tell_saved<A: Allocator + Copy>(name: &str, out: &mut Vec<u8, A>) -> Result<(), AllocError>
+    ensures { OnOk result (out.new.items ≡ out.old.items ++ saved_to name.now) }
+{
+    let text = format!(in *out.allocator(); "saved to {name}\n")?;
     out.extend_from_slice(text.as_bytes())
 }
 
-/// The second word, where it is text.
-fn file_name(typed: &[u8]) -> Option<&str> {
+fn tell_unwritten<A: Allocator + Copy>(name: &str, out: &mut Vec<u8, A>) -> Result<(), AllocError>
+    ensures { OnOk result (TellsUnsaved out.old.items out.new.items) }
+{
+    let text = format!(in *out.allocator(); "{name} can't be written\n")?;
+    tell_unsaved(text.as_bytes(), out)
+}
+
+fn tell_refusal<A: Allocator + Copy>(
+    refusal: SaveRefusal,
+    out: &mut Vec<u8, A>,
+) -> Result<(), AllocError>
+    ensures { OnOk result (TellsUnsaved out.old.items out.new.items) }
+{
+    let text = format!(in *out.allocator(); "{refusal}\n")?;
+    tell_unsaved(text.as_bytes(), out)
+}
+
+/// Says that nothing was saved, and behind that why.
+fn tell_unsaved<A: Allocator + Copy>(why: &[u8], out: &mut Vec<u8, A>) -> Result<(), AllocError>
+    ensures { OnOk result (out.new.items ≡ out.old.items ++ (codes "not saved: " ++ why.now)) }
+{
+    out.extend_from_slice(b"not saved: ")?;
+    out.extend_from_slice(why)
+}
+
+/// The second word, where it is text that a terminal can be told.
+fn file_name(typed: &[u8]) -> Option<&str>
+    ensures { IfSome result (λ name. name_typed typed.now ≡ Some name.now) }
+{
     let (_verb, words) = Words::of(typed).word()?;
     let (name, _others) = words.word()?;
+    if name.iter().any(|byte| *byte < b' ' || *byte == 127) {
+        return None;
+    }
     std::str::from_utf8(name).ok()
 }

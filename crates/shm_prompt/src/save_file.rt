@@ -2,6 +2,14 @@ use std::io;
 
 /// Where scripts are saved.
 pub trait SaveFile {
-    /// Writes a whole file of this name.
-    fn save(&mut self, name: &str, bytes: &[u8]) -> io::Result<()>;
+    ghost use Rattle.std.specs.Prelude.{List, Option, OnErr, OnOk};
+    ghost use Rattle.shm_prompt.specs.Saves.{Adds, Failed, Save, Whole};
+
+    /// What was saved through it, if that is known.
+    ghost saves: { Self → Option (List Save) };
+
+    /// Writes a whole file of this name. At an error a front of it may have been written.
+    fn save(&mut self, name: &str, bytes: &[u8]) -> io::Result<()>
+        ensures saved { OnOk result (Adds (saves self.old) (saves self.new) (Whole name.now bytes.now)) }
+        ensures failed { OnErr result (Adds (saves self.old) (saves self.new) (Failed name.now bytes.now)) };
 }

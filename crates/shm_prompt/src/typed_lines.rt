@@ -1,4 +1,7 @@
 //! Takes typed bytes line by line.
+ghost use Rattle.std.specs.Prelude.{◌≡◌, [], false, OnOk};
+ghost use Rattle.shm_prompt.specs.Dialog.{LineEnds};
+
 use crate::dialog::Dialog;
 use crate::save_file::SaveFile;
 use std::alloc::{AllocError, Allocator};
@@ -70,14 +73,38 @@ impl<A: Allocator + Copy> Typed<A> {
         &mut self,
         files: &mut S,
         out: &mut Vec<u8, A>,
-    ) -> Result<(), AllocError> {
-        if self.is_long {
-            out.extend_from_slice(b"a line has at most 200 bytes\n")?;
-        } else {
-            self.has_quit = self.dialog.obey(self.line.as_slice(), files, out)?;
+    ) -> Result<(), AllocError>
+        ensures ends { OnOk result (LineEnds self.old.is_long self.old.dialog self.old.line.items
+            self.new.dialog self.new.has_quit out.old.items out.new.items) }
+        ensures cleared { OnOk result ((self.new.line.items ≡ []) × (self.new.is_long ≡ false)) }
+    {
+        match self.do_line(files, out) {
+            Ok(()) => {}
+            Err(refused) => return Err(refused),
         }
         self.is_long = false;
         self.line.clear();
         Ok(())
+    }
+
+    /// Does what the line says, unless it is too long.
+    fn do_line<S: SaveFile>(
+        &mut self,
+        files: &mut S,
+        out: &mut Vec<u8, A>,
+    ) -> Result<(), AllocError>
+        ensures { OnOk result (LineEnds self.old.is_long self.old.dialog self.old.line.items
+            self.new.dialog self.new.has_quit out.old.items out.new.items) }
+    {
+        if self.is_long {
+            return out.extend_from_slice(b"a line has at most 200 bytes\n");
+        }
+        match self.dialog.obey(self.line.as_slice(), files, out) {
+            Ok(quits) => {
+                self.has_quit = quits;
+                Ok(())
+            }
+            Err(refused) => Err(refused),
+        }
     }
 }

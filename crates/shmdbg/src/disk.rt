@@ -9,6 +9,10 @@ pub(crate) struct Disk<'a, R: Files> {
 }
 
 impl<R: Files> SaveFile for Disk<'_, R> {
+    ghost use Rattle.std.specs.Prelude.{None};
+
+    ghost saves = { λ _. None };
+
     fn save(&mut self, name: &str, bytes: &[u8]) -> io::Result<()> {
         fs::write(self.rt, name, bytes)
     }

@@ -16,6 +16,10 @@ struct Shelf {
 }
 
 impl SaveFile for Shelf {
+    ghost use Rattle.std.specs.Prelude.{None};
+
+    ghost saves = { λ _. None };
+
     fn save(&mut self, name: &str, bytes: &[u8]) -> io::Result<()> {
         if name == "full" {
             return Err(io::Error::from(ErrorKind::Other));

@@ -12,6 +12,10 @@ struct Shelf {
 }
 
 impl SaveFile for Shelf {
+    ghost use Rattle.std.specs.Prelude.{None};
+
+    ghost saves = { λ _. None };
+
     fn save(&mut self, name: &str, bytes: &[u8]) -> io::Result<()> {
         if name.starts_with("full") {
             return Err(io::Error::from(ErrorKind::Other));
@@ -27,7 +31,7 @@ impl SaveFile for Shelf {
 const LONGEST: usize = 195;
 
 /// What is typed, what is told, and what is saved.
-const CASES: [(&str, &str, &str); 6] = [
+const CASES: [(&str, &str, &str); 7] = [
     (
         "save a\n",
         "no sites stand yet: begin with a line as sites 2 preset 1\n",
@@ -44,6 +48,11 @@ const CASES: [(&str, &str, &str); 6] = [
         "sites 1\nsave a\nsave b c\nsave b\n",
         "1 ready\nsaved to a\nexpected: save FILE, where FILE is one word\nsaved to b\n",
         "a:sites 1\nb:sites 1\n",
+    ),
+    (
+        "sites 1\nsave \x1b[2J\n",
+        "1 ready\nnot saved: the file's name is no text\n",
+        "",
     ),
     (
         "sites 1\nundo\nsave a\n",

@@ -1,0 +1,47 @@
+-- What is saved through the prompt, file by file, and what `save` saves and tells.
+use Rattle.std.specs.Prelude.{⊤, ◌≡◌, ◌⊎◌, ℕ, List, [], ◌∷◌, ◌++◌, codes, Option, None, Some}
+use Rattle.shm_debug.specs.Standing.{Standing}
+use Rattle.shm_lines.specs.Words.{◌>>=◌, next_word, words_of}
+use Rattle.shm_prompt.specs.Saved.{lines_of, text_of_lines}
+
+-- a file of this name was written whole, with these bytes; or it couldn't be
+pub data Save : Type 0 where
+  Whole : List ℕ → List ℕ → Save
+  Failed : List ℕ → List ℕ → Save
+
+-- of saves that are known there is this one more
+abbrev pub Adds : Option (List Save) → Option (List Save) → Save → Type 0
+Adds None new save = ⊤
+Adds (Some before) None save = ⊥
+Adds (Some before) (Some now) save = now ≡ before ++ save ∷ []
+
+-- the file that `save FILE` names
+abbrev pub name_typed : List ℕ → Option (List ℕ)
+name_typed typed = do
+  (verb, words) ← next_word (words_of typed)
+  (name, words) ← next_word words
+  Some name
+
+-- what is told of a file that was written
+abbrev pub saved_to : List ℕ → List ℕ
+saved_to name = codes "saved to " ++ (name ++ codes "\n")
+
+-- it is told that nothing was saved, and why
+abbrev pub TellsUnsaved : List ℕ → List ℕ → Type 0
+TellsUnsaved text text' = (more : List ℕ) × (text' ≡ text ++ (codes "not saved: " ++ more))
+
+-- this file was written, which is told; or it couldn't be, which is told
+abbrev pub Writes : List ℕ → List ℕ → Option (List Save) → Option (List Save) → List ℕ → List ℕ → Type 0
+Writes name bytes old new text text' =
+    (Adds old new (Whole name bytes) × (text' ≡ text ++ saved_to name)) ⊎ (Adds old new (Failed name bytes) × TellsUnsaved text text')
+
+-- the whole script of what stands, under the name that was typed; or nothing at all, which is told
+abbrev pub SavesScript : Standing → List ℕ → Option (List Save) → Option (List Save) → List ℕ → List ℕ → Type 0
+SavesScript s typed old new text text' =
+    ((new ≡ old) × TellsUnsaved text text')
+    ⊎ ((name : List ℕ) × (name_typed typed ≡ Some name) × Writes name (text_of_lines (lines_of s)) old new text text')
+
+-- where no sites stand nothing is saved
+abbrev pub SavesTyped : Option Standing → List ℕ → Option (List Save) → Option (List Save) → List ℕ → List ℕ → Type 0
+SavesTyped None typed old new text text' = new ≡ old
+SavesTyped (Some s) typed old new text text' = SavesScript s typed old new text text'
