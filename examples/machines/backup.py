@@ -6,6 +6,7 @@
 Types what docs/machines.md shows, in a shell, and compares what is printed. Then it restores the journal of one site alone, which nobody
 should: the audit has to find that. The status is 1 where something else is printed."""
 import os
+import signal
 import subprocess
 import sys
 import tempfile
@@ -47,11 +48,16 @@ def play(name, shell, expected, argument):
     here = os.path.dirname(os.path.abspath(__file__))
     program = os.path.abspath(argument or os.path.join(here, '..', '..', 'crates', 'shmdbg', 'out', 'shmdbg'))
     with tempfile.TemporaryDirectory(prefix=f'{name}-') as folder:
-        done = subprocess.run(['bash', '-c', shell], cwd=folder, env={**os.environ, 'PROGRAM': program}, stdout=subprocess.PIPE,
-                              stderr=subprocess.PIPE, timeout=300, check=False, start_new_session=True)
-    printed = done.stdout.decode().splitlines()
+        begun = subprocess.Popen(['bash', '-c', shell], cwd=folder, env={**os.environ, 'PROGRAM': program}, stdout=subprocess.PIPE,
+                                 stderr=subprocess.PIPE, start_new_session=True)
+        try:
+            out, errors = begun.communicate(timeout=300)
+        except subprocess.TimeoutExpired:
+            os.killpg(begun.pid, signal.SIGKILL)
+            sys.exit(f'{name}: does not end')
+    printed = out.decode().splitlines()
     if printed != expected:
-        sys.exit(f'{name}: printed {printed}, and {done.stderr.decode()}')
+        sys.exit(f'{name}: printed {printed}, and {errors.decode()}')
     print(f'{name}: ' + ', '.join(printed))
 
 
