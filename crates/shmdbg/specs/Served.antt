@@ -1,5 +1,6 @@
 -- What a site's process did, by how it ended.
 use Rattle.std.specs.Prelude.{⊤, ◌≡◌, ℕ, Bool, [], Option, Result, Ok, Err}
+use Rattle.std.specs.Io.KnownBytes.{IsAtEnd}
 use Rattle.shm_journal.specs.Acts.{Around, Did, Served}
 use Rattle.shm_journal.specs.Lines.{Header}
 use Rattle.shm_journal.specs.declared.process_fault.ProcessFault.TheVariants.{JournalFault}
@@ -10,9 +11,9 @@ use Rattle.shmdbg.specs.Begun.{BeginsWith}
 use Rattle.shmdbg.specs.declared.site_fault.SiteFault.{SiteFault}
 use Rattle.shmdbg.specs.declared.site_fault.SiteFault.TheVariants as fault
 
--- from this desk on
+-- from this desk on; where it ends well, all of its input was taken
 abbrev pub ServesFrom : Desk → Result (Unit {0}) SiteFault → Around → Around → Type 0
-ServesFrom desk (Ok end) old new = Served desk old new (Ok end)
+ServesFrom desk (Ok end) old new = Served desk old new (Ok end) × IsAtEnd new.remaining
 ServesFrom desk (Err (fault.Ended why)) old new = Served desk old new (Err why)
 ServesFrom desk (Err (fault.Loose durable)) old new = Served desk old new (Err JournalFault)
 ServesFrom desk (Err fault.OutOfMemory) old new = ⊥
@@ -29,7 +30,7 @@ ServesFrom desk (Err (fault.Unopenable why)) old new = ⊥
 
 -- from the desk that it begins with; or it couldn't begin, and nothing was read and nothing told
 abbrev pub IsServed : Option Bool → Header → Result (Unit {0}) SiteFault → Around → Around → Type 0
-IsServed kept header (Ok end) old new = (desk : Desk) × BeginsWith kept header desk × Served desk old new (Ok end)
+IsServed kept header (Ok end) old new = (desk : Desk) × BeginsWith kept header desk × Served desk old new (Ok end) × IsAtEnd new.remaining
 IsServed kept header (Err (fault.Ended why)) old new = (desk : Desk) × BeginsWith kept header desk × Served desk old new (Err why)
 IsServed kept header (Err (fault.Loose durable)) old new = (desk : Desk) × BeginsWith kept header desk × Served desk old new (Err JournalFault)
 IsServed kept header (Err fault.OutOfMemory) old new = Did old new []
