@@ -20,18 +20,6 @@ fn new_node<A: Allocator + Copy>(alloc: A, sites: u32, me: u32) -> Result<Node<A
     }
 }
 
-/// The node of one site of so many, alone in a list: the proof writes out the drop of a node, and not that of a list.
-fn lone_node<A: Allocator + Copy>(
-    alloc: A,
-    sites: u32,
-    me: u32,
-) -> Result<Vec<Node<A>, A>, AllocError> {
-    let mut nodes = Vec::new(alloc);
-    let node = new_node(alloc, sites, me)?;
-    nodes.push(node)?;
-    Ok(nodes)
-}
-
 /// A node for each of so many sites.
 fn new_nodes(alloc: Global, sites: u32) -> Result<Vec<Node>, AllocError> {
     let mut nodes = Vec::new(alloc);

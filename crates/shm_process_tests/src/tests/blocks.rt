@@ -1,10 +1,13 @@
 //! Blocks: many loads that one caller asks for at once, and is told of once.
 use crate::tests::exchanges::{Exchange, Records, counts, first_astray, new_desks, page_line};
-use crate::tests::{lone_node, said_again, take_line, tells};
+use crate::tests::full_heap::{Filling, TRIES, fill_heap};
+use crate::tests::{new_node, said_again, take_line, tells};
+use linked_list_allocator::LocalHeap;
 use shm_model::Answer;
 use shm_process::Node;
 use shm_wire::parse_line;
 use std::alloc::{AllocError, Global};
+use std::process::Abort;
 use std::test::Fail;
 
 /// The bytes are 7, 255, 0 and 16.
@@ -110,74 +113,21 @@ fn over_two_pages<'a>(first: &'a str, second: &'a str) -> [Exchange<'a>; 7] {
 /// Through an attachment that isn't there.
 #[test]
 fn a_block_that_is_refused_is_told_so_once(rt: HostRuntime) -> Result<(), Fail> {
-    let mut nodes = lone_node(rt.alloc(), 1, 0)?;
-    assert!(rt; is_refused(rt.alloc(), nodes.as_mut_slice())?);
-    assert_eq!(rt; counts_of(nodes.as_slice()), Some((1, 1, 0, 0)));
-    Ok(())
-}
-
-/// Whether a block waits when its line is taken, and its caller is told of a refusal by the step that is made then.
-fn is_refused(alloc: Global, nodes: &mut [Node]) -> Result<bool, AllocError> {
-    let Some(node) = nodes.first_mut() else {
-        return Ok(false);
-    };
-    let silent = is_silent(alloc, node, b"ask 0 b read 1 0 4")?;
+    let alloc = rt.alloc();
+    let mut node = new_node(alloc, 1, 0)?;
+    assert!(rt; take_line(alloc, &mut node, b"ask 0 b read 1 0 4")?.is_none());
     let said = said_again(node.again()?);
-    let told = tells(&said, "b", Answer::Refused(9));
-    drop(said);
-    Ok(silent && told)
-}
-
-/// Whether the node says nothing of the line.
-fn is_silent(alloc: Global, node: &mut Node, line: &[u8]) -> Result<bool, AllocError> {
-    let said = take_line(alloc, node, line)?;
-    let silent = said.is_none();
-    drop(said);
-    Ok(silent)
-}
-
-/// How many steps a node made, how many lines it took and passed over, and how many asks wait.
-fn counts_of(nodes: &[Node]) -> Option<(u64, u64, u64, usize)> {
-    let node = nodes.first()?;
-    Some((
-        node.steps(),
-        node.lines_taken(),
-        node.lines_passed(),
-        node.asks_waiting(),
-    ))
+    assert!(rt; tells(&said, "b", Answer::Refused(9)));
+    assert_eq!(rt; (node.steps(), node.asks_waiting()), (1, 0));
+    Ok(())
 }
 
 /// 64 loads wait for one page.
-#[test]
-fn a_block_that_finds_no_room_is_told_so_and_passed_over(rt: HostRuntime) -> Result<(), Fail> {
-    let mut nodes = lone_node(rt.alloc(), 2, 1)?;
-    assert!(rt; finds_no_room(rt.alloc(), nodes.as_mut_slice())?);
-    assert_eq!(rt; counts_of(nodes.as_slice()), Some((64, 64, 1, 64)));
-    Ok(())
-}
-
-/// Whether a block is told that it waits, and makes no step, behind 64 loads that wait.
-fn finds_no_room(alloc: Global, nodes: &mut [Node]) -> Result<bool, AllocError> {
-    let Some(node) = nodes.first_mut() else {
-        return Ok(false);
-    };
+fn crowd(alloc: Global, node: &mut Node) -> Result<(), AllocError> {
     'asks: for _ in 0..64 {
         drop(take_line(alloc, node, b"ask 1 a load 0 2")?);
     }
-    let told = at_once(alloc, node, b"ask 1 b read 0 2 1")?;
-    Ok(is_line(&told, "tell 1 b waiting") && is_silent(alloc, node, b"ask 1 b read 0 2 1")?)
-}
-
-/// What is told of the line at once.
-fn at_once(alloc: Global, node: &Node, line: &[u8]) -> Result<Option<String>, AllocError> {
-    match parse_line(alloc, line)? {
-        Some(read) => {
-            let told = node.line_at_once(&read);
-            drop(read);
-            told
-        }
-        None => Ok(None),
-    }
+    Ok(())
 }
 
 fn is_line(told: &Option<String>, line: &str) -> bool {
@@ -185,4 +135,90 @@ fn is_line(told: &Option<String>, line: &str) -> bool {
         Some(told) => told.as_str() == line,
         None => false,
     }
+}
+
+#[test]
+fn a_block_that_finds_no_room_is_told_so_and_passed_over(rt: HostRuntime) -> Result<(), Fail> {
+    let alloc = rt.alloc();
+    let mut node = new_node(alloc, 2, 1)?;
+    crowd(alloc, &mut node)?;
+    let Some(line) = parse_line(alloc, b"ask 1 b read 0 2 1")? else {
+        return Err(Fail::new("an ask's line"));
+    };
+    let told = node.line_at_once(&line)?;
+    assert!(rt; is_line(&told, "tell 1 b waiting"));
+    assert!(rt; node.take(line)?.is_none());
+    assert_eq!(rt;
+        (
+            node.steps(),
+            node.lines_taken(),
+            node.lines_passed(),
+            node.asks_waiting()
+        ),
+        (64, 64, 1, 64)
+    );
+    Ok(())
+}
+
+/// Whether the node takes the ask for a page's bytes. Where memory is refused it is as before.
+fn takes<'a>(rt: &impl Abort, heap: &'a LocalHeap, node: &mut Node<&'a LocalHeap>) -> bool {
+    match take_line(heap, node, b"ask 0 b read 0 0 4096") {
+        Ok(said) => {
+            assert!(rt; said.is_none(), "a block that joins makes no step");
+            true
+        }
+        Err(_) => {
+            assert_eq!(rt;
+                (
+                    node.steps(),
+                    node.lines_taken(),
+                    node.lines_passed(),
+                    node.asks_waiting()
+                ),
+                (0, 0, 0, 0)
+            );
+            false
+        }
+    }
+}
+
+/// How often the ask is refused memory while the hole in a full heap widens.
+fn refusals<'a>(
+    rt: &impl Abort,
+    heap: &'a LocalHeap,
+    node: &mut Node<&'a LocalHeap>,
+    filling: &mut Filling<'a>,
+) -> Option<usize> {
+    'tries: for tries in 0..TRIES {
+        if takes(rt, heap, node) {
+            return Some(tries);
+        }
+        drop(filling.pop());
+    }
+    None
+}
+
+/// The bytes need a hole of 4,096: 256 times 16.
+#[test]
+fn each_growth_of_a_block_is_refused_in_turn(rt: HostRuntime) -> Result<(), Fail> {
+    let heap = LocalHeap::new(rt.alloc(), 1 << 16)?;
+    let mut node = new_node(&heap, 2, 0)?;
+    let mut filling = fill_heap(rt.alloc(), &heap)?;
+    let Some(tries) = refusals(&rt, &heap, &mut node, &mut filling) else {
+        return Err(Fail::new("the block never joined"));
+    };
+    assert!(rt;
+        tries > 256,
+        "the place among those that wait was refused too"
+    );
+    assert_eq!(rt;
+        (
+            node.steps(),
+            node.lines_taken(),
+            node.lines_passed(),
+            node.asks_waiting()
+        ),
+        (0, 1, 0, 1)
+    );
+    Ok(())
 }

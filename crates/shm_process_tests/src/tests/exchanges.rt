@@ -4,7 +4,7 @@ use shm_process::Desk;
 use std::alloc::{AllocError, Global};
 
 /// What a desk records of the lines that it is given.
-#[derive(Clone, Copy)]
+#[derive(Drop)]
 pub(super) enum Records<'a> {
     /// These lines alone.
     All(&'a [u8]),
@@ -22,7 +22,7 @@ impl Records<'_> {
 }
 
 /// Lines for the desk of a site, what it then tells, and what it records of them.
-#[derive(Clone, Copy)]
+#[derive(Drop)]
 pub(super) struct Exchange<'a> {
     pub(super) site: usize,
     pub(super) lines: &'a str,

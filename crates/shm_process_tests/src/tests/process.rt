@@ -2,7 +2,9 @@
 use crate::tests::exchanges::{
     Exchange, Records, asks_waiting, counts, first_astray, new_desks, page_line,
 };
-use crate::tests::{new_nodes, said_again, take_line, tells, tells_nobody};
+use crate::tests::full_heap::{Filling, TRIES, fill_heap};
+use crate::tests::{new_node, new_nodes, said_again, take_line, tells, tells_nobody};
+use linked_list_allocator::LocalHeap;
 use shm_model::Answer;
 use shm_process::{Desk, Node, Said};
 use std::alloc::{AllocError, Allocator, Global};
@@ -36,8 +38,7 @@ fn stores(alloc: Global, owner: &mut Node) -> Result<bool, AllocError> {
 fn asks(alloc: Global, reader: &mut Node) -> Result<bool, AllocError> {
     let fault = take_line(alloc, reader, b"ask 1 b load 0 5")?;
     let is_told_nobody = tells_nobody(&fault);
-    let sent = sent_line(alloc, fault)?;
-    Ok(is_told_nobody && sent.as_str() == "env 1 0 1 0 0 ask 0 0 1 read\n")
+    Ok(is_told_nobody && sent_line(alloc, fault)?.as_str() == "env 1 0 1 0 0 ask 0 0 1 read\n")
 }
 
 /// What the owner's manager tells the owner on that ask.
@@ -118,6 +119,55 @@ fn counts_of(node: &Node) -> (u64, u64, u64, u64) {
     )
 }
 
+/// Whether the node makes the step of a load that is tried. Where memory is refused it is as before.
+fn tries_load<'a>(rt: &impl Abort, heap: &'a LocalHeap, node: &mut Node<&'a LocalHeap>) -> bool {
+    match take_line(heap, node, b"ask 1 b try-load 0 5") {
+        Ok(said) => {
+            assert!(rt; tells(&said, "b", Answer::Fault));
+            true
+        }
+        Err(_) => {
+            assert_eq!(rt;
+                (node.steps(), node.lines_taken(), node.lines_passed()),
+                (0, 0, 0)
+            );
+            false
+        }
+    }
+}
+
+/// How often the load is refused memory while the hole in a full heap widens.
+fn refusals<'a>(
+    rt: &impl Abort,
+    heap: &'a LocalHeap,
+    node: &mut Node<&'a LocalHeap>,
+    filling: &mut Filling<'a>,
+) -> Option<usize> {
+    'tries: for tries in 0..TRIES {
+        if tries_load(rt, heap, node) {
+            return Some(tries);
+        }
+        drop(filling.pop());
+    }
+    None
+}
+
+#[test]
+fn each_growth_is_refused_in_turn(rt: HostRuntime) -> Result<(), Fail> {
+    let heap = LocalHeap::new(rt.alloc(), 1 << 16)?;
+    let mut node = new_node(&heap, 2, 1)?;
+    let mut filling = fill_heap(rt.alloc(), &heap)?;
+    let Some(tries) = refusals(&rt, &heap, &mut node, &mut filling) else {
+        return Err(Fail::new("no step was made"));
+    };
+    assert!(rt;
+        tries > 1,
+        "the place to wait and what is sent were refused too"
+    );
+    assert_eq!(rt; (node.steps(), node.lines_taken()), (1, 1));
+    Ok(())
+}
+
 /// Site 1 asks for a byte of site 0's page. Beside that, each is told a line that isn't for it.
 #[test]
 fn an_access_is_answered_when_its_page_comes(rt: HostRuntime) -> Result<(), Fail> {
@@ -176,25 +226,18 @@ fn for_one_byte(lent: &str) -> [Exchange<'_>; 5] {
 
 #[test]
 fn a_restart_is_recorded_and_asks_that_wait_are_forgotten(rt: HostRuntime) -> Result<(), Fail> {
-    let mut desks = new_desks(rt.alloc(), 2)?;
-    assert!(rt; asks_and_restarts(&mut desks)?);
-    assert_eq!(rt;
-        (asks_waiting(&desks, 0), asks_waiting(&desks, 1)),
-        (Some(0), Some(0))
-    );
-    Ok(())
-}
-
-/// Whether the desk of site 1 records an ask that waits, and the restart behind it.
-fn asks_and_restarts(desks: &mut [Desk]) -> Result<bool, AllocError> {
-    let Some(desk) = desks.get_mut(1) else {
-        return Ok(false);
-    };
+    let alloc = rt.alloc();
+    let mut desk = Desk::new(alloc, new_node(alloc, 2, 1)?);
     desk.record(b"first\n")?;
     desk.take(b"ask 1 b load 0 5\n")?;
-    let waits = desk.node().asks_waiting() == 1;
+    assert_eq!(rt; desk.node().asks_waiting(), 1);
     if desk.node().clock() < u64::MAX {
         desk.restart()?;
     }
-    Ok(waits && desk.entries() == b"first\nstep 1 ask 1 b load 0 5\nstep 2 restart\n".as_slice())
+    assert_eq!(rt;
+        desk.entries(),
+        b"first\nstep 1 ask 1 b load 0 5\nstep 2 restart\n".as_slice()
+    );
+    assert_eq!(rt; desk.node().asks_waiting(), 0);
+    Ok(())
 }

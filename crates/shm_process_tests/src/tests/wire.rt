@@ -3,6 +3,7 @@ use linked_list_allocator::LocalHeap;
 use shm_parts::{EntryNote, Message, Note};
 use shm_wire::{Line, Sent, parse_line, parse_tell_line};
 use std::alloc::{AllocError, Allocator, Global};
+use std::process::Abort;
 use std::test::Fail;
 
 /// One line of each kind of message that brings no page.
@@ -70,86 +71,46 @@ const NO_ASKS: [&[u8]; 11] = [
     b"tell 1 t tick",
 ];
 
-/// No answers: no text, a carriage return, and the words of other lines.
-const NO_ANSWERS: [&[u8]; 4] = [
-    b"tell 3 t",
-    b"tell 3 t stored\r",
-    b"ask 3 t stored",
-    b"3 t stored",
-];
-
-/// What a line was read as.
-#[derive(Clone, Copy, PartialEq, Eq)]
-enum Kind {
-    Envelope,
-    Ask,
-}
-
-/// What is printed of a line that was read as this.
-fn print<A: Allocator + Copy>(
-    alloc: Global,
-    read: &Option<Line<A>>,
-    kind: Kind,
-) -> Result<Option<String>, AllocError> {
-    match read {
-        Some(Line::Envelope(sent)) if kind == Kind::Envelope => {
-            Ok(Some(format!(in alloc; "{sent}")?))
-        }
-        Some(Line::Ask(ask)) if kind == Kind::Ask => Ok(Some(format!(in alloc; "{ask}")?)),
-        _ => Ok(None),
-    }
-}
-
-/// What is printed of the line, if it is read as this.
-fn read_and_print(alloc: Global, line: &str, kind: Kind) -> Result<Option<String>, AllocError> {
-    let read = parse_line(alloc, line.as_bytes())?;
-    let printed = print(alloc, &read, kind);
-    drop(read);
-    printed
-}
-
-/// Whether the line is printed as it was read, as this.
-fn is_printed(alloc: Global, line: &str, kind: Kind) -> Result<bool, AllocError> {
-    match read_and_print(alloc, line, kind)? {
-        Some(printed) => Ok(printed.as_str() == line),
-        None => Ok(false),
-    }
-}
-
-/// Whether the line is an envelope or an ask.
-fn is_read(alloc: Global, line: &[u8]) -> Result<bool, AllocError> {
-    let read = parse_line(alloc, line)?;
-    let is_one = read.is_some();
-    drop(read);
-    Ok(is_one)
-}
-
 #[test]
 fn messages_are_printed_as_they_were_read(rt: HostRuntime) -> Result<(), Fail> {
+    let alloc = rt.alloc();
     for line in PLAIN {
-        assert!(rt; is_printed(rt.alloc(), line, Kind::Envelope)?, "at {line}");
+        let Some(Line::Envelope(sent)) = parse_line(alloc, line.as_bytes())? else {
+            return Err(Fail::new("an envelope's line"));
+        };
+        let printed = format!(in alloc; "{sent}")?;
+        assert_eq!(rt; printed.as_str(), line);
         assert!(rt; parse_tell_line(line.as_bytes()).is_none(), "at {line}");
     }
     for line in BAD {
-        assert!(rt; !is_read(rt.alloc(), line.as_bytes())?, "at {line}");
+        let read = parse_line(alloc, line.as_bytes())?;
+        assert!(rt; read.is_none(), "at {line}");
     }
     Ok(())
 }
 
 #[test]
 fn asks_are_printed_as_they_were_read(rt: HostRuntime) -> Result<(), Fail> {
+    let alloc = rt.alloc();
     for line in ASKS {
-        assert!(rt; is_printed(rt.alloc(), line, Kind::Ask)?, "at {line}");
+        let read = parse_line(alloc, line.as_bytes())?;
+        let Some(Line::Ask(ask)) = &read else {
+            return Err(Fail::new("an ask's line"));
+        };
+        let printed = format!(in alloc; "{ask}")?;
+        assert_eq!(rt; printed.as_str(), line);
         assert!(rt; parse_tell_line(line.as_bytes()).is_none(), "at {line}");
     }
     for line in NO_ASKS {
-        assert!(rt; !is_read(rt.alloc(), line)?, "at {line:?}");
+        let read = parse_line(alloc, line)?;
+        assert!(rt; read.is_none(), "at {line:?}");
     }
     Ok(())
 }
 
 #[test]
 fn answers_are_printed_as_they_were_read(rt: HostRuntime) -> Result<(), Fail> {
+    let alloc = rt.alloc();
     let line = "tell 3 t replied 1  id 0 ";
     let Some(answer) = parse_tell_line(line.as_bytes()) else {
         return Err(Fail::new("an answer's line"));
@@ -158,10 +119,17 @@ fn answers_are_printed_as_they_were_read(rt: HostRuntime) -> Result<(), Fail> {
         (answer.site.0, answer.tag.as_str(), answer.text),
         (3, "t", "replied 1  id 0 ")
     );
-    let printed = format!(in rt.alloc(); "{answer}")?;
+    let printed = format!(in alloc; "{answer}")?;
     assert_eq!(rt; printed.as_str(), line);
-    assert!(rt; !is_read(rt.alloc(), line.as_bytes())?);
-    for line in NO_ANSWERS {
+    let read = parse_line(alloc, line.as_bytes())?;
+    assert!(rt; read.is_none());
+    let bad: [&[u8]; 4] = [
+        b"tell 3 t",
+        b"tell 3 t stored\r",
+        b"ask 3 t stored",
+        b"3 t stored",
+    ];
+    for line in bad {
         assert!(rt; parse_tell_line(line).is_none(), "at {line:?}");
     }
     Ok(())
@@ -204,40 +172,37 @@ fn is_the_page(bytes: &[u8]) -> bool {
 
 #[test]
 fn a_page_is_read_as_others_spell_it(rt: HostRuntime) -> Result<(), Fail> {
+    let alloc = rt.alloc();
     for kind in ["read", "write"] {
-        let line = page_line(rt.alloc(), kind)?;
-        assert!(rt; is_page_line(rt.alloc(), line.as_str(), kind)?, "at {kind}");
-        assert!(rt;
-            is_printed(rt.alloc(), line.as_str(), Kind::Envelope)?,
-            "at {kind}"
-        );
+        let line = page_line(alloc, kind)?;
+        let Some(Line::Envelope(sent)) = parse_line(alloc, line.as_bytes())? else {
+            return Err(Fail::new("an envelope's line"));
+        };
+        assert!(rt; brings_the_page(&sent, kind), "at {kind}");
+        let printed = format!(in alloc; "{sent}")?;
+        assert!(rt; printed.as_str() == line.as_str(), "at {kind}");
     }
     Ok(())
 }
 
-/// Whether the line brings that page, if there is memory to read it.
-fn is_page_line<A: Allocator + Copy>(alloc: A, line: &str, kind: &str) -> Result<bool, AllocError> {
-    let read = parse_line(alloc, line.as_bytes())?;
-    let brings = match &read {
-        Some(Line::Envelope(sent)) => brings_the_page(sent, kind),
-        _ => false,
-    };
-    drop(read);
-    Ok(brings)
-}
-
-/// Whether the line brings the page to write to, if a heap of so many bytes has memory to read it.
-fn is_page_line_in(alloc: Global, bytes: usize, line: &str) -> Result<Option<bool>, AllocError> {
-    let heap = LocalHeap::new(alloc, bytes)?;
-    Ok(is_page_line(&heap, line, "write").ok())
+/// Whether the page that comes to write to is read with this heap's memory.
+fn is_read(rt: &impl Abort, heap: &LocalHeap, line: &str) -> Result<bool, Fail> {
+    match parse_line(heap, line.as_bytes()) {
+        Ok(Some(Line::Envelope(sent))) => {
+            assert!(rt; brings_the_page(&sent, "write"));
+            Ok(true)
+        }
+        Ok(_) => Err(Fail::new("refused memory isn't a bad line")),
+        Err(_) => Ok(false),
+    }
 }
 
 #[test]
 fn each_growth_of_a_page_is_refused_in_turn(rt: HostRuntime) -> Result<(), Fail> {
     let line = page_line(rt.alloc(), "write")?;
     'sizes: for size in 1..2000usize {
-        if let Some(is_read) = is_page_line_in(rt.alloc(), size * 16, line.as_str())? {
-            assert!(rt; is_read, "refused memory isn't a bad line");
+        let heap = LocalHeap::new(rt.alloc(), size * 16)?;
+        if is_read(&rt, &heap, line.as_str())? {
             assert!(rt;
                 size > 512,
                 "the page and its bytes as they came were refused too"
