@@ -130,7 +130,9 @@ fn a_restart_forgets_a_block_that_is_to_be_stored(rt: HostRuntime) -> Result<(),
     desk.take(b"ask 1 b write 0 4095 AQI=\n".as_slice())?;
     assert_eq!(rt; desk.output(), "env 1 0 1 0 0 ask 0 0 1 write\n");
     assert_eq!(rt; desk.node().asks_waiting(), 1);
-    desk.restart()?;
+    if desk.node().clock() < u64::MAX {
+        desk.restart()?;
+    }
     assert_eq!(rt; desk.node().asks_waiting(), 0);
     Ok(())
 }
