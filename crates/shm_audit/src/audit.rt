@@ -4,7 +4,7 @@ ghost use Rattle.shm_logs.specs.Auditing.Logs.{logs_of, AreLogsOf};
 ghost use Rattle.shm_audit.specs.Totals.{totals_of};
 ghost use Rattle.shm_audit.specs.OneSet.{AreOneRun, IsWhy};
 
-use crate::count_logs::count;
+use crate::count_totals::count;
 use crate::journals_fault::JournalsFault;
 use crate::totals::Totals;
 use shm_logs::{AuditFault, Receipt, SiteLog, audit, logs_match};

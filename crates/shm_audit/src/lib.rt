@@ -3,7 +3,7 @@
 
 mod audit;
 mod audited;
-mod count_logs;
+mod count_totals;
 mod handed;
 mod journals_fault;
 pub mod laws;

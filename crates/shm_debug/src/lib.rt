@@ -8,7 +8,6 @@ mod checkpoints;
 pub mod laws;
 mod notice;
 mod outcome;
-mod output;
 mod play_line;
 mod player;
 mod replay_script;
@@ -18,6 +17,7 @@ mod session_back;
 mod session_show;
 mod tell;
 mod undos;
+mod write_told;
 
 pub use back_fault::BackFault;
 pub use outcome::{DebugFault, Summary};

@@ -10,8 +10,8 @@ ghost use Rattle.shm_debug.specs.Told.{ToldLast};
 
 use crate::laws;
 use crate::outcome::{DebugFault, Summary};
-use crate::output::{empty_text, write_and_flush, write_told};
 use crate::player::Player;
+use crate::write_told::{empty_text, write_and_flush, write_told};
 use shm_text::{Text, read_up_to};
 use std::alloc::Allocator;
 use std::io::{Read, Write};

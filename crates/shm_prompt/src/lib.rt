@@ -18,7 +18,7 @@ mod save_script;
 mod segments;
 mod spelled_line;
 mod tell_line;
-mod typed_lines;
+mod typed_input;
 
 pub use command::{Command, parse_command};
 pub use dialog::Dialog;

@@ -1,7 +1,7 @@
 //! The dialog itself: each line is answered before the next is read.
 use crate::prompt_fault::PromptFault;
 use crate::save_file::SaveFile;
-use crate::typed_lines::Typed;
+use crate::typed_input::Typed;
 use shm_text::{read_up_to, write_whole};
 use std::alloc::Allocator;
 use std::io::{Read, Write};

@@ -8,6 +8,6 @@ mod refusals;
 mod report;
 mod seeded_runs;
 mod settlement;
-mod typed_lines;
+mod typed_input;
 mod workload;
 mod workload_runs;

@@ -6,9 +6,9 @@ ghost use Rattle.shm_logs.specs.Boxes.SiteBox.{box_of};
 ghost use Rattle.shm_site.specs.Step.{input_of as input_in};
 ghost use Rattle.shm_sites.specs.Cluster.Posted.{all_sent, sent_at};
 
+use crate::cluster::carry::{carry, draws_of};
 use crate::cluster::gate::Gate;
 use crate::cluster::mail::Mail;
-use crate::cluster::network::{carry, draws_of};
 use crate::cluster::posted::Posted;
 use crate::cluster::sent_copies::copies_of;
 use crate::cluster::shared::{Post, Shared};

@@ -2,7 +2,7 @@
 use Rattle.std.proofs.Common.{◌≡◌, IfOk}
 use Rattle.shm_sites.specs.Cluster.Carried.{carried, drawn_for}
 use Rattle.shm_sites.specs.Cluster.Posted.{all_sent}
-use Rattle.shm_sites.proofs.cluster.network.carry.Given as goal
+use Rattle.shm_sites.proofs.cluster.carry.carry.Given as goal
 
 abbrev pub invariant-envelopes : goal.invariant-envelopes
 invariant-envelopes g l =

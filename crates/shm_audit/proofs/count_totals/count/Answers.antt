@@ -1,7 +1,7 @@
 use Rattle.std.proofs.Common.{map}
 use Rattle.shm_logs.specs.Boxes.Logged.{logged_of}
 use Rattle.shm_audit.proofs.Counted.{log_counted}
-use Rattle.shm_audit.proofs.count_logs.count.Goals as goal
+use Rattle.shm_audit.proofs.count_totals.count.Goals as goal
 
 pub logs-preserved : goal.logs-preserved
 logs-preserved g c =

@@ -9,7 +9,7 @@ use Rattle.shm_sites.specs.Cluster.Carried.{by_fate, carried, drawn_for}
 use Rattle.shm_sites.specs.Cluster.Fate.{fate_of}
 use Rattle.shm_sites.specs.Cluster.Posted.{all_sent, sent_of, Sent}
 use Rattle.shm_sites.proofs.Carried.{carried-push, drawn_for-push}
-use Rattle.shm_sites.proofs.cluster.network.carry.Goals as goal
+use Rattle.shm_sites.proofs.cluster.carry.carry.Goals as goal
 
 pub envelopes-preserved : goal.envelopes-preserved
 envelopes-preserved g c =

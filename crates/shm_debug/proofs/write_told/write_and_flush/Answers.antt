@@ -2,7 +2,7 @@ use Rattle.std.proofs.Common.{length, subst, sym}
 use Rattle.std.proofs.Math.Seq.{take-length}
 use Rattle.std.specs.Io.KnownBytes.{Appends}
 use Rattle.std.proofs.KnownBytes.{Appends-kept}
-use Rattle.shm_debug.proofs.output.write_and_flush.Goals as goal
+use Rattle.shm_debug.proofs.write_told.write_and_flush.Goals as goal
 
 -- all was written, and only the flush failed
 pub returns-in-Err-clause-err : goal.returns-in-Err-clause-err

@@ -1,7 +1,7 @@
 use Rattle.std.proofs.Common.{◌≡◌, take}
 use Rattle.shm_logs.specs.Auditing.Logs.{logs_of}
 use Rattle.shm_audit.specs.Totals.{totals_of}
-use Rattle.shm_audit.proofs.count_logs.count.Given as goal
+use Rattle.shm_audit.proofs.count_totals.count.Given as goal
 
 -- what is counted in the logs so far
 abbrev pub invariant-logs : goal.invariant-logs

@@ -1,5 +1,5 @@
 use Rattle.shm_audit.proofs.Counted.{step_counted}
-use Rattle.shm_audit.proofs.count_logs.count_steps.Goals as goal
+use Rattle.shm_audit.proofs.count_totals.count_steps.Goals as goal
 
 pub steps-preserved : goal.steps-preserved
 steps-preserved g c =
