@@ -1,8 +1,13 @@
 -- What shm_model sees of the requests that wait.
 use Rattle.std.specs.Prelude.{ℕ, Bool, ◌&&◌, ◌==◌, List, ◌∷◌, Option, Some, None, map}
 use Rattle.std.specs.List.{list_any}
+use Rattle.shm_model.specs.declared.kind.Kind.{Kind}
 use Rattle.shm_manager.specs.declared.ask.Ask.{Ask}
 use Rattle.shm_model.specs.Book.{Waiting}
+
+-- a request, as its site, its number and what it asks for
+abbrev pub waiting_from : ℕ × (ℕ × Kind) → Waiting
+waiting_from ask = record { from = ask.0; request = ask.1.0; kind = ask.1.1 }
 
 abbrev pub waiting_of : Ask → Waiting
 waiting_of ask = record { from = ask.from; request = ask.request; kind = ask.kind }

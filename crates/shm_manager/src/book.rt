@@ -1,6 +1,7 @@
-ghost use Rattle.std.specs.Prelude.{◌≡◌, IfOk};
+ghost use Rattle.std.specs.Prelude.{◌≡◌, IfOk, option_map, slice_get};
 ghost use Rattle.shm_model.specs.Book as model;
 ghost use Rattle.shm_manager.specs.Book.{book_of, kind_and_requester, untouched_at};
+ghost use Rattle.shm_manager.specs.Queue.{waiting_from};
 ghost use Rattle.shm_place.specs.SiteSet.{has};
 
 use crate::queue::Queue;
@@ -71,6 +72,20 @@ impl<A: Allocator> Book<A> {
         ensures { result ≡ kind_and_requester (book_of self.now).running }
     {
         self.running
+    }
+
+    /// The sites that have answered the running transaction's Clear.
+    pub fn cleared_sites(&self) -> SiteSet
+        ensures { has result ≡ (book_of self.now).cleared }
+    {
+        self.cleared
+    }
+
+    /// The request that waits in this place, that of the oldest in place 0: its site, its number and what it asks for.
+    pub fn waiting(&self, place: usize) -> Option<(SiteId, (u64, Kind))>
+        ensures { option_map waiting_from result ≡ slice_get (book_of self.now).waiting place }
+    {
+        self.waiting.get(place)
     }
 
     /// Forgets what a restart of the manager loses: who has answered a Clear, and who waits.

@@ -1,10 +1,11 @@
-ghost use Rattle.std.specs.Prelude.{◌≡◌, ◌<◌, [], ◌∷◌, ◌++◌, length, nat_le, IfOk, IfNone, IfSome};
+ghost use Rattle.std.specs.Prelude.{◌≡◌, ◌<◌, [], ◌∷◌, ◌++◌, length, nat_le, option_map, slice_get, IfOk, IfNone, IfSome};
 ghost use Rattle.shm_number.specs.Served.{served_of};
 ghost use Rattle.shm_model.specs.Book as model;
-ghost use Rattle.shm_manager.specs.Queue.{waiting_of, before, is_among};
+ghost use Rattle.shm_manager.specs.Queue.{waiting_from, waiting_of, before, is_among};
 
 use crate::ask::Ask;
 use circular_buffer::HeapCircularBuffer;
+use shm_model::Kind;
 use shm_number::Served;
 use shm_place::SiteId;
 use std::alloc::{AllocError, Allocator};
@@ -47,6 +48,16 @@ impl<A: Allocator> Queue<A> {
         ensures { result ≡ model.is_waiting from request self.now }
     {
         is_among(&self.ring, from, request)
+    }
+
+    /// The request in this place, the oldest in place 0: its site, its number and what it asks for.
+    pub(crate) fn get(&self, place: usize) -> Option<(SiteId, (u64, Kind))>
+        ensures { option_map waiting_from result ≡ slice_get self.now place }
+    {
+        match self.ring.get(place) {
+            Some(ask) => Some((ask.from, (ask.request, ask.kind))),
+            None => None,
+        }
     }
 
     pub(crate) fn push(&mut self, ask: Ask)

@@ -4,6 +4,7 @@
 #![tactic(auto)]
 
 mod accessing;
+mod awaiting;
 mod book_view;
 mod calling;
 mod delivering;
