@@ -2,6 +2,7 @@ mod attach;
 mod audit;
 mod boxes;
 mod full_heap;
+mod hand;
 mod keys;
 mod manager;
 mod merge;

@@ -1,7 +1,7 @@
 //! Each call once on its happy path, and once with each of its growths refused.
 ghost use Rattle.std.specs.Prelude.{◌≡◌, IfOk};
 
-use shm_page::{Entry, OwnReadPage, OwnWritePage};
+use shm_page::{Entry, OwnReadPage, OwnWritePage, ReadGrant};
 use std::alloc::{AllocError, Allocator};
 use std::process::Abort;
 
@@ -13,18 +13,40 @@ fn written_page<A: Allocator + Copy>(alloc: A) -> Result<OwnWritePage<A>, AllocE
     ensures { IfOk result (λ page. page.seen ≡ 0) }
 {
     match Entry::opening(alloc, true)? {
-        Entry::OwnWrite(page) => Ok(with_both_ends(page)),
-        _ => Err(AllocError),
+        Entry::OwnWrite(mut page) => {
+            store_at_both_ends(&mut page);
+            Ok(page)
+        }
+        other => {
+            drop(other);
+            Err(AllocError)
+        }
     }
 }
 
-/// The page with 7 stored at its first place and 9 at its last.
-fn with_both_ends<A: Allocator + Copy>(mut page: OwnWritePage<A>) -> OwnWritePage<A>
-    ensures { result.seen ≡ page.seen }
+/// Stores 7 at the page's first place and 9 at its last.
+fn store_at_both_ends<A: Allocator + Copy>(page: &mut OwnWritePage<A>)
+    ensures { page.new.seen ≡ page.old.seen }
 {
     page.store(0, 7);
     page.store(4095, 9);
-    page
+}
+
+/// An owner that lent one copy, and that copy.
+fn lent_page<A: Allocator + Copy>(
+    alloc: A,
+    number: u64,
+) -> Result<(OwnReadPage<A>, ReadGrant<A>), AllocError>
+    ensures owner { IfOk result (λ r. r.0.seen ≡ number) }
+    ensures grant { IfOk result (λ r. r.1.number ≡ number) }
+{
+    match written_page(alloc)?.downgrade(number) {
+        Ok(lent) => Ok(lent),
+        Err((back, error)) => {
+            drop(back);
+            Err(error)
+        }
+    }
 }
 
 /// Stops the test where a page was found otherwise: its number, and its first and last byte.
