@@ -86,6 +86,8 @@ input_asked (question.Read at offset count) = None
 input_asked (question.Begin request) = Some (Begin request)
 input_asked question.Tick = Some Tick
 input_asked (question.Show page) = None
+input_asked (question.Map at index kind) = None
+input_asked question.Mappings = None
 
 -- a load and a store wait for their right, unless they are only tried
 abbrev pub waits_for : List ℕ → Question → Option WaitingAsk
@@ -107,6 +109,7 @@ abbrev pub heard : Node → stream.Line → Option Heard
 heard node (stream.Envelope sent) = handed node sent
 heard node (stream.Ask ask) = asked_here node ask
 heard node (stream.Write write) = None
+heard node (stream.Unmap unmap) = None
 
 -- ---- one step
 

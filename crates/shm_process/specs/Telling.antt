@@ -47,3 +47,4 @@ abbrev pub shown_line : Node → stream.Line → Option (List ℕ)
 shown_line node (stream.Envelope sent) = None
 shown_line node (stream.Ask ask) = shown_here node ask
 shown_line node (stream.Write write) = if (write.site == node.me) then crowded_out node write.tag else None
+shown_line node (stream.Unmap unmap) = None

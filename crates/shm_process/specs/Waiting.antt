@@ -66,6 +66,7 @@ abbrev pub joining : Node → stream.Line → Option WaitingAsk
 joining node (stream.Envelope sent) = None
 joining node (stream.Ask ask) = if has_room node then block_here node ask else None
 joining node (stream.Write write) = if has_room node then write_here node write else None
+joining node (stream.Unmap unmap) = None
 
 abbrev pub joined : Node → WaitingAsk → Node
 joined node block = record node { taken = counted node.taken; waiting = node.waiting ++ block ∷ [] }

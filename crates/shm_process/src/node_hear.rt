@@ -30,7 +30,7 @@ impl<A: Allocator + Copy> Node<A> {
         match line {
             Line::Envelope(sent) => self.hear_envelope(sent),
             Line::Ask(ask) => self.hear_ask(&ask),
-            Line::Write(_) => None,
+            Line::Write(_) | Line::Unmap(_) => None,
         }
     }
 
@@ -107,7 +107,8 @@ pub fn input_asked<A: Allocator + Copy>(question: Question) -> Option<Input<A>>
         Question::Access(asked) | Question::Try(asked) => Some(Input::of(asked)),
         Question::Begin(request) => Some(Input::Begin(request)),
         Question::Tick => Some(Input::Tick),
-        Question::Show(_) | Question::Read { .. } => None,
+        Question::Show(_) | Question::Read { .. } | Question::Map { .. } | Question::Mappings =>
+            None,
     }
 }
 

@@ -52,6 +52,10 @@ impl<A: Allocator + Copy> Node<A> {
             Line::Envelope(sent) => self.take_envelope(sent),
             Line::Ask(ask) => self.take_ask(&ask),
             Line::Write(write) => self.take_write(write),
+            Line::Unmap(_) => {
+                self.pass_over();
+                Ok(None)
+            }
         }
     }
 

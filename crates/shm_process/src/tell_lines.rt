@@ -79,6 +79,7 @@ impl<A: Allocator + Copy> Node<A> {
             Line::Envelope(_) => Ok(None),
             Line::Ask(ask) => self.ask_at_once(ask),
             Line::Write(write) => self.write_at_once(write),
+            Line::Unmap(_) => Ok(None),
         }
     }
 
