@@ -10,5 +10,6 @@ pub mod TagWords
 pub mod AskWords
 pub mod SpelledAsks
 pub mod UnmapWords
+pub mod UnmapTexts
 pub mod AnswerWords
 pub mod LineWords

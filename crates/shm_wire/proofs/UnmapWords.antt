@@ -1,8 +1,9 @@
 -- Mappings that are given up, or whose bytes are brought: each that is read is spelled so, and each that is spelled so is read.
-use Rattle.std.proofs.Common.{◌≡◌, ℕ, Bool, true, false, List, [], ◌∷◌, All, Option, Some, None, cond, length, refl, ap, subst, ◌∙◌}
-use Rattle.std.specs.Prelude.{codes, ⊤}
+use Rattle.std.proofs.Common.{◌≡◌, ℕ, Bool, true, false, List, [], ◌∷◌, All, Option, Some, None, cond, length, map, refl, sym, ap, subst, ◌∙◌, ◌++◌, append_assoc}
+use Rattle.std.specs.Prelude.{codes, option_map, ⊤}
 use Rattle.std.specs.Fmt.{decimal}
 use Rattle.std.specs.Str.{bytes_eq}
+use Rattle.std.proofs.lemmas.List.{map-append}
 use Rattle.std.proofs.lemmas.List.Elements.{All-nil, All-cons, All-head, All-tail}
 use Rattle.shm_model.specs.declared.kind.Kind.{Kind}
 use Rattle.shm_model.specs.declared.kind.Kind.TheVariants.{Read, Write}
@@ -10,6 +11,7 @@ use Rattle.shm_lines.proofs.NumberWords.{IsPrinter, number}
 use Rattle.shm_lines.proofs.ReadLemmas.{onto}
 use Rattle.shm_lines.proofs.StepLemmas.{step, some-is, NoBlank, NoBlank-test, NoBlanks}
 use Rattle.shm_lines.specs.Spelling.{IsNumber}
+use Rattle.shm_lines.specs.Words.{◌>>=◌}
 use Rattle.shm_wire.proofs.BytesWords.{base64}
 use Rattle.shm_wire.proofs.NameWords.{named-is}
 use Rattle.shm_wire.proofs.Reading.{cond-of, prints, took, Reads, Spelled}
@@ -18,7 +20,9 @@ use Rattle.shm_wire.specs.Asks.{is_block}
 use Rattle.shm_wire.specs.BytesWord.{bytes_word}
 use Rattle.shm_wire.specs.Line.{Line, Unmap}
 use Rattle.shm_wire.specs.Tag.{IsTag}
-use Rattle.shm_wire.specs.Unmaps.{IsRun, IsUnmap, Run, UnmapAsk, keeps_of, lesser, mapping_words, next_keeps, next_run, run_words, runs_of, sync_of, unmap_of, unmap_words}
+use Rattle.shm_wire.specs.UnmapOf.{run_in}
+use Rattle.shm_wire.specs.Unmaps.{and_runs, IsRun, IsUnmap, Run, UnmapAsk, keeps_of, lesser, mapping_words, next_run, run_words, runs_of, sync_of, unmap_of, unmap_words}
+use Rattle.shm_wire.specs.declared.unmap_ask.Run.{Run as Code}
 
 -- ---- runs that are read
 
@@ -49,6 +53,35 @@ runs-are (offset ∷ bytes ∷ words) runs h =
     onto_rest : (offset bytes : List ℕ) (words rest : List (List ℕ)) (next : Run × List (List ℕ)) → offset ∷ bytes ∷ words ≡ decimal next.0.offset ∷ bytes_word next.0.bytes ∷ next.1
         → words ≡ rest → offset ∷ bytes ∷ words ≡ decimal next.0.offset ∷ bytes_word next.0.bytes ∷ rest
     onto_rest offset bytes words rest next are more = cc
+
+-- ---- runs that are read one after another
+
+then : (run : Run) (o : Option (List Run)) → (o >>= λ runs. Some (run ∷ runs)) ≡ option_map (λ runs. run ∷ runs) o
+then run None = refl
+then run (Some runs) = refl
+
+-- a run, and those behind it
+pub runs_read : (words others : List (List ℕ)) (run : Run) → next_run words ≡ Some (run, others) → runs_of words ≡ option_map (λ runs. run ∷ runs) (runs_of others)
+runs_read [] others run h = absurd (cc)
+runs_read (offset ∷ []) others run h =
+    let t = (next_run-is (offset ∷ []) (run, others) h).are in
+    absurd (cc)
+runs_read (offset ∷ bytes ∷ words) others run h =
+    let t = (next_run-is (offset ∷ bytes ∷ words) (run, others) h).are in
+    let same : words ≡ others = cc in
+    ap (λ n. and_runs n (runs_of words)) h ∙ then run (runs_of words) ∙ ap (λ l. option_map (λ runs. run ∷ runs) (runs_of l)) same
+
+grown : {A : Type 0} (runs : List (Code A)) (run : Code A) (o : Option (List Run))
+    → option_map (λ rest. map run_in runs ++ rest) (option_map (λ rest. run_in run ∷ rest) o) ≡ option_map (λ rest. map run_in (runs ++ run ∷ []) ++ rest) o
+grown runs run None = refl
+grown runs run (Some rest) = ap Some (simp (map-append, append_assoc))
+
+pub runs_on : {A : Type 0} (first words others : List (List ℕ)) (runs after : List (Code A)) (run : Code A)
+    → runs_of first ≡ option_map (λ rest. map run_in runs ++ rest) (runs_of words) → next_run words ≡ Some (run_in run, others) → after ≡ runs ++ run ∷ []
+    → runs_of first ≡ option_map (λ rest. map run_in after ++ rest) (runs_of others)
+runs_on first words others runs after run so_far h more =
+    so_far ∙ ap (option_map (λ rest. map run_in runs ++ rest)) (runs_read words others (run_in run) h) ∙ grown runs run (runs_of others)
+    ∙ ap (λ all. option_map (λ rest. map run_in all ++ rest) (runs_of others)) (sym more)
 
 -- ---- runs that are spelled
 
@@ -116,7 +149,8 @@ module _ (site : ℕ) (name : List ℕ) (is_site : IsNumber site) (is_name : IsT
       let r = step (runs_of k.others) _ unmap k.gives in
       let are = runs-are k.others r.value r.gave in
       let made : UnmapAsk = record { site = site; tag = name; at = a.value; index = i.value; keeps = k.value; runs = r.value } in
-      let told = ap (λ l. codes "unmap" ∷ l) (onto a.are (onto i.are (onto k.are are.1))) ∙ unmap_words-less a.value i.value k.value (run_words r.value) k.is in
+      let told : codes "unmap" ∷ words ≡ mapping_words a.value i.value k.value (run_words r.value) =
+      ap (λ l. codes "unmap" ∷ l) (onto a.are (onto i.are (onto k.are are.1))) ∙ unmap_words-less a.value i.value k.value (run_words r.value) k.is in
       subst (BehindAsk (codes "unmap" ∷ words)) (some-is made unmap r.gives) ((is_site, is_name, a.is, i.is, are.0), under told)
 
   pub sync-is : (words : List (List ℕ)) (sync : UnmapAsk) → sync_of site name words ≡ Some sync → BehindAsk (codes "sync" ∷ words) sync
