@@ -2,6 +2,7 @@ mod beyond;
 mod blocks;
 mod exchanges;
 mod full_heap;
+mod mapped_lines;
 mod mappings;
 mod process;
 mod wire;

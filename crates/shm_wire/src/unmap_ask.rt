@@ -66,10 +66,29 @@ impl<'a, A: Allocator + Copy> fmt::Display for RunsText<'a, A> {
 
     fn fmt<W: fmt::Write>(&self, f: &mut fmt::Formatter<W>) -> fmt::Result {
         'runs: for run in self.runs {
-            let offset = run.offset;
-            let bytes = Base64Display::new(run.bytes.as_slice(), &STANDARD);
-            write!(f, " {offset} {bytes}")?;
+            let text = RunText { run };
+            write!(f, "{text}")?;
         }
         Ok(())
+    }
+}
+
+/// A run of bytes, with a blank before each word.
+#[derive(Clone, Copy)]
+struct RunText<'a, A: Allocator + Copy> {
+    run: &'a Run<A>,
+}
+
+impl<'a, A: Allocator + Copy> fmt::Display for RunText<'a, A> {
+    ghost use Rattle.std.specs.Prelude.{Some};
+    ghost use Rattle.shm_wire.specs.UnmapOf.{run_in};
+    ghost use Rattle.shm_wire.specs.Unmaps.{run_text};
+
+    ghost output = { λ text. Some (run_text (run_in text.run.now)) };
+
+    fn fmt<W: fmt::Write>(&self, f: &mut fmt::Formatter<W>) -> fmt::Result {
+        let offset = self.run.offset;
+        let bytes = Base64Display::new(self.run.bytes.as_slice(), &STANDARD);
+        write!(f, " {offset} {bytes}")
     }
 }
