@@ -216,7 +216,6 @@ module _ (node : Node) (at : ℕ) (can : can_be_made node (ask_in node.waiting a
   own-less (Writes w) Took same is on = absurd (cc)
   own-less (Writes w) Dropped same is on = absurd (cc)
   own-less (Writes w) (Refused refusal) same is on = absurd (cc)
-
   own-less (Maps map) (Byte byte) same is on = absurd (cc)
   own-less (Maps map) Stored same is on = absurd (cc)
   own-less (Maps map) Fault same is on = fault-less (Maps map) same (ap is_fault is)

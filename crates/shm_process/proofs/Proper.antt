@@ -1,6 +1,6 @@
 -- The asks that wait at a node are ones that its callers may make of it; so each entry of its steps has a line.
 use Rattle.std.proofs.Common.{◌≡◌, ℕ, zero, suc, ◌+◌, ◌<◌, ◌≤◌, ◌==◌, ◌&&◌, ◌||◌, Bool, true, false, nat_le, slice_index, List, [], ◌∷◌, ◌++◌, Option, Some, None, length, set, take, drop, max, cond, refl, sym, subst, ◌∙◌, arith}
-use Rattle.std.specs.List.{All, flat_map, position_from, remove}
+use Rattle.std.specs.List.{All, flat_map, list_all, position_from, remove}
 use Rattle.std.specs.Prelude.{◌^◌, option_map}
 use Rattle.std.specs.Option.{option_map_or}
 use Rattle.std.proofs.lemmas.Bool.Decides.{nat_tests}
@@ -30,8 +30,8 @@ use Rattle.shm_wire.specs.Unmaps.{IsRun, IsUnmap, Run, UnmapAsk}
 use Rattle.shm_wire.specs.Writes.{WriteAsk, IsWrite}
 use Rattle.shm_process.specs.Access.{access_ask}
 use Rattle.shm_process.specs.Cause.{OfLine}
-use Rattle.shm_process.specs.Mapped.{first_byte, is_kept_back, is_passing, is_within}
-use Rattle.shm_process.specs.Remaps.{Map, Unmap, has_stored, is_mappable, made_after, map_access, may_unmap, right_asked, run_bytes, run_offsets, stored_offsets, unmap_goes_on, unmapping}
+use Rattle.shm_process.specs.Mapped.{first_byte, is_kept_back, is_passing, is_within, mapped_there}
+use Rattle.shm_process.specs.Remaps.{Map, Unmap, has_stored, is_mappable, is_of_page, made_after, map_access, may_give_up, may_unmap, right_asked, run_bytes, run_offsets, stored_offsets, unmap_goes_on, unmapping}
 use Rattle.shm_process.specs.WaitingAsks.{Access, Maps, Reads, Unmaps, Writes, WaitingAsk, after_answer, ask_in, goes_on, waiting_after}
 use Rattle.shm_process.specs.Node.{Node, Heard, Said, answer_to, heard, input_asked, is_beyond, is_late, is_lost, is_stopped, is_withheld, new_node, says, under_tag, waits_for}
 use Rattle.shm_process.specs.Recorded.{Entry, Event, Line, TooLong, Again, Restarted, IsEntry, entry_of, after_event, after_events, entries_of, recorded, said_at}
@@ -101,19 +101,17 @@ next-is node (Unmaps u) is = unmap-line node.me u (has_stored u) is
 
 -- ---- bytes that are brought
 
-and-first : (a b : Bool) → (a && b) ≡ true → a ≡ true
-and-first true b h = refl
-and-first false b h = absurd (cc)
+four-parts : (a b c d : Bool) → (a && b && c && d) ≡ true → (a ≡ true) × (d ≡ true)
+four-parts true true true d h = (refl, h)
+four-parts true true false d h = absurd (cc)
+four-parts true false c d h = absurd (cc)
+four-parts false b c d h = absurd (cc)
 
-and-last : (a b : Bool) → (a && b) ≡ true → b ≡ true
-and-last true b h = h
-and-last false b h = absurd (cc)
-
-last-three : (a b c d : Bool) → (a && b && c && d) ≡ true → d ≡ true
-last-three true true true d h = h
-last-three true true false d h = absurd (cc)
-last-three true false c d h = absurd (cc)
-last-three false b c d h = absurd (cc)
+may-parts : (node : Node) (ask : UnmapAsk) → may_unmap node.mapped node.site ask ≡ true
+    → (is_within ask.at ask.index ≡ true) × (nat_le (length (flat_map run_bytes ask.runs)) page_bytes ≡ true)
+may-parts node ask may =
+    four-parts (is_within ask.at ask.index) (may_give_up ask.at ask.runs (mapped_there node.mapped node.site ask.at (first_byte ask.index)))
+    (list_all (is_of_page ask.index) ask.runs) (nat_le (length (flat_map run_bytes ask.runs)) page_bytes) may
 
 few-bytes : (n : ℕ) → nat_le n page_bytes ≡ true → n ≤ page_bytes
 few-bytes n h = grind (arith, nat_tests)
@@ -328,10 +326,10 @@ unmap-proper node ask true a may own is e =
       tag = is.1;
       at = is.2;
       index = is.3;
-      within = and-first (is_within ask.at ask.index) _ may;
+      within = (may-parts node ask may).0;
       offsets = offsets-numbers ask.runs is.4;
       bytes = bytes-small ask.runs is.4;
-      most = few-bytes (length (flat_map run_bytes ask.runs)) (last-three _ _ _ _ may);
+      most = few-bytes (length (flat_map run_bytes ask.runs)) (may-parts node ask may).1;
       so_far = none-stored (length (flat_map run_bytes ask.runs));
     }))
 unmap-proper node ask false a may own is e = absurd (cc)

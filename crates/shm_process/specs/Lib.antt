@@ -14,6 +14,7 @@ pub mod Node
 pub mod NodeOf
 pub mod Lines
 pub mod Waiting
+pub mod KeptMapped
 pub mod Showing
 pub mod Telling
 pub mod Recorded

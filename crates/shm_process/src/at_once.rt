@@ -24,7 +24,9 @@ use shm_model::{Answer, Asked, Kind, Request};
 use shm_parts::Message;
 use shm_place::PageId;
 use shm_text::AnswerText;
-use shm_wire::{Ask, Line, Mapping, MappingsText, Question, RevokeText, Sent, Tag, UnmapAsk, WriteAsk};
+use shm_wire::{
+    Ask, Line, Mapping, MappingsText, Question, RevokeText, Sent, Tag, UnmapAsk, WriteAsk,
+};
 use std::alloc::{AllocError, Allocator};
 
 impl<A: Allocator + Copy> Node<A> {
@@ -52,19 +54,27 @@ impl<A: Allocator + Copy> Node<A> {
         let Some(mapping) = self.wanted(&sent.envelope) else {
             return Ok(None);
         };
-        self.revoke_for(&sent.envelope.message, mapping)
+        self.revoke_for(&sent.envelope.message, &mapping)
     }
 
-    fn revoke_for(&self, message: &Message<A>, mapping: Mapping) -> Result<Option<String<A>>, AllocError>
-        ensures { IfOk result (λ told. option_map string_bytes told ≡ Some (spec.revoked_for (node_of self.now) (message_of message.now) mapping)) }
+    fn revoke_for(
+        &self,
+        message: &Message<A>,
+        mapping: &Mapping,
+    ) -> Result<Option<String<A>>, AllocError>
+        ensures { IfOk result (λ told. option_map string_bytes told ≡ Some (spec.revoked_for (node_of self.now) (message_of message.now) mapping.now)) }
     {
         let keeps = keeps_under(verdict_for(self.me, message, mapping));
         self.revoke(keeps, mapping)
     }
 
     /// Asks the machine to give the page up, so that no more than this stays mapped.
-    fn revoke(&self, keeps: Option<Kind>, mapping: Mapping) -> Result<Option<String<A>>, AllocError>
-        ensures { IfOk result (λ told. option_map string_bytes told ≡ Some (spec.revoke_line (node_of self.now) keeps mapping)) }
+    fn revoke(
+        &self,
+        keeps: Option<Kind>,
+        mapping: &Mapping,
+    ) -> Result<Option<String<A>>, AllocError>
+        ensures { IfOk result (λ told. option_map string_bytes told ≡ Some (spec.revoke_line (node_of self.now) keeps mapping.now)) }
     {
         let site = self.me.0;
         let text = RevokeText {
@@ -84,12 +94,19 @@ impl<A: Allocator + Copy> Node<A> {
         self.question_at_once(ask.tag, ask.asked)
     }
 
-    fn question_at_once(&self, tag: Tag, question: Question) -> Result<Option<String<A>>, AllocError>
+    fn question_at_once(
+        &self,
+        tag: Tag,
+        question: Question,
+    ) -> Result<Option<String<A>>, AllocError>
         ensures { IfOk result (λ told. option_map string_bytes told ≡ shown_for (node_of self.now) (tag_text tag) question) }
     {
         match question {
             Question::Show(page) => self.show_page(tag, page),
-            Question::Read { at, offset, .. } => self.joined_at_once(tag, Asked::Load { at, offset }),
+            Question::Read { at, offset, .. } => self.joined_at_once(
+                tag,
+                Asked::Load { at, offset },
+            ),
             Question::Access(asked) => self.access_at_once(tag, asked),
             Question::Try(asked) => self.try_at_once(tag, asked),
             Question::Begin(request) => self.begin_at_once(tag, request),
@@ -203,7 +220,7 @@ impl<A: Allocator + Copy> Node<A> {
             return Ok(None);
         }
         match self.passed_page(asked) {
-            Some(mapping) => self.revoke(keeps_beside(asked), mapping),
+            Some(mapping) => self.revoke(keeps_beside(asked), &mapping),
             None => Ok(None),
         }
     }
@@ -242,7 +259,11 @@ impl<A: Allocator + Copy> Node<A> {
 fn no_place(at: u32) -> u8
     ensures { result ≡ spec.no_place at }
 {
-    if at < 64 { OUT_OF_SEGMENT } else { NO_ATTACHMENT }
+    if at < 64 {
+        OUT_OF_SEGMENT
+    } else {
+        NO_ATTACHMENT
+    }
 }
 
 /// What may stay mapped beside an access of the site.

@@ -1,5 +1,5 @@
 //! Lists of what is mapped.
-ghost use Rattle.std.specs.Prelude.{◌≡◌, ◌++◌, IfOk, OnOk};
+ghost use Rattle.std.specs.Prelude.{◌≡◌, ◌++◌, IfOk, OnOk, option_to_list};
 ghost use Rattle.shm_mapping.specs.Verdicts as verdicts;
 ghost use Rattle.shm_parts.specs.Message.{message_of, note_of};
 ghost use Rattle.shm_process.specs.Mapped as spec;
@@ -12,11 +12,11 @@ use shm_wire::Mapping;
 use std::alloc::{AllocError, Allocator};
 
 /// The page's mapping.
-pub(crate) fn mapped_at(mapped: &[Mapping], page: PageId) -> Option<Mapping>
-    ensures { result ≡ spec.mapped_at page mapped.now }
+pub(crate) fn mapped_at(mapped: &[Mapping], page: &PageId) -> Option<Mapping>
+    ensures { result ≡ spec.mapped_at page.now mapped.now }
 {
     'mapped: for mapping in mapped {
-        if page == mapping.page {
+        if *page == mapping.page {
             return Some(*mapping);
         }
     }
@@ -34,14 +34,14 @@ pub(crate) fn is_mapped_through(mapped: &[Mapping], at: u32) -> bool
 pub(crate) fn lowered<A: Allocator + Copy>(
     alloc: A,
     mapped: &[Mapping],
-    page: PageId,
+    page: &PageId,
     keeps: Option<Kind>,
 ) -> Result<Vec<Mapping, A>, AllocError>
-    ensures { IfOk result (λ left. left.items ≡ spec.lowered page keeps mapped.now) }
+    ensures { IfOk result (λ left. left.items ≡ spec.lowered page.now keeps mapped.now) }
 {
     let mut left = Vec::new(alloc);
     'mapped: for mapping in mapped {
-        push_left(&mut left, page, keeps, *mapping)?;
+        push_left(&mut left, page, keeps, mapping)?;
     }
     Ok(left)
 }
@@ -49,11 +49,11 @@ pub(crate) fn lowered<A: Allocator + Copy>(
 /// Appends what stays of a mapping.
 fn push_left<A: Allocator + Copy>(
     left: &mut Vec<Mapping, A>,
-    page: PageId,
+    page: &PageId,
     keeps: Option<Kind>,
-    mapping: Mapping,
+    mapping: &Mapping,
 ) -> Result<(), AllocError>
-    ensures { OnOk result (left.new.items ≡ left.old.items ++ spec.left_of page keeps mapping) }
+    ensures { OnOk result (left.new.items ≡ left.old.items ++ spec.left_of page.now keeps mapping.now) }
 {
     if let Some(stays) = left_of(page, keeps, mapping) {
         left.push(stays)?;
@@ -61,21 +61,20 @@ fn push_left<A: Allocator + Copy>(
     Ok(())
 }
 
-fn left_of(page: PageId, keeps: Option<Kind>, mapping: Mapping) -> Option<Mapping>
-    ensures { option_to_list result ≡ spec.left_of page keeps mapping }
+fn left_of(page: &PageId, keeps: Option<Kind>, mapping: &Mapping) -> Option<Mapping>
+    ensures { option_to_list result ≡ spec.left_of page.now keeps mapping.now }
 {
-    if page != mapping.page {
-        return Some(mapping);
+    if *page != mapping.page {
+        return Some(*mapping);
     }
-    let Mapping { at, page, kind } = mapping;
     match keeps {
         None => None,
         Some(Kind::Read) => Some(Mapping {
-            at,
-            page,
+            at: mapping.at,
+            page: mapping.page,
             kind: Kind::Read,
         }),
-        Some(Kind::Write) => Some(Mapping { at, page, kind }),
+        Some(Kind::Write) => Some(*mapping),
     }
 }
 
@@ -83,22 +82,21 @@ fn left_of(page: PageId, keeps: Option<Kind>, mapping: Mapping) -> Option<Mappin
 pub(crate) fn remapped<A: Allocator + Copy>(
     alloc: A,
     mapped: &[Mapping],
-    new: Mapping,
+    new: &Mapping,
 ) -> Result<Vec<Mapping, A>, AllocError>
-    ensures { IfOk result (λ after. after.items ≡ spec.remapped new mapped.now) }
+    ensures { IfOk result (λ after. after.items ≡ spec.remapped new.now mapped.now) }
 {
-    let mapping = mapped_for(new, mapped_at(mapped, new.page));
-    let mut after = lowered(alloc, mapped, new.page, None)?;
-    after.push(mapping)?;
+    let mut after = lowered(alloc, mapped, &new.page, None)?;
+    after.push(mapped_for(new, mapped_at(mapped, &new.page)))?;
     Ok(after)
 }
 
-fn mapped_for(new: Mapping, old: Option<Mapping>) -> Mapping
-    ensures { result ≡ spec.mapped_for new old }
+fn mapped_for(new: &Mapping, old: Option<Mapping>) -> Mapping
+    ensures { result ≡ spec.mapped_for new.now old }
 {
     match old {
         Some(old) if old.kind == Kind::Write => old,
-        _ => new,
+        _ => *new,
     }
 }
 
@@ -111,7 +109,7 @@ pub(crate) fn wanted<A: Allocator + Copy>(
     ensures { result ≡ spec.wanted me (message_of message.now) mapped.now }
 {
     'mapped: for mapping in mapped {
-        if verdict_for(me, message, *mapping) != Verdict::Take {
+        if verdict_for(me, message, mapping) != Verdict::Take {
             return Some(*mapping);
         }
     }
@@ -122,9 +120,9 @@ pub(crate) fn wanted<A: Allocator + Copy>(
 pub(crate) fn verdict_for<A: Allocator + Copy>(
     me: SiteId,
     message: &Message<A>,
-    mapping: Mapping,
+    mapping: &Mapping,
 ) -> Verdict
-    ensures { result ≡ spec.verdict_for me (message_of message.now) mapping }
+    ensures { result ≡ spec.verdict_for me (message_of message.now) mapping.now }
 {
     let Message::Of { page, note } = message else {
         return Verdict::Take;

@@ -65,7 +65,14 @@ impl<A: Allocator + Copy> Node<A> {
         let last = self.is_last_at(at)?;
         let remapped = self.remapping_at(at, last)?;
         let asked = next_at(self.waiting.as_slice(), at, last);
-        let line = line_at(self.alloc, self.me, self.waiting.as_slice(), at, last, asked);
+        let line = line_at(
+            self.alloc,
+            self.me,
+            self.waiting.as_slice(),
+            at,
+            last,
+            asked,
+        );
         let mapped = self.mapped_after(&line)?;
         self.try_at(
             at,
@@ -148,7 +155,7 @@ fn next_at<A: Allocator + Copy>(waiting: &[WaitingAsk<A>], at: usize, last: bool
 }
 
 /// One step of the site at an access. One that waits for what was asked already leaves the site as it is.
-fn step_access<A: Allocator + Copy>(
+pub(crate) fn step_access<A: Allocator + Copy>(
     site: &mut Site<A>,
     input: Input<A>,
 ) -> Result<Made<A>, AllocError>

@@ -19,6 +19,7 @@ ghost use Rattle.std.specs.List.{flat_map, list_all};
 use crate::map::{first_byte, is_within};
 use crate::mappings::{is_mapped_through, mapped_at};
 use crate::node::Node;
+use crate::node_again::step_access;
 use shm_model::refusal::READ_ONLY;
 use shm_model::{Access, Answer, Asked, Kind, Request};
 use shm_place::{PAGE_BYTES, PageId};
@@ -32,7 +33,7 @@ impl<A: Allocator + Copy> Node<A> {
         ensures { result ≡ spec.mapped_there (node_of self.now).mapped (node_of self.now).site at offset }
     {
         match self.site.reached(at, offset) {
-            Some(page) => mapped_at(self.mapped.as_slice(), page),
+            Some(page) => mapped_at(self.mapped.as_slice(), &page),
             None => None,
         }
     }
@@ -107,8 +108,11 @@ impl<A: Allocator + Copy> Node<A> {
             return false;
         }
         let runs = ask.runs.as_slice();
-        may_give_up(ask.at, runs, self.mapped_there(ask.at, first_byte(ask.at, ask.index)))
-            && are_of_page(ask.index, runs)
+        may_give_up(
+            ask.at,
+            runs,
+            self.mapped_there(ask.at, first_byte(ask.at, ask.index)),
+        ) && are_of_page(ask.index, runs)
             && fit_a_page(runs)
     }
 
@@ -160,8 +164,8 @@ impl<A: Allocator + Copy> Node<A> {
         ensures byte { IfOk result (λ byte. byte ≡ byte_in (load (node_of self.old).sites (node_of self.old).me at offset (node_of self.old).site).answer) }
         ensures same { node_of self.new ≡ node_of self.old }
     {
-        let mut outbox = Vec::new(self.alloc);
-        match self.site.load(at, offset, &mut outbox)? {
+        let made = step_access(&mut self.site, Input::Load { at, offset })?;
+        match made.answer {
             Answer::Byte(byte) => Ok(byte),
             _ => Ok(0),
         }
@@ -191,7 +195,9 @@ fn is_of_page<A: Allocator + Copy>(index: u32, run: &Run<A>) -> bool
 {
     let first = index as usize * PAGE_BYTES;
     let offset = run.offset as usize;
-    first <= offset && offset <= first + PAGE_BYTES && run.bytes.len() <= first + PAGE_BYTES - offset
+    first <= offset
+        && offset <= first + PAGE_BYTES
+        && run.bytes.len() <= first + PAGE_BYTES - offset
 }
 
 /// Checks that the runs have no more bytes than a page.

@@ -70,21 +70,18 @@ impl<A: Allocator + Copy> Node<A> {
             return Ok(None);
         };
         let mapping = Mapping { at, page, kind };
-        let after = remapped(self.alloc, self.mapped.as_slice(), mapping)?;
+        let after = remapped(self.alloc, self.mapped.as_slice(), &mapping)?;
         Ok(Some(after))
     }
 
-    fn unmapped_asked(
-        &self,
-        unmap: &UnmapAsk<A>,
-    ) -> Result<Option<Vec<Mapping, A>>, AllocError>
+    fn unmapped_asked(&self, unmap: &UnmapAsk<A>) -> Result<Option<Vec<Mapping, A>>, AllocError>
         ensures { IfOk result (λ mapped. unwrap_or (option_map (λ m. m.items) mapped) (node_of self.now).mapped
             ≡ mapped_by (node_of self.now) (stream.Unmap (unmap_in unmap.now))) }
     {
         let Some(page) = self.page_within(unmap.at, unmap.index) else {
             return Ok(None);
         };
-        let left = lowered(self.alloc, self.mapped.as_slice(), page, unmap.keeps)?;
+        let left = lowered(self.alloc, self.mapped.as_slice(), &page, unmap.keeps)?;
         Ok(Some(left))
     }
 

@@ -170,11 +170,7 @@ impl<A: Allocator + Copy> Node<A> {
     }
 
     /// Makes the step again, and says nothing.
-    fn remake(
-        &mut self,
-        heard: Heard<A>,
-        mapped: Option<Vec<Mapping, A>>,
-    ) -> Result<(), AllocError>
+    fn remake(&mut self, heard: Heard<A>, mapped: Option<Vec<Mapping, A>>) -> Result<(), AllocError>
         requires proper { is_foreign self.old.sites self.old.me (input_of heard.input) ≡ false }
         requires early { max self.old.clock heard.source < greatest }
         ensures after { OnOk result (node_of self.new ≡ record (stepped (node_of self.old) (heard_of heard)) {

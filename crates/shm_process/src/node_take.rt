@@ -138,11 +138,7 @@ impl<A: Allocator + Copy> Node<A> {
         ensures after { OnOk result (node_of self.new ≡ after (node_of self.old) (stream.Unmap (unmap_in unmap))) }
         ensures refused { OnErr result (node_of self.new ≡ node_of self.old) }
     {
-        if !self.has_room()
-            || unmap.site != self.me
-            || self.is_late(0)
-            || !self.may_unmap(&unmap)
-        {
+        if !self.has_room() || unmap.site != self.me || self.is_late(0) || !self.may_unmap(&unmap) {
             self.pass_over();
             return Ok(None);
         }
@@ -163,11 +159,7 @@ impl<A: Allocator + Copy> Node<A> {
     }
 
     /// A block that is to be loaded, a page that is to be mapped, or an access that goes to what is mapped.
-    fn block_asked(
-        &self,
-        tag: Tag,
-        question: Question,
-    ) -> Result<Option<WaitingAsk<A>>, AllocError>
+    fn block_asked(&self, tag: Tag, question: Question) -> Result<Option<WaitingAsk<A>>, AllocError>
         requires { IsAsked question }
         ensures { IfOk result (λ block. option_map ask_of block ≡ block_in (node_of self.now) (tag_text tag) question) }
     {

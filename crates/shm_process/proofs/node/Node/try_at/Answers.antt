@@ -1,4 +1,4 @@
-use Rattle.std.proofs.Common.{◌≡◌, ◌∙◌, true, ap, ap₂, map, sym}
+use Rattle.std.proofs.Common.{◌≡◌, ◌∙◌, false, true, ap, ap₂, map, sym}
 use Rattle.std.specs.Prelude.{option_map}
 use Rattle.shm_model.specs.Step.{step}
 use Rattle.shm_parts.specs.Message.{envelope_of}
@@ -64,3 +64,16 @@ returns-clause-after g c =
     c.goes_on_at-stays.result (option_map tag_text c.go_on_or_end-told.result.0) (map ask_of c.go_on_or_end-told.new.waiting.items) c.next_clock-clock.result
     c.change_mapped.new.mapped.items stays c.go_on_or_end-told.ensures.tag c.go_on_or_end-told.ensures.after c.next_clock-clock.ensures
     (c.change_mapped.ensures ∙ c.requires.mapped) c.say-said.ensures.after
+
+pub returns-clause-can : goal.returns-clause-can
+returns-clause-can g c =
+    let self = c.args.self.now in
+    let node = node_of self in
+    let done = c.in_ok-made.made in
+    let input = input_of c.of.result in
+    let made : step node.sites node.me node.site input ≡ stepped c.step_access.new.site done.answer (map envelope_of done.sent.items) =
+    sym (ap₂ (λ sites me. step sites me node.site input) self.all_sites self.own_number) ∙ c.in_ok-made.ensures.step in
+    let waits = sym c.is_waiting.ensures ∙ c.if-is_waiting.false in
+    let m : IsMade node c.args.at c.args.next.asked input (site_of c.step_access.new.site) done.answer (map envelope_of done.sent.items) =
+    record { asks = c.requires.asked; hands = c.of.ensures.input; made = made } in
+    can_be node c.args.at c.args.next.asked input (site_of c.step_access.new.site) done.answer (map envelope_of done.sent.items) m false waits c.requires.free
