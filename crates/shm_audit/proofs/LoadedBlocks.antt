@@ -9,10 +9,11 @@ use Rattle.std.proofs.lemmas.List.{get_or_past, length-append}
 use Rattle.std.proofs.lemmas.List.Elements.{All-nil, All-append, All-drop, All-get_or, All-push, All-set, All-take, All-weaker}
 use Rattle.shm_model.specs.declared.answer.Answer.{Answer}
 use Rattle.shm_model.specs.declared.answer.Answer.TheVariants.{Byte, Stored, Fault, Waiting, Began, Replied, Took, Dropped, Refused}
+use Rattle.shm_model.specs.declared.asked.Asked.{Asked}
 use Rattle.shm_model.specs.declared.asked.Asked.TheVariants.{Load}
+use Rattle.shm_model.specs.declared.kind.Kind.{Kind}
 use Rattle.shm_model.specs.Message.{Begin, Deliver, Tick}
 use Rattle.shm_model.specs.Receipt.{access_of}
-use Rattle.shm_model.specs.Step.{foreign}
 use Rattle.shm_lines.proofs.StepLemmas.{lt-true}
 use Rattle.shm_wire.proofs.LineWords.{line-is_spelled}
 use Rattle.shm_wire.specs.Asks.{Ask, IsAsked, is_block}
@@ -20,15 +21,18 @@ use Rattle.shm_wire.specs.Line as stream
 use Rattle.shm_wire.specs.Line.{read_line}
 use Rattle.shm_wire.specs.declared.ask.Question.{Question}
 use Rattle.shm_wire.specs.declared.ask.Question.TheVariants as question
+use Rattle.shm_wire.specs.Unmaps.{UnmapAsk}
 use Rattle.shm_wire.specs.Writes.{WriteAsk, IsWrite}
 use Rattle.shm_process.specs.Blocks.{Block}
 use Rattle.shm_process.specs.Cause.{OfLine}
+use Rattle.shm_process.specs.Mapped.{is_passing, is_within}
+use Rattle.shm_process.specs.Remaps.{may_unmap}
 use Rattle.shm_process.specs.Writes.{Write}
 use Rattle.shm_process.proofs.WriteLemmas.{GoesOn, goes-on}
-use Rattle.shm_process.specs.WaitingAsks.{Access, Reads, Writes, WaitingAsk, after_answer, ask_in, goes_on, waiting_after}
-use Rattle.shm_process.specs.Node.{Node, Heard, Said, answer_to, heard, input_asked, is_beyond, is_late, under_tag, waits_for}
+use Rattle.shm_process.specs.WaitingAsks.{Access, Maps, Reads, Unmaps, Writes, WaitingAsk, after_answer, ask_in, goes_on, is_last, next_access, waiting_after}
+use Rattle.shm_process.specs.Node.{Node, Heard, Said, answer_to, heard, input_asked, is_late, is_lost, is_stopped, is_withheld, under_tag, waits_for}
 use Rattle.shm_process.specs.Recorded.{Event, Line, TooLong, Again, Restarted, after_event, after_events, said_at}
-use Rattle.shm_process.specs.Waiting.{after_heard, after_read, after_restart, after_unheard, again_at, block_here, block_in, has_room, joining, joins, next_heard, next_line, ready, says_at, unstored, with_ask, write_here}
+use Rattle.shm_process.specs.Waiting.{after_heard, after_read, after_restart, after_unheard, again_at, block_here, block_in, has_room, joining, joins, line_if, map_in, next_heard, passing_in, ready, says_at, unmap_here, unmap_in, unstored, with_ask, write_here}
 use Rattle.shm_audit.proofs.Among.{loads-push}
 use Rattle.shm_audit.proofs.Since.{after-both, since-more, since-push}
 use Rattle.shm_audit.proofs.StoredBytes.{stores-push}
@@ -52,6 +56,8 @@ HasLoaded me first events (Reads block) =
     MadeSince first events (ask_of me block) (loads me block.tag block.at block.offset block.bytes) × (length block.bytes < block.count)
 HasLoaded me first events (Writes write) =
     MadeSince first events (stream.Write (asked_write me write)) (stored_of me write) × (write.stored < length write.bytes)
+HasLoaded me first events (Maps map) = Unit {0}
+HasLoaded me first events (Unmaps unmap) = Unit {0}
 
 abbrev AllLoaded : ℕ → Node → List Event → List WaitingAsk → Type 0
 AllLoaded me first events waiting = All (HasLoaded me first events) waiting
@@ -63,6 +69,8 @@ loaded-more me first events event (Reads block) h =
     (since-more first events event (ask_of me block) (loads me block.tag block.at block.offset block.bytes) h.0, h.1)
 loaded-more me first events event (Writes write) h =
     (since-more first events event (stream.Write (asked_write me write)) (stored_of me write) h.0, h.1)
+loaded-more me first events event (Maps map) h = tt
+loaded-more me first events event (Unmaps unmap) h = tt
 
 all-more : (me : ℕ) (first : Node) (events : List Event) (event : Event) (waiting : List WaitingAsk) → AllLoaded me first events waiting
     → AllLoaded me first (events ++ event ∷ []) waiting
@@ -79,18 +87,21 @@ ask-loaded me first events waiting at h = go (cases_lt at (length waiting))
 
 -- ---- a step that is made of one of them
 
-abbrev pub step_of : ℕ → WaitingAsk → Answer → Made
-step_of me ask answer = record { cause = OfLine (next_line me ask); answer = answer }
+abbrev pub step_of : Node → ℕ → WaitingAsk → Answer → Made
+step_of node me ask answer = record {
+  cause = OfLine (line_if (is_last node.sites node.site ask) me ask (next_access node.sites node.site ask));
+  answer = answer;
+}
 
 -- this event makes this step
 abbrev pub Makes : Node → List Event → Event → Made → Type 0
 Makes first events event step = (said : Said) × (said_at (after_events first events) event ≡ Some said) × (made_by said ≡ step)
 
 -- a block's next load
-block-loads : (me : ℕ) (first : Node) (events : List Event) (event : Event) (block : Block) (byte : ℕ)
-    → Makes first events event (step_of me (Reads block) (Byte byte)) → HasLoaded me first events (Reads block)
+block-loads : (node : Node) (me : ℕ) (first : Node) (events : List Event) (event : Event) (block : Block) (byte : ℕ)
+    → Makes first events event (step_of node me (Reads block) (Byte byte)) → HasLoaded me first events (Reads block)
     → MadeSince first (events ++ event ∷ []) (ask_of me block) (loads me block.tag block.at block.offset (block.bytes ++ byte ∷ []))
-block-loads me first events event block byte makes h =
+block-loads node me first events event block byte makes h =
     let others = loads me block.tag block.at block.offset block.bytes in
     subst (MadeSince first (events ++ event ∷ []) (ask_of me block))
     (ap (λ step. others ++ step ∷ []) makes.2 ∙ sym (loads-push me block.tag block.at block.offset block.bytes byte))
@@ -101,56 +112,58 @@ more-to-load : (bytes : List ℕ) (byte count : ℕ) → nat_lt (length bytes + 
 more-to-load bytes byte count on = subst (λ n. n < count) (sym (length-append bytes (byte ∷ []))) (lt-true (length bytes + 1) count on)
 
 -- a block's next store
-pub block-stores : (me : ℕ) (first : Node) (events : List Event) (event : Event) (write : Write)
-    → Makes first events event (step_of me (Writes write) Stored) → HasLoaded me first events (Writes write)
+pub block-stores : (node : Node) (me : ℕ) (first : Node) (events : List Event) (event : Event) (write : Write)
+    → Makes first events event (step_of node me (Writes write) Stored) → HasLoaded me first events (Writes write)
     → MadeSince first (events ++ event ∷ []) (stream.Write (asked_write me write)) (stored_of me (record write { stored = write.stored + 1 }))
-block-stores me first events event write makes h =
+block-stores node me first events event write makes h =
     let others = stored_of me write in
     subst (MadeSince first (events ++ event ∷ []) (stream.Write (asked_write me write)))
     (ap (λ step. others ++ step ∷ []) makes.2 ∙ sym (stores-push me write.tag write.at write.offset write.bytes write.stored h.1))
     (since-push first events event makes.0 (stream.Write (asked_write me write)) others makes.1 h.0)
 
-write-stored : (me : ℕ) (first : Node) (events : List Event) (event : Event) (write : Write) (answer : Answer)
-    → Makes first events event (step_of me (Writes write) answer) → HasLoaded me first events (Writes write) → GoesOn write answer
+write-stored : (node : Node) (me : ℕ) (first : Node) (events : List Event) (event : Event) (write : Write) (answer : Answer)
+    → Makes first events event (step_of node me (Writes write) answer) → HasLoaded me first events (Writes write) → GoesOn write answer
     → HasLoaded me first (events ++ event ∷ []) (after_answer (Writes write) answer)
-write-stored me first events event write answer makes h (inl on) =
-    let made = subst (λ a. Makes first events event (step_of me (Writes write) a)) on.0 makes in
+write-stored node me first events event write answer makes h (inl on) =
+    let made = subst (λ a. Makes first events event (step_of node me (Writes write) a)) on.0 makes in
     subst (λ a. HasLoaded me first (events ++ event ∷ []) (after_answer (Writes write) a)) (sym on.0)
-    (block-stores me first events event write made h, on.1)
-write-stored me first events event write answer makes h (inr on) =
+    (block-stores node me first events event write made h, on.1)
+write-stored node me first events event write answer makes h (inr on) =
     subst (λ n. HasLoaded me first (events ++ event ∷ []) (Writes (record write { stored = n }))) (sym on.1)
     (loaded-more me first events event (Writes write) h)
 
-after-loaded : (me : ℕ) (first : Node) (events : List Event) (event : Event) (ask : WaitingAsk) (answer : Answer) → Makes first events event (step_of me ask answer)
+after-loaded : (node : Node) (me : ℕ) (first : Node) (events : List Event) (event : Event) (ask : WaitingAsk) (answer : Answer) → Makes first events event (step_of node me ask answer)
     → HasLoaded me first events ask → goes_on ask answer ≡ true → HasLoaded me first (events ++ event ∷ []) (after_answer ask answer)
-after-loaded me first events event (Access tag asked) answer makes h on = tt
-after-loaded me first events event (Reads block) (Byte byte) makes h on =
-    (block-loads me first events event block byte makes h, more-to-load block.bytes byte block.count on)
-after-loaded me first events event (Reads block) Stored makes h on = loaded-more me first events event (Reads block) h
-after-loaded me first events event (Reads block) Fault makes h on = loaded-more me first events event (Reads block) h
-after-loaded me first events event (Reads block) Waiting makes h on = loaded-more me first events event (Reads block) h
-after-loaded me first events event (Reads block) (Began number) makes h on = loaded-more me first events event (Reads block) h
-after-loaded me first events event (Reads block) (Replied number reply attachment) makes h on = loaded-more me first events event (Reads block) h
-after-loaded me first events event (Reads block) Took makes h on = loaded-more me first events event (Reads block) h
-after-loaded me first events event (Reads block) Dropped makes h on = loaded-more me first events event (Reads block) h
-after-loaded me first events event (Reads block) (Refused refusal) makes h on = loaded-more me first events event (Reads block) h
-after-loaded me first events event (Writes write) answer makes h on = write-stored me first events event write answer makes h (goes-on write answer on)
+after-loaded node me first events event (Access tag asked) answer makes h on = tt
+after-loaded node me first events event (Reads block) (Byte byte) makes h on =
+    (block-loads node me first events event block byte makes h, more-to-load block.bytes byte block.count on)
+after-loaded node me first events event (Reads block) Stored makes h on = loaded-more me first events event (Reads block) h
+after-loaded node me first events event (Reads block) Fault makes h on = loaded-more me first events event (Reads block) h
+after-loaded node me first events event (Reads block) Waiting makes h on = loaded-more me first events event (Reads block) h
+after-loaded node me first events event (Reads block) (Began number) makes h on = loaded-more me first events event (Reads block) h
+after-loaded node me first events event (Reads block) (Replied number reply attachment) makes h on = loaded-more me first events event (Reads block) h
+after-loaded node me first events event (Reads block) Took makes h on = loaded-more me first events event (Reads block) h
+after-loaded node me first events event (Reads block) Dropped makes h on = loaded-more me first events event (Reads block) h
+after-loaded node me first events event (Reads block) (Refused refusal) makes h on = loaded-more me first events event (Reads block) h
+after-loaded node me first events event (Maps map) answer makes h on = tt
+after-loaded node me first events event (Unmaps unmap) answer makes h on = tt
+after-loaded node me first events event (Writes write) answer makes h on = write-stored node me first events event write answer makes h (goes-on write answer on)
 
 left-case : (me : ℕ) (first : Node) (events : List Event) (ask : WaitingAsk) (answer : Answer) (b : Bool) (xs ys : List WaitingAsk) → goes_on ask answer ≡ b
     → (goes_on ask answer ≡ true → AllLoaded me first events xs) → AllLoaded me first events ys → AllLoaded me first events (cond b xs ys)
 left-case me first events ask answer true xs ys e p q = p e
 left-case me first events ask answer false xs ys e p q = q
 
-left-loaded : (me : ℕ) (first : Node) (events : List Event) (event : Event) (waiting : List WaitingAsk) (at : ℕ) (answer : Answer)
-    → Makes first events event (step_of me (ask_in waiting at) answer) → AllLoaded me first events waiting
+left-loaded : (node : Node) (me : ℕ) (first : Node) (events : List Event) (event : Event) (waiting : List WaitingAsk) (at : ℕ) (answer : Answer)
+    → Makes first events event (step_of node me (ask_in waiting at) answer) → AllLoaded me first events waiting
     → AllLoaded me first (events ++ event ∷ []) (waiting_after waiting at answer)
-left-loaded me first events event waiting at answer makes h =
+left-loaded node me first events event waiting at answer makes h =
     let ask = ask_in waiting at in
     let now = events ++ event ∷ [] in
     let all : AllLoaded me first now waiting = all-more me first events event waiting h in
     left-case me first now ask answer (goes_on ask answer) (set waiting at (after_answer ask answer)) (remove waiting at) refl
     (λ on. All-set (HasLoaded me first now) waiting at (after_answer ask answer)
-    (after-loaded me first events event ask answer makes (ask-loaded me first events waiting at h) on) all)
+    (after-loaded node me first events event ask answer makes (ask-loaded me first events waiting at h) on) all)
     (All-append (HasLoaded me first now) (take at waiting) (drop (suc at) waiting) (All-take (HasLoaded me first now) at waiting all)
     (All-drop (HasLoaded me first now) (suc at) waiting all))
 
@@ -174,6 +187,47 @@ goes-same me first events event node next own waiting h = record {
   all = subst (AllLoaded me first (events ++ event ∷ [])) (sym waiting) (all-more me first events event node.waiting h.all);
 }
 
+-- what joins those that wait and is no block
+abbrev IsNoBlock : Option WaitingAsk → Type 0
+IsNoBlock None = Unit {0}
+IsNoBlock (Some (Access tag asked)) = Unit {0}
+IsNoBlock (Some (Reads block)) = ⊥
+IsNoBlock (Some (Writes write)) = ⊥
+IsNoBlock (Some (Maps map)) = Unit {0}
+IsNoBlock (Some (Unmaps unmap)) = Unit {0}
+
+no-block-loaded : (me : ℕ) (first : Node) (events : List Event) (ask : WaitingAsk) → IsNoBlock (Some ask) → HasLoaded me first events ask
+no-block-loaded me first events (Access tag asked) is = tt
+no-block-loaded me first events (Reads block) is = absurd is
+no-block-loaded me first events (Writes write) is = absurd is
+no-block-loaded me first events (Maps map) is = tt
+no-block-loaded me first events (Unmaps unmap) is = tt
+
+no-block-goes : (me : ℕ) (first : Node) (events : List Event) (node : Node) (line : List ℕ) (ask : Option WaitingAsk) → Holds me first events node
+    → IsNoBlock ask → Goes me first events (Line line) (after_unheard node ask)
+no-block-goes me first events node line None h is = goes-same me first events (Line line) node (after_unheard node None) refl refl h
+no-block-goes me first events node line (Some ask) h is =
+    let now = events ++ Line line ∷ [] in
+    record {
+      own = h.own;
+      all = All-push (HasLoaded me first now) node.waiting ask (all-more me first events (Line line) node.waiting h.all) (no-block-loaded me first now ask is);
+    }
+
+map-no-block : (within : Bool) (tag : List ℕ) (at index : ℕ) (kind : Kind) → IsNoBlock (map_in within tag at index kind)
+map-no-block true tag at index kind = tt
+map-no-block false tag at index kind = tt
+
+passing-no-block : (passes : Bool) (tag : List ℕ) (asked : Asked) → IsNoBlock (passing_in passes tag asked)
+passing-no-block true tag asked = tt
+passing-no-block false tag asked = tt
+
+unmap-no-block : (room here late may : Bool) (unmap : UnmapAsk) → IsNoBlock (cond room (cond here (cond late None (unmap_in may unmap)) None) None)
+unmap-no-block false here late may unmap = tt
+unmap-no-block true false late may unmap = tt
+unmap-no-block true true true may unmap = tt
+unmap-no-block true true false true unmap = tt
+unmap-no-block true true false false unmap = tt
+
 -- what the test of a block says
 block-some : (offset count : ℕ) → is_block offset count ≡ true → 0 < count
 block-some offset count h = grind (arith, nat_tests)
@@ -184,7 +238,7 @@ AsksBy node line site tag q = (has_room node ≡ true) × (read_line line ≡ So
 
 block-in : (me : ℕ) (first : Node) (events : List Event) (node : Node) (line : List ℕ) (here late : Bool) (site : ℕ) (tag : List ℕ) (q : Question)
     → Holds me first events node → (here ≡ true → site ≡ me) → AsksBy node line site tag q
-    → Goes me first events (Line line) (after_unheard node (cond here (cond late None (block_in tag q)) None))
+    → Goes me first events (Line line) (after_unheard node (cond here (cond late None (block_in node tag q)) None))
 block-in me first events node line false late site tag q h own is = goes-same me first events (Line line) node (after_unheard node None) refl refl h
 block-in me first events node line true true site tag q h own is = goes-same me first events (Line line) node (after_unheard node None) refl refl h
 block-in me first events node line true false site tag (question.Read at offset count) h own is =
@@ -204,7 +258,12 @@ block-in me first events node line true false site tag (question.Read at offset 
       all = All-push (HasLoaded me first now) node.waiting (Reads block) (all-more me first events (Line line) node.waiting h.all)
           (asked, block-some offset count is.2.3);
     }
-block-in me first events node line true false site tag (question.Access asked) h own is = goes-same me first events (Line line) node (after_unheard node None) refl refl h
+block-in me first events node line true false site tag (question.Access asked) h own is =
+    let passes = is_passing node.mapped node.site asked in
+    no-block-goes me first events node line (passing_in passes tag asked) h (passing-no-block passes tag asked)
+block-in me first events node line true false site tag (question.Map at index kind) h own is =
+    no-block-goes me first events node line (map_in (is_within at index) tag at index kind) h (map-no-block (is_within at index) tag at index kind)
+block-in me first events node line true false site tag question.Mappings h own is = goes-same me first events (Line line) node (after_unheard node None) refl refl h
 block-in me first events node line true false site tag (question.Try asked) h own is = goes-same me first events (Line line) node (after_unheard node None) refl refl h
 block-in me first events node line true false site tag (question.Begin request) h own is = goes-same me first events (Line line) node (after_unheard node None) refl refl h
 block-in me first events node line true false site tag question.Tick h own is = goes-same me first events (Line line) node (after_unheard node None) refl refl h
@@ -260,6 +319,9 @@ unheard-goes : (me : ℕ) (first : Node) (events : List Event) (node : Node) (li
 unheard-goes me first events node line (stream.Envelope sent) h read = goes-same me first events (Line line) node (after_unheard node None) refl refl h
 unheard-goes me first events node line (stream.Write write) h read =
     write-goes me first events node line (has_room node) write h refl read
+unheard-goes me first events node line (stream.Unmap unmap) h read =
+    no-block-goes me first events node line (cond (has_room node) (unmap_here node unmap) None) h
+    (unmap-no-block (has_room node) (unmap.site == node.me) (is_late node 0) (may_unmap node.mapped node.site unmap) unmap)
 unheard-goes me first events node line (stream.Ask ask) h read = ask-goes me first events node line (has_room node) ask h refl read
 
 -- what joins is an access
@@ -268,6 +330,8 @@ IsAccess None = Unit {0}
 IsAccess (Some (Access tag asked)) = Unit {0}
 IsAccess (Some (Reads block)) = ⊥
 IsAccess (Some (Writes write)) = ⊥
+IsAccess (Some (Maps map)) = ⊥
+IsAccess (Some (Unmaps unmap)) = ⊥
 
 with-loaded : (me : ℕ) (first : Node) (events : List Event) (waiting : List WaitingAsk) (ask : Option WaitingAsk) (joins : Bool) → IsAccess ask
     → AllLoaded me first events waiting → AllLoaded me first events (with_ask waiting ask joins)
@@ -276,6 +340,8 @@ with-loaded me first events waiting (Some (Access tag asked)) true is h = All-pu
 with-loaded me first events waiting (Some (Access tag asked)) false is h = h
 with-loaded me first events waiting (Some (Reads block)) joins is h = absurd is
 with-loaded me first events waiting (Some (Writes write)) joins is h = absurd is
+with-loaded me first events waiting (Some (Maps map)) joins is h = absurd is
+with-loaded me first events waiting (Some (Unmaps unmap)) joins is h = absurd is
 
 some-is : {A : Type 0} (a b : A) → Some a ≡ Some b → a ≡ b
 some-is a b h = cc
@@ -294,13 +360,16 @@ asked-access tag (question.Read at offset count) x true false e = absurd (cc)
 asked-access tag (question.Begin request) x true false e = made-access false (under_tag tag None (Begin request)) x tt e
 asked-access tag question.Tick x true false e = made-access false (under_tag tag None Tick) x tt e
 asked-access tag (question.Show page) x true false e = absurd (cc)
+asked-access tag (question.Map at index kind) x true false e = absurd (cc)
+asked-access tag question.Mappings x true false e = absurd (cc)
 
 heard-access : (node : Node) (is : stream.Line) (x : Heard) → heard node is ≡ Some x → IsAccess x.waits
 heard-access node (stream.Envelope sent) x e =
-    made-access (foreign node.sites node.me sent.envelope || (is_late node sent.source.at || is_beyond node sent))
+    made-access (is_lost node sent || is_withheld node sent)
     (record { input = Deliver sent.envelope; source = sent.source.at; tag = None; waits = None }) x tt e
 heard-access node (stream.Write write) x e = absurd (cc)
-heard-access node (stream.Ask ask) x e = asked-access ask.tag ask.asked x (ask.site == node.me) (is_late node 0) e
+heard-access node (stream.Unmap unmap) x e = absurd (cc)
+heard-access node (stream.Ask ask) x e = asked-access ask.tag ask.asked x (ask.site == node.me) (is_stopped node ask.asked) e
 
 line-goes : (me : ℕ) (first : Node) (events : List Event) (node : Node) (line : List ℕ) (is : stream.Line) (o : Option Heard) → Holds me first events node
     → read_line line ≡ Some is → heard node is ≡ o → Goes me first events (Line line) (after_heard node (joining node is) o)
@@ -322,12 +391,12 @@ again-goes : (me : ℕ) (first : Node) (events : List Event) (node : Node) (p : 
 again-goes me first events node None h e = goes-same me first events Again node node refl refl h
 again-goes me first events node (Some at) h e =
     let ask = ask_in node.waiting at in
-    let answer = answer_to node (next_heard ask) in
-    let makes : Makes first events Again (step_of node.me ask answer) =
+    let answer = answer_to node (next_heard node ask) in
+    let makes : Makes first events Again (step_of node node.me ask answer) =
     (says_at node at, subst (λ n. said_at n Again ≡ Some (says_at node at)) h.here (ap (option_map (says_at node)) e), refl) in
     record {
       own = h.own;
-      all = left-loaded me first events Again node.waiting at answer (subst (λ m. Makes first events Again (step_of m ask answer)) h.own makes) h.all;
+      all = left-loaded node me first events Again node.waiting at answer (subst (λ m. Makes first events Again (step_of node m ask answer)) h.own makes) h.all;
     }
 
 restart-goes : (me : ℕ) (first : Node) (events : List Event) (node : Node) (late : Bool) → Holds me first events node

@@ -20,12 +20,12 @@ last-is : (n count : ℕ) → nat_lt (n + 1) count ≡ false → count ≤ n + 1
 last-is n count last = grind (arith, nat_tests)
 
 -- the ask is told of its last store, or it goes on
-told-by-write : (me : ℕ) (first : Node) (events : List Event) (write : Write) (caller : Option (List ℕ)) (tag : List ℕ) (on : Bool)
+told-by-write : (node : Node) (me : ℕ) (first : Node) (events : List Event) (write : Write) (caller : Option (List ℕ)) (tag : List ℕ) (on : Bool)
     → HasLoaded me first events (Writes write) → nat_lt (write.stored + 1) (length write.bytes) ≡ on
     → tag_told on (Some write.tag) caller Stored ≡ Some tag
-    → IsStoredBlock me first events (tag_told on (Some write.tag) caller Stored) (step_of me (Writes write) Stored) write
-told-by-write me first events write caller tag true h last told = absurd (cc)
-told-by-write me first events write caller tag false h last told = record {
+    → IsStoredBlock me first events (tag_told on (Some write.tag) caller Stored) (step_of node me (Writes write) Stored) write
+told-by-write node me first events write caller tag true h last told = absurd (cc)
+told-by-write node me first events write caller tag false h last told = record {
   others = stored_of me write;
   is_told = refl;
   stored = ap (stores me write.tag write.at write.offset) (sym (take_all (write.stored + 1) write.bytes (last-is write.stored (length write.bytes) last)))
@@ -43,14 +43,14 @@ block_is_stored sites me pages events at write tag asked stored told =
     let first = new_node sites me pages in
     let node = after_events first events in
     let ask = ask_in node.waiting at in
-    let answer = answer_to node (next_heard ask) in
+    let answer = answer_to node (next_heard node ask) in
     let h : Holds me first events node = all_hold sites me pages events in
     let has : HasLoaded me first events (Writes write) = subst (HasLoaded me first events) asked (ask-loaded me first events node.waiting at h.all) in
     let says : tag_told (goes_on ask answer) (Some (tag_of ask)) node.caller answer ≡ tag_told (goes_on (Writes write) Stored) (Some write.tag) node.caller Stored =
     ap (λ a. tag_told (goes_on ask a) (Some (tag_of ask)) node.caller a) stored
     ∙ ap (λ q. tag_told (goes_on q Stored) (Some (tag_of q)) node.caller Stored) asked in
-    let step : step_of node.me ask answer ≡ step_of me (Writes write) Stored =
-    ap (λ a. step_of node.me ask a) stored ∙ ap (λ q. step_of node.me q Stored) asked ∙ ap (λ m. step_of m (Writes write) Stored) h.own in
-    subst (λ t. IsStoredBlock me first events t (step_of node.me ask answer) write) (sym says)
+    let step : step_of node node.me ask answer ≡ step_of node me (Writes write) Stored =
+    ap (λ a. step_of node node.me ask a) stored ∙ ap (λ q. step_of node node.me q Stored) asked ∙ ap (λ m. step_of node m (Writes write) Stored) h.own in
+    subst (λ t. IsStoredBlock me first events t (step_of node node.me ask answer) write) (sym says)
     (subst (λ s. IsStoredBlock me first events (tag_told (goes_on (Writes write) Stored) (Some write.tag) node.caller Stored) s write) (sym step)
-    (told-by-write me first events write node.caller tag (goes_on (Writes write) Stored) has refl (sym says ∙ told)))
+    (told-by-write node me first events write node.caller tag (goes_on (Writes write) Stored) has refl (sym says ∙ told)))

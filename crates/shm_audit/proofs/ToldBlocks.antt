@@ -11,7 +11,7 @@ use Rattle.shm_wire.specs.Line.{read_line}
 use Rattle.shm_wire.specs.declared.ask.Question.TheVariants as question
 use Rattle.shm_process.specs.Blocks.{Block, whole_after, goes_on as block_goes_on}
 use Rattle.shm_process.specs.Cause.{OfLine}
-use Rattle.shm_process.specs.WaitingAsks.{Access, Reads, Writes, WaitingAsk, all_bytes, ask_in, goes_on, tag_of}
+use Rattle.shm_process.specs.WaitingAsks.{Access, Maps, Reads, Unmaps, Writes, WaitingAsk, all_bytes, ask_in, goes_on, tag_of}
 use Rattle.shm_process.specs.Node.{Node, Heard, Said, answer_to, heard, is_late, new_node, says, tag_told}
 use Rattle.shm_process.specs.Recorded.{Event, Line, TooLong, Again, Restarted, after_events, said_at}
 use Rattle.shm_process.specs.Waiting.{joins, next_heard, ready, said_read, said_restart, says_at}
@@ -26,12 +26,12 @@ some-is a b h = cc
 count-is : (n count : ℕ) → nat_lt (n + 1) count ≡ false → n < count → count ≡ n + 1
 count-is n count last more = grind (arith, nat_tests)
 
-told-by-byte : (me : ℕ) (first : Node) (events : List Event) (block : Block) (byte : ℕ) (asked caller : Option (List ℕ)) (bytes : List ℕ) (on : Bool)
+told-by-byte : (node : Node) (me : ℕ) (first : Node) (events : List Event) (block : Block) (byte : ℕ) (asked caller : Option (List ℕ)) (bytes : List ℕ) (on : Bool)
     → HasLoaded me first events (Reads block) → nat_lt (length block.bytes + 1) block.count ≡ on → asked ≡ Some block.tag
     → cond on None (Some (block.bytes ++ byte ∷ [])) ≡ Some bytes
-    → IsLoadedBlock me first events (tag_told on asked caller (Byte byte)) (step_of me (Reads block) (Byte byte)) bytes
-told-by-byte me first events block byte asked caller bytes true h last tag e = absurd (cc)
-told-by-byte me first events block byte asked caller bytes false h last tag e =
+    → IsLoadedBlock me first events (tag_told on asked caller (Byte byte)) (step_of node me (Reads block) (Byte byte)) bytes
+told-by-byte node me first events block byte asked caller bytes true h last tag e = absurd (cc)
+told-by-byte node me first events block byte asked caller bytes false h last tag e =
     let same : block.bytes ++ byte ∷ [] ≡ bytes = some-is (block.bytes ++ byte ∷ []) bytes e in
     let others = loads me block.tag block.at block.offset block.bytes in
     let count : block.count ≡ length bytes =
@@ -46,28 +46,30 @@ told-by-byte me first events block byte asked caller bytes false h last tag e =
       since = subst (λ n. MadeSince first events (stream.Ask (record { site = me; tag = block.tag; asked = question.Read block.at block.offset n })) others) count h.0;
     }
 
-told-by-answer : (me : ℕ) (first : Node) (events : List Event) (block : Block) (answer : Answer) (asked caller : Option (List ℕ)) (bytes : List ℕ)
+told-by-answer : (node : Node) (me : ℕ) (first : Node) (events : List Event) (block : Block) (answer : Answer) (asked caller : Option (List ℕ)) (bytes : List ℕ)
     → HasLoaded me first events (Reads block) → asked ≡ Some block.tag
     → whole_after block answer ≡ Some bytes
-    → IsLoadedBlock me first events (tag_told (block_goes_on block answer) asked caller answer) (step_of me (Reads block) answer) bytes
-told-by-answer me first events block (Byte byte) asked caller bytes h tag e =
-    told-by-byte me first events block byte asked caller bytes (block_goes_on block (Byte byte)) h refl tag e
-told-by-answer me first events block Stored asked caller bytes h tag e = absurd (cc)
-told-by-answer me first events block Fault asked caller bytes h tag e = absurd (cc)
-told-by-answer me first events block Waiting asked caller bytes h tag e = absurd (cc)
-told-by-answer me first events block (Began number) asked caller bytes h tag e = absurd (cc)
-told-by-answer me first events block (Replied number reply attachment) asked caller bytes h tag e = absurd (cc)
-told-by-answer me first events block Took asked caller bytes h tag e = absurd (cc)
-told-by-answer me first events block Dropped asked caller bytes h tag e = absurd (cc)
-told-by-answer me first events block (Refused refusal) asked caller bytes h tag e = absurd (cc)
+    → IsLoadedBlock me first events (tag_told (block_goes_on block answer) asked caller answer) (step_of node me (Reads block) answer) bytes
+told-by-answer node me first events block (Byte byte) asked caller bytes h tag e =
+    told-by-byte node me first events block byte asked caller bytes (block_goes_on block (Byte byte)) h refl tag e
+told-by-answer node me first events block Stored asked caller bytes h tag e = absurd (cc)
+told-by-answer node me first events block Fault asked caller bytes h tag e = absurd (cc)
+told-by-answer node me first events block Waiting asked caller bytes h tag e = absurd (cc)
+told-by-answer node me first events block (Began number) asked caller bytes h tag e = absurd (cc)
+told-by-answer node me first events block (Replied number reply attachment) asked caller bytes h tag e = absurd (cc)
+told-by-answer node me first events block Took asked caller bytes h tag e = absurd (cc)
+told-by-answer node me first events block Dropped asked caller bytes h tag e = absurd (cc)
+told-by-answer node me first events block (Refused refusal) asked caller bytes h tag e = absurd (cc)
 
-told-by-ask : (me : ℕ) (first : Node) (events : List Event) (ask : WaitingAsk) (answer : Answer) (caller : Option (List ℕ)) (bytes : List ℕ)
+told-by-ask : (node : Node) (me : ℕ) (first : Node) (events : List Event) (ask : WaitingAsk) (answer : Answer) (caller : Option (List ℕ)) (bytes : List ℕ)
     → HasLoaded me first events ask → all_bytes ask answer ≡ Some bytes
-    → IsLoadedBlock me first events (tag_told (goes_on ask answer) (Some (tag_of ask)) caller answer) (step_of me ask answer) bytes
-told-by-ask me first events (Access tag asked) answer caller bytes has w = absurd (cc)
-told-by-ask me first events (Reads block) answer caller bytes has w =
-    told-by-answer me first events block answer (Some block.tag) caller bytes has refl w
-told-by-ask me first events (Writes write) answer caller bytes has w = absurd (cc)
+    → IsLoadedBlock me first events (tag_told (goes_on ask answer) (Some (tag_of ask)) caller answer) (step_of node me ask answer) bytes
+told-by-ask node me first events (Access tag asked) answer caller bytes has w = absurd (cc)
+told-by-ask node me first events (Reads block) answer caller bytes has w =
+    told-by-answer node me first events block answer (Some block.tag) caller bytes has refl w
+told-by-ask node me first events (Writes write) answer caller bytes has w = absurd (cc)
+told-by-ask node me first events (Maps map) answer caller bytes has w = absurd (cc)
+told-by-ask node me first events (Unmaps unmap) answer caller bytes has w = absurd (cc)
 
 -- if a step is made, and told with a block, its bytes are what its loads were answered
 abbrev SaysLoaded : ℕ → Node → List Event → Option Said → Type 0
@@ -88,9 +90,9 @@ told-again : (me : ℕ) (first : Node) (events : List Event) (node : Node) (p : 
 told-again me first events node None h = tt
 told-again me first events node (Some at) h = λ bytes w.
     let ask = ask_in node.waiting at in
-    let answer = answer_to node (next_heard ask) in
-    subst (λ m. IsLoadedBlock me first events (tag_told (goes_on ask answer) (Some (tag_of ask)) node.caller answer) (step_of m ask answer) bytes) (sym h.own)
-    (told-by-ask me first events ask answer node.caller bytes (ask-loaded me first events node.waiting at h.all) w)
+    let answer = answer_to node (next_heard node ask) in
+    subst (λ m. IsLoadedBlock me first events (tag_told (goes_on ask answer) (Some (tag_of ask)) node.caller answer) (step_of node m ask answer) bytes) (sym h.own)
+    (told-by-ask node me first events ask answer node.caller bytes (ask-loaded me first events node.waiting at h.all) w)
 
 told-restart : (me : ℕ) (first : Node) (events : List Event) (node : Node) (late : Bool) → SaysLoaded me first events (cond late None (Some (said_restart node)))
 told-restart me first events node true = tt

@@ -1,15 +1,20 @@
 -- What an entry of a journal hands to its site's box, and the box after it.
 use Rattle.std.specs.Prelude.{ℕ, Option, Some, None, ◌==◌, if◌then◌else◌, option_and_then, option_map}
 use Rattle.shm_model.specs.Log.{Stamp}
-use Rattle.shm_model.specs.Message.{Input, Deliver, Restart}
+use Rattle.shm_model.specs.Message.{Input, Deliver, Load, Restart}
 use Rattle.shm_process.specs.Cause.{Cause, OfLine, OfRestart}
+use Rattle.shm_process.specs.Mapped.{first_byte, is_within}
 use Rattle.shm_process.specs.Node.{input_asked}
 use Rattle.shm_process.specs.Recorded.{Entry}
+use Rattle.shm_process.specs.Remaps.{is_empty}
 use Rattle.shm_logs.specs.Boxes.Box.{Box, after, refusal}
 use Rattle.shm_logs.specs.declared.boxes.box_fault.BoxFault.{BoxFault}
 use Rattle.shm_wire.specs.Asks.{Ask}
 use Rattle.shm_wire.specs.Line as stream
 use Rattle.shm_wire.specs.Sent.{Sent}
+use Rattle.shm_wire.specs.Unmaps.{UnmapAsk}
+use Rattle.shm_wire.specs.declared.ask.Question.{Question}
+use Rattle.shm_wire.specs.declared.ask.Question.TheVariants as question
 
 -- ---- what is handed over
 
@@ -25,16 +30,38 @@ unsent input = record { input = input; source = record { at = 0; index = 0; plac
 abbrev pub delivered : Sent → Handed
 delivered sent = record { input = Deliver sent.envelope; source = sent.source }
 
--- what a caller asks of this site, unless it is no step
+-- the load of a page's first byte, with which the page is mapped or given up
+abbrev pub page_load : ℕ → ℕ → Option Input
+page_load at index = if is_within at index then Some (Load at (first_byte index)) else None
+
+-- what is asked in an entry, unless it is no step: of a map it is the last one
+abbrev pub input_entered : Question → Option Input
+input_entered (question.Map at index kind) = page_load at index
+input_entered (question.Access asked) = input_asked (question.Access asked)
+input_entered (question.Try asked) = input_asked (question.Try asked)
+input_entered (question.Read at offset count) = input_asked (question.Read at offset count)
+input_entered (question.Begin request) = input_asked (question.Begin request)
+input_entered question.Tick = input_asked question.Tick
+input_entered (question.Show page) = input_asked (question.Show page)
+input_entered question.Mappings = input_asked question.Mappings
+
+-- what a caller asks of this site
 abbrev pub asked_here : ℕ → Ask → Option Handed
-asked_here me ask = if (ask.site == me) then option_map unsent (input_asked ask.asked) else None
+asked_here me ask = if (ask.site == me) then option_map unsent (input_entered ask.asked) else None
+
+-- the last step of an unmap or a sync; the stores before it have entries of their own
+abbrev pub unmap_load : UnmapAsk → Option Input
+unmap_load ask = if is_empty ask.runs then page_load ask.at ask.index else None
+
+abbrev pub unmapped_here : ℕ → UnmapAsk → Option Handed
+unmapped_here me ask = if (ask.site == me) then option_map unsent (unmap_load ask) else None
 
 -- what made the step of an entry hands to this site; a block that is to be stored makes none itself
 abbrev pub handed : ℕ → Cause → Option Handed
 handed me (OfLine (stream.Envelope sent)) = Some (delivered sent)
 handed me (OfLine (stream.Ask ask)) = asked_here me ask
 handed me (OfLine (stream.Write write)) = None
-handed me (OfLine (stream.Unmap unmap)) = None
+handed me (OfLine (stream.Unmap unmap)) = unmapped_here me unmap
 handed me OfRestart = Some (unsent Restart)
 
 -- ---- the box

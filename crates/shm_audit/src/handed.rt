@@ -4,14 +4,18 @@ ghost use Rattle.shm_site.specs.Step.{input_of};
 ghost use Rattle.shm_process.specs.CauseOf.{cause_of};
 ghost use Rattle.shm_wire.specs.Asks.{ask_of};
 ghost use Rattle.shm_wire.specs.SentOf.{sent_of};
+ghost use Rattle.shm_wire.specs.UnmapOf.{unmap_in};
 ghost use Rattle.shm_audit.specs.Entered as spec;
 ghost use Rattle.shm_audit.specs.HandedOf.{handed_of};
 
 use shm_logs::{Input, Stamp};
-use shm_place::SiteId;
+use shm_place::{PAGE_BYTES, PAGES, SiteId};
 use shm_process::{Cause, input_asked};
-use shm_wire::{Ask, Line, Sent};
+use shm_wire::{Ask, Line, Question, Sent, UnmapAsk};
 use std::alloc::{Allocator, Global};
+
+/// A site has so many attachments at most.
+const MAX_ATTACHMENTS: u32 = 64;
 
 /// An input, and where it was sent.
 #[derive(Drop)]
@@ -27,7 +31,8 @@ pub(crate) fn handed_input<A: Allocator + Copy>(me: SiteId, cause: Cause<A>) -> 
     match cause {
         Cause::Line(Line::Envelope(sent)) => Some(delivered_input(sent)),
         Cause::Line(Line::Ask(ask)) => asked_input(me, ask),
-        Cause::Line(Line::Write(_) | Line::Unmap(_)) => None,
+        Cause::Line(Line::Write(_)) => None,
+        Cause::Line(Line::Unmap(unmap)) => unmapped_input(me, &unmap),
         Cause::Restart => Some(unsent_input(Input::Restart)),
     }
 }
@@ -53,8 +58,40 @@ fn asked_input<A: Allocator + Copy>(me: SiteId, ask: Ask) -> Option<Handed<A>>
     if ask.site != me {
         return None;
     }
-    let input = input_asked(ask.asked)?;
+    let input = input_entered(ask.asked)?;
     Some(unsent_input(input))
+}
+
+/// The input that an asked step brings: a page is mapped with a load of its first byte.
+fn input_entered<A: Allocator + Copy>(question: Question) -> Option<Input<A>>
+    ensures { option_map input_of result ≡ spec.input_entered question }
+{
+    match question {
+        Question::Map { at, index, .. } => page_load(at, index),
+        _ => input_asked(question),
+    }
+}
+
+/// The input that the last step of an unmap or a sync brings to this site.
+fn unmapped_input<A: Allocator + Copy>(me: SiteId, unmap: &UnmapAsk<A>) -> Option<Handed<A>>
+    ensures { option_map handed_of result ≡ spec.unmapped_here me (unmap_in unmap.now) }
+{
+    if unmap.site != me || !unmap.runs.is_empty() {
+        return None;
+    }
+    let input = page_load(unmap.at, unmap.index)?;
+    Some(unsent_input(input))
+}
+
+/// The load of a page's first byte, if there can be such an attachment and such a page.
+fn page_load<A: Allocator + Copy>(at: u32, index: u32) -> Option<Input<A>>
+    ensures { option_map input_of result ≡ spec.page_load at index }
+{
+    if at >= MAX_ATTACHMENTS || index >= PAGES {
+        return None;
+    }
+    let offset = index * PAGE_BYTES as u32;
+    Some(Input::Load { at, offset })
 }
 
 /// An input that is no envelope.
