@@ -6,12 +6,14 @@ use Rattle.std.specs.Option.{option_map_or}
 use Rattle.std.proofs.lemmas.Bool.Decides.{nat_tests}
 use Rattle.shm_model.specs.Log.{Logged, Stamp}
 use Rattle.shm_model.specs.declared.asked.Asked.TheVariants as asked
+use Rattle.shm_model.specs.Access.{right}
+use Rattle.shm_model.specs.Book.{is_write}
 use Rattle.shm_model.specs.Site.{Site}
 use Rattle.shm_model.specs.Message.{Input, Deliver, Load, Restart}
 use Rattle.shm_model.specs.Step.{foreign}
 use Rattle.shm_process.specs.Cause.{Cause, OfLine, OfRestart}
 use Rattle.shm_process.specs.Node.{Node, Heard, Said, heard, input_asked, is_beyond, is_late, is_lost, is_withheld, new_node, next_clock, says, stepped, under_tag, waits_for}
-use Rattle.shm_process.specs.Mapped.{first_byte, has_right, is_within}
+use Rattle.shm_process.specs.Mapped.{allows_at, first_byte, has_right, is_within}
 use Rattle.shm_process.specs.Remaps.{is_empty}
 use Rattle.shm_process.specs.Recorded.{Entry, Event, Line, TooLong, Again, Restarted, after_event, entries_of, recorded, said_at}
 use Rattle.shm_process.specs.Waiting.{after_heard, after_read, after_unheard, again_at, can_be_made, input_again, joining, joins, line_again, map_again, next_heard, next_line, ready, restarting, said_read, said_restart, after_restart, says_at}
@@ -109,7 +111,8 @@ asked_entered sites site (question.Read at offset count) input e = e
 asked_entered sites site (question.Begin request) input e = e
 asked_entered sites site question.Tick input e = e
 asked_entered sites site (question.Show page) input e = e
-asked_entered sites site (question.Map at index kind) input e = map_entered (is_within at index) _ at index input e
+asked_entered sites site (question.Map at index kind) input e =
+    map_entered (is_within at index) (allows_at sites kind site (right site.attachments at (first_byte index) (is_write kind))) at index input e
 asked_entered sites site question.Mappings input e = e
 
 abbrev no_stamp : Stamp
