@@ -1,7 +1,7 @@
 /* leddwyfan-host: one machine's daemon. It starts the site `shmdbg site`, carries lines between it and the other machines' sites, ticks it, and
    serves the programs that leddwyfan-run starts here.
 
-       leddwyfan-host --sites N --me K [--journal FILE [--new]] [--socket PATH] [--stay MICROSECONDS] [--program shmdbg] [-- CARRIER..]
+       leddwyfan-host --sites N --me K [--journal FILE [--new]] [--relaxed] [--socket PATH] [--stay MICROSECONDS] [--program shmdbg] [-- CARRIER..]
 
    CARRIER is a command whose standard output has the lines of all sites, and whose standard input takes this site's: `-- ssh other ..`. Or it
    is two, the first of which gives the lines and the second takes them: `-- mosquitto_sub .. -- mosquitto_pub .. -l`. With none it is the
@@ -227,15 +227,15 @@ static void finish(void) {
 /* The start. */
 
 static void usage(void) {
-    fputs("leddwyfan-host --sites N --me K [--journal FILE [--new]] [--socket PATH] [--stay MICROSECONDS] [--program shmdbg] [-- CARRIER.. [-- CARRIER..]]\n", stderr);
+    fputs("leddwyfan-host --sites N --me K [--journal FILE [--new]] [--relaxed] [--socket PATH] [--stay MICROSECONDS] [--program shmdbg] [-- CARRIER.. [-- CARRIER..]]\n", stderr);
     exit(2);
 }
 
 static void take_options(int argc, char **argv) {
-    const char *sites = "", *me = "-1", *stay = "200", *broken = "", *begins = NULL;
-    const char **values[] = {&sites, &me, &options.journal, &begins, &options.socket, &stay, &options.program, &broken};
+    const char *sites = "", *me = "-1", *stay = "200", *broken = "", *begins = NULL, *relaxed = NULL;
+    const char **values[] = {&sites, &me, &options.journal, &begins, &options.socket, &stay, &options.program, &broken, &relaxed};
     static const struct option names[] = {{"sites", 1, NULL, 0},  {"me", 1, NULL, 1},   {"journal", 1, NULL, 2}, {"new", 0, NULL, 3},  {"socket", 1, NULL, 4},
-                                          {"stay", 1, NULL, 5}, {"program", 1, NULL, 6}, {"break", 1, NULL, 7},  {NULL, 0, NULL, 0}};
+                                          {"stay", 1, NULL, 5}, {"program", 1, NULL, 6}, {"break", 1, NULL, 7},  {"relaxed", 0, NULL, 8}, {NULL, 0, NULL, 0}};
     for (int option; (option = getopt_long(argc, argv, "+", names, NULL)) >= 0;) {
         if (option == '?') usage();
         *values[option] = optarg == NULL ? "" : optarg;
@@ -245,6 +245,7 @@ static void take_options(int argc, char **argv) {
     options.stay = 1000 * (int64_t)atoi(stay);
     options.broken = atoi(broken);
     options.begins = begins != NULL;
+    options.relaxed = relaxed != NULL;
     options.fresh = options.journal == NULL || options.begins;
     if (options.sites < 1 || options.sites > 16 || options.me < 0 || options.me >= options.sites || (options.begins && options.journal == NULL)) usage();
 }
@@ -270,9 +271,9 @@ int main(int argc, char **argv) {
     sigaction(SIGINT, &(struct sigaction){.sa_handler = end}, NULL);
     poller = epoll_create1(EPOLL_CLOEXEC);
     listen_to_programs();
+    find_segments();
     site_start();
     start_carrier();
-    if (!options.fresh) detach_leftovers();
     last_tick = now();
     while (!ending) turn();
     finish();

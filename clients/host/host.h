@@ -6,14 +6,12 @@
 
 enum right { NONE, READ, WRITE };
 
-enum asked { NOTHING, STATE, BYTES }; /* what of a page the site is asked and hasn't told yet */
-
-enum { MOST_SEGMENTS = 64, HELD = 8 };
+enum { MOST_SEGMENTS = 64, MOST_PAGES = 256, MOST_ATTACHMENTS = 64, RUNS = 8000 };
 
 static const int64_t SECOND = 1000000000;
 
-/* The parts of the rule that a test leaves out (`--break`): a row of hold.c by its number, or one of these. */
-enum { PASSES_WHILE_ASKING = 5, DOES_NOT_PROTECT };
+/* The parts of the rule that a test leaves out (`--break`). */
+enum { STAYS_OPEN = 1, BRINGS_NO_BYTES, DOES_NOT_PROTECT, OPENS_TO_WRITE, OPENS_WHILE_GIVING_UP, HAS_OLD_BYTES };
 
 struct options {
     int sites, me, broken;
@@ -21,6 +19,7 @@ struct options {
     int64_t stay; /* nanoseconds for which a page stays at least once it is here */
     bool begins;  /* the journal is begun */
     bool fresh;   /* the site began with this daemon: no earlier journal */
+    bool relaxed; /* only the page that leaves is brought back */
 };
 
 extern struct options options;
@@ -35,14 +34,6 @@ struct channel {
     int descriptor;
     char *bytes;
     size_t length, capacity;
-};
-
-/* A line `env`. What its words behind NUMBER are differs by its kind. */
-struct envelope {
-    char *line, *said; /* the whole, and what is behind its stamp */
-    int to, segment, page, site;
-    char kind[12], access[8];
-    uint64_t number;
 };
 
 struct program;
@@ -60,37 +51,47 @@ struct fault {
 struct page {
     struct segment *segment;
     struct page *next_busy;
-    size_t offset;                         /* in its segment */
-    enum right mapped;                     /* in some program here */
-    enum right wanted;                     /* by a fault that waits */
-    enum asked asked;
-    bool requested;                        /* the site was asked for the right that is wanted */
-    bool opened;                           /* to write, in some program, since it was last brought back */
-    bool busy;                             /* it is in the list of pages with work */
-    enum right shown;                      /* what the site has of it, and the transaction that brought it, as it told last */
-    uint64_t number;
-    uint64_t ask;         /* the number of the ask whose answer counts */
-    uint8_t *twin;        /* its bytes as the site has them, if that transaction is the last */
-    uint64_t transaction; /* the greatest number where it isn't known */
-    int64_t since, left;  /* when it came, and when it was taken away */
+    size_t index;         /* in its segment */
+    uint8_t *mapped;      /* how, in some program here */
+    enum right wanted;    /* by a fault that waits */
+    enum right left;      /* all that may stay mapped */
+    enum right asked;     /* by the map that has no answer yet */
+    enum right kept;      /* by the unmap that has no answer yet */
+    enum right listed;    /* as the site tells that it has it mapped, when it was started */
+    uint64_t map, unmap;  /* the numbers of the two, or 0 */
+    int attachment;       /* through which it is mapped, and is asked to be */
+    int through;
+    bool waits;           /* for a tick, to ask again */
+    bool opened;          /* to write, in some program, since its bytes were last brought */
+    bool known;           /* its twin is what the site has */
+    bool busy;            /* it is in the list of pages with work */
+    uint8_t *twin;
+    char *envelope;       /* the last that may have taken it away */
+    int64_t since, gone;  /* when it came, and when it was taken away */
     pid_t thread;         /* for which it came, and how often that one had run before */
     uint64_t runs;
-    size_t sleepers; /* in so many bytes from its start on, sleepers of futexes are to be woken */
-    struct envelope held[HELD];
-    int held_count;
+    size_t sleepers;      /* in so many bytes from its start on, sleepers of futexes are to be woken */
     struct fault *faults;
 };
 
-/* A segment that programs here have attached. The site's attachments of it are -1 where it has none. */
+/* What is known of a segment here, also after the daemon's death. The site's attachments of it are -1 where it has none. */
+struct record {
+    bool used;
+    int id, reading, writing;
+    pid_t last;
+    time_t attach_time, detach_time;
+    uint8_t mapped[MOST_PAGES];
+};
+
+/* A segment that programs here have attached. */
 struct segment {
-    bool used, removed;
-    int id, memory, reading, writing;
+    struct record *record; /* NULL: there is none */
+    int memory;
+    bool removed;
     size_t length;
     uint8_t *bytes, *twins;
-    int attached;                     /* how often, by programs here */
-    time_t attach_time, detach_time;
+    int attached; /* how often, by programs here */
     int64_t left; /* when its attachments last changed */
-    pid_t last;
     struct page *pages;
 };
 
@@ -124,39 +125,37 @@ void site_end(void);
 bool site_flush(void); /* whether all is written */
 void site_tick(void);
 bool site_waits(void);    /* a call is outstanding */
-bool site_recovers(void); /* it was started again, and not all stores were answered yet: no envelope may pass */
+bool site_recovers(void); /* it was started again, and hasn't told yet what is mapped */
 void take_stream_line(char *line);
 void pass_line(const char *line);
-void ask_page(struct page *page, enum asked asked);
-void ask_right(const struct page *page);
-void store_run(const struct page *page, size_t start, size_t end);
+uint64_t ask_map(const struct page *page);
+uint64_t ask_unmap(const struct page *page, const char *runs);
+void ask_sync(const struct page *page, const char *runs);
+void encode(const uint8_t *bytes, size_t count, char *text);
 bool decode(const char *text, uint8_t bytes[PAGE]); /* of a page in base64: false where it isn't one */
 typedef void call_done(struct call *call, int error, const char *reply);
 __attribute__((format(printf, 3, 4))) void make_call(struct call *call, call_done *done, const char *format, ...);
 
-/* hold.c: the rule. */
-enum brought { CLEAR, HAND_TO_READ, HAND_TO_WRITE, OTHER };
-enum verdict { TAKE, UNMAP_TO_READ, UNMAP };
-bool meets_entry(const struct envelope *envelope);
-enum brought brought_by(const struct envelope *envelope);
-enum verdict verdict_on(enum brought brought, enum right mapped);
-
 /* pages.c: the way of a page at this machine. */
 void page_fault(struct page *page, const struct fault *fault);
-void page_envelope(struct page *page, const struct envelope *envelope);
-void page_told(struct page *page, uint64_t ask, const char *text);
+void page_envelope(struct page *page, const char *line);
+void page_revoked(struct page *page, enum right left);
+void page_mapped(struct page *page, uint64_t map, const char *text);
+void page_unmapped(struct page *page, uint64_t unmap, const char *text);
+void page_unsynced(struct page *page);
 void page_begins_again(struct page *page);
 void page_leaves(struct page *page);
 void drop_page(struct page *page);
 int64_t pages_turn(bool idle); /* when to turn again */
-bool pages_wait(void);         /* for a right, or until an envelope may pass */
-void pages_tick(void);         /* asks again for what is waited for */
+bool pages_wait(void);
+void pages_tick(void); /* asks again for what is waited for */
 
 /* programs.c: the programs' memory. */
 void check_kernel(void);
 int program_new(int faults, uint64_t names, struct program **program); /* an errno, or 0 */
 struct program *program_named(uint64_t name, int *faults);
 bool program_maps(struct program *program, uint64_t address, struct segment *segment);
+int programs_adopt(void); /* how many there are */
 void programs_reap(void);
 void open_page(const struct fault *fault, enum right right);
 void protect_page(const struct page *page);
@@ -165,10 +164,12 @@ void protect_page(const struct page *page);
 extern struct segment segments[MOST_SEGMENTS];
 #define EACH_SEGMENT(segment)                                                               \
     for (struct segment *segment = segments; segment < segments + MOST_SEGMENTS; segment++) \
-        if (segment->used)
+        if (segment->record != NULL)
 void listen_to_programs(void);
+void find_segments(void);
 struct segment *segment_of(int id);
 struct page *page_of(int id, int page); /* of a segment that is attached here, or NULL */
+struct page *page_through(int attachment, int page);
 void segment_attached(struct segment *segment, int by);
 bool segments_turn(void); /* whether there is one */
 void each_page(void (*change)(struct page *));

@@ -1,26 +1,28 @@
 /* The way of a page at this machine.
 
-   A fault wants a right. Where the page is mapped so already, it is opened for the program that faults. Else the site is asked what it has
-   (`show`). With the right its bytes are put into the segment's memory, and the page is opened; without it the site asks for the right, and is
-   asked again when an envelope has come that may have brought it.
+   A fault wants a right. Where the page is mapped so already, it is opened for the program that faults. Else the site is asked to map it, which
+   it does once it has the right: its bytes are put into the segment's memory, and the page is opened. From then on processors load and store
+   without a step of the site, and the site holds back each envelope that would take the right away: it tells that the page is revoked.
 
-   A right is taken back in this order: the page is protected in every program, so that each store is either seen here or waits; what changed is
-   stored at the site; the page is punched out of the segment's memory, which unmaps it everywhere; the envelope passes, behind the stores;
-   and who sleeps in futexes of the page is woken, to look again and fault: whoever stores next is elsewhere, and wakes nobody here. */
+   Then it is given up in this order: the page is protected in every program, so that each store is either seen here or waits; the site is told
+   to unmap it, with the bytes that changed; once it answers that, which is when its journal has them, the page is punched out of the segment's
+   memory, which unmaps it everywhere; the envelope that was held back is handed over again; and who sleeps in futexes of the page is woken, to
+   look again and fault: whoever stores next is elsewhere, and wakes nobody here. */
 #include "host.h"
 
 #include <linux/futex.h>
 #include <sys/syscall.h>
 
-enum { WOKEN_AT_ONCE = 512, PARTED = 3 }; /* bytes: of futexes; more than that part two runs */
+enum { WOKEN_AT_ONCE = 512, PARTED = 3, MOST_MAPS = 48 }; /* bytes: of futexes; more than that part two runs; a site has 64 places for asks */
 
 /* Nanoseconds: until sleepers are woken though there is other work; for which a page stays at most, and until it is looked at again. */
 static const int64_t PATIENCE = 2000000, LONGEST_STAY = 20000000, LOOK_AGAIN = 50000;
 
 static struct page *busy_pages;
+static int maps; /* that have no answer yet */
 
 static uint8_t *bytes_of(const struct page *page) {
-    return page->segment->bytes + page->offset;
+    return page->segment->bytes + page->index * PAGE;
 }
 
 static void set_busy(struct page *page) {
@@ -30,54 +32,104 @@ static void set_busy(struct page *page) {
     busy_pages = page;
 }
 
-/* Taking away. */
+/* Giving up. */
 
-/* Stores what changed at the site: runs of bytes. Those that few bytes part are one, as what is between them is the site's own. */
-static void write_back(struct page *page) {
+static size_t put_run(char *text, const struct page *page, size_t start, size_t end) {
+    int length = sprintf(text, " %zu ", page->index * PAGE + start);
+    encode(bytes_of(page) + start, end - start, text + length);
+    return (size_t)length + (end - start + 2) / 3 * 4;
+}
+
+/* Protects the page, so that who stores to it faults again, and gives the bytes that changed, as runs: ` OFFSET BASE64` each. Those that few
+   bytes part are one. What the site has may be unknown, and small runs may be longer than the page: then the page is one run. */
+static const char *changes_of(struct page *page) {
+    static char text[RUNS + 2 * PAGE];
     const uint8_t *bytes = bytes_of(page);
-    size_t start = 0, end = 0;
-    if (memcmp(bytes, page->twin, PAGE) == 0) return;
-    for (size_t place = 0; place < PAGE; place++) {
-        if (bytes[place] == page->twin[place]) continue;
-        if (start == end || place > end + PARTED) {
-            if (start < end) store_run(page, start, end);
-            start = place;
-        }
+    size_t length = 0, start = 0, end = 0;
+    text[0] = '\0';
+    if (!page->opened) return text;
+    page->opened = false;
+    if (options.broken != DOES_NOT_PROTECT) protect_page(page);
+    for (size_t place = 0; page->known && length < RUNS && place <= PAGE; place++) {
+        if (place < PAGE && bytes[place] == page->twin[place]) continue;
+        if (start < end && (place == PAGE || place > end + PARTED)) length += put_run(text + length, page, start, end);
+        if (start == end || place > end + PARTED) start = place;
         end = place + 1;
     }
-    store_run(page, start, end);
+    if (!page->known || length >= RUNS) put_run(text, page, 0, PAGE);
     memcpy(page->twin, bytes, PAGE);
+    page->known = true;
+    if (options.broken == BRINGS_NO_BYTES) text[0] = '\0';
+    return text;
 }
 
-/* Brings back what programs stored to a page. Who stores to it now faults again. */
-static void bring_back(struct page *page) {
-    if (!page->opened) return;
-    if (options.broken != DOES_NOT_PROTECT) protect_page(page);
+static void bring(struct page *page) {
+    const char *changes = page->unmap == 0 ? changes_of(page) : "";
+    if (changes[0] != '\0') ask_sync(page, changes);
+}
+
+/* What the site got may be lost: it is brought again. */
+void page_unsynced(struct page *page) {
+    if (*page->mapped != WRITE) return;
+    page->known = false;
+    page->opened = true;
+}
+
+/* Before a page leaves, the bytes of all others are brought as well: so a machine that dies loses an end of what it did, and never a middle. */
+static void give_up(struct page *page) {
+    page->kept = page->left;
+    page->unmap = UINT64_MAX;
+    if (*page->mapped == WRITE && options.journal != NULL && !options.relaxed) each_page(bring);
+    page->unmap = ask_unmap(page, changes_of(page));
+}
+
+static void lower(struct page *page, enum right right) {
+    const int mode = FALLOC_FL_PUNCH_HOLE | FALLOC_FL_KEEP_SIZE;
+    if (page->opened && right == READ) protect_page(page);
     page->opened = false;
-    write_back(page);
+    if (right == NONE && options.broken != STAYS_OPEN) {
+        if (fallocate(page->segment->memory, mode, (off_t)(page->index * PAGE), PAGE) < 0) FAIL("a page can't be taken out of memory");
+        if (page->sleepers == 0) page->gone = now();
+        page->sleepers = PAGE;
+    }
+    *page->mapped = (uint8_t)right;
+    set_busy(page);
+    if (page->left < right) return;
+    page->left = WRITE;
+    if (page->envelope != NULL) pass_line(page->envelope);
+    free(page->envelope);
+    page->envelope = NULL;
 }
 
-/* Where there is a journal, all other pages are brought back as well before one leaves: so a machine that dies loses an end of what it did, and
-   never a middle. */
-static void unmap_to(struct page *page, enum right right) {
-    if (page->mapped == WRITE && options.journal != NULL) each_page(bring_back);
-    else if (page->mapped == WRITE) bring_back(page);
-    page->mapped = right;
-    if (right != NONE) return;
-    int mode = FALLOC_FL_PUNCH_HOLE | FALLOC_FL_KEEP_SIZE;
-    if (fallocate(page->segment->memory, mode, (off_t)page->offset, PAGE) < 0) FAIL("a page can't be taken out of memory");
-    if (page->sleepers == 0) page->left = now();
-    page->sleepers = PAGE;
+/* Refused is what isn't mapped: then an answer was lost. What found no place is asked again. */
+void page_unmapped(struct page *page, uint64_t unmap, const char *text) {
+    if (unmap != page->unmap) return;
+    page->unmap = 0;
+    if (strcmp(text, "waiting") != 0) lower(page, page->kept);
+    else page_unsynced(page);
+    set_busy(page);
+}
+
+void page_revoked(struct page *page, enum right left) {
+    if (left < page->left) page->left = left;
     set_busy(page);
 }
 
 void page_leaves(struct page *page) {
-    if (page->mapped != NONE) unmap_to(page, NONE);
+    if (*page->mapped == NONE || page->unmap != 0) return;
+    page->left = NONE;
+    give_up(page);
+}
+
+/* The last envelope that may take a right away: where the site holds it back, it passes it over. */
+void page_envelope(struct page *page, const char *line) {
+    free(page->envelope);
+    page->envelope = strdup(line);
 }
 
 /* Some at a time, as each is a system call, and faults don't wait meanwhile: but all of them where they waited long. */
 static void wake_sleepers(struct page *page) {
-    size_t end = now() > page->left + PATIENCE ? 0 : page->sleepers - WOKEN_AT_ONCE;
+    size_t end = now() > page->gone + PATIENCE ? 0 : page->sleepers - WOKEN_AT_ONCE;
     while (page->sleepers > end) {
         page->sleepers -= sizeof(int);
         syscall(SYS_futex, bytes_of(page) + page->sleepers, FUTEX_WAKE, INT32_MAX, NULL, NULL, 0);
@@ -98,79 +150,67 @@ static uint64_t runs_of(pid_t thread) {
     return runs;
 }
 
-/* The right is here, and the bytes are in memory. */
-static void gain(struct page *page) {
-    page->mapped = page->shown;
-    page->requested = false;
-    page->since = now();
-    page->thread = page->faults == NULL ? 0 : page->faults->thread;
-    page->runs = runs_of(page->thread);
-    set_busy(page);
-}
-
-static void install(struct page *page) {
-    page->transaction = page->number;
-    memcpy(bytes_of(page), page->twin, PAGE);
-    gain(page);
+/* Until when a page stays: for a while, and longer where the thread that it came for hasn't run yet, or on busy machines two hosts would take it
+   from one another before either's instruction is repeated. */
+static int64_t stays_until(struct page *page) {
+    if (page->thread == 0 || now() < page->since + options.stay) return page->since + options.stay;
+    if (now() < page->since + LONGEST_STAY && page->runs > 0 && runs_of(page->thread) == page->runs) return now() + LOOK_AGAIN;
+    page->thread = 0;
+    return 0;
 }
 
 /* Opens the page for those who need no more than what is mapped. */
 static void open_for_all(struct page *page) {
-    enum right wanted = NONE;
+    page->wanted = NONE;
     for (struct fault *fault, **place = &page->faults; (fault = *place) != NULL;) {
-        if (fault->needed > page->mapped) {
-            wanted = fault->needed > wanted ? fault->needed : wanted;
+        if (fault->needed > *page->mapped || (page->unmap != 0 && options.broken != OPENS_WHILE_GIVING_UP)) {
+            if (fault->needed > page->wanted) page->wanted = fault->needed;
             place = &fault->next;
             continue;
         }
         *place = fault->next;
-        if (page->mapped == WRITE) page->opened = true;
-        open_page(fault, page->mapped);
+        if (*page->mapped == WRITE) page->opened = true;
+        open_page(fault, options.broken == OPENS_TO_WRITE ? WRITE : *page->mapped);
         free(fault);
     }
-    if (wanted > page->wanted) page->requested = false;
-    page->wanted = wanted;
 }
 
-static enum right right_in(const char *state, const struct page *page) {
-    if (strcmp(state, "OwnWrite") == 0) return page->segment->writing >= 0 ? WRITE : READ;
-    return strcmp(state, "OwnRead") == 0 || strcmp(state, "Copy") == 0 ? READ : NONE;
+static void put_bytes(const struct page *page) {
+    if (pwrite(page->segment->memory, page->twin, PAGE, (off_t)(page->index * PAGE)) != PAGE) FAIL("no memory for a page");
 }
 
-/* With the right that is wanted the bytes are those that are mapped; or the twin's, if no other transaction came; or the site is asked. */
-static void page_shown(struct page *page, const char *text) {
-    char state[12] = "";
-    sscanf(text, "page %11[^/]/%lu", state, &page->number);
-    page->shown = right_in(state, page);
-    if (page->wanted <= page->mapped) return;
-    if (page->shown < page->wanted) {
-        page->requested = true;
-        ask_right(page);
-    } else if (page->mapped != NONE) {
-        gain(page);
-    } else if (page->transaction == page->number) {
-        install(page);
-    } else {
-        ask_page(page, BYTES);
-    }
-}
-
-/* What the site can't tell is asked for again at a tick. */
-void page_told(struct page *page, uint64_t ask, const char *text) {
-    if (ask != page->ask) return;
-    bool shows = page->asked == STATE;
-    page->asked = NOTHING;
-    if (shows && strncmp(text, "page ", 5) == 0) page_shown(page, text);
-    else if (!shows && strncmp(text, "block ", 6) == 0 && decode(text + 6, page->twin)) install(page);
-    else page->requested = true;
+/* The answer to a map. While the page is given up it is none: the site takes the unmap after it. */
+void page_mapped(struct page *page, uint64_t map, const char *text) {
+    if (map != page->map) return;
+    page->map = 0;
+    page->waits = strncmp(text, "mapped", 6) != 0;
+    maps--;
     set_busy(page);
+    if (page->waits || page->unmap != 0) return;
+    if (text[6] == ' ' && options.broken != HAS_OLD_BYTES) {
+        if (!decode(text + 7, page->twin)) FAIL("the site told no page");
+        page->known = true;
+        put_bytes(page);
+    }
+    page->attachment = page->through;
+    *page->mapped = (uint8_t)page->asked;
+    page->since = now();
+    page->thread = page->faults == NULL ? 0 : page->faults->thread;
+    page->runs = runs_of(page->thread);
 }
 
-/* What was asked is lost, with the site's process. */
+/* A site that was started has told what it has mapped. What the programs have more is taken from them: an unmap's answer was lost. What they
+   have less wasn't told them before. */
 void page_begins_again(struct page *page) {
-    page->asked = NOTHING;
-    page->ask = 0;
-    page->requested = false;
+    enum right listed = page->listed;
+    page->map = page->unmap = 0;
+    page->waits = false;
+    maps = 0;
+    page->listed = NONE;
+    page_unsynced(page);
+    if (*page->mapped > listed) lower(page, listed);
+    page->kept = *page->mapped;
+    if (*page->mapped < listed) page->unmap = ask_unmap(page, "");
     set_busy(page);
 }
 
@@ -185,86 +225,45 @@ void page_fault(struct page *page, const struct fault *fault) {
     set_busy(page);
 }
 
-/* Envelopes. */
-
-/* The bytes that an envelope brings count only where the site just told that it lacks the right. A repeated one that comes later has what stood
-   there before programs here stored. */
-static void let_in(struct page *page, const struct envelope *envelope) {
-    bool brings = strcmp(envelope->kind, "page") == 0;
-    bool counts = brings && page->mapped == NONE && page->requested && page->shown < page->wanted;
-    pass_line(envelope->line);
-    if (counts) page->transaction = decode(strrchr(envelope->line, ' ') + 1, page->twin) ? envelope->number : UINT64_MAX;
-    if (brings || envelope->site == options.me) page->requested = false;
-}
-
-/* Until when a page stays: for a while, and longer where the thread that it came for hasn't run yet, or on busy machines two hosts would take it
-   from one another before either's instruction is repeated. */
-static int64_t stays_until(struct page *page) {
-    if (page->thread == 0 || now() < page->since + options.stay) return page->since + options.stay;
-    if (now() < page->since + LONGEST_STAY && page->runs > 0 && runs_of(page->thread) == page->runs) return now() + LOOK_AGAIN;
-    page->thread = 0;
-    return 0;
-}
-
-/* Takes the first of the held envelopes if it may pass. Else it waits: until the time that is given, or until the site has told what it has, so
-   that this is what stands when the page is opened, and a store that only asks for its right (`ask_right`) finds none. */
-static bool let_first_in(struct page *page, int64_t *due) {
-    struct envelope first = page->held[0];
-    enum verdict verdict = verdict_on(brought_by(&first), page->mapped);
-    if (site_recovers() || (page->asked != NOTHING && options.broken != PASSES_WHILE_ASKING)) return false;
-    if (verdict != TAKE && (*due = stays_until(page)) > now()) return false;
-    *due = INT64_MAX;
-    if (verdict != TAKE) unmap_to(page, verdict == UNMAP ? NONE : READ);
-    memmove(page->held, page->held + 1, sizeof *page->held * (size_t)--page->held_count);
-    let_in(page, &first);
-    free(first.line);
-    return true;
-}
-
-/* Of envelopes with the same words behind their stamps one is kept: a tick repeats them. What finds no room is lost, as a carrier may lose it. */
-void page_envelope(struct page *page, const struct envelope *envelope) {
-    for (int place = 0; place < page->held_count; place++) {
-        if (strcmp(page->held[place].said, envelope->said) == 0) return;
-    }
-    char *line = page->held_count == HELD ? NULL : strdup(envelope->line);
-    if (line == NULL) return;
-    struct envelope *held = &page->held[page->held_count++];
-    *held = *envelope;
-    held->said = line + (envelope->said - envelope->line);
-    held->line = line;
-    set_busy(page);
-}
-
 void drop_page(struct page *page) {
     struct page **place = &busy_pages;
     while (*place != NULL && *place != page) place = &(*place)->next_busy;
     if (*place == page) *place = page->next_busy;
     for (struct fault *fault; (fault = page->faults) != NULL; free(fault)) page->faults = fault->next;
-    for (int index = 0; index < page->held_count; index++) {
-        if (!site_recovers()) pass_line(page->held[index].line);
-        free(page->held[index].line);
-    }
+    free(page->envelope);
 }
 
 /* The loop. */
 
+/* Asks the site to map the page as it is wanted. */
+static void ask(struct page *page) {
+    const struct record *record = page->segment->record;
+    page->asked = page->wanted;
+    page->through = record->writing >= 0 ? record->writing : record->reading;
+    if (maps == MOST_MAPS || (page->asked == WRITE && record->writing < 0)) return;
+    page->map = ask_map(page);
+    maps++;
+}
+
 /* Whether there is more to do for the page. */
 static bool turn(struct page *page, bool *idle, int64_t *due) {
     open_for_all(page);
-    do {
-        if (page->wanted > page->mapped && page->asked == NOTHING && !page->requested) ask_page(page, STATE);
-    } while (page->held_count > 0 && let_first_in(page, due));
+    if (page->unmap == 0 && *page->mapped <= page->left) page->left = WRITE;
+    else if (page->unmap == 0 && (*due = stays_until(page)) <= now()) give_up(page);
+    if (page->unmap != 0) *due = INT64_MAX;
+    if (page->wanted > *page->mapped && page->map == 0 && page->unmap == 0 && !page->waits) ask(page);
     if (page->sleepers > 0) *due = 0;
-    if (page->sleepers > 0 && (*idle || now() > page->left + PATIENCE)) {
+    if (page->sleepers > 0 && (*idle || now() > page->gone + PATIENCE)) {
         wake_sleepers(page);
         *idle = false;
     }
-    return page->held_count > 0 || page->sleepers > 0 || page->wanted > page->mapped;
+    return *page->mapped > page->left || page->sleepers > 0 || page->wanted > *page->mapped;
 }
 
 int64_t pages_turn(bool idle) {
     int64_t due = INT64_MAX;
     struct page *pages = busy_pages;
+    if (site_recovers()) return due;
     busy_pages = NULL;
     for (struct page *page; (page = pages) != NULL;) {
         int64_t page_due = INT64_MAX;
@@ -281,5 +280,5 @@ bool pages_wait(void) {
 }
 
 void pages_tick(void) {
-    for (struct page *page = busy_pages; page != NULL; page = page->next_busy) page->requested = false;
+    for (struct page *page = busy_pages; page != NULL; page = page->next_busy) page->waits = false;
 }

@@ -1,6 +1,6 @@
 /* The library that leddwyfan-run preloads: ftok, shmget, shmat, shmdt and shmctl over this machine's leddwyfan-host.
 
-   A program keeps its userfaultfd and the daemon's lock open: when the daemon dies, a new fault waits, and nobody sees zeros. */
+   A program keeps its userfaultfd open: when the daemon dies, a new fault waits, nobody sees zeros, and a new daemon takes it. */
 #include "wire.h"
 
 #include <dlfcn.h>
@@ -15,7 +15,7 @@
 enum { MOST_ATTACHED = 128, MOST_LISTED = 1024, HIGH = 400, STAT_ANY = 15 };
 
 static pthread_mutex_t mutex = PTHREAD_MUTEX_INITIALIZER;
-static int host = -1, faults = -1, lock = -1; /* the connection, the userfaultfd, and what keeps another daemon from beginning */
+static int host = -1, faults = -1; /* the connection, and the userfaultfd */
 static ino_t host_file;
 static volatile uint64_t *names;
 static struct answer answer; /* the last one, and the descriptor that came with it, or -1 */
@@ -32,7 +32,11 @@ static int talk(struct ask ask, int given) {
     ssize_t length = send_message(host, &ask, sizeof ask, given);
     answer.sites = 0;
     while (length >= 0 && (length = receive_message(host, &answer, sizeof answer, &handed)) < 0 && errno == EINTR) length = 0;
-    if (length != sizeof answer) return failed(EIDRM);
+    if (length != sizeof answer) {
+        close(host); /* the daemon has ended: another may begin */
+        host = -1;
+        return failed(EIDRM);
+    }
     return answer.error != 0 ? failed(answer.error) : answer.id;
 }
 
@@ -65,13 +69,15 @@ static bool connect_host(void) {
     host_file = file.st_ino;
     host = raised(made);
     if (names == NULL) return true;
-    struct ask ask = {.kind = ASK_NAMED, .size = *names};
+    struct ask ask = {.kind = ASK_NAMED, .address = *names};
     madvise((void *)(uintptr_t)names, PAGE, MADV_DONTNEED);
-    if (talk(ask, -1) == 0 && handed >= 0) faults = raised(handed);
+    if (talk(ask, -1) < 0 || handed < 0) return false;
+    if (faults >= 0) close(faults);
+    faults = raised(handed);
     return true;
 }
 
-/* A userfaultfd, which the daemon gets, and the lock, which it gives. */
+/* A userfaultfd, which the daemon gets. */
 static bool make_faults(void) {
     int made = -1;
     if (names != NULL) return true;
@@ -85,7 +91,6 @@ static bool make_faults(void) {
     if (made < 0 || page == MAP_FAILED) return false;
     faults = raised(made);
     if (talk((struct ask){.kind = ASK_FAULTS, .address = (uintptr_t)page}, faults) < 0) return false;
-    lock = raised(handed);
     names = page;
     return true;
 }
@@ -98,12 +103,15 @@ static void in_parent(void) {
     pthread_mutex_unlock(&mutex);
 }
 
-/* The child has attached what its parent has, and is heard of by a userfaultfd of its own. */
+/* The child has attached what its parent has, and is heard of by a userfaultfd of its own. If the daemon dies before it has that, it loses them,
+   as nobody would hear of its faults. */
 static void in_child(void) {
     if (connected()) close(host);
     if (faults >= 0) close(faults);
     host = faults = -1;
-    if (names != NULL) connect_host();
+    if (names != NULL && !connect_host()) {
+        while (attached_count > 0) attached_count--, munmap(attached[attached_count].address, attached[attached_count].length);
+    }
     pthread_mutex_init(&mutex, NULL);
 }
 

@@ -2,12 +2,18 @@
    what it forks, unmaps and moves. A child's comes with the event of the fork.
 
    Which program a new connection belongs to is told by a page of names: a page of the program's own which is never there, so that whoever
-   reads it faults, and reads the name that the daemon puts there. */
+   reads it faults, and reads the name that the daemon puts there.
+
+   Programs keep their userfaultfd open. So when the daemon dies their faults wait, and a daemon that is started again takes it from them. */
 #include "host.h"
 
+#include <ctype.h>
+#include <dirent.h>
 #include <linux/userfaultfd.h>
 #include <sys/ioctl.h>
+#include <sys/stat.h>
 #include <sys/syscall.h>
+#include <sys/sysmacros.h>
 
 #ifndef UFFDIO_CONTINUE_MODE_WP /* headers of before Linux 6.4 */
 #define UFFDIO_CONTINUE_MODE_WP ((__u64)1 << 1)
@@ -30,7 +36,7 @@ struct program {
     struct program *next;
     bool used;
     int faults, count;
-    uint64_t generation, names; /* its name, and the page where it reads it */
+    uint64_t generation; /* its name */
     struct range ranges[MOST_RANGES];
 };
 
@@ -60,7 +66,7 @@ void check_kernel(void) {
     close(device);
 }
 
-static struct program *new_program(int faults, uint64_t names) {
+static struct program *new_program(int faults) {
     struct program *program = programs;
     while (program != NULL && program->used) program = program->next;
     if (program == NULL) {
@@ -68,7 +74,8 @@ static struct program *new_program(int faults, uint64_t names) {
         program->next = programs;
         programs = program;
     }
-    *program = (struct program){{program_ready}, program->next, true, faults, 0, ++generations, names, {{0}}};
+    if (generations == 0) generations = (uint64_t)now(); /* not those of an earlier daemon */
+    *program = (struct program){{program_ready}, program->next, true, faults, 0, ++generations, {{0}}};
     fcntl(faults, F_SETFL, O_NONBLOCK);
     fcntl(faults, F_SETFD, FD_CLOEXEC);
     watch(faults, &program->source);
@@ -83,7 +90,7 @@ int program_new(int faults, uint64_t names, struct program **program) {
     int error = begin_faults(faults, FEATURES);
     if (error != 0) close(faults);
     if (error != 0) return error;
-    *program = new_program(faults, names);
+    *program = new_program(faults);
     return serves(*program, names, PAGE, UFFDIO_REGISTER_MODE_MISSING) ? 0 : EINVAL;
 }
 
@@ -136,8 +143,9 @@ void open_page(const struct fault *fault, enum right right) {
 static void protect_in(struct program *program, const struct page *page) {
     for (int index = 0; index < program->count; index++) {
         const struct range *range = &program->ranges[index];
-        if (range->segment != page->segment || page->offset < range->offset || page->offset >= range->offset + range->length) continue;
-        set_protected(program, range->address + page->offset - range->offset, UFFDIO_WRITEPROTECT_MODE_WP);
+        uint64_t offset = page->index * PAGE;
+        if (range->segment != page->segment || offset < range->offset || offset >= range->offset + range->length) continue;
+        set_protected(program, range->address + offset - range->offset, UFFDIO_WRITEPROTECT_MODE_WP);
     }
 }
 
@@ -153,7 +161,7 @@ void protect_page(const struct page *page) {
 /* Events. */
 
 static void forked(const struct program *parent, int faults) {
-    struct program *child = new_program(faults, parent->names);
+    struct program *child = new_program(faults);
     for (int index = 0; index < parent->count; index++) add_range(child, parent->ranges[index]);
 }
 
@@ -181,10 +189,10 @@ static void moved(struct program *program, uint64_t from, uint64_t to) {
     }
 }
 
-static void give_name(struct program *program) {
+static void give_name(struct program *program, uint64_t address) {
     static uint64_t page[PAGE / sizeof(uint64_t)];
     page[0] = program->generation;
-    change(program, UFFDIO_COPY, &(struct uffdio_copy){.dst = program->names, .src = (uintptr_t)page, .len = PAGE});
+    change(program, UFFDIO_COPY, &(struct uffdio_copy){.dst = address, .src = (uintptr_t)page, .len = PAGE});
 }
 
 static void faulted(struct program *program, uint64_t address, uint64_t flags, pid_t thread) {
@@ -196,7 +204,7 @@ static void faulted(struct program *program, uint64_t address, uint64_t flags, p
         page_fault(&range->segment->pages[(address - range->address + range->offset) / PAGE], &fault);
         return;
     }
-    if (fault.address == program->names) give_name(program);
+    give_name(program, fault.address); /* the page of names is in no range */
     ioctl(program->faults, UFFDIO_WAKE, &(struct uffdio_range){fault.address, PAGE});
 }
 
@@ -221,4 +229,63 @@ void programs_reap(void) {
         close(program->faults);
         for (int index = 0; index < program->count; index++) segment_attached(program->ranges[index].segment, -1);
     }
+}
+
+/* After the daemon's death. */
+
+/* The userfaultfd that a program keeps, or -1. */
+static int take_faults(const char *process) {
+    char name[300], target[64];
+    int faults = -1, owner = (int)syscall(SYS_pidfd_open, atoi(process), 0);
+    snprintf(name, sizeof name, "/proc/%s/fd", process);
+    DIR *folder = opendir(name);
+    for (const struct dirent *entry; folder != NULL && faults < 0 && (entry = readdir(folder)) != NULL;) {
+        snprintf(name, sizeof name, "/proc/%s/fd/%s", process, entry->d_name);
+        ssize_t length = readlink(name, target, sizeof target);
+        if (length == 24 && memcmp(target, "anon_inode:[userfaultfd]", 24) == 0) faults = (int)syscall(SYS_pidfd_getfd, owner, atoi(entry->d_name), 0);
+    }
+    if (folder != NULL) closedir(folder);
+    close(owner);
+    return faults;
+}
+
+static struct segment *segment_in(unsigned long inode, unsigned major, unsigned minor) {
+    struct stat file;
+    EACH_SEGMENT(segment) {
+        if (fstat(segment->memory, &file) == 0 && file.st_ino == inode && file.st_dev == makedev(major, minor)) return segment;
+    }
+    return NULL;
+}
+
+/* The faults that the earlier daemon had heard of are made again. */
+static bool adopt(const char *process) {
+    char name[300], line[512];
+    struct program *program = NULL;
+    uint64_t start, end, offset, inode;
+    unsigned major, minor;
+    snprintf(name, sizeof name, "/proc/%s/maps", process);
+    FILE *maps = fopen(name, "re");
+    while (maps != NULL && fgets(line, sizeof line, maps) != NULL) {
+        if (sscanf(line, "%lx-%lx %*s %lx %x:%x %lu", &start, &end, &offset, &major, &minor, &inode) != 6) continue;
+        struct segment *segment = segment_in(inode, major, minor);
+        if (segment == NULL) continue;
+        int faults = program != NULL ? program->faults : take_faults(process);
+        if (faults < 0) FAIL("process %s runs over an earlier daemon, and its faults can't be taken: end it first", process);
+        if (program == NULL) program = new_program(faults);
+        add_range(program, (struct range){start, end - start, offset, segment});
+        ioctl(faults, UFFDIO_WAKE, &(struct uffdio_range){start, end - start});
+    }
+    if (maps != NULL) fclose(maps);
+    return program != NULL;
+}
+
+/* Takes the programs of an earlier daemon that still run: those that have a segment's memory mapped. Gives how many there are. */
+int programs_adopt(void) {
+    int count = 0;
+    DIR *folder = opendir("/proc");
+    for (const struct dirent *entry; folder != NULL && (entry = readdir(folder)) != NULL;) {
+        if (isdigit(entry->d_name[0]) && atoi(entry->d_name) != getpid()) count += adopt(entry->d_name);
+    }
+    if (folder != NULL) closedir(folder);
+    return count;
 }

@@ -1,7 +1,9 @@
 /* The programs' calls: what the preloaded library asks over its connection, and the segments that are attached here.
 
    The site has attached each such segment once or twice, to read or to read and write, however many programs here have it. So what one more
-   program may do is decided here, by the segment's record at its home. */
+   program may do is decided here, by the segment's record at its home.
+
+   Memory and records are files of a tmpfs, so a daemon that dies and is started again has them as they were. */
 #include "host.h"
 
 #include <sys/file.h>
@@ -9,7 +11,7 @@
 #include <sys/stat.h>
 #include <sys/un.h>
 
-enum { MADE = 1024, MOST_IDS = 1 << 16 };
+enum { MADE = 1024 };
 
 struct segment segments[MOST_SEGMENTS];
 
@@ -29,14 +31,15 @@ static struct made {
     time_t time;
 } made[MADE];
 
-static bool attached_before[MOST_IDS]; /* by a hash of their identifiers */
-static int listener, lock;
+static int listener;
+static struct record *records;
+static char files[150]; /* the records' name; the memory's have a number behind it */
 
 /* Segments. */
 
 struct segment *segment_of(int id) {
     EACH_SEGMENT(segment) {
-        if (segment->id == id) return segment;
+        if (segment->record->id == id) return segment;
     }
     return NULL;
 }
@@ -46,10 +49,17 @@ struct page *page_of(int id, int page) {
     return segment != NULL && page >= 0 && (size_t)page < segment->length / PAGE ? &segment->pages[page] : NULL;
 }
 
+struct page *page_through(int attachment, int page) {
+    EACH_SEGMENT(segment) {
+        if (segment->record->reading == attachment || segment->record->writing == attachment) return page_of(segment->record->id, page);
+    }
+    return NULL;
+}
+
 void segment_attached(struct segment *segment, int by) {
     segment->attached += by;
     segment->left = now();
-    *(by > 0 ? &segment->attach_time : &segment->detach_time) = time(NULL);
+    *(by > 0 ? &segment->record->attach_time : &segment->record->detach_time) = time(NULL);
 }
 
 void each_page(void (*change)(struct page *)) {
@@ -58,25 +68,65 @@ void each_page(void (*change)(struct page *)) {
     }
 }
 
-/* The twin of a page that nobody had is right as it is: zeros, and no transaction. */
-static struct segment *new_segment(int id, size_t size) {
-    struct segment *segment = segments;
-    while (segment < segments + MOST_SEGMENTS && segment->used) segment++;
-    if (segment == segments + MOST_SEGMENTS) return NULL;
-    size_t length = (size + PAGE - 1) / PAGE * PAGE;
-    *segment = (struct segment){.used = true, .id = id, .length = length, .reading = -1, .writing = -1};
-    segment->memory = memfd_create("leddwyfan", MFD_CLOEXEC);
-    segment->pages = calloc(length / PAGE, sizeof *segment->pages);
-    segment->twins = calloc(length, 1);
-    if (segment->memory < 0 || ftruncate(segment->memory, (off_t)length) < 0) FAIL("no memory for a segment");
-    segment->bytes = mmap(NULL, length, PROT_READ | PROT_WRITE, MAP_SHARED, segment->memory, 0);
+static void name_memory(const struct segment *segment, char name[PAGE]) {
+    snprintf(name, PAGE, "%s.%d", files, (int)(segment - segments));
+}
+
+/* Of `length` bytes, or as an earlier daemon left it. */
+static void open_memory(struct segment *segment, struct record *record, off_t length) {
+    char name[PAGE];
+    struct stat file;
+    name_memory(segment, name);
+    int memory = open(name, O_RDWR | O_CLOEXEC | (length > 0 ? O_CREAT | O_TRUNC : 0), 0600);
+    if (memory < 0 || (length > 0 && ftruncate(memory, length) < 0) || fstat(memory, &file) < 0) FAIL("no memory %s: %s", name, strerror(errno));
+    *segment = (struct segment){.record = record, .memory = memory, .length = (size_t)file.st_size, .left = now()};
+    segment->pages = calloc(segment->length / PAGE, sizeof *segment->pages);
+    segment->twins = calloc(segment->length, 1);
+    segment->bytes = mmap(NULL, segment->length, PROT_READ | PROT_WRITE, MAP_SHARED, memory, 0);
     if (segment->bytes == MAP_FAILED || segment->pages == NULL || segment->twins == NULL) FAIL("no memory for a segment");
-    uint64_t transaction = options.fresh && !attached_before[id % MOST_IDS] ? 0 : UINT64_MAX;
-    attached_before[id % MOST_IDS] = true;
-    for (size_t offset = 0; offset < length; offset += PAGE) {
-        segment->pages[offset / PAGE] = (struct page){.segment = segment, .offset = offset, .twin = segment->twins + offset, .transaction = transaction};
+    for (size_t index = 0; index < segment->length / PAGE; index++) {
+        segment->pages[index] = (struct page){.segment = segment, .index = index, .mapped = &record->mapped[index], .left = WRITE, .twin = segment->twins + index * PAGE};
     }
-    return segment;
+}
+
+static struct segment *new_segment(int id, size_t size) {
+    int place = 0;
+    while (place < MOST_SEGMENTS && records[place].used) place++;
+    if (place == MOST_SEGMENTS) return NULL;
+    open_memory(&segments[place], &records[place], (off_t)((size + PAGE - 1) / PAGE * PAGE));
+    records[place] = (struct record){.used = true, .id = id, .reading = -1, .writing = -1};
+    return &segments[place];
+}
+
+static void close_memory(struct segment *segment) {
+    char name[PAGE];
+    name_memory(segment, name);
+    unlink(name);
+    munmap(segment->bytes, segment->length);
+    close(segment->memory);
+    free(segment->pages);
+    free(segment->twins);
+    segment->record->used = false;
+    segment->record = NULL;
+}
+
+/* Those that an earlier daemon has left. Where the site begins anew they are of no use. */
+void find_segments(void) {
+    snprintf(files, sizeof files, "/dev/shm/leddwyfan%s", options.socket);
+    for (char *letter = files + strlen("/dev/shm/"); *letter != '\0'; letter++) *letter = *letter == '/' ? '.' : *letter;
+    int file = open(files, O_RDWR | O_CREAT | O_CLOEXEC, 0600);
+    if (file < 0 || ftruncate(file, MOST_SEGMENTS * sizeof *records) < 0) FAIL("no memory %s: %s", files, strerror(errno));
+    records = mmap(NULL, MOST_SEGMENTS * sizeof *records, PROT_READ | PROT_WRITE, MAP_SHARED, file, 0);
+    if (records == MAP_FAILED) FAIL("no memory %s: %s", files, strerror(errno));
+    for (int place = 0; place < MOST_SEGMENTS; place++) {
+        if (records[place].used) open_memory(&segments[place], &records[place], 0);
+    }
+    int programs = programs_adopt();
+    if (programs > 0 && options.fresh) FAIL("%d programs of an earlier daemon still run: end them first", programs);
+    if (programs > 0) complain("goes on for %d programs", programs);
+    if (options.fresh) {
+        EACH_SEGMENT(segment) close_memory(segment);
+    }
 }
 
 static struct call *new_call(struct connection *connection, const struct ask *ask) {
@@ -94,33 +144,38 @@ static void detach(int attachment) {
     if (attachment >= 0) make_call(new_call(NULL, &(struct ask){0}), forget, "detach %d", attachment);
 }
 
+/* Gives a segment back to the site, once all of its pages are. */
 static void give_back(struct segment *segment) {
+    bool here = false;
     for (size_t index = 0; index < segment->length / PAGE; index++) {
-        page_leaves(&segment->pages[index]);
-        drop_page(&segment->pages[index]);
+        struct page *page = &segment->pages[index];
+        page_leaves(page);
+        here |= *page->mapped != NONE || page->map != 0 || page->unmap != 0;
     }
-    detach(segment->reading);
-    detach(segment->writing);
-    munmap(segment->bytes, segment->length);
-    close(segment->memory);
-    free(segment->pages);
-    free(segment->twins);
-    segment->used = false;
+    if (here) return;
+    for (size_t index = 0; index < segment->length / PAGE; index++) drop_page(&segment->pages[index]);
+    detach(segment->record->reading);
+    detach(segment->record->writing);
+    close_memory(segment);
 }
 
-/* Gives the segments that nobody here has any more back to the site: after a while, as who detaches often attaches again. */
+/* Those that nobody here has any more are given back: after a while, as who detaches often attaches again. */
 bool segments_turn(void) {
     bool here = false;
     EACH_SEGMENT(segment) {
         here = true;
-        if (segment->attached == 0 && (segment->removed || now() > segment->left + SECOND)) give_back(segment);
+        if (segment->attached == 0 && !site_recovers() && (segment->removed || now() > segment->left + SECOND)) give_back(segment);
     }
     return here;
 }
 
-/* Those of an earlier daemon, which its journal has. */
+/* Attachments that an earlier daemon made, and that no segment here has. */
 void detach_leftovers(void) {
-    for (int attachment = 1; attachment < 64; attachment++) detach(attachment);
+    for (int attachment = 1; attachment < MOST_ATTACHMENTS; attachment++) {
+        bool here = false;
+        EACH_SEGMENT(segment) here |= segment->record->reading == attachment || segment->record->writing == attachment;
+        if (!here) detach(attachment);
+    }
 }
 
 /* Answers. */
@@ -149,10 +204,11 @@ static int take_status(const char *reply, int id, struct shmid_ds *status) {
     owner->mode = (unsigned short)(mode | (strcmp(mark, "marked") == 0 ? SHM_DEST : 0));
     if (place->id == id) status->shm_cpid = place->creator, status->shm_ctime = place->time;
     if (segment == NULL) return 0;
-    status->shm_nattch += (unsigned long)(segment->attached - (segment->reading >= 0) - (segment->writing >= 0));
-    status->shm_atime = segment->attach_time;
-    status->shm_dtime = segment->detach_time;
-    status->shm_lpid = segment->last;
+    const struct record *record = segment->record;
+    status->shm_nattch += (unsigned long)(segment->attached - (record->reading >= 0) - (record->writing >= 0));
+    status->shm_atime = record->attach_time;
+    status->shm_dtime = record->detach_time;
+    status->shm_lpid = record->last;
     return 0;
 }
 
@@ -189,7 +245,7 @@ static void hand_over(struct call *call, struct segment *segment) {
     if (connection->socket >= 0) {
         segment_attached(segment, 1);
         connection->promised = segment;
-        segment->last = connection->peer.pid;
+        segment->record->last = connection->peer.pid;
     }
     call->answer.status.shm_segsz = segment->length;
     finish(call, 0, segment->memory);
@@ -200,7 +256,7 @@ static void attached(struct call *call, int error, const char *reply) {
     if (error == 0 && sscanf(reply, "attached %d", &attachment) != 1) error = EIO;
     struct segment *segment = segment_of(call->ask.id);
     if (error == 0 && segment == NULL && (segment = new_segment(call->ask.id, call->answer.status.shm_segsz)) == NULL) error = EMFILE;
-    int *place = error != 0 ? NULL : call->ask.flags & SHM_RDONLY ? &segment->reading : &segment->writing;
+    int *place = error != 0 ? NULL : call->ask.flags & SHM_RDONLY ? &segment->record->reading : &segment->record->writing;
     if (place != NULL && *place < 0) *place = attachment;
     else detach(attachment);
     if (error == 0) hand_over(call, segment);
@@ -215,7 +271,7 @@ static void attach(struct call *call, int error, const char *reply) {
     if (error == 0 && !allows(&call->answer.status.shm_perm, connection, reads ? 04 : 06)) error = EACCES;
     if (error != 0) {
         finish(call, error, -1);
-    } else if (segment != NULL && (segment->writing >= 0 || (reads && segment->reading >= 0))) {
+    } else if (segment != NULL && (segment->record->writing >= 0 || (reads && segment->record->reading >= 0))) {
         hand_over(call, segment);
     } else {
         make_call(call, attached, "attach %u %u %d %s", connection->peer.uid, connection->peer.gid, call->ask.id, reads ? "ro" : "rw");
@@ -241,7 +297,7 @@ static void give_device(struct call *call) {
 
 static void name(struct call *call) {
     int faults = -1;
-    call->connection->program = program_named(call->ask.size, &faults);
+    call->connection->program = program_named(call->ask.address, &faults);
     finish(call, 0, faults);
 }
 
@@ -262,7 +318,7 @@ static void take_ask(struct call *call, int handed) {
     if (handed >= 0 && ask->kind != ASK_FAULTS) close(handed);
     switch (ask->kind) {
     case ASK_DEVICE: give_device(call); break;
-    case ASK_FAULTS: finish(call, program_new(handed, ask->address, &connection->program), lock); break;
+    case ASK_FAULTS: finish(call, program_new(handed, ask->address, &connection->program), -1); break;
     case ASK_NAMED: name(call); break;
     case ASK_MAPPED: finish(call, take_mapping(connection, ask->address), -1); break;
     case ASK_ATTACH: make_call(call, attach, "stat %u %u %d", uid, gid, ask->id); break;
@@ -307,8 +363,6 @@ static void accept_program(struct source *source) {
     watch(socket, &connection->source);
 }
 
-/* The lock is held by the daemon and by each program that it hands it to: while one of them lives, no other daemon begins, as such a program
-   may have pages that the new one knew nothing of. */
 void listen_to_programs(void) {
     static struct source source = {accept_program};
     struct sockaddr_un address = {.sun_family = AF_UNIX};
@@ -316,9 +370,9 @@ void listen_to_programs(void) {
     if (strlen(options.socket) >= sizeof address.sun_path) FAIL("%s is too long for a socket's name", options.socket);
     strcpy(address.sun_path, options.socket);
     snprintf(name, sizeof name, "%s.lock", address.sun_path);
-    lock = open(name, O_RDWR | O_CREAT | O_CLOEXEC, 0600);
+    int lock = open(name, O_RDWR | O_CREAT | O_CLOEXEC, 0600);
     if (lock < 0) FAIL("%s can't be made: %s", name, strerror(errno));
-    if (flock(lock, LOCK_EX | LOCK_NB) < 0) FAIL("another daemon has %s, or programs of an earlier one still run: end them first", options.socket);
+    if (flock(lock, LOCK_EX | LOCK_NB) < 0) FAIL("another daemon has %s", options.socket);
     unlink(options.socket);
     listener = socket(AF_UNIX, SOCK_SEQPACKET | SOCK_CLOEXEC | SOCK_NONBLOCK, 0);
     mode_t mask = umask(0);

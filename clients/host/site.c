@@ -1,30 +1,26 @@
 /* The site's process: what it is asked, and what it tells (docs/lines.md). All that asks it stands here.
 
-   It has no ask yet that maps a page, so a page is mapped by four: `show` tells whether the right is here; where it isn't, a `try-load` or
-   `try-store`, which then can't be made, asks for it; `read` gives bytes that no envelope brought; and `write` stores those that changed.
-
-   A site that is killed is started again from its journal. What it was told and hadn't made durable is said again: calls, where that does no
-   harm, and the stores that had no answer, before any envelope may pass. */
+   It maps a page where it has the right, and from then on holds back what would take the right away, until it is told to unmap the page. What
+   is mapped is in its journal. So a site that is killed is started again, tells what it has mapped, and goes on: what it was asked and hadn't
+   answered is asked again, calls where that does no harm. */
 #include "host.h"
 
 #include <signal.h>
 #include <stdarg.h>
+#include <sys/file.h>
 #include <sys/wait.h>
 
-enum { LINE = 5700, NO_ATTACHMENT = 64 };
+enum { LINE = 4 * PAGE };
 
 static struct channel to_site = {.descriptor = -1}, from_site = {.descriptor = -1};
-static struct channel stores; /* the lines of those whose answers aren't here: so many, from `answered` on */
-static size_t answered, unanswered, said_again;
 static pid_t process;
 static struct call *calls;
 static uint64_t calls_made, asks;
-static bool ticking; /* a tick has no answer yet */
+static bool ticking, recovering; /* a tick, and what is mapped, has no answer yet */
 
 static const char letters[] = "ABCDEFGHIJKLMNOPQRSTUVWXYZabcdefghijklmnopqrstuvwxyz0123456789+/";
 
-/* Says an ask, and gives its line. */
-__attribute__((format(printf, 1, 2))) static const char *say(const char *format, ...) {
+__attribute__((format(printf, 1, 2))) static void say(const char *format, ...) {
     static char line[LINE];
     int length = snprintf(line, sizeof line, "ask %d ", options.me);
     va_list values;
@@ -32,40 +28,63 @@ __attribute__((format(printf, 1, 2))) static const char *say(const char *format,
     vsnprintf(line + length, sizeof line - (size_t)length, format, values);
     va_end(values);
     push_line(&to_site, line);
-    return line;
 }
 
 /* Pages. */
 
-static int attachment_of(const struct page *page) {
-    return page->segment->writing >= 0 ? page->segment->writing : page->segment->reading;
+static const char *const words[] = {"none", "read", "write"};
+
+uint64_t ask_map(const struct page *page) {
+    say("m.%d.%zu.%lu map %d %zu %s", page->segment->record->id, page->index, ++asks, page->through, page->index, words[page->asked]);
+    return asks;
 }
 
-void ask_page(struct page *page, enum asked asked) {
-    int id = page->segment->id;
-    size_t index = page->offset / PAGE;
-    page->asked = asked;
-    page->ask = ++asks;
-    if (asked == STATE) say("p.%d.%zu.%lu show %d %zu", id, index, asks, id, index);
-    else say("p.%d.%zu.%lu read %d %zu %d", id, index, asks, attachment_of(page), page->offset, PAGE);
+uint64_t ask_unmap(const struct page *page, const char *runs) {
+    int id = page->segment->record->id;
+    say("u.%d.%zu.%lu unmap %d %zu %s%s", id, page->index, ++asks, page->attachment, page->index, words[page->kept], runs);
+    return asks;
 }
 
-/* Only where the right isn't here, and no envelope may pass before: then it neither loads nor stores. */
-void ask_right(const struct page *page) {
-    if (page->wanted == WRITE) say("r try-store %d %zu 0", page->segment->writing, page->offset);
-    else say("r try-load %d %zu", attachment_of(page), page->offset);
+void ask_sync(const struct page *page, const char *runs) {
+    say("y.%d.%zu.%lu sync %d %zu%s", page->segment->record->id, page->index, ++asks, page->attachment, page->index, runs);
 }
 
 static void page_answered(const char *tag, const char *text) {
     int id, index;
     uint64_t ask;
-    struct page *page = sscanf(tag, "p.%d.%d.%lu", &id, &index, &ask) == 3 ? page_of(id, index) : NULL;
-    if (page != NULL) page_told(page, ask, text);
+    struct page *page = sscanf(tag + 2, "%d.%d.%lu", &id, &index, &ask) == 3 ? page_of(id, index) : NULL;
+    if (strncmp(text, "refused", 7) == 0) complain("the site refuses %s: %s", tag, text);
+    if (page == NULL) return;
+    if (*tag == 'm') page_mapped(page, ask, text);
+    else if (*tag == 'u') page_unmapped(page, ask, text);
+    else if (strcmp(text, "synced") != 0) page_unsynced(page);
+}
+
+static void take_revoke(const char *text) {
+    int id, index;
+    char word[6];
+    struct page *page = sscanf(text, "revoke %d %d %5s", &id, &index, word) == 3 ? page_of(id, index) : NULL;
+    if (page != NULL) page_revoked(page, strcmp(word, "read") == 0 ? READ : NONE);
+}
+
+/* What is mapped for no segment that is here is an earlier daemon's. */
+static void take_mappings(const char *text) {
+    int at, index, length;
+    char word[6];
+    for (text += strlen("mappings"); sscanf(text, " %d %d %5s%n", &at, &index, word, &length) == 3; text += length) {
+        struct page *page = page_through(at, index);
+        if (page == NULL) say("x unmap %d %d none", at, index);
+        else page->attachment = at, page->listed = strcmp(word, "write") == 0 ? WRITE : READ;
+    }
+    recovering = false;
+    each_page(page_begins_again);
+    if (!options.fresh) detach_leftovers();
+    options.fresh = true;
 }
 
 /* Bytes in base64. */
 
-static void encode(const uint8_t *bytes, size_t count, char *text) {
+void encode(const uint8_t *bytes, size_t count, char *text) {
     for (size_t place = 0; place < count; place += 3) {
         uint32_t bits = 0;
         for (size_t byte = place; byte < place + 3; byte++) bits = bits << 8 | (byte < count ? bytes[byte] : 0);
@@ -86,39 +105,8 @@ bool decode(const char *text, uint8_t bytes[PAGE]) {
     return true;
 }
 
-/* Stores. */
-
-void store_run(const struct page *page, size_t start, size_t end) {
-    char text[(PAGE + 2) / 3 * 4 + 1];
-    encode(page->segment->bytes + page->offset + start, end - start, text);
-    push_line(&stores, say("s write %d %zu %s", page->segment->writing, page->offset + start, text));
-    unanswered++;
-}
-
-static char *line_behind(char *line) {
-    return (char *)memchr(line, '\n', (size_t)(stores.bytes + stores.length - line)) + 1;
-}
-
-static void store_answered(const char *text) {
-    if (strcmp(text, "stored") != 0 && said_again == 0) complain("bytes weren't stored: %s", text);
-    if (said_again > 0) said_again--;
-    if (unanswered == 0) return;
-    answered = (size_t)(line_behind(stores.bytes + answered) - stores.bytes);
-    if (--unanswered == 0) answered = stores.length = 0;
-}
-
-static void say_stores_again(void) {
-    said_again = unanswered;
-    for (char *behind, *line = stores.bytes + answered; line < stores.bytes + stores.length; line = behind) {
-        behind = line_behind(line);
-        behind[-1] = '\0';
-        push_line(&to_site, line);
-        behind[-1] = '\n';
-    }
-}
-
 bool site_recovers(void) {
-    return said_again > 0;
+    return recovering;
 }
 
 /* Segment calls. */
@@ -186,7 +174,7 @@ bool site_waits(void) {
 void site_tick(void) {
     if (!ticking) say("t tick");
     ticking = true;
-    if (calls != NULL && calls->doubtful) say("q detach %d", NO_ATTACHMENT);
+    if (calls != NULL && calls->doubtful) say("q detach %d", MOST_ATTACHMENTS);
     say_call();
 }
 
@@ -196,17 +184,14 @@ void pass_line(const char *line) {
     push_line(&to_site, line);
 }
 
-/* What others say to this site. Asks of others don't pass: they would go past what is mapped. */
+/* What others say to this site. Asks of others don't pass. An envelope that the site may hold back is kept, to be handed over again. */
 void take_stream_line(char *line) {
-    struct envelope envelope = {.line = line, .segment = -1, .page = -1, .site = -1};
-    int said = 0;
-    if (sscanf(line, "env %*s %d %*s %*s %*s %n", &envelope.to, &said) != 1 || said == 0 || envelope.to != options.me) return;
-    envelope.said = line + said;
-    sscanf(envelope.said, "%11s %d %d %lu %7s %d", envelope.kind, &envelope.segment, &envelope.page, &envelope.number, envelope.access, &envelope.site);
-    bool meets = meets_entry(&envelope);
-    struct page *page = meets ? page_of(envelope.segment, envelope.page) : NULL;
-    if (page != NULL) page_envelope(page, &envelope);
-    else if (!meets || !site_recovers()) pass_line(line);
+    int to, id = -1, index = -1;
+    char kind[8];
+    if (sscanf(line, "env %*s %d %*s %*s %*s %7s %d %d", &to, kind, &id, &index) < 2 || to != options.me) return;
+    struct page *page = strcmp(kind, "clear") == 0 || strcmp(kind, "hand") == 0 ? page_of(id, index) : NULL;
+    if (page != NULL) page_envelope(page, line);
+    pass_line(line);
 }
 
 static void take_answer(char *line) {
@@ -214,13 +199,14 @@ static void take_answer(char *line) {
     if (text == NULL) return;
     *text++ = '\0';
     switch (*++tag) {
-    case 'p': page_answered(tag, text); break;
-    case 's': store_answered(text); break;
+    case '*': take_revoke(text); break;
+    case 'm':
+    case 'u':
+    case 'y': page_answered(tag, text); break;
+    case 'l': take_mappings(text); break;
     case 'c': call_answered(tag, text); break;
     case 'q': probe_answered(text); break;
     case 't': ticking = false; break;
-    case 'r':
-        if (strcmp(text, "stored") == 0 && options.broken != PASSES_WHILE_ASKING) FAIL("the site stored where it should have asked for a right");
     }
 }
 
@@ -233,11 +219,12 @@ static void take_site_line(char *line) {
 
 /* The process. */
 
-/* A site that was killed before it had written the first line of its journal begins it again. */
+/* A site that was killed before it had written the first line of its journal begins it again. An earlier daemon's site may still have it. */
 static bool is_begun(void) {
     char line[64];
     FILE *journal = fopen(options.journal, "re");
     bool begun = journal != NULL && fgets(line, sizeof line, journal) != NULL && strchr(line, '\n') != NULL;
+    for (int64_t until = now() + 5 * SECOND; begun && flock(fileno(journal), LOCK_EX | LOCK_NB) < 0 && now() < until;) usleep(1000);
     if (journal != NULL) fclose(journal);
     return begun;
 }
@@ -250,11 +237,9 @@ static void start_again(void) {
     to_site.length = from_site.length = 0;
     if (WIFEXITED(status)) FAIL("the site's process has ended, status %d", WEXITSTATUS(status));
     if (options.journal == NULL) FAIL("the site's process was killed, and has no journal: stop all hosts, and begin anew");
-    complain("the site's process was killed: it goes on from its journal, and %zu stores are said again", unanswered);
+    complain("the site's process was killed: it goes on from its journal");
     if (is_begun()) options.begins = false;
     site_start();
-    say_stores_again();
-    each_page(page_begins_again);
     if (calls != NULL) calls->doubtful = calls->said;
     ticking = false;
     site_tick();
@@ -270,11 +255,15 @@ void site_start(void) {
     char sites[12], me[12];
     snprintf(sites, sizeof sites, "%d", options.sites);
     snprintf(me, sizeof me, "%d", options.me);
-    const char *words[] = {options.program, "site", "--sites", sites, "--me", me, "--preset", "1", "--journal", options.journal,
-                           options.begins ? "--new" : NULL, NULL};
-    if (options.journal == NULL) words[8] = NULL;
-    process = start_process((char *const *)(uintptr_t)words, &to_site, &from_site);
+    const char *command[] = {options.program, "site", "--sites", sites, "--me", me, "--preset", "1", "--journal", options.journal,
+                             options.begins ? "--new" : NULL, NULL};
+    if (options.journal == NULL) command[8] = NULL;
+    if (!options.fresh) is_begun();
+    if (asks == 0) asks = calls_made = (uint64_t)now();
+    process = start_process((char *const *)(uintptr_t)command, &to_site, &from_site);
     watch(from_site.descriptor, &source);
+    recovering = true;
+    say("l mappings");
 }
 
 bool site_flush(void) {

@@ -365,12 +365,7 @@ def try_refusals(options):
     yield f'{len(told)} refusals, and a socket that was left over'
 
 
-def try_rule(options):
-    """The daemon's rule is the one that is proved."""
-    yield subprocess.run([os.path.join(options.build, 'try', 'hold')], stdout=subprocess.PIPE, text=True, check=True).stdout.strip()
-
-
-TRIES = {'rule': try_rule, 'smooth': try_smooth, 'carriers': try_carriers, 'postgres': try_database, 'nobody': try_nobody, 'checked': try_checked,
+TRIES = {'smooth': try_smooth, 'carriers': try_carriers, 'postgres': try_database, 'nobody': try_nobody, 'checked': try_checked,
          'many': try_many, 'refusals': try_refusals, 'death': try_daemon_death, 'kills': try_kills,
          'repeats': try_repeats, 'broken': try_broken}
 

@@ -21,8 +21,8 @@ enum { PAGE = 4096 };
 
 enum {
     ASK_DEVICE, /* answered with the descriptor of /dev/userfaultfd, or with none where the daemon has none */
-    ASK_FAULTS, /* hands over the program's userfaultfd, and `address`, its page of names; answered with the daemon's lock */
-    ASK_NAMED,  /* this is the program that reads `size` in its page of names; answered with its userfaultfd */
+    ASK_FAULTS, /* hands over the program's userfaultfd, and `address`, its page of names */
+    ASK_NAMED,  /* this is the program that reads `address` in its page of names; answered with its userfaultfd */
     ASK_ATTACH, /* answered with the segment's memory and length: the program maps it, and says so: */
     ASK_MAPPED, /* at `address`, or 0 where that failed */
     ASK_GET,    /* and the other three: what the calls have as arguments */
