@@ -8,8 +8,6 @@ enum right { NONE, READ, WRITE };
 
 enum { MOST_SEGMENTS = 64, MOST_PAGES = 256, MOST_ATTACHMENTS = 64, RUNS = 8000 };
 
-static const int64_t SECOND = 1000000000;
-
 /* The parts of the rule that a test leaves out (`--break`). */
 enum { STAYS_OPEN = 1, BRINGS_NO_BYTES, DOES_NOT_PROTECT, OPENS_TO_WRITE, OPENS_WHILE_GIVING_UP, HAS_OLD_BYTES };
 
@@ -95,7 +93,8 @@ struct segment {
     struct page *pages;
 };
 
-/* A segment call, which a site has one of at a time. `done` gets an errno or 0, and the reply, and ends the call or makes it go on. */
+/* A segment call, which a site has one of at a time. `done` gets an errno or 0, and the reply, and ends the call or makes it go on;
+   NULL where nobody asks. */
 struct call {
     struct call *next;
     uint64_t number;
@@ -108,7 +107,6 @@ struct call {
 };
 
 /* host.c: lines, the carrier, the loop. */
-int64_t now(void);
 void *room(void *old, size_t size); /* ends the daemon where there is none */
 __attribute__((format(printf, 1, 2))) void complain(const char *format, ...);
 #define FAIL(...) (complain(__VA_ARGS__), exit(1))
@@ -167,9 +165,10 @@ extern struct segment segments[MOST_SEGMENTS];
         if (segment->record != NULL)
 void listen_to_programs(void);
 void find_segments(void);
+void forget_segments(void);
 struct segment *segment_of(int id);
 struct page *page_of(int id, int page); /* of a segment that is attached here, or NULL */
-struct page *page_through(int attachment, int page);
+struct segment *segment_through(int attachment);
 void segment_attached(struct segment *segment, int by);
 bool segments_turn(void); /* whether there is one */
 void each_page(void (*change)(struct page *));

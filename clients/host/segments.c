@@ -3,7 +3,7 @@
    The site has attached each such segment once or twice, to read or to read and write, however many programs here have it. So what one more
    program may do is decided here, by the segment's record at its home.
 
-   Memory and records are files of a tmpfs, so a daemon that dies and is started again has them as they were. */
+   Memory and records are files of a tmpfs, so a daemon that is started again after its death has them as they were. */
 #include "host.h"
 
 #include <sys/file.h>
@@ -33,7 +33,7 @@ static struct made {
 
 static int listener;
 static struct record *records;
-static char files[150]; /* the records' name; the memory's have a number behind it */
+static char files[160]; /* the records' name; the memory's have a number behind it */
 
 /* Segments. */
 
@@ -49,9 +49,9 @@ struct page *page_of(int id, int page) {
     return segment != NULL && page >= 0 && (size_t)page < segment->length / PAGE ? &segment->pages[page] : NULL;
 }
 
-struct page *page_through(int attachment, int page) {
+struct segment *segment_through(int attachment) {
     EACH_SEGMENT(segment) {
-        if (segment->record->reading == attachment || segment->record->writing == attachment) return page_of(segment->record->id, page);
+        if (segment->record->reading == attachment || segment->record->writing == attachment) return segment;
     }
     return NULL;
 }
@@ -68,24 +68,32 @@ void each_page(void (*change)(struct page *)) {
     }
 }
 
-static void name_memory(const struct segment *segment, char name[PAGE]) {
-    snprintf(name, PAGE, "%s.%d", files, (int)(segment - segments));
+static void *file_memory(int file, size_t length) {
+    void *memory = file < 0 ? MAP_FAILED : mmap(NULL, length, PROT_READ | PROT_WRITE, MAP_SHARED, file, 0);
+    if (memory == MAP_FAILED) FAIL("no memory %s: %s", files, strerror(errno));
+    return memory;
+}
+
+/* Of a segment at a place among the records. */
+static const char *memory_name(long place) {
+    static char name[sizeof files + 24];
+    snprintf(name, sizeof name, "%s.%ld", files, place);
+    return name;
 }
 
 /* Of `length` bytes, or as an earlier daemon left it. */
-static void open_memory(struct segment *segment, struct record *record, off_t length) {
-    char name[PAGE];
+static void open_memory(long place, off_t length) {
+    struct segment *segment = &segments[place];
+    const char *name = memory_name(place);
     struct stat file;
-    name_memory(segment, name);
     int memory = open(name, O_RDWR | O_CLOEXEC | (length > 0 ? O_CREAT | O_TRUNC : 0), 0600);
-    if (memory < 0 || (length > 0 && ftruncate(memory, length) < 0) || fstat(memory, &file) < 0) FAIL("no memory %s: %s", name, strerror(errno));
-    *segment = (struct segment){.record = record, .memory = memory, .length = (size_t)file.st_size, .left = now()};
-    segment->pages = calloc(segment->length / PAGE, sizeof *segment->pages);
-    segment->twins = calloc(segment->length, 1);
-    segment->bytes = mmap(NULL, segment->length, PROT_READ | PROT_WRITE, MAP_SHARED, memory, 0);
-    if (segment->bytes == MAP_FAILED || segment->pages == NULL || segment->twins == NULL) FAIL("no memory for a segment");
-    for (size_t index = 0; index < segment->length / PAGE; index++) {
-        segment->pages[index] = (struct page){.segment = segment, .index = index, .mapped = &record->mapped[index], .left = WRITE, .twin = segment->twins + index * PAGE};
+    if (length > 0 && ftruncate(memory, length) < 0) FAIL("no memory %s: %s", name, strerror(errno));
+    size_t size = fstat(memory, &file) < 0 ? 0 : (size_t)file.st_size;
+    *segment = (struct segment){.record = &records[place], .memory = memory, .length = size, .bytes = file_memory(memory, size), .left = now()};
+    segment->pages = room(NULL, size / PAGE * sizeof *segment->pages);
+    segment->twins = room(NULL, size);
+    for (size_t index = 0; index < size / PAGE; index++) {
+        segment->pages[index] = (struct page){.segment = segment, .index = index, .mapped = &records[place].mapped[index], .left = WRITE, .twin = segment->twins + index * PAGE};
     }
 }
 
@@ -93,15 +101,13 @@ static struct segment *new_segment(int id, size_t size) {
     int place = 0;
     while (place < MOST_SEGMENTS && records[place].used) place++;
     if (place == MOST_SEGMENTS) return NULL;
-    open_memory(&segments[place], &records[place], (off_t)((size + PAGE - 1) / PAGE * PAGE));
+    open_memory(place, (off_t)((size + PAGE - 1) / PAGE * PAGE));
     records[place] = (struct record){.used = true, .id = id, .reading = -1, .writing = -1};
     return &segments[place];
 }
 
 static void close_memory(struct segment *segment) {
-    char name[PAGE];
-    name_memory(segment, name);
-    unlink(name);
+    unlink(memory_name(segment - segments));
     munmap(segment->bytes, segment->length);
     close(segment->memory);
     free(segment->pages);
@@ -110,22 +116,21 @@ static void close_memory(struct segment *segment) {
     segment->record = NULL;
 }
 
-/* Those that an earlier daemon has left. Where the site begins anew they are of no use. */
+/* Those that an earlier daemon has left, with its programs. Where the site begins anew they are of no use. */
 void find_segments(void) {
     snprintf(files, sizeof files, "/dev/shm/leddwyfan%s", options.socket);
     for (char *letter = files + strlen("/dev/shm/"); *letter != '\0'; letter++) *letter = *letter == '/' ? '.' : *letter;
     int file = open(files, O_RDWR | O_CREAT | O_CLOEXEC, 0600);
-    if (file < 0 || ftruncate(file, MOST_SEGMENTS * sizeof *records) < 0) FAIL("no memory %s: %s", files, strerror(errno));
-    records = mmap(NULL, MOST_SEGMENTS * sizeof *records, PROT_READ | PROT_WRITE, MAP_SHARED, file, 0);
-    if (records == MAP_FAILED) FAIL("no memory %s: %s", files, strerror(errno));
+    if (ftruncate(file, MOST_SEGMENTS * sizeof *records) < 0) FAIL("no memory %s: %s", files, strerror(errno));
+    records = file_memory(file, MOST_SEGMENTS * sizeof *records);
     for (int place = 0; place < MOST_SEGMENTS; place++) {
-        if (records[place].used) open_memory(&segments[place], &records[place], 0);
+        if (records[place].used) open_memory(place, 0);
     }
     int programs = programs_adopt();
     if (programs > 0 && options.fresh) FAIL("%d programs of an earlier daemon still run: end them first", programs);
-    if (programs > 0) complain("goes on for %d programs", programs);
-    if (options.fresh) {
-        EACH_SEGMENT(segment) close_memory(segment);
+    if (programs > 0) complain("goes on for %d programs of an earlier daemon", programs);
+    EACH_SEGMENT(segment) {
+        if (options.fresh) close_memory(segment);
     }
 }
 
@@ -135,13 +140,8 @@ static struct call *new_call(struct connection *connection, const struct ask *as
     return call;
 }
 
-static void forget(struct call *call, int error, const char *reply) {
-    (void)error, (void)reply;
-    free(call);
-}
-
 static void detach(int attachment) {
-    if (attachment >= 0) make_call(new_call(NULL, &(struct ask){0}), forget, "detach %d", attachment);
+    if (attachment >= 0) make_call(new_call(NULL, &(struct ask){0}), NULL, "detach %d", attachment);
 }
 
 /* Gives a segment back to the site, once all of its pages are. */
@@ -169,12 +169,20 @@ bool segments_turn(void) {
     return here;
 }
 
+/* At the end: those that programs here still have stay, for the next daemon. */
+void forget_segments(void) {
+    bool here = false;
+    EACH_SEGMENT(segment) {
+        here |= segment->attached > 0;
+        if (segment->attached == 0) close_memory(segment);
+    }
+    if (!here) unlink(files);
+}
+
 /* Attachments that an earlier daemon made, and that no segment here has. */
 void detach_leftovers(void) {
     for (int attachment = 1; attachment < MOST_ATTACHMENTS; attachment++) {
-        bool here = false;
-        EACH_SEGMENT(segment) here |= segment->record->reading == attachment || segment->record->writing == attachment;
-        if (!here) detach(attachment);
+        if (segment_through(attachment) == NULL) detach(attachment);
     }
 }
 
@@ -212,31 +220,25 @@ static int take_status(const char *reply, int id, struct shmid_ds *status) {
     return 0;
 }
 
-static void note_made(const struct call *call, int id) {
-    struct made *place = &made[id % MADE];
-    bool makes = call->ask.flags & IPC_CREAT || call->ask.key == IPC_PRIVATE;
-    if (makes && place->id != id) *place = (struct made){id, call->connection->peer.pid, time(NULL)};
-}
-
 static void answered(struct call *call, int error, const char *reply) {
+    const struct ask *ask = &call->ask;
     struct answer *answer = &call->answer;
-    struct segment *segment = segment_of(call->ask.id);
-    bool asks = error == 0;
-    if (asks && call->ask.kind == ASK_GET) {
-        if (sscanf(reply, "id %d", &answer->id) == 1) note_made(call, answer->id);
-        else error = EIO;
+    struct segment *segment = segment_of(ask->id);
+    if (error == 0 && ask->kind == ASK_GET && sscanf(reply, "id %d", &answer->id) == 1) {
+        struct made *place = &made[answer->id % MADE];
+        if ((ask->flags & IPC_CREAT || ask->key == IPC_PRIVATE) && place->id != answer->id) *place = (struct made){answer->id, call->connection->peer.pid, time(NULL)};
     }
-    if (asks && call->ask.kind == ASK_STATUS) error = take_status(reply, call->ask.id, &answer->status);
-    if (asks && call->ask.kind == ASK_REMOVE && segment != NULL) segment->removed = true;
+    if (error == 0 && ask->kind == ASK_STATUS) error = take_status(reply, ask->id, &answer->status);
+    if (error == 0 && ask->kind == ASK_REMOVE && segment != NULL) segment->removed = true;
     finish(call, error, -1);
 }
 
 /* Attaching. */
 
-static bool allows(const struct ipc_perm *owner, const struct connection *connection, unsigned needed) {
+static bool allows(const struct ipc_perm *owner, const struct ucred *peer, unsigned needed) {
     unsigned bits = owner->mode;
-    if (connection->peer.uid == owner->uid || connection->peer.uid == owner->cuid) bits >>= 6;
-    else if (connection->peer.gid == owner->gid || connection->peer.gid == owner->cgid) bits >>= 3;
+    if (peer->uid == owner->uid || peer->uid == owner->cuid) bits >>= 6;
+    else if (peer->gid == owner->gid || peer->gid == owner->cgid) bits >>= 3;
     return (bits & needed) == needed;
 }
 
@@ -264,18 +266,14 @@ static void attached(struct call *call, int error, const char *reply) {
 }
 
 static void attach(struct call *call, int error, const char *reply) {
-    const struct connection *connection = call->connection;
+    const struct ucred *peer = &call->connection->peer;
     struct segment *segment = segment_of(call->ask.id);
     bool reads = call->ask.flags & SHM_RDONLY;
     if (error == 0) error = take_status(reply, call->ask.id, &call->answer.status);
-    if (error == 0 && !allows(&call->answer.status.shm_perm, connection, reads ? 04 : 06)) error = EACCES;
-    if (error != 0) {
-        finish(call, error, -1);
-    } else if (segment != NULL && (segment->record->writing >= 0 || (reads && segment->record->reading >= 0))) {
-        hand_over(call, segment);
-    } else {
-        make_call(call, attached, "attach %u %u %d %s", connection->peer.uid, connection->peer.gid, call->ask.id, reads ? "ro" : "rw");
-    }
+    if (error == 0 && !allows(&call->answer.status.shm_perm, peer, reads ? 04 : 06)) error = EACCES;
+    if (error != 0) finish(call, error, -1);
+    else if (segment != NULL && (segment->record->writing >= 0 || (reads && segment->record->reading >= 0))) hand_over(call, segment);
+    else make_call(call, attached, "attach %u %u %d %s", peer->uid, peer->gid, call->ask.id, reads ? "ro" : "rw");
 }
 
 static int take_mapping(struct connection *connection, uint64_t address) {
@@ -289,18 +287,6 @@ static int take_mapping(struct connection *connection, uint64_t address) {
 
 /* Asks. */
 
-static void give_device(struct call *call) {
-    int device = open("/dev/userfaultfd", O_RDWR | O_CLOEXEC);
-    finish(call, 0, device);
-    close(device);
-}
-
-static void name(struct call *call) {
-    int faults = -1;
-    call->connection->program = program_named(call->ask.address, &faults);
-    finish(call, 0, faults);
-}
-
 static void get(struct call *call) {
     const struct ask *ask = &call->ask;
     const char *flags = ask->flags & IPC_CREAT ? ask->flags & IPC_EXCL ? "cx" : "c" : ask->flags & IPC_EXCL ? "x" : "-";
@@ -312,29 +298,24 @@ static void get(struct call *call) {
 static void take_ask(struct call *call, int handed) {
     struct connection *connection = call->connection;
     const struct ask *ask = &call->ask;
-    const struct ipc_perm *owner = &ask->owner;
     uid_t uid = connection->peer.uid;
     gid_t gid = connection->peer.gid;
+    int error = 0, given = -1, device = -1;
     if (handed >= 0 && ask->kind != ASK_FAULTS) close(handed);
     switch (ask->kind) {
-    case ASK_DEVICE: give_device(call); break;
-    case ASK_FAULTS: finish(call, program_new(handed, ask->address, &connection->program), -1); break;
-    case ASK_NAMED: name(call); break;
-    case ASK_MAPPED: finish(call, take_mapping(connection, ask->address), -1); break;
-    case ASK_ATTACH: make_call(call, attach, "stat %u %u %d", uid, gid, ask->id); break;
-    case ASK_GET: get(call); break;
-    case ASK_STATUS: make_call(call, answered, "stat %u %u %d", uid, gid, ask->id); break;
-    case ASK_SET: make_call(call, answered, "set %u %u %d %u %u %03o", uid, gid, ask->id, owner->uid, owner->gid, owner->mode & 0777u); break;
-    case ASK_REMOVE: make_call(call, answered, "remove %u %u %d", uid, gid, ask->id); break;
-    default: finish(call, EINVAL, -1);
+    case ASK_GET: get(call); return;
+    case ASK_ATTACH: make_call(call, attach, "stat %u %u %d", uid, gid, ask->id); return;
+    case ASK_STATUS: make_call(call, answered, "stat %u %u %d", uid, gid, ask->id); return;
+    case ASK_SET: make_call(call, answered, "set %u %u %d %u %u %03o", uid, gid, ask->id, ask->owner.uid, ask->owner.gid, ask->owner.mode & 0777u); return;
+    case ASK_REMOVE: make_call(call, answered, "remove %u %u %d", uid, gid, ask->id); return;
+    case ASK_DEVICE: given = device = open("/dev/userfaultfd", O_RDWR | O_CLOEXEC); break;
+    case ASK_FAULTS: error = program_new(handed, ask->address, &connection->program); break;
+    case ASK_NAMED: connection->program = program_named(ask->address, &given); break;
+    case ASK_MAPPED: error = take_mapping(connection, ask->address); break;
+    default: error = EINVAL;
     }
-}
-
-static void end_connection(struct connection *connection) {
-    if (connection->promised != NULL) segment_attached(connection->promised, -1);
-    close(connection->socket);
-    connection->socket = -1;
-    if (connection->calls == 0) free(connection);
+    finish(call, error, given);
+    if (device >= 0) close(device);
 }
 
 static void connection_ready(struct source *source) {
@@ -344,12 +325,15 @@ static void connection_ready(struct source *source) {
     ssize_t length = receive_message(connection->socket, &ask, sizeof ask, &handed);
     if (length < 0 && (errno == EAGAIN || errno == EINTR)) return;
     programs_reap();
-    if (length != sizeof ask || ask.id < 0 || ask.size > UINT32_MAX) {
-        end_connection(connection);
+    if (length == sizeof ask && ask.id >= 0 && ask.size <= UINT32_MAX) {
+        connection->calls++;
+        take_ask(new_call(connection, &ask), handed);
         return;
     }
-    connection->calls++;
-    take_ask(new_call(connection, &ask), handed);
+    if (connection->promised != NULL) segment_attached(connection->promised, -1);
+    close(connection->socket);
+    connection->socket = -1;
+    if (connection->calls == 0) free(connection);
 }
 
 static void accept_program(struct source *source) {

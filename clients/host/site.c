@@ -72,7 +72,8 @@ static void take_mappings(const char *text) {
     int at, index, length;
     char word[6];
     for (text += strlen("mappings"); sscanf(text, " %d %d %5s%n", &at, &index, word, &length) == 3; text += length) {
-        struct page *page = page_through(at, index);
+        const struct segment *segment = segment_through(at);
+        struct page *page = segment == NULL ? NULL : page_of(segment->record->id, index);
         if (page == NULL) say("x unmap %d %d none", at, index);
         else page->attachment = at, page->listed = strcmp(word, "write") == 0 ? WRITE : READ;
     }
@@ -135,7 +136,8 @@ void make_call(struct call *call, call_done *done, const char *format, ...) {
 static void end_call(int error, const char *reply) {
     struct call *call = calls;
     calls = call->next;
-    call->done(call, error, reply);
+    if (call->done == NULL) free(call);
+    else call->done(call, error, reply);
     say_call();
 }
 

@@ -193,30 +193,55 @@ def see_broken(cluster):
     return None
 
 
-def try_daemon_death(options):
-    """A program whose daemon dies goes on with the pages that it has, sees no zeros, and waits at its next fault; and no new daemon begins
-    while it lives."""
-    cluster = Cluster(options, 2)
-    code = '''import ctypes, sys, time
+DYING = '''import ctypes, sys
 c = ctypes.CDLL(None); c.shmat.restype = ctypes.c_void_p
 p = c.shmat(c.shmget(77, 8192, 0o1666), None, 0); b = (ctypes.c_char * 8192).from_address(p)
 b[0] = b"a"; print("here", flush=True); sys.stdin.readline(); b[1] = b"b"; print(b[0:2].decode(), flush=True); print(b[4096], flush=True)'''
-    program = cluster.on(0, sys.executable, '-c', code, stdin=subprocess.PIPE, bufsize=1)
+
+
+def try_daemon_death(options):
+    """A program whose daemon dies goes on with the pages that it has, sees no zeros, and waits at its next fault, which the next daemon serves.
+    One that begins anew is refused while such a program lives."""
+    cluster = Cluster(options, 2, journals=True)
+    program = cluster.on(0, sys.executable, '-c', DYING, stdin=subprocess.PIPE, bufsize=1)
     try:
         expect(program.stdout.readline() == 'here\n', 'the program has a page')
+        cluster.told(1, sys.executable, '-c', 'import ctypes; c = ctypes.CDLL(None); c.shmat.restype = ctypes.c_void_p; '
+                     'p = c.shmat(c.shmget(77, 8192, 0), None, 0); (ctypes.c_char * 8192).from_address(p)[4096] = b"c"')
         cluster.daemons[0].kill()
         cluster.daemons[0].wait()
         program.stdin.write('\n')
         expect(program.stdout.readline() == 'ab\n', 'it goes on with it')
         time.sleep(0.5)
         expect(program.poll() is None, 'it waits at its next fault')
-        again = cluster.start(0, subprocess.DEVNULL)
-        expect(again.wait(10) == 1 and 'still run' in cluster.complaints(), 'no other daemon begins')
+        fresh = refusal(options, '--sites', '1', '--socket', cluster.socket(0))
+        expect('still run' in fresh, f'no daemon begins anew: {fresh}')
+        cluster.daemons[0] = cluster.start(0, cluster.streams[0])
+        expect(program.stdout.readline() == "b'c'\n", 'it goes on with what the other host stored')
+        told = cluster.told(1, sys.executable, '-c', DYING.replace('sys.stdin.readline(); b[1] = b"b"', '').replace('b[0] = b"a"', ''))
+        expect('ab' in told, f'what was stored while no daemon ran is there: {told}')
     finally:
         program.kill()
         program.wait()
         cluster.stop()
-    yield 'a new fault waits where the daemon died, and no zeros are seen'
+    yield 'where the daemon died no zeros are seen, a fault waits for the next daemon, and none begins anew'
+
+
+def kill_daemons(cluster, times, kills, seed=1):
+    """Threads and children of each host add, while daemons are killed and started again."""
+    key, draw = next(keys), random.Random(seed)
+    programs = [cluster.on(me, './count', key, 2, times) for me in range(cluster.hosts)]
+    time.sleep(1)
+    for _ in range(kills):
+        cluster.start_again(draw.randrange(cluster.hosts), draw.choice((0, 0.1, 0.5)))
+        time.sleep(draw.uniform(0.2, 1) * cluster.options.between_kills)
+    lasted = sum(program.poll() is None for program in programs)
+    for program in programs:
+        answer_of(program)
+    cluster.wait_for_sockets()
+    told, expected = cluster.told(0, './count', key, 1, 1), 4 * times * cluster.hosts + 2
+    expect(told == f'{expected} {expected}', f'{expected} adds are {told}')
+    return f'{kills} daemons killed, {expected} adds, {lasted} programs lasted'
 
 
 def try_carriers(options):

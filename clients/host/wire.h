@@ -66,6 +66,14 @@ static inline ssize_t receive_message(int socket, void *message, size_t size, in
     return length;
 }
 
+static const int64_t SECOND = 1000000000;
+
+static inline int64_t now(void) {
+    struct timespec time;
+    clock_gettime(CLOCK_MONOTONIC, &time);
+    return time.tv_sec * SECOND + time.tv_nsec;
+}
+
 /* Of the library: what a call that fails gives. */
 static inline int failed(int error) {
     errno = error;

@@ -1,4 +1,5 @@
 """Hosts on this machine: a daemon for each, the carrier between them, and programs that run over them."""
+import glob
 import itertools
 import os
 import select
@@ -55,9 +56,10 @@ class Cluster:
         ends = [pair[1].fileno() for pair in pairs]
         hub = [os.path.join(self.options.build, 'try', 'hub'), *rough, str(seed)]
         self.carrier = subprocess.Popen(hub + [str(end) for end in ends], pass_fds=ends)
-        self.daemons = [self.start(me, pairs[me][0]) for me in range(self.hosts)]
-        for end in itertools.chain(*pairs):
-            end.close()
+        self.streams = [pair[0] for pair in pairs]
+        self.daemons = [self.start(me, self.streams[me]) for me in range(self.hosts)]
+        for pair in pairs:
+            pair[1].close()
         self.wait_for_sockets()
 
     def begin(self, carrier, *carried):
@@ -82,6 +84,13 @@ class Cluster:
 
     def start(self, me, stream, *words):
         return subprocess.Popen(self.command(me) + list(words), stdin=stream, stdout=stream, stderr=self.log)
+
+    def start_again(self, me, pause=0):
+        """Kills a daemon, and starts it again on its journal while programs run."""
+        self.daemons[me].kill()
+        self.daemons[me].wait()
+        time.sleep(pause)
+        self.daemons[me] = self.start(me, self.streams[me])
 
     def wait_for_sockets(self):
         until = time.monotonic() + 20
@@ -136,6 +145,8 @@ class Cluster:
         self.carrier.wait()
         complaints = self.complaints()
         self.log.close()
+        for left in glob.glob(f"/dev/shm/leddwyfan{self.folder.replace('/', '.')}*"):
+            os.remove(left)
         return complaints
 
     def audit(self):
