@@ -193,21 +193,21 @@ def see_broken(cluster):
     return None
 
 
-DYING = '''import ctypes, sys
+ATTACHES = '''import ctypes, sys
 c = ctypes.CDLL(None); c.shmat.restype = ctypes.c_void_p
-p = c.shmat(c.shmget(77, 8192, 0o1666), None, 0); b = (ctypes.c_char * 8192).from_address(p)
-b[0] = b"a"; print("here", flush=True); sys.stdin.readline(); b[1] = b"b"; print(b[0:2].decode(), flush=True); print(b[4096], flush=True)'''
+b = (ctypes.c_char * 8192).from_address(c.shmat(c.shmget(77, 8192, 0o1666), None, 0))
+'''
+GOES_ON = 'b[0] = b"a"; print("here", flush=True); sys.stdin.readline(); b[1] = b"b"; print(b[0:2].decode(), flush=True); print(b[4096], flush=True)'
 
 
 def try_daemon_death(options):
     """A program whose daemon dies goes on with the pages that it has, sees no zeros, and waits at its next fault, which the next daemon serves.
     One that begins anew is refused while such a program lives."""
     cluster = Cluster(options, 2, journals=True)
-    program = cluster.on(0, sys.executable, '-c', DYING, stdin=subprocess.PIPE, bufsize=1)
+    program = cluster.on(0, sys.executable, '-c', ATTACHES + GOES_ON, stdin=subprocess.PIPE, bufsize=1)
     try:
         expect(program.stdout.readline() == 'here\n', 'the program has a page')
-        cluster.told(1, sys.executable, '-c', 'import ctypes; c = ctypes.CDLL(None); c.shmat.restype = ctypes.c_void_p; '
-                     'p = c.shmat(c.shmget(77, 8192, 0), None, 0); (ctypes.c_char * 8192).from_address(p)[4096] = b"c"')
+        cluster.told(1, sys.executable, '-c', ATTACHES + 'b[4096] = b"c"')
         cluster.daemons[0].kill()
         cluster.daemons[0].wait()
         program.stdin.write('\n')
@@ -218,8 +218,8 @@ def try_daemon_death(options):
         expect('still run' in fresh, f'no daemon begins anew: {fresh}')
         cluster.daemons[0] = cluster.start(0, cluster.streams[0])
         expect(program.stdout.readline() == "b'c'\n", 'it goes on with what the other host stored')
-        told = cluster.told(1, sys.executable, '-c', DYING.replace('sys.stdin.readline(); b[1] = b"b"', '').replace('b[0] = b"a"', ''))
-        expect('ab' in told, f'what was stored while no daemon ran is there: {told}')
+        told = cluster.told(1, sys.executable, '-c', ATTACHES + 'print(b[0:2].decode())')
+        expect(told == 'ab', f'what was stored while no daemon ran is there: {told}')
     finally:
         program.kill()
         program.wait()
