@@ -9,7 +9,7 @@ enum right { NONE, READ, WRITE };
 enum { MOST_SEGMENTS = 64, MOST_PAGES = 256, MOST_ATTACHMENTS = 64, RUNS = 8000 };
 
 /* The parts of the rule that a test leaves out (`--break`). */
-enum { STAYS_OPEN = 1, BRINGS_NO_BYTES, DOES_NOT_PROTECT, OPENS_TO_WRITE, OPENS_WHILE_GIVING_UP, HAS_OLD_BYTES };
+enum { STAYS_OPEN = 1, BRINGS_NO_BYTES, DOES_NOT_PROTECT, OPENS_TO_WRITE, OPENS_WHILE_GIVING_UP, WAKES_NOBODY };
 
 struct options {
     int sites, me, broken;

@@ -90,7 +90,7 @@ static void lower(struct page *page, enum right right) {
     if (right == NONE && options.broken != STAYS_OPEN) {
         if (fallocate(page->segment->memory, mode, (off_t)(page->index * PAGE), PAGE) < 0) FAIL("a page can't be taken out of memory");
         if (page->sleepers == 0) page->gone = now();
-        page->sleepers = PAGE;
+        page->sleepers = options.broken == WAKES_NOBODY ? 0 : PAGE;
     }
     *page->mapped = (uint8_t)right;
     set_busy(page);
@@ -187,7 +187,7 @@ void page_mapped(struct page *page, uint64_t map, const char *text) {
     maps--;
     set_busy(page);
     if (page->waits || page->unmap != 0) return;
-    if (text[6] == ' ' && options.broken != HAS_OLD_BYTES) {
+    if (text[6] == ' ') {
         if (!decode(text + 7, page->twin)) FAIL("the site told no page");
         page->known = true;
         put_bytes(page);

@@ -30,8 +30,8 @@ from cluster import Cluster, Words, answer_of, expect, has, keys, patience
 from others import try_others, try_postgres
 
 ROUGH = ('5', '10', '30')
-BROKEN = {1: 'passes a clear of what is read', 2: 'passes a hand to read of what is written', 3: 'passes a hand to write of what is written',
-          4: 'passes a hand to write of what is read', 5: 'passes envelopes while the site is asked', 6: "doesn't protect before it writes back"}
+BROKEN = {1: 'leaves what it gives up open', 2: 'brings no bytes', 3: "doesn't protect before it looks what changed", 4: 'opens to write what is mapped to read',
+          5: 'opens what it is giving up', 6: 'wakes nobody'}
 
 
 def try_counts(cluster, times=500):
@@ -186,6 +186,7 @@ def see_broken(cluster):
         for turn in range(30):
             try_words(cluster, 200, turn)
             try_counts(cluster, 300)
+            try_lock(cluster, 'turns', 20)
     except AssertionError as seen:
         return str(seen).splitlines()[0].replace(cluster.options.build, '..')[:100]
     finally:
