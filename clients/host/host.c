@@ -30,12 +30,6 @@ static int poller;
 static bool heard, carried = true; /* something came since the last tick, and since the carrier was started again */
 static volatile sig_atomic_t ending;
 
-int64_t now(void) {
-    struct timespec time;
-    clock_gettime(CLOCK_MONOTONIC, &time);
-    return time.tv_sec * SECOND + time.tv_nsec;
-}
-
 void *room(void *old, size_t size) {
     void *memory = realloc(old, size);
     if (memory == NULL) FAIL("no memory");
@@ -80,11 +74,8 @@ static void take_off(struct channel *channel, size_t count) {
 }
 
 void write_lines(struct channel *channel) {
-    ssize_t count = 1;
-    while (channel->length > 0 && count > 0) {
-        count = write(channel->descriptor, channel->bytes, channel->length);
-        if (count > 0) take_off(channel, (size_t)count);
-    }
+    ssize_t count;
+    while (channel->length > 0 && (count = write(channel->descriptor, channel->bytes, channel->length)) > 0) take_off(channel, (size_t)count);
 }
 
 bool read_lines(struct channel *channel, void (*take)(char *)) {
@@ -166,15 +157,10 @@ static void start_carrier(void) {
     static struct channel unused[2] = {{.descriptor = -1}, {.descriptor = -1}};
     carrier_due = 0;
     if (options.sites == 1 && carriers[0] == NULL) return;
-    if (carriers[0] == NULL) {
-        set_up(0);
-        set_up(1);
-    } else {
-        bool two = carriers[1] != NULL;
-        for (int index = 0; index < 2; index++) close(unused[index].descriptor);
-        processes[0] = start_process(carriers[0], two ? &unused[0] : &to_carrier, &from_carrier);
-        if (two) processes[1] = start_process(carriers[1], &to_carrier, &unused[1]);
-    }
+    for (int index = 0; index < 2; index++) close(unused[index].descriptor);
+    if (carriers[0] == NULL) set_up(0), set_up(1);
+    else processes[0] = start_process(carriers[0], carriers[1] == NULL ? &to_carrier : &unused[0], &from_carrier);
+    if (carriers[1] != NULL) processes[1] = start_process(carriers[1], &to_carrier, &unused[1]);
     watch(from_carrier.descriptor, &source);
 }
 

@@ -10,8 +10,6 @@ enum asked { NOTHING, STATE, BYTES }; /* what of a page the site is asked and ha
 
 enum { MOST_SEGMENTS = 64, HELD = 8 };
 
-static const int64_t SECOND = 1000000000;
-
 /* The parts of the rule that a test leaves out (`--break`): a row of hold.c by its number, or one of these. */
 enum { PASSES_WHILE_ASKING = 5, DOES_NOT_PROTECT };
 
@@ -107,7 +105,6 @@ struct call {
 };
 
 /* host.c: lines, the carrier, the loop. */
-int64_t now(void);
 void *room(void *old, size_t size); /* ends the daemon where there is none */
 __attribute__((format(printf, 1, 2))) void complain(const char *format, ...);
 #define FAIL(...) (complain(__VA_ARGS__), exit(1))

@@ -32,7 +32,11 @@ static int talk(struct ask ask, int given) {
     ssize_t length = send_message(host, &ask, sizeof ask, given);
     answer.sites = 0;
     while (length >= 0 && (length = receive_message(host, &answer, sizeof answer, &handed)) < 0 && errno == EINTR) length = 0;
-    if (length != sizeof answer) return failed(EIDRM);
+    if (length != sizeof answer) {
+        close(host); /* the daemon has ended: another may begin */
+        host = -1;
+        return failed(EIDRM);
+    }
     return answer.error != 0 ? failed(answer.error) : answer.id;
 }
 
@@ -58,28 +62,24 @@ static bool connect_host(void) {
     if (connected()) return true;
     snprintf(address.sun_path, sizeof address.sun_path, "%s", path == NULL ? DEFAULT_SOCKET : path);
     int made = socket(AF_UNIX, SOCK_SEQPACKET | SOCK_CLOEXEC, 0);
-    if (made < 0 || connect(made, (struct sockaddr *)&address, sizeof address) < 0 || fstat(made, &file) < 0) {
-        close(made);
-        return failed(ENOSYS) == 0;
-    }
+    if (made < 0 || connect(made, (struct sockaddr *)&address, sizeof address) < 0 || fstat(made, &file) < 0) return close(made), failed(ENOSYS) == 0;
     host_file = file.st_ino;
     host = raised(made);
     if (names == NULL) return true;
-    struct ask ask = {.kind = ASK_NAMED, .size = *names};
+    struct ask ask = {.kind = ASK_NAMED, .address = *names};
     madvise((void *)(uintptr_t)names, PAGE, MADV_DONTNEED);
-    if (talk(ask, -1) == 0 && handed >= 0) faults = raised(handed);
+    if (talk(ask, -1) < 0 || handed < 0) return false;
+    if (faults >= 0) close(faults);
+    faults = raised(handed);
     return true;
 }
 
 /* A userfaultfd, which the daemon gets, and the lock, which it gives. */
 static bool make_faults(void) {
-    int made = -1;
     if (names != NULL) return true;
     if (talk((struct ask){.kind = ASK_DEVICE}, -1) < 0) return false;
-    if (handed >= 0) {
-        made = ioctl(handed, USERFAULTFD_IOC_NEW, O_CLOEXEC | O_NONBLOCK);
-        close(handed);
-    }
+    int made = ioctl(handed, USERFAULTFD_IOC_NEW, O_CLOEXEC | O_NONBLOCK);
+    close(handed);
     if (made < 0) made = (int)syscall(SYS_userfaultfd, O_CLOEXEC | O_NONBLOCK);
     void *page = mmap(NULL, PAGE, PROT_READ, MAP_PRIVATE | MAP_ANONYMOUS, -1, 0);
     if (made < 0 || page == MAP_FAILED) return false;
@@ -90,32 +90,35 @@ static bool make_faults(void) {
     return true;
 }
 
-static void before_fork(void) {
+static void hold(void) {
     pthread_mutex_lock(&mutex);
 }
 
-static void in_parent(void) {
+static void let_go(void) {
     pthread_mutex_unlock(&mutex);
 }
 
-/* The child has attached what its parent has, and is heard of by a userfaultfd of its own. */
+/* The child has attached what its parent has, and is heard of by a userfaultfd of its own. If the daemon dies before it has that, it loses them,
+   as nobody would hear of its faults. */
 static void in_child(void) {
     if (connected()) close(host);
     if (faults >= 0) close(faults);
     host = faults = -1;
-    if (names != NULL) connect_host();
+    if (names != NULL && !connect_host()) {
+        while (attached_count > 0) attached_count--, munmap(attached[attached_count].address, attached[attached_count].length);
+    }
     pthread_mutex_init(&mutex, NULL);
 }
 
 __attribute__((constructor)) static void begin(void) {
-    pthread_atfork(before_fork, in_parent, in_child);
+    pthread_atfork(hold, let_go, in_child);
 }
 
 EXPORTED int shmget(key_t key, size_t size, int flags) {
     if (size > UINT32_MAX) return failed(EINVAL);
-    pthread_mutex_lock(&mutex);
+    hold();
     int id = connect_host() ? talk((struct ask){.kind = ASK_GET, .key = key, .size = size, .flags = flags}, -1) : -1;
-    pthread_mutex_unlock(&mutex);
+    let_go();
     return id;
 }
 
@@ -141,7 +144,7 @@ static void *attach(int id, uintptr_t wanted, int flags) {
     size_t length = answer.status.shm_segsz;
     char *address = map(wanted, flags, length, handed);
     if (address == MAP_FAILED) return address;
-    for (int index = 0; index < attached_count; index++) {
+    for (int index = 0; index < attached_count; index++) { /* without those that it took the place of */
         const struct attached *one = &attached[index];
         if (one->address + one->length <= address || one->address >= address + length) attached[kept++] = *one;
     }
@@ -154,22 +157,22 @@ EXPORTED void *shmat(int id, const void *address, int flags) {
     uintptr_t wanted = (uintptr_t)address;
     if (flags & SHM_RND) wanted &= ~(uintptr_t)(PAGE - 1);
     if (wanted % PAGE != 0 || id < 0 || (flags & SHM_REMAP && wanted == 0)) return failed(EINVAL), MAP_FAILED;
-    pthread_mutex_lock(&mutex);
+    hold();
     void *at = attach(id, wanted, flags);
-    pthread_mutex_unlock(&mutex);
+    let_go();
     return at;
 }
 
 /* The daemon hears of it by what is unmapped. */
 EXPORTED int shmdt(const void *address) {
     int result = failed(EINVAL);
-    pthread_mutex_lock(&mutex);
+    hold();
     for (int index = 0; result < 0 && index < attached_count; index++) {
         if (attached[index].address != address) continue;
         result = munmap(attached[index].address, attached[index].length);
         attached[index] = attached[--attached_count];
     }
-    pthread_mutex_unlock(&mutex);
+    let_go();
     return result;
 }
 
@@ -194,10 +197,9 @@ static int show_all(int index, int command, void *buffer) {
     bool shows = command == SHM_STAT || command == STAT_ANY;
     if ((!shows || listed_count == 0) && !list()) return -1;
     if (shows && (index < 0 || index >= listed_count)) return failed(EINVAL);
-    if (shows) *(struct shmid_ds *)buffer = listed[index].status;
-    if (shows) return listed[index].id;
+    if (shows) return *(struct shmid_ds *)buffer = listed[index].status, listed[index].id;
     if (command == IPC_INFO) *(struct shminfo *)buffer = (struct shminfo){.shmmax = 1 << 20, .shmmin = 1, .shmmni = 64, .shmseg = 64, .shmall = 1 << 14};
-    if (command == SHM_INFO) *(struct shm_info *)buffer = (struct shm_info){.used_ids = listed_count};
+    else *(struct shm_info *)buffer = (struct shm_info){.used_ids = listed_count};
     return listed_count > 0 ? listed_count - 1 : 0;
 }
 
@@ -214,9 +216,9 @@ static int control(int id, int command, struct shmid_ds *buffer) {
 }
 
 EXPORTED int shmctl(int id, int command, struct shmid_ds *buffer) {
-    pthread_mutex_lock(&mutex);
+    hold();
     int result = connect_host() ? control(id, command & ~OF_64_BITS, buffer) : -1;
-    pthread_mutex_unlock(&mutex);
+    let_go();
     return result;
 }
 
@@ -232,11 +234,8 @@ EXPORTED key_t ftok(const char *path, int project) {
 
 /* ipcs reads this machine's own segments here, and asks shmctl where the file isn't there. */
 EXPORTED FILE *fopen(const char *name, const char *mode) {
-    static union {
-        void *symbol;
-        FILE *(*call)(const char *, const char *);
-    } real;
+    static FILE *(*real)(const char *, const char *);
     if (strcmp(name, "/proc/sysvipc/shm") == 0) return failed(ENOENT), NULL;
-    if (real.symbol == NULL) real.symbol = dlsym(RTLD_NEXT, "fopen");
-    return real.call(name, mode);
+    if (real == NULL) *(void **)&real = dlsym(RTLD_NEXT, "fopen");
+    return real(name, mode);
 }

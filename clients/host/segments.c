@@ -241,7 +241,7 @@ static void give_device(struct call *call) {
 
 static void name(struct call *call) {
     int faults = -1;
-    call->connection->program = program_named(call->ask.size, &faults);
+    call->connection->program = program_named(call->ask.address, &faults);
     finish(call, 0, faults);
 }
 

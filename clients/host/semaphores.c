@@ -11,7 +11,7 @@
 #include <sys/sem.h>
 #include <sys/syscall.h>
 
-enum { KEYS = 0x5e3a0000, MADE = 0x53454d31, MOST_SETS = 64, MOST = 200, GREATEST = 32767, SPINS = 50, PAUSE = 200000, NAP = 20000000, NAPS = 100 };
+enum { KEYS = 0x5e3a0000, MADE = 0x53454d31, MOST_SETS = 64, MOST = 200, GREATEST = 32767, SPINS = 50, PAUSE = 200, NAP = 20000, NAPS = 100 }; /* microseconds */
 
 struct set {
     uint32_t made, count, lock, changes, removed;
@@ -28,8 +28,7 @@ static pthread_mutex_t mutex = PTHREAD_MUTEX_INITIALIZER;
 
 static void lock_set(struct set *set) {
     for (int turn = 0; __atomic_exchange_n(&set->lock, 1, __ATOMIC_ACQUIRE) != 0; turn++) {
-        if (turn < SPINS) sched_yield();
-        else nanosleep(&(struct timespec){0, PAUSE}, NULL);
+        turn < SPINS ? sched_yield() : usleep(PAUSE);
     }
 }
 
@@ -51,34 +50,29 @@ static void undo_all(void) {
     }
 }
 
-static void in_child(void) {
+static void undo_none(void) {
     for (struct known *one = known; one < known_end; one++) memset(one->undo, 0, sizeof one->undo);
 }
 
 __attribute__((constructor)) static void begin(void) {
-    pthread_atfork(NULL, NULL, in_child);
+    pthread_atfork(NULL, NULL, undo_none);
     atexit(undo_all);
 }
 
-/* Attaches a set, which its maker may not have made ready yet. */
-static struct known *attach(int id) {
-    struct set *set = known_end == known + MOST_SETS ? (errno = ENOSPC, (void *)-1) : shmat(id, NULL, 0);
-    if (set == (void *)-1) return NULL;
-    for (int nap = 0; nap < NAPS && __atomic_load_n(&set->made, __ATOMIC_ACQUIRE) != MADE; nap++) nanosleep(&(struct timespec){0, NAP}, NULL);
-    *known_end = (struct known){.id = id, .set = set};
-    if (set->made == MADE && !set->removed) return known_end++;
-    errno = set->made == MADE ? EIDRM : EINVAL;
-    shmdt(set);
-    return NULL;
-}
-
+/* A set that is attached, or is attached now: its maker may not have made it ready yet. */
 static struct known *find(int id) {
-    struct known *found = known;
+    struct known *one = known;
     pthread_mutex_lock(&mutex);
-    while (found < known_end && (found->id != id || found->set->removed)) found++;
-    if (found == known_end) found = attach(id);
+    while (one < known_end && (one->id != id || one->set->removed)) one++;
+    if (one == known_end) {
+        struct set *set = one == known + MOST_SETS ? (errno = ENOSPC, (void *)-1) : shmat(id, NULL, 0);
+        for (int nap = 0; set != (void *)-1 && nap < NAPS && __atomic_load_n(&set->made, __ATOMIC_ACQUIRE) != MADE; nap++) usleep(NAP);
+        if (set == (void *)-1) one = NULL;
+        else if (set->made != MADE || set->removed) one = (failed(set->made == MADE ? EIDRM : EINVAL), shmdt(set), NULL);
+        else *known_end++ = (struct known){.id = id, .set = set};
+    }
     pthread_mutex_unlock(&mutex);
-    return found;
+    return one;
 }
 
 static int make(key_t key, int count, int flags) {
@@ -126,16 +120,9 @@ static int operate(struct known *one, const struct sembuf *operations, size_t co
     return 0;
 }
 
-static bool is_past(const struct timespec *limit, const struct timespec *begun) {
-    struct timespec time;
-    clock_gettime(CLOCK_MONOTONIC, &time);
-    return limit != NULL && (time.tv_sec - begun->tv_sec - limit->tv_sec) * 1000000000 + time.tv_nsec - begun->tv_nsec > limit->tv_nsec;
-}
-
 EXPORTED int semtimedop(int id, struct sembuf *operations, size_t count, const struct timespec *limit) {
-    struct timespec begun;
+    int64_t until = limit == NULL ? INT64_MAX : now() + limit->tv_sec * SECOND + limit->tv_nsec;
     struct known *one = find(id);
-    clock_gettime(CLOCK_MONOTONIC, &begun);
     if (one == NULL || count == 0 || count > MOST) return one == NULL ? -1 : failed(count == 0 ? EINVAL : E2BIG);
     for (size_t index = 0; index < count; index++) {
         if (operations[index].sem_num >= one->set->count) return failed(EFBIG);
@@ -146,23 +133,13 @@ EXPORTED int semtimedop(int id, struct sembuf *operations, size_t count, const s
         int result = operate(one, operations, count);
         unlock_set(one->set, result == 0);
         if (result != 1) return result;
-        if (is_past(limit, &begun)) return failed(EAGAIN);
-        if (syscall(SYS_futex, &one->set->changes, FUTEX_WAIT, seen, &(struct timespec){0, NAP}, NULL, 0) < 0 && errno == EINTR) return -1;
+        if (now() > until) return failed(EAGAIN);
+        if (syscall(SYS_futex, &one->set->changes, FUTEX_WAIT, seen, &(struct timespec){0, 1000 * NAP}, NULL, 0) < 0 && errno == EINTR) return -1;
     }
 }
 
 EXPORTED int semop(int id, struct sembuf *operations, size_t count) {
     return semtimedop(id, operations, count, NULL);
-}
-
-/* What the segment's record says. */
-static int control_record(const struct known *one, int command, struct semid_ds *status) {
-    struct shmid_ds record;
-    if (shmctl(one->id, IPC_STAT, &record) < 0) return -1;
-    if (command == IPC_SET) record.shm_perm = status->sem_perm;
-    if (command == IPC_SET) return shmctl(one->id, IPC_SET, &record);
-    *status = (struct semid_ds){.sem_perm = record.shm_perm, .sem_otime = one->set->operated, .sem_ctime = one->set->changed, .sem_nsems = one->set->count};
-    return 0;
 }
 
 union argument {
@@ -171,13 +148,21 @@ union argument {
     unsigned short *array;
 };
 
-static int control_values(struct set *set, int number, int command, union argument argument) {
+/* A set's owner and mode are its segment's. */
+static int control(struct known *one, int number, int command, union argument argument) {
+    struct set *set = one->set;
+    struct shmid_ds record;
+    if ((command == IPC_STAT || command == IPC_SET) && shmctl(one->id, IPC_STAT, &record) < 0) return -1;
     switch (command) {
     case GETVAL: return set->values[number];
     case GETPID: return set->last[number];
     case GETNCNT:
     case GETZCNT: return 0;
-    case IPC_RMID: set->removed = 1; return 0;
+    case IPC_RMID: return shmctl(one->id, IPC_RMID, NULL) < 0 ? -1 : (set->removed = 1, 0);
+    case IPC_SET:
+        record.shm_perm = argument.status->sem_perm;
+        return shmctl(one->id, IPC_SET, &record);
+    case IPC_STAT: *argument.status = (struct semid_ds){record.shm_perm, .sem_otime = set->operated, .sem_ctime = set->changed, .sem_nsems = set->count}; return 0;
     case GETALL:
         for (uint32_t index = 0; index < set->count; index++) argument.array[index] = (unsigned short)set->values[index];
         return 0;
@@ -202,13 +187,10 @@ EXPORTED int semctl(int id, int number, int command, ...) {
     va_end(arguments);
     command &= ~OF_64_BITS;
     struct known *one = find(id);
-    if (one == NULL) return -1;
-    if (command == IPC_STAT || command == IPC_SET) return control_record(one, command, argument.status);
-    bool all = command == IPC_RMID || command == GETALL || command == SETALL;
-    if (!all && (number < 0 || number >= (int)one->set->count)) return failed(EINVAL);
-    if (command == IPC_RMID && shmctl(one->id, IPC_RMID, NULL) < 0) return -1;
+    bool whole = command == IPC_RMID || command == IPC_STAT || command == IPC_SET || command == GETALL || command == SETALL;
+    if (one == NULL || (!whole && (number < 0 || number >= (int)one->set->count))) return one == NULL ? -1 : failed(EINVAL);
     lock_set(one->set);
-    int result = control_values(one->set, number, command, argument);
+    int result = control(one, number, command, argument);
     unlock_set(one->set, true);
     return result;
 }

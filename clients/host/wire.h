@@ -22,7 +22,7 @@ enum { PAGE = 4096 };
 enum {
     ASK_DEVICE, /* answered with the descriptor of /dev/userfaultfd, or with none where the daemon has none */
     ASK_FAULTS, /* hands over the program's userfaultfd, and `address`, its page of names; answered with the daemon's lock */
-    ASK_NAMED,  /* this is the program that reads `size` in its page of names; answered with its userfaultfd */
+    ASK_NAMED,  /* this is the program that reads `address` in its page of names; answered with its userfaultfd */
     ASK_ATTACH, /* answered with the segment's memory and length: the program maps it, and says so: */
     ASK_MAPPED, /* at `address`, or 0 where that failed */
     ASK_GET,    /* and the other three: what the calls have as arguments */
@@ -64,6 +64,14 @@ static inline ssize_t receive_message(int socket, void *message, size_t size, in
     *descriptor = -1;
     if (length > 0 && CMSG_FIRSTHDR(&header) != NULL) memcpy(descriptor, CMSG_DATA(&beside.header), sizeof *descriptor);
     return length;
+}
+
+static const int64_t SECOND = 1000000000;
+
+static inline int64_t now(void) {
+    struct timespec time;
+    clock_gettime(CLOCK_MONOTONIC, &time);
+    return time.tv_sec * SECOND + time.tv_nsec;
 }
 
 /* Of the library: what a call that fails gives. */
