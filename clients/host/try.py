@@ -1,12 +1,12 @@
 #!/usr/bin/env python3
 """Tries programs that know nothing of sites, over two and three hosts on this machine, with a carrier that loses, repeats and delays.
 
-    try.py [--program PROGRAM] [--only NAME] [--times N] [--seconds SECONDS] [--speed [--journals]]
+    try.py [--program PROGRAM] [--only NAME] [--times N] [--soak SECONDS] [--speed [--journals]]
 
 Builds what is here. Some of what is tried needs Debian packages, which it names where they are missing. The status is 1 where something isn't
 as expected. Needs what leddwyfan-host needs: root, or what docs/programs.md says.
 
-With --seconds it goes on so long, with kills and losses; with --speed it times, and tries nothing."""
+With --soak it goes on so long, with kills and losses; with --speed it times, and tries nothing."""
 import argparse
 import contextlib
 import copy
@@ -405,18 +405,28 @@ def run_tries(options):
             print(f'  {line}', flush=True)
 
 
+def expect_flat(memories):
+    """What processes hold at the end is no more than at the beginning, but for a quarter and 2 MB."""
+    part = len(memories) // 4
+    for place in range(len(memories[0]) if part > 0 else 0):
+        first, last = (max(row[place] for row in rows) for rows in (memories[:2 * part], memories[-part:]))
+        expect(last <= 1.25 * first + 2000, f'process {place} held {first} kilobytes, and holds {last}')
+
+
 def soak(options):
     """One cluster for so long: what its processes hold of memory, in kilobytes, after each turn; then the audit."""
-    until, times = time.monotonic() + options.seconds, options.times // 10
+    until, times, memories = time.monotonic() + options.soak, options.times // 10, []
     with rough_cluster(options, 1) as cluster:
         for turn in itertools.count(1):
             first = next(keys)
             told = [try_counts(cluster, times), try_words(cluster, times, turn), try_lock(cluster, 'mutex', times), try_ring(cluster, times)]
-            print(f'  {turn}: {", ".join(told)}; memory {cluster.memory()}', flush=True)
+            memories.append(cluster.memory())
+            print(f'  {turn}: {", ".join(told)}; memory {memories[-1]}', flush=True)
             cluster.told(0, 'ipcrm', *[word for key in range(first + 1, next(keys)) for word in ('-M', key)])
             if time.monotonic() > until:
                 break
-    print(f'  {cluster.kills} sites killed; {cluster.audit()}')
+    expect_flat(memories)
+    print(f'  {len(memories)} turns, memory flat; {cluster.kills} sites killed; {cluster.audit()}')
 
 
 def medians(rows):
@@ -475,13 +485,14 @@ def main():
     parser.add_argument('--program', default=os.path.join(HERE, '..', '..', 'crates', 'shmdbg', 'out', 'shmdbg'))
     parser.add_argument('--only', choices=sorted(TRIES))
     parser.add_argument('--times', type=int, default=500, help='rounds of a lock; of the others as many, or more')
-    parser.add_argument('--seconds', type=int, default=0)
+    parser.add_argument('--soak', type=int, default=0, metavar='SECONDS', help='goes on so long, with kills and losses')
+    parser.add_argument('--patience', type=int, default=240, help='seconds until a program counts as one that goes on and on')
     parser.add_argument('--between-kills', type=float, default=1, help='seconds; more for a program that was compiled with checks')
     parser.add_argument('--build', help='a folder for what is built, in place of a new one')
     parser.add_argument('--speed', action='store_true')
     parser.add_argument('--journals', action='store_true', help='with --speed: the sites have journals')
     options = parser.parse_args()
-    options.program = os.path.abspath(options.program)
+    options.program, patience[0] = os.path.abspath(options.program), options.patience
     if not os.path.isfile(options.program):
         sys.exit(f'try.py: no {options.program}: `make build` makes it')
     signal.signal(signal.SIGTERM, lambda *_: sys.exit(1))
@@ -490,7 +501,7 @@ def main():
         options.build = options.build or folder
         build(options)
         try:
-            time_all(options) if options.speed else soak(options) if options.seconds else run_tries(options)
+            time_all(options) if options.speed else soak(options) if options.soak else run_tries(options)
         except AssertionError as fault:
             sys.exit(f'try.py: not so: {fault}')
     print(f'{time.monotonic() - begin:.0f} seconds')

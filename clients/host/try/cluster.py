@@ -10,7 +10,7 @@ import tempfile
 import time
 
 PACKAGES = {'mosquitto_sub': 'mosquitto-clients', 'mosquitto': 'mosquitto', 'perl': 'perl', 'ipcs': 'util-linux', 'stress-ng': 'stress-ng',
-            'valgrind': 'valgrind', 'pg_lsclusters': 'postgresql', 'setpriv': 'util-linux'}
+            'valgrind': 'valgrind', 'Xvfb': 'xvfb', 'xsetroot': 'x11-xserver-utils', 'redis-server': 'redis-server', 'pg_lsclusters': 'postgresql', 'setpriv': 'util-linux'}
 keys = itertools.count(1000)
 patience = [int(os.environ.get("PATIENCE", 240))]  # seconds until a program counts as one that goes on and on
 

@@ -53,14 +53,62 @@ def try_perl(cluster):
     return 'shmread, shmwrite, semop'
 
 
+# Each module: its package, the program that writes, and the one that reads what was written.
+MODULES = {
+    'IPC::SharedMem': ('perl', 'use IPC::SysV qw(IPC_CREAT); use IPC::SharedMem; my $m = IPC::SharedMem->new(shift, 8192, IPC_CREAT | 0600) or die $!; ',
+                       '$m->write("by a module", 4096, 11) or die $!;', 'print $m->read(4096, 11);'),
+    'IPC::ShareLite': ('libipc-sharelite-perl', 'use IPC::ShareLite; my $m = IPC::ShareLite->new(-key => shift, -create => "yes", -destroy => "no") or die $!; ',
+                       '$m->store("by a module");', 'print $m->fetch;'),
+    'IPC::Shareable': ('libipc-shareable-perl', 'use IPC::Shareable; tie my %m, "IPC::Shareable", { key => shift, create => 1, destroy => 0 }; ',
+                       '$m{word} = "by a module";', 'print $m{word};'),
+    'sysv_ipc': ('python3-sysv-ipc', 'import sys, sysv_ipc\nm = sysv_ipc.SharedMemory(int(sys.argv[1]), sysv_ipc.IPC_CREAT, size=8192)\n',
+                 'm.write(b"by a module", 4096)', 'print(m.read(11, 4096).decode())'),
+}
+
+
+def try_modules(cluster):
+    """Perl's and Python's modules: one host writes, another reads."""
+    tried = []
+    for module, (package, begin, writes, reads) in MODULES.items():
+        run = ['perl', '-e'] if '::' in module else ['/usr/bin/python3', '-c']
+        there = subprocess.run([*run[:1], f'-M{module}', '-e1'] if '::' in module else [*run, f'import {module}'], stderr=subprocess.DEVNULL)
+        if there.returncode != 0:
+            print(f'  left out: {module} needs the Debian package {package}')
+            continue
+        key = next(keys)
+        cluster.told(0, *run, begin + writes, key)
+        told = cluster.told(cluster.hosts - 1, *run, begin + reads, key)
+        expect(told == 'by a module', f'{module} tells {told}')
+        tried.append(module)
+    return ', '.join(tried)
+
+
+def try_screen(cluster):
+    """An X server's framebuffer is a segment: a host on which the server doesn't run reads its pixels, behind a head of 160 bytes and 256 colours."""
+    width, height = 320, 160
+    server = cluster.on(0, 'Xvfb', '-displayfd', '1', '-screen', '0', f'{width}x{height}x24', '-shmem', '-nolisten', 'tcp')
+    reads = f'my ($all, $size); $size = {width * height} * 4; shmread(shift, $all, 160 + 256 * 12, $size) or die $!; '
+    reads += 'print $all eq "\\x99\\x66\\x33\\x00" x ($size / 4) ? "blue" : unpack("H64", $all)'
+    try:
+        display = server.stdout.readline().strip()
+        told = next(line for line in server.stderr if 'shmid' in line)
+        subprocess.run(['xsetroot', '-solid', '#336699'], env={**os.environ, 'DISPLAY': f':{display}'}, check=True)
+        told = cluster.told(cluster.hosts - 1, 'perl', '-e', reads, told.split()[-1])
+        expect(told == 'blue', f'the screen is {told}')
+    finally:
+        server.terminate()
+        server.wait()
+    return f'Xvfb: {width} x {height} pixels'
+
+
 def try_stress(cluster):
     cluster.told(0, 'stress-ng', '--shm-sysv', 1, '--shm-sysv-ops', 2, '--shm-sysv-bytes', '1m', '--shm-sysv-segs', 4, '--verify', '-q')
     return 'stress-ng'
 
 
 def try_others(cluster):
-    for needs, one in (('ipcs', try_ipc), ('perl', try_perl), ('stress-ng', try_stress)):
-        if has(needs):
+    for needs, one in ((['ipcs'], try_ipc), (['perl'], try_perl), (['perl'], try_modules), (['Xvfb', 'xsetroot', 'perl'], try_screen), (['stress-ng'], try_stress)):
+        if has(*needs):
             yield one(cluster)
 
 
