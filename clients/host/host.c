@@ -168,7 +168,7 @@ static void start_carrier(void) {
 
 static void tick(void) {
     if (carrier_due != 0 && now() > carrier_due) start_carrier();
-    bool waits = heard || site_waits() || pages_wait();
+    bool waits = heard || calls != NULL || busy_pages != NULL;
     if (now() < last_tick + (waits ? TICK : IDLE_TICK)) return;
     last_tick = now();
     heard = false;
@@ -182,9 +182,9 @@ static void turn(void) {
     struct epoll_event events[EVENTS];
     int64_t due = pages_turn(idle), wait = due == INT64_MAX ? TICK : due - now();
     if (!segments_turn() && carrier_due == INT64_MAX) ending = 1;
-    bool unwritten = !site_flush();
+    write_lines(&to_site);
     if (carrier_due == 0) write_lines(&to_carrier);
-    if ((unwritten || to_carrier.length > 0) && wait > UNWRITTEN_WAIT) wait = UNWRITTEN_WAIT;
+    if (to_site.length + to_carrier.length > 0 && wait > UNWRITTEN_WAIT) wait = UNWRITTEN_WAIT;
     wait = wait < 0 ? 0 : wait < TICK ? wait : TICK;
     ppoll(&(struct pollfd){.fd = poller, .events = POLLIN}, 1, &(struct timespec){0, wait}, NULL);
     int count = epoll_wait(poller, events, EVENTS, 0);

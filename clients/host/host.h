@@ -98,7 +98,7 @@ struct segment {
 struct call {
     struct call *next;
     uint64_t number;
-    bool said, doubtful, makes; /* it makes a segment that nobody finds again */
+    bool said, makes; /* it makes a segment that nobody finds again */
     char text[160];
     void (*done)(struct call *, int error, const char *reply);
     struct connection *connection;
@@ -120,12 +120,11 @@ void carry(const char *line);
 /* site.c: the site's process, what it is asked and what it tells. */
 void site_start(void);
 void site_end(void);
-bool site_flush(void); /* whether all is written */
 void site_tick(void);
-bool site_waits(void);    /* a call is outstanding */
-bool site_recovers(void); /* it was started again, and hasn't told yet what is mapped */
+extern bool site_recovers; /* it was started, and hasn't told yet what is mapped */
+extern struct channel to_site;
+extern struct call *calls; /* the first is outstanding */
 void take_stream_line(char *line);
-void pass_line(const char *line);
 uint64_t ask_map(const struct page *page);
 uint64_t ask_unmap(const struct page *page, const char *runs);
 void ask_sync(const struct page *page, const char *runs);
@@ -145,7 +144,7 @@ void page_begins_again(struct page *page);
 void page_leaves(struct page *page);
 void drop_page(struct page *page);
 int64_t pages_turn(bool idle); /* when to turn again */
-bool pages_wait(void);
+extern struct page *busy_pages; /* those with work */
 void pages_tick(void); /* asks again for what is waited for */
 
 /* programs.c: the programs' memory. */

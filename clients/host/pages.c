@@ -18,7 +18,7 @@ enum { WOKEN_AT_ONCE = 512, PARTED = 3, MOST_MAPS = 48 }; /* bytes: of futexes; 
 /* Nanoseconds: until sleepers are woken though there is other work; for which a page stays at most, and until it is looked at again. */
 static const int64_t PATIENCE = 2000000, LONGEST_STAY = 20000000, LOOK_AGAIN = 50000;
 
-static struct page *busy_pages;
+struct page *busy_pages;
 static int maps; /* that have no answer yet */
 
 static uint8_t *bytes_of(const struct page *page) {
@@ -96,7 +96,7 @@ static void lower(struct page *page, enum right right) {
     set_busy(page);
     if (page->left < right) return;
     page->left = WRITE;
-    if (page->envelope != NULL) pass_line(page->envelope);
+    if (page->envelope != NULL) push_line(&to_site, page->envelope);
     free(page->envelope);
     page->envelope = NULL;
 }
@@ -263,7 +263,7 @@ static bool turn(struct page *page, bool *idle, int64_t *due) {
 int64_t pages_turn(bool idle) {
     int64_t due = INT64_MAX;
     struct page *pages = busy_pages;
-    if (site_recovers()) return due;
+    if (site_recovers) return due;
     busy_pages = NULL;
     for (struct page *page; (page = pages) != NULL;) {
         int64_t page_due = INT64_MAX;
@@ -273,10 +273,6 @@ int64_t pages_turn(bool idle) {
         if (page_due < due) due = page_due;
     }
     return due;
-}
-
-bool pages_wait(void) {
-    return busy_pages != NULL;
 }
 
 void pages_tick(void) {

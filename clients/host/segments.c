@@ -164,7 +164,7 @@ bool segments_turn(void) {
     bool here = false;
     EACH_SEGMENT(segment) {
         here = true;
-        if (segment->attached == 0 && !site_recovers() && (segment->removed || now() > segment->left + SECOND)) give_back(segment);
+        if (segment->attached == 0 && !site_recovers && (segment->removed || now() > segment->left + SECOND)) give_back(segment);
     }
     return here;
 }

@@ -2,7 +2,7 @@
 
    It maps a page where it has the right, and from then on holds back what would take the right away, until it is told to unmap the page. What
    is mapped is in its journal. So a site that is killed is started again, tells what it has mapped, and goes on: what it was asked and hadn't
-   answered is asked again, calls where that does no harm. */
+   answered is asked again, but for what makes a segment, which has failed. */
 #include "host.h"
 
 #include <signal.h>
@@ -12,11 +12,13 @@
 
 enum { LINE = 4 * PAGE };
 
-static struct channel to_site = {.descriptor = -1}, from_site = {.descriptor = -1};
+struct channel to_site = {.descriptor = -1};
+static struct channel from_site = {.descriptor = -1};
 static pid_t process;
-static struct call *calls;
+struct call *calls;
+bool site_recovers;
 static uint64_t calls_made, asks;
-static bool ticking, recovering; /* a tick, and what is mapped, has no answer yet */
+static bool ticking; /* a tick has no answer yet */
 
 static const char letters[] = "ABCDEFGHIJKLMNOPQRSTUVWXYZabcdefghijklmnopqrstuvwxyz0123456789+/";
 
@@ -77,7 +79,7 @@ static void take_mappings(const char *text) {
         if (page == NULL) say("x unmap %d %d none", at, index);
         else page->attachment = at, page->listed = strcmp(word, "write") == 0 ? WRITE : READ;
     }
-    recovering = false;
+    site_recovers = false;
     each_page(page_begins_again);
     if (!options.fresh) detach_leftovers();
     options.fresh = true;
@@ -106,10 +108,6 @@ bool decode(const char *text, uint8_t bytes[PAGE]) {
     return true;
 }
 
-bool site_recovers(void) {
-    return recovering;
-}
-
 /* Segment calls. */
 
 static void say_call(void) {
@@ -125,7 +123,7 @@ void make_call(struct call *call, call_done *done, const char *format, ...) {
     vsnprintf(call->text, sizeof call->text, format, values);
     va_end(values);
     call->done = done;
-    call->said = call->doubtful = false;
+    call->said = false;
     call->number = ++calls_made;
     call->next = NULL;
     while (*last != NULL) last = &(*last)->next;
@@ -150,7 +148,7 @@ static int error_of(const char *reply) {
     return number < sizeof errors / sizeof *errors ? errors[number] : EIO;
 }
 
-/* `refused 8`: one of before is still under way, and a tick says this one again. */
+/* `refused 8`: one of before is still under way, and a tick says this one again. That may be this one itself, whose reply has its number. */
 static void call_answered(const char *tag, const char *text) {
     int skipped = 0;
     if (calls == NULL || calls->number != strtoull(tag + 2, NULL, 10)) return;
@@ -159,32 +157,14 @@ static void call_answered(const char *tag, const char *text) {
     else end_call(error_of(text + skipped), text + skipped);
 }
 
-/* A detach that no site can make: refused with 8 while a call is outstanding, else with 9. Then nobody knows whether the doubtful one was
-   executed: what made a segment has failed, and all else may be made again. */
-static void probe_answered(const char *text) {
-    if (strcmp(text, "refused 9") != 0 || calls == NULL || !calls->doubtful) return;
-    calls->doubtful = calls->said = false;
-    if (calls->makes) end_call(EIO, text);
-    else say_call();
-}
-
-bool site_waits(void) {
-    return calls != NULL;
-}
-
 /* One tick at a time: a site that has none of the processor isn't given more to do. */
 void site_tick(void) {
     if (!ticking) say("t tick");
     ticking = true;
-    if (calls != NULL && calls->doubtful) say("q detach %d", MOST_ATTACHMENTS);
     say_call();
 }
 
 /* Lines. */
-
-void pass_line(const char *line) {
-    push_line(&to_site, line);
-}
 
 /* What others say to this site. Asks of others don't pass. An envelope that the site may hold back is kept, to be handed over again. */
 void take_stream_line(char *line) {
@@ -193,7 +173,7 @@ void take_stream_line(char *line) {
     if (sscanf(line, "env %*s %d %*s %*s %*s %7s %d %d", &to, kind, &id, &index) < 2 || to != options.me) return;
     struct page *page = strcmp(kind, "clear") == 0 || strcmp(kind, "hand") == 0 ? page_of(id, index) : NULL;
     if (page != NULL) page_envelope(page, line);
-    pass_line(line);
+    push_line(&to_site, line);
 }
 
 static void take_answer(char *line) {
@@ -207,7 +187,6 @@ static void take_answer(char *line) {
     case 'y': page_answered(tag, text); break;
     case 'l': take_mappings(text); break;
     case 'c': call_answered(tag, text); break;
-    case 'q': probe_answered(text); break;
     case 't': ticking = false; break;
     }
 }
@@ -242,9 +221,11 @@ static void start_again(void) {
     complain("the site's process was killed: it goes on from its journal");
     if (is_begun()) options.begins = false;
     site_start();
-    if (calls != NULL) calls->doubtful = calls->said;
     ticking = false;
-    site_tick();
+    if (calls == NULL || !calls->said) return;
+    calls->said = false;
+    if (calls->makes) end_call(EIO, "");
+    else say_call();
 }
 
 static void site_ready(struct source *source) {
@@ -264,19 +245,14 @@ void site_start(void) {
     if (asks == 0) asks = calls_made = (uint64_t)now();
     process = start_process((char *const *)(uintptr_t)command, &to_site, &from_site);
     watch(from_site.descriptor, &source);
-    recovering = true;
+    site_recovers = true;
     say("l mappings");
-}
-
-bool site_flush(void) {
-    write_lines(&to_site);
-    return to_site.length == 0;
 }
 
 /* Lets the site make what it was told, and ends it. */
 void site_end(void) {
     int64_t until = now() + 5 * SECOND;
-    while (!site_flush() && now() < until) usleep(100);
+    for (write_lines(&to_site); to_site.length > 0 && now() < until; write_lines(&to_site)) usleep(100);
     close(to_site.descriptor);
     while (read_lines(&from_site, take_site_line) && now() < until) usleep(100);
     kill(process, SIGTERM);

@@ -136,7 +136,7 @@ def rough_cluster(options, seed):
         ended.set()
         killer.join()
         complaints = cluster.stop()
-    odd = [line for line in complaints.splitlines() if 'was killed' not in line]
+    odd = [line for line in complaints.splitlines() if 'was killed' not in line and 'goes on for' not in line]
     expect(not odd, '\n'.join(odd))
 
 
