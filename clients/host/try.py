@@ -245,11 +245,15 @@ def kill_daemons(cluster, times, kills, seed=1):
     return f'{kills} daemons killed, {expected} adds, {lasted} programs lasted'
 
 
-def try_carriers(options):
-    """One command as the carrier, as ssh would be, and two, as a broker's are."""
+def free_port():
     with socket.socket() as free:
         free.bind(('127.0.0.1', 0))
-        port = str(free.getsockname()[1])
+        return str(free.getsockname()[1])
+
+
+def try_carriers(options):
+    """One command as the carrier, as ssh would be, and two, as a broker's are."""
+    port = free_port()
     at = ['-h', '127.0.0.1', '-p', port, '-t', 'cluster']
     one, two = Cluster(options, 2, hub=False), Cluster(options, 2, hub=False)
     try:
@@ -433,39 +437,67 @@ def medians(rows):
     return ' '.join(f'{statistics.median(float(row[place]) for row in rows):.1f}' for place in range(len(rows[0])))
 
 
-LOCKS = {'spin': 10000, 'near': 10000, 'mutex': 4000, 'peterson': 1, 'turns': 1}  # so that the hosts meet for a while
+# What two do together: the program, what each is told behind the key, how often, and what Redis calls the two.
+PAIRS = {'ping-pong': ('ring', ('ping {}', 'pong {}'), 1, ('ping', 'pong')), 'ring': ('ring', ('put {}', 'get {}'), 20, ('put', 'get')),
+         'spinlock': ('lock', ('spin 0 2 {}', 'spin 1 2 {}'), 10000, ('spin', 'spin')),
+         'spinlock, near': ('lock', ('near 0 2 {}', 'near 1 2 {}'), 10000, ('spin', 'spin')),
+         'mutex': ('lock', ('mutex 0 2 {}', 'mutex 1 2 {}'), 4000, ('mutex', 'mutex')),
+         'Peterson': ('lock', ('peterson 0 2 {}', 'peterson 1 2 {}'), 1, ('peterson0', 'peterson1')),
+         'turns': ('lock', ('turns 0 2 {}', 'turns 1 2 {}'), 1, ('turns0', 'turns1'))}
+
+
+def rounds_of(processes):
+    return [[answer_of(process).split()[1] for process in processes][-1]]
+
+
+def time_pairs(cluster, seen, redis, times):
+    """Rounds a second: over two hosts, over the system's own segments, and over Redis on the loopback."""
+    path = lambda name: os.path.join(cluster.options.build, 'try', name)
+    plainly = lambda *words: subprocess.Popen([str(word) for word in words], stdout=subprocess.PIPE, stderr=subprocess.PIPE, text=True)
+    for what, (program, roles, more, theirs) in PAIRS.items():
+        key = next(keys)
+        words = [[key, *role.format(more * times).split()] for role in roles]
+        seen.setdefault(f'{what}, rounds a second: two hosts', []).append(rounds_of([cluster.on(me, f'./{program}', *words[me]) for me in range(2)]))
+        seen.setdefault(f'{what}: the system\'s segment', []).append(rounds_of([plainly(path(program), *words[me]) for me in range(2)]))
+        subprocess.run(['ipcrm', '-M', str(key)])
+        if redis is not None:
+            for begin in ('del word ring lock wants0 wants1 token turn-of-0 turn-of-1', 'rpush token 1', 'rpush turn-of-0 1'):
+                subprocess.run(['redis-cli', '-p', redis, *begin.split()], stdout=subprocess.DEVNULL)
+            seen.setdefault(f'{what}: Redis', []).append(rounds_of([plainly(path('redis'), redis, role, times) for role in theirs]))
+
+
+def time_pages(cluster, seen):
+    key, own, other, bulk = next(keys), next(keys), next(keys), next(keys)
+    plain = subprocess.run([os.path.join(cluster.options.build, 'try', 'speed'), str(key), 'loads'], stdout=subprocess.PIPE, text=True).stdout
+    subprocess.run(['ipcrm', '-M', str(key)])
+    seen.setdefault("the system's segment: million loads, stores, atomic adds a second", []).append(plain.split())
+    seen.setdefault('a page that is here: the same', []).append(cluster.told(0, './speed', key, 'loads').split())
+    holder = cluster.on(0, './speed', own, 'write', 32, 3)
+    time.sleep(1)
+    seen.setdefault('a fault that the own host serves, microseconds', []).append([cluster.told(0, './speed', own, 'write', 32)])
+    holder.wait()
+    cluster.told(0, './speed', other, 'write', 32)
+    seen.setdefault('a page moves to be read, microseconds', []).append([cluster.told(1, './speed', other, 'read', 32)])
+    seen.setdefault('a page moves to be written, microseconds', []).append([cluster.told(1, './speed', own, 'write', 32)])
+    cluster.told(0, './speed', bulk, 'fill', 64)
+    seen.setdefault('256 KiB that the other host wrote are read, milliseconds', []).append([cluster.told(1, './speed', bulk, 'all', 64)])
 
 
 def time_all(options):
-    """Medians of five turns, one after the other: what a page that is here costs beside the system's segment, and what one that comes costs."""
-    seen = {}
+    """Medians of five turns, one after the other."""
+    seen, redis, server = {}, None, None
+    if has('redis-server'):
+        redis = free_port()
+        server = subprocess.Popen(['redis-server', '--port', redis, '--save', '', '--appendonly', 'no'], stdout=subprocess.DEVNULL)
     cluster = Cluster(options, 2, journals=options.journals)
     try:
         for _ in range(5):
-            key, own, other = next(keys), next(keys), next(keys)
-            plain = subprocess.run([os.path.join(options.build, 'try', 'speed'), str(key), 'loads'], stdout=subprocess.PIPE, text=True).stdout
-            subprocess.run(['ipcrm', '-M', str(key)])
-            seen.setdefault("the system's segment: million loads, stores, atomic adds a second", []).append(plain.split())
-            seen.setdefault('a page that is here: the same', []).append(cluster.told(0, './speed', key, 'loads').split())
-            holder = cluster.on(0, './speed', own, 'write', 32, 3)
-            time.sleep(1)
-            seen.setdefault('a fault that the own host serves, microseconds', []).append([cluster.told(0, './speed', own, 'write', 32)])
-            holder.wait()
-            cluster.told(0, './speed', other, 'write', 32)
-            seen.setdefault('a page moves to be read, microseconds', []).append([cluster.told(1, './speed', other, 'read', 32)])
-            seen.setdefault('a page moves to be written, microseconds', []).append([cluster.told(1, './speed', own, 'write', 32)])
-            word = next(keys)
-            rounds = cluster.together(*[(me, './ring', word, one, options.times) for me, one in enumerate(('ping', 'pong'))])
-            seen.setdefault('ping-pong, rounds a second', []).append([rounds[0].split()[1]])
-            records = next(keys)
-            rounds = cluster.together((0, './ring', records, 'put', 20 * options.times), (1, './ring', records, 'get', 20 * options.times))
-            seen.setdefault('ring, records a second', []).append([rounds[1].split()[1]])
-            for kind, times in LOCKS.items():
-                lock = next(keys)
-                told = cluster.together(*[(me, './lock', lock, kind, me, 2, times * options.times) for me in range(2)])
-                seen.setdefault(f'{kind}, rounds a second of each host', []).append([line.split()[1] for line in told])
+            time_pages(cluster, seen)
+            time_pairs(cluster, seen, redis, options.times)
     finally:
         cluster.stop()
+        if server is not None:
+            server.terminate()
     for says, rows in seen.items():
         print(f'  {says}: {medians(rows)}')
 

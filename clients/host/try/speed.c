@@ -1,4 +1,5 @@
 /* speed KEY loads: how many million loads, stores and atomic adds a second there are of pages that are here.
+   speed KEY fill|all PAGES: writes all bytes of so many pages; or reads them, and tells how long that took, in milliseconds.
    speed KEY read|write PAGES [SECONDS]: the median of the first touches of so many pages, in microseconds; then it stays so long. */
 #include <stdio.h>
 #include <stdlib.h>
@@ -28,6 +29,17 @@ static void time_loads(volatile long *words) {
     printf("%.0f %.0f %.0f\n", TURNS / (loaded - begun), TURNS / (stored - loaded), TURNS / 4 / (added - stored));
 }
 
+static void time_all(unsigned char *bytes, int stores, int pages) {
+    double begun = microseconds();
+    unsigned long sum = 0;
+    for (int place = 0; place < 4096 * pages; place++) {
+        if (stores) bytes[place] = (unsigned char)(place % 251 + 1);
+        else sum += bytes[place] == place % 251 + 1;
+    }
+    if (stores || sum == 4096ul * (unsigned)pages) printf("%.1f\n", (microseconds() - begun) / 1000);
+    else printf("%lu bytes are right\n", sum);
+}
+
 static int compare(const void *one, const void *other) {
     double difference = *(const double *)one - *(const double *)other;
     return (difference > 0) - (difference < 0);
@@ -51,6 +63,7 @@ int main(int argc, char **argv) {
     void *memory = shmat(shmget((key_t)atoi(argv[1]), (size_t)pages * 4096, IPC_CREAT | 0666), NULL, 0);
     if (memory == (void *)-1) return perror("shmat"), 1;
     if (strcmp(argv[2], "loads") == 0) time_loads(memory);
+    else if (strcmp(argv[2], "fill") == 0 || strcmp(argv[2], "all") == 0) time_all(memory, strcmp(argv[2], "fill") == 0, pages);
     else time_touches(memory, strcmp(argv[2], "write") == 0, pages);
     fflush(stdout);
     if (argc > 4) sleep((unsigned)atoi(argv[4]));
