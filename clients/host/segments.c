@@ -33,7 +33,7 @@ static struct made {
 
 static int listener;
 static struct record *records;
-static char files[160]; /* the records' name; the memory's have a number behind it */
+static char files[160]; /* the folder of the records and of each one's memory */
 
 /* Segments. */
 
@@ -77,7 +77,7 @@ static void *file_memory(int file, size_t length) {
 /* Of a segment at a place among the records. */
 static const char *memory_name(long place) {
     static char name[sizeof files + 24];
-    snprintf(name, sizeof name, "%s.%ld", files, place);
+    snprintf(name, sizeof name, "%s/%ld", files, place);
     return name;
 }
 
@@ -120,7 +120,9 @@ static void close_memory(struct segment *segment) {
 void find_segments(void) {
     snprintf(files, sizeof files, "/dev/shm/leddwyfan%s", options.socket);
     for (char *letter = files + strlen("/dev/shm/"); *letter != '\0'; letter++) *letter = *letter == '/' ? '.' : *letter;
-    int file = open(files, O_RDWR | O_CREAT | O_CLOEXEC, 0600);
+    struct stat folder;
+    if ((mkdir(files, 0700) < 0 && errno != EEXIST) || lstat(files, &folder) < 0 || folder.st_uid != geteuid()) FAIL("no folder %s of its own", files);
+    int file = open(memory_name(MOST_SEGMENTS), O_RDWR | O_CREAT | O_CLOEXEC, 0600);
     if (ftruncate(file, MOST_SEGMENTS * sizeof *records) < 0) FAIL("no memory %s: %s", files, strerror(errno));
     records = file_memory(file, MOST_SEGMENTS * sizeof *records);
     for (int place = 0; place < MOST_SEGMENTS; place++) {
@@ -176,7 +178,7 @@ void forget_segments(void) {
         here |= segment->attached > 0;
         if (segment->attached == 0) close_memory(segment);
     }
-    if (!here) unlink(files);
+    if (!here) unlink(memory_name(MOST_SEGMENTS)), rmdir(files);
 }
 
 /* Attachments that an earlier daemon made, and that no segment here has. */

@@ -146,7 +146,7 @@ class Cluster:
         complaints = self.complaints()
         self.log.close()
         for left in glob.glob(f"/dev/shm/leddwyfan{self.folder.replace('/', '.')}*"):
-            os.remove(left)
+            shutil.rmtree(left)
         return complaints
 
     def audit(self):
