@@ -149,6 +149,7 @@ def try_kills(options):
         yield try_ring(cluster, times)
         yield try_litmus(cluster, 'sb', times // 5)
         yield try_litmus(cluster, 'iriw', times // 5)
+        yield kill_daemons(cluster, 10 * times, 4)
     yield f'{cluster.kills} sites killed; {cluster.audit()}'
 
 
@@ -231,8 +232,9 @@ def try_daemon_death(options):
 def kill_daemons(cluster, times, kills, seed=1):
     """Threads and children of each host add, while daemons are killed and started again."""
     key, draw = next(keys), random.Random(seed)
-    programs = [cluster.on(me, './count', key, 2, times) for me in range(cluster.hosts)]
-    time.sleep(1)
+    programs = [cluster.on(me, './count', key, 2, times, 'tell') for me in range(cluster.hosts)]
+    for program in programs:  # a child that has no fault descriptor of its own yet doesn't survive its daemon
+        expect(program.stdout.readline() == 'begun\n', 'the child has begun')
     for _ in range(kills):
         cluster.start_again(draw.randrange(cluster.hosts), draw.choice((0, 0.1, 0.5)))
         time.sleep(draw.uniform(0.2, 1) * cluster.options.between_kills)
@@ -423,7 +425,8 @@ def soak(options):
     with rough_cluster(options, 1) as cluster:
         for turn in itertools.count(1):
             first = next(keys)
-            told = [try_counts(cluster, times), try_words(cluster, times, turn), try_lock(cluster, 'mutex', times), try_ring(cluster, times)]
+            told = [try_counts(cluster, times), try_words(cluster, times, turn), try_lock(cluster, 'mutex', times), try_ring(cluster, times),
+                    kill_daemons(cluster, 10 * times, 2, turn)]
             memories.append(cluster.memory())
             print(f'  {turn}: {", ".join(told)}; memory {memories[-1]}', flush=True)
             cluster.told(0, 'ipcrm', *[word for key in range(first + 1, next(keys)) for word in ('-M', key)])

@@ -1,4 +1,5 @@
-/* count KEY THREADS TIMES: threads of a program and of its forked child add to two words, each on a page of its own, by atomic adds. */
+/* count KEY THREADS TIMES [tell]: threads of a program and of its forked child add to two words, each on a page of its own, by atomic adds. The
+   child tells that it has begun. */
 #include <pthread.h>
 #include <stdio.h>
 #include <stdlib.h>
@@ -26,6 +27,7 @@ int main(int argc, char **argv) {
     if (words == (void *)-1) return perror("shmat"), 1;
     pthread_t handles[64];
     pid_t child = fork();
+    if (child == 0 && argc > 4) puts("begun"), fflush(stdout);
     for (int index = 0; index < threads; index++) pthread_create(&handles[index], NULL, add, NULL);
     for (int index = 0; index < threads; index++) pthread_join(handles[index], NULL);
     if (child == 0) _exit(0);
