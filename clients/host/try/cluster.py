@@ -12,7 +12,7 @@ import time
 PACKAGES = {'mosquitto_sub': 'mosquitto-clients', 'mosquitto': 'mosquitto', 'perl': 'perl', 'ipcs': 'util-linux', 'stress-ng': 'stress-ng',
             'valgrind': 'valgrind', 'Xvfb': 'xvfb', 'xsetroot': 'x11-xserver-utils', 'redis-server': 'redis-server', 'pg_lsclusters': 'postgresql', 'setpriv': 'util-linux'}
 keys = itertools.count(1000)
-patience = [int(os.environ.get("PATIENCE", 240))]  # seconds until a program counts as one that goes on and on
+patience = [240]  # seconds until a program counts as one that goes on and on
 
 
 def expect(condition, text):
