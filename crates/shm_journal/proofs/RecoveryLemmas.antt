@@ -237,8 +237,8 @@ pub whole_found : (A : Type 0) (header : Header) (old new : Option (List ℕ)) (
 whole_found A header old new (Ok x) w empty left = recovers header old new x w empty
 whole_found A header old new (Err f) w empty left = fails A header old new f left
 
-abbrev pub of_numbers : ℕ → ℕ → ℕ → Header
-of_numbers sites me pages = record { sites = sites; me = me; pages = pages }
+abbrev pub of_numbers : ℕ → ℕ → ℕ → Option (List ℕ) → Header
+of_numbers sites me pages cluster = record { sites = sites; me = me; pages = pages; cluster = cluster }
 
 -- memory is missing before anything is read
 pub nothing_read : (header : Header) (old : Option (List ℕ)) → BreaksAt (found header) old old

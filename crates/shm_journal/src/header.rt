@@ -1,7 +1,8 @@
 //! The first line of a journal.
+use shm_seal::ClusterName;
 use std::fmt;
 
-/// Whose journal it is: `journal SITES ME PAGES`.
+/// Whose journal it is: `journal SITES ME PAGES`, and ` @NAME` where the cluster has a name.
 #[derive(Clone, Copy, Debug, PartialEq, Eq)]
 pub struct Header {
     /// How many sites there are.
@@ -10,6 +11,8 @@ pub struct Header {
     pub me: u32,
     /// How many pages segment 0 began with.
     pub pages: u32,
+    /// The cluster's name, if it has one.
+    pub cluster: Option<ClusterName>,
 }
 
 impl fmt::Display for Header {
@@ -24,6 +27,9 @@ impl fmt::Display for Header {
         let sites = self.sites;
         let me = self.me;
         let pages = self.pages;
-        write!(f, "journal {sites} {me} {pages}")
+        match self.cluster {
+            Some(name) => write!(f, "journal {sites} {me} {pages} @{name}"),
+            None => write!(f, "journal {sites} {me} {pages}"),
+        }
     }
 }

@@ -3,12 +3,14 @@ ghost use Rattle.std.specs.Prelude.{◌≡◌, None, Some, IfNone, IfOk, IfSome,
 ghost use Rattle.shm_process.specs.CauseOf.{cause_of};
 ghost use Rattle.shm_journal.specs.EntryOf.{entry_of};
 ghost use Rattle.shm_journal.specs.HeaderOf.{header_of};
-ghost use Rattle.shm_journal.specs.Lines.{or_restart, read_cause, read_entry, read_header, read_written};
+ghost use Rattle.shm_journal.specs.Lines.{cluster_after, cluster_named, or_restart, read_cause, read_entry, read_header, read_written};
+ghost use Rattle.shm_seal.specs.NameOf.{name_of};
 
 use crate::entry::Entry;
 use crate::header::Header;
 use shm_lines::{Words, split_at, wide_number};
 use shm_process::Cause;
+use shm_seal::ClusterName;
 use shm_wire::parse_line;
 use std::alloc::{AllocError, Allocator};
 
@@ -23,10 +25,38 @@ pub fn parse_header(line: &[u8]) -> Option<Header>
     let (sites, words) = words.number()?;
     let (me, words) = words.number()?;
     let (pages, words) = words.number()?;
+    let cluster = parse_cluster(words)?;
+    Some(Header {
+        sites,
+        me,
+        pages,
+        cluster,
+    })
+}
+
+/// Reads what is left of a header: the cluster's name, or nothing.
+fn parse_cluster(words: Words<'_>) -> Option<Option<ClusterName>>
+    ensures { option_map (option_map name_of) result ≡ cluster_after words.entry }
+{
+    let Some((word, words)) = words.word() else {
+        return Some(None);
+    };
     if !words.is_empty() {
         return None;
     }
-    Some(Header { sites, me, pages })
+    let name = cluster_of_word(word)?;
+    Some(Some(name))
+}
+
+/// Reads a word as a cluster's name behind an at sign.
+fn cluster_of_word(word: &[u8]) -> Option<ClusterName>
+    ensures { option_map name_of result ≡ cluster_named word.now }
+{
+    let (sign, name) = word.split_first()?;
+    if *sign != b'@' {
+        return None;
+    }
+    ClusterName::new(name)
 }
 
 /// Reads a line, without its line feed, as an entry. `None` where it is none. Only a page's bytes take memory.

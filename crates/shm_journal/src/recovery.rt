@@ -1,5 +1,5 @@
 //! A site from its journal.
-ghost use Rattle.std.specs.Prelude.{◌≡◌, ◌==◌, ◌+◌, ◌<◌, ◌≤◌, ℕ, false, true, IfErr, IfOk, OnOk};
+ghost use Rattle.std.specs.Prelude.{◌≡◌, ◌==◌, ◌+◌, ◌<◌, ◌≤◌, ℕ, false, option_map, true, IfErr, IfOk, OnOk};
 ghost use Rattle.std.specs.Io.KnownBytes.{IsAtEnd};
 ghost use Rattle.shm_journal.specs.Found.{found, found_behind, opened, replayed_line};
 ghost use Rattle.shm_journal.specs.HeaderOf.{header_of};
@@ -9,6 +9,7 @@ ghost use Rattle.shm_journal.specs.ReadUpTo.{ReadsToLine, ReadsWhole};
 ghost use Rattle.shm_journal.specs.Recovers.{ReadsAll, ReadsUpTo, Recovers, as_recovery, front_checked, header_checked};
 ghost use Rattle.shm_journal.specs.declared.journal_fault.JournalFault.{JournalFault as Fault};
 ghost use Rattle.shm_process.specs.NodeOf.{node_of};
+ghost use Rattle.shm_seal.specs.NameOf.{name_of};
 
 use crate::header::Header;
 use crate::journal_fault::JournalFault;
@@ -20,17 +21,19 @@ use crate::replay::replay_rest;
 use crate::taken::Taken;
 use shm_place::{PAGES, SiteId, Sites};
 use shm_process::Node;
+use shm_seal::ClusterName;
 use std::alloc::Allocator;
 use std::io::Read;
 
-/// Recovers the site after the steps that its journal records; one of these sites, where segment 0 began with this number of pages. What
-/// stands behind the last line feed is torn: it counts for nothing, unless it is too long for a line, or stands alone and is no front of
+/// Recovers the site after the steps that its journal records; one of these sites, where segment 0 began with this number of pages, in the
+/// cluster of this name, or in one without a name. What stands behind the last line feed is torn: it counts for nothing, unless it is too long for a line, or stands alone and is no front of
 /// the header. At most one line of the journal is held at once. After a fault the reader stands a little behind the wrong line.
 pub fn recover<A: Allocator + Copy, R: Read>(
     alloc: A,
     sites: Sites,
     me: SiteId,
     pages: u32,
+    cluster: Option<ClusterName>,
     reader: &mut R,
 ) -> Result<Recovered<A>, RecoveryFault>
     requires below { me < sites }
@@ -38,8 +41,8 @@ pub fn recover<A: Allocator + Copy, R: Read>(
     requires to { pages ≤ PAGES }
     ensures end { OnOk result (IsAtEnd (R.remaining reader.new)) }
     ensures all { OnOk result (ReadsAll (R.remaining reader.old) (R.remaining reader.new)) }
-    ensures left { IfErr result (ReadsUpTo (record { sites = sites; me = me; pages = pages }) (R.remaining reader.old) (R.remaining reader.new)) }
-    ensures found { Recovers (record { sites = sites; me = me; pages = pages }) (R.remaining reader.old) result }
+    ensures left { IfErr result (ReadsUpTo (record { sites = sites; me = me; pages = pages; cluster = option_map name_of cluster }) (R.remaining reader.old) (R.remaining reader.new)) }
+    ensures found { Recovers (record { sites = sites; me = me; pages = pages; cluster = option_map name_of cluster }) (R.remaining reader.old) result }
 {
     let Ok(node) = Node::new(alloc, sites, me, pages) else {
         return Err(RecoveryFault::OutOfMemory);
@@ -48,6 +51,7 @@ pub fn recover<A: Allocator + Copy, R: Read>(
         sites: sites.count(),
         me: me.0,
         pages,
+        cluster,
     };
     read_journal(alloc, header, node, reader)
 }

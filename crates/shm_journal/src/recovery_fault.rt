@@ -10,7 +10,7 @@ pub enum RecoveryFault {
     #[error("read fault")]
     ReadFault,
     /// Its header is that of another site, of another number of sites, or of another opening.
-    #[error("journal: of another site, number of sites or opening")]
+    #[error("journal: of another site, number of sites, opening or cluster")]
     Foreign,
     /// The line of this number, from 1, is none of a journal's, or records no step that can be the site's next.
     #[error("journal: line {0}: no entry of this site")]

@@ -13,6 +13,8 @@ pub mod Waiting
 pub mod Showing
 pub mod Telling
 pub mod Recorded
+pub mod Unopened
+pub mod UnopenedOf
 pub mod Desk
 pub mod DeskOf
 pub mod DeskEvents

@@ -20,6 +20,7 @@ mod node_say;
 mod node_take;
 mod said;
 mod tell_lines;
+mod unopened;
 mod waiting_ask;
 mod write;
 
@@ -29,3 +30,4 @@ pub use desk::Desk;
 pub use node::Node;
 pub use node_hear::input_asked;
 pub use said::Said;
+pub use unopened::Unopened;

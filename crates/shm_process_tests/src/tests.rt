@@ -3,6 +3,7 @@ mod blocks;
 mod exchanges;
 mod full_heap;
 mod process;
+mod seals;
 mod wire;
 mod writes;
 

@@ -39,7 +39,7 @@ one_of_sites name rows (Replay file) among asked = tt
 one_of_sites name rows (Run sites seed summary log) among asked = tt
 one_of_sites name rows Prompt among asked = tt
 one_of_sites name rows (Draw page file) among asked = tt
-one_of_sites name rows (Site sites me pages journal begins) among asked = (is_below sites me among, asked.options.3)
+one_of_sites name rows (Site sites me pages journal begins seal) among asked = (is_below sites me among, asked.options.3)
 one_of_sites name rows (Audit sites journals) among asked = tt
 one_of_sites name rows (Journal file) among asked = tt
 
@@ -53,7 +53,7 @@ one_named name rows (Replay file) asked = rw asked.called refl
 one_named name rows (Run sites seed summary log) asked = rw asked.called refl
 one_named name rows Prompt asked = rw asked.called refl
 one_named name rows (Draw page file) asked = rw asked.called refl
-one_named name rows (Site sites me pages journal begins) asked = rw (asked.called, asked.options.0, asked.options.1) refl
+one_named name rows (Site sites me pages journal begins seal) asked = rw (asked.called, asked.options.0, asked.options.1) refl
 one_named name rows (Audit sites journals) asked = rw asked.called refl
 one_named name rows (Journal file) asked = rw asked.called refl
 
@@ -95,7 +95,7 @@ by_name (Replay file) = refl
 by_name (Run sites seed summary log) = refl
 by_name Prompt = refl
 by_name (Draw page file) = refl
-by_name (Site sites me pages journal begins) = refl
+by_name (Site sites me pages journal begins seal) = refl
 by_name (Audit sites journals) = refl
 by_name (Journal file) = refl
 
@@ -104,7 +104,7 @@ of_audit (Replay file) is = absurd (cc)
 of_audit (Run sites seed summary log) is = inl refl
 of_audit Prompt is = absurd (cc)
 of_audit (Draw page file) is = absurd (cc)
-of_audit (Site sites me pages journal begins) is = absurd (cc)
+of_audit (Site sites me pages journal begins seal) is = absurd (cc)
 of_audit (Audit sites journals) is = inr refl
 of_audit (Journal file) is = absurd (cc)
 

@@ -46,6 +46,7 @@ unaudited_status cause.OutOfMemory = 3
 unaudited_status cause.WriteFault = 3
 unaudited_status (cause.Unopened at) = 3
 unaudited_status (cause.Unread at fault) = journal_status fault
+unaudited_status (cause.OtherCluster at) = 1
 unaudited_status (cause.Unaccepted fault) = journals_status fault
 
 -- why these logs aren't accepted: there isn't one for each of so many sites, or they are no set of logs, or the audit finds this cause. Other

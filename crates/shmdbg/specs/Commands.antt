@@ -60,8 +60,16 @@ journal_rule = text_rule (codes "journal")
 abbrev pub new_journal_rule : Rule
 new_journal_rule = flag_rule (codes "new")
 
+abbrev pub cluster_rule : Rule
+cluster_rule = text_rule (codes "cluster")
+
+abbrev pub key_rule : Rule
+key_rule = text_rule (codes "key")
+
 abbrev pub site_app : App
-site_app = with_rule (with_rule (with_rule (with_rule (with_rule (new_app (codes "site")) sites_rule) me_rule) preset_rule) journal_rule) new_journal_rule
+site_app =
+    with_rule (with_rule (with_rule (with_rule (with_rule (with_rule (with_rule (new_app (codes "site")) sites_rule) me_rule) preset_rule) journal_rule)
+    new_journal_rule) cluster_rule) key_rule
 
 -- 1 to 16 texts that stand by no option's name
 abbrev pub journals_rule : Rule

@@ -5,8 +5,7 @@ use Rattle.shm_debug.specs.Script.{script_of}
 use Rattle.shm_journal.specs.Acts.{Around, Did}
 use Rattle.shm_place.specs.declared.page.PageId.{PageId}
 use Rattle.shmdbg.specs.Audited.{FailsAudit, TellsAudit}
-use Rattle.shmdbg.specs.Begun.{header_at}
-use Rattle.shmdbg.specs.Served.{IsSite}
+use Rattle.shmdbg.specs.Sealed.{IsSealedSite}
 use Rattle.shmdbg.specs.Summarized.{Summarizes}
 use Rattle.shmdbg.specs.Status.{Fails, Pictures, PicturesFile, Replays, ReplaysFile, Reports}
 use Rattle.shmdbg.specs.Words.{AskFor}
@@ -45,7 +44,7 @@ Does (Replay file) status old new = ReplaysFrom file status old new
 Does (Run sites seed summary log) status old new = Runs sites summary status old new
 Does Prompt status old new = (status ≡ 0) ⊎ (status ≡ 3)
 Does (Draw page file) status old new = PicturesFrom file page status old new
-Does (Site sites me pages journal begins) status old new = IsSite (option_map (λ file. begins) journal) (header_at sites me pages) status old new
+Does (Site sites me pages journal begins seal) status old new = IsSealedSite seal (option_map (λ file. begins) journal) sites me pages status old new
 Does (Audit sites journals) status old new = Audits (length journals.items) sites status old new
 Does (Journal file) status old new = Summarizes status old.contents new.contents
 

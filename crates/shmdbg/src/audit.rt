@@ -7,7 +7,9 @@ ghost use Rattle.shmdbg.specs.declared.unaudited.Unaudited.TheVariants as cause;
 use crate::tell;
 use crate::unaudited::Unaudited;
 use shm_audit::{JournalsFault, Totals, audit_journals, read_log};
+use shm_journal::{Lines, Taken, parse_header};
 use shm_place::Sites;
+use shm_seal::ClusterName;
 use shm_sites::SiteLog;
 use shm_text::write_whole;
 use std::alloc::Global;
@@ -48,13 +50,49 @@ fn tell_audit<R: AllocGlobal + Files, O: Write>(
     ensures why { IfErr result (IsCauseOf (length journals.now) sites) }
     ensures quiet { IfErr result (λ fault. (fault ≡ cause.WriteFault) ⊎ (out.new ≡ out.old)) }
 {
-    let logs = match read_logs(rt, journals) {
+    let logs = match read_set(rt, journals) {
         Ok(logs) => logs,
         Err(fault) => return Err(fault),
     };
     match judge(rt.alloc(), sites, logs.as_slice()) {
         Ok(counts) => tell_counts(rt.alloc(), counts, out),
         Err(fault) => Err(fault),
+    }
+}
+
+/// The logs that the journals of these names lead to, which are all of one cluster.
+fn read_set<R: AllocGlobal + Files>(rt: &R, journals: &[&str]) -> Result<Vec<SiteLog>, Unaudited>
+    ensures each { IfOk result (λ logs. length logs.items ≡ length journals.now) }
+    ensures unread { IfErr result IsUnread }
+{
+    let logs = match read_logs(rt, journals) {
+        Ok(logs) => logs,
+        Err(fault) => return Err(fault),
+    };
+    match look_for_other(rt, journals) {
+        Some(at) => Err(Unaudited::OtherCluster { at }),
+        None => Ok(logs),
+    }
+}
+
+/// The first journal that is of another cluster than the first of all.
+fn look_for_other<R: AllocGlobal + Files>(rt: &R, journals: &[&str]) -> Option<usize> {
+    let first = cluster_in(rt, journals.first()?);
+    'journals: for (at, name) in journals.iter().enumerate() {
+        if cluster_in(rt, name) != first {
+            return Some(at);
+        }
+    }
+    None
+}
+
+/// The cluster's name in the first line of the journal of this name.
+fn cluster_in<R: AllocGlobal + Files>(rt: &R, name: &str) -> Option<ClusterName> {
+    let mut file = File::open(rt, name).ok()?;
+    let mut lines = Lines::new(rt.alloc());
+    match lines.take(&mut file) {
+        Ok(Taken::Whole) => parse_header(lines.line())?.cluster,
+        _ => None,
     }
 }
 

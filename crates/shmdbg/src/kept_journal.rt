@@ -6,12 +6,15 @@ ghost use Rattle.shmdbg.specs.Begun.{BeginsKept, ReadsUnbegun, header_at};
 ghost use Rattle.shmdbg.specs.Served.{IsUnbegun};
 ghost use Rattle.shmdbg.specs.TakenAgain.{IsTakenAgain};
 ghost use Rattle.shm_process.specs.DeskOf.{desk_of};
+ghost use Rattle.shm_seal.specs.Seal.{cluster_of};
+ghost use Rattle.shm_seal.specs.SealOf.{seal_of};
 
 use crate::site_fault::SiteFault;
 use crate::taken_again::TakenAgain;
 use shm_journal::{Header, Recovered, open_desk, recover};
 use shm_place::{PAGES, SiteId, Sites};
 use shm_process::Desk;
+use shm_seal::Seal;
 use std::fs::{self, File, OpenFile, OpenOptions, TryLockError};
 use std::io::{self, ErrorKind, Read};
 use std::rt::Files;
@@ -94,6 +97,7 @@ pub(crate) fn begin_kept<R: AllocGlobal + Files, F: Read + OpenFile>(
     sites: Sites,
     me: SiteId,
     pages: u32,
+    seal: Seal,
     kept: Kept<'_>,
     file: &mut F,
 ) -> Result<Begun, SiteFault>
@@ -102,13 +106,14 @@ pub(crate) fn begin_kept<R: AllocGlobal + Files, F: Read + OpenFile>(
     requires to { pages ≤ PAGES }
     ensures begun { IfOk result (λ begun. (journal : List ℕ) × IfSome (F.remaining file.old) (λ known. journal ≡ known)
         × (begun.durable ≡ bytes_of_lines (lines_of journal).whole)
-        × BeginsKept kept.entry.begins (header_at sites me pages) journal (desk_of begun.desk)) }
-    ensures again { IfOk result (λ begun. IsTakenAgain (header_at sites me pages) (F.remaining file.old) begun.again) }
+        × BeginsKept kept.entry.begins (seal_of seal) (header_at sites me pages (cluster_of (seal_of seal))) journal (desk_of begun.desk)) }
+    ensures again { IfOk result (λ begun. IsTakenAgain (header_at sites me pages (cluster_of (seal_of seal))) (F.remaining file.old) begun.again) }
     ensures all { OnOk result (ReadsAll (F.remaining file.old) (F.remaining file.new)) }
-    ensures left { IfErr result (ReadsUnbegun (header_at sites me pages) (F.remaining file.old) (F.remaining file.new)) }
+    ensures left { IfErr result (ReadsUnbegun (header_at sites me pages (cluster_of (seal_of seal))) (F.remaining file.old) (F.remaining file.new)) }
     ensures unbegun { IfErr result IsUnbegun }
 {
-    let found = match recover(rt.alloc(), sites, me, pages, file) {
+    let cluster = seal.name();
+    let found = match recover(rt.alloc(), sites, me, pages, cluster, file) {
         Ok(found) => found,
         Err(fault) => return Err(SiteFault::Unrecovered(fault)),
     };
@@ -138,8 +143,9 @@ pub(crate) fn begin_kept<R: AllocGlobal + Files, F: Read + OpenFile>(
         sites: sites.count(),
         me: me.0,
         pages,
+        cluster,
     };
-    match open_desk(rt.alloc(), header, is_new, node) {
+    match open_desk(rt.alloc(), header, seal, is_new, node) {
         Ok(desk) => Ok(Begun {
             desk,
             durable: whole,

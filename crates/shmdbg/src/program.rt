@@ -3,6 +3,9 @@ ghost use Rattle.shm_debug.specs.Script.{script_of};
 ghost use Rattle.shmdbg.specs.Around.{streams};
 ghost use Rattle.shmdbg.specs.Begun.{header_at};
 ghost use Rattle.shmdbg.specs.Done.{Does, IsDone, IsUnrun, PicturesFrom, ReplaysFrom, has_audit};
+ghost use Rattle.shm_seal.specs.Seal.{cluster_of};
+ghost use Rattle.shm_seal.specs.SealOf.{seal_of};
+ghost use Rattle.shmdbg.specs.Sealed.{IsSealedSite};
 ghost use Rattle.shmdbg.specs.Served.{site_status, IsSite};
 ghost use Rattle.shmdbg.specs.Status.{AsksForAudit, Pictures, PicturesFile, Replays, ReplaysFile, Reports, Takes};
 ghost use Rattle.shmdbg.specs.Words.{IsOneOfSites};
@@ -12,6 +15,7 @@ use crate::disk::Disk;
 use crate::journal_summary::tell_journal;
 use crate::kept_journal::{Kept, Lock};
 use crate::log_files::{Unlogged, open_logs};
+use crate::read_seal::read_seal;
 use crate::run_report::{Wanted, tell_run};
 use crate::script_file::{WholeScript, read_script_file};
 use crate::serve_site::{be_kept_site, be_site};
@@ -19,11 +23,12 @@ use crate::show_fault::{script_fault, workload_fault};
 use crate::site_fault::SiteFault;
 use crate::source::Recalls;
 use crate::tell;
-use crate::words::{Task, parse_words};
+use crate::words::{SealWords, Task, parse_words};
 use shm_debug::replay;
 use shm_draw::draw;
 use shm_place::{PAGES, PageId, SiteId, Sites};
 use shm_prompt::prompt;
+use shm_seal::Seal;
 use std::alloc::Global;
 use std::convert::AsStr;
 use std::io::{Read, Write};
@@ -98,7 +103,10 @@ where
             pages,
             journal,
             begins,
-        } => site(rt, sites, me, pages, journal, begins, reader, out, errors),
+            seal,
+        } => site(
+            rt, sites, me, pages, journal, begins, seal, reader, out, errors,
+        ),
         Task::Audit { sites, journals } => audit(rt, sites, journals.as_slice(), out, errors),
         Task::Journal { file } => tell_journal(rt, file, out, errors),
     }
@@ -270,6 +278,7 @@ fn site<R: AllocGlobal + Files, I: Read, O: Write, E: Write>(
     pages: u32,
     journal: Option<&str>,
     begins: bool,
+    seal: SealWords<'_>,
     reader: &mut I,
     out: &mut O,
     errors: &mut E,
@@ -281,17 +290,48 @@ where
     requires to { pages ≤ PAGES }
     ensures range { result < 4 }
     ensures taken { result ≢ 2 }
-    ensures served { IsSite (option_map (λ file. begins) journal.entry) (header_at sites me pages) result
+    ensures served { IsSealedSite seal.entry (option_map (λ file. begins) journal.entry) sites me pages result
+        (streams (I.remaining reader.old) (O.contents out.old)) (streams (I.remaining reader.new) (O.contents out.new)) }
+{
+    match read_seal(rt, seal) {
+        Ok(seal) => sealed_site(
+            rt, sites, me, pages, seal, journal, begins, reader, out, errors,
+        ),
+        Err(fault) => tell::seal_fault(fault, errors),
+    }
+}
+
+/// Runs a site under this seal as a process until its input ends, and answers the exit status.
+fn sealed_site<R: AllocGlobal + Files, I: Read, O: Write, E: Write>(
+    rt: &R,
+    sites: Sites,
+    me: SiteId,
+    pages: u32,
+    seal: Seal,
+    journal: Option<&str>,
+    begins: bool,
+    reader: &mut I,
+    out: &mut O,
+    errors: &mut E,
+) -> u8
+where
+    R::File: Lock,
+    requires below { me < sites }
+    requires from { 1 ≤ pages }
+    requires to { pages ≤ PAGES }
+    ensures range { result < 4 }
+    ensures taken { result ≢ 2 }
+    ensures served { IsSite (option_map (λ file. begins) journal.entry) (seal_of seal) (header_at sites me pages (cluster_of (seal_of seal))) result
         (streams (I.remaining reader.old) (O.contents out.old)) (streams (I.remaining reader.new) (O.contents out.new)) }
 {
     match journal {
         Some(name) => {
             let kept = Kept { name, begins };
-            let ended = be_kept_site(rt, sites, me, pages, kept, reader, out, errors);
+            let ended = be_kept_site(rt, sites, me, pages, seal, kept, reader, out, errors);
             tell_end(ended, errors)
         }
         None => {
-            let ended = be_site(rt, sites, me, pages, reader, out);
+            let ended = be_site(rt, sites, me, pages, seal, reader, out, errors);
             tell_end(ended, errors)
         }
     }

@@ -4,11 +4,13 @@ ghost use Rattle.std.specs.declared.io.ErrorKind.TheVariants as io_kind;
 ghost use Rattle.clap.specs.Words.{kind_of};
 ghost use Rattle.clap.specs.declared.error.kind.ErrorKind.TheVariants as kind;
 ghost use Rattle.shmdbg.specs.Audited.{unaudited_status};
+ghost use Rattle.shmdbg.specs.Sealed.{seal_status};
 ghost use Rattle.shmdbg.specs.Served.{site_status};
 ghost use Rattle.shmdbg.specs.Status.{fault_status, run_status};
 
 use crate::log_files::Unlogged;
 use crate::script_file_fault::ScriptFileFault;
+use crate::seal_fault::SealFault;
 use crate::site_fault::SiteFault;
 use crate::standard_streams::Stream;
 use crate::taken_again::TakenAgain;
@@ -18,6 +20,7 @@ use shm_audit::{JournalFault, JournalsFault};
 use shm_debug::DebugFault;
 use shm_journal::RecoveryFault;
 use shm_place::SiteId;
+use shm_process::Unopened;
 use shm_prompt::PromptFault;
 use shm_report::ReportFault;
 use shm_sites::AuditFault;
@@ -84,9 +87,36 @@ pub fn site_fault<E: Write>(fault: SiteFault, errors: &mut E) -> u8
     }
 }
 
+/// The exit status where there is no seal as a site's words say. Its one line goes to `errors`.
+pub fn seal_fault<E: Write>(fault: SealFault, errors: &mut E) -> u8
+    ensures { result ≡ seal_status fault }
+{
+    let _ = writeln!(errors, "shmdbg: {fault}");
+    match fault {
+        SealFault::BadName | SealFault::NoName | SealFault::NoKey => 1,
+        SealFault::Unread(_) => 3,
+    }
+}
+
 /// Tells what a site took again of its journal. A failure to write it is passed over.
 pub fn taken_again<E: Write>(again: TakenAgain, errors: &mut E) {
     let _ = writeln!(errors, "shmdbg: {again}");
+}
+
+/// Tells how many lines a site didn't open, by their causes, if there was one. A failure to write it is passed over.
+pub fn unopened<E: Write>(counts: Unopened, errors: &mut E) {
+    let Unopened {
+        other_cluster,
+        no_digest,
+        wrong_digest,
+    } = counts;
+    if other_cluster == 0 && no_digest == 0 && wrong_digest == 0 {
+        return;
+    }
+    let _ = writeln!(
+        errors,
+        "shmdbg: lines passed over: {other_cluster} of another cluster, {no_digest} without a digest, {wrong_digest} with a wrong digest"
+    );
 }
 
 /// The exit status where journals of these names weren't accepted. Its one line goes to `errors`: with the journal and the line, where there
@@ -108,6 +138,7 @@ fn status_of(fault: &Unaudited) -> u8
             JournalFault::BadLine(_) => 1,
             JournalFault::OutOfMemory | JournalFault::ReadFault => 3,
         },
+        Unaudited::OtherCluster { .. } => 1,
         Unaudited::Unaccepted(fault) => match fault {
             JournalsFault::NotOneSet => 1,
             JournalsFault::Audit(_) => 4,
@@ -131,6 +162,13 @@ fn write_unaudited<E: Write>(
         Unaudited::Unread { at, fault } => {
             let name = name_of(journals, at);
             writeln!(errors, "shmdbg: {name}: {fault}")
+        }
+        Unaudited::OtherCluster { at } => {
+            let name = name_of(journals, at);
+            writeln!(
+                errors,
+                "shmdbg: {name}: of another cluster than the first journal"
+            )
         }
         Unaudited::Unaccepted(JournalsFault::Audit(cause)) => {
             write_cause(cause, journals, errors)

@@ -11,6 +11,8 @@ pub enum Unaudited {
     Unopened { at: usize },
     /// Memory or reading failed at this journal, or it is none.
     Unread { at: usize, fault: JournalFault },
+    /// This journal is of another cluster than the first.
+    OtherCluster { at: usize },
     /// They aren't those of one set of sites, or an audit found a cause.
     Unaccepted(JournalsFault),
 }

@@ -5,8 +5,10 @@ mod commands;
 mod help;
 mod options;
 mod parse;
+mod seal_words;
 mod task;
 mod word_checks;
 
 pub use parse::parse_words;
+pub use seal_words::SealWords;
 pub use task::Task;

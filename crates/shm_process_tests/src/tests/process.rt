@@ -7,6 +7,7 @@ use crate::tests::{new_node, new_nodes, said_again, take_line, tells, tells_nobo
 use linked_list_allocator::LocalHeap;
 use shm_model::Answer;
 use shm_process::{Desk, Node, Said};
+use shm_seal::Seal;
 use std::alloc::{AllocError, Allocator, Global};
 use std::process::Abort;
 use std::test::Fail;
@@ -17,7 +18,7 @@ fn sent_line<A: Allocator + Copy>(
     said: Option<Said<A>>,
 ) -> Result<String<A>, AllocError> {
     match said {
-        Some(said) => said.envelopes(alloc),
+        Some(said) => said.envelopes(alloc, &Seal::Bare),
         None => Ok(String::new(alloc)),
     }
 }

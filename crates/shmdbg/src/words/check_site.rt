@@ -35,6 +35,7 @@ fn is_among(task: &Task<'_>) -> bool
             pages: _,
             journal: _,
             begins: _,
+            seal: _,
         } => me.0 < sites.count(),
         _ => true,
     }
@@ -50,6 +51,7 @@ fn has_file(task: &Task<'_>) -> bool
             pages: _,
             journal,
             begins,
+            seal: _,
         } => !*begins || journal.is_some(),
         _ => true,
     }
@@ -83,6 +85,7 @@ fn numbers_of(task: &Task<'_>) -> (u32, u32) {
             pages: _,
             journal: _,
             begins: _,
+            seal: _,
         } => (me.0, sites.count()),
         _ => (0, 0),
     }

@@ -90,7 +90,9 @@ fn site_command<'a>(alloc: Global) -> Result<Command<'a>, AllocError>
         .arg(me_arg(alloc))?
         .arg(preset_arg(alloc))?
         .arg(journal_arg(alloc))?
-        .arg(new_arg(alloc))
+        .arg(new_arg(alloc))?
+        .arg(cluster_arg(alloc))?
+        .arg(key_arg(alloc))
 }
 
 fn audit_command<'a>(alloc: Global) -> Result<Command<'a>, AllocError>
@@ -239,6 +241,28 @@ fn new_arg<'a>(alloc: Global) -> Arg<'a>
         .long("new")
         .help("Begin the journal, which doesn't exist yet")
         .action(ArgAction::SetTrue)
+}
+
+fn cluster_arg<'a>(alloc: Global) -> Arg<'a>
+    ensures rule { rule_of result ≡ spec.cluster_rule }
+    ensures local { result.global ≡ false }
+{
+    Arg::new(alloc, "cluster")
+        .long("cluster")
+        .value_name("NAME")
+        .help("The cluster's name, which stands behind each of its lines")
+        .action(ArgAction::Set)
+}
+
+fn key_arg<'a>(alloc: Global) -> Arg<'a>
+    ensures rule { rule_of result ≡ spec.key_rule }
+    ensures local { result.global ≡ false }
+{
+    Arg::new(alloc, "key")
+        .long("key")
+        .value_name("FILE")
+        .help("The file of the cluster's key, under which each line has a digest")
+        .action(ArgAction::Set)
 }
 
 fn journals_arg<'a>(alloc: Global) -> Arg<'a>

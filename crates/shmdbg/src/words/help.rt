@@ -123,10 +123,18 @@ that goes on, as it would have forgotten what it held.
   $ printf 'ask 0 b load 0 5\\n' |
     shmdbg site --sites 1 --me 0 --preset 1 --journal site-0.journal
   tell 0 b byte 7
+With --cluster each line that the site takes or tells has @NAME behind it, and
+so has the journal's first line: lines and journals of another cluster aren't
+taken. With --key each line has its digest behind that, HMAC-SHA-256 under the
+key that lies in a file: no line without it is taken. Name and key are the same
+at all sites, and callers seal their lines too.
+  $ printf 'ask 0 a store 0 5 7 @north\\n' |
+    shmdbg site --sites 1 --me 0 --preset 1 --cluster north
+  tell 0 a stored @north
 Exit status: 0 its input ended, 1 FILE isn't as these words say: it isn't there,
-is begun already, is another's journal or none, 2 these words were refused, 3
-memory, reading or writing failed, FILE can't be opened, another process has it,
-or its site's clock ended.";
+is begun already, is another's journal or none, or NAME or the key can't be one,
+2 these words were refused, 3 memory, reading or writing failed, a file can't be
+opened, another process has FILE, or its site's clock ended.";
 
 /// Of an audit of journals.
 pub const AUDIT: &str = "\

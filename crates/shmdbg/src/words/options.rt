@@ -3,6 +3,7 @@ ghost use Rattle.std.specs.Prelude.{◌≡◌, Some, codes, map, IfSome};
 ghost use Rattle.clap.specs.Words.{all_of, found_of, rows_of};
 ghost use Rattle.shmdbg.specs.Words.{is_set_at, number_at, number_of, page_named, IsAsked};
 
+use crate::words::seal_words::SealWords;
 use crate::words::task::Task;
 use crate::words::word_checks::is_plain_at;
 use clap::ArgMatches;
@@ -83,12 +84,17 @@ pub(crate) fn site_task<'a>(found: &ArgMatches<'a>) -> Option<Task<'a>>
     }
     let journal = found.get_str("journal");
     let begins = is_set(found, "new");
+    let seal = SealWords {
+        cluster: found.get_str("cluster"),
+        key: found.get_str("key"),
+    };
     Some(Task::Site {
         sites,
         me,
         pages,
         journal,
         begins,
+        seal,
     })
 }
 

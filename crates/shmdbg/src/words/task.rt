@@ -1,3 +1,4 @@
+use crate::words::seal_words::SealWords;
 use shm_place::{PageId, SiteId, Sites};
 
 /// The task that the words behind the program's name ask for.
@@ -24,13 +25,14 @@ pub enum Task<'a> {
         file: Option<&'a str>,
     },
     /// Run this site of `sites`, where segment 0 has this number of pages, on the lines of standard input. Keep its journal in a file, if
-    /// one is named, which it begins or goes on with.
+    /// one is named, which it begins or goes on with. Seal its lines, if the words say so.
     Site {
         sites: Sites,
         me: SiteId,
         pages: u32,
         journal: Option<&'a str>,
         begins: bool,
+        seal: SealWords<'a>,
     },
     /// Audit the journals of this many sites, which are in these files.
     Audit {

@@ -4,6 +4,8 @@ use Rattle.shm_process.specs.DeskOf.{desk_of}
 use Rattle.shm_process.specs.NodeOf.{node_of}
 use Rattle.shm_journal.specs.DeskFrom.{desk_from}
 use Rattle.shm_journal.specs.Found.{is_empty, lines_of}
+use Rattle.shm_seal.specs.Seal.{cluster_of}
+use Rattle.shm_seal.specs.SealOf.{seal_of}
 use Rattle.shmdbg.specs.Begun.{header_at}
 use Rattle.shmdbg.proofs.kept_journal.begin_kept.Goals as goal
 
@@ -21,7 +23,9 @@ returns-in-Ok-open_desk-clause-begun g c =
     let me = c.me.view_is in
     let is_new = found.2.2 in
     let asked : is_empty (lines_of found.0).whole ≡ c.args.kept.begins = sym is_new ∙ same c.args.kept.begins c.in-Ok.found.is_new (search rules) in
-    let begin : Bool → Desk = λ begins. desk_from (header_at c.args.sites c.args.me c.args.pages) begins (node_of c.in-Ok.found.node) in
+    let named = c.name-cluster.ensures in
+    let seal = seal_of c.args.seal in
+    let begin : Bool → Desk = λ begins. desk_from (header_at c.args.sites c.args.me c.args.pages (cluster_of seal)) seal begins (node_of c.in-Ok.found.node) in
     let begun : desk_of c.in-Ok-open_desk.desk ≡ begin (is_empty (lines_of found.0).whole) = cc in (
       found.0,
       found.1,

@@ -1,7 +1,11 @@
+use Rattle.std.proofs.Common.{inl, inr}
+use Rattle.shm_seal.specs.SealOf.{seal_of}
+use Rattle.shmdbg.proofs.Streaming.{did_nothing}
 use Rattle.shmdbg.proofs.program.site.Goals as goal
 
-pub returns-in-Some-clause-served : goal.returns-in-Some-clause-served
-returns-in-Some-clause-served g c = rw c.in-Some.is (c.be_kept_site-ended.result, c.tell_end.ensures, c.be_kept_site-ended.ensures)
+pub returns-in-Ok-clause-served : goal.returns-in-Ok-clause-served
+returns-in-Ok-clause-served g c = inl (seal_of c.in-Ok.seal, c.in-Ok.ensures, c.sealed_site.ensures.served)
 
-pub returns-in-None-clause-served : goal.returns-in-None-clause-served
-returns-in-None-clause-served g c = rw c.in-None.is (c.be_site-ended.result, c.tell_end-in-None.ensures, c.be_site-ended.ensures)
+pub returns-in-Err-clause-served : goal.returns-in-Err-clause-served
+returns-in-Err-clause-served g c =
+    inr (c.in-Err.fault, c.seal_fault.ensures, did_nothing (g.I.Read.remaining c.args.reader.now) (g.O.Write.contents c.args.out.now))

@@ -10,6 +10,10 @@ returns c =
     let found = found_of c.args.found.now in
     let kept : first_of (codes "journal") (rows_of found) ≡ option_map (λ s. s.now) c.get_str-journal.result =
     sym (first_value-rows found (codes "journal")) ∙ sym c.get_str-journal.ensures in
+    let cluster : first_of (codes "cluster") (rows_of found) ≡ option_map (λ s. s.now) c.get_str-cluster.result =
+    sym (first_value-rows found (codes "cluster")) ∙ sym c.get_str-cluster.ensures in
+    let key : first_of (codes "key") (rows_of found) ≡ option_map (λ s. s.now) c.get_str-key.result =
+    sym (first_value-rows found (codes "key")) ∙ sym c.get_str-key.ensures in
     let least : 1 ≤ c.in_ok-pages.pages = search rules in
     let most : c.in_ok-pages.pages ≤ 256 = search rules in
-    record { called = refl; options = (c.in_ok-number.ensures ∙ ap Some (sym same), c.in_ok-number-2.ensures, c.in_ok-pages.ensures, (least, most), kept, sym c.is_set-begins.ensures) }
+    record { called = refl; options = (c.in_ok-number.ensures ∙ ap Some (sym same), c.in_ok-number-2.ensures, c.in_ok-pages.ensures, (least, most), kept, sym c.is_set-begins.ensures, cluster, key) }
