@@ -76,6 +76,7 @@ machines:
 	@examples/machines/starts.py $(PROGRAM)/out/shmdbg
 	@for seed in 1 2 3; do examples/machines/router.py --seed $$seed --seconds 4 --program $(PROGRAM)/out/shmdbg || exit 1; done
 	@examples/machines/mutations.py --lines 20000 --program $(PROGRAM)/out/shmdbg
+	@examples/machines/mutations.py --lines 20000 --key --program $(PROGRAM)/out/shmdbg
 	@examples/machines/backup.py $(PROGRAM)/out/shmdbg
 	@examples/machines/broker.py --program $(PROGRAM)/out/shmdbg
 	@examples/machines/tls.py $(PROGRAM)/out/shmdbg
