@@ -1,5 +1,5 @@
-# Everything here needs the command `rt` of the Rattle toolchain, and nothing else but `machines`, `crashes`, `clients`, `programs` and
-# `documents`, which need Python; all but the second and the last need a C compiler too, and the first mosquitto. `limits` needs root.
+# Everything here needs the command `rt` of the Rattle toolchain, and nothing else but `machines`, `crashes`, `clients`, `programs`, `pages`
+# and `documents`, which need Python; all but the second and the last need a C compiler too, and the first mosquitto. `limits` needs root.
 # CONTRIBUTING.md says how long each takes.
 
 PROGRAM := crates/shmdbg
@@ -42,6 +42,12 @@ examples:
 	@for script in examples/*.shm; do \
 		picture=$${script%.shm}.svg; $(DRAW) | cmp -s - "$$picture" || { echo "$$picture: stale, or there is no program"; exit 1; }; \
 	done; echo "pictures: as drawn"
+
+# Writes the page of each script of examples/, step by step, and compares it with replays; with Chromium (Debian's package), opens each and
+# leaves screenshots in /tmp/pages. Needs the program that `make build` leaves, and Python 3. No part of the gate.
+.PHONY: pages
+pages:
+	@pages/check
 
 # Compares the shells' completions and the manual page with what the program's help names. Needs the program that `make build` leaves.
 manners:

@@ -28,7 +28,7 @@ _shmdbg() {
       ;;
     *:draw)
       [ "$before" != --page ] || return
-      mapfile -t COMPREPLY < <(compgen -W '--page -h --help' -- "$word"; compgen -f -- "$word")
+      mapfile -t COMPREPLY < <(compgen -W '--page --steps -h --help' -- "$word"; compgen -f -- "$word")
       compopt -o filenames 2> /dev/null
       return
       ;;

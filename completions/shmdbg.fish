@@ -21,6 +21,7 @@ complete -c shmdbg -n '__fish_seen_subcommand_from run' -s h -l help -d 'Print h
 complete -c shmdbg -n '__fish_seen_subcommand_from prompt' -s h -l help -d 'Print help'
 complete -c shmdbg -n '__fish_seen_subcommand_from draw' -F
 complete -c shmdbg -n '__fish_seen_subcommand_from draw' -l page -x -d 'The page to show, by its segment and its index'
+complete -c shmdbg -n '__fish_seen_subcommand_from draw' -l steps -d 'Write a page for a browser, with the picture and the tables of each step'
 complete -c shmdbg -n '__fish_seen_subcommand_from draw' -s h -l help -d 'Print help'
 complete -c shmdbg -n '__fish_seen_subcommand_from site' -l sites -x -a '(seq 16)' -d 'How many sites, 1 to 16'
 complete -c shmdbg -n '__fish_seen_subcommand_from site' -l me -x -a '(seq 0 15)' -d 'Which site this is, 0 to N-1'

@@ -25,4 +25,7 @@ pub use player::Player;
 pub use replay_script::replay;
 pub use session::Session;
 pub use shm_lines::{BadLine, Line, parse_line};
-pub use tell::{print_answer, print_page, tell_answer_line, tell_page_line};
+pub use tell::{
+    print_answer, print_page, tell_answer_line, tell_copies, tell_manager, tell_page_line,
+    write_answer,
+};

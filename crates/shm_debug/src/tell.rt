@@ -6,5 +6,7 @@ mod page;
 mod print;
 mod sent;
 
-pub use lines::{tell_answer_line, tell_page_line};
+pub use copies::tell_copies;
+pub use lines::{tell_answer_line, tell_page_line, write_answer};
+pub use page::tell_manager;
 pub use print::{print_answer, print_page};

@@ -3,7 +3,6 @@ use Rattle.std.proofs.Common.{◌≡◌, ◌∙◌, ℕ, List, [], ◌∷◌, �
 use Rattle.std.proofs.Math.Seq.{take-append_seam}
 use Rattle.std.specs.Io.KnownBytes.{Appends, Consumes, IsAtEnd, Keeps}
 use Rattle.std.proofs.KnownBytes.{Appends-kept, Consumes-whole}
-use Rattle.shm_place.specs.declared.page.PageId.{PageId}
 use Rattle.shm_lines.specs.Line.{line_of}
 use Rattle.shm_lines.specs.Spelling.{IsLine}
 use Rattle.shm_lines.specs.declared.line.Line.{Line}
@@ -17,7 +16,7 @@ use Rattle.shm_debug.specs.declared.outcome.DebugFault.{DebugFault}
 use Rattle.shm_debug.specs.declared.outcome.DebugFault.TheVariants.{OutOfMemory, BadLine, LineTooLong, TooManyLines, ReadFault, WriteFault}
 use Rattle.shm_debug.proofs.PromiseLemmas.{Begins, begins-always}
 use Rattle.shm_debug.proofs.ReplayLemmas.{IfSome-map, SoFar, all_read}
-use Rattle.shm_draw.specs.Drawn.{BeganRight, Draws, LeadsTo, Stopped, drawing, drawing_of}
+use Rattle.shm_draw.specs.Drawn.{BeganRight, LeadsTo, Stopped, Writes}
 
 -- ---- the lines that were read, and what stands after them
 
@@ -73,47 +72,55 @@ pub ended_there : (r0 r w0 w : Option (List ℕ)) (pending : List ℕ) (player :
     → SoFar r0 r w0 w pending player → IsAtEnd r → Ended player (Err fault) → IfSome r0 (λ bytes. Stopped (script_of bytes) fault)
 ended_there r0 r w0 w pending player fault s end e = stopped-some r0 w0 w pending fault (all_read r0 r w0 w pending player (Err fault) s end e)
 
--- ---- what was written by the end
+-- ---- what was written by the end; `draw` is what is drawn of what stands
 
-pub draws-stopped : (page : Option PageId) (script : Script) (fault : DebugFault) → Stopped script fault → Draws page script (Err fault) []
-draws-stopped page script OutOfMemory s = refl
-draws-stopped page script ReadFault s = refl
-draws-stopped page script WriteFault s = inl refl
-draws-stopped page script (BadLine n) s = (s, refl)
-draws-stopped page script (LineTooLong n) s = (s, refl)
-draws-stopped page script TooManyLines s = (s, refl)
+-- what is drawn of a whole script
+abbrev drawn_of : (Option Standing → List ℕ) → Script → List ℕ
+drawn_of draw script = draw (standing_after None script.lines)
 
-pub is-drawing : (page : Option PageId) (script : Script) (standing : Option Standing) (picture : List ℕ) → LeadsTo script standing → picture ≡ drawing page standing → picture ≡ drawing_of page script
-is-drawing page script standing picture s e = e ∙ ap (drawing page) s.stands
+pub draws-stopped : (drawn : List ℕ) (script : Script) (fault : DebugFault) → Stopped script fault → Writes drawn script (Err fault) []
+draws-stopped drawn script OutOfMemory s = refl
+draws-stopped drawn script ReadFault s = refl
+draws-stopped drawn script WriteFault s = inl refl
+draws-stopped drawn script (BadLine n) s = (s, refl)
+draws-stopped drawn script (LineTooLong n) s = (s, refl)
+draws-stopped drawn script TooManyLines s = (s, refl)
 
-pub draws-front : (page : Option PageId) (script : Script) (standing : Option Standing) (picture : List ℕ) (n : ℕ) → LeadsTo script standing → picture ≡ drawing page standing
-    → Draws page script (Err WriteFault) (take n picture)
-draws-front page script standing picture n s e =
-    inr (s.whole, (drop n picture, sym (is-drawing page script standing picture s e) ∙ sym (take-append-drop n picture)))
+is-drawing : (draw : Option Standing → List ℕ) (script : Script) (standing : Option Standing) (picture : List ℕ) → LeadsTo script standing → picture ≡ draw standing
+    → picture ≡ drawn_of draw script
+is-drawing draw script standing picture s e = e ∙ ap draw s.stands
 
-pub draws-unflushed : (page : Option PageId) (script : Script) (standing : Option Standing) (picture : List ℕ) → LeadsTo script standing → picture ≡ drawing page standing
-    → Draws page script (Err WriteFault) picture
-draws-unflushed page script standing picture s e = inr (s.whole, ([], sym (is-drawing page script standing picture s e) ∙ sym (append-nil picture)))
+draws-front : (draw : Option Standing → List ℕ) (script : Script) (standing : Option Standing) (picture : List ℕ) (n : ℕ) → LeadsTo script standing → picture ≡ draw standing
+    → Writes (drawn_of draw script) script (Err WriteFault) (take n picture)
+draws-front draw script standing picture n s e =
+    inr (s.whole, (drop n picture, sym (is-drawing draw script standing picture s e) ∙ sym (take-append-drop n picture)))
 
--- ---- the picture is written
+draws-unflushed : (draw : Option Standing → List ℕ) (script : Script) (standing : Option Standing) (picture : List ℕ) → LeadsTo script standing → picture ≡ draw standing
+    → Writes (drawn_of draw script) script (Err WriteFault) picture
+draws-unflushed draw script standing picture s e = inr (s.whole, ([], sym (is-drawing draw script standing picture s e) ∙ sym (append-nil picture)))
 
-pub drawn_whole : (r : Option (List ℕ)) (page : Option PageId) (standing : Option Standing) (picture : List ℕ) (w0 w1 w2 : Option (List ℕ)) (done : Unit {0})
-    → IfSome r (λ bytes. LeadsTo (script_of bytes) standing) → picture ≡ drawing page standing → Appends w0 w1 picture → Keeps w1 w2
-    → IfSome r (λ bytes. (text : List ℕ) × Appends w0 w2 text × Draws page (script_of bytes) (Ok done) text)
-drawn_whole r page standing picture w0 w1 w2 done stands is wrote kept =
-    IfSome-map r (λ bytes. LeadsTo (script_of bytes) standing) (λ bytes. (text : List ℕ) × Appends w0 w2 text × Draws page (script_of bytes) (Ok done) text) stands
-    (λ bytes s. (picture, Appends-kept w0 w1 w2 picture wrote kept, (s.whole, is-drawing page (script_of bytes) standing picture s is)))
+-- ---- it is written
 
-pub drawn_unflushed : (r : Option (List ℕ)) (page : Option PageId) (standing : Option Standing) (picture : List ℕ) (w0 w1 w2 : Option (List ℕ))
-    → IfSome r (λ bytes. LeadsTo (script_of bytes) standing) → picture ≡ drawing page standing → Appends w0 w1 picture → Keeps w1 w2
-    → IfSome r (λ bytes. (text : List ℕ) × Appends w0 w2 text × Draws page (script_of bytes) (Err WriteFault) text)
-drawn_unflushed r page standing picture w0 w1 w2 stands is wrote kept =
-    IfSome-map r (λ bytes. LeadsTo (script_of bytes) standing) (λ bytes. (text : List ℕ) × Appends w0 w2 text × Draws page (script_of bytes) (Err WriteFault) text) stands
-    (λ bytes s. (picture, Appends-kept w0 w1 w2 picture wrote kept, draws-unflushed page (script_of bytes) standing picture s is))
+pub drawn_whole : (r : Option (List ℕ)) (draw : Option Standing → List ℕ) (standing : Option Standing) (picture : List ℕ) (w0 w1 w2 : Option (List ℕ)) (done : Unit {0})
+    → IfSome r (λ bytes. LeadsTo (script_of bytes) standing) → picture ≡ draw standing → Appends w0 w1 picture → Keeps w1 w2
+    → IfSome r (λ bytes. (text : List ℕ) × Appends w0 w2 text × Writes (draw (standing_after None (script_of bytes).lines)) (script_of bytes) (Ok done) text)
+drawn_whole r draw standing picture w0 w1 w2 done stands is wrote kept =
+    IfSome-map r (λ bytes. LeadsTo (script_of bytes) standing)
+    (λ bytes. (text : List ℕ) × Appends w0 w2 text × Writes (draw (standing_after None (script_of bytes).lines)) (script_of bytes) (Ok done) text) stands
+    (λ bytes s. (picture, Appends-kept w0 w1 w2 picture wrote kept, (s.whole, is-drawing draw (script_of bytes) standing picture s is)))
 
-pub drawn_in_front : (r : Option (List ℕ)) (page : Option PageId) (standing : Option Standing) (picture : List ℕ) (w0 w1 : Option (List ℕ)) (n : ℕ)
-    → IfSome r (λ bytes. LeadsTo (script_of bytes) standing) → picture ≡ drawing page standing → Appends w0 w1 (take n picture)
-    → IfSome r (λ bytes. (text : List ℕ) × Appends w0 w1 text × Draws page (script_of bytes) (Err WriteFault) text)
-drawn_in_front r page standing picture w0 w1 n stands is wrote =
-    IfSome-map r (λ bytes. LeadsTo (script_of bytes) standing) (λ bytes. (text : List ℕ) × Appends w0 w1 text × Draws page (script_of bytes) (Err WriteFault) text) stands
-    (λ bytes s. (take n picture, wrote, draws-front page (script_of bytes) standing picture n s is))
+pub drawn_unflushed : (r : Option (List ℕ)) (draw : Option Standing → List ℕ) (standing : Option Standing) (picture : List ℕ) (w0 w1 w2 : Option (List ℕ))
+    → IfSome r (λ bytes. LeadsTo (script_of bytes) standing) → picture ≡ draw standing → Appends w0 w1 picture → Keeps w1 w2
+    → IfSome r (λ bytes. (text : List ℕ) × Appends w0 w2 text × Writes (draw (standing_after None (script_of bytes).lines)) (script_of bytes) (Err WriteFault) text)
+drawn_unflushed r draw standing picture w0 w1 w2 stands is wrote kept =
+    IfSome-map r (λ bytes. LeadsTo (script_of bytes) standing)
+    (λ bytes. (text : List ℕ) × Appends w0 w2 text × Writes (draw (standing_after None (script_of bytes).lines)) (script_of bytes) (Err WriteFault) text) stands
+    (λ bytes s. (picture, Appends-kept w0 w1 w2 picture wrote kept, draws-unflushed draw (script_of bytes) standing picture s is))
+
+pub drawn_in_front : (r : Option (List ℕ)) (draw : Option Standing → List ℕ) (standing : Option Standing) (picture : List ℕ) (w0 w1 : Option (List ℕ)) (n : ℕ)
+    → IfSome r (λ bytes. LeadsTo (script_of bytes) standing) → picture ≡ draw standing → Appends w0 w1 (take n picture)
+    → IfSome r (λ bytes. (text : List ℕ) × Appends w0 w1 text × Writes (draw (standing_after None (script_of bytes).lines)) (script_of bytes) (Err WriteFault) text)
+drawn_in_front r draw standing picture w0 w1 n stands is wrote =
+    IfSome-map r (λ bytes. LeadsTo (script_of bytes) standing)
+    (λ bytes. (text : List ℕ) × Appends w0 w1 text × Writes (draw (standing_after None (script_of bytes).lines)) (script_of bytes) (Err WriteFault) text) stands
+    (λ bytes s. (take n picture, wrote, draws-front draw (script_of bytes) standing picture n s is))

@@ -22,19 +22,23 @@ drawing_of page script = drawing page (standing_after None script.lines)
 abbrev pub IsFaultOf : Script → DebugFault → List ℕ → Type 0
 IsFaultOf script fault text = (script.fault ≡ Some fault) × (text ≡ [])
 
--- a front of the picture of a script without a fault, or nothing
-abbrev pub IsFrontOf : Option PageId → Script → List ℕ → Type 0
-IsFrontOf page script text = (text ≡ []) ⊎ ((script.fault ≡ None) × ((rest : List ℕ) × (drawing_of page script ≡ text ++ rest)))
+-- a front of what is drawn of a script without a fault, or nothing
+abbrev pub IsFrontOf : List ℕ → Script → List ℕ → Type 0
+IsFrontOf drawn script text = (text ≡ []) ⊎ ((script.fault ≡ None) × ((rest : List ℕ) × (drawn ≡ text ++ rest)))
 
--- Where the script has no fault its picture is written; a front of it, where writing fails; otherwise nothing is.
+-- Where the script has no fault, what is drawn of it is written; a front of it, where writing fails; otherwise nothing is.
+abbrev pub Writes : List ℕ → Script → Result (Unit {0}) DebugFault → List ℕ → Type 0
+Writes drawn script (Ok _) text = (script.fault ≡ None) × (text ≡ drawn)
+Writes drawn script (Err OutOfMemory) text = text ≡ []
+Writes drawn script (Err ReadFault) text = text ≡ []
+Writes drawn script (Err WriteFault) text = IsFrontOf drawn script text
+Writes drawn script (Err (BadLine number)) text = IsFaultOf script (BadLine number) text
+Writes drawn script (Err (LineTooLong number)) text = IsFaultOf script (LineTooLong number) text
+Writes drawn script (Err TooManyLines) text = IsFaultOf script TooManyLines text
+
+-- so its picture
 abbrev pub Draws : Option PageId → Script → Result (Unit {0}) DebugFault → List ℕ → Type 0
-Draws page script (Ok _) text = (script.fault ≡ None) × (text ≡ drawing_of page script)
-Draws page script (Err OutOfMemory) text = text ≡ []
-Draws page script (Err ReadFault) text = text ≡ []
-Draws page script (Err WriteFault) text = IsFrontOf page script text
-Draws page script (Err (BadLine number)) text = IsFaultOf script (BadLine number) text
-Draws page script (Err (LineTooLong number)) text = IsFaultOf script (LineTooLong number) text
-Draws page script (Err TooManyLines) text = IsFaultOf script TooManyLines text
+Draws page script = Writes (drawing_of page script) script
 
 -- what stands began as a world may
 abbrev pub BeganRight : Option Standing → Type 0

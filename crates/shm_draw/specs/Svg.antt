@@ -1,5 +1,5 @@
 -- The text of a picture (W3C, Scalable Vector Graphics 1.1): shapes and texts at places that are counted in sites and in events.
-use Rattle.std.specs.Prelude.{ℕ, ◌+◌, ◌-◌, ◌*◌, ◌==◌, Bool, true, false, if◌then◌else◌, nat_lt, List, [], ◌∷◌, ◌++◌, codes, length, Option, Some, None}
+use Rattle.std.specs.Prelude.{ℕ, ◌+◌, ◌-◌, ◌*◌, ◌/◌, ◌==◌, Bool, true, false, if◌then◌else◌, nat_lt, List, [], ◌∷◌, ◌++◌, codes, length, Option, Some, None}
 use Rattle.std.specs.Fmt.{decimal}
 use Rattle.std.specs.List.{flat_map, list_any, range_with_len}
 use Rattle.shm_place.specs.declared.page.PageId.{PageId}
@@ -48,9 +48,10 @@ tip_of from to HandedOver = x_of to
 tip_of from to Repeated = x_of to
 tip_of from to OnItsWay = x_of to
 
--- how far a bow goes out from its lifeline: the longer the further, so that one within another stays within
+-- how far a bow goes out from its lifeline: the longer the further, so that one within another stays within; but never past the room right
+-- of the last lifeline, where its answer stands too
 abbrev pub reach_of : ℕ → ℕ → ℕ
-reach_of origin row = 24 + 11 * (row - origin)
+reach_of origin row = let rows = row - origin in 24 + (132 * rows) / (rows + 11)
 
 -- ---- lifelines
 

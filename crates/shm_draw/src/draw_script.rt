@@ -59,8 +59,9 @@ pub fn draw<A: Allocator + Copy, R: Read, W: Write>(
     }
 }
 
-/// Reads the script, block by block. Its answers are not kept.
-fn read_script<A: Allocator + Copy, R: Read>(
+/// Reads a whole script, block by block; its answers are not kept. The player is at its end. It reads up to the script's end or to its first
+/// fault, and a little further.
+pub fn read_script<A: Allocator + Copy, R: Read>(
     alloc: A,
     reader: &mut R,
 ) -> Result<Player<A>, DebugFault>

@@ -14,7 +14,7 @@ use std::alloc::{AllocError, Allocator};
 
 /// The page that was asked for; or all that the events touch, in the order in which they are first touched; or, where they touch none, the
 /// first page of segment 0.
-pub(crate) fn pages_drawn<A: Allocator + Copy>(
+pub fn pages_drawn<A: Allocator + Copy>(
     alloc: A,
     world: &World<A>,
     events: &[Event],

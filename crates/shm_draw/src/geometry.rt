@@ -24,7 +24,8 @@ pub(crate) fn y_of(row: u64) -> u128
 pub(crate) fn reach_of(origin: u64, row: u64) -> u128
     ensures { result ≡ Svg.reach_of origin row }
 {
-    24 + 11 * row.saturating_sub(origin) as u128
+    let rows = row.saturating_sub(origin) as u128;
+    24 + 132 * rows / (rows + 11)
 }
 
 /// Where the arrow ends: at its receiver's lifeline, or halfway where the envelope is lost.

@@ -21,7 +21,8 @@ mod right_margin;
 mod style;
 mod ways;
 
-pub use draw_script::draw;
+pub use draw_script::{draw, read_script};
+pub use drawn_pages::pages_drawn;
 pub use mark::{End, Mark, Symbol, Way};
 pub use message_word::Word;
 pub use picture::picture_of;

@@ -45,8 +45,11 @@ prompt_app = new_app (codes "prompt")
 abbrev pub page_rule : Rule
 page_rule = record (new_rule (codes "page")) { long = Some (codes "page"); action = Some Set; value_names = 2; parser = Some (Signed (pos 0) (pos 4294967295)) }
 
+abbrev pub steps_rule : Rule
+steps_rule = flag_rule (codes "steps")
+
 abbrev pub draw_app : App
-draw_app = with_rule (with_rule (new_app (codes "draw")) page_rule) file_rule
+draw_app = with_rule (with_rule (with_rule (new_app (codes "draw")) page_rule) steps_rule) file_rule
 
 abbrev pub me_rule : Rule
 me_rule = number_rule (codes "me") (Signed (pos 0) (pos 15))

@@ -35,16 +35,16 @@ ReplaysFrom None status old new = IfSome old.remaining (λ script. Replays (scri
 ReplaysFrom (Some file) status old new = (new.remaining ≡ old.remaining) × ReplaysFile status old.contents new.contents
 
 -- so what it leaves was drawn
-abbrev pub PicturesFrom : {F : Type 0} → Option F → Option PageId → ℕ → Around → Around → Type 0
-PicturesFrom None page status old new = IfSome old.remaining (λ script. Pictures page (script_of script) status old.contents new.contents)
-PicturesFrom (Some file) page status old new = (new.remaining ≡ old.remaining) × PicturesFile page status old.contents new.contents
+abbrev pub PicturesFrom : {F : Type 0} → Option F → Bool → Option PageId → ℕ → Around → Around → Type 0
+PicturesFrom None steps page status old new = IfSome old.remaining (λ script. Pictures steps page (script_of script) status old.contents new.contents)
+PicturesFrom (Some file) steps page status old new = (new.remaining ≡ old.remaining) × PicturesFile steps page status old.contents new.contents
 
 -- this was done, to an end of this status
 abbrev pub Does : Task → ℕ → Around → Around → Type 0
 Does (Replay file) status old new = ReplaysFrom file status old new
 Does (Run sites seed summary log) status old new = Runs sites summary status old new
 Does Prompt status old new = (status ≡ 0) ⊎ (status ≡ 3)
-Does (Draw page file) status old new = PicturesFrom file page status old new
+Does (Draw page steps file) status old new = PicturesFrom file steps page status old new
 Does (Site sites me pages journal begins) status old new = IsSite (option_map (λ file. begins) journal) (header_at sites me pages) status old new
 Does (Audit sites journals) status old new = Audits (length journals.items) sites status old new
 Does (Journal file) status old new = Summarizes status old.contents new.contents

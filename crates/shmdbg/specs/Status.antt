@@ -1,5 +1,5 @@
 -- Exit statuses, and what each tells of the script on standard input and of the text on standard output.
-use Rattle.std.specs.Prelude.{◌≡◌, ◌≢◌, ◌⊎◌, ℕ, Bool, true, List, [], codes, IfSome, Option, Some, Result, Ok, Err}
+use Rattle.std.specs.Prelude.{◌≡◌, ◌≢◌, ◌⊎◌, ℕ, Bool, false, true, List, [], codes, IfSome, Option, Some, Result, Ok, Err}
 use Rattle.std.specs.Io.KnownBytes.{Appends}
 use Rattle.clap.specs.Words.{Text}
 use Rattle.shm_debug.specs.Script.{Script, script_of}
@@ -9,6 +9,7 @@ use Rattle.shm_draw.specs.Drawn.{Draws}
 use Rattle.shm_place.specs.declared.page.PageId.{PageId}
 use Rattle.shm_debug.specs.declared.outcome.DebugFault.{DebugFault}
 use Rattle.shm_debug.specs.declared.outcome.DebugFault.TheVariants.{OutOfMemory, BadLine, LineTooLong, TooManyLines, ReadFault, WriteFault}
+use Rattle.shm_steps.specs.Stepped.{TellsSteps}
 use Rattle.shm_report.specs.Audited.{TellsRun}
 use Rattle.shm_report.specs.declared.audited.Audited.{Audited}
 use Rattle.shm_report.specs.Causes.{audit_cause, input_cause, is_after_reading, IsFound, IsRight, IsWrongBy}
@@ -69,14 +70,19 @@ abbrev pub drawn_status : Result (Unit {0}) DebugFault → ℕ
 drawn_status (Ok _) = 0
 drawn_status (Err fault) = fault_status fault
 
+-- the script's picture, or its steps, to this end
+abbrev pub DrawsAs : Bool → Option PageId → Script → Result (Unit {0}) DebugFault → List ℕ → Type 0
+DrawsAs false page = Draws page
+DrawsAs true page = TellsSteps page
+
 -- what the script leaves was drawn to an end of this status, and what was then written is what such an end writes
-abbrev pub Pictures : Option PageId → Script → ℕ → Option (List ℕ) → Option (List ℕ) → Type 0
-Pictures page script status old new =
-    (end : Result (Unit {0}) DebugFault) × (text : List ℕ) × (status ≡ drawn_status end) × Appends old new text × Draws page script end text
+abbrev pub Pictures : Bool → Option PageId → Script → ℕ → Option (List ℕ) → Option (List ℕ) → Type 0
+Pictures steps page script status old new =
+    (end : Result (Unit {0}) DebugFault) × (text : List ℕ) × (status ≡ drawn_status end) × Appends old new text × DrawsAs steps page script end text
 
 -- so a script that lies in a file; or there was none to be read, and nothing was written
-abbrev pub PicturesFile : Option PageId → ℕ → Option (List ℕ) → Option (List ℕ) → Type 0
-PicturesFile page status old new = ((bytes : List ℕ) × Pictures page (script_of bytes) status old new) ⊎ ((status ≡ 3) × (new ≡ old))
+abbrev pub PicturesFile : Bool → Option PageId → ℕ → Option (List ℕ) → Option (List ℕ) → Type 0
+PicturesFile steps page status old new = ((bytes : List ℕ) × Pictures steps page (script_of bytes) status old new) ⊎ ((status ≡ 3) × (new ≡ old))
 
 -- a workload was run over so many sites, and what was then written is the report of it, with a summary or without
 abbrev pub Reports : ℕ → Bool → Option (List ℕ) → Option (List ℕ) → Option (List ℕ) → Type 0

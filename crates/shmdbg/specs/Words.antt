@@ -24,7 +24,7 @@ abbrev pub name_of : Task → Text
 name_of (Replay file) = codes "replay"
 name_of (Run sites seed summary log) = codes "run"
 name_of Prompt = codes "prompt"
-name_of (Draw page file) = codes "draw"
+name_of (Draw page steps file) = codes "draw"
 name_of (Site sites me pages journal begins) = codes "site"
 name_of (Audit sites journals) = codes "audit"
 name_of (Journal file) = codes "journal"
@@ -71,7 +71,8 @@ HasOptions rows (Run sites seed summary log) =
     (number_at (codes "sites") rows ≡ Some sites) × (number_at (codes "seed") rows ≡ Some seed) × (is_set_at (codes "summary") rows ≡ summary)
     × (first_of (codes "log") rows ≡ option_map (λ folder. folder.now) log)
 HasOptions rows Prompt = Unit {0}
-HasOptions rows (Draw page file) = (page ≡ page_at rows) × (first_of (codes "file") rows ≡ option_map (λ script. script.now) file)
+HasOptions rows (Draw page steps file) =
+    (page ≡ page_at rows) × (is_set_at (codes "steps") rows ≡ steps) × (first_of (codes "file") rows ≡ option_map (λ script. script.now) file)
 HasOptions rows (Site sites me pages journal begins) =
     (number_at (codes "sites") rows ≡ Some sites) × (number_at (codes "me") rows ≡ Some me) × (number_at (codes "preset") rows ≡ Some pages)
     × HasPages pages × (first_of (codes "journal") rows ≡ option_map (λ file. file.now) journal) × (is_set_at (codes "new") rows ≡ begins)

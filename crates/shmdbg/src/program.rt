@@ -1,10 +1,11 @@
 ghost use Rattle.std.specs.Prelude.{◌≡◌, ◌≢◌, ◌≤◌, ◌<◌, ◌⊎◌, ℕ, List, [], ◌∷◌, codes, map, option_map, true, IfSome};
+ghost use Rattle.std.specs.Io.KnownBytes.{Appends};
 ghost use Rattle.shm_debug.specs.Script.{script_of};
 ghost use Rattle.shmdbg.specs.Around.{streams};
 ghost use Rattle.shmdbg.specs.Begun.{header_at};
 ghost use Rattle.shmdbg.specs.Done.{Does, IsDone, IsUnrun, PicturesFrom, ReplaysFrom, has_audit};
 ghost use Rattle.shmdbg.specs.Served.{site_status, IsSite};
-ghost use Rattle.shmdbg.specs.Status.{AsksForAudit, Pictures, PicturesFile, Replays, ReplaysFile, Reports, Takes};
+ghost use Rattle.shmdbg.specs.Status.{AsksForAudit, DrawsAs, Pictures, PicturesFile, Replays, ReplaysFile, Reports, Takes};
 ghost use Rattle.shmdbg.specs.Words.{IsOneOfSites};
 
 use crate::audit::audit;
@@ -20,16 +21,24 @@ use crate::site_fault::SiteFault;
 use crate::source::Recalls;
 use crate::tell;
 use crate::words::{Task, parse_words};
-use shm_debug::replay;
+use shm_debug::{DebugFault, replay};
 use shm_draw::draw;
 use shm_place::{PAGES, PageId, SiteId, Sites};
 use shm_prompt::prompt;
+use shm_steps::draw_steps;
 use std::alloc::Global;
 use std::convert::AsStr;
 use std::io::{Read, Write};
 use std::rt::{Clock, Files};
 use std::sync::Wait;
 use std::thread::Threads;
+
+/// What is drawn of a script: this page, or each page that it touches; as a picture, or with all steps.
+#[derive(Clone, Copy)]
+struct Drawing {
+    page: Option<PageId>,
+    steps: bool,
+}
 
 /// Does what the words ask for, and answers the exit status: 0 done; 1 the script has a fault; 2 the words were refused; 3 memory, reading
 /// or writing failed, or a file couldn't be opened, or a site's clock ended, or there was no thread, or another process has the journal; 4
@@ -91,7 +100,10 @@ where
             run(rt, sites, seed, &wanted, reader, out, errors)
         }
         Task::Prompt => talk(rt, reader, out, errors),
-        Task::Draw { page, file } => picture_from(rt, page, file, reader, out, errors),
+        Task::Draw { page, steps, file } => {
+            let wanted = Drawing { page, steps };
+            picture_from(rt, wanted, file, reader, out, errors)
+        }
         Task::Site {
             sites,
             me,
@@ -174,7 +186,7 @@ fn replay_script<R: AllocGlobal, I: Read + Recalls, O: Write, E: Write>(
 /// Draws what the script of a file leaves, if one is named, or else the one on the input, and answers the exit status.
 fn picture_from<R: AllocGlobal + Files, I: Read + Recalls, O: Write, E: Write>(
     rt: &R,
-    page: Option<PageId>,
+    wanted: Drawing,
     file: Option<&str>,
     reader: &mut I,
     out: &mut O,
@@ -182,29 +194,29 @@ fn picture_from<R: AllocGlobal + Files, I: Read + Recalls, O: Write, E: Write>(
 ) -> u8
     ensures range { result < 4 }
     ensures taken { result ≢ 2 }
-    ensures drawn { PicturesFrom file.entry page result
+    ensures drawn { PicturesFrom file.entry wanted.steps wanted.page result
         (streams (I.remaining reader.old) (O.contents out.old)) (streams (I.remaining reader.new) (O.contents out.new)) }
 {
     match file {
-        Some(name) => picture_file(rt, page, name, out, errors),
-        None => picture(rt, page, reader, out, errors),
+        Some(name) => picture_file(rt, wanted, name, out, errors),
+        None => picture(rt, wanted, reader, out, errors),
     }
 }
 
 /// Draws what the script of the file of this name leaves, and answers the exit status.
 fn picture_file<R: AllocGlobal + Files, O: Write, E: Write>(
     rt: &R,
-    page: Option<PageId>,
+    wanted: Drawing,
     name: &str,
     out: &mut O,
     errors: &mut E,
 ) -> u8
     ensures range { result < 4 }
     ensures taken { result ≢ 2 }
-    ensures drawn { PicturesFile page result (O.contents out.old) (O.contents out.new) }
+    ensures drawn { PicturesFile wanted.steps wanted.page result (O.contents out.old) (O.contents out.new) }
 {
     match read_script_file(rt, name) {
-        Ok(script) => picture_whole(rt.alloc(), page, script.as_slice(), out, errors),
+        Ok(script) => picture_whole(rt.alloc(), wanted, script.as_slice(), out, errors),
         Err(fault) => tell::script_file_fault(fault, name, errors),
     }
 }
@@ -212,17 +224,17 @@ fn picture_file<R: AllocGlobal + Files, O: Write, E: Write>(
 /// Draws what a script leaves that was read whole, and answers the exit status.
 fn picture_whole<O: Write, E: Write>(
     alloc: Global,
-    page: Option<PageId>,
+    wanted: Drawing,
     script: &[u8],
     out: &mut O,
     errors: &mut E,
 ) -> u8
     ensures range { result < 4 }
     ensures taken { result ≢ 2 }
-    ensures drawn { Pictures page (script_of script.now) result (O.contents out.old) (O.contents out.new) }
+    ensures drawn { Pictures wanted.steps wanted.page (script_of script.now) result (O.contents out.old) (O.contents out.new) }
 {
     let mut rest = script;
-    match draw(alloc, &mut rest, out, page) {
+    match draw_as(alloc, wanted, &mut rest, out) {
         Ok(()) => 0,
         Err(undrawn) => script_fault(undrawn, &WholeScript { bytes: script }, errors),
     }
@@ -231,7 +243,7 @@ fn picture_whole<O: Write, E: Write>(
 /// Draws what the script on the input leaves, and answers the exit status.
 fn picture<R: AllocGlobal, I: Read + Recalls, O: Write, E: Write>(
     rt: &R,
-    page: Option<PageId>,
+    wanted: Drawing,
     reader: &mut I,
     out: &mut O,
     errors: &mut E,
@@ -239,12 +251,28 @@ fn picture<R: AllocGlobal, I: Read + Recalls, O: Write, E: Write>(
     ensures range { result < 4 }
     ensures taken { result ≢ 2 }
     ensures drawn { IfSome (I.remaining reader.old) (λ bytes.
-        Pictures page (script_of bytes) result (O.contents out.old) (O.contents out.new)) }
+        Pictures wanted.steps wanted.page (script_of bytes) result (O.contents out.old) (O.contents out.new)) }
 {
-    match draw(rt.alloc(), reader, out, page) {
+    match draw_as(rt.alloc(), wanted, reader, out) {
         Ok(()) => 0,
         Err(undrawn) => script_fault(undrawn, reader, errors),
     }
+}
+
+/// Draws what the script on the reader leaves: its picture, or its steps.
+fn draw_as<R: Read, W: Write>(
+    alloc: Global,
+    wanted: Drawing,
+    reader: &mut R,
+    out: &mut W,
+) -> Result<(), DebugFault>
+    ensures { IfSome (R.remaining reader.old) (λ bytes. (text : List ℕ) × Appends (W.contents out.old) (W.contents out.new) text
+        × DrawsAs wanted.steps wanted.page (script_of bytes) result text) }
+{
+    if wanted.steps {
+        return draw_steps(alloc, reader, out, wanted.page);
+    }
+    draw(alloc, reader, out, wanted.page)
 }
 
 /// Answers what is typed, and answers the exit status.

@@ -8,10 +8,7 @@ use shm_place::{MAX_SITES, SiteId, SiteSet};
 use std::alloc::{AllocError, Allocator};
 
 /// Tells the sites of the set, rising, with commas between them; or a dash.
-pub(crate) fn tell_copies<A: Allocator>(
-    out: &mut String<A>,
-    copies: SiteSet,
-) -> Result<(), AllocError>
+pub fn tell_copies<A: Allocator>(out: &mut String<A>, copies: SiteSet) -> Result<(), AllocError>
     ensures { OnOk result (string_bytes out.new ≡ string_bytes out.old ++ copies_text (has copies)) }
 {
     let mut some = false;

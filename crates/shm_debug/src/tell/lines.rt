@@ -47,7 +47,7 @@ pub fn tell_page_line<A: Allocator + Copy>(
 }
 
 /// Appends the line of an event. Where memory is refused a part of it may stand.
-pub(crate) fn write_answer<A: Allocator + Copy>(
+pub fn write_answer<A: Allocator + Copy>(
     out: &mut String<A>,
     line: u64,
     answer: &Answer,

@@ -72,7 +72,7 @@ fn tell_state<A: Allocator>(
 }
 
 /// Tells the manager's book, or that the manager has purged the segment. `shown` is what the manager shows of the page.
-fn tell_manager<A: Allocator>(
+pub fn tell_manager<A: Allocator>(
     out: &mut String<A>,
     page: PageId,
     shown: Option<Shown>,

@@ -41,7 +41,7 @@ const BODY: &str = "\
 <use href='#Untouched' x='380' y='254'/>\n\
 <use href='#Request' x='380' y='254'/>\n\
 <path class='fly' d='M380 100L270 276'/>\n\
-<path class='fly' d='M270 210C338 210 338 298 270 298'/>\n\
+<path class='fly' d='M270 210C329 210 329 298 270 298'/>\n\
 <path class='fly' d='M380 254L270 320'/>\n\
 <text class='h' x='8' y='70'>page 0 of segment 0</text>\n\
 <text class='s' x='270' y='70'>site 0</text>\n\
@@ -63,7 +63,7 @@ const BODY: &str = "\
 <text class='l' x='8' y='254' dy='4'>9 load 1 0 0</text>\n\
 <text class='t' x='380' y='254' dy='4' dx='10'> fault</text>\n\
 <text class='m' x='270' y='276' dy='4' dx='-12' text-anchor='end'>m0 Ask</text><text class='t' x='294' y='276' dy='4'></text>\n\
-<text class='m' x='270' y='298' dy='4' dx='-12' text-anchor='end'>m3 Hand</text><text class='t' x='338' y='298' dy='4'></text>\n\
+<text class='m' x='270' y='298' dy='4' dx='-12' text-anchor='end'>m3 Hand</text><text class='t' x='329' y='298' dy='4'></text>\n\
 <text class='m' x='270' y='320' dy='4' dx='-12' text-anchor='end'>m4 Ask</text><text class='t' x='294' y='320' dy='4'></text>\n\
 </g>\n\
 </svg>\n";

@@ -76,6 +76,7 @@ fn draw_command<'a>(alloc: Global) -> Result<Command<'a>, AllocError>
         .about("Draw the run that a script leaves, of a file or of standard input")
         .after_help(help::DRAW)
         .arg(page_arg(alloc))?
+        .arg(steps_arg(alloc))?
         .arg(file_arg(alloc))
 }
 
@@ -176,6 +177,16 @@ fn page_arg<'a>(alloc: Global) -> Arg<'a>
         .help("The page to show, by its segment and its index")
         .action(ArgAction::Set)
         .value_parser(value_parser!(u32))
+}
+
+fn steps_arg<'a>(alloc: Global) -> Arg<'a>
+    ensures rule { rule_of result ≡ spec.steps_rule }
+    ensures local { result.global ≡ false }
+{
+    Arg::new(alloc, "steps")
+        .long("steps")
+        .help("Write a page for a browser, with the picture and each step's tables")
+        .action(ArgAction::SetTrue)
 }
 
 fn file_arg<'a>(alloc: Global) -> Arg<'a>

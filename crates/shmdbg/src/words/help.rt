@@ -191,7 +191,12 @@ an envelope was sent to where it was handed over.
 A picture is of one page, and has what is about this page, or about none. With
 --page it is that page; without, each page that the run touches has its own, one
 below the other, in the order in which they are first touched.
-  $ printf 'sites 2 preset 1\\nload 1 0 0\\ndeliver 0\\n' | shmdbg draw > run.svg
+With --steps it is one file for a browser (HTML), which needs no network: the
+picture, and for each event what each site has of the page, its manager's book,
+what each site waits for and what is on its way. Arrow keys go step by step.
+  $ printf 'sites 2 preset 1\\nload 1 0 0\\ndeliver 0\\n' > my.shm
+  $ shmdbg draw my.shm > run.svg
+  $ shmdbg draw --steps my.shm > run.html
 Exit status: 0 done, 1 the script has a fault, and nothing is written, 2 these
 words were refused, 3 memory, reading or writing failed, or the file can't be
 opened.";

@@ -59,15 +59,21 @@ pub(crate) fn draw_task<'a>(found: &ArgMatches<'a>) -> Option<Task<'a>>
     ensures { IfSome result (λ task. IsAsked (codes "draw") (rows_of (found_of found.now)) task) }
 {
     let file = found.get_str("file");
+    let steps = is_set(found, "steps");
     match found.get_raw("page") {
         Some(values) => {
             let page = page_of(values)?;
             Some(Task::Draw {
                 page: Some(page),
+                steps,
                 file,
             })
         }
-        None => Some(Task::Draw { page: None, file }),
+        None => Some(Task::Draw {
+            page: None,
+            steps,
+            file,
+        }),
     }
 }
 

@@ -18,9 +18,10 @@ pub enum Task<'a> {
     /// Answer what is typed, line by line.
     Prompt,
     /// Draw the run that a script leaves, which lies in a file, or else stands on standard input: what is about this page, or each page that
-    /// it touches.
+    /// it touches. As a picture, or with all steps as a page for a browser.
     Draw {
         page: Option<PageId>,
+        steps: bool,
         file: Option<&'a str>,
     },
     /// Run this site of `sites`, where segment 0 has this number of pages, on the lines of standard input. Keep its journal in a file, if

@@ -12,7 +12,7 @@ returns-in_ok-page-in-Some c =
     sym (raw_values-rows (found_of c.args.found.now) (codes "page")) ∙ (sym c.get_raw.ensures ∙ ap (option_map (λ s. map (λ v. v.now) s.now)) c.in-Some.is) in
     let named : first_of (codes "file") (rows_of (found_of c.args.found.now)) ≡ option_map (λ s. s.now) c.get_str-file.result =
     sym (first_value-rows (found_of c.args.found.now) (codes "file")) ∙ sym c.get_str-file.ensures in
-    record { called = refl; options = (sym (ap (option_and_then page_named) e ∙ c.in_ok-page-in-Some.ensures), named) }
+    record { called = refl; options = (sym (ap (option_and_then page_named) e ∙ c.in_ok-page-in-Some.ensures), sym c.is_set-steps.ensures, named) }
 
 pub returns-in-None : goal.returns-in-None
 returns-in-None c =
@@ -20,4 +20,4 @@ returns-in-None c =
     sym (raw_values-rows (found_of c.args.found.now) (codes "page")) ∙ (sym c.get_raw.ensures ∙ ap (option_map (λ s. map (λ v. v.now) s.now)) c.in-None.is) in
     let named : first_of (codes "file") (rows_of (found_of c.args.found.now)) ≡ option_map (λ s. s.now) c.get_str-file.result =
     sym (first_value-rows (found_of c.args.found.now) (codes "file")) ∙ sym c.get_str-file.ensures in
-    record { called = refl; options = (sym (ap (option_and_then page_named) e), named) }
+    record { called = refl; options = (sym (ap (option_and_then page_named) e), sym c.is_set-steps.ensures, named) }
