@@ -1,3 +1,4 @@
+pub mod InARow
 pub mod Kept
 pub mod Stepping
 pub mod Told
