@@ -1,13 +1,11 @@
 //! The manager's book of a page: what `show` tells of it, who has answered a Clear, and who waits for a turn.
-ghost use Rattle.std.specs.Prelude.{◌≡◌, ◌++◌, IfSome, OnOk, is_some, option_map, string_bytes};
+ghost use Rattle.std.specs.Prelude.{◌≡◌, ◌++◌, IfSome, OnOk, is_some, option_map, slice_get, string_bytes};
 ghost use Rattle.shm_manager.specs.Queue.{waiting_from};
 ghost use Rattle.shm_model.specs.Book.{Book};
 ghost use Rattle.shm_model.specs.World as model;
 ghost use Rattle.shm_place.specs.SiteSet.{has};
 ghost use Rattle.shm_site.specs.Site.{site_of};
 ghost use Rattle.shm_world.specs.World.{StandsFor};
-ghost use Rattle.std.specs.Prelude.{slice_get, Option};
-ghost use Rattle.shm_model.specs.Book.{Waiting};
 ghost use Rattle.shm_place.specs.Page as Place;
 ghost use Rattle.shm_steps.specs.Section;
 

@@ -1,9 +1,8 @@
 //! The envelopes that are on their way.
-ghost use Rattle.std.specs.Prelude.{◌≡◌, ◌++◌, OnOk, string_bytes};
+ghost use Rattle.std.specs.Prelude.{◌≡◌, ◌++◌, Some, OnOk, string_bytes};
 ghost use Rattle.shm_model.specs.World as model;
 ghost use Rattle.shm_parts.specs.Message.{book_note_of, entry_note_of, envelope_of, message_of, note_of};
 ghost use Rattle.shm_world.specs.World.{StandsFor};
-ghost use Rattle.std.specs.Prelude.{Some};
 ghost use Rattle.shm_steps.specs.Section;
 
 use crate::books::kind_name;

@@ -2,7 +2,6 @@
 ghost use Rattle.std.specs.Prelude.{◌≡◌, ◌++◌, OnOk, slice_get, string_bytes};
 ghost use Rattle.std.specs.List.{flat_map};
 ghost use Rattle.shm_attach.specs.CallBook.{outstanding_of};
-ghost use Rattle.shm_model.specs.Calls.{Outstanding};
 ghost use Rattle.shm_model.specs.World as model;
 ghost use Rattle.shm_parts.specs.Pendings.{pendings_of};
 ghost use Rattle.shm_site.specs.Site.{site_of};
