@@ -98,6 +98,7 @@ Obeyed old command.Undo new text text' = (new ≡ next old (line.Back 1)) × (te
 Obeyed old (command.Run most) new text text' = Runs most old new text text'
 Obeyed old command.Flight new text text' = (new ≡ old) × TellsOfStanding old text text'
 Obeyed old command.Sites new text text' = (new ≡ old) × TellsOfStanding old text text'
+Obeyed old (command.Book page) new text text' = (new ≡ old) × TellsOfStanding old text text'
 Obeyed old command.Segments new text text' = (new ≡ old) × TellsOfStanding old text text'
 Obeyed old command.Help new text text' = (new ≡ old) × (text' ≡ text ++ HELP.now)
 Obeyed old command.Save new text text' = (new ≡ old) × TellsMore text text'

@@ -3,6 +3,7 @@ ghost use Rattle.std.specs.Prelude.{◌≡◌, IfSome};
 ghost use Rattle.shm_prompt.specs.Command as said;
 
 use shm_lines::{Line, Words, laws, parse_line};
+use shm_place::{PageId, SegId};
 
 /// The most envelopes that `run` delivers without a number.
 const MOST_BY_DEFAULT: u32 = 10_000;
@@ -16,6 +17,8 @@ pub enum Command {
     Flight,
     /// Shows what each site has of each page, and the managers' books.
     Sites,
+    /// Shows what each site has of this page, its manager's book, and who waits for it.
+    Book(PageId),
     /// Lists the segments.
     Segments,
     /// Delivers the oldest envelope, again and again, at most so often.
@@ -67,7 +70,37 @@ fn other(bytes: &[u8], verb: &[u8], words: Words<'_>) -> Option<Command>
     if verb == b"quit".as_slice() {
         return alone(Command::Quit, words);
     }
+    short(bytes, verb, words)
+}
+
+/// The shorter words for `help` and `quit`, a page's book, or a line of a script.
+fn short(bytes: &[u8], verb: &[u8], words: Words<'_>) -> Option<Command>
+    ensures command { result ≡ said.short_by bytes.now verb.now words.entry }
+    ensures is_line { IfSome result said.IsCommand }
+{
+    if verb == b"?".as_slice() {
+        return alone(Command::Help, words);
+    }
+    if verb == b"exit".as_slice() {
+        return alone(Command::Quit, words);
+    }
+    if verb == b"book".as_slice() {
+        return book(words);
+    }
     script_command(bytes)
+}
+
+fn book(words: Words<'_>) -> Option<Command>
+    ensures command { result ≡ said.book_of words.entry }
+    ensures is_line { IfSome result said.IsCommand }
+{
+    let (seg, words) = words.number()?;
+    let (index, words) = words.number()?;
+    let page = PageId {
+        seg: SegId(seg),
+        index,
+    };
+    alone(Command::Book(page), words)
 }
 
 /// The command, if no word is left.

@@ -11,13 +11,14 @@ use crate::dialog_act::NOT_BEGUN;
 use crate::flight::list_flight;
 use crate::help::HELP;
 use crate::hints::tell_hint;
-use crate::pages_table::show_pages;
+use crate::pages_table::{show_book, show_pages};
 use crate::save_file::SaveFile;
 use crate::save_refusal::SaveRefusal;
 use crate::save_script::saved_script;
 use crate::segments::list_segments;
 use shm_debug::Session;
 use shm_lines::{Line, Words};
+use shm_place::PageId;
 use std::alloc::{AllocError, Allocator};
 
 impl<A: Allocator + Copy> Dialog<A> {
@@ -71,6 +72,7 @@ impl<A: Allocator + Copy> Dialog<A> {
             Command::Quit => Ok(()),
             Command::Flight => self.show(View::Flight, out),
             Command::Sites => self.show(View::Pages, out),
+            Command::Book(page) => self.show(View::Book(page), out),
             Command::Segments => self.show(View::Segments, out),
         }
     }
@@ -126,6 +128,7 @@ fn ends(command: &Command) -> bool
 enum View {
     Flight,
     Pages,
+    Book(PageId),
     Segments,
 }
 
@@ -172,6 +175,7 @@ fn show_view<A: Allocator + Copy>(
     match view {
         View::Flight => list_flight(&mut text, session.world())?,
         View::Pages => show_pages(&mut text, session.world())?,
+        View::Book(page) => show_book(&mut text, session.world(), page)?,
         View::Segments => list_segments(&mut text, session.world())?,
     }
     out.extend_from_slice(text.as_bytes())

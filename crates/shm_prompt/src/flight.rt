@@ -110,7 +110,7 @@ fn name_page<A: Allocator + Copy>(text: &mut String<A>, page: PageId) -> Result<
     write!(text, " page {seg} {index}")
 }
 
-fn verb_of(kind: Kind) -> &'static str {
+pub(crate) fn verb_of(kind: Kind) -> &'static str {
     match kind {
         Kind::Read => "read",
         Kind::Write => "write",

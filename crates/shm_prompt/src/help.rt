@@ -3,13 +3,14 @@
 /// The text of `help`.
 pub(crate) const HELP: &str = "\
 flight                         the envelopes on their way
-sites                          what each site has of each page, and the managers' books
+sites                          what each site has of each page, and the managers' books, and who waits
+book 0 1                       the same of page 1 of segment 0, and who waits for it
 segments                       the segments, as ipcs -m lists them
 run                            delivers the oldest envelope until none is on its way
 run 5                          the same, at most 5 times
 undo                           takes the last event back
 save story.txt                 writes the script of what stands to a file
-quit                           ends
+quit                           ends, as exit does
 sites 2 preset 1               begins anew: 2 sites, and segment 0 of 1 page
 load 1 0 4095                  site 1 loads byte 4095 through its attachment 0
 store 0 0 7 255                site 0 stores 255 to byte 7 through its attachment 0

@@ -42,14 +42,15 @@ fn first_word(typed: &[u8]) -> &[u8] {
 fn form_of(verb: &[u8]) -> Option<&'static str> {
     match verb {
         b"flight" => Some("flight"),
+        b"book" => Some("book SEGMENT PAGE"),
         b"segments" => Some("segments"),
         b"run" => Some(
             "run, or run N with N from 0 to 4294967295, with no zero before other digits",
         ),
         b"undo" => Some("undo"),
-        b"help" => Some("help"),
+        b"help" | b"?" => Some("help"),
         b"save" => Some("save FILE, where FILE is one word"),
-        b"quit" => Some("quit"),
+        b"quit" | b"exit" => Some("quit"),
         _ => None,
     }
 }

@@ -1,12 +1,17 @@
 //! `sites`: a row for each page that was asked for, a column for each site, and the manager's book.
-use crate::flight::pages_in_flight;
+use crate::flight::{pages_in_flight, verb_of};
 use shm_keys::Segment;
-use shm_model::{Kind, Shown, State};
-use shm_place::{MAX_SITES, PAGE_BYTES, PAGES, PageId, SiteId, SiteSet, manager_of};
+use shm_model::{Kind, Op, Shown, State};
+use shm_parts::Pendings;
+use shm_place::{MAX_SITES, PAGE_BYTES, PAGES, PageId, SiteId, SiteSet, in_limits, manager_of};
+use shm_site::Site;
 use shm_world::{BookView, World};
 use std::alloc::{AllocError, Allocator};
 
-/// Shows each page that some site has asked for.
+/// So many requests may wait behind a transaction.
+const MOST_WAITING: usize = 16;
+
+/// Shows each page that some site has asked for, and below what each site waits for.
 pub(crate) fn show_pages<A: Allocator + Copy>(
     text: &mut String<A>,
     world: &World<A>,
@@ -15,6 +20,25 @@ pub(crate) fn show_pages<A: Allocator + Copy>(
     head(text, world.sites().count())?;
     'homes: for home in 0..world.sites().count() {
         show_home(text, world, flying.as_slice(), SiteId(home))?;
+    }
+    show_requests(text, world)
+}
+
+/// Shows this page, and below it each site that waits for it.
+pub(crate) fn show_book<A: Allocator + Copy>(
+    text: &mut String<A>,
+    world: &World<A>,
+    page: PageId,
+) -> Result<(), AllocError> {
+    if !in_limits(world.sites(), page) {
+        return text.push_str("no segment can have that page\n");
+    }
+    head(text, world.sites().count())?;
+    show_row(text, world, &page)?;
+    'sites: for site in 0..world.sites().count() {
+        if let Some(site_there) = world.site(SiteId(site)) {
+            show_pending(text, site, site_there.pending(), Some(page))?;
+        }
     }
     Ok(())
 }
@@ -110,7 +134,99 @@ fn show_row<A: Allocator + Copy>(
     'sites: for site in 0..world.sites().count() {
         show_cell(text, world.shown(SiteId(site), *page))?;
     }
-    show_manager(text, manager_of(world.sites(), *page), world.book(*page))
+    let manager = manager_of(world.sites(), *page);
+    show_manager(text, manager, world.book(*page))?;
+    if let Some(site) = world.site(manager) {
+        show_cleared(text, site.cleared(*page))?;
+        show_waiting(text, site, *page)?;
+    }
+    text.push_str("\n")
+}
+
+/// The sites that have answered the Clear of the page's running transaction, if any.
+fn show_cleared<A: Allocator + Copy>(
+    text: &mut String<A>,
+    cleared: Option<SiteSet>,
+) -> Result<(), AllocError> {
+    match cleared {
+        None => Ok(()),
+        Some(sites) if sites == SiteSet::empty() => Ok(()),
+        Some(sites) => {
+            text.push_str(" cleared ")?;
+            show_copies(text, sites)
+        }
+    }
+}
+
+/// The requests that wait behind it, the oldest first.
+fn show_waiting<A: Allocator + Copy>(
+    text: &mut String<A>,
+    site: &Site<A>,
+    page: PageId,
+) -> Result<(), AllocError> {
+    'places: for place in 0..MOST_WAITING {
+        if let Some((from, (_request, kind))) = site.waiting(page, place) {
+            let verb = verb_of(kind);
+            write!(text, " then {verb} {}", from.0)?;
+        }
+    }
+    Ok(())
+}
+
+/// Shows what each site waits for: its pending requests, and its segment call.
+fn show_requests<A: Allocator + Copy>(
+    text: &mut String<A>,
+    world: &World<A>,
+) -> Result<(), AllocError> {
+    'sites: for number in 0..world.sites().count() {
+        if let Some(site) = world.site(SiteId(number)) {
+            show_pending(text, number, site.pending(), None)?;
+            show_call(text, number, site.outstanding())?;
+        }
+    }
+    Ok(())
+}
+
+/// Shows the site's pending requests: all, or that of this page.
+fn show_pending<A: Allocator + Copy>(
+    text: &mut String<A>,
+    number: u32,
+    requests: &Pendings<A>,
+    only: Option<PageId>,
+) -> Result<(), AllocError> {
+    'requests: for (page, pending) in requests.iter() {
+        let (request, kind) = *pending;
+        if only.is_none() || only == Some(*page) {
+            show_request(text, number, *page, request, kind)?;
+        }
+    }
+    Ok(())
+}
+
+fn show_request<A: Allocator + Copy>(
+    text: &mut String<A>,
+    number: u32,
+    page: PageId,
+    request: u64,
+    kind: Kind,
+) -> Result<(), AllocError> {
+    let verb = verb_of(kind);
+    writeln!(
+        text,
+        "site {number} waits for page {} {} to {verb}, request {request}",
+        page.seg.0, page.index
+    )
+}
+
+fn show_call<A: Allocator + Copy>(
+    text: &mut String<A>,
+    number: u32,
+    call: Option<(u64, Op)>,
+) -> Result<(), AllocError> {
+    match call {
+        None => Ok(()),
+        Some((place, _)) => writeln!(text, "site {number} waits for the reply to call {place}"),
+    }
 }
 
 /// The state in which a site has the page, and the number that it met last.
@@ -145,7 +261,7 @@ fn show_manager<A: Allocator + Copy>(
 ) -> Result<(), AllocError> {
     write!(text, "{}: ", manager.0)?;
     let Some(book) = book else {
-        return text.push_str("purged\n");
+        return text.push_str("purged");
     };
     write!(text, "owner {} copies ", book.owner.0)?;
     show_copies(text, book.copies)?;
@@ -177,10 +293,10 @@ fn show_running<A: Allocator + Copy>(
     running: Option<(Kind, SiteId)>,
 ) -> Result<(), AllocError> {
     let Some((kind, site)) = running else {
-        return text.push_str(" idle\n");
+        return text.push_str(" idle");
     };
     match kind {
-        Kind::Read => writeln!(text, " read {}", site.0),
-        Kind::Write => writeln!(text, " write {}", site.0),
+        Kind::Read => write!(text, " read {}", site.0),
+        Kind::Write => write!(text, " write {}", site.0),
     }
 }

@@ -3,29 +3,50 @@ use crate::prompt_fault::PromptFault;
 use crate::save_file::SaveFile;
 use crate::typed_input::Typed;
 use shm_text::{read_up_to, write_whole};
-use std::alloc::Allocator;
+use std::alloc::{AllocError, Allocator};
 use std::io::{Read, Write};
 
 /// The most bytes that are read at once.
 const CHUNK: usize = 4096;
+
+/// What a person at a terminal is greeted with.
+const GREETING: &[u8] = b"shmdbg prompt: `help` lists what you may type, `exit` or Ctrl-D ends.
+For a history of lines, and to edit them, start it as `rlwrap shmdbg prompt`.
+";
+
+/// What stands before the line that a person types.
+const MARK: &[u8] = b"> ";
+
+/// What is told where the input ends and something isn't saved.
+const UNSAVED: &[u8] = b"\nwhat stands is not saved: `save FILE`, or Ctrl-D again\n";
 
 /// The debugger's session for people at a terminal: reads line by line, to the input's end or to `quit`, and answers each line. After a
 /// wrong line, which it explains, it goes on.
 ///
 /// Before each read, and at the end, it writes all output and flushes the writer. A line has at most 200 bytes; what stands after the last
 /// line feed is none. Any error of the reader or the writer ends it, and so does refused memory.
+///
+/// Where `is_terminal`, a person is greeted, and a mark stands before each line; and the input's end, which may come again, ends the session
+/// only the second time where what stands isn't saved.
 pub fn prompt<A: Allocator + Copy, R: Read, W: Write, S: SaveFile>(
     alloc: A,
     reader: &mut R,
     writer: &mut W,
     files: &mut S,
+    is_terminal: bool,
 ) -> Result<(), PromptFault> {
     let Ok(mut typed) = Typed::new(alloc) else {
         return Err(PromptFault::OutOfMemory);
     };
     let mut out = Vec::new(alloc);
+    if greet(is_terminal, &mut out).is_err() {
+        return Err(PromptFault::OutOfMemory);
+    }
     let mut chunk = [0u8; CHUNK];
     'reads: for _ in 0..u64::MAX {
+        if mark(is_terminal, &typed, &mut out).is_err() {
+            return Err(PromptFault::OutOfMemory);
+        }
         match write_and_flush(&mut out, writer) {
             Ok(()) => {}
             Err(fault) => return Err(fault),
@@ -34,7 +55,11 @@ pub fn prompt<A: Allocator + Copy, R: Read, W: Write, S: SaveFile>(
             return Err(PromptFault::ReadFault);
         };
         if count == 0 {
-            return Ok(());
+            match end(is_terminal, &mut typed, &mut out) {
+                Ok(true) => return write_and_flush(&mut out, writer),
+                Ok(false) => {}
+                Err(_) => return Err(PromptFault::OutOfMemory),
+            }
         }
         match typed.feed(&chunk[..count], files, &mut out) {
             Ok(()) => {}
@@ -45,6 +70,42 @@ pub fn prompt<A: Allocator + Copy, R: Read, W: Write, S: SaveFile>(
         }
     }
     Ok(())
+}
+
+fn greet<A: Allocator + Copy>(is_terminal: bool, out: &mut Vec<u8, A>) -> Result<(), AllocError> {
+    if is_terminal {
+        return out.extend_from_slice(GREETING);
+    }
+    Ok(())
+}
+
+/// The mark of the next line, unless one is half typed.
+fn mark<A: Allocator + Copy>(
+    is_terminal: bool,
+    typed: &Typed<A>,
+    out: &mut Vec<u8, A>,
+) -> Result<(), AllocError> {
+    if is_terminal && typed.is_between_lines() {
+        return out.extend_from_slice(MARK);
+    }
+    Ok(())
+}
+
+/// At the input's end: whether the session ends. A person is told first of what isn't saved.
+fn end<A: Allocator + Copy>(
+    is_terminal: bool,
+    typed: &mut Typed<A>,
+    out: &mut Vec<u8, A>,
+) -> Result<bool, AllocError> {
+    if !is_terminal {
+        return Ok(true);
+    }
+    if typed.take_unsaved() {
+        out.extend_from_slice(UNSAVED)?;
+        return Ok(false);
+    }
+    out.extend_from_slice(b"\n")?;
+    Ok(true)
 }
 
 /// Writes all output, empties it, and flushes the writer.

@@ -2,8 +2,10 @@
 ghost use Rattle.std.specs.Prelude.{◌≡◌, [], false, OnOk};
 ghost use Rattle.shm_prompt.specs.Dialog.{LineEnds};
 
+use crate::command::{Command, parse_command};
 use crate::dialog::Dialog;
 use crate::save_file::SaveFile;
+use shm_lines::Line;
 use std::alloc::{AllocError, Allocator};
 
 /// The most bytes that a line has, without its line feed.
@@ -16,6 +18,8 @@ pub(crate) struct Typed<A: Allocator + Copy> {
     line: Vec<u8, A>,
     is_long: bool,
     has_quit: bool,
+    /// What stands may have changed since it was saved.
+    is_unsaved: bool,
 }
 
 impl<A: Allocator + Copy> Typed<A> {
@@ -27,12 +31,25 @@ impl<A: Allocator + Copy> Typed<A> {
             line,
             is_long: false,
             has_quit: false,
+            is_unsaved: false,
         })
     }
 
     /// Checks that a line was `quit`.
     pub(crate) fn has_quit(&self) -> bool {
         self.has_quit
+    }
+
+    /// Checks that no line is half typed.
+    pub(crate) fn is_between_lines(&self) -> bool {
+        self.line.is_empty() && !self.is_long
+    }
+
+    /// Whether what stands may have changed since it was saved; that counts once.
+    pub(crate) fn take_unsaved(&mut self) -> bool {
+        let was = self.is_unsaved;
+        self.is_unsaved = false;
+        was
     }
 
     /// Takes the bytes on, and does what the lines say that they end.
@@ -51,6 +68,7 @@ impl<A: Allocator + Copy> Typed<A> {
         Ok(())
     }
 
+    /// Takes a byte. A blank at the beginning of a line is let go.
     fn step<S: SaveFile>(
         &mut self,
         byte: u8,
@@ -59,6 +77,9 @@ impl<A: Allocator + Copy> Typed<A> {
     ) -> Result<(), AllocError> {
         if byte == b'\n' {
             return self.end_line(files, out);
+        }
+        if byte == b' ' && self.line.is_empty() {
+            return Ok(());
         }
         if self.line.len() == MAX_LINE_BYTES {
             self.is_long = true;
@@ -99,12 +120,35 @@ impl<A: Allocator + Copy> Typed<A> {
         if self.is_long {
             return out.extend_from_slice(b"a line has at most 200 bytes\n");
         }
+        let told = out.len();
         match self.dialog.obey(self.line.as_slice(), files, out) {
             Ok(quits) => {
                 self.has_quit = quits;
+                self.is_unsaved = is_unsaved(
+                    self.is_unsaved,
+                    self.line.as_slice(),
+                    out.get(told..),
+                );
                 Ok(())
             }
             Err(refused) => Err(refused),
         }
+    }
+}
+
+/// Whether what stands may have changed since it was saved, after this line, to which this was told.
+fn is_unsaved(was: bool, line: &[u8], told: Option<&[u8]>) -> bool {
+    match parse_command(line) {
+        Some(Command::Line(Line::Show(_))) => was,
+        Some(Command::Line(_) | Command::Run(_) | Command::Undo) => true,
+        Some(Command::Save) => !is_saved(told),
+        _ => was,
+    }
+}
+
+fn is_saved(told: Option<&[u8]>) -> bool {
+    match told {
+        Some(told) => told.starts_with(b"saved to "),
+        None => false,
     }
 }

@@ -45,8 +45,11 @@ fn main(rt: HostRuntime) -> ExitCode {
         Err(error) => return ExitCode::from(tell::unread_words(&error, &mut errors)),
     };
     let words = words.as_slice();
-    let mut reader = Source::new(rt.stdin(), errors.is_terminal());
-    ExitCode::from(run_words(&rt, words, &mut reader, &mut rt.stdout(), &mut errors))
+    let input = rt.stdin();
+    let mut out = rt.stdout();
+    let is_typed = input.is_terminal() && out.is_terminal();
+    let mut reader = Source::new(input, errors.is_terminal(), is_typed);
+    ExitCode::from(run_words(&rt, words, &mut reader, &mut out, &mut errors))
 }
 
 fn words_of_process(rt: &(impl Env + AllocGlobal)) -> io::Result<Vec<String>> {

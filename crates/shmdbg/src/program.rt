@@ -276,7 +276,7 @@ fn draw_as<R: Read, W: Write>(
 }
 
 /// Answers what is typed, and answers the exit status.
-fn talk<R: AllocGlobal + Files, I: Read, O: Write, E: Write>(
+fn talk<R: AllocGlobal + Files, I: Read + Recalls, O: Write, E: Write>(
     rt: &R,
     reader: &mut I,
     out: &mut O,
@@ -284,7 +284,8 @@ fn talk<R: AllocGlobal + Files, I: Read, O: Write, E: Write>(
 ) -> u8
     ensures status { (result ≡ 0) ⊎ (result ≡ 3) }
 {
-    match prompt(rt.alloc(), reader, out, &mut Disk { rt }) {
+    let is_terminal = reader.is_terminal();
+    match prompt(rt.alloc(), reader, out, &mut Disk { rt }, is_terminal) {
         Ok(()) => 0,
         Err(fault) => tell::prompt_fault(fault, errors),
     }

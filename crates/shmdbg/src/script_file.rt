@@ -27,6 +27,10 @@ impl Recalls for WholeScript<'_> {
         let before = number.checked_sub(1)?;
         self.bytes.split(|byte| *byte == b'\n').nth(before as usize)
     }
+
+    fn is_terminal(&self) -> bool {
+        false
+    }
 }
 
 /// The bytes of the file of this name.

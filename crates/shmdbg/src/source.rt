@@ -5,6 +5,9 @@ use std::io::{self, Read};
 pub trait Recalls {
     /// The beginning of the line of this number, from 1; `None`: it isn't to be shown, is no longer kept, or wasn't read.
     fn recall(&self, number: u64) -> Option<&[u8]>;
+
+    /// Checks that a person types the lines, and sees what is answered.
+    fn is_terminal(&self) -> bool;
 }
 
 /// The program's input.
@@ -12,14 +15,16 @@ pub trait Recalls {
 pub(crate) struct Source<R> {
     reader: RecallingReader<R>,
     shows: bool,
+    is_terminal: bool,
 }
 
 impl<R: Read> Source<R> {
-    /// The input of a reader, whose wrong lines are to be shown or not.
-    pub(crate) fn new(reader: R, shows: bool) -> Source<R> {
+    /// The input of a reader, whose wrong lines are to be shown or not; a person types it, or none does.
+    pub(crate) fn new(reader: R, shows: bool, is_terminal: bool) -> Source<R> {
         Source {
             reader: RecallingReader::new(reader),
             shows,
+            is_terminal,
         }
     }
 }
@@ -37,5 +42,9 @@ impl<R> Recalls for Source<R> {
         } else {
             None
         }
+    }
+
+    fn is_terminal(&self) -> bool {
+        self.is_terminal
     }
 }

@@ -24,6 +24,10 @@ impl Recalls for &[u8] {
     fn recall(&self, _number: u64) -> Option<&[u8]> {
         None
     }
+
+    fn is_terminal(&self) -> bool {
+        false
+    }
 }
 
 /// What a call of the program came to.

@@ -151,7 +151,7 @@ fn each_line_is_answered_before_the_next(rt: HostRuntime) -> Result<(), Fail> {
         seen: &seen,
     };
     let mut files = empty_shelf(rt.alloc());
-    let result = prompt(rt.alloc(), &mut reader, &mut writer, &mut files);
+    let result = prompt(rt.alloc(), &mut reader, &mut writer, &mut files, false);
     assert_eq!(rt; result, Ok(()));
     assert_eq!(rt; writer.text.as_slice(), TOLD.concat(rt.alloc())?.as_bytes());
     assert_eq!(rt; seen.wrong.get(), 0);
@@ -174,7 +174,7 @@ fn type_at_once(alloc: Global, bytes: &[u8]) -> (Result<(), PromptFault>, Vec<u8
     let mut reader = bytes;
     let mut text = Vec::new(alloc);
     let mut files = empty_shelf(alloc);
-    let result = prompt(alloc, &mut reader, &mut text, &mut files);
+    let result = prompt(alloc, &mut reader, &mut text, &mut files, false);
     (result, text, files)
 }
 
@@ -220,7 +220,7 @@ fn one_call_of_a_dialog_fails(rt: HostRuntime) -> Result<(), Fail> {
         };
         let mut reader = b"sites 2\n".as_slice();
         let mut files = empty_shelf(rt.alloc());
-        let result = prompt(rt.alloc(), &mut reader, &mut writer, &mut files);
+        let result = prompt(rt.alloc(), &mut reader, &mut writer, &mut files, false);
         assert_eq!(rt; result, Err(PromptFault::WriteFault));
         assert_eq!(rt;
             writer.text.as_slice(),
@@ -235,7 +235,7 @@ fn one_call_of_a_dialog_fails(rt: HostRuntime) -> Result<(), Fail> {
         };
         let mut text = Vec::new(rt.alloc());
         let mut files = empty_shelf(rt.alloc());
-        let result = prompt(rt.alloc(), &mut reader, &mut text, &mut files);
+        let result = prompt(rt.alloc(), &mut reader, &mut text, &mut files, false);
         assert_eq!(rt; result, Err(PromptFault::ReadFault));
     }
     Ok(())
@@ -254,7 +254,7 @@ fn a_dialog_runs_out_of_memory(rt: HostRuntime) -> Result<(), Fail> {
         let mut reader = bytes;
         let mut told = Vec::new(rt.alloc());
         let mut files = empty_shelf(rt.alloc());
-        let result = prompt(&heap, &mut reader, &mut told, &mut files);
+        let result = prompt(&heap, &mut reader, &mut told, &mut files, false);
         if result.is_ok() {
             assert!(rt; told.as_slice() == text.as_slice());
             done = true;

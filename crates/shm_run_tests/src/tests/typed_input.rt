@@ -97,7 +97,7 @@ fn comes_to(alloc: Global, typed: &str, told: &str, saved: &str) -> Result<bool,
         saved: Vec::new(alloc),
         alloc,
     };
-    if prompt(alloc, &mut reader, &mut text, &mut files).is_err() {
+    if prompt(alloc, &mut reader, &mut text, &mut files, false).is_err() {
         return Err(Fail::new("a dialog that ended early"));
     }
     Ok(text.as_slice() == told.as_bytes() && files.saved.as_slice() == saved.as_bytes())

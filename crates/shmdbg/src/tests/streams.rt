@@ -51,6 +51,10 @@ impl Recalls for Trickle<'_> {
     fn recall(&self, _number: u64) -> Option<&[u8]> {
         None
     }
+
+    fn is_terminal(&self) -> bool {
+        false
+    }
 }
 
 /// Takes one byte at a time while there is room, and then none, or answers an error.

@@ -170,13 +170,14 @@ be opened.";
 pub const PROMPT: &str = "\
 Lines are those of a script, and
   flight    the envelopes on their way
-  sites     the pages that were asked for, at each site
+  sites     the pages that were asked for, at each site, and who waits
+  book S P  the same of page P of segment S
   segments  the segments, as ipcs -m lists them
   run [N]   hand over what is on its way, the oldest first, N or 10,000 at most
   undo      take the last event back
   save FILE the script of what stands
-  help      an example of each
-  quit
+  help, ?   an example of each
+  quit, exit
 A wrong line changes nothing.
   $ printf 'sites 2 preset 1\\nload 1 0 0\\nrun\\n' | shmdbg prompt
 Exit status: 0 done, 2 these words were refused, 3 memory, reading or writing
