@@ -25,6 +25,6 @@ pub use counts::Counts;
 pub use log_lines::log_text;
 pub use ran::Ran;
 pub use report_fault::ReportFault;
-pub use report_workload::{report, run_audited};
+pub use report_workload::{read_workload, report, run_audited};
 pub use run_fault::{CallFault, RunFault};
 pub use workload_run::run_workload;

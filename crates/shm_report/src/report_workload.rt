@@ -77,8 +77,8 @@ pub fn run_audited<R: Threads + Wait + Copy + Send + Sync + 'static, I: Read>(
     audit_run(alloc, sites, workload, ran)
 }
 
-/// Reads the workload.
-fn read_workload<I: Read>(
+/// Reads a workload for this many sites from a reader, to its end.
+pub fn read_workload<I: Read>(
     alloc: Global,
     sites: Sites,
     reader: &mut I,

@@ -82,6 +82,21 @@ journal_file_rule = record (new_rule (codes "file")) { required = true; action =
 abbrev pub journal_app : App
 journal_app = with_rule (new_app (codes "journal")) journal_file_rule
 
+abbrev pub runs_rule : Rule
+runs_rule = number_rule (codes "runs") (Signed (pos 1) (pos 4294967295))
+
+-- hundredths, which may be left out
+abbrev pub odds_rule : Text → Rule
+odds_rule name = record (new_rule name) { long = Some name; action = Some Set; value_names = 1; parser = Some (Signed (pos 0) (pos 99)) }
+
+abbrev pub keep_rule : Rule
+keep_rule = text_rule (codes "keep")
+
+abbrev pub simulate_app : App
+simulate_app =
+    with_rule (with_rule (with_rule (with_rule (with_rule (with_rule (with_rule (new_app (codes "simulate")) sites_rule) seed_rule) runs_rule)
+    (odds_rule (codes "lose"))) (odds_rule (codes "repeat"))) (odds_rule (codes "restart"))) keep_rule
+
 -- a subcommand is required, and `--version` tells the version
 abbrev pub bare_app : App
 bare_app = record { top = record (new_app (codes "shmdbg")).top { subcommand_required = true; has_version = true }; subs = [] }
@@ -89,7 +104,8 @@ bare_app = record { top = record (new_app (codes "shmdbg")).top { subcommand_req
 -- the program with all its subcommands
 abbrev pub app : App
 app =
-    with_subcommand (with_subcommand (with_subcommand (with_subcommand (with_subcommand (with_subcommand (with_subcommand bare_app replay_app.top)
+    with_subcommand (with_subcommand (with_subcommand (with_subcommand (with_subcommand (with_subcommand (with_subcommand (with_subcommand bare_app replay_app.top)
     run_app.top) prompt_app.top) draw_app.top) site_app.top)
     audit_app.top)
-    journal_app.top
+    journal_app.top)
+    simulate_app.top

@@ -7,11 +7,12 @@ use Rattle.shm_place.specs.declared.page.PageId.{PageId}
 use Rattle.shmdbg.specs.Audited.{FailsAudit, TellsAudit}
 use Rattle.shmdbg.specs.Begun.{header_at}
 use Rattle.shmdbg.specs.Served.{IsSite}
+use Rattle.shmdbg.specs.Simulated.{Simulates}
 use Rattle.shmdbg.specs.Summarized.{Summarizes}
 use Rattle.shmdbg.specs.Status.{Fails, Pictures, PicturesFile, Replays, ReplaysFile, Reports}
 use Rattle.shmdbg.specs.Words.{AskFor}
 use Rattle.shmdbg.specs.declared.words.task.Task.{Task}
-use Rattle.shmdbg.specs.declared.words.task.Task.TheVariants.{Replay, Run, Prompt, Draw, Site, Audit, Journal}
+use Rattle.shmdbg.specs.declared.words.task.Task.TheVariants.{Replay, Run, Prompt, Draw, Site, Audit, Journal, Simulate}
 
 -- A run of a workload failed; or the logs that were wanted couldn't be made ready, and nothing was done.
 abbrev pub IsUnrun : ℕ → Bool → ℕ → Around → Around → Type 0
@@ -48,6 +49,7 @@ Does (Draw page file) status old new = PicturesFrom file page status old new
 Does (Site sites me pages journal begins) status old new = IsSite (option_map (λ file. begins) journal) (header_at sites me pages) status old new
 Does (Audit sites journals) status old new = Audits (length journals.items) sites status old new
 Does (Journal file) status old new = Summarizes status old.contents new.contents
+Does (Simulate sites seed runs odds keep) status old new = Simulates sites runs status old new
 
 -- an audit judges its end
 abbrev pub has_audit : Task → Bool

@@ -6,5 +6,6 @@ pub mod Status
 pub mod Done
 pub mod Commands
 pub mod Words
+pub mod Simulated
 pub mod Summarized
 pub mod TakenAgain

@@ -1,5 +1,5 @@
 -- What the words ask for, as clap reads them, and what is wrong with them.
-use Rattle.std.specs.Prelude.{⊤, ◌≡◌, ◌≤◌, ◌<◌, ◌==◌, ◌&&◌, ◌||◌, ℕ, Bool, true, false, not, if◌then◌else◌, List, [], ◌∷◌, length, drop, map, slice_index, nat_lt, is_some, IsSomeAnd, Option, Some, None, codes, option_and_then, option_map}
+use Rattle.std.specs.Prelude.{⊤, ◌≡◌, ◌≤◌, ◌<◌, ◌==◌, ◌&&◌, ◌||◌, ℕ, Bool, true, false, not, if◌then◌else◌, List, [], ◌∷◌, length, drop, map, slice_index, nat_lt, is_some, IsSomeAnd, Option, Some, None, codes, option_and_then, option_map, unwrap_or}
 use Rattle.std.specs.List.{list_all, list_any}
 use Rattle.std.specs.Char.{is_ascii_digit}
 use Rattle.std.specs.Option.{option_map_or}
@@ -13,7 +13,7 @@ use Rattle.shm_place.specs.Limits.{pages as most_pages}
 use Rattle.shm_place.specs.declared.page.PageId.{PageId}
 use Rattle.shmdbg.specs.Commands.{app}
 use Rattle.shmdbg.specs.declared.words.task.Task.{Task}
-use Rattle.shmdbg.specs.declared.words.task.Task.TheVariants.{Replay, Run, Prompt, Draw, Site, Audit, Journal}
+use Rattle.shmdbg.specs.declared.words.task.Task.TheVariants.{Replay, Run, Prompt, Draw, Site, Audit, Journal, Simulate}
 
 -- the name of the subcommand that the words ask for, where the program takes them; the first word is the program's name
 abbrev pub asked_for : List Text → Option Text
@@ -28,6 +28,7 @@ name_of (Draw page file) = codes "draw"
 name_of (Site sites me pages journal begins) = codes "site"
 name_of (Audit sites journals) = codes "audit"
 name_of (Journal file) = codes "journal"
+name_of (Simulate sites seed runs odds keep) = codes "simulate"
 
 -- ---- what is given for an option
 
@@ -46,6 +47,10 @@ is_plain_at option rows = option_map_or (list_all is_plain) (all_of option rows)
 -- the number that was written for an option, if it is spelled so
 abbrev pub number_at : Text → List Row → Option ℕ
 number_at option rows = if is_plain_at option rows then option_map number_of (one_of option rows) else None
+
+-- the number that was written for an option, or 0 where it isn't there
+abbrev pub hundredths_at : Text → List Row → ℕ
+hundredths_at option rows = unwrap_or (number_at option rows) 0
 
 -- the page that two numbers name
 abbrev pub page_named : List Text → Option PageId
@@ -78,6 +83,10 @@ HasOptions rows (Site sites me pages journal begins) =
 HasOptions rows (Audit sites journals) =
     (number_at (codes "sites") rows ≡ Some sites) × (all_of (codes "journals") rows ≡ Some (map (λ file. file.now) journals.items))
 HasOptions rows (Journal file) = first_of (codes "file") rows ≡ Some file.now
+HasOptions rows (Simulate sites seed runs odds keep) =
+    (number_at (codes "sites") rows ≡ Some sites) × (number_at (codes "seed") rows ≡ Some seed) × (number_at (codes "runs") rows ≡ Some runs)
+    × (hundredths_at (codes "lose") rows ≡ odds.lose) × (hundredths_at (codes "repeat") rows ≡ odds.repeat)
+    × (hundredths_at (codes "restart") rows ≡ odds.restart) × (first_of (codes "keep") rows ≡ option_map (λ folder. folder.now) keep)
 
 -- a subcommand's name, and what stands behind it, ask for the task
 pub record IsAsked (name : Text) (rows : List Row) (task : Task) : Type 0 where
@@ -92,7 +101,8 @@ AskFor words task = IsSomeAnd (subcommand_of app words) (λ named. IsAsked named
 
 -- the numbers of a subcommand's options
 abbrev pub numbers : List Text
-numbers = codes "sites" ∷ codes "seed" ∷ codes "page" ∷ codes "me" ∷ codes "preset" ∷ []
+numbers =
+    codes "sites" ∷ codes "seed" ∷ codes "page" ∷ codes "me" ∷ codes "preset" ∷ codes "runs" ∷ codes "lose" ∷ codes "repeat" ∷ codes "restart" ∷ []
 
 abbrev pub are_plain : List Row → Bool
 are_plain rows = list_all (λ option. is_plain_at option rows) numbers

@@ -14,6 +14,7 @@ mod script_file;
 mod script_file_fault;
 mod serve_site;
 mod show_fault;
+mod simulation;
 mod site_fault;
 mod source;
 mod standard_streams;

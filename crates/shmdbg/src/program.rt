@@ -4,6 +4,7 @@ ghost use Rattle.shmdbg.specs.Around.{streams};
 ghost use Rattle.shmdbg.specs.Begun.{header_at};
 ghost use Rattle.shmdbg.specs.Done.{Does, IsDone, IsUnrun, PicturesFrom, ReplaysFrom, has_audit};
 ghost use Rattle.shmdbg.specs.Served.{site_status, IsSite};
+ghost use Rattle.shmdbg.specs.Simulated.{Simulates};
 ghost use Rattle.shmdbg.specs.Status.{AsksForAudit, Pictures, PicturesFile, Replays, ReplaysFile, Reports, Takes};
 ghost use Rattle.shmdbg.specs.Words.{IsOneOfSites};
 
@@ -16,6 +17,7 @@ use crate::run_report::{Wanted, tell_run};
 use crate::script_file::{WholeScript, read_script_file};
 use crate::serve_site::{be_kept_site, be_site};
 use crate::show_fault::{script_fault, workload_fault};
+use crate::simulation::{Schedules, tell_simulation};
 use crate::site_fault::SiteFault;
 use crate::source::Recalls;
 use crate::tell;
@@ -89,6 +91,21 @@ where
         } => {
             let wanted = Wanted { summary, log };
             run(rt, sites, seed, &wanted, reader, out, errors)
+        }
+        Task::Simulate {
+            sites,
+            seed,
+            runs,
+            odds,
+            keep,
+        } => {
+            let wanted = Schedules {
+                seed,
+                runs,
+                odds,
+                keep,
+            };
+            run_often(rt, sites, &wanted, reader, out, errors)
         }
         Task::Prompt => talk(rt, reader, out, errors),
         Task::Draw { page, file } => picture_from(rt, page, file, reader, out, errors),
@@ -304,6 +321,26 @@ fn tell_end<E: Write>(ended: Result<(), SiteFault>, errors: &mut E) -> u8
     match ended {
         Ok(()) => 0,
         Err(fault) => tell::site_fault(fault, errors),
+    }
+}
+
+/// Runs a workload as often as is wanted, and answers the exit status.
+fn run_often<R: AllocGlobal + Files, I: Read + Recalls, O: Write, E: Write>(
+    rt: &R,
+    sites: Sites,
+    wanted: &Schedules<'_>,
+    reader: &mut I,
+    out: &mut O,
+    errors: &mut E,
+) -> u8
+    ensures range { result < 5 }
+    ensures taken { result ≢ 2 }
+    ensures told { Simulates sites wanted.now.runs result
+        (streams (I.remaining reader.old) (O.contents out.old)) (streams (I.remaining reader.new) (O.contents out.new)) }
+{
+    match tell_simulation(rt, sites, wanted, reader, out) {
+        Ok(()) => 0,
+        Err(fault) => workload_fault(fault, sites, reader, errors),
     }
 }
 

@@ -22,7 +22,8 @@ pub(crate) fn command<'a>(alloc: Global) -> Result<Command<'a>, AllocError>
         .subcommand(draw_command(alloc)?)?
         .subcommand(site_command(alloc)?)?
         .subcommand(audit_command(alloc)?)?
-        .subcommand(journal_command(alloc)?)
+        .subcommand(journal_command(alloc)?)?
+        .subcommand(simulate_command(alloc)?)
 }
 
 /// The program without its subcommands.
@@ -112,6 +113,58 @@ fn journal_command<'a>(alloc: Global) -> Result<Command<'a>, AllocError>
         .about("Tell what a site's journal has")
         .after_help(help::JOURNAL)
         .arg(journal_file_arg(alloc))
+}
+
+fn simulate_command<'a>(alloc: Global) -> Result<Command<'a>, AllocError>
+    ensures app { IfOk result (λ c. app_of c ≡ spec.simulate_app) }
+    ensures local { IfOk result (λ c. (out-Command c).has_globals ≡ false) }
+{
+    Command::new(alloc, "simulate")
+        .about("Run the workload on standard input in many random orders, and count its outcomes")
+        .after_help(help::SIMULATE)
+        .arg(sites_arg(alloc))?
+        .arg(seed_arg(alloc))?
+        .arg(runs_arg(alloc))?
+        .arg(odds_arg(alloc, "lose", "Lose so many of a hundred envelopes"))?
+        .arg(odds_arg(alloc, "repeat", "Hand over so many of a hundred envelopes again"))?
+        .arg(odds_arg(alloc, "restart", "Let so many of a hundred events be restarts"))?
+        .arg(keep_arg(alloc))
+}
+
+fn runs_arg<'a>(alloc: Global) -> Arg<'a>
+    ensures rule { rule_of result ≡ spec.runs_rule }
+    ensures local { result.global ≡ false }
+{
+    Arg::new(alloc, "runs")
+        .long("runs")
+        .value_name("M")
+        .help("How many runs, from 1 on")
+        .required(true)
+        .action(ArgAction::Set)
+        .value_parser(value_parser!(u32).range(1..=4294967295))
+}
+
+fn odds_arg<'a>(alloc: Global, name: &'static str, said: &'static str) -> Arg<'a>
+    ensures rule { rule_of result ≡ spec.odds_rule name.now }
+    ensures local { result.global ≡ false }
+{
+    Arg::new(alloc, name)
+        .long(name)
+        .value_name("P")
+        .help(said)
+        .action(ArgAction::Set)
+        .value_parser(value_parser!(u32).range(0..=99))
+}
+
+fn keep_arg<'a>(alloc: Global) -> Arg<'a>
+    ensures rule { rule_of result ≡ spec.keep_rule }
+    ensures local { result.global ≡ false }
+{
+    Arg::new(alloc, "keep")
+        .long("keep")
+        .value_name("DIR")
+        .help("Leave a script for each outcome in this folder, which exists")
+        .action(ArgAction::Set)
 }
 
 fn sites_arg<'a>(alloc: Global) -> Arg<'a>

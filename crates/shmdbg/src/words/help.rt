@@ -56,6 +56,17 @@ Exit status: 0 done, 1 the script has a fault, 2 these words were refused,
 3 memory, reading or writing failed, or the file can't be opened.";
 
 /// Of a run: the lines of a workload.
+pub const SIMULATE: &str = "\
+Runs the workload on standard input M times, each time in a new world, and
+counts what its loads gave. The workload is that of 'run'. Each site makes its
+lines in their order; what happens next is drawn from the seed and the run's
+number. With --keep, DIR gets a script for each outcome, outcome-0.shm and so
+on, which a replay plays to the same end.
+  $ printf 'preset 1\\nstore 0 0 7\\nload 1 0\\n' > my.txt
+  $ shmdbg simulate --sites 2 --seed 1 --runs 1000 < my.txt
+Exit status: 0 done, 1 the workload has a fault, 2 these words were refused, 3
+memory, reading or writing failed.";
+
 pub const RUN: &str = "\
 Runs each of N sites in a thread of its own, with a network that loses and
 repeats messages. First line (segment 0 of P pages of 4096 bytes):

@@ -1,12 +1,13 @@
 //! Reads a subcommand's options. Words that clap took have all that are required, in range.
 ghost use Rattle.std.specs.Prelude.{◌≡◌, Some, codes, map, IfSome};
 ghost use Rattle.clap.specs.Words.{all_of, found_of, rows_of};
-ghost use Rattle.shmdbg.specs.Words.{is_set_at, number_at, number_of, page_named, IsAsked};
+ghost use Rattle.shmdbg.specs.Words.{hundredths_at, is_set_at, number_at, number_of, page_named, IsAsked};
 
 use crate::words::task::Task;
 use crate::words::word_checks::is_plain_at;
 use clap::ArgMatches;
 use shm_place::{PAGES, PageId, SegId, SiteId, Sites};
+use shm_simulate::Odds;
 use std::alloc::Global;
 
 /// A run's options.
@@ -23,6 +24,40 @@ pub(crate) fn run_task<'a>(found: &ArgMatches<'a>) -> Option<Task<'a>>
         summary,
         log,
     })
+}
+
+/// The options of a simulation.
+pub(crate) fn simulate_task<'a>(found: &ArgMatches<'a>) -> Option<Task<'a>>
+    ensures { IfSome result (λ task. IsAsked (codes "simulate") (rows_of (found_of found.now)) task) }
+{
+    let sites = Sites::new(number(found, "sites")?).ok()?;
+    let seed = number(found, "seed")?;
+    let runs = number(found, "runs")?;
+    let lose = hundredths(found, "lose")?;
+    let repeat = hundredths(found, "repeat")?;
+    let restart = hundredths(found, "restart")?;
+    let keep = found.get_str("keep");
+    Some(Task::Simulate {
+        sites,
+        seed,
+        runs,
+        odds: Odds {
+            lose,
+            repeat,
+            restart,
+        },
+        keep,
+    })
+}
+
+/// The number that is written for an option, or 0 where it isn't there.
+fn hundredths(found: &ArgMatches<'_>, option: &str) -> Option<u32>
+    ensures { IfSome result (λ number. hundredths_at option.now (rows_of (found_of found.now)) ≡ number) }
+{
+    match found.get_str(option) {
+        Some(_) => number(found, option),
+        None => Some(0),
+    }
 }
 
 /// Checks that an option without a value is there.

@@ -6,7 +6,7 @@ ghost use Rattle.shmdbg.specs.Words.{fault_in, is_among, IsAsked};
 use crate::words::check_site::look_for_site;
 use crate::words::commands::command;
 use crate::words::options::{
-    audit_task, draw_task, journal_task, replay_task, run_task, site_task,
+    audit_task, draw_task, journal_task, replay_task, run_task, simulate_task, site_task,
 };
 use crate::words::task::Task;
 use crate::words::word_checks::{has_plain_numbers, short_error, spelling_error};
@@ -52,6 +52,9 @@ fn task_of<'a>(alloc: Global, name: &str, found: &ArgMatches<'a>) -> Option<Task
     }
     if name == "run" {
         return run_task(found);
+    }
+    if name == "simulate" {
+        return simulate_task(found);
     }
     if name == "draw" {
         return draw_task(found);

@@ -1,4 +1,5 @@
 use shm_place::{PageId, SiteId, Sites};
+use shm_simulate::Odds;
 
 /// The task that the words behind the program's name ask for.
 #[derive(Debug, PartialEq, Eq, Drop)]
@@ -14,6 +15,15 @@ pub enum Task<'a> {
         seed: u32,
         summary: bool,
         log: Option<&'a str>,
+    },
+    /// Run the workload on standard input this often over this many sites, each time in a world of its own, with what happens drawn from the
+    /// seed, and things going wrong by these odds. Save a script for each outcome in a folder, if one is named.
+    Simulate {
+        sites: Sites,
+        seed: u32,
+        runs: u32,
+        odds: Odds,
+        keep: Option<&'a str>,
     },
     /// Answer what is typed, line by line.
     Prompt,

@@ -1,0 +1,10 @@
+pub mod Course
+pub mod Lines
+pub mod Mail
+pub mod Measures
+pub mod Outcomes
+pub mod Reactions
+pub mod Spreads
+pub mod Tally
+pub mod Texts
+pub mod Tries

@@ -1,0 +1,148 @@
+//! What is measured of a run.
+ghost use Rattle.std.specs.Prelude.{◌≡◌, count_by, length};
+ghost use Rattle.shm_simulate.specs.Measures as said;
+ghost use Rattle.shm_simulate.specs.declared.letter.Letter.{Letter};
+
+use crate::letter::{Letter, Word};
+use crate::line_state::LineState;
+use shm_model::{Asked, Event};
+use shm_place::PAGE_BYTES;
+
+/// What is measured of a run: a number for each run.
+#[derive(Clone, Copy, Debug, PartialEq, Eq)]
+pub enum Measure {
+    /// How often the access of the line of this number asked for its page, since its site had no right to it. The first access is line 2.
+    Faults(u32),
+    /// How often the access of the line of this number was tried in vain.
+    Rounds(u32),
+    /// How many messages of this kind were handed over.
+    Messages(Word),
+    /// How many messages about the page of this index were handed over.
+    PageMessages(u32),
+    /// How often the page of this index came to a site, to read or to write.
+    Moves(u32),
+    /// How often the page of this index was asked for.
+    PageFaults(u32),
+    /// How many ticks there were.
+    Ticks,
+}
+
+/// The value of the measure in a run of these events, which left these lines, and in which these messages were handed over.
+pub(crate) fn value(
+    measure: Measure,
+    lines: &[LineState],
+    mail: &[Letter],
+    events: &[Event],
+) -> usize
+    ensures { result ≡ said.value_in measure lines.now mail.now events.now }
+{
+    match measure {
+        Measure::Faults(line) => faults_of(lines, line),
+        Measure::Rounds(line) => rounds_of(lines, line),
+        Measure::Messages(word) => messages_of(mail, word),
+        Measure::PageMessages(page) => mail
+            .iter()
+            .filter(|letter| letter.page.index == page)
+            .count(),
+        Measure::Moves(page) => moves_of(mail, page),
+        Measure::PageFaults(page) => page_faults_of(lines, page),
+        Measure::Ticks => ticks_of(events),
+    }
+}
+
+fn faults_of(lines: &[LineState], line: u32) -> usize
+    ensures { result ≡ said.faults_of lines.now line }
+{
+    match lines.get((line as usize).saturating_sub(2)) {
+        Some(line) => line.faults as usize,
+        None => 0,
+    }
+}
+
+fn rounds_of(lines: &[LineState], line: u32) -> usize
+    ensures { result ≡ said.rounds_of lines.now line }
+{
+    match lines.get((line as usize).saturating_sub(2)) {
+        Some(line) => line.rounds as usize,
+        None => 0,
+    }
+}
+
+fn messages_of(mail: &[Letter], word: Word) -> usize
+    ensures { result ≡ count_by (λ (letter : Letter). said.same_word letter.word word) mail.now }
+{
+    mail.iter()
+        .filter(|letter| same_word(letter.word, word))
+        .count()
+}
+
+fn same_word(one: Word, other: Word) -> bool
+    ensures { result ≡ said.same_word one other }
+{
+    word_number(one) == word_number(other)
+}
+
+fn word_number(word: Word) -> u8
+    ensures { result ≡ said.word_number word }
+{
+    match word {
+        Word::Ask => 0,
+        Word::Clear => 1,
+        Word::Cleared => 2,
+        Word::Hand => 3,
+        Word::Page => 4,
+        Word::Confirm => 5,
+    }
+}
+
+fn moves_of(mail: &[Letter], page: u32) -> usize
+    ensures { result ≡ count_by (said.is_move_of page) mail.now }
+{
+    mail.iter()
+        .filter(|letter| same_word(letter.word, Word::Page) && letter.page.index == page)
+        .count()
+}
+
+fn page_faults_of(lines: &[LineState], page: u32) -> usize
+    ensures { result ≡ said.page_faults_of lines.now page }
+{
+    lines
+        .iter()
+        .fold(0, |total, line| with_faults(total, *line, page))
+}
+
+/// The faults of the line are added where it is on the page of this index.
+fn with_faults(total: usize, line: LineState, page: u32) -> usize
+    ensures { result ≡ said.with_faults page total line }
+{
+    let faults = line.faults;
+    if index_of(line) == page {
+        return total.saturating_add(faults as usize);
+    }
+    total
+}
+
+/// The index of the page of a line's access.
+pub(crate) fn index_of(line: LineState) -> u32
+    ensures { result ≡ said.index_of line.access.asked }
+{
+    match line.access.asked {
+        Asked::Load { offset, .. } => offset / PAGE_BYTES as u32,
+        Asked::Store { offset, .. } => offset / PAGE_BYTES as u32,
+    }
+}
+
+fn ticks_of(events: &[Event]) -> usize
+    ensures { result ≡ count_by said.is_tick events.now }
+{
+    events.iter().filter(|event| is_tick(event)).count()
+}
+
+fn is_tick(event: &Event) -> bool
+    ensures { result ≡ said.is_tick event.now }
+{
+    match event {
+        Event::Tick { .. } => true,
+        _ => false,
+    }
+}
