@@ -7,3 +7,4 @@ pub mod StoredBytes
 pub mod LoadedBlocks
 pub mod ToldBlocks
 pub mod StoredBlocks
+pub mod LivesRead

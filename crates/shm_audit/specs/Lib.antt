@@ -7,3 +7,4 @@ pub mod OneSet
 pub mod Told
 pub mod Loads
 pub mod Stores
+pub mod LivesLog

@@ -1,5 +1,7 @@
 //! Laws of journals: each is the contract of a function that does nothing.
-ghost use Rattle.std.specs.Prelude.{◌≡◌, ℕ, List, Some, option_map};
+ghost use Rattle.std.specs.Prelude.{◌≡◌, ℕ, List, Some, option_map, true};
+ghost use Rattle.shm_journal.specs.Lines.{Header, IsHeader};
+ghost use Rattle.shm_journal.specs.Lives.{AreTaken, journal_text};
 ghost use Rattle.shm_process.specs.Node.{Said, new_node};
 ghost use Rattle.shm_process.specs.Recorded.{Event, after_events, entries_of, said_at};
 ghost use Rattle.shm_process.specs.WaitingAsks.{Writes, ask_in};
@@ -7,6 +9,8 @@ ghost use Rattle.shm_process.specs.Waiting.{says_at};
 ghost use Rattle.shm_process.specs.Writes.{Write};
 ghost use Rattle.shm_model.specs.declared.answer.Answer.TheVariants.{Stored};
 ghost use Rattle.shm_logs.specs.Boxes.Box.{new_box};
+ghost use Rattle.shm_audit.specs.Found.{in_limits};
+ghost use Rattle.shm_audit.specs.LivesLog.{ReadsLives};
 ghost use Rattle.shm_audit.specs.Loads.{IsLoadedBlock, made_by};
 ghost use Rattle.shm_audit.specs.Stores.{IsStoredBlock};
 ghost use Rattle.shm_audit.specs.Told.{box_after_all, told_at, told_by_log};
@@ -17,6 +21,14 @@ ghost use Rattle.shm_audit.specs.Told.{box_after_all, told_at, told_by_log};
 pub fn a_log_tells_what_was_said()
     ensures { (sites me pages : ℕ) (events : List Event) → option_map told_by_log
         (box_after_all (new_box sites me pages) (entries_of (new_node sites me pages) events)) ≡ Some (told_at (new_node sites me pages) events) }
+{}
+
+/// What the audit reads of a journal that was served is the log of that run, whatever the site took in each of its lives: the journal's header,
+/// and the entries of all that happened, lead a box to a log that has exactly the steps of which the process said anything, in order: what each was
+/// handed, where that was sent, its stamp, its answer, and the envelopes that it sent.
+pub fn a_journal_that_was_served_is_read_as_its_run()
+    ensures { (header : Header) (lives : List (List Event)) → IsHeader header → in_limits header ≡ true → AreTaken lives
+        → ReadsLives header lives (journal_text header lives) }
 {}
 
 /// A block that a caller gets has exactly the bytes that were asked for, in order, from the ask's offset on, through its attachment. Each

@@ -1,2 +1,5 @@
 pub mod Carried
 pub mod Posts
+pub mod Acting
+pub mod Turning
+pub mod Accessing

@@ -5,3 +5,7 @@ pub mod Carried
 pub mod Client
 pub mod Posts
 pub mod Sites
+pub mod Acts
+pub mod Heard
+pub mod Turns
+pub mod Accesses

@@ -4,14 +4,17 @@
 //! A site makes each step under its own lock, and sends after it has released the lock. So sites run at once. The network between their
 //! threads loses and repeats envelopes by random numbers; no contract rests on what the channels bring.
 mod access;
+mod carrier;
 mod carry;
 mod client;
 mod client_fault;
 mod fate;
 mod gate;
+mod hears;
 mod mail;
 mod opened;
 mod posted;
+mod seat;
 mod sent_copies;
 mod shared;
 mod start;

@@ -1,20 +1,23 @@
 //! A client's access to the box of its site.
-ghost use Rattle.std.specs.Prelude.{◌≡◌, length, IfErr, IfOk, OnErr, OnOk};
+ghost use Rattle.std.specs.Prelude.{◌≡◌, ◌∷◌, List, length, map, IfErr, IfOk, OnErr, OnOk};
 ghost use Rattle.shm_model.specs.Receipt.{access_of};
-ghost use Rattle.shm_logs.specs.Boxes.Box.{after, receipt};
+ghost use Rattle.shm_logs.specs.Boxes.Box.{after, receipt as receipt_in};
 ghost use Rattle.shm_logs.specs.Boxes.Logged.{stamp_of};
 ghost use Rattle.shm_logs.specs.Boxes.Receipt.{receipt_of};
 ghost use Rattle.shm_logs.specs.Boxes.SiteBox.{box_of};
+ghost use Rattle.shm_sites.specs.Cluster.Acts.{Accesses, acts_of, GoesOn, HandsOn};
 ghost use Rattle.shm_sites.specs.Cluster.Client.{TellsOf};
 ghost use Rattle.shm_sites.specs.Cluster.Faults.{no_access};
-ghost use Rattle.shm_sites.specs.Cluster.Posted.{all_sent, sent_at};
+ghost use Rattle.shm_sites.specs.Cluster.Posted.{all_sent, sent_at, Sent};
 
+use crate::cluster::carrier::{Carrier, Copies, send_all};
 use crate::cluster::client_fault::ClientFault;
 use crate::cluster::posted::Posted;
 use crate::cluster::sent_copies::copies_of;
 use shm_logs::{Asked, BoxFault, Input, Receipt, SiteBox, Stamp};
 use shm_place::SiteId;
 use std::alloc::{AllocError, Allocator, Global};
+use std::sync::Wait;
 
 /// The outcome of a client's access.
 #[derive(Drop)]
@@ -33,7 +36,7 @@ pub(crate) fn access<A: Allocator + Copy>(
     asked: Asked,
 ) -> Result<Accessed<A>, ClientFault>
     ensures tells { IfOk result (λ done. TellsOf site (access_of asked) done.receipt) }
-    ensures told { IfOk result (λ done. receipt_of done.receipt ≡ receipt (box_of held.old) (access_of asked)) }
+    ensures told { IfOk result (λ done. receipt_of done.receipt ≡ receipt_in (box_of held.old) (access_of asked)) }
     ensures step { OnOk result (box_of held.new ≡ after (box_of held.old) (access_of asked) (stamp_of Stamp.NONE)) }
     ensures sent { IfOk result (λ done. IfOk done.posted (λ posted. all_sent posted.items ≡ sent_at (box_of held.new).log (length (box_of held.old).log))) }
     ensures refused { OnErr result (box_of held.new ≡ box_of held.old) }
@@ -51,5 +54,28 @@ pub(crate) fn access<A: Allocator + Copy>(
         Err(BoxFault::OutOfMemory) => Err(ClientFault::OutOfMemory),
         // An access is no envelope.
         Err(BoxFault::Foreign) => unreachable!(),
+    }
+}
+
+/// One access of a client of the site, and what it sent is handed on. Where memory is refused for that, nothing is.
+pub(crate) fn make_access<R: Wait, A: Allocator + Copy, C: Carrier<Input<A>, Copies<A>, Posted<A>>>(
+    rt: &R,
+    carrier: &mut C,
+    site: SiteId,
+    asked: Asked,
+) -> Result<Receipt, ClientFault>
+    ensures tells { IfOk result (TellsOf site (access_of asked)) }
+    ensures made { (on : List Sent) × GoesOn (acts_of (C.calls carrier.old)) (acts_of (C.calls carrier.new)) (Accesses (access_of asked) ∷ map HandsOn on) }
+{
+    let (receipt, posted) = match carrier.access(rt, site, asked) {
+        Ok(done) => done,
+        Err(fault) => return Err(fault),
+    };
+    match posted {
+        Ok(posted) => {
+            send_all(rt, carrier, posted);
+            Ok(receipt)
+        }
+        Err(_) => Ok(receipt),
     }
 }

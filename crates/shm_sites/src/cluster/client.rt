@@ -2,12 +2,18 @@
 ghost use Rattle.std.specs.Prelude.{◌≡◌, IfOk};
 ghost use Rattle.shm_model.specs.Message.{Load, Store};
 ghost use Rattle.shm_model.specs.Receipt.{access_of};
+ghost use Rattle.shm_sites.specs.Cluster.Accesses.{Tries};
+ghost use Rattle.shm_sites.specs.Cluster.Acts.{acts_of};
 ghost use Rattle.shm_sites.specs.Cluster.Client.{waits as is_waiting, IsServed, TellsOf};
 
-use crate::cluster::access::{Accessed, access};
+use crate::cluster::access::make_access;
+use crate::cluster::carrier::{Carrier, Copies};
 use crate::cluster::client_fault::ClientFault;
+use crate::cluster::gate::OpenGate;
+use crate::cluster::posted::Posted;
+use crate::cluster::seat::Seat;
 use crate::cluster::shared::{Post, Shared};
-use shm_logs::{Asked, Receipt};
+use shm_logs::{Asked, Input, Receipt};
 use shm_model::Answer;
 use shm_place::SiteId;
 use std::alloc::{Allocator, Global};
@@ -19,6 +25,8 @@ const TRIES: u32 = 1_000_000;
 
 /// After this many tries in which its site made no step, a client has each site send again what may be lost.
 const TRIES_OF_A_TICK: u32 = 64;
+
+static OPEN: OpenGate = OpenGate;
 
 /// Loads and stores at one site, in the caller's thread and through the attachment of the number `at`; number 0 is there from the start.
 /// Each call waits for the site's lock. Each receipt tells the step that the call made, or its last one.
@@ -98,11 +106,26 @@ impl<'a, A: Allocator + Copy> Client<'a, A> {
         ensures tells { IfOk result (TellsOf self.now.post.now.number (access_of asked)) }
         ensures served { IfOk result IsServed }
     {
+        self.serve_at(rt, &mut self.seat(), asked, tries)
+    }
+
+    /// The same at this place. It makes this access alone, and hands on what that sends alone.
+    pub(crate) fn serve_at<R: Wait, C: Carrier<Input<A>, Copies<A>, Posted<A>>>(
+        &self,
+        rt: &R,
+        seat: &mut C,
+        asked: Asked,
+        tries: u32,
+    ) -> Result<Receipt, ClientFault>
+        ensures tells { IfOk result (TellsOf self.now.post.now.number (access_of asked)) }
+        ensures served { IfOk result IsServed }
+        ensures tried { Tries (access_of asked) (acts_of (C.calls seat.old)) (acts_of (C.calls seat.new)) }
+    {
         let mut last = None;
         let mut quiet: u32 = 0;
         'tries: for _ in 0..tries {
             if self.has_news(rt, last) {
-                let receipt = self.step(rt, asked)?;
+                let receipt = make_access(rt, seat, self.post.number, asked)?;
                 if !waits(receipt.answer()) {
                     return Ok(receipt);
                 }
@@ -113,6 +136,15 @@ impl<'a, A: Allocator + Copy> Client<'a, A> {
             self.pause(rt, quiet);
         }
         Err(ClientFault::GaveUp)
+    }
+
+    /// The client's place at its site. A client passes no gate.
+    fn seat(&self) -> Seat<'a, OpenGate, A> {
+        Seat {
+            shared: self.shared,
+            post: self.post,
+            gate: &OPEN,
+        }
     }
 
     /// Checks that the site has made a step behind this one that is no access, or that none is given: else it would only answer as it did.
@@ -141,19 +173,7 @@ impl<'a, A: Allocator + Copy> Client<'a, A> {
     fn step<R: Wait>(&self, rt: &R, asked: Asked) -> Result<Receipt, ClientFault>
         ensures { IfOk result (TellsOf self.now.post.now.number (access_of asked)) }
     {
-        let Accessed { receipt, posted } = self.access(rt, asked)?;
-        if let Ok(posted) = posted {
-            self.shared.send_all(rt, posted);
-        }
-        Ok(receipt)
-    }
-
-    /// Makes one step under the site's lock, and releases the lock before it sends anything.
-    fn access<R: Wait>(&self, rt: &R, asked: Asked) -> Result<Accessed<A>, ClientFault>
-        ensures { IfOk result (λ done. TellsOf self.now.post.now.number (access_of asked) done.receipt) }
-    {
-        let mut held = self.post.site.lock(rt);
-        access(&mut held, self.shared.alloc, self.post.number, asked)
+        make_access(rt, &mut self.seat(), self.post.number, asked)
     }
 }
 
