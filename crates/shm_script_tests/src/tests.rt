@@ -76,8 +76,25 @@ fn lines_within(script: &[u8], bytes: usize) -> usize {
         .count()
 }
 
+/// The one value of a list. A session or a world stands in a list: the proof writes out its drop, and not that of a list.
+fn only<T>(list: &mut [T]) -> Result<&mut T, Fail> {
+    Ok(list.first_mut().ok_or("the list is empty")?)
+}
+
 /// A session of so many sites; with segment 0 of one page, if it is preset.
 fn open_session<A: Allocator + Copy>(
+    listed: Global,
+    alloc: A,
+    sites: u32,
+    preset: bool,
+) -> Result<Vec<Session<A>>, Fail> {
+    let mut sessions = Vec::new(listed);
+    let session = new_session(alloc, sites, preset)?;
+    sessions.push(session)?;
+    Ok(sessions)
+}
+
+fn new_session<A: Allocator + Copy>(
     alloc: A,
     sites: u32,
     preset: bool,
@@ -90,12 +107,20 @@ fn open_session<A: Allocator + Copy>(
 }
 
 /// A world of so many sites, with segment 0 of so many pages attached everywhere.
-fn preset<A: Allocator + Copy>(alloc: A, sites: u32, pages: u32) -> Result<World<A>, Fail>
+fn preset<A: Allocator + Copy>(
+    listed: Global,
+    alloc: A,
+    sites: u32,
+    pages: u32,
+) -> Result<Vec<World<A>>, Fail>
     requires from { 1 ≤ pages }
     requires to { pages ≤ 256 }
 {
     let sites = Sites::new(sites).ok().ok_or("1 to 16 sites")?;
-    Ok(World::preset(alloc, sites, pages)?)
+    let mut worlds = Vec::new(listed);
+    let world = World::preset(alloc, sites, pages)?;
+    worlds.push(world)?;
+    Ok(worlds)
 }
 
 fn load(site: u32, at: u32, offset: u32) -> Event {

@@ -1,4 +1,4 @@
-use super::{is_line_feed, open_session};
+use super::{is_line_feed, only, open_session};
 use crate::tests::scripts::{Script, losses, pages};
 use shm_debug::{Line, Session, parse_line};
 use shm_model::State;
@@ -134,18 +134,18 @@ fn heals(
     lines: usize,
     site: u32,
 ) -> Result<(), Fail> {
-    let mut session = open_session(alloc, sites, true)?;
-    let byte = run_first(rt, &mut session, script, lines)?;
-    apply(rt, &mut session, &Event::Restart { site: SiteId(site) })?;
-    settle(rt, &mut session, sites)?;
+    let mut sessions = open_session(alloc, alloc, sites, true)?;
+    let session = only(&mut sessions)?;
+    let byte = run_first(rt, session, script, lines)?;
+    apply(rt, session, &Event::Restart { site: SiteId(site) })?;
+    settle(rt, session, sites)?;
     for site in 0..sites {
-        expect_byte(rt, &mut session, sites, site, byte)?;
+        expect_byte(rt, session, sites, site, byte)?;
     }
-    settle(rt, &mut session, sites)?;
+    settle(rt, session, sites)?;
     expect_one_owner(rt, session.world(), sites)?;
-    expect_one_owner_shown(rt, &session)?;
+    expect_one_owner_shown(rt, session)?;
     assert!(rt; session.len() <= EVENTS);
-    drop(session);
     Ok(())
 }
 

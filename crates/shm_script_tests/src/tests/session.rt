@@ -4,7 +4,7 @@ use shm_debug::Session;
 use shm_model::Opening;
 use shm_place::{SiteId, Sites};
 use shm_world::Event;
-use std::alloc::Allocator;
+use std::alloc::Global;
 use std::test::Fail;
 
 fn load(offset: u32) -> Event {
@@ -27,7 +27,10 @@ fn store(offset: u32, byte: u8) -> Event {
 }
 
 /// A session of two sites, with segment 0 of one page.
-fn preset<A: Allocator + Copy>(alloc: A) -> Result<Session<A>, Fail> {
+fn preset(alloc: Global) -> Result<Vec<Session>, Fail> {
     let sites = Sites::new(2).ok().ok_or("1 to 16 sites")?;
-    Ok(Session::new(alloc, Opening::preset(sites, 1))?)
+    let mut sessions = Vec::new(alloc);
+    let session = Session::new(alloc, Opening::preset(sites, 1))?;
+    sessions.push(session)?;
+    Ok(sessions)
 }

@@ -40,6 +40,17 @@ fn answers_to(
     Ok(answers)
 }
 
+/// A copy of the world, in a list.
+fn copy_of<A: Allocator + Copy>(
+    listed: Global,
+    world: &World<A>,
+) -> Result<Vec<World<A>>, AllocError> {
+    let mut copies = Vec::new(listed);
+    let copy = world.copy()?;
+    copies.push(copy)?;
+    Ok(copies)
+}
+
 /// What two sites show of the first page of segment 0, and how many envelopes were sent.
 #[derive(Clone, Copy, Debug, PartialEq, Eq)]
 struct Picture {

@@ -2,7 +2,7 @@
 
 use super::{Before, PAGE_BYTES};
 use crate::tests::full_heap::fill_heap_but;
-use crate::tests::open_session;
+use crate::tests::{only, open_session};
 use linked_list_allocator::LocalHeap;
 use shm_debug::{BackFault, Session};
 use shm_place::SiteId;
@@ -78,13 +78,13 @@ fn used_after(
 /// Goes back with so small a hole, and then on with room: the answers are the same, whichever copies were kept.
 fn goes_back(rt: &impl Abort, alloc: Global, hole: usize) -> Result<Option<usize>, Fail> {
     let heap = LocalHeap::new(alloc, HEAP)?;
-    let mut session = open_session(&heap, 1, true)?;
-    store_all(rt, &mut session);
-    let used = used_after(rt, alloc, &heap, &mut session, hole)?;
-    expect_back(rt, &mut session, 0, 130);
-    expect_back(rt, &mut session, 10, 120);
-    expect_back(rt, &mut session, 57, 63);
-    drop(session);
+    let mut sessions = open_session(alloc, &heap, 1, true)?;
+    let session = only(&mut sessions)?;
+    store_all(rt, session);
+    let used = used_after(rt, alloc, &heap, session, hole)?;
+    for (count, left) in [(0, 130), (10, 120), (57, 63)] {
+        expect_back(rt, session, count, left);
+    }
     Ok(used)
 }
 

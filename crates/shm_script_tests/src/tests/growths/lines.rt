@@ -3,7 +3,7 @@
 use super::{Before, PAGE_BYTES};
 use crate::tests::full_heap::fill_heap_but;
 use crate::tests::scripts::{Script, going_back, pages, purges, segments};
-use crate::tests::{is_line_feed, open_session};
+use crate::tests::{is_line_feed, only, open_session};
 use linked_list_allocator::LocalHeap;
 use shm_debug::{BackFault, Line, Session, parse_line, print_answer};
 use shm_place::PageId;
@@ -189,10 +189,8 @@ fn plays_in_little_memory(
     script: &Script,
 ) -> Result<usize, Fail> {
     let heap = LocalHeap::new(alloc, HEAP)?;
-    let mut session = open_session(&heap, sites, preset)?;
-    let most = refusals(rt, alloc, &heap, &mut session, script)?;
-    drop(session);
-    Ok(most)
+    let mut sessions = open_session(alloc, &heap, sites, preset)?;
+    refusals(rt, alloc, &heap, only(&mut sessions)?, script)
 }
 
 #[test]

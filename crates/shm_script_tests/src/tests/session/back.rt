@@ -1,4 +1,5 @@
 use super::{load, preset, store};
+use crate::tests::only;
 use shm_debug::{BackFault, Session};
 use shm_world::Answer;
 use std::process::Abort;
@@ -46,21 +47,19 @@ fn go_back(rt: &impl Abort, session: &mut Session) -> Result<(), Fail> {
 
 #[test]
 fn going_back_gives_the_bytes_of_before(rt: HostRuntime) -> Result<(), Fail> {
-    let mut session = preset(rt.alloc())?;
-    go_back(&rt, &mut session)?;
-    drop(session);
-    Ok(())
+    let mut sessions = preset(rt.alloc())?;
+    go_back(&rt, only(&mut sessions)?)
 }
 
 #[test]
 fn going_back_past_the_beginning_changes_nothing(rt: HostRuntime) -> Result<(), Fail> {
-    let mut session = preset(rt.alloc())?;
+    let mut sessions = preset(rt.alloc())?;
+    let session = only(&mut sessions)?;
     assert_eq!(rt; session.is_empty(), true);
     assert_eq!(rt; session.back(1), Err(BackFault::PastBeginning));
-    store_many(&rt, &mut session, 0, 3);
+    store_many(&rt, session, 0, 3);
     assert_eq!(rt; session.back(4), Err(BackFault::PastBeginning));
-    expect_after(&rt, &mut session, 0, 3, (2, 2))?;
-    expect_after(&rt, &mut session, 3, 0, (2, 0))?;
-    drop(session);
+    expect_after(&rt, session, 0, 3, (2, 2))?;
+    expect_after(&rt, session, 3, 0, (2, 0))?;
     Ok(())
 }

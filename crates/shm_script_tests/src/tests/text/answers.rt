@@ -1,5 +1,5 @@
 use super::{Deliver, expect_bytes};
-use crate::tests::{load, preset, store};
+use crate::tests::{load, only, preset, store};
 use shm_debug::{print_answer, tell_answer_line};
 use shm_model::Answer::{Began, Byte, Dropped, Fault, Refused, Replied, Stored, Took, Waiting};
 use shm_model::{Answer, Attached, Errno, Mode, Reply, Stat};
@@ -152,10 +152,8 @@ fn a_line_tells_what_was_sent_and_is_not_gone(rt: HostRuntime) -> Result<(), Fai
         (Deliver(0), "2 took m1>0:Hand\n"),
         (Lose(1), "2 took\n"),
     ];
-    let mut world = preset(rt.alloc(), 2, 1)?;
-    let told = expect_lines(&rt, rt.alloc(), &mut world, table.as_slice());
-    drop(world);
-    Ok(told?)
+    let mut worlds = preset(rt.alloc(), rt.alloc(), 2, 1)?;
+    Ok(expect_lines(&rt, rt.alloc(), only(&mut worlds)?, table.as_slice())?)
 }
 
 /// Two lines, in a text with room for one.
@@ -177,8 +175,6 @@ fn expect_text_of_two(rt: &impl Abort, alloc: Global, world: &World) -> Result<(
 
 #[test]
 fn a_text_grows_by_lines(rt: HostRuntime) -> Result<(), Fail> {
-    let world = preset(rt.alloc(), 2, 1)?;
-    let told = expect_text_of_two(&rt, rt.alloc(), &world);
-    drop(world);
-    Ok(told?)
+    let mut worlds = preset(rt.alloc(), rt.alloc(), 2, 1)?;
+    Ok(expect_text_of_two(&rt, rt.alloc(), only(&mut worlds)?)?)
 }

@@ -1,5 +1,5 @@
 use super::{Deliver, expect_bytes};
-use crate::tests::{load, preset, store};
+use crate::tests::{load, only, preset, store};
 use shm_debug::print_page;
 use shm_model::{Cred, Op, Request};
 use shm_place::{PageId, SegId, SiteId};
@@ -47,10 +47,8 @@ fn expect_after(
     events: &[Event],
     wanted: &str,
 ) -> Result<(), Fail> {
-    let mut world = preset(alloc, sites, 1)?;
-    let shown = expect_steps(rt, alloc, &mut world, events, wanted);
-    drop(world);
-    Ok(shown?)
+    let mut worlds = preset(alloc, alloc, sites, 1)?;
+    Ok(expect_steps(rt, alloc, only(&mut worlds)?, events, wanted)?)
 }
 
 #[test]
@@ -134,10 +132,10 @@ fn a_purged_page_has_no_book(rt: HostRuntime) -> Result<(), Fail> {
 
 #[test]
 fn a_page_outside_the_limits_is_refused(rt: HostRuntime) -> Result<(), Fail> {
-    let world = preset(rt.alloc(), 2, 1)?;
-    let index = expect_page(&rt, rt.alloc(), &world, (0, 256), "refused 16");
-    let segment = expect_page(&rt, rt.alloc(), &world, (131_072, 0), "refused 16");
-    drop(world);
-    index?;
-    Ok(segment?)
+    let mut worlds = preset(rt.alloc(), rt.alloc(), 2, 1)?;
+    let world = only(&mut worlds)?;
+    for page in [(0, 256), (131_072, 0)] {
+        expect_page(&rt, rt.alloc(), world, page, "refused 16")?;
+    }
+    Ok(())
 }

@@ -1,6 +1,6 @@
 use super::expect_bytes;
 use crate::tests::full_heap::{Blocks, fill_heap};
-use crate::tests::{load, preset};
+use crate::tests::{load, only, preset};
 use linked_list_allocator::LocalHeap;
 use shm_debug::tell_answer_line;
 use shm_model::Answer;
@@ -55,9 +55,8 @@ fn told_on_full_heap<'a>(
 #[test]
 fn a_refused_line_leaves_the_text(rt: HostRuntime) -> Result<(), Fail> {
     let heap = LocalHeap::new(rt.alloc(), 1 << 16)?;
-    let mut world = preset(&heap, 2, 1)?;
-    let tries = tries_of(&rt, rt.alloc(), &heap, &mut world)?;
-    drop(world);
+    let mut worlds = preset(rt.alloc(), &heap, 2, 1)?;
+    let tries = tries_of(&rt, rt.alloc(), &heap, only(&mut worlds)?)?;
     assert!(rt; tries.ok_or("no line was told")? > 0);
     Ok(())
 }

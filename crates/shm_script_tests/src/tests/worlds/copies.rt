@@ -1,9 +1,9 @@
-use super::{answers_to, events_of, picture_of};
-use crate::tests::preset;
+use super::{answers_to, copy_of, events_of, picture_of};
 use crate::tests::scripts::pages::READER_BECOMES_WRITER;
+use crate::tests::{only, preset};
 use shm_world::Answer::{Byte, Stored, Waiting};
 use shm_world::{Event, World};
-use std::alloc::{AllocError, Global};
+use std::alloc::Global;
 use std::process::Abort;
 use std::test::Fail;
 
@@ -16,17 +16,18 @@ fn go_on_alone(
     alloc: Global,
     world: &mut World,
     events: &[Event],
-) -> Result<(), AllocError> {
-    let mut copy = world.copy()?;
+) -> Result<(), Fail> {
+    let mut copies = copy_of(alloc, world)?;
+    let copy = only(&mut copies)?;
     let before = picture_of(world);
-    assert_eq!(rt; picture_of(&copy), before);
+    assert_eq!(rt; picture_of(copy), before);
     let answers = answers_to(alloc, world, events)?;
     assert_eq!(rt; answers.last(), Some(&Byte(9)));
     let after = picture_of(world);
     assert_ne!(rt; after, before);
-    assert_eq!(rt; picture_of(&copy), before);
-    assert_eq!(rt; answers_to(alloc, &mut copy, events)?, answers);
-    assert_eq!(rt; picture_of(&copy), after);
+    assert_eq!(rt; picture_of(copy), before);
+    assert_eq!(rt; answers_to(alloc, copy, events)?, answers);
+    assert_eq!(rt; picture_of(copy), after);
     assert_eq!(rt; picture_of(world), after);
     Ok(())
 }
@@ -36,9 +37,9 @@ fn a_world_and_its_copy_go_on_alone(rt: HostRuntime) -> Result<(), Fail> {
     let events = events_of(rt.alloc(), &READER_BECOMES_WRITER)?;
     let before = events.get(..BEFORE).ok_or("so many events")?;
     let further = events.get(BEFORE..).ok_or("so many events")?;
-    let mut world = preset(rt.alloc(), 2, 1)?;
-    let answers = answers_to(rt.alloc(), &mut world, before)?;
+    let mut worlds = preset(rt.alloc(), rt.alloc(), 2, 1)?;
+    let world = only(&mut worlds)?;
+    let answers = answers_to(rt.alloc(), world, before)?;
     assert_eq!(rt; answers.get(14..), Some([Stored, Waiting].as_slice()));
-    go_on_alone(&rt, rt.alloc(), &mut world, further)?;
-    Ok(())
+    go_on_alone(&rt, rt.alloc(), world, further)
 }

@@ -1,6 +1,6 @@
 use super::{PAGE, answers_to, events_of};
-use crate::tests::preset;
 use crate::tests::scripts::purges::PURGE_RESENT;
+use crate::tests::{only, preset};
 use shm_model::State;
 use shm_place::SiteId;
 use shm_world::Answer::Took;
@@ -15,8 +15,9 @@ const DESTROYED: usize = 7;
 fn a_purged_page_has_no_book(rt: HostRuntime) -> Result<(), Fail> {
     let events = events_of(rt.alloc(), &PURGE_RESENT)?;
     let destroyed = events.get(..DESTROYED).ok_or("so many events")?;
-    let mut world = preset(rt.alloc(), 1, 1)?;
-    answers_to(rt.alloc(), &mut world, destroyed)?;
+    let mut worlds = preset(rt.alloc(), rt.alloc(), 1, 1)?;
+    let world = only(&mut worlds)?;
+    answers_to(rt.alloc(), world, destroyed)?;
     assert!(rt; world.book(PAGE).is_some());
     assert_eq!(rt; world.step(Deliver(4)), Ok(Took));
     assert!(rt; world.book(PAGE).is_none());

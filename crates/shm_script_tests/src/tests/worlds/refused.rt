@@ -1,7 +1,7 @@
-use super::{Picture, events_of, picture_of};
+use super::{Picture, copy_of, events_of, picture_of};
 use crate::tests::full_heap::{Blocks, fill_heap};
 use crate::tests::scripts::pages::FIRST_READ_FAULT;
-use crate::tests::{load, preset, store};
+use crate::tests::{load, only, preset, store};
 use linked_list_allocator::LocalHeap;
 use shm_model::{Cred, Op, Request};
 use shm_place::{SegId, SiteId};
@@ -24,14 +24,16 @@ const TRIES: usize = 2000;
 /// A world of two pages in which site 1 asked for the first one, and its manager, site 0, told itself to lend it, and again at each of
 /// eight ticks: envelopes 1 to 9 are on their way. Being a copy of a copy, it has no room to spare: the first has a place more, as the
 /// envelope that was delivered had one.
-fn world_with_asks(heap: &LocalHeap) -> Result<World<&LocalHeap>, Fail> {
-    let mut world = preset(heap, 2, 2)?;
+fn world_with_asks(alloc: Global, heap: &LocalHeap) -> Result<Vec<World<&LocalHeap>>, Fail> {
+    let mut worlds = preset(alloc, heap, 2, 2)?;
+    let world = only(&mut worlds)?;
     world.step(load(1, 0, 0))?;
     world.step(Deliver(0))?;
     for _again in 0..8usize {
         world.step(tick(0))?;
     }
-    Ok(world.copy()?.copy()?)
+    let mut copies = copy_of(alloc, world)?;
+    Ok(copy_of(alloc, only(&mut copies)?)?)
 }
 
 /// How often the event is refused while the hole widens, and its answer. Each time the world stands as before.
@@ -55,9 +57,9 @@ fn refusals<'a>(
 /// How often the event is refused while a full heap gets room, and its answer.
 fn refusals_of(rt: &impl Abort, alloc: Global, event: &Event) -> Result<(usize, Answer), Fail> {
     let heap = LocalHeap::new(alloc, HEAP)?;
-    let mut world = world_with_asks(&heap)?;
+    let mut worlds = world_with_asks(alloc, &heap)?;
     let blocks = fill_heap(alloc, &heap)?;
-    Ok(refusals(rt, &mut world, blocks, event).ok_or("no step was made")?)
+    Ok(refusals(rt, only(&mut worlds)?, blocks, event).ok_or("no step was made")?)
 }
 
 fn tick(site: u32) -> Event {
@@ -142,22 +144,24 @@ fn other_refusals_come_before_that_for_memory(rt: HostRuntime) -> Result<(), Fai
 #[test]
 fn a_call_at_a_busy_site_is_refused_on_a_full_heap(rt: HostRuntime) -> Result<(), Fail> {
     let heap = LocalHeap::new(rt.alloc(), HEAP)?;
-    let mut calling = world_with_asks(&heap)?;
+    let mut worlds = world_with_asks(rt.alloc(), &heap)?;
+    let calling = only(&mut worlds)?;
     assert_eq!(rt; calling.step(begin(1, STAT)), Ok(Began(1)));
-    let mut world = calling.copy()?;
+    let mut copies = copy_of(rt.alloc(), calling)?;
     let blocks = fill_heap(rt.alloc(), &heap)?;
-    let refused = refusals(&rt, &mut world, blocks, &begin(1, STAT));
+    let refused = refusals(&rt, only(&mut copies)?, blocks, &begin(1, STAT));
     assert_eq!(rt; refused, Some((0, Refused(8))));
     Ok(())
 }
 
 /// What a world with room shows before the events, and after each of them.
 fn pictures(alloc: Global, events: &[Event]) -> Result<Vec<Picture>, Fail> {
-    let mut world = preset(alloc, 2, 1)?;
+    let mut worlds = preset(alloc, alloc, 2, 1)?;
+    let world = only(&mut worlds)?;
     let mut pictures = Vec::new(alloc);
-    pictures.push(picture_of(&world))?;
+    pictures.push(picture_of(world))?;
     for event in events {
-        let picture = picture_after(&mut world, event).ok_or("memory was refused")?;
+        let picture = picture_after(world, event).ok_or("memory was refused")?;
         pictures.push(picture)?;
     }
     Ok(pictures)
@@ -200,10 +204,11 @@ fn count_refusals(
 ) -> Result<usize, Fail> {
     let pictures = pictures(alloc, events)?;
     let heap = LocalHeap::new(alloc, HEAP)?;
-    let mut world = preset(&heap, 2, 1)?;
+    let mut worlds = preset(alloc, &heap, 2, 1)?;
+    let world = only(&mut worlds)?;
     let mut answers = Vec::new(&heap);
     let blocks = fill_heap(alloc, &heap)?;
-    let tries = run_refusals(rt, &mut world, blocks, events, &pictures, &mut answers);
+    let tries = run_refusals(rt, world, blocks, events, &pictures, &mut answers);
     assert_eq!(rt; answers.as_slice(), wanted);
     Ok(tries.ok_or("no run was made")?)
 }
@@ -228,8 +233,8 @@ fn copy_refusals<'a>(
 ) -> Option<usize> {
     let before = picture_of(world);
     for tries in 0..TRIES {
-        if let Some(copy) = world.copy().ok() {
-            assert_eq!(rt; picture_of(&copy), before);
+        if let Some(copied) = picture_of_copy(world) {
+            assert_eq!(rt; copied, before);
             return Some(tries);
         }
         assert_eq!(rt; picture_of(world), before);
@@ -238,12 +243,25 @@ fn copy_refusals<'a>(
     None
 }
 
+/// What a copy shows, if there is memory for it.
+fn picture_of_copy<'a>(world: &World<&'a LocalHeap>) -> Option<Picture> {
+    match world.copy() {
+        Ok(copy) => {
+            let picture = picture_of(&copy);
+            drop(copy);
+            Some(picture)
+        }
+        Err(_) => None,
+    }
+}
+
 #[test]
 fn a_copy_is_refused_until_there_is_room(rt: HostRuntime) -> Result<(), Fail> {
     let heap = LocalHeap::new(rt.alloc(), HEAP)?;
-    let mut world = world_with_asks(&heap)?;
+    let mut worlds = world_with_asks(rt.alloc(), &heap)?;
+    let world = only(&mut worlds)?;
     let blocks = fill_heap(rt.alloc(), &heap)?;
-    let tries = copy_refusals(&rt, &world, blocks).ok_or("no copy was made")?;
+    let tries = copy_refusals(&rt, world, blocks).ok_or("no copy was made")?;
     assert!(rt; tries > PAGE_BLOCKS, "the manager's page was refused too");
     assert_eq!(rt; world.step(Deliver(1)), Ok(Took));
     Ok(())

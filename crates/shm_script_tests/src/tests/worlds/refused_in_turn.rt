@@ -7,12 +7,13 @@ mod seen_world;
 use self::seen_world::look;
 use crate::tests::full_heap::fill_heap_but;
 use crate::tests::scripts::{Script, losses, pages, purges, segments};
-use crate::tests::{is_line_feed, preset};
+use crate::tests::{is_line_feed, only, preset};
 use linked_list_allocator::LocalHeap;
 use shm_debug::{Line, parse_line, print_answer};
 use shm_place::Sites;
 use shm_world::{Answer, Event, World};
 use std::alloc::Global;
+use std::mem;
 use std::process::Abort;
 use std::test::Fail;
 
@@ -60,7 +61,8 @@ fn refuse<'a>(
     told: &[u8],
 ) -> Result<usize, Fail> {
     let sent = world.sent();
-    *world = world.copy()?;
+    let copy = world.copy()?;
+    drop(mem::replace(world, copy));
     let (tries, answer) = refusals(rt, alloc, heap, world, event)?;
     let line = print_answer(heap, number, &answer, world, sent)?;
     assert_eq!(rt; line.as_slice(), told, "{event:?}");
@@ -100,16 +102,18 @@ fn refuse_all(
     requires to { pages ≤ 256 }
 {
     let heap = LocalHeap::new(alloc, HEAP)?;
-    let mut world = preset(&heap, sites, pages)?;
-    refuse_each(rt, alloc, &heap, &mut world, script)
+    let mut worlds = preset(alloc, &heap, sites, pages)?;
+    refuse_each(rt, alloc, &heap, only(&mut worlds)?, script)
 }
 
 /// The same in a new world of so many sites, where no segment is made yet.
 fn refuse_calls(rt: &impl Abort, alloc: Global, sites: u32, script: &Script) -> Result<(), Fail> {
     let sites = Sites::new(sites).ok().ok_or("1 to 16 sites")?;
     let heap = LocalHeap::new(alloc, HEAP)?;
-    let mut world = World::new(&heap, sites)?;
-    refuse_each(rt, alloc, &heap, &mut world, script)
+    let mut worlds = Vec::new(alloc);
+    let world = World::new(&heap, sites)?;
+    worlds.push(world)?;
+    refuse_each(rt, alloc, &heap, only(&mut worlds)?, script)
 }
 
 #[test]
