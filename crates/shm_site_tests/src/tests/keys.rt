@@ -5,6 +5,7 @@ use shm_keys::{Attached, Cred, Errno, GetFault, GetFlags, Mode, SegTable, Stat};
 use shm_place::{Key, SegId, SiteId, SiteSet, Sites};
 use std::alloc::{Allocator, Global};
 use std::process::Abort;
+use std::test::Fail;
 
 mod calls;
 mod limits;
@@ -26,6 +27,14 @@ fn make_lone<A: Allocator + Copy>(alloc: A, sites: Sites) -> Lone<A>
     Lone {
         table: SegTable::new(alloc, SiteId(0), sites),
     }
+}
+
+fn lone_in_list<A: Allocator + Copy>(listed: Global, alloc: A) -> Result<Vec<Lone<A>>, Fail> {
+    let sites = Sites::new(1).ok().ok_or("one site")?;
+    let mut list = Vec::new(listed);
+    let lone = make_lone(alloc, sites);
+    list.push(lone)?;
+    Ok(list)
 }
 
 impl<A: Allocator + Copy> Lone<A> {
@@ -67,6 +76,14 @@ impl<A: Allocator + Copy> Lone<A> {
 
     fn stat(&self, cred: Cred, id: u32) -> Result<Stat, Errno> {
         self.table.stat(cred, SegId(id))
+    }
+
+    /// Whether `stat` tells of the segment.
+    fn tells(&self, cred: Cred, id: u32) -> Result<(), Errno> {
+        match self.stat(cred, id) {
+            Ok(_) => Ok(()),
+            Err(errno) => Err(errno),
+        }
     }
 
     fn on_purged(&mut self, id: u32) -> bool {

@@ -1,7 +1,7 @@
 ghost use Rattle.std.specs.Prelude.{◌≡◌};
 
-use crate::tests::expect;
-use crate::tests::full_heap::fill_heap;
+use crate::tests::full_heap::{Blocks, fill_heap};
+use crate::tests::{expect, only};
 use linked_list_allocator::LocalHeap;
 use shm_attach::{Done, Home, Op, Reply};
 use shm_keys::SegTable;
@@ -12,6 +12,9 @@ use std::process::Abort;
 use std::test::Fail;
 
 const ROOT: Cred = Cred { uid: 0, gid: 0 };
+
+/// How often a hole is widened at most.
+const TRIES: usize = 1000;
 
 /// The home of a single site.
 #[derive(Drop)]
@@ -28,6 +31,14 @@ fn make_lone<A: Allocator + Copy>(alloc: A, sites: Sites) -> Lone<A>
     Lone {
         home: Home::new(table),
     }
+}
+
+fn lone_in_list<A: Allocator + Copy>(listed: Global, alloc: A) -> Result<Vec<Lone<A>>, Fail> {
+    let sites = Sites::new(1).ok().ok_or("one site")?;
+    let mut list = Vec::new(listed);
+    let lone = make_lone(alloc, sites);
+    list.push(lone)?;
+    Ok(list)
 }
 
 impl<A: Allocator + Copy> Lone<A> {
@@ -72,8 +83,8 @@ fn expect_done(rt: &impl Abort, answer: Option<Done>, expected: Option<Done>) {
 
 #[test]
 fn a_call_is_executed_once(rt: HostRuntime) -> Result<(), Fail> {
-    let sites = Sites::new(1).ok().ok_or("one site")?;
-    let mut lone = make_lone(rt.alloc(), sites);
+    let mut list = lone_in_list(rt.alloc(), rt.alloc())?;
+    let lone = only(&mut list)?;
     expect_done(&rt, lone.make(0)?, None);
     expect_done(&rt, lone.make(4)?, get_done());
     expect_done(&rt, lone.make(4)?, get_done());
@@ -85,50 +96,94 @@ fn a_call_is_executed_once(rt: HostRuntime) -> Result<(), Fail> {
 
 #[test]
 fn what_was_destroyed_is_purged_once(rt: HostRuntime) -> Result<(), Fail> {
-    let sites = Sites::new(1).ok().ok_or("one site")?;
-    let mut lone = make_lone(rt.alloc(), sites);
+    let mut list = lone_in_list(rt.alloc(), rt.alloc())?;
+    let lone = only(&mut list)?;
     lone.make(1)?;
     lone.remove(2)?;
-    let mut copy = lone.home.copy()?;
-    expect(&rt, copy.on_purged(SegId(0), SiteId(0)));
-    expect(&rt, !copy.on_purged(SegId(0), SiteId(0)));
-    expect(&rt, copy.next_purge(None).is_none());
+    expect(&rt, purges_of_copy(lone)? == (true, false, None));
     expect(&rt, lone.home.next_purge(None).is_some());
     Ok(())
+}
+
+/// What a copy of the home answers when it is told twice that segment 0 is purged, and what it purges next.
+fn purges_of_copy(lone: &Lone) -> Result<(bool, bool, Option<SegId>), AllocError> {
+    let mut copy = lone.home.copy()?;
+    let first = copy.on_purged(SegId(0), SiteId(0));
+    let second = copy.on_purged(SegId(0), SiteId(0));
+    let next = next_of(&copy);
+    drop(copy);
+    Ok((first, second, next))
+}
+
+fn next_of<A: Allocator + Copy>(home: &Home<A>) -> Option<SegId> {
+    match home.next_purge(None) {
+        Some((id, _)) => Some(id),
+        None => None,
+    }
 }
 
 #[test]
 fn a_refused_call_is_executed_when_it_comes_again(rt: HostRuntime) -> Result<(), Fail> {
     let heap = LocalHeap::new(rt.alloc(), 1 << 14)?;
-    let sites = Sites::new(1).ok().ok_or("one site")?;
-    let mut lone = make_lone(&heap, sites);
+    let mut list = lone_in_list(rt.alloc(), &heap)?;
     let mut blocks = fill_heap(rt.alloc(), &heap)?;
-    for tries in 0..1000 {
+    let lone = only(&mut list)?;
+    assert!(rt; refusals(&rt, lone, &mut blocks) > Some(2));
+    expect_done(&rt, lone.remove(2)?, remove_done(Some(SegId(0))));
+    Ok(())
+}
+
+/// How often the segment is refused while the hole widens.
+fn refusals<'a>(
+    rt: &impl Abort,
+    lone: &mut Lone<&'a LocalHeap>,
+    blocks: &mut Blocks<'a>,
+) -> Option<usize> {
+    'tries: for tries in 0..TRIES {
         if let Ok(done) = lone.make(1) {
-            assert!(rt; tries > 2);
-            expect_done(&rt, done, get_done());
-            expect_done(&rt, lone.remove(2)?, remove_done(Some(SegId(0))));
-            return Ok(());
+            expect_done(rt, done, get_done());
+            return Some(tries);
         }
         drop(blocks.pop());
     }
-    Err(Fail::new("no segment was made"))
+    None
 }
 
 #[test]
 fn a_copy_is_refused_until_there_is_room(rt: HostRuntime) -> Result<(), Fail> {
     let heap = LocalHeap::new(rt.alloc(), 1 << 14)?;
-    let sites = Sites::new(1).ok().ok_or("one site")?;
-    let mut lone = make_lone(&heap, sites);
+    let mut list = lone_in_list(rt.alloc(), &heap)?;
+    let lone = only(&mut list)?;
     lone.make(1)?;
     let mut blocks = fill_heap(rt.alloc(), &heap)?;
-    for tries in 0..1000 {
-        if let Ok(copy) = lone.home.copy() {
-            assert!(rt; tries > 2);
-            expect(&rt, copy.next_purge(None).is_none());
-            return Ok(());
+    assert!(rt; refused_copies(&rt, lone, &mut blocks) > Some(2));
+    Ok(())
+}
+
+/// How often a copy is refused while the hole widens.
+fn refused_copies<'a>(
+    rt: &impl Abort,
+    lone: &Lone<&'a LocalHeap>,
+    blocks: &mut Blocks<'a>,
+) -> Option<usize> {
+    'tries: for tries in 0..TRIES {
+        if let Some(next) = next_of_copy(lone) {
+            expect(rt, next.is_none());
+            return Some(tries);
         }
         drop(blocks.pop());
     }
-    Err(Fail::new("no copy was made"))
+    None
+}
+
+/// What a copy purges next, if there is memory for it.
+fn next_of_copy<'a>(lone: &Lone<&'a LocalHeap>) -> Option<Option<SegId>> {
+    match lone.home.copy() {
+        Ok(copy) => {
+            let next = next_of(&copy);
+            drop(copy);
+            Some(next)
+        }
+        Err(AllocError) => None,
+    }
 }
