@@ -134,9 +134,10 @@ def try_streams(program, folder):
         return ['sh', '-c', f'exec "$@" {streams}', 'sh'] + words(program, journal, new)
     start('an input that is a folder', over(f'< {folder}', new=True), 3, 'read fault')
     stays('an input that is a folder', journal, HEADER)
-    start('an output that is full', over('> /dev/full'), 3, 'write fault')
+    start('an output that is full', over('> /dev/full'), 3, AGAIN + '\nshmdbg: write fault')
     stays('an output that is full', journal, HEADER + b'step 1 restart\nstep 2 ask 0 a store 0 5 7\n')
-    start('after both', words(program, journal), 0, '', b'tell 0 b byte 7\n', given=b'ask 0 b load 0 5\n')
+    start('after both', words(program, journal), 0, AGAIN.replace('0 steps taken again, clock 0', '2 steps taken again, clock 2'), b'tell 0 b byte 7\n',
+          given=b'ask 0 b load 0 5\n')
     for streams, fault in ((f'< {folder}', 'read fault'), ('> /dev/full', 'write fault')):
         start(f'a prompt {streams}', ['sh', '-c', f'exec "$@" {streams}', 'sh', program, 'prompt'], 3, fault, given=b'sites 1\n')
 
