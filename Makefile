@@ -1,5 +1,5 @@
-# Everything here needs the command `rt` of the Rattle toolchain, and nothing else but `machines`, `crashes`, `clients`, `programs` and
-# `documents`, which need Python; all but the second and the last need a C compiler too, and the first mosquitto. `limits` needs root.
+# Everything here needs the command `rt` of the Rattle toolchain, and nothing else but `machines`, `crashes`, `clients`, `programs`, `pages`
+# and `documents`, which need Python; all but the second and the last need a C compiler too, and the first mosquitto. `limits` needs root.
 # CONTRIBUTING.md says how long each takes.
 
 PROGRAM := crates/shmdbg
@@ -24,9 +24,9 @@ quick:
 	@gate/quick
 
 # Draws a script.
-DRAW = $(PROGRAM)/out/shmdbg draw < "$$script"
+DRAW = $(PROGRAM)/out/shmdbg draw $$(! [ -f "$${script%.shm}.notes" ] || echo "--notes $${script%.shm}.notes") < "$$script"
 
-# Draws each script of examples/ anew. Needs the program that `make build` leaves.
+# Draws each script of examples/ anew, with its notes where it has some. Needs the program that `make build` leaves.
 pictures:
 	@for script in examples/*.shm; do $(DRAW) > "$${script%.shm}.svg" || exit 1; done
 
@@ -42,6 +42,12 @@ examples:
 	@for script in examples/*.shm; do \
 		picture=$${script%.shm}.svg; $(DRAW) | cmp -s - "$$picture" || { echo "$$picture: stale, or there is no program"; exit 1; }; \
 	done; echo "pictures: as drawn"
+
+# Writes the page of each script of examples/, step by step, and compares it with replays; with Chromium (Debian's package), opens each and
+# leaves screenshots in /tmp/pages. Needs the program that `make build` leaves, and Python 3. No part of the gate.
+.PHONY: pages
+pages:
+	@pages/check
 
 # Compares the shells' completions and the manual page with what the program's help names. Needs the program that `make build` leaves.
 manners:
@@ -76,6 +82,7 @@ machines:
 	@examples/machines/starts.py $(PROGRAM)/out/shmdbg
 	@for seed in 1 2 3; do examples/machines/router.py --seed $$seed --seconds 4 --program $(PROGRAM)/out/shmdbg || exit 1; done
 	@examples/machines/mutations.py --lines 20000 --program $(PROGRAM)/out/shmdbg
+	@examples/machines/mutations.py --lines 20000 --key --program $(PROGRAM)/out/shmdbg
 	@examples/machines/backup.py $(PROGRAM)/out/shmdbg
 	@examples/machines/broker.py --program $(PROGRAM)/out/shmdbg
 	@examples/machines/tls.py $(PROGRAM)/out/shmdbg
@@ -88,6 +95,20 @@ crashes:
 # The libraries of clients/: each call, over a stream that loses. Needs the program that `make build` leaves, Python 3 and a C compiler.
 clients:
 	@clients/try.py --program $(PROGRAM)/out/shmdbg
+
+# The world as a static library for C, C++ and Rust: proves it, leaves clients/core/libleddwyfan.a, and runs the simulators of examples/c and
+# examples/rust over it, whose every answer is compared with a replay: make core SHMDBG=path, or the program that `make build` leaves. Needs
+# a C and a C++ compiler, and rustc; valgrind is left out where it isn't there.
+SHMDBG ?= $(PROGRAM)/out/shmdbg
+.PHONY: core bench-core
+core:
+	@clients/core/build
+	@clients/core/try $(SHMDBG)
+
+# Times the library beside plain C. Needs what `make core` leaves. No part of the gate.
+bench-core:
+	@cc -std=c11 -D_POSIX_C_SOURCE=200809L -Wall -Wextra -Wpedantic -Werror -O2 -o /tmp/bench-core bench/core.c clients/core/libleddwyfan.a
+	@/tmp/bench-core; rm /tmp/bench-core
 
 # Programs of one machine's segments, unchanged, over two and three hosts on this machine, with carriers that lose, sites that are killed, and
 # daemons that leave out a part of their rule. Needs the program that `make build` leaves, root, Linux 6.4 or later, Python 3 and a C compiler

@@ -28,7 +28,7 @@ _shmdbg() {
       ;;
     *:draw)
       [ "$before" != --page ] || return
-      mapfile -t COMPREPLY < <(compgen -W '--page -h --help' -- "$word"; compgen -f -- "$word")
+      mapfile -t COMPREPLY < <(compgen -W '--page --steps --notes -h --help' -- "$word"; compgen -f -- "$word")
       compopt -o filenames 2> /dev/null
       return
       ;;
@@ -36,13 +36,13 @@ _shmdbg() {
       case $before in
         --sites) offered='1 2 3 4 5 6 7 8 9 10 11 12 13 14 15 16' ;;
         --me) offered='0 1 2 3 4 5 6 7 8 9 10 11 12 13 14 15' ;;
-        --preset) ;;
-        --journal)
+        --preset | --cluster) ;;
+        --journal | --key)
           mapfile -t COMPREPLY < <(compgen -f -- "$word")
           compopt -o filenames 2> /dev/null
           return
           ;;
-        *) offered='--sites --me --preset --journal --new -h --help' ;;
+        *) offered='--sites --me --preset --journal --new --cluster --key -h --help' ;;
       esac
       ;;
     *:journal)

@@ -21,12 +21,16 @@ complete -c shmdbg -n '__fish_seen_subcommand_from run' -s h -l help -d 'Print h
 complete -c shmdbg -n '__fish_seen_subcommand_from prompt' -s h -l help -d 'Print help'
 complete -c shmdbg -n '__fish_seen_subcommand_from draw' -F
 complete -c shmdbg -n '__fish_seen_subcommand_from draw' -l page -x -d 'The page to show, by its segment and its index'
+complete -c shmdbg -n '__fish_seen_subcommand_from draw' -l steps -d 'Write a page for a browser, with the picture and the tables of each step'
+complete -c shmdbg -n '__fish_seen_subcommand_from draw' -l notes -r -F -d 'Add the captions that this file has for rows'
 complete -c shmdbg -n '__fish_seen_subcommand_from draw' -s h -l help -d 'Print help'
 complete -c shmdbg -n '__fish_seen_subcommand_from site' -l sites -x -a '(seq 16)' -d 'How many sites, 1 to 16'
 complete -c shmdbg -n '__fish_seen_subcommand_from site' -l me -x -a '(seq 0 15)' -d 'Which site this is, 0 to N-1'
 complete -c shmdbg -n '__fish_seen_subcommand_from site' -l preset -x -d 'How many pages segment 0 has, 1 to 256'
 complete -c shmdbg -n '__fish_seen_subcommand_from site' -l journal -r -F -d "Keep the site's journal in this file, and begin as it says"
 complete -c shmdbg -n '__fish_seen_subcommand_from site' -l new -d "Begin the journal, which doesn't exist yet"
+complete -c shmdbg -n '__fish_seen_subcommand_from site' -l cluster -x -d "The cluster's name, which stands behind each of its lines"
+complete -c shmdbg -n '__fish_seen_subcommand_from site' -l key -r -F -d "The file of the cluster's key, under which each line has a digest"
 complete -c shmdbg -n '__fish_seen_subcommand_from site' -s h -l help -d 'Print help'
 complete -c shmdbg -n '__fish_seen_subcommand_from audit' -F
 complete -c shmdbg -n '__fish_seen_subcommand_from audit' -l sites -x -a '(seq 16)' -d 'How many sites, 1 to 16'

@@ -1,4 +1,5 @@
 #include "leddwyfan.h"
+#include "seal.h"
 
 #include <errno.h>
 #include <fcntl.h>
@@ -79,6 +80,7 @@ struct leddwyfan {
     char **words; /* of the process, all copied: it may be started again */
     char **begin; /* the last of them, which begins the journal, or NULL */
     char numbers[3][12];
+    struct seal seal;
     unsigned sites, me, timeout, restarts;
     uint32_t uid, gid;
     pid_t owner; /* the process that started the site */
@@ -154,6 +156,13 @@ static void push(struct leddwyfan *site, struct channel *channel, const char *li
     bytes->length += length + 1;
 }
 
+/* The same of an ask of this library, which is sealed. */
+static void push_ask(struct leddwyfan *site, const char *line, size_t length) {
+    char sealed[ASK_BYTES + SEAL_BYTES];
+    memcpy(sealed, line, length);
+    push(site, &site->to_site, sealed, length + seal_append(&site->seal, sealed, length));
+}
+
 /* The same of a line that a carrier may lose: where too much is on its way already, this one is lost. */
 static void push_if_room(struct leddwyfan *site, struct channel *channel, const char *line, size_t length) {
     if (channel->bytes.length < MOST_UNWRITTEN) push(site, channel, line, length);
@@ -165,7 +174,7 @@ static void say_to_site(struct leddwyfan *site, const char *format, ...) {
     va_start(values, format);
     int length = vsnprintf(line, sizeof line, format, values);
     va_end(values);
-    push(site, &site->to_site, line, (size_t)length);
+    push_ask(site, line, (size_t)length);
 }
 
 static void wake(struct leddwyfan *site) {
@@ -307,7 +316,7 @@ static void ask_again(struct leddwyfan *site) {
         batch->doubtful = batch->begins;
         for (size_t place = 0; place < batch->count && !batch->begins; place++) {
             struct ask *ask = &batch->asks[place];
-            if (ask->answer[0] == '\0') push(site, &site->to_site, ask->line, strlen(ask->line));
+            if (ask->answer[0] == '\0') push_ask(site, ask->line, strlen(ask->line));
         }
     }
     probe(site);
@@ -379,7 +388,8 @@ static void take_site_line(struct leddwyfan *site, const char *line, size_t leng
     }
     size_t tag_length;
     const char *tag = word_is(line, length, 0, "tell") ? word(line, length, 2, &tag_length) : NULL;
-    if (tag != NULL && hear(site, tag, length - (size_t)(tag - line))) return;
+    size_t front = length - seal_length(&site->seal);
+    if (tag != NULL && hear(site, tag, front - (size_t)(tag - line))) return;
     push_if_room(site, &site->to_stream, line, length);
 }
 
@@ -517,7 +527,7 @@ static void say_batch(struct leddwyfan *site, struct batch *batch) {
         struct ask *ask = &batch->asks[place];
         snprintf(line, sizeof line, "ask %u %s.%" PRIu64 ".%zu %s", site->me, site->name, batch->number, place, ask->line);
         memcpy(ask->line, line, ASK_BYTES - 1);
-        push(site, &site->to_site, ask->line, strlen(ask->line));
+        push_ask(site, ask->line, strlen(ask->line));
     }
     wake(site);
 }
@@ -909,16 +919,20 @@ static int make_words(struct leddwyfan *site, const struct leddwyfan_options *op
     size_t count = 0;
     while (options->program[count] != NULL) count++;
     if (count == 0 || (options->begin && options->journal == NULL)) return failed(EINVAL);
+    if (seal_make(&site->seal, options->cluster, options->key) < 0) return -1;
     const unsigned numbers[] = {options->sites, options->me, options->pages};
     for (int number = 0; number < 3; number++) snprintf(site->numbers[number], sizeof site->numbers[number], "%u", numbers[number]);
-    const char *further[] = {"site",     "--sites",        site->numbers[0], "--me",          site->numbers[1],
-                             "--preset", site->numbers[2], "--journal",      options->journal, "--new"};
-    size_t all = count + sizeof further / sizeof *further - (options->journal == NULL ? 3 : options->begin ? 0 : 1);
-    site->words = calloc(all + 1, sizeof *site->words);
+    const char *further[] = {"site",  "--sites", site->numbers[0], "--me", site->numbers[1], "--preset", site->numbers[2],
+                             "--cluster", options->cluster, "--key", options->key, "--journal", options->journal, "--new"};
+    bool wanted[] = {true, true, true, true, true, true, true, options->cluster != NULL, options->cluster != NULL,
+                     options->key != NULL, options->key != NULL, options->journal != NULL, options->journal != NULL, options->begin};
+    site->words = calloc(count + sizeof further / sizeof *further + 1, sizeof *site->words);
     if (site->words == NULL) return failed(ENOMEM);
-    for (size_t place = 0; place < all; place++) {
-        site->words[place] = strdup(place < count ? options->program[place] : further[place - count]);
-        if (site->words[place] == NULL) return failed(ENOMEM);
+    size_t all = 0;
+    for (size_t place = 0; place < count + sizeof further / sizeof *further; place++) {
+        if (place >= count && !wanted[place - count]) continue;
+        site->words[all] = strdup(place < count ? options->program[place] : further[place - count]);
+        if (site->words[all++] == NULL) return failed(ENOMEM);
     }
     if (options->begin) site->begin = site->words + all - 1;
     return 0;

@@ -34,6 +34,8 @@ struct leddwyfan_options {
     int writer;           /* what goes out goes here: the same */
     const char *journal;  /* the journal's file, or NULL */
     bool begin;           /* begins the journal, which must not have been begun; else the site goes on from its journal */
+    const char *cluster;  /* the cluster's name, or NULL */
+    const char *key;      /* the file of its key, or NULL */
     unsigned timeout;     /* how many seconds a call waits at most, for each page anew, before it fails with ETIMEDOUT; 0: for good */
 };
 
@@ -46,7 +48,8 @@ struct leddwyfan_status {
     bool marked;
 };
 
-/* NULL, and errno: EINVAL where there is no such site, or a journal without a file is to be begun, else there is no process, or no memory. */
+/* NULL, and errno: EINVAL where there is no such site, a journal without a file is to be begun, or the cluster's name or key can't be one; else
+   there is no process, no memory, or no file of the key. */
 struct leddwyfan *leddwyfan_start(const struct leddwyfan_options *options);
 
 /* Ends the site's process. What the site holds is gone, but for its journal. No call may run meanwhile. In a process that was forked since

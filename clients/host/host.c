@@ -1,7 +1,8 @@
 /* leddwyfan-host: one machine's daemon. It starts the site `shmdbg site`, carries lines between it and the other machines' sites, ticks it, and
    serves the programs that leddwyfan-run starts here.
 
-       leddwyfan-host --sites N --me K [--journal FILE [--new]] [--socket PATH] [--stay MICROSECONDS] [--program shmdbg] [-- CARRIER..]
+       leddwyfan-host --sites N --me K [--journal FILE [--new]] [--cluster NAME [--key FILE]] [--socket PATH] [--stay MICROSECONDS]
+                      [--program shmdbg] [-- CARRIER..]
 
    CARRIER is a command whose standard output has the lines of all sites, and whose standard input takes this site's: `-- ssh other ..`. Or it
    is two, the first of which gives the lines and the second takes them: `-- mosquitto_sub .. -- mosquitto_pub .. -l`. With none it is the
@@ -74,6 +75,17 @@ void push_line(struct channel *channel, const char *line) {
     channel->bytes[channel->length - 1] = '\n';
 }
 
+/* The same of a line that has no seal yet. */
+void push_sealed(struct channel *channel, const char *line) {
+    size_t length = strlen(line);
+    reserve(channel, length + SEAL_BYTES + 1);
+    char *copy = channel->bytes + channel->length;
+    memcpy(copy, line, length);
+    length += seal_append(&options.seal, copy, length);
+    copy[length] = '\n';
+    channel->length += length + 1;
+}
+
 static void take_off(struct channel *channel, size_t count) {
     channel->length -= count;
     memmove(channel->bytes, channel->bytes + count, channel->length);
@@ -136,8 +148,12 @@ pid_t start_process(char *const *words, struct channel *input, struct channel *o
 
 /* The carrier. */
 
+/* A line that isn't the cluster's says nothing. */
 static void hear_line(char *line) {
+    size_t length = strlen(line);
     heard = carried = true;
+    if (!seal_is_behind(&options.seal, line, length)) return;
+    line[length - seal_length(&options.seal)] = '\0';
     take_stream_line(line);
 }
 
@@ -227,15 +243,18 @@ static void finish(void) {
 /* The start. */
 
 static void usage(void) {
-    fputs("leddwyfan-host --sites N --me K [--journal FILE [--new]] [--socket PATH] [--stay MICROSECONDS] [--program shmdbg] [-- CARRIER.. [-- CARRIER..]]\n", stderr);
+    fputs("leddwyfan-host --sites N --me K [--journal FILE [--new]] [--cluster NAME [--key FILE]] [--socket PATH] [--stay MICROSECONDS]\n"
+          "               [--program shmdbg] [-- CARRIER.. [-- CARRIER..]]\n",
+          stderr);
     exit(2);
 }
 
 static void take_options(int argc, char **argv) {
     const char *sites = "", *me = "-1", *stay = "200", *broken = "", *begins = NULL;
-    const char **values[] = {&sites, &me, &options.journal, &begins, &options.socket, &stay, &options.program, &broken};
+    const char **values[] = {&sites, &me, &options.journal, &begins, &options.socket, &stay, &options.program, &broken, &options.cluster, &options.key};
     static const struct option names[] = {{"sites", 1, NULL, 0},  {"me", 1, NULL, 1},   {"journal", 1, NULL, 2}, {"new", 0, NULL, 3},  {"socket", 1, NULL, 4},
-                                          {"stay", 1, NULL, 5}, {"program", 1, NULL, 6}, {"break", 1, NULL, 7},  {NULL, 0, NULL, 0}};
+                                          {"stay", 1, NULL, 5}, {"program", 1, NULL, 6}, {"break", 1, NULL, 7},
+                                          {"cluster", 1, NULL, 8}, {"key", 1, NULL, 9},  {NULL, 0, NULL, 0}};
     for (int option; (option = getopt_long(argc, argv, "+", names, NULL)) >= 0;) {
         if (option == '?') usage();
         *values[option] = optarg == NULL ? "" : optarg;
@@ -247,6 +266,8 @@ static void take_options(int argc, char **argv) {
     options.begins = begins != NULL;
     options.fresh = options.journal == NULL || options.begins;
     if (options.sites < 1 || options.sites > 16 || options.me < 0 || options.me >= options.sites || (options.begins && options.journal == NULL)) usage();
+    if (options.key != NULL && options.cluster == NULL) usage();
+    if (seal_make(&options.seal, options.cluster, options.key) < 0) FAIL("the cluster's name or key can't be used: %s", strerror(errno));
 }
 
 static void take_carriers(char **words) {

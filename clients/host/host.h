@@ -2,6 +2,7 @@
 #ifndef HOST_H
 #define HOST_H
 
+#include "../c/seal.h"
 #include "wire.h"
 
 enum right { NONE, READ, WRITE };
@@ -17,7 +18,8 @@ enum { PASSES_WHILE_ASKING = 5, DOES_NOT_PROTECT };
 
 struct options {
     int sites, me, broken;
-    const char *journal, *socket, *program;
+    const char *journal, *socket, *program, *cluster, *key;
+    struct seal seal; /* of the lines to and from the site, and of those on the stream */
     int64_t stay; /* nanoseconds for which a page stays at least once it is here */
     bool begins;  /* the journal is begun */
     bool fresh;   /* the site began with this daemon: no earlier journal */
@@ -113,6 +115,7 @@ __attribute__((format(printf, 1, 2))) void complain(const char *format, ...);
 #define FAIL(...) (complain(__VA_ARGS__), exit(1))
 void watch(int descriptor, struct source *source);
 void push_line(struct channel *channel, const char *line);
+void push_sealed(struct channel *channel, const char *line);
 void write_lines(struct channel *channel);
 bool read_lines(struct channel *channel, void (*take)(char *)); /* false at the end */
 pid_t start_process(char *const *words, struct channel *input, struct channel *output);

@@ -23,7 +23,7 @@ static bool ticking; /* a tick has no answer yet */
 
 static const char letters[] = "ABCDEFGHIJKLMNOPQRSTUVWXYZabcdefghijklmnopqrstuvwxyz0123456789+/";
 
-/* Says an ask, and gives its line. */
+/* Says an ask, and gives its line, without its seal. */
 __attribute__((format(printf, 1, 2))) static const char *say(const char *format, ...) {
     static char line[LINE];
     int length = snprintf(line, sizeof line, "ask %d ", options.me);
@@ -31,7 +31,7 @@ __attribute__((format(printf, 1, 2))) static const char *say(const char *format,
     va_start(values, format);
     vsnprintf(line + length, sizeof line - (size_t)length, format, values);
     va_end(values);
-    push_line(&to_site, line);
+    push_sealed(&to_site, line);
     return line;
 }
 
@@ -112,7 +112,7 @@ static void say_stores_again(void) {
     for (char *behind, *line = stores.bytes + answered; line < stores.bytes + stores.length; line = behind) {
         behind = line_behind(line);
         behind[-1] = '\0';
-        push_line(&to_site, line);
+        push_sealed(&to_site, line);
         behind[-1] = '\n';
     }
 }
@@ -193,7 +193,7 @@ void site_tick(void) {
 /* Lines. */
 
 void pass_line(const char *line) {
-    push_line(&to_site, line);
+    push_sealed(&to_site, line);
 }
 
 /* What others say to this site. Asks of others don't pass: they would go past what is mapped. */
@@ -224,18 +224,25 @@ static void take_answer(char *line) {
     }
 }
 
+/* What the site tells has its seal: a line that goes on keeps it. */
 static void take_site_line(char *line) {
-    int to;
-    if (strncmp(line, "tell ", 5) == 0) take_answer(line);
-    else if (sscanf(line, "env %*s %d", &to) == 1 && to == options.me) take_stream_line(line);
-    else carry(line);
+    int to = -1;
+    size_t length = strlen(line), seal = seal_length(&options.seal);
+    bool tells = strncmp(line, "tell ", 5) == 0;
+    if (!tells && (sscanf(line, "env %*s %d", &to) != 1 || to != options.me)) {
+        carry(line);
+        return;
+    }
+    line[length < seal ? 0 : length - seal] = '\0';
+    if (tells) take_answer(line);
+    else take_stream_line(line);
 }
 
 /* The process. */
 
 /* A site that was killed before it had written the first line of its journal begins it again. */
 static bool is_begun(void) {
-    char line[64];
+    char line[128];
     FILE *journal = fopen(options.journal, "re");
     bool begun = journal != NULL && fgets(line, sizeof line, journal) != NULL && strchr(line, '\n') != NULL;
     if (journal != NULL) fclose(journal);
@@ -270,9 +277,12 @@ void site_start(void) {
     char sites[12], me[12];
     snprintf(sites, sizeof sites, "%d", options.sites);
     snprintf(me, sizeof me, "%d", options.me);
-    const char *words[] = {options.program, "site", "--sites", sites, "--me", me, "--preset", "1", "--journal", options.journal,
-                           options.begins ? "--new" : NULL, NULL};
-    if (options.journal == NULL) words[8] = NULL;
+    const char *words[16] = {options.program, "site", "--sites", sites, "--me", me, "--preset", "1"};
+    size_t count = 8;
+    if (options.journal != NULL) words[count++] = "--journal", words[count++] = options.journal;
+    if (options.begins) words[count++] = "--new";
+    if (options.cluster != NULL) words[count++] = "--cluster", words[count++] = options.cluster;
+    if (options.key != NULL) words[count++] = "--key", words[count++] = options.key;
     process = start_process((char *const *)(uintptr_t)words, &to_site, &from_site);
     watch(from_site.descriptor, &source);
 }

@@ -365,13 +365,27 @@ def try_refusals(options):
     yield f'{len(told)} refusals, and a socket that was left over'
 
 
+def try_seals(options):
+    """All lines under a cluster's name and key."""
+    key = os.path.join(options.build, 'cluster.key')
+    with open(key, 'w') as file:
+        file.write('a key of these hosts\n')
+    cluster = Cluster(options, 3, rough=ROUGH, journals=True, words=('--cluster', 'north', '--key', key))
+    try:
+        yield f'under a key: {try_counts(cluster, 100)}; {try_words(cluster, 30)}'
+    finally:
+        complaints = cluster.stop()
+    expect(complaints == '', complaints)
+    yield cluster.audit()
+
+
 def try_rule(options):
     """The daemon's rule is the one that is proved."""
     yield subprocess.run([os.path.join(options.build, 'try', 'hold')], stdout=subprocess.PIPE, text=True, check=True).stdout.strip()
 
 
 TRIES = {'rule': try_rule, 'smooth': try_smooth, 'carriers': try_carriers, 'postgres': try_database, 'nobody': try_nobody, 'checked': try_checked,
-         'many': try_many, 'refusals': try_refusals, 'death': try_daemon_death, 'kills': try_kills,
+         'many': try_many, 'refusals': try_refusals, 'death': try_daemon_death, 'kills': try_kills, 'seals': try_seals,
          'repeats': try_repeats, 'broken': try_broken}
 
 

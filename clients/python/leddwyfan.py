@@ -16,6 +16,7 @@ Needs Python 3.9 and nothing else."""
 import base64
 import contextlib
 import errno
+import hmac
 import operator
 import os
 import secrets
@@ -40,6 +41,7 @@ IDLE_TICK_SECONDS = 1.0
 STOP_SECONDS = 5
 MOST_UNWRITTEN = 1 << 22
 LONGEST_LINE = 1 << 16
+DIGEST_BYTES = 65  # a blank, and two digits for each of 32 bytes
 NO_ATTACHMENT = 64
 NUMBERS = 1 << 32  # attachments, segments, keys, users, sizes and offsets are below it
 MOST_SITES = 16
@@ -73,6 +75,40 @@ def failure(number):
 def refused(number):
     """The system's error for a refusal of docs/refusals.md."""
     return failure(ERRORS.get(number, errno.EIO))
+
+
+class Seal:
+    """How the lines of a cluster are sealed: not at all, by its name, or by that and the key that lies in a file (docs/lines.md)."""
+
+    def __init__(self, cluster=None, key=None):
+        if cluster is None and key is not None:
+            raise failure(errno.EINVAL)
+        self.tail = b'' if cluster is None else b' @' + os.fsencode(cluster)
+        self.key = None if key is None else read_key(key)
+
+    def digest(self, text):
+        return b'' if self.key is None else b' ' + hmac.digest(self.key, text, 'sha256').hex().encode()
+
+    def seal(self, line):
+        text = line + self.tail
+        return text + self.digest(text)
+
+    def open(self, line):
+        """The line that was sealed so; None where it wasn't."""
+        text = line if self.key is None else line[:max(0, len(line) - DIGEST_BYTES)]
+        if not text.endswith(self.tail) or not hmac.compare_digest(line[len(text):], self.digest(text)):
+            return None
+        return text[:len(text) - len(self.tail)]
+
+
+def read_key(name):
+    """A key is its file's bytes, less a line feed at their end."""
+    with open(name, 'rb') as file:
+        key = file.read()
+    key = key[:-1] if key.endswith(b'\n') else key
+    if not key:
+        raise failure(errno.EINVAL)
+    return key
 
 
 class Incoming:
@@ -152,17 +188,22 @@ class Site:
     waits for good."""
 
     @classmethod
-    def start(cls, program, sites, me, pages, reader, writer, journal=None, begin=False, **options):
+    def start(cls, program, sites, me, pages, reader, writer, journal=None, begin=False, cluster=None, key=None, **options):
         """Starts site `me`, which is below `sites`, at most 16. `program` is a command (a string, or a list of words), `reader` and
         `writer` are the stream: file objects or descriptors, which the site sets not to block, keeps, and never closes, and which nobody
-        else may use. `begin` begins the journal, which must not have been begun; without it the site goes on from its journal."""
+        else may use. `begin` begins the journal, which must not have been begun; without it the site goes on from its journal.
+        `cluster` is the cluster's name, and `key` the file of its key."""
         if not 0 <= me < sites <= MOST_SITES or begin and journal is None:
             raise failure(errno.EINVAL)
         words = shlex.split(program) if isinstance(program, str) else list(program)
         words += ['site', '--sites', str(sites), '--me', str(me), '--preset', str(pages)]
         if journal is not None:
             words += ['--journal', os.fspath(journal)]
-        return cls(words, sites, me, reader, writer, journal, begin, **options)
+        if cluster is not None:
+            words += ['--cluster', cluster]
+        if key is not None:
+            words += ['--key', os.fspath(key)]
+        return cls(words, sites, me, reader, writer, journal, begin, seal=Seal(cluster, key), **options)
 
     @classmethod
     def over_commands(cls, program, sites, me, pages, hear, say, **options):
@@ -187,11 +228,12 @@ class Site:
         say = ['mosquitto_pub', *broker, '-t', topic, '-l']
         return cls.over_commands(program, sites, me, pages, hear, say, **options)
 
-    def __init__(self, words, sites, me, reader, writer, journal, begin, uid=None, gid=None, timeout=60, restarts=16, carriers=()):
+    def __init__(self, words, sites, me, reader, writer, journal, begin, uid=None, gid=None, timeout=60, restarts=16, carriers=(), seal=None):
         self.sites, self.me, self.timeout = sites, me, timeout
         self.uid = os.getuid() if uid is None else uid
         self.gid = os.getgid() if gid is None else gid
         check_numbers(self.uid, self.gid)
+        self._seal = seal or Seal()
         self._words, self._journal, self._begin, self._carriers = words, journal, begin, carriers
         self._restarts = restarts if journal is not None else 0
         # A file object that nobody keeps closes its descriptor.
@@ -463,7 +505,7 @@ class Site:
         tag = f'{self._name}.{self._asked}'
         line = f'ask {self.me} {tag} {question}'.encode()
         self._asks[tag.encode()] = Ask(line, batch, place, begins)
-        self._to_site.push(line)
+        self._to_site.push(self._seal.seal(line))
         return tag.encode()
 
     def _hear(self, tag, words):
@@ -493,7 +535,7 @@ class Site:
         """Asks for a detach that no site can make. While a call is outstanding it is refused for that (8), else as there is no such
         attachment (9). Neither changes anything."""
         if any(ask.doubtful for ask in self._asks.values()):
-            self._to_site.push(b'ask %d %s detach %d' % (self.me, self._probe_tag(), NO_ATTACHMENT))
+            self._to_site.push(self._seal.seal(b'ask %d %s detach %d' % (self.me, self._probe_tag(), NO_ATTACHMENT)))
 
     def _give_up_doubtful(self):
         for tag, ask in list(self._asks.items()):
@@ -564,7 +606,7 @@ class Site:
             words = line.split(b' ', 3)
             if words[0] == b'env' and words[2] == me:
                 self._to_site.push_if_room(line)
-            elif words[0] != b'tell' or not self._hear(words[2], words[3].split(b' ')):
+            elif words[0] != b'tell' or not self._hear(words[2], self._seal.open(line).split(b' ')[3:]):
                 self._to_stream.push_if_room(line)
 
     def _tick_seconds(self):
@@ -577,7 +619,7 @@ class Site:
         if now < self._last_tick + self._tick_seconds():
             return
         self._last_tick, self._heard = now, False
-        self._to_site.push(b'ask %d %s.tick tick' % (self.me, self._name.encode()))
+        self._to_site.push(self._seal.seal(b'ask %d %s.tick tick' % (self.me, self._name.encode())))
         self._probe()
         self._write_to_site()
 
@@ -619,7 +661,7 @@ class Site:
             if ask.begins:
                 ask.doubtful = True
             else:
-                self._to_site.push(ask.line)
+                self._to_site.push(self._seal.seal(ask.line))
         self._probe()
 
     def _fail(self, number):

@@ -1,12 +1,14 @@
 #!/usr/bin/env python3
 """Mutated lines against three living sites.
 
-    mutations.py [--program PROGRAM] [--lines L] [--seed K]
+    mutations.py [--program PROGRAM] [--lines L] [--seed K] [--key]
 
 Starts three sites with journals, and carries their lines. Beside these each site is handed L lines that were made of earlier ones: letters are
 changed, words left out, doubled and exchanged, lines cut and joined, numbers and clocks put at their ends. A line that a site might have sent,
 or that would take segment 0 away, isn't handed over: inventing one is what docs/trust.md forbids. Between them a byte is stored at one site
-and loaded at the next. No site may end; their memory stays as it is; in the end the audit has to say yes. The status is 1 where one fails."""
+and loaded at the next. No site may end; their memory stays as it is; in the end the audit has to say yes. The status is 1 where one fails.
+
+With --key all lines are sealed under a key (docs/lines.md), and every mutated line is handed over: none may make a step."""
 import argparse
 import os
 import random
@@ -17,7 +19,10 @@ import sys
 import tempfile
 import time
 
-from router import Site
+HERE = os.path.dirname(os.path.abspath(__file__))
+sys.path[:0] = [HERE, os.path.join(HERE, '..', '..', 'clients', 'python')]
+from leddwyfan import Seal  # noqa: E402
+from router import Site  # noqa: E402
 
 SITES, PAGES, PLACE, BATCH, SEEN = 3, 2, 6007, 40, 200
 ANSWER_SECONDS, MOST_GROWTH = 300, 4 << 20
@@ -63,11 +68,16 @@ def mutate(line, other, draw):
 
 class Cluster:
     def __init__(self, options, folder, draw):
-        self.program, self.draw = shlex.split(options.program), draw
+        self.program, self.draw, self.seal, sealing = shlex.split(options.program), draw, Seal(), []
+        if options.key:
+            sealing = ['--cluster', 'mutations', '--key', os.path.join(folder, 'key')]
+            with open(sealing[3], 'wb') as file:
+                file.write(draw.randbytes(32).hex().encode() + b'\n')
+            self.seal = Seal(sealing[1], sealing[3])
         self.journals = [os.path.join(folder, f'site-{site}.journal') for site in range(SITES)]
-        self.sites = [Site(self.program + ['site', '--sites', str(SITES), '--me', str(site), '--preset', str(PAGES), '--new', '--journal', journal])
+        self.sites = [Site(self.program + ['site', '--sites', str(SITES), '--me', str(site), '--preset', str(PAGES), '--new', '--journal', journal] + sealing)
                       for site, journal in enumerate(self.journals)]
-        self.seen, self.told, self.clock, self.asked = list(SEEDS), {}, 0, 0
+        self.seen, self.told, self.clock, self.asked, self.sent = list(SEEDS), {}, 0, 0, set()
 
     def send(self, lines):
         for site in self.sites:
@@ -81,13 +91,16 @@ class Cluster:
             if lines is None:
                 sys.exit(f'mutations.py: site {number} has ended')
             for line in lines:
-                words = line.split(b' ', 3)
+                inner = self.seal.open(line)
+                words = inner.split(b' ', 3)
                 if len(self.seen) == SEEN:
                     del self.seen[self.draw.randrange(len(SEEDS), SEEN)]
                 self.seen.append(line)
                 if words[0] == b'env':
                     self.clock = max(self.clock, int(words[3].split()[0]))
                     self.send([line])
+                    if self.seal.key is not None:
+                        self.sent.add(hash(inner))
                 elif words[2].startswith(b'own.'):
                     self.told[words[2]] = words[3]
         return max(len(site.unwritten) for site in self.sites)
@@ -98,7 +111,8 @@ class Cluster:
         while time.monotonic() < end:
             self.asked += 1
             tag, again = b'own.%d' % self.asked, time.monotonic() + 2
-            self.send([b'ask %d %s %s' % (site, tag, words)] + [b'ask %d tick tick' % each for each in range(SITES)])
+            asks = [b'ask %d %s %s' % (site, tag, words)] + [b'ask %d tick tick' % each for each in range(SITES)]
+            self.send([self.seal.seal(ask) for ask in asks])
             while tag not in self.told and time.monotonic() < again:
                 self.carry()
             told = self.told.pop(tag, b'waiting')
@@ -112,12 +126,25 @@ class Cluster:
         return [int(re.search(r'VmRSS:\s*(\d+)', text)[1]) << 10 for text in texts]
 
 
+    def unasked(self):
+        """The first step in a journal that no line under the key has made."""
+        for journal in self.journals:
+            with open(journal, 'rb') as file:
+                for entry in list(file)[1:]:
+                    words = entry[:-1].split(b' ', 5)
+                    line = entry[:-1].split(b' ', 2)[2]
+                    own = words[2] == b'ask' and (words[4].startswith(b'own.') or words[4] == b'tick')
+                    if not own and hash(line) not in self.sent:
+                        return line
+        return None
+
+
 def run(options, folder):
     draw = random.Random(options.seed)
     cluster, handed, left, before = Cluster(options, folder, draw), 0, 0, None
     while handed < options.lines:
         lines = [mutate(*draw.choices(cluster.seen, k=2), draw).replace(b'\n', b' ') for _ in range(BATCH)]
-        fit = [line for line in lines if not is_forbidden(line, cluster.clock)]
+        fit = [line for line in lines if options.key or not is_forbidden(line, cluster.clock)]
         handed, left = handed + len(fit), left + BATCH - len(fit)
         cluster.send(fit)
         while cluster.carry() > 1 << 16:
@@ -133,6 +160,8 @@ def run(options, folder):
     for site in cluster.sites:
         os.set_blocking(site.process.stdin.fileno(), True)
         site.process.communicate(site.unwritten)
+    if options.key and cluster.unasked() is not None:
+        sys.exit(f'mutations.py: a line without the key made a step: {cluster.unasked()}')
     done = subprocess.run(cluster.program + ['audit', '--sites', str(SITES), *cluster.journals], stdout=subprocess.PIPE, check=False)
     ended = [site.process.returncode for site in cluster.sites]
     if done.returncode != 0 or any(ended) or growth > MOST_GROWTH:
@@ -142,8 +171,9 @@ def run(options, folder):
 
 if __name__ == '__main__':
     parser = argparse.ArgumentParser()
-    parser.add_argument('--program', default=os.path.join(os.path.dirname(os.path.abspath(__file__)), '..', '..', 'crates', 'shmdbg', 'out', 'shmdbg'))
+    parser.add_argument('--program', default=os.path.join(HERE, '..', '..', 'crates', 'shmdbg', 'out', 'shmdbg'))
     parser.add_argument('--lines', type=int, default=20000)
     parser.add_argument('--seed', type=int, default=1)
+    parser.add_argument('--key', action='store_true')
     with tempfile.TemporaryDirectory(prefix='mutations-') as temporary:
         run(parser.parse_args(), temporary)

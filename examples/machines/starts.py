@@ -23,8 +23,9 @@ TOLD = b'tell 0 a stored\n'
 LOST = 'journal: there is none of this name: --new begins one'
 BEGUN = 'journal: it is begun already: start the site without --new'
 BLANK = 'journal: nothing is begun in it: --new begins it'
-OTHER = 'journal: of another site, number of sites or opening'
+OTHER = 'journal: of another site, number of sites, opening or cluster'
 NO_FILE = 'journal: it is no plain file'
+NO_NAME = 'cluster: a name has 1 to 32 bytes of printable ASCII, and no blank'
 FAILED = 'journal: write fault'
 AGAIN = 'journal: 0 steps taken again, clock 0, 0 torn bytes cut off'
 tried = [0]
@@ -57,6 +58,26 @@ def write(journal, text):
         file.write(text)
 
 
+def try_seals(program, folder, journal):
+    """Names and keys that can't be one, and a journal of another cluster."""
+    key, named = os.path.join(folder, 'key'), os.path.join(folder, 'named')
+    write(key, b'\n')
+    wrong = [('a name with a blank', ['--cluster', 'a b'], 1, NO_NAME), ('a long name', ['--cluster', 33 * 'n'], 1, NO_NAME),
+             ('a key without a name', ['--key', key], 1, "key: it needs a cluster's name: --cluster NAME"),
+             ('an empty key', ['--cluster', 'north', '--key', key], 1, 'key: its file is empty'),
+             ('a key that is nowhere', ['--cluster', 'north', '--key', key + '.none'], 3, 'key: there is no such file'),
+             ('a folder as a key', ['--cluster', 'north', '--key', folder], 3, 'key: it is a folder'),
+             ('a journal without a name', ['--cluster', 'north'], 1, OTHER)]
+    for name, further, status, fault in wrong:
+        start(name, words(program, journal) + further, status, fault)
+    stays('a journal without a name', journal, STORED)
+    north = words(program, named, new=True) + ['--cluster', 'north']
+    start('a line without a seal', north, 0, 'lines passed over: 1 of another cluster, 0 without a digest, 0 with a wrong digest')
+    stays('a line without a seal', named, b'journal 2 0 1 @north\n')
+    start("another cluster's journal", words(program, named) + ['--cluster', 'south'], 1, OTHER)
+    start('no name for a named journal', words(program, named), 1, OTHER)
+
+
 def try_files(program, folder):
     """Journals that aren't as they are asked for: each stays as it was."""
     journal = os.path.join(folder, 'site')
@@ -71,6 +92,7 @@ def try_files(program, folder):
     for name, options, fault in wrong:
         start(name, words(program, journal, **options), 1, fault)
         stays(name, journal, STORED)
+    try_seals(program, folder, journal)
     for front in (b'', HEADER[:7], HEADER[:-1]):
         write(journal, front)
         start('a journal that was not begun', words(program, journal), 1, BLANK)

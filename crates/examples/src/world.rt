@@ -1,13 +1,13 @@
 //! A world of two sites that is stepped by hand. A byte that is stored at one site is loaded at another, which has no right to the page,
 //! and each envelope that this takes is delivered by its number. Then an envelope is lost.
-mod story;
+mod narrated_world;
 
 use anyhow::{Result, bail};
+use narrated_world::Story;
 use shm_place::{SiteId, Sites};
 use shm_world::{Event, World};
 use std::alloc::Global;
 use std::io::Write;
-use story::Story;
 
 /// Tells the story of this world, an event a line.
 pub fn run<W: Write>(alloc: Global, out: &mut W) -> Result<()> {

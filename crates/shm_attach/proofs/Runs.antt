@@ -8,7 +8,7 @@ use Rattle.shm_model.specs.declared.call.Op.{Op}
 use Rattle.shm_model.specs.declared.call.Op.TheVariants.{Get, Attach, Detach, Remove, Set, Stat}
 use Rattle.shm_model.specs.declared.call.Reply.{Reply}
 use Rattle.shm_model.specs.declared.call.Reply.TheVariants.{Ok as OkReply}
-use Rattle.shm_model.specs.declared.mode.Mode.{Mode}
+use Rattle.shm_model.specs.declared.mode_and_get_flags.Mode.{Mode}
 use Rattle.shm_model.specs.Basics.{at}
 use Rattle.shm_model.specs.Calls.{Kept, Freshness, Fresh, freshness, op_home}
 use Rattle.shm_model.specs.Kernel.{Called, attach, call, destroyed_by, destroyed_in, named_by, set, with_id}
@@ -19,7 +19,7 @@ use Rattle.shm_number.specs.Kept.{kept_at, kept_then}
 use Rattle.shm_keys.specs.Purge.{missing_after}
 use Rattle.shm_keys.specs.Table.{Table, missing_of}
 use Rattle.shm_attach.specs.Home.{Home, IsRun, kept_of, kept_reply, sent_for, with_home}
-use Rattle.shm_attach.specs.declared.done.Done.{Done}
+use Rattle.shm_attach.specs.declared.call_outcome.Done.{Done}
 use Rattle.shm_attach.proofs.Destroyed.{attach_keeps, on_live_keeps, set_keeps}
 
 -- what a call names is where the call goes

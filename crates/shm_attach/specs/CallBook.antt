@@ -6,8 +6,8 @@ use Rattle.shm_model.specs.Basics.{greatest}
 use Rattle.shm_model.specs.Calls.{Outstanding, fits}
 use Rattle.shm_model.specs.Site.{Site, Step, dropped}
 use Rattle.shm_model.specs.SegmentCalls.{reply_counts}
-use Rattle.shm_attach.specs.declared.begin_fault.BeginFault.{BeginFault}
-use Rattle.shm_attach.specs.declared.begin_fault.BeginFault.TheVariants.{Busy, UsedUp}
+use Rattle.shm_attach.specs.declared.begin_call_error.BeginFault.{BeginFault}
+use Rattle.shm_attach.specs.declared.begin_call_error.BeginFault.TheVariants.{Busy, UsedUp}
 
 pub record Calls : Type 0 where
   pub begun : ℕ

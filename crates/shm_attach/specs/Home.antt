@@ -14,7 +14,7 @@ use Rattle.shm_model.specs.SegmentCalls.{on_call, purges, reply_envelope}
 use Rattle.shm_number.specs.Kept.{kept_at}
 use Rattle.shm_keys.specs.Table.{Table, missing_of}
 use Rattle.shm_keys.specs.Purge.{missing_after}
-use Rattle.shm_attach.specs.declared.done.Done.{Done}
+use Rattle.shm_attach.specs.declared.call_outcome.Done.{Done}
 
 pub record Home : Type 0 where
   pub table : Table

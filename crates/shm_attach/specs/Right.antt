@@ -1,10 +1,10 @@
 -- What shm_model sees of the answer that a load or store gets on its place.
 use Rattle.std.specs.Prelude.{ℕ, Result, Ok, Err}
-use Rattle.shm_place.specs.declared.page.PageId.{PageId}
+use Rattle.shm_place.specs.declared.page_id.PageId.{PageId}
 use Rattle.shm_model.specs.Refusal.{no_attachment, read_only, out_of_segment}
 use Rattle.shm_model.specs.Access.{Place}
-use Rattle.shm_attach.specs.declared.fault.Denied.{Denied}
-use Rattle.shm_attach.specs.declared.fault.Denied.TheVariants as denied
+use Rattle.shm_attach.specs.declared.access_error.Denied.{Denied}
+use Rattle.shm_attach.specs.declared.access_error.Denied.TheVariants as denied
 
 abbrev pub denied_number : Denied → ℕ
 denied_number denied.NoAttachment = no_attachment

@@ -2,20 +2,20 @@
 //! home that executes each call once, however often it comes.
 #![tactic(auto)]
 
-mod access;
+mod access_error;
 mod attachments;
-mod begin_fault;
-mod call_book;
-mod done;
-mod fault;
-mod home;
-mod run;
+mod begin_call_error;
+mod call_outcome;
+mod execute_call;
+mod outstanding_call;
+mod reached_place;
+mod segment_home;
 
-pub use access::right;
+pub use access_error::Denied;
 pub use attachments::{Attachments, MAX_ATTACHMENTS};
-pub use begin_fault::BeginFault;
-pub use call_book::CallBook;
-pub use done::Done;
-pub use fault::Denied;
-pub use home::Home;
+pub use begin_call_error::BeginFault;
+pub use call_outcome::Done;
+pub use outstanding_call::CallBook;
+pub use reached_place::right;
+pub use segment_home::Home;
 pub use shm_model::{Attached, Op, Reply, Request};

@@ -1,7 +1,7 @@
 -- Steps that stand among others, and the loads of one more byte.
 use Rattle.std.proofs.Common.{◌≡◌, inl, inr, ℕ, suc, ◌+◌, List, [], ◌∷◌, ◌++◌, length, refl, ap, ◌∙◌, arith}
 use Rattle.shm_model.specs.declared.answer.Answer.TheVariants.{Byte}
-use Rattle.shm_model.specs.declared.asked.Asked.TheVariants.{Load}
+use Rattle.shm_model.specs.declared.asked_access.Asked.TheVariants.{Load}
 use Rattle.shm_wire.specs.Line as stream
 use Rattle.shm_process.specs.Access.{access_ask}
 use Rattle.shm_process.specs.Cause.{OfLine}

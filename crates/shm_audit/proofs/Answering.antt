@@ -8,16 +8,16 @@ use Rattle.shm_journal.specs.LinesOf.{Unended}
 use Rattle.shm_journal.specs.ReadUpTo.{ReadsToLine, ReadsWhole}
 use Rattle.shm_journal.specs.Recovers.{ReadsAll}
 use Rattle.shm_journal.specs.Taking.{BreaksOff, most_at_once}
-use Rattle.shm_journal.specs.declared.journal_fault.JournalFault.{JournalFault}
-use Rattle.shm_journal.specs.declared.journal_fault.JournalFault.TheVariants as fault
+use Rattle.shm_journal.specs.declared.journal_error.JournalFault.{JournalFault}
+use Rattle.shm_journal.specs.declared.journal_error.JournalFault.TheVariants as fault
 use Rattle.shm_journal.proofs.Fronts.{of_all, of_front}
 use Rattle.shm_journal.proofs.Leading.{first_breaks, first_leads, first_stops, joined_fault, joined_whole}
 use Rattle.shm_logs.specs.Boxes.Box.{Box}
 use Rattle.shm_logs.specs.Boxes.SiteBox.{box_of}
-use Rattle.shm_logs.specs.declared.boxes.site_box.SiteBox.{SiteBox}
-use Rattle.shm_logs.specs.declared.boxes.site_log.SiteLog.{SiteLog}
+use Rattle.shm_logs.specs.declared.site_boxes.site_box.SiteBox.{SiteBox}
+use Rattle.shm_logs.specs.declared.site_boxes.site_log.SiteLog.{SiteLog}
 use Rattle.shm_audit.specs.Found.{HasLog, IsFault, IsLed, LeadsToLog, ReadsUpTo, TellsLog, any, entered, first_found, found, opened}
-use Rattle.shm_audit.specs.declared.audited.Audited.{Audited}
+use Rattle.shm_audit.specs.declared.box_replay.Audited.{Audited}
 
 -- memory and the reader say nothing
 nothing_known : (a : Option (List ℕ)) → IfSome a (λ _. ⊤)

@@ -8,8 +8,8 @@ use Rattle.shm_logs.specs.Auditing.Complete.{completes}
 use Rattle.shm_logs.specs.Auditing.Logs.{logs_of}
 use Rattle.shm_logs.specs.Boxes.Logged.{logged_of}
 use Rattle.shm_logs.specs.Boxes.SiteLog.{steps_of}
-use Rattle.shm_logs.specs.declared.boxes.site_log.SiteLog.{SiteLog}
-use Rattle.shm_logs.specs.declared.boxes.step.Step.{Step}
+use Rattle.shm_logs.specs.declared.site_boxes.site_log.SiteLog.{SiteLog}
+use Rattle.shm_logs.specs.declared.site_boxes.logged_step.Step.{Step}
 use Rattle.shm_audit.specs.Totals.{accesses_of, totals_of, with_log}
 use Rattle.shm_audit.specs.declared.totals.Totals.{Totals}
 

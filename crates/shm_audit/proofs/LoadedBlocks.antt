@@ -9,7 +9,7 @@ use Rattle.std.proofs.lemmas.List.{get_or_past, length-append}
 use Rattle.std.proofs.lemmas.List.Elements.{All-nil, All-append, All-drop, All-get_or, All-push, All-set, All-take, All-weaker}
 use Rattle.shm_model.specs.declared.answer.Answer.{Answer}
 use Rattle.shm_model.specs.declared.answer.Answer.TheVariants.{Byte, Stored, Fault, Waiting, Began, Replied, Took, Dropped, Refused}
-use Rattle.shm_model.specs.declared.asked.Asked.TheVariants.{Load}
+use Rattle.shm_model.specs.declared.asked_access.Asked.TheVariants.{Load}
 use Rattle.shm_model.specs.Message.{Begin, Deliver, Tick}
 use Rattle.shm_model.specs.Receipt.{access_of}
 use Rattle.shm_model.specs.Step.{foreign}
@@ -18,8 +18,8 @@ use Rattle.shm_wire.proofs.LineWords.{line-is_spelled}
 use Rattle.shm_wire.specs.Asks.{Ask, IsAsked, is_block}
 use Rattle.shm_wire.specs.Line as stream
 use Rattle.shm_wire.specs.Line.{read_line}
-use Rattle.shm_wire.specs.declared.ask.Question.{Question}
-use Rattle.shm_wire.specs.declared.ask.Question.TheVariants as question
+use Rattle.shm_wire.specs.declared.caller_ask.Question.{Question}
+use Rattle.shm_wire.specs.declared.caller_ask.Question.TheVariants as question
 use Rattle.shm_wire.specs.Writes.{WriteAsk, IsWrite}
 use Rattle.shm_process.specs.Blocks.{Block}
 use Rattle.shm_process.specs.Cause.{OfLine}
@@ -209,6 +209,7 @@ block-in me first events node line true false site tag (question.Try asked) h ow
 block-in me first events node line true false site tag (question.Begin request) h own is = goes-same me first events (Line line) node (after_unheard node None) refl refl h
 block-in me first events node line true false site tag question.Tick h own is = goes-same me first events (Line line) node (after_unheard node None) refl refl h
 block-in me first events node line true false site tag (question.Show page) h own is = goes-same me first events (Line line) node (after_unheard node None) refl refl h
+block-in me first events node line true false site tag question.Health h own is = goes-same me first events (Line line) node (after_unheard node None) refl refl h
 
 site-is : (a b me : ℕ) → b ≡ me → (a == b) ≡ true → a ≡ me
 site-is a b me own same = grind (arith, nat_tests)
@@ -294,6 +295,7 @@ asked-access tag (question.Read at offset count) x true false e = absurd (cc)
 asked-access tag (question.Begin request) x true false e = made-access false (under_tag tag None (Begin request)) x tt e
 asked-access tag question.Tick x true false e = made-access false (under_tag tag None Tick) x tt e
 asked-access tag (question.Show page) x true false e = absurd (cc)
+asked-access tag question.Health x true false e = absurd (cc)
 
 heard-access : (node : Node) (is : stream.Line) (x : Heard) → heard node is ≡ Some x → IsAccess x.waits
 heard-access node (stream.Envelope sent) x e =

@@ -1,7 +1,7 @@
 -- The stores of one more byte.
 use Rattle.std.proofs.Common.{◌≡◌, ℕ, zero, suc, ◌+◌, ◌<◌, List, [], ◌∷◌, ◌++◌, length, take, slice_index, refl, ap, ◌∙◌, arith}
 use Rattle.shm_model.specs.declared.answer.Answer.TheVariants.{Stored}
-use Rattle.shm_model.specs.declared.asked.Asked.TheVariants.{Store}
+use Rattle.shm_model.specs.declared.asked_access.Asked.TheVariants.{Store}
 use Rattle.shm_wire.specs.Line as stream
 use Rattle.shm_process.specs.Access.{access_ask}
 use Rattle.shm_process.specs.Cause.{OfLine}

@@ -5,7 +5,7 @@ use Rattle.std.specs.Prelude.{Option, IfSome, option_and_then, option_map, unwra
 use Rattle.std.specs.Option.{option_map_or}
 use Rattle.std.proofs.lemmas.Bool.Decides.{nat_tests}
 use Rattle.shm_model.specs.Log.{Logged, Stamp}
-use Rattle.shm_model.specs.declared.asked.Asked.TheVariants as asked
+use Rattle.shm_model.specs.declared.asked_access.Asked.TheVariants as asked
 use Rattle.shm_model.specs.Message.{Input, Deliver, Restart}
 use Rattle.shm_model.specs.Step.{foreign}
 use Rattle.shm_process.specs.Cause.{Cause, OfLine, OfRestart}
@@ -17,12 +17,12 @@ use Rattle.shm_process.proofs.Replays.{hear-next}
 use Rattle.shm_process.proofs.Tests.{unless-some}
 use Rattle.shm_site.specs.Step.{is_foreign}
 use Rattle.shm_logs.specs.Boxes.Box.{Box, after, new_box, taken}
-use Rattle.shm_logs.specs.declared.boxes.box_fault.BoxFault.TheVariants as fault
+use Rattle.shm_logs.specs.declared.site_boxes.box_error.BoxFault.TheVariants as fault
 use Rattle.shm_wire.specs.Line as stream
 use Rattle.shm_wire.specs.Line.{read_line}
 use Rattle.shm_wire.specs.Sent.{Sent}
-use Rattle.shm_wire.specs.declared.ask.Question.{Question}
-use Rattle.shm_wire.specs.declared.ask.Question.TheVariants as question
+use Rattle.shm_wire.specs.declared.caller_ask.Question.{Question}
+use Rattle.shm_wire.specs.declared.caller_ask.Question.TheVariants as question
 use Rattle.shm_audit.specs.Entered.{Handed, at_clock, box_handed, delivered, handed, unless_refused, unsent}
 use Rattle.shm_audit.specs.Told.{ToldStep, box_after_all, told_at, told_by_log, told_by_said, told_by_step, all_said, said_first}
 
@@ -83,6 +83,7 @@ asked_own sites me (question.Read at offset count) = tt
 asked_own sites me (question.Begin request) = refl
 asked_own sites me question.Tick = refl
 asked_own sites me (question.Show page) = tt
+asked_own sites me question.Health = tt
 
 abbrev no_stamp : Stamp
 no_stamp = record { at = 0; index = 0; place = 0 }

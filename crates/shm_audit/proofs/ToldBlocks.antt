@@ -8,7 +8,7 @@ use Rattle.shm_model.specs.declared.answer.Answer.{Answer}
 use Rattle.shm_model.specs.declared.answer.Answer.TheVariants.{Byte, Stored, Fault, Waiting, Began, Replied, Took, Dropped, Refused}
 use Rattle.shm_wire.specs.Line as stream
 use Rattle.shm_wire.specs.Line.{read_line}
-use Rattle.shm_wire.specs.declared.ask.Question.TheVariants as question
+use Rattle.shm_wire.specs.declared.caller_ask.Question.TheVariants as question
 use Rattle.shm_process.specs.Blocks.{Block, whole_after, goes_on as block_goes_on}
 use Rattle.shm_process.specs.Cause.{OfLine}
 use Rattle.shm_process.specs.WaitingAsks.{Access, Reads, Writes, WaitingAsk, all_bytes, ask_in, goes_on, tag_of}

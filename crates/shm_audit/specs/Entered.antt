@@ -6,7 +6,7 @@ use Rattle.shm_process.specs.Cause.{Cause, OfLine, OfRestart}
 use Rattle.shm_process.specs.Node.{input_asked}
 use Rattle.shm_process.specs.Recorded.{Entry}
 use Rattle.shm_logs.specs.Boxes.Box.{Box, after, refusal}
-use Rattle.shm_logs.specs.declared.boxes.box_fault.BoxFault.{BoxFault}
+use Rattle.shm_logs.specs.declared.site_boxes.box_error.BoxFault.{BoxFault}
 use Rattle.shm_wire.specs.Asks.{Ask}
 use Rattle.shm_wire.specs.Line as stream
 use Rattle.shm_wire.specs.Sent.{Sent}

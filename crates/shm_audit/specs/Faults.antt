@@ -2,8 +2,8 @@
 use Rattle.std.specs.Prelude.{ℕ}
 use Rattle.shm_model.specs.Refusal.{other_logs, out_of_memory}
 use Rattle.shm_logs.specs.Auditing.Cause.{audit_fault_number}
-use Rattle.shm_audit.specs.declared.journals_fault.JournalsFault.{JournalsFault}
-use Rattle.shm_audit.specs.declared.journals_fault.JournalsFault.TheVariants as cause
+use Rattle.shm_audit.specs.declared.journals_error.JournalsFault.{JournalsFault}
+use Rattle.shm_audit.specs.declared.journals_error.JournalsFault.TheVariants as cause
 
 abbrev pub journals_fault_number : JournalsFault → ℕ
 journals_fault_number cause.OutOfMemory = out_of_memory

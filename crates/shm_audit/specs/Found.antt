@@ -6,11 +6,11 @@ use Rattle.shm_place.specs.Limits as limit
 use Rattle.shm_journal.specs.Found.{Found, Sound, Foreign, Bad, Kind, found_of}
 use Rattle.shm_journal.specs.Lines.{Header, read_entry, read_header}
 use Rattle.shm_journal.specs.ReadUpTo.{BreaksAt, LacksLine, ReadsWhole, StopsAt}
-use Rattle.shm_journal.specs.declared.journal_fault.JournalFault.{JournalFault}
-use Rattle.shm_journal.specs.declared.journal_fault.JournalFault.TheVariants as fault
+use Rattle.shm_journal.specs.declared.journal_error.JournalFault.{JournalFault}
+use Rattle.shm_journal.specs.declared.journal_error.JournalFault.TheVariants as fault
 use Rattle.shm_logs.specs.Boxes.Box.{Box, new_box}
 use Rattle.shm_logs.specs.Boxes.SiteLog.{steps_of}
-use Rattle.shm_logs.specs.declared.boxes.site_log.SiteLog.{SiteLog}
+use Rattle.shm_logs.specs.declared.site_boxes.site_log.SiteLog.{SiteLog}
 use Rattle.shm_audit.specs.Entered.{box_after}
 
 -- ---- the first line

@@ -2,10 +2,10 @@
 use Rattle.std.specs.Prelude.{⊤, ◌≡◌, ◌⊎◌, ℕ, ◌+◌, true, List, [], ◌∷◌, ◌++◌, length, map, Option, Some}
 use Rattle.shm_model.specs.declared.answer.Answer.{Answer}
 use Rattle.shm_model.specs.declared.answer.Answer.TheVariants.{Byte}
-use Rattle.shm_model.specs.declared.asked.Asked.TheVariants.{Load}
+use Rattle.shm_model.specs.declared.asked_access.Asked.TheVariants.{Load}
 use Rattle.shm_wire.specs.Line as stream
 use Rattle.shm_wire.specs.Line.{read_line}
-use Rattle.shm_wire.specs.declared.ask.Question.TheVariants.{Read}
+use Rattle.shm_wire.specs.declared.caller_ask.Question.TheVariants.{Read}
 use Rattle.shm_process.specs.Access.{access_ask}
 use Rattle.shm_process.specs.Cause.{Cause, OfLine}
 use Rattle.shm_process.specs.Node.{Node, Said}

@@ -5,9 +5,9 @@ use Rattle.shm_model.specs.World.{Preset}
 use Rattle.shm_logs.specs.Auditing.Audit.{IsAudited}
 use Rattle.shm_logs.specs.Auditing.Cause.{IsFirstCause}
 use Rattle.shm_logs.specs.Auditing.Logs.{logs_of, AreLogsOf}
-use Rattle.shm_logs.specs.declared.boxes.site_log.SiteLog.{SiteLog}
-use Rattle.shm_audit.specs.declared.journals_fault.JournalsFault.{JournalsFault}
-use Rattle.shm_audit.specs.declared.journals_fault.JournalsFault.TheVariants as cause
+use Rattle.shm_logs.specs.declared.site_boxes.site_log.SiteLog.{SiteLog}
+use Rattle.shm_audit.specs.declared.journals_error.JournalsFault.{JournalsFault}
+use Rattle.shm_audit.specs.declared.journals_error.JournalsFault.TheVariants as cause
 
 -- there is one site or more, and each has its log here
 pub record IsOneSet {A : Type 0} (logs : List (SiteLog A)) : Type 0 where

@@ -1,7 +1,7 @@
 -- The stores of a block among the steps of a site's process.
 use Rattle.std.specs.Prelude.{◌≡◌, ℕ, ◌+◌, List, [], ◌∷◌, ◌++◌, Option, Some}
 use Rattle.shm_model.specs.declared.answer.Answer.TheVariants.{Stored}
-use Rattle.shm_model.specs.declared.asked.Asked.TheVariants.{Store}
+use Rattle.shm_model.specs.declared.asked_access.Asked.TheVariants.{Store}
 use Rattle.shm_wire.specs.Line as stream
 use Rattle.shm_wire.specs.Writes.{WriteAsk}
 use Rattle.shm_process.specs.Access.{access_ask}

@@ -1,18 +1,18 @@
 //! The audit of sites that ran as processes: the steps that a journal records are made again in a box, and the logs of all sites are judged.
 #![tactic(auto)]
 
-mod audit;
-mod audited;
+mod box_replay;
+mod box_replay_input;
 mod count_totals;
-mod handed;
-mod journals_fault;
+mod journals_audit;
+mod journals_error;
 pub mod laws;
-mod log_reader;
-mod open_site;
+mod log_from_journal;
+mod site_from_header;
 mod totals;
 
-pub use audit::audit_journals;
-pub use journals_fault::JournalsFault;
-pub use log_reader::read_log;
+pub use journals_audit::audit_journals;
+pub use journals_error::JournalsFault;
+pub use log_from_journal::read_log;
 pub use shm_journal::JournalFault;
 pub use totals::Totals;

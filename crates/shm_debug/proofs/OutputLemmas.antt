@@ -5,8 +5,8 @@ use Rattle.std.specs.Fmt.{decimal}
 use Rattle.std.proofs.Math.Seq.{take-length}
 use Rattle.std.proofs.lemmas.List.{append_cancel_left, append_cancel_right, length-take-le, take_all}
 use Rattle.shm_model.specs.declared.event.Event.TheVariants.{Load}
-use Rattle.shm_lines.specs.declared.line.Line.{Line}
-use Rattle.shm_lines.specs.declared.line.Line.TheVariants.{Event as EventLine}
+use Rattle.shm_lines.specs.declared.script_line.Line.{Line}
+use Rattle.shm_lines.specs.declared.script_line.Line.TheVariants.{Event as EventLine}
 use Rattle.shm_debug.specs.Standing.{Standing}
 use Rattle.shm_text.specs.Text.{line_text}
 use Rattle.shm_debug.specs.Promise.{AlwaysTellsLast, TellsLast}
@@ -15,9 +15,9 @@ use Rattle.shm_debug.specs.Said.{next, said, said_to_event, standing_after}
 use Rattle.shm_debug.specs.Script.{Script}
 use Rattle.shm_debug.specs.Output.{text_from, text_of}
 use Rattle.shm_debug.specs.Told.{IsOutput, IsWholeOutput, SaysLast, ToldLast}
-use Rattle.shm_debug.specs.declared.outcome.Summary.{Summary}
-use Rattle.shm_debug.specs.declared.outcome.DebugFault.{DebugFault}
-use Rattle.shm_debug.specs.declared.outcome.DebugFault.TheVariants.{OutOfMemory, BadLine, LineTooLong, TooManyLines, ReadFault, WriteFault}
+use Rattle.shm_debug.specs.declared.script_summary_and_error.Summary.{Summary}
+use Rattle.shm_debug.specs.declared.script_summary_and_error.DebugFault.{DebugFault}
+use Rattle.shm_debug.specs.declared.script_summary_and_error.DebugFault.TheVariants.{OutOfMemory, BadLine, LineTooLong, TooManyLines, ReadFault, WriteFault}
 
 -- the output line of each line, from this number on
 abbrev outputs : ℕ → Option Standing → List Line → List (List ℕ)

@@ -1,7 +1,7 @@
 -- The text of a page, from its parts in a row.
 use Rattle.std.proofs.Common.{◌≡◌, ◌∙◌, ℕ, Bool, true, false, not, ◌&&◌, List, ◌++◌, Option, Some, None, Result, IfSome, OnOk, ap, append_assoc, codes, if◌then◌else◌, is_some, refl, slice_get, subst, sym}
 use Rattle.std.proofs.lemmas.Bool.{cond-true, false≢true}
-use Rattle.shm_place.specs.declared.page.PageId.{PageId}
+use Rattle.shm_place.specs.declared.page_id.PageId.{PageId}
 use Rattle.shm_place.specs.Page.{in_limits, manager_of}
 use Rattle.shm_model.specs.declared.answer.Answer.TheVariants as answer
 use Rattle.shm_model.specs.declared.answer.Shown.{Shown}

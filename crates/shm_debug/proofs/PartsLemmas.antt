@@ -5,8 +5,8 @@ use Rattle.std.proofs.lemmas.List.Splits.{slice_split-cons_yes, slice_split-cons
 use Rattle.std.proofs.lemmas.List.Elements.{All-head, All-tail}
 use Rattle.std.proofs.lemmas.Bool.Decides.{nat_tests}
 use Rattle.shm_debug.specs.Script.{parts_of, read_on, read_line, broken, after, begun, unended}
-use Rattle.shm_lines.specs.declared.line.Line.{Line}
-use Rattle.shm_debug.specs.declared.outcome.DebugFault.{DebugFault}
+use Rattle.shm_lines.specs.declared.script_line.Line.{Line}
+use Rattle.shm_debug.specs.declared.script_summary_and_error.DebugFault.{DebugFault}
 
 abbrev pub NoFeed : List ℕ → Type 0
 NoFeed bytes = All (λ byte. (byte == 10) ≡ false) bytes

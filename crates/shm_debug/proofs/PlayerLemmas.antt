@@ -5,15 +5,15 @@ use Rattle.std.specs.Option.{ok_or}
 use Rattle.std.specs.Prelude.{IfOk, IfErr}
 use Rattle.shm_lines.specs.Line.{is_first, line_of}
 use Rattle.shm_lines.specs.Spelling.{IsLine, spelling}
-use Rattle.shm_lines.specs.declared.line.Line.{Line}
-use Rattle.shm_lines.specs.declared.line.Line.TheVariants.{Sites, Event as EventLine, Show, Back}
+use Rattle.shm_lines.specs.declared.script_line.Line.{Line}
+use Rattle.shm_lines.specs.declared.script_line.Line.TheVariants.{Sites, Event as EventLine, Show, Back}
 use Rattle.shm_debug.specs.Standing.{Standing}
 use Rattle.shm_text.specs.Text.{line_text}
 use Rattle.shm_debug.specs.Said.{next, said}
 use Rattle.shm_debug.specs.Script.{read_line, broken, whole}
 use Rattle.shm_debug.specs.Reading.{Moment, IsBeingRead, rest_of, gathered, passed, Plays, Fails, Completes}
-use Rattle.shm_debug.specs.declared.outcome.DebugFault.{DebugFault}
-use Rattle.shm_debug.specs.declared.outcome.DebugFault.TheVariants.{BadLine}
+use Rattle.shm_debug.specs.declared.script_summary_and_error.DebugFault.{DebugFault}
+use Rattle.shm_debug.specs.declared.script_summary_and_error.DebugFault.TheVariants.{BadLine}
 use Rattle.shm_debug.proofs.PartsLemmas.{NoFeed}
 use Rattle.shm_debug.proofs.ReadingLemmas.{Plays-trans, Plays-gather, Fails-after, Fails-more, Fails-ended, Fails-limit, Completes-read, NoFeed-append, rest-broken, rest-open, rest-whole}
 

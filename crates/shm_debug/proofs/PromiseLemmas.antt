@@ -6,15 +6,15 @@ use Rattle.shm_model.specs.Opening.{opening_with}
 use Rattle.shm_model.specs.World.{IsOpening, Opening}
 use Rattle.shm_lines.specs.Line.{line_of, may_stand, sites_line}
 use Rattle.shm_lines.specs.Spelling.{IsLine}
-use Rattle.shm_lines.specs.declared.line.Line.{Line}
-use Rattle.shm_lines.specs.declared.line.Line.TheVariants.{Sites, Event as EventLine, Show, Back}
+use Rattle.shm_lines.specs.declared.script_line.Line.{Line}
+use Rattle.shm_lines.specs.declared.script_line.Line.TheVariants.{Sites, Event as EventLine, Show, Back}
 use Rattle.shm_debug.specs.Standing.{Standing, without_last}
 use Rattle.shm_model.specs.Promise.{Promised}
 use Rattle.shm_debug.specs.Said.{next, standing_after}
 use Rattle.shm_debug.specs.Promise.{KeepsPromise}
 use Rattle.shm_debug.specs.Script.{Script, begun, parts_of, placed, read_line, read_on, script_of, unended, whole}
-use Rattle.shm_debug.specs.declared.outcome.DebugFault.{DebugFault}
-use Rattle.shm_debug.specs.declared.outcome.DebugFault.TheVariants.{BadLine, LineTooLong, TooManyLines}
+use Rattle.shm_debug.specs.declared.script_summary_and_error.DebugFault.{DebugFault}
+use Rattle.shm_debug.specs.declared.script_summary_and_error.DebugFault.TheVariants.{BadLine, LineTooLong, TooManyLines}
 
 -- what stands began as a world may
 abbrev pub Begins : Option Standing → Type 0

@@ -11,9 +11,9 @@ use Rattle.shm_debug.specs.Script.{Script, after, broken, whole, read_on, read_l
 use Rattle.shm_debug.specs.Said.{next, said, standing_after}
 use Rattle.shm_debug.specs.Output.{text_from}
 use Rattle.shm_debug.specs.Reading.{Moment, rest_of, gathered, passed, Onward, WritesLines, Begins, Breaks, Stops, Plays, Fails, Completes}
-use Rattle.shm_lines.specs.declared.line.Line.{Line}
-use Rattle.shm_debug.specs.declared.outcome.DebugFault.{DebugFault}
-use Rattle.shm_debug.specs.declared.outcome.DebugFault.TheVariants.{OutOfMemory, BadLine, LineTooLong, TooManyLines, ReadFault, WriteFault}
+use Rattle.shm_lines.specs.declared.script_line.Line.{Line}
+use Rattle.shm_debug.specs.declared.script_summary_and_error.DebugFault.{DebugFault}
+use Rattle.shm_debug.specs.declared.script_summary_and_error.DebugFault.TheVariants.{OutOfMemory, BadLine, LineTooLong, TooManyLines, ReadFault, WriteFault}
 use Rattle.shm_debug.proofs.PartsLemmas.{NoFeed, parts, parts-feed, parts-after, parts-alone, read_on-line, read_on-fault}
 
 pub after-after : (xs ys : List Line) (s : Script) → after xs (after ys s) ≡ after (xs ++ ys) s

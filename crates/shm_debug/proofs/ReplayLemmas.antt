@@ -9,10 +9,10 @@ use Rattle.shm_debug.specs.Output.{text_of, text_from}
 use Rattle.shm_debug.specs.Said.{standing_after}
 use Rattle.shm_debug.specs.Reading.{Moment, start, reach, rest_of, WritesLines, Stops, Plays, Fails, Ended}
 use Rattle.shm_debug.specs.Replay.{summary_at, Ends, Pauses, Gathers, IsTextOfFirst, IsFrontOfText, IsFaultOf, is_write_fault, PausesAllRead, TellsAllRead}
-use Rattle.shm_lines.specs.declared.line.Line.{Line}
-use Rattle.shm_debug.specs.declared.outcome.Summary.{Summary}
-use Rattle.shm_debug.specs.declared.outcome.DebugFault.{DebugFault}
-use Rattle.shm_debug.specs.declared.outcome.DebugFault.TheVariants.{OutOfMemory, BadLine, LineTooLong, TooManyLines, ReadFault, WriteFault}
+use Rattle.shm_lines.specs.declared.script_line.Line.{Line}
+use Rattle.shm_debug.specs.declared.script_summary_and_error.Summary.{Summary}
+use Rattle.shm_debug.specs.declared.script_summary_and_error.DebugFault.{DebugFault}
+use Rattle.shm_debug.specs.declared.script_summary_and_error.DebugFault.TheVariants.{OutOfMemory, BadLine, LineTooLong, TooManyLines, ReadFault, WriteFault}
 use Rattle.shm_debug.proofs.ReadingLemmas.{Plays-trans, Plays-none, Fails-after, text_from-append}
 
 -- so far: these bytes were taken, and this text was told

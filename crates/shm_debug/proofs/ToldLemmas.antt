@@ -9,8 +9,8 @@ use Rattle.shm_model.specs.declared.event.Event.TheVariants.{Load}
 use Rattle.shm_model.specs.World as model
 use Rattle.shm_lines.specs.Line.{line_of}
 use Rattle.shm_lines.specs.Spelling.{IsLine}
-use Rattle.shm_lines.specs.declared.line.Line.{Line}
-use Rattle.shm_lines.specs.declared.line.Line.TheVariants.{Event as EventLine}
+use Rattle.shm_lines.specs.declared.script_line.Line.{Line}
+use Rattle.shm_lines.specs.declared.script_line.Line.TheVariants.{Event as EventLine}
 use Rattle.shm_debug.specs.Standing.{Standing, with_event, world_of}
 use Rattle.shm_text.specs.Text.{answer_text}
 use Rattle.shm_debug.specs.Sent.{sent_text}

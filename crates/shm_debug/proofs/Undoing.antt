@@ -6,7 +6,7 @@ use Rattle.std.proofs.lemmas.Option.{get_or_from_slice_get, slice_get_within}
 use Rattle.circular_buffer.specs.Buffer.{keep_last, last_item}
 use Rattle.shm_model.specs.declared.event.Event.{Event}
 use Rattle.shm_world.specs.Undo.{LeadsBack}
-use Rattle.shm_world.specs.declared.undo.Undo.{Undo}
+use Rattle.shm_world.specs.declared.undo_record.Undo.{Undo}
 use Rattle.shm_debug.specs.Standing.{Standing, standing, with_event, without_last, world_of}
 use Rattle.shm_debug.specs.Undos.{LeadBack}
 use Rattle.shm_debug.proofs.Holding.{take-front, take-take}

@@ -1,8 +1,8 @@
 -- What is said to a line that asks no site for anything.
 use Rattle.std.specs.Prelude.{ℕ, List, ◌++◌, codes}
 use Rattle.std.specs.Fmt.{decimal}
-use Rattle.shm_debug.specs.declared.notice.Notice.{Notice}
-use Rattle.shm_debug.specs.declared.notice.Notice.TheVariants as notice
+use Rattle.shm_debug.specs.declared.non_event_answer.Notice.{Notice}
+use Rattle.shm_debug.specs.declared.non_event_answer.Notice.TheVariants as notice
 
 abbrev pub notice_text : Notice → List ℕ
 notice_text notice.Ready = codes "ready"

@@ -4,8 +4,8 @@ use Rattle.std.specs.Fmt.{decimal}
 use Rattle.shm_model.specs.declared.event.Event.TheVariants.{Load}
 use Rattle.shm_model.specs.Memory.{last_store, segment_of}
 use Rattle.shm_model.specs.World.{run}
-use Rattle.shm_lines.specs.declared.line.Line.{Line}
-use Rattle.shm_lines.specs.declared.line.Line.TheVariants.{Event as EventLine}
+use Rattle.shm_lines.specs.declared.script_line.Line.{Line}
+use Rattle.shm_lines.specs.declared.script_line.Line.TheVariants.{Event as EventLine}
 use Rattle.shm_debug.specs.Standing.{Standing, with_event, world_of}
 use Rattle.shm_debug.specs.Sent.{sent_text}
 use Rattle.shm_model.specs.Promise.{Promised}

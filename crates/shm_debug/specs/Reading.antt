@@ -8,11 +8,11 @@ use Rattle.shm_debug.specs.Script.{Script, after, whole, broken, read_on, parts_
 use Rattle.shm_debug.specs.Said.{next, said, standing_after}
 use Rattle.shm_debug.specs.Replay.{summary_at}
 use Rattle.shm_debug.specs.Output.{text_from}
-use Rattle.shm_lines.specs.declared.line.Line.{Line}
+use Rattle.shm_lines.specs.declared.script_line.Line.{Line}
 use Rattle.shm_debug.specs.Standing.{Standing}
-use Rattle.shm_debug.specs.declared.outcome.Summary.{Summary}
-use Rattle.shm_debug.specs.declared.outcome.DebugFault.{DebugFault}
-use Rattle.shm_debug.specs.declared.outcome.DebugFault.TheVariants.{OutOfMemory, BadLine, LineTooLong, TooManyLines, ReadFault, WriteFault}
+use Rattle.shm_debug.specs.declared.script_summary_and_error.Summary.{Summary}
+use Rattle.shm_debug.specs.declared.script_summary_and_error.DebugFault.{DebugFault}
+use Rattle.shm_debug.specs.declared.script_summary_and_error.DebugFault.TheVariants.{OutOfMemory, BadLine, LineTooLong, TooManyLines, ReadFault, WriteFault}
 
 -- the whole lines that were read, what stands after them, and what was read of the next
 pub record Moment : Type 0 where

@@ -5,9 +5,9 @@ use Rattle.shm_debug.specs.Standing.{Standing, world_of}
 use Rattle.shm_debug.specs.Said.{standing_after}
 use Rattle.shm_debug.specs.Script.{Script, script_of}
 use Rattle.shm_debug.specs.Output.{text_of}
-use Rattle.shm_debug.specs.declared.outcome.Summary.{Summary}
-use Rattle.shm_debug.specs.declared.outcome.DebugFault.{DebugFault}
-use Rattle.shm_debug.specs.declared.outcome.DebugFault.TheVariants.{OutOfMemory, BadLine, LineTooLong, TooManyLines, ReadFault, WriteFault}
+use Rattle.shm_debug.specs.declared.script_summary_and_error.Summary.{Summary}
+use Rattle.shm_debug.specs.declared.script_summary_and_error.DebugFault.{DebugFault}
+use Rattle.shm_debug.specs.declared.script_summary_and_error.DebugFault.TheVariants.{OutOfMemory, BadLine, LineTooLong, TooManyLines, ReadFault, WriteFault}
 
 -- so many lines; the events that stand after them, and the envelopes that were sent in their run
 abbrev pub summary_at : ℕ → Option Standing → Summary

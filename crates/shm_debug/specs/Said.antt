@@ -4,12 +4,12 @@ use Rattle.std.specs.Prelude.{ℕ, ◌-◌, List, [], ◌∷◌, length, nat_le,
 use Rattle.shm_model.specs.Opening.{opening_of}
 use Rattle.shm_model.specs.World as model
 use Rattle.shm_model.specs.declared.event.Event.{Event}
-use Rattle.shm_lines.specs.declared.line.Line.{Line}
-use Rattle.shm_lines.specs.declared.line.Line.TheVariants as line
+use Rattle.shm_lines.specs.declared.script_line.Line.{Line}
+use Rattle.shm_lines.specs.declared.script_line.Line.TheVariants as line
 use Rattle.shm_debug.specs.Sent.{event_text}
 use Rattle.shm_debug.specs.Page.{page_text}
 use Rattle.shm_debug.specs.Notice.{notice_text}
-use Rattle.shm_debug.specs.declared.notice.Notice.TheVariants as notice
+use Rattle.shm_debug.specs.declared.non_event_answer.Notice.TheVariants as notice
 use Rattle.shm_debug.specs.Standing.{Standing, with_event, without_last, world_of}
 
 -- an event: its answer, and the envelopes that it sent

@@ -2,10 +2,10 @@
 use Rattle.std.specs.Prelude.{ℕ, ◌+◌, ◌==◌, ◌&&◌, if◌then◌else◌, List, [], ◌∷◌, ◌++◌, length, nat_lt, Option, None, Some, Result, Ok, Err}
 use Rattle.std.specs.List.{slice_split}
 use Rattle.shm_lines.specs.Line.{line_of, may_stand}
-use Rattle.shm_lines.specs.declared.line.Line.{Line}
+use Rattle.shm_lines.specs.declared.script_line.Line.{Line}
 use Rattle.shm_debug.specs.Limits.{max_line_bytes, max_lines}
-use Rattle.shm_debug.specs.declared.outcome.DebugFault.{DebugFault}
-use Rattle.shm_debug.specs.declared.outcome.DebugFault.TheVariants.{BadLine, LineTooLong, TooManyLines}
+use Rattle.shm_debug.specs.declared.script_summary_and_error.DebugFault.{DebugFault}
+use Rattle.shm_debug.specs.declared.script_summary_and_error.DebugFault.TheVariants.{BadLine, LineTooLong, TooManyLines}
 
 -- the lines up to the end, or up to the first fault
 pub record Script : Type 0 where

@@ -2,16 +2,16 @@
 use Rattle.std.specs.Prelude.{◌≡◌, ◌≤◌, ◌+◌, ℕ, List, ◌++◌, codes, length, slice_get, take, Option, None, Some, Result, Ok, Err}
 use Rattle.std.specs.List.{concat}
 use Rattle.shm_model.specs.declared.event.Event.TheVariants.{Load}
-use Rattle.shm_lines.specs.declared.line.Line.{Line}
-use Rattle.shm_lines.specs.declared.line.Line.TheVariants.{Event as EventLine}
+use Rattle.shm_lines.specs.declared.script_line.Line.{Line}
+use Rattle.shm_lines.specs.declared.script_line.Line.TheVariants.{Event as EventLine}
 use Rattle.shm_debug.specs.Standing.{Standing}
 use Rattle.shm_text.specs.Text.{line_text}
 use Rattle.shm_debug.specs.Promise.{IsLastByte}
 use Rattle.shm_debug.specs.Said.{said, standing_after}
 use Rattle.shm_debug.specs.Script.{Script}
-use Rattle.shm_debug.specs.declared.outcome.Summary.{Summary}
-use Rattle.shm_debug.specs.declared.outcome.DebugFault.{DebugFault}
-use Rattle.shm_debug.specs.declared.outcome.DebugFault.TheVariants.{OutOfMemory, BadLine, LineTooLong, TooManyLines, ReadFault, WriteFault}
+use Rattle.shm_debug.specs.declared.script_summary_and_error.Summary.{Summary}
+use Rattle.shm_debug.specs.declared.script_summary_and_error.DebugFault.{DebugFault}
+use Rattle.shm_debug.specs.declared.script_summary_and_error.DebugFault.TheVariants.{OutOfMemory, BadLine, LineTooLong, TooManyLines, ReadFault, WriteFault}
 
 -- where the output line of a load says `byte B`, B is the byte stored last to its place by the events that stand before it, or 0
 abbrev pub SaysLast : ℕ → Option Standing → Line → List ℕ → Type 0

@@ -1,7 +1,7 @@
 -- What is kept of the last events, so that they can be taken back one by one.
 use Rattle.std.specs.Prelude.{⊤, List, [], ◌∷◌, reverse}
 use Rattle.shm_world.specs.Undo.{LeadsBack}
-use Rattle.shm_world.specs.declared.undo.Undo.{Undo}
+use Rattle.shm_world.specs.declared.undo_record.Undo.{Undo}
 use Rattle.shm_debug.specs.Standing.{Standing, without_last, world_of}
 use Rattle.shm_debug.specs.declared.undos.Undos.{Undos}
 

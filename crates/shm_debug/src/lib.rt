@@ -2,30 +2,30 @@
 //! what becomes of each line.
 #![tactic(auto)]
 
-mod back_fault;
+mod back_error;
 mod checkpoint;
 mod checkpoints;
 pub mod laws;
-mod notice;
-mod outcome;
+mod non_event_answer;
+mod output_buffer;
 mod play_line;
-mod player;
+mod printed_text;
 mod replay_script;
+mod script_player;
+mod script_summary_and_error;
 mod session;
 mod session_apply;
 mod session_back;
-mod session_show;
-mod tell;
+mod session_page_text;
 mod undos;
-mod write_told;
 
-pub use back_fault::BackFault;
-pub use outcome::{DebugFault, Summary};
-pub use player::Player;
-pub use replay_script::replay;
-pub use session::Session;
-pub use shm_lines::{BadLine, Line, parse_line};
-pub use tell::{
+pub use back_error::BackFault;
+pub use printed_text::{
     print_answer, print_page, tell_answer_line, tell_copies, tell_manager, tell_page_line,
     write_answer,
 };
+pub use replay_script::replay;
+pub use script_player::Player;
+pub use script_summary_and_error::{DebugFault, Summary};
+pub use session::Session;
+pub use shm_lines::{BadLine, Line, parse_line};

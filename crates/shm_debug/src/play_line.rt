@@ -6,9 +6,9 @@ ghost use Rattle.shm_text.specs.Text.{line_text};
 ghost use Rattle.shm_debug.specs.Replay.{summary_at};
 ghost use Rattle.shm_debug.specs.Said.{said, said_to_back, next, next_back};
 
-use crate::notice::Notice;
-use crate::outcome::Summary;
-use crate::tell::tell_page_line;
+use crate::non_event_answer::Notice;
+use crate::printed_text::tell_page_line;
+use crate::script_summary_and_error::Summary;
 use crate::{BackFault, Session};
 use shm_lines::Line;
 use shm_text::Text;

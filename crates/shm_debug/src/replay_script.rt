@@ -9,9 +9,9 @@ ghost use Rattle.shm_debug.specs.Promise.{AlwaysKept, AlwaysTellsLast};
 ghost use Rattle.shm_debug.specs.Told.{ToldLast};
 
 use crate::laws;
-use crate::outcome::{DebugFault, Summary};
-use crate::player::Player;
-use crate::write_told::{empty_text, write_and_flush, write_told};
+use crate::output_buffer::{empty_text, write_and_flush, write_told};
+use crate::script_player::Player;
+use crate::script_summary_and_error::{DebugFault, Summary};
 use shm_text::{Text, read_up_to};
 use std::alloc::Allocator;
 use std::io::{Read, Write};

@@ -8,8 +8,8 @@ ghost use Rattle.shm_debug.specs.Standing.{with_event, world_of};
 ghost use Rattle.shm_text.specs.Text.{line_text};
 ghost use Rattle.shm_world.specs.World.{StandsFor, may_grow};
 
+use crate::printed_text::tell_answer_line;
 use crate::session::Session;
-use crate::tell::tell_answer_line;
 use shm_text::Text;
 use shm_world::{Answer, Event, World};
 use std::alloc::{AllocError, Allocator};

@@ -9,7 +9,7 @@ ghost use Rattle.shm_debug.specs.Standing.{Standing, first_events, standing, wit
 ghost use Rattle.shm_debug.specs.Undos.{AllLeadBack};
 ghost use Rattle.shm_world.specs.World.{StandsFor};
 
-use crate::back_fault::BackFault;
+use crate::back_error::BackFault;
 use crate::checkpoint::Checkpoint;
 use crate::checkpoints::Checkpoints;
 use crate::session::Session;

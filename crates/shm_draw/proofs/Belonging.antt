@@ -1,6 +1,6 @@
 -- What is drawn on a page's picture is of an event about that page, or about none.
 use Rattle.std.proofs.Common.{◌≡◌, ℕ, Bool, true, false, List, Option, Some, None, refl, subst, if◌then◌else◌, nat_lt}
-use Rattle.shm_place.specs.declared.page.PageId.{PageId}
+use Rattle.shm_place.specs.declared.page_id.PageId.{PageId}
 use Rattle.shm_place.specs.Page.{same_page}
 use Rattle.shm_model.specs.declared.event.Event.{Event}
 use Rattle.shm_model.specs.declared.event.Event.TheVariants.{Load, Store, Begin, Tick, Restart, Deliver, Repeat, Lose}
@@ -8,12 +8,12 @@ use Rattle.shm_model.specs.Message.{Envelope}
 use Rattle.shm_model.specs.World.{World, live}
 use Rattle.shm_draw.specs.Arrows.{BelongsTo}
 use Rattle.shm_draw.specs.Picture.{about, is_of, mark, mark_on, own_mark, passed}
-use Rattle.shm_draw.specs.declared.mark.End.{End}
-use Rattle.shm_draw.specs.declared.mark.End.TheVariants.{HandedOver, Repeated, Lost}
-use Rattle.shm_draw.specs.declared.mark.Mark.{Mark}
-use Rattle.shm_draw.specs.declared.mark.Mark.TheVariants.{At, Arrow, Elsewhere, Nowhere}
-use Rattle.shm_draw.specs.declared.mark.Symbol.{Symbol}
-use Rattle.shm_draw.specs.declared.mark.Symbol.TheVariants.{Request, Tick as TickSymbol, Restart as RestartSymbol}
+use Rattle.shm_draw.specs.declared.mark_kinds.End.{End}
+use Rattle.shm_draw.specs.declared.mark_kinds.End.TheVariants.{HandedOver, Repeated, Lost}
+use Rattle.shm_draw.specs.declared.mark_kinds.Mark.{Mark}
+use Rattle.shm_draw.specs.declared.mark_kinds.Mark.TheVariants.{At, Arrow, Elsewhere, Nowhere}
+use Rattle.shm_draw.specs.declared.mark_kinds.Symbol.{Symbol}
+use Rattle.shm_draw.specs.declared.mark_kinds.Symbol.TheVariants.{Request, Tick as TickSymbol, Restart as RestartSymbol}
 
 -- no other page is named
 abbrev IsOwn : Mark → Type 0

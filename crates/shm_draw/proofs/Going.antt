@@ -1,6 +1,6 @@
 -- A run that is drawn event by event, and the picture of a page from its parts.
 use Rattle.std.proofs.Common.{◌≡◌, ◌∙◌, ℕ, ◌+◌, ◌-◌, List, [], ◌∷◌, ◌++◌, length, drop, replicate, Option, Result, OnOk, refl, sym, ap, ap₂, subst, append_assoc, append-nil, codes}
-use Rattle.shm_place.specs.declared.page.PageId.{PageId}
+use Rattle.shm_place.specs.declared.page_id.PageId.{PageId}
 use Rattle.shm_model.specs.declared.answer.Answer.{Answer}
 use Rattle.shm_model.specs.declared.event.Event.{Event}
 use Rattle.shm_model.specs.World as model
@@ -8,13 +8,14 @@ use Rattle.shm_debug.proofs.Booked.{on_ok-then}
 use Rattle.shm_world.specs.Steps.{Went}
 use Rattle.shm_world.specs.World.{StandsFor}
 use Rattle.shm_world.specs.declared.world.World.{World}
+use Rattle.shm_draw.specs.Captions.{Beside}
 use Rattle.shm_draw.specs.Drawing.{DrewEvent, DrewEvents, DrewPage, DrewPages, Sheet, sheet}
 use Rattle.shm_draw.specs.Picture.{Scene, first_scene, scene, scene_after, last_scene, mark, pages_drawn}
 use Rattle.shm_draw.specs.Svg
 use Rattle.shm_draw.specs.Svg.{bottom_of, cells_text, depth, flying_label, flying_shape, flying_text, group_text, heading_text, line_text, mark_label, mark_shape, names_text, page_text, pages_text, row_labels, row_shapes, rows_text, ways_after}
-use Rattle.shm_draw.specs.declared.style.TheConstants.{STYLE}
-use Rattle.shm_draw.specs.declared.mark.Way.{Way}
-use Rattle.shm_draw.specs.declared.mark.Mark.{Mark}
+use Rattle.shm_draw.specs.declared.svg_style.TheConstants.{STYLE}
+use Rattle.shm_draw.specs.declared.mark_kinds.Way.{Way}
+use Rattle.shm_draw.specs.declared.mark_kinds.Mark.{Mark}
 
 -- so many of the events are drawn
 pub record Going {A : Type 0} (page : PageId) (first : Scene) (events : List Event) (old new : Sheet) (world : World A) (index : ℕ) (origins : List ℕ) : Type 0 where
@@ -83,8 +84,8 @@ three_in_a_row a b c = simp append_assoc refl
 four_in_a_row : (a b c d : List ℕ) → ((([] ++ a) ++ b) ++ c) ++ d ≡ a ++ (b ++ (c ++ d))
 four_in_a_row a b c d = simp append_assoc refl
 
-four_behind : (old a b c d : List ℕ) → (((old ++ a) ++ b) ++ c) ++ d ≡ old ++ (a ++ (b ++ (c ++ d)))
-four_behind old a b c d = simp append_assoc refl
+five_behind : (old a b c d e : List ℕ) → ((((old ++ a) ++ b) ++ c) ++ d) ++ e ≡ old ++ (a ++ (b ++ (c ++ (d ++ e))))
+five_behind old a b c d e = simp append_assoc refl
 
 pub three_told : (start first second third a b c : List ℕ) → start ≡ [] → first ≡ start ++ a → second ≡ first ++ b → third ≡ second ++ c → third ≡ a ++ (b ++ c)
 three_told start first second third a b c z p q r =
@@ -95,10 +96,11 @@ pub four_told : (start first second third fourth a b c d : List ℕ) → start �
 four_told start first second third fourth a b c d z p q r s =
     s ∙ ap (λ t. t ++ d) r ∙ ap (λ t. (t ++ c) ++ d) q ∙ ap (λ t. ((t ++ b) ++ c) ++ d) p ∙ ap (λ t. (((t ++ a) ++ b) ++ c) ++ d) z ∙ four_in_a_row a b c d
 
-pub told_behind : (old first second third fourth a b c d : List ℕ) → first ≡ old ++ a → second ≡ first ++ b → third ≡ second ++ c → fourth ≡ third ++ d
-    → fourth ≡ old ++ (a ++ (b ++ (c ++ d)))
-told_behind old first second third fourth a b c d p q r s =
-    s ∙ ap (λ t. t ++ d) r ∙ ap (λ t. (t ++ c) ++ d) q ∙ ap (λ t. ((t ++ b) ++ c) ++ d) p ∙ four_behind old a b c d
+pub told_behind : (old first second third fourth fifth a b c d e : List ℕ)
+    → first ≡ old ++ a → second ≡ first ++ b → third ≡ second ++ c → fourth ≡ third ++ d → fifth ≡ fourth ++ e
+    → fifth ≡ old ++ (a ++ (b ++ (c ++ (d ++ e))))
+told_behind old first second third fourth fifth a b c d e p q r s z =
+    z ∙ ap (λ t. t ++ e) s ∙ ap (λ t. (t ++ d) ++ e) r ∙ ap (λ t. ((t ++ c) ++ d) ++ e) q ∙ ap (λ t. (((t ++ b) ++ c) ++ d) ++ e) p ∙ five_behind old a b c d e
 
 -- ---- the picture of a page from the texts of its parts
 
@@ -125,63 +127,69 @@ labels_told page w events count last ways l0 l1 l2 l3 l4 sites all are z a b c d
     ∙ ap (λ n. heading_text page ++ (names_text n ++ (rows ++ flying_text flying_label last 1 ways))) sites
     ∙ ap (λ t. heading_text page ++ (names_text w.count ++ (rows ++ t))) (same_ways flying_label page w events last ways all are)
 
-pub page_told : (page : PageId) (w : model.World) (events : List Event) (top last further answer : ℕ) (ways : List Way) (shapes labels o0 o1 o2 o3 o4 : List ℕ)
+pub page_told : (page : PageId) (w : model.World) (events : List Event) (captions : List ℕ) (top last further answer : ℕ) (ways : List Way) (shapes labels o0 o1 o2 o3 o4 o5 : List ℕ)
     → last ≡ length events → further ≡ length ways → ways ≡ ways_after page w events → answer ≡ Svg.depth_of last further
     → shapes ≡ Svg.shapes_text page w events → labels ≡ Svg.labels_text page w events
-    → o1 ≡ o0 ++ group_text top → o2 ≡ o1 ++ shapes → o3 ≡ o2 ++ labels → o4 ≡ o3 ++ codes "</g>\n" → DrewPage page w events top o0 o4 answer
-page_told page w events top last further answer ways shapes labels o0 o1 o2 o3 o4 all more are deep drew said a b c d = record {
-  text = told_behind o0 o1 o2 o3 o4 (group_text top) shapes labels (codes "</g>\n") a b c d
-      ∙ ap (λ t. o0 ++ (group_text top ++ (t ++ (labels ++ codes "</g>\n")))) drew
-      ∙ ap (λ t. o0 ++ (group_text top ++ (Svg.shapes_text page w events ++ (t ++ codes "</g>\n")))) said;
+    → o1 ≡ o0 ++ group_text top → o2 ≡ o1 ++ shapes → o3 ≡ o2 ++ labels → o4 ≡ o3 ++ captions → o5 ≡ o4 ++ codes "</g>\n"
+    → DrewPage page w events captions top o0 o5 answer
+page_told page w events captions top last further answer ways shapes labels o0 o1 o2 o3 o4 o5 all more are deep drew said a b c d e = record {
+  text = told_behind o0 o1 o2 o3 o4 o5 (group_text top) shapes labels captions (codes "</g>\n") a b c d e
+      ∙ ap (λ t. o0 ++ (group_text top ++ (t ++ (labels ++ (captions ++ codes "</g>\n"))))) drew
+      ∙ ap (λ t. o0 ++ (group_text top ++ (Svg.shapes_text page w events ++ (t ++ (captions ++ codes "</g>\n"))))) said;
   deep = deep ∙ ap (λ n. Svg.depth_of n further) all ∙ ap (Svg.depth_of (length events)) (more ∙ ap length are);
 }
 
 -- ---- pages, one below the other
 
 -- so many of the pages are drawn
-pub record Paging (pages : List PageId) (w : model.World) (events : List Event) (old new : List ℕ) (index top : ℕ) : Type 0 where
-  pub text : new ++ pages_text (drop index pages) w events top ≡ old ++ pages_text pages w events 0
+pub record Paging (pages : List PageId) (w : model.World) (events : List Event) (captions : List ℕ) (old new : List ℕ) (index top : ℕ) : Type 0 where
+  pub text : new ++ pages_text (drop index pages) w events captions top ≡ old ++ pages_text pages w events captions 0
   pub bottom : bottom_of (drop index pages) w events top ≡ bottom_of pages w events 0
 
-pub paging_none : (pages : List PageId) (w : model.World) (events : List Event) (old : List ℕ) → Paging pages w events old old 0 0
-paging_none pages w events old = record { text = refl; bottom = refl }
+pub paging_none : (pages : List PageId) (w : model.World) (events : List Event) (captions old : List ℕ) → Paging pages w events captions old old 0 0
+paging_none pages w events captions old = record { text = refl; bottom = refl }
 
-pub paging_more : (pages : List PageId) (w : model.World) (events : List Event) (old now new : List ℕ) (index top deep next : ℕ) (page : PageId)
-    → Paging pages w events old now index top → drop index pages ≡ page ∷ drop (index + 1) pages → DrewPage page w events top now new deep → next ≡ top + deep
-    → Paging pages w events old new (index + 1) next
-paging_more pages w events old now new index top deep next page had dropped drew below =
+pub paging_more : (pages : List PageId) (w : model.World) (events : List Event) (captions old now new : List ℕ) (index top deep next : ℕ) (page : PageId)
+    → Paging pages w events captions old now index top → drop index pages ≡ page ∷ drop (index + 1) pages → DrewPage page w events captions top now new deep → next ≡ top + deep
+    → Paging pages w events captions old new (index + 1) next
+paging_more pages w events captions old now new index top deep next page had dropped drew below =
     let rest = drop (index + 1) pages in
     let there : next ≡ top + depth page w events = below ∙ ap (λ n. top + n) drew.deep in
     record {
-      text = ap (λ t. t ++ pages_text rest w events next) drew.text
-          ∙ ap (λ n. (now ++ page_text page w events top) ++ pages_text rest w events n) there
-          ∙ append_assoc now (page_text page w events top) (pages_text rest w events (top + depth page w events))
-          ∙ ap (λ xs. now ++ pages_text xs w events top) (sym dropped)
+      text = ap (λ t. t ++ pages_text rest w events captions next) drew.text
+          ∙ ap (λ n. (now ++ page_text page w events captions top) ++ pages_text rest w events captions n) there
+          ∙ append_assoc now (page_text page w events captions top) (pages_text rest w events captions (top + depth page w events))
+          ∙ ap (λ xs. now ++ pages_text xs w events captions top) (sym dropped)
           ∙ had.text;
       bottom = ap (bottom_of rest w events) there ∙ ap (λ xs. bottom_of xs w events top) (sym dropped) ∙ had.bottom;
     }
 
-pub paging_all : (pages : List PageId) (w : model.World) (events : List Event) (old new : List ℕ) (index top : ℕ) → drop index pages ≡ [] → Paging pages w events old new index top
-    → DrewPages pages w events old new top
-paging_all pages w events old new index top none had = record {
-  text = sym (append-nil new) ∙ ap (λ xs. new ++ pages_text xs w events top) (sym none) ∙ had.text;
+pub paging_all : (pages : List PageId) (w : model.World) (events : List Event) (captions old new : List ℕ) (index top : ℕ) → drop index pages ≡ []
+    → Paging pages w events captions old new index top → DrewPages pages w events captions old new top
+paging_all pages w events captions old new index top none had = record {
+  text = sym (append-nil new) ∙ ap (λ xs. new ++ pages_text xs w events captions top) (sym none) ∙ had.text;
   deep = ap (λ xs. bottom_of xs w events top) (sym none) ∙ had.bottom;
 }
 
 -- the whole from the texts of its parts
-pub picture_told : (asked : Option PageId) (w : model.World) (events : List Event) (count room bottom : ℕ) (pages : List PageId) (b0 b1 t0 t1 t2 t3 t4 : List ℕ)
-    → count ≡ w.count → room ≡ Svg.room_of events → pages ≡ pages_drawn asked w events → b0 ≡ [] → DrewPages pages w events b0 b1 bottom
-    → t0 ≡ [] → t1 ≡ t0 ++ Svg.head_text count room bottom → t2 ≡ t1 ++ STYLE.now → t3 ≡ t2 ++ b1 → t4 ≡ t3 ++ codes "</svg>\n" → t4 ≡ Svg.svg_text asked w events
-picture_told asked w events count room bottom pages b0 b1 t0 t1 t2 t3 t4 sites wide are none drew z p q r s =
+pub picture_told : (asked : Option PageId) (w : model.World) (events : List Event) (besides : List Beside) (right room width bottom : ℕ) (pages : List PageId)
+    (c0 c1 b0 b1 t0 t1 t2 t3 t4 : List ℕ)
+    → right ≡ Svg.width_of w.count (Svg.room_of events) → room ≡ Svg.room_for besides → width ≡ right + room → pages ≡ pages_drawn asked w events
+    → c0 ≡ [] → c1 ≡ c0 ++ Svg.captions_text right (length events) besides → b0 ≡ [] → DrewPages pages w events c1 b0 b1 bottom
+    → t0 ≡ [] → t1 ≡ t0 ++ Svg.head_text width bottom → t2 ≡ t1 ++ STYLE.now → t3 ≡ t2 ++ b1 → t4 ≡ t3 ++ codes "</svg>\n" → t4 ≡ Svg.svg_text asked w events besides
+picture_told asked w events besides right room width bottom pages c0 c1 b0 b1 t0 t1 t2 t3 t4 at wide whole are bare told none drew z p q r s =
     let foot = codes "</svg>\n" in
-    let body : b1 ≡ pages_text (pages_drawn asked w events) w events 0 =
-    drew.text ∙ ap (λ b. b ++ pages_text pages w events 0) none ∙ ap (λ ps. pages_text ps w events 0) are in
+    let captions : c1 ≡ Svg.captions_text (Svg.width_of w.count (Svg.room_of events)) (length events) besides =
+    told ∙ ap (λ c. c ++ Svg.captions_text right (length events) besides) bare ∙ ap (λ x. Svg.captions_text x (length events) besides) at in
+    let body : b1 ≡ pages_text (pages_drawn asked w events) w events (Svg.captions_text (Svg.width_of w.count (Svg.room_of events)) (length events) besides) 0 =
+    drew.text ∙ ap (λ b. b ++ pages_text pages w events c1 0) none ∙ ap (λ ps. pages_text ps w events c1 0) are
+    ∙ ap (λ c. pages_text (pages_drawn asked w events) w events c 0) captions in
     let deep : bottom ≡ bottom_of (pages_drawn asked w events) w events 0 = drew.deep ∙ ap (λ ps. bottom_of ps w events 0) are in
-    four_told t0 t1 t2 t3 t4 (Svg.head_text count room bottom) STYLE.now b1 foot z p q r s
-    ∙ ap (λ n. Svg.head_text n room bottom ++ (STYLE.now ++ (b1 ++ foot))) sites
-    ∙ ap (λ n. Svg.head_text w.count n bottom ++ (STYLE.now ++ (b1 ++ foot))) wide
-    ∙ ap (λ n. Svg.head_text w.count (Svg.room_of events) n ++ (STYLE.now ++ (b1 ++ foot))) deep
-    ∙ ap (λ t. Svg.head_text w.count (Svg.room_of events) (bottom_of (pages_drawn asked w events) w events 0) ++ (STYLE.now ++ (t ++ foot))) body
+    let broad : width ≡ Svg.width_of w.count (Svg.room_of events) + Svg.room_for besides = whole ∙ ap (λ x. x + room) at ∙ ap (λ n. Svg.width_of w.count (Svg.room_of events) + n) wide in
+    four_told t0 t1 t2 t3 t4 (Svg.head_text width bottom) STYLE.now b1 foot z p q r s
+    ∙ ap (λ n. Svg.head_text n bottom ++ (STYLE.now ++ (b1 ++ foot))) broad
+    ∙ ap (λ n. Svg.head_text (Svg.width_of w.count (Svg.room_of events) + Svg.room_for besides) n ++ (STYLE.now ++ (b1 ++ foot))) deep
+    ∙ ap (λ t. Svg.head_text (Svg.width_of w.count (Svg.room_of events) + Svg.room_for besides) (bottom_of (pages_drawn asked w events) w events 0) ++ (STYLE.now ++ (t ++ foot))) body
 
 -- ---- one event
 

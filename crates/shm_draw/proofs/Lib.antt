@@ -1,4 +1,5 @@
 pub mod Belonging
+pub mod Captioned
 pub mod Colours
 pub mod Going
 pub mod Numbered

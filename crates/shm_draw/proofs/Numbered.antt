@@ -2,7 +2,7 @@
 use Rattle.std.proofs.Common.{◌≡◌, ◌∙◌, ℕ, zero, suc, ◌+◌, ◌-◌, ◌≤◌, replicate, List, [], ◌∷◌, ◌++◌, ap, sym, append_assoc, append-nil, arith}
 use Rattle.std.proofs.lemmas.List.{replicate_more}
 use Rattle.std.specs.List.{flat_map, range_with_len}
-use Rattle.shm_draw.specs.declared.mark.Way.{Way}
+use Rattle.shm_draw.specs.declared.mark_kinds.Way.{Way}
 use Rattle.shm_draw.specs.Svg.{flying_text}
 
 pub range-more : {X : Type 0} (f : ℕ → List X) (a n : ℕ) → flat_map f (range_with_len a (suc n)) ≡ flat_map f (range_with_len a n) ++ f (a + n)

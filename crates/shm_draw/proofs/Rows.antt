@@ -1,6 +1,6 @@
 -- The rows of a picture, one for each event.
 use Rattle.std.proofs.Common.{◌≡◌, ◌∙◌, ℕ, List, [], ◌∷◌, ◌++◌, refl, sym, ap, append_assoc}
-use Rattle.shm_place.specs.declared.page.PageId.{PageId}
+use Rattle.shm_place.specs.declared.page_id.PageId.{PageId}
 use Rattle.shm_model.specs.declared.event.Event.{Event}
 use Rattle.shm_model.specs.World.{Opening, opened}
 use Rattle.shm_draw.specs.Arrows.{InOrder, RowsInOrder, scene_of}

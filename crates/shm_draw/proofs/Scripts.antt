@@ -5,15 +5,15 @@ use Rattle.std.specs.Io.KnownBytes.{Appends, Consumes, IsAtEnd, Keeps}
 use Rattle.std.proofs.KnownBytes.{Appends-kept, Consumes-whole}
 use Rattle.shm_lines.specs.Line.{line_of}
 use Rattle.shm_lines.specs.Spelling.{IsLine}
-use Rattle.shm_lines.specs.declared.line.Line.{Line}
+use Rattle.shm_lines.specs.declared.script_line.Line.{Line}
 use Rattle.shm_debug.specs.Script.{Script, after, whole, script_of}
 use Rattle.shm_debug.specs.Said.{standing_after}
 use Rattle.shm_debug.specs.Standing.{Standing}
 use Rattle.shm_debug.specs.Reading.{Moment, Ended, rest_of}
 use Rattle.shm_debug.specs.Replay.{Pauses}
-use Rattle.shm_debug.specs.declared.outcome.Summary.{Summary}
-use Rattle.shm_debug.specs.declared.outcome.DebugFault.{DebugFault}
-use Rattle.shm_debug.specs.declared.outcome.DebugFault.TheVariants.{OutOfMemory, BadLine, LineTooLong, TooManyLines, ReadFault, WriteFault}
+use Rattle.shm_debug.specs.declared.script_summary_and_error.Summary.{Summary}
+use Rattle.shm_debug.specs.declared.script_summary_and_error.DebugFault.{DebugFault}
+use Rattle.shm_debug.specs.declared.script_summary_and_error.DebugFault.TheVariants.{OutOfMemory, BadLine, LineTooLong, TooManyLines, ReadFault, WriteFault}
 use Rattle.shm_debug.proofs.PromiseLemmas.{Begins, begins-always}
 use Rattle.shm_debug.proofs.ReplayLemmas.{IfSome-map, SoFar, all_read}
 use Rattle.shm_draw.specs.Drawn.{BeganRight, LeadsTo, Stopped, Writes}

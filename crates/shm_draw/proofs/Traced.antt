@@ -6,7 +6,7 @@ use Rattle.std.proofs.lemmas.Option.{get_or_from_slice_get, slice_get_within, sl
 use Rattle.std.proofs.lemmas.Bool.{cases_lt}
 use Rattle.std.specs.List.{flat_map, range_with_len}
 use Rattle.std.specs.Option.{option_to_list}
-use Rattle.shm_place.specs.declared.page.PageId.{PageId}
+use Rattle.shm_place.specs.declared.page_id.PageId.{PageId}
 use Rattle.shm_place.specs.Page.{same_page}
 use Rattle.shm_model.specs.declared.event.Event.{Event}
 use Rattle.shm_model.specs.declared.event.Event.TheVariants.{Load, Store, Begin, Tick, Restart, Deliver, Repeat, Lose}
@@ -15,13 +15,13 @@ use Rattle.shm_model.specs.World.{Opening, World, live, next, opened, run}
 use Rattle.shm_world.proofs.Runs.{run-then}
 use Rattle.shm_draw.specs.Arrows.{IsWayOf, Passes, SentBy, scene_of}
 use Rattle.shm_draw.specs.Picture.{Scene, about, about_envelope, first_scene, is_of, last_scene, live_way, mark, mark_on, on_their_way, origins_after, own_mark, page_of, passed, scene_after, way, word_of}
-use Rattle.shm_draw.specs.declared.mark.End.{End}
-use Rattle.shm_draw.specs.declared.mark.End.TheVariants.{HandedOver, Repeated, Lost, OnItsWay}
-use Rattle.shm_draw.specs.declared.mark.Mark.{Mark}
-use Rattle.shm_draw.specs.declared.mark.Mark.TheVariants.{At, Arrow, Elsewhere, Nowhere}
-use Rattle.shm_draw.specs.declared.mark.Symbol.{Symbol}
-use Rattle.shm_draw.specs.declared.mark.Symbol.TheVariants.{Request, Tick as TickSymbol, Restart as RestartSymbol}
-use Rattle.shm_draw.specs.declared.mark.Way.{Way}
+use Rattle.shm_draw.specs.declared.mark_kinds.End.{End}
+use Rattle.shm_draw.specs.declared.mark_kinds.End.TheVariants.{HandedOver, Repeated, Lost, OnItsWay}
+use Rattle.shm_draw.specs.declared.mark_kinds.Mark.{Mark}
+use Rattle.shm_draw.specs.declared.mark_kinds.Mark.TheVariants.{At, Arrow, Elsewhere, Nowhere}
+use Rattle.shm_draw.specs.declared.mark_kinds.Symbol.{Symbol}
+use Rattle.shm_draw.specs.declared.mark_kinds.Symbol.TheVariants.{Request, Tick as TickSymbol, Restart as RestartSymbol}
+use Rattle.shm_draw.specs.declared.mark_kinds.Way.{Way}
 use Rattle.shm_draw.proofs.Senders.{from-at, next-sends}
 
 -- ---- one event more

@@ -1,7 +1,7 @@
 -- What the picture of a page says of the run: each row is one event's; each mark, each arrow and each colour is of this page, or of no one page;
 -- each arrow is one hand-over or loss of an envelope that its site sent earlier, and none is missing.
 use Rattle.std.specs.Prelude.{◌≡◌, ℕ, ◌+◌, ◌≤◌, ◌<◌, true, false, List, [], ◌∷◌, ◌++◌, length, Option, Some, None, slice_get, Contains}
-use Rattle.shm_place.specs.declared.page.PageId.{PageId}
+use Rattle.shm_place.specs.declared.page_id.PageId.{PageId}
 use Rattle.shm_place.specs.Page.{same_page}
 use Rattle.shm_model.specs.declared.event.Event.{Event}
 use Rattle.shm_model.specs.declared.event.Event.TheVariants.{Deliver, Repeat, Lose}
@@ -9,11 +9,11 @@ use Rattle.shm_model.specs.Message.{Envelope}
 use Rattle.shm_model.specs.Site.{Site}
 use Rattle.shm_model.specs.World.{Opening, World, live, next, opened, run}
 use Rattle.shm_world.specs.Showing.{shown}
-use Rattle.shm_draw.specs.declared.mark.End.{End}
-use Rattle.shm_draw.specs.declared.mark.End.TheVariants.{HandedOver, Repeated, Lost, OnItsWay}
-use Rattle.shm_draw.specs.declared.mark.Mark.{Mark}
-use Rattle.shm_draw.specs.declared.mark.Mark.TheVariants.{At, Arrow, Elsewhere, Nowhere}
-use Rattle.shm_draw.specs.declared.mark.Way.{Way}
+use Rattle.shm_draw.specs.declared.mark_kinds.End.{End}
+use Rattle.shm_draw.specs.declared.mark_kinds.End.TheVariants.{HandedOver, Repeated, Lost, OnItsWay}
+use Rattle.shm_draw.specs.declared.mark_kinds.Mark.{Mark}
+use Rattle.shm_draw.specs.declared.mark_kinds.Mark.TheVariants.{At, Arrow, Elsewhere, Nowhere}
+use Rattle.shm_draw.specs.declared.mark_kinds.Way.{Way}
 use Rattle.shm_draw.specs.Picture.{Scene, about, first_scene, is_of, last_scene, mark, page_of, word_of}
 use Rattle.shm_draw.specs.Svg.{row_labels, row_shapes, rows_text, ways_after}
 

@@ -1,6 +1,6 @@
 -- What drawing an event, then events, and then pages leaves.
 use Rattle.std.specs.Prelude.{◌≡◌, ℕ, List, ◌++◌}
-use Rattle.shm_place.specs.declared.page.PageId.{PageId}
+use Rattle.shm_place.specs.declared.page_id.PageId.{PageId}
 use Rattle.shm_model.specs.declared.event.Event.{Event}
 use Rattle.shm_model.specs.World as model
 use Rattle.shm_world.specs.World.{StandsFor}
@@ -29,10 +29,10 @@ pub record DrewEvents {A : Type 0} (page : PageId) (s : Scene) (events : List Ev
   pub sent_by : origins ≡ (last_scene s events).origins
 
 -- the answer is how far the page's picture goes down
-pub record DrewPage (page : PageId) (w : model.World) (events : List Event) (top : ℕ) (old new : List ℕ) (answer : ℕ) : Type 0 where
-  pub text : new ≡ old ++ page_text page w events top
+pub record DrewPage (page : PageId) (w : model.World) (events : List Event) (captions : List ℕ) (top : ℕ) (old new : List ℕ) (answer : ℕ) : Type 0 where
+  pub text : new ≡ old ++ page_text page w events captions top
   pub deep : answer ≡ depth page w events
 
-pub record DrewPages (pages : List PageId) (w : model.World) (events : List Event) (old new : List ℕ) (answer : ℕ) : Type 0 where
-  pub text : new ≡ old ++ pages_text pages w events 0
+pub record DrewPages (pages : List PageId) (w : model.World) (events : List Event) (captions : List ℕ) (old new : List ℕ) (answer : ℕ) : Type 0 where
+  pub text : new ≡ old ++ pages_text pages w events captions 0
   pub deep : answer ≡ bottom_of pages w events 0

@@ -1,22 +1,23 @@
 -- How drawing a script ends, and what it has written by then.
 use Rattle.std.specs.Prelude.{◌≡◌, ℕ, List, [], ◌++◌, ◌⊎◌, Option, None, Some, Result, Ok, Err}
-use Rattle.shm_place.specs.declared.page.PageId.{PageId}
+use Rattle.shm_place.specs.declared.page_id.PageId.{PageId}
 use Rattle.shm_model.specs.World.{IsOpening, opened}
 use Rattle.shm_debug.specs.Standing.{Standing}
 use Rattle.shm_debug.specs.Said.{standing_after}
 use Rattle.shm_debug.specs.Script.{Script}
-use Rattle.shm_debug.specs.declared.outcome.DebugFault.{DebugFault}
-use Rattle.shm_debug.specs.declared.outcome.DebugFault.TheVariants.{OutOfMemory, BadLine, LineTooLong, TooManyLines, ReadFault, WriteFault}
+use Rattle.shm_debug.specs.declared.script_summary_and_error.DebugFault.{DebugFault}
+use Rattle.shm_debug.specs.declared.script_summary_and_error.DebugFault.TheVariants.{OutOfMemory, BadLine, LineTooLong, TooManyLines, ReadFault, WriteFault}
+use Rattle.shm_draw.specs.Captions.{Beside}
 use Rattle.shm_draw.specs.Svg.{svg_text}
 
--- the picture of what stands; before the first line nothing does
-abbrev pub drawing : Option PageId → Option Standing → List ℕ
-drawing page None = []
-drawing page (Some s) = svg_text page (opened s.opening) s.events
+-- the picture of what stands, with these captions; before the first line nothing does
+abbrev pub drawing : Option PageId → List Beside → Option Standing → List ℕ
+drawing page besides None = []
+drawing page besides (Some s) = svg_text page (opened s.opening) s.events besides
 
 -- the picture of what stands after the script's lines
-abbrev pub drawing_of : Option PageId → Script → List ℕ
-drawing_of page script = drawing page (standing_after None script.lines)
+abbrev pub drawing_of : Option PageId → List Beside → Script → List ℕ
+drawing_of page besides script = drawing page besides (standing_after None script.lines)
 
 -- the script's own fault, and nothing is written
 abbrev pub IsFaultOf : Script → DebugFault → List ℕ → Type 0
@@ -37,8 +38,8 @@ Writes drawn script (Err (LineTooLong number)) text = IsFaultOf script (LineTooL
 Writes drawn script (Err TooManyLines) text = IsFaultOf script TooManyLines text
 
 -- so its picture
-abbrev pub Draws : Option PageId → Script → Result (Unit {0}) DebugFault → List ℕ → Type 0
-Draws page script = Writes (drawing_of page script) script
+abbrev pub Draws : Option PageId → List Beside → Script → Result (Unit {0}) DebugFault → List ℕ → Type 0
+Draws page besides script = Writes (drawing_of page besides script) script
 
 -- what stands began as a world may
 abbrev pub BeganRight : Option Standing → Type 0

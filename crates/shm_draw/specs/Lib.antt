@@ -1,3 +1,4 @@
+pub mod Captions
 pub mod Picture
 pub mod Svg
 pub mod Drawing

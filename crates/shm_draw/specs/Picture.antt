@@ -2,7 +2,7 @@
 use Rattle.std.specs.Prelude.{ℕ, ◌+◌, ◌-◌, Bool, true, false, nat_lt, if◌then◌else◌, List, [], ◌∷◌, ◌++◌, length, replicate, Option, Some, None, slice_get, slice_index}
 use Rattle.std.specs.List.{flat_map, list_any, range_with_len}
 use Rattle.std.specs.Option.{option_to_list}
-use Rattle.shm_place.specs.declared.page.PageId.{PageId}
+use Rattle.shm_place.specs.declared.page_id.PageId.{PageId}
 use Rattle.shm_place.specs.Page.{same_page}
 use Rattle.shm_model.specs.declared.event.Event.{Event}
 use Rattle.shm_model.specs.declared.event.Event.TheVariants.{Load, Store, Begin, Tick, Restart, Deliver, Repeat, Lose}
@@ -12,15 +12,15 @@ use Rattle.shm_model.specs.Message.{Message, Of, Call, Replies, Purge, Purged, E
 use Rattle.shm_model.specs.Site.{Site}
 use Rattle.shm_model.specs.World.{World, live, next}
 use Rattle.shm_parts.specs.Reached.{page_reached}
-use Rattle.shm_draw.specs.declared.mark.End.{End}
-use Rattle.shm_draw.specs.declared.mark.End.TheVariants.{HandedOver, Repeated, Lost}
-use Rattle.shm_draw.specs.declared.mark.Mark.{Mark}
-use Rattle.shm_draw.specs.declared.mark.Mark.TheVariants.{At, Arrow, Elsewhere, Nowhere}
-use Rattle.shm_draw.specs.declared.mark.Symbol.{Symbol}
-use Rattle.shm_draw.specs.declared.mark.Symbol.TheVariants as symbol
-use Rattle.shm_draw.specs.declared.mark.Way.{Way}
-use Rattle.shm_draw.specs.declared.message_word.Word.{Word}
-use Rattle.shm_draw.specs.declared.message_word.Word.TheVariants as word
+use Rattle.shm_draw.specs.declared.mark_kinds.End.{End}
+use Rattle.shm_draw.specs.declared.mark_kinds.End.TheVariants.{HandedOver, Repeated, Lost}
+use Rattle.shm_draw.specs.declared.mark_kinds.Mark.{Mark}
+use Rattle.shm_draw.specs.declared.mark_kinds.Mark.TheVariants.{At, Arrow, Elsewhere, Nowhere}
+use Rattle.shm_draw.specs.declared.mark_kinds.Symbol.{Symbol}
+use Rattle.shm_draw.specs.declared.mark_kinds.Symbol.TheVariants as symbol
+use Rattle.shm_draw.specs.declared.mark_kinds.Way.{Way}
+use Rattle.shm_draw.specs.declared.message_label.Word.{Word}
+use Rattle.shm_draw.specs.declared.message_label.Word.TheVariants as word
 
 -- ---- what is drawn of a message
 

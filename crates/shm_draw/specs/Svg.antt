@@ -1,8 +1,10 @@
 -- The text of a picture (W3C, Scalable Vector Graphics 1.1): shapes and texts at places that are counted in sites and in events.
 use Rattle.std.specs.Prelude.{ℕ, ◌+◌, ◌-◌, ◌*◌, ◌/◌, ◌==◌, Bool, true, false, if◌then◌else◌, nat_lt, List, [], ◌∷◌, ◌++◌, codes, length, Option, Some, None}
+use Rattle.std.specs.Char.{encode_utf8}
 use Rattle.std.specs.Fmt.{decimal}
 use Rattle.std.specs.List.{flat_map, list_any, range_with_len}
-use Rattle.shm_place.specs.declared.page.PageId.{PageId}
+use Rattle.std.specs.Str.{chars}
+use Rattle.shm_place.specs.declared.page_id.PageId.{PageId}
 use Rattle.shm_model.specs.declared.answer.Answer.{Answer}
 use Rattle.shm_model.specs.declared.answer.Answer.TheVariants.{Took}
 use Rattle.shm_model.specs.declared.answer.Shown.{Shown}
@@ -14,21 +16,22 @@ use Rattle.shm_model.specs.declared.call.Request.TheVariants.{Op as OpRequest}
 use Rattle.shm_model.specs.declared.event.Event.{Event}
 use Rattle.shm_model.specs.declared.event.Event.TheVariants.{Begin}
 use Rattle.shm_model.specs.World.{World, next}
-use Rattle.shm_lines.specs.declared.line.Line.TheVariants as line
+use Rattle.shm_lines.specs.declared.script_line.Line.TheVariants as line
 use Rattle.shm_lines.specs.Spelling.{spelling}
 use Rattle.shm_text.specs.Names.{state_name}
 use Rattle.shm_text.specs.Text.{answer_text}
 use Rattle.shm_world.specs.Showing.{shown}
-use Rattle.shm_draw.specs.declared.style.TheConstants.{STYLE}
-use Rattle.shm_draw.specs.declared.mark.End.{End}
-use Rattle.shm_draw.specs.declared.mark.End.TheVariants.{HandedOver, Repeated, Lost, OnItsWay}
-use Rattle.shm_draw.specs.declared.mark.Mark.{Mark}
-use Rattle.shm_draw.specs.declared.mark.Mark.TheVariants.{At, Arrow, Elsewhere, Nowhere}
-use Rattle.shm_draw.specs.declared.mark.Symbol.{Symbol}
-use Rattle.shm_draw.specs.declared.mark.Symbol.TheVariants.{Request, Tick, Restart}
-use Rattle.shm_draw.specs.declared.mark.Way.{Way}
-use Rattle.shm_draw.specs.declared.message_word.Word.{Word}
-use Rattle.shm_draw.specs.declared.message_word.Word.TheVariants as word
+use Rattle.shm_draw.specs.Captions.{Beside}
+use Rattle.shm_draw.specs.declared.svg_style.TheConstants.{STYLE}
+use Rattle.shm_draw.specs.declared.mark_kinds.End.{End}
+use Rattle.shm_draw.specs.declared.mark_kinds.End.TheVariants.{HandedOver, Repeated, Lost, OnItsWay}
+use Rattle.shm_draw.specs.declared.mark_kinds.Mark.{Mark}
+use Rattle.shm_draw.specs.declared.mark_kinds.Mark.TheVariants.{At, Arrow, Elsewhere, Nowhere}
+use Rattle.shm_draw.specs.declared.mark_kinds.Symbol.{Symbol}
+use Rattle.shm_draw.specs.declared.mark_kinds.Symbol.TheVariants.{Request, Tick, Restart}
+use Rattle.shm_draw.specs.declared.mark_kinds.Way.{Way}
+use Rattle.shm_draw.specs.declared.message_label.Word.{Word}
+use Rattle.shm_draw.specs.declared.message_label.Word.TheVariants as word
 use Rattle.shm_draw.specs.Picture.{Scene, first_scene, scene_after, last_scene, mark, on_their_way, pages_drawn}
 
 -- ---- places, in pixels; heights count from the top of the page's picture
@@ -263,6 +266,48 @@ labels_text page w events =
     heading_text page ++ (names_text w.count
     ++ (rows_text (row_labels page) (first_scene w) events ++ flying_text flying_label (length events) 1 (ways_after page w events)))
 
+-- ---- captions
+
+-- as a text of SVG has the character
+abbrev pub escape : ℕ → List ℕ
+escape c =
+    if c == 38 then codes "&amp;"
+    else if c == 60 then codes "&lt;"
+    else if c == 62 then codes "&gt;"
+    else encode_utf8 c
+
+abbrev pub escaped : List ℕ → List ℕ
+escaped text = flat_map escape (chars text)
+
+abbrev pub caption_head : ℕ → ℕ → List ℕ
+caption_head x row = codes "<text style='font-style:italic;fill:#850' x='" ++ (decimal x ++ (codes "' y='" ++ (decimal (y_of row) ++ codes "' dy='4'>")))
+
+abbrev pub beside_text : ℕ → ℕ → List ℕ → List ℕ
+beside_text x row text = caption_head x row ++ (escaped text ++ codes "</text>\n")
+
+-- from this place on, beside the row before which the picture shows the caption's number, if there is such a row; the opening's has number 1
+abbrev pub caption_text : ℕ → ℕ → Beside → List ℕ
+caption_text x last beside =
+    if nat_lt last (beside.line - 1) then [] else beside_text x (beside.line - 1) beside.text
+
+abbrev pub captions_text : ℕ → ℕ → List Beside → List ℕ
+captions_text x last besides = flat_map (caption_text x last) besides
+
+abbrev pub greater : ℕ → ℕ → ℕ
+greater a b = if nat_lt a b then b else a
+
+-- the greatest of this and of the texts' lengths
+abbrev pub longest : ℕ → List Beside → ℕ
+longest most [] = most
+longest most (beside ∷ besides) = longest (greater most (length beside.text)) besides
+
+-- how much wider captions make the picture: a margin, and so much for each byte of the longest
+abbrev pub room_for : List Beside → ℕ
+room_for [] = 0
+room_for (beside ∷ besides) = 16 + 8 * longest 0 (beside ∷ besides)
+
+-- ---- the picture of one page
+
 -- so many rows, a margin, and what stands above the first row
 abbrev pub depth_of : ℕ → ℕ → ℕ
 depth_of last further = 110 + 22 * (last + further)
@@ -273,16 +318,17 @@ depth page w events = depth_of (length events) (length (ways_after page w events
 abbrev pub group_text : ℕ → List ℕ
 group_text top = codes "<g transform='translate(0 " ++ (decimal top ++ codes ")'>\n")
 
--- the picture of one page, so far below the top; no shape covers a text
-abbrev pub page_text : PageId → World → List Event → ℕ → List ℕ
-page_text page w events top = group_text top ++ (shapes_text page w events ++ (labels_text page w events ++ codes "</g>\n"))
+-- the picture of one page with this text of captions, so far below the top; no shape covers a text
+abbrev pub page_text : PageId → World → List Event → List ℕ → ℕ → List ℕ
+page_text page w events captions top =
+    group_text top ++ (shapes_text page w events ++ (labels_text page w events ++ (captions ++ codes "</g>\n")))
 
 -- ---- the whole
 
 -- the pictures of these pages, one below the other
-abbrev pub pages_text : List PageId → World → List Event → ℕ → List ℕ
-pages_text [] w events top = []
-pages_text (page ∷ pages) w events top = page_text page w events top ++ pages_text pages w events (top + depth page w events)
+abbrev pub pages_text : List PageId → World → List Event → List ℕ → ℕ → List ℕ
+pages_text [] w events captions top = []
+pages_text (page ∷ pages) w events captions top = page_text page w events captions top ++ pages_text pages w events captions (top + depth page w events)
 
 -- how far they go down
 abbrev pub bottom_of : List PageId → World → List Event → ℕ → ℕ
@@ -309,13 +355,14 @@ room_of events = if list_any asks_stat events then 820 else if list_any is_call 
 abbrev pub width_of : ℕ → ℕ → ℕ
 width_of sites room = if nat_lt (160 + 110 * sites + room) 680 then 680 else 160 + 110 * sites + room
 
-abbrev pub head_text : ℕ → ℕ → ℕ → List ℕ
-head_text sites room bottom =
-    codes "<svg xmlns='http://www.w3.org/2000/svg' width='" ++ (decimal (width_of sites room)
-    ++ (codes "' height='" ++ (decimal bottom ++ codes "'>\n")))
+abbrev pub head_text : ℕ → ℕ → List ℕ
+head_text width bottom =
+    codes "<svg xmlns='http://www.w3.org/2000/svg' width='" ++ (decimal width ++ (codes "' height='" ++ (decimal bottom ++ codes "'>\n")))
 
--- the pictures of the run of these events from this world: of the page that was asked for, or of each page that is touched
-abbrev pub svg_text : Option PageId → World → List Event → List ℕ
-svg_text asked w events =
+-- the pictures of the run of these events from this world, with these captions: of the page that was asked for, or of each page that is touched
+abbrev pub svg_text : Option PageId → World → List Event → List Beside → List ℕ
+svg_text asked w events besides =
     let pages = pages_drawn asked w events in
-    head_text w.count (room_of events) (bottom_of pages w events 0) ++ (STYLE.now ++ (pages_text pages w events 0 ++ codes "</svg>\n"))
+    let right = width_of w.count (room_of events) in
+    head_text (right + room_for besides) (bottom_of pages w events 0)
+    ++ (STYLE.now ++ (pages_text pages w events (captions_text right (length events) besides) 0 ++ codes "</svg>\n"))

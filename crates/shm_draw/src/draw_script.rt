@@ -5,10 +5,12 @@ ghost use Rattle.shm_model.specs.World as model;
 ghost use Rattle.shm_debug.specs.Limits.{max_bytes};
 ghost use Rattle.shm_debug.specs.Reading.{Ended};
 ghost use Rattle.shm_debug.specs.Script.{script_of};
-ghost use Rattle.shm_debug.specs.declared.outcome.Summary.{Summary};
+ghost use Rattle.shm_debug.specs.declared.script_summary_and_error.Summary.{Summary};
+ghost use Rattle.shm_draw.specs.Captions.{besides_of};
 ghost use Rattle.shm_draw.specs.Drawn.{BeganRight, Draws, LeadsTo, Stopped, drawing};
 
-use crate::picture::picture_of;
+use crate::caption::Caption;
+use crate::svg_picture::picture_of;
 use shm_debug::{DebugFault, Player, Session};
 use shm_lines::laws::lines_have_one_spelling;
 use shm_place::PageId;
@@ -27,7 +29,7 @@ const ROOM: usize = 1 << 16;
 const LINE: usize = 512;
 
 /// Draws the run that stands at the end of the script read from `reader`, and writes the picture to `writer`: that of the page, or of each
-/// page that the run touches.
+/// page that the run touches; with these captions.
 ///
 /// It reads the script up to its end or to its first fault, and a little further, and writes nothing before. After an error of the reader
 /// it draws nothing. After an error of the writer, or a write of nothing, a front of the picture may have been written. It flushes the
@@ -37,16 +39,17 @@ pub fn draw<A: Allocator + Copy, R: Read, W: Write>(
     reader: &mut R,
     writer: &mut W,
     page: Option<PageId>,
+    captions: &[Caption<'_>],
 ) -> Result<(), DebugFault>
     ensures ends { IfSome (R.remaining reader.old) (λ bytes.
-        (text : List ℕ) × Appends (W.contents writer.old) (W.contents writer.new) text × Draws page (script_of bytes) result text) }
+        (text : List ℕ) × Appends (W.contents writer.old) (W.contents writer.new) text × Draws page (besides_of captions.now) (script_of bytes) result text) }
     ensures limit { (taken : List ℕ) × Consumes (R.remaining reader.old) (R.remaining reader.new) taken × (length taken ≤ max_bytes) }
 {
     let player = match read_script(alloc, reader) {
         Ok(player) => player,
         Err(fault) => return Err(fault),
     };
-    let Ok(picture) = player_picture(alloc, &player, page) else {
+    let Ok(picture) = player_picture(alloc, &player, page, captions) else {
         return Err(DebugFault::OutOfMemory);
     };
     match write_whole(writer, picture.as_bytes()) {
@@ -109,12 +112,13 @@ fn player_picture<A: Allocator + Copy>(
     alloc: A,
     player: &Player<A>,
     page: Option<PageId>,
+    captions: &[Caption<'_>],
 ) -> Result<String<A>, AllocError>
     requires { BeganRight player.now.standing }
-    ensures { IfOk result (λ picture. string_bytes picture ≡ drawing page player.now.standing) }
+    ensures { IfOk result (λ picture. string_bytes picture ≡ drawing page (besides_of captions.now) player.now.standing) }
 {
     match player.session() {
-        Some(session) => session_picture(alloc, session, page),
+        Some(session) => session_picture(alloc, session, page, captions),
         None => Ok(String::new(alloc)),
     }
 }
@@ -123,10 +127,11 @@ fn session_picture<A: Allocator + Copy>(
     alloc: A,
     session: &Session<A>,
     page: Option<PageId>,
+    captions: &[Caption<'_>],
 ) -> Result<String<A>, AllocError>
     requires { model.IsOpening session.now.opening }
-    ensures { IfOk result (λ picture. string_bytes picture ≡ drawing page (Some session.now)) }
+    ensures { IfOk result (λ picture. string_bytes picture ≡ drawing page (besides_of captions.now) (Some session.now)) }
 {
     let world = World::begin(alloc, &session.opening())?;
-    picture_of(alloc, &world, session.events(), page)
+    picture_of(alloc, &world, session.events(), page, captions)
 }

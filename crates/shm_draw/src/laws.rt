@@ -1,6 +1,6 @@
 //! Laws of the definitions' pictures, for every run.
 ghost use Rattle.std.specs.Prelude.{List};
-ghost use Rattle.shm_place.specs.declared.page.PageId.{PageId};
+ghost use Rattle.shm_place.specs.declared.page_id.PageId.{PageId};
 ghost use Rattle.shm_model.specs.World.{Opening};
 ghost use Rattle.shm_model.specs.declared.event.Event.{Event};
 ghost use Rattle.shm_draw.specs.Arrows.{ArrowsAreHandOvers, ColoursAreOfThePage, FlyingAreLive, HandOversHaveArrows, MarksAreOfThePage, RowsInOrder};

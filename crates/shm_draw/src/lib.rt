@@ -1,28 +1,31 @@
 //! A run as a picture: one self-contained SVG. For each page it has a row for each event, a lifeline for each site and an arrow for each
-//! envelope of this page. The text is the definitions' picture of the run. A script's picture is that of the run that stands at its end.
+//! envelope of this page; captions stand beside rows. The text is the definitions' picture of the run. A script's picture is that of the run that stands at its end.
 #![tactic(auto)]
 
-mod arrow;
+mod arrow_svg;
+mod caption;
+mod caption_svg;
 mod draw_script;
-mod drawn_pages;
-mod event_mark;
-mod event_page;
-mod event_row;
-mod geometry;
+mod envelope_origins;
+mod envelope_routes;
+mod envelopes_in_flight;
+mod event_row_svg;
 pub mod laws;
 mod lifelines;
-mod mark;
-mod message_word;
-mod on_their_way;
-mod origins;
-mod page_picture;
-mod picture;
-mod right_margin;
-mod style;
-mod ways;
+mod mark_kinds;
+mod mark_of_event;
+mod message_label;
+mod page_of_event;
+mod pages_to_draw;
+mod right_margin_width;
+mod svg_geometry;
+mod svg_of_page;
+mod svg_picture;
+mod svg_style;
 
+pub use caption::{Caption, CaptionFault, parse_captions};
 pub use draw_script::{draw, read_script};
-pub use drawn_pages::pages_drawn;
-pub use mark::{End, Mark, Symbol, Way};
-pub use message_word::Word;
-pub use picture::picture_of;
+pub use mark_kinds::{End, Mark, Symbol, Way};
+pub use message_label::Word;
+pub use pages_to_draw::pages_drawn;
+pub use svg_picture::picture_of;

@@ -4,7 +4,7 @@ ghost use Rattle.shm_model.specs.World as model;
 ghost use Rattle.shm_world.specs.World.{StandsFor};
 ghost use Rattle.shm_draw.specs.Svg;
 
-use crate::geometry::{x_of, y_of};
+use crate::svg_geometry::{x_of, y_of};
 use shm_model::State;
 use shm_place::{PageId, SiteId, Sites};
 use shm_world::{Shown, World};

@@ -1,13 +1,17 @@
 -- What a desk takes of bytes: lines without a line feed, none of them too long; and the entries of all that its node did are recorded.
-use Rattle.std.proofs.Common.{◌≡◌, ◌≤◌, ℕ, zero, suc, ◌==◌, Bool, true, false, List, [], ◌∷◌, ◌++◌, cond, length, nat_lt, refl, ap, sym, ◌∙◌, append-nil, arith}
+use Rattle.std.proofs.Common.{◌≡◌, ◌≤◌, ℕ, zero, suc, ◌==◌, Bool, true, false, List, [], ◌∷◌, ◌++◌, cond, length, nat_lt, take, refl, ap, subst, sym, ◌∙◌, append-nil, arith}
 use Rattle.std.specs.List.{All}
-use Rattle.std.specs.Prelude.{Some, None, is_some}
+use Rattle.std.specs.Prelude.{Some, None, Result, Ok, Err, is_some}
 use Rattle.std.proofs.lemmas.Bool.Decides.{nat_tests}
-use Rattle.std.proofs.lemmas.List.{append_assoc}
-use Rattle.std.proofs.lemmas.List.Elements.{All-append, All-cons, All-nil, All-push}
+use Rattle.std.proofs.lemmas.List.{append_assoc, length-append}
+use Rattle.std.proofs.Math.Seq.{take-append_seam}
+use Rattle.std.proofs.lemmas.List.Elements.{All-append, All-cons, All-nil, All-push, All-take}
+use Rattle.shm_seal.proofs.SealLemmas.{opened_is_sealed}
+use Rattle.shm_seal.specs.Seal.{Seal, opened, sealed, tail_of}
+use Rattle.shm_seal.specs.declared.open_line_error.Unsealed.{Unsealed}
 use Rattle.shm_wire.specs.Line.{read_line}
 use Rattle.shm_process.proofs.DeskEvents.{after-both, entries-both, text-both}
-use Rattle.shm_process.specs.Desk.{Desk, after_line, desk_at, grown, made_again, max_line_bytes, on_byte, on_bytes, restarted, settled, step_entry, taken}
+use Rattle.shm_process.specs.Desk.{Desk, after_line, after_opened, desk_at, grown, left_sealed, made_again, max_line_bytes, on_byte, on_bytes, restarted, settled, step_entry, taken}
 use Rattle.shm_process.specs.Node.{Node, is_late}
 use Rattle.shm_process.specs.Recorded.{Again, Event, Line, TooLong, Restarted, after_event, after_events, entries_of, entries_text, said_at}
 use Rattle.shm_process.specs.Waiting.{after_restart, most_steps, passed_over, said_again, said_restart}
@@ -69,13 +73,37 @@ took-too_long d = record { events = TooLong ∷ []; are = All-cons IsTaken TooLo
 not-long : (n : ℕ) → nat_lt max_line_bytes n ≡ false → n ≤ max_line_bytes
 not-long n h = grind (arith, nat_tests)
 
+-- ---- a line that is opened
+
+front-taken : (inner tail : List ℕ) → Unended (inner ++ tail) → length (inner ++ tail) ≤ max_line_bytes → IsTaken (Line inner)
+front-taken inner tail unended short =
+    let len = length-append inner tail in
+    (subst Unended (take-append_seam inner tail) (All-take IsNoFeed (length inner) (inner ++ tail) unended), omega (arith, len, short))
+
+-- a line that was sealed is in front of its seal
+inner-taken : (seal : Seal) (line inner : List ℕ) → opened seal line ≡ Ok inner → Unended line → length line ≤ max_line_bytes → IsTaken (Line inner)
+unfolding sealed
+inner-taken seal line inner is unended short =
+    let same = opened_is_sealed seal line inner is in
+    front-taken inner (tail_of seal inner) (subst Unended same unended) (subst (λ l. length l ≤ max_line_bytes) same short)
+
+took-left : (d : Desk) (why : Unsealed) → Took d (left_sealed d why)
+took-left d why = record { events = TooLong ∷ []; are = All-cons IsTaken TooLong [] tt (All-nil IsTaken); node = refl; recorded = sym (append-nil d.recorded) }
+
+took-opened : (d : Desk) (line : List ℕ) (inner : Result (List ℕ) Unsealed) → opened d.seal line ≡ inner → Unended line → length line ≤ max_line_bytes → Took d (after_opened d inner)
+took-opened d line (Ok inner) is unended short =
+    let next = taken d (read_line inner) in
+    took-both d next (settled most_steps next) (took-read d inner (inner-taken d.seal line inner is unended short)) (took-settled most_steps next)
+took-opened d line (Err why) is unended short =
+    let next = left_sealed d why in
+    took-both d next (settled most_steps next) (took-left d why) (took-settled most_steps next)
+
 took-line : (d : Desk) (line : List ℕ) → Unended line → Took d (after_line d line)
 unfolding after_line
 took-line d line unended =
-    let next = taken d (read_line line) in
-    took-cond (nat_lt max_line_bytes (length line)) d (record d { node = passed_over d.node }) (settled most_steps next)
+    took-cond (nat_lt max_line_bytes (length line)) d (record d { node = passed_over d.node }) (after_opened d (opened d.seal line))
     (λ e. took-too_long d)
-    (λ e. took-both d next (settled most_steps next) (took-read d line (unended, not-long (length line) e)) (took-settled most_steps next))
+    (λ e. took-opened d line (opened d.seal line) refl unended (not-long (length line) e))
 
 -- ---- bytes
 
@@ -123,11 +151,11 @@ restart-said : (node : Node) (late : Bool) → late ≡ false → [] ++ step_ent
 restart-said node true e = absurd (cc)
 restart-said node false e = refl
 
-pub took_restart : (node : Node) → is_late node 0 ≡ false → Took (desk_at node) (restarted (desk_at node))
+pub took_restart : (seal : Seal) (node : Node) → is_late node 0 ≡ false → Took (desk_at seal node) (restarted (desk_at seal node))
 unfolding restarted
-took_restart node early =
-    took-one (desk_at node) (restarted (desk_at node)) Restarted tt (restart-node node (is_late node 0) early) (restart-said node (is_late node 0) early)
+took_restart seal node early =
+    took-one (desk_at seal node) (restarted (desk_at seal node)) Restarted tt (restart-node node (is_late node 0) early) (restart-said node (is_late node 0) early)
 
-pub line_restart : (node : Node) → Unended (restarted (desk_at node)).line
+pub line_restart : (seal : Seal) (node : Node) → Unended (restarted (desk_at seal node)).line
 unfolding restarted
-line_restart node = All-nil IsNoFeed
+line_restart seal node = All-nil IsNoFeed

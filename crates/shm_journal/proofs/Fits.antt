@@ -1,10 +1,10 @@
 -- Lines that a journal may have: no line feed, and few enough bytes.
 use Rattle.std.proofs.Common.{◌≡◌, ◌≤◌, ℕ, ◌+◌, ◌==◌, ◌&&◌, Bool, true, false, not, List, [], ◌∷◌, ◌++◌, get_or, length, nat_lt, refl, rules, arith}
-use Rattle.std.specs.Prelude.{codes}
+use Rattle.std.specs.Prelude.{codes, IfSome, None, Option, Some}
 use Rattle.std.specs.Char.{is_ascii_graphic}
 use Rattle.std.specs.Fmt.{decimal}
 use Rattle.std.specs.Int.{IsInRange}
-use Rattle.std.specs.List.{list_all}
+use Rattle.std.specs.List.{join_with_byte, list_all}
 use Rattle.std.specs.Str.Parse.{digits_value}
 use Rattle.std.proofs.lemmas.Bool.Decides.{nat_tests}
 use Rattle.std.proofs.lemmas.Fmt.{digits_decimal, length-decimal-le}
@@ -15,8 +15,8 @@ use Rattle.std.proofs.lemmas.Str.Parse.{IsNumeralModel, numerals_by_value}
 use Rattle.std.specs.Char.{is_ascii_digit}
 use Rattle.shm_lines.proofs.NumberLemmas.{digit_at}
 use Rattle.shm_lines.specs.Words.{IsNumber, IsWide}
-use Rattle.shm_model.specs.declared.asked.Asked.{Asked}
-use Rattle.shm_model.specs.declared.asked.Asked.TheVariants.{Load, Store}
+use Rattle.shm_model.specs.declared.asked_access.Asked.{Asked}
+use Rattle.shm_model.specs.declared.asked_access.Asked.TheVariants.{Load, Store}
 use Rattle.shm_wire.specs.Asks.{IsAsk}
 use Rattle.shm_wire.specs.Line as stream
 use Rattle.shm_wire.specs.Tag.{IsTag}
@@ -25,7 +25,8 @@ use Rattle.shm_process.specs.Cause.{cause_text}
 use Rattle.shm_process.specs.Desk.{max_line_bytes}
 use Rattle.shm_process.specs.Recorded.{Entry, entry_line}
 use Rattle.shm_journal.specs.Found.{max_journal_line}
-use Rattle.shm_journal.specs.Lines.{Header, IsHeader, header_line}
+use Rattle.shm_journal.specs.Lines.{Header, IsHeader, cluster_words, header_line}
+use Rattle.shm_seal.specs.Name.{IsName}
 use Rattle.shm_journal.specs.LinesOf.{Unended}
 
 abbrev pub IsNoFeed : ℕ → Type 0
@@ -109,15 +110,20 @@ fits-tag tag h =
       short = few (length tag) p.0;
     }
 
+-- the last words of a header
+fits-cluster : (pages : ℕ) (cluster : Option (List ℕ)) → IsNumber pages → IfSome cluster IsName → Fits 54 (join_with_byte 32 (decimal pages ∷ cluster_words cluster))
+fits-cluster pages None h is = fits-more 20 54 (decimal pages) (omega arith) (fits-number pages h)
+fits-cluster pages (Some name) h is = fits-word 20 33 (decimal pages) (64 ∷ name) (fits-number pages h) (fits-both 1 32 (64 ∷ []) name (fits-text (64 ∷ []) refl) (fits-tag name is))
+
 -- ---- lines
 
 pub fits-header : (header : Header) → IsHeader header → Fits max_journal_line (header_line header)
 fits-header header h =
-    fits-more 70 max_journal_line (header_line header) (omega arith)
+    fits-more 104 max_journal_line (header_line header) (omega arith)
     (
-    fits-word 7 62 (codes "journal") _ (fits-text (codes "journal") refl)
-    (fits-word 20 41 (decimal header.sites) _ (fits-number header.sites h.0)
-    (fits-word 20 20 (decimal header.me) (decimal header.pages) (fits-number header.me h.1) (fits-number header.pages h.2)))
+    fits-word 7 96 (codes "journal") _ (fits-text (codes "journal") refl)
+    (fits-word 20 75 (decimal header.sites) _ (fits-number header.sites h.0)
+    (fits-word 20 54 (decimal header.me) _ (fits-number header.me h.1) (fits-cluster header.pages header.cluster h.2 h.3)))
     )
 
 -- what asks for an access

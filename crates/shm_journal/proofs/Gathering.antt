@@ -7,10 +7,10 @@ use Rattle.std.proofs.lemmas.List.Elements.{All-append, All-nil, All-take}
 use Rattle.shm_journal.specs.Found.{max_journal_line}
 use Rattle.shm_journal.specs.LinesOf.{Unended, behind, left_of, line_in}
 use Rattle.shm_journal.specs.Taking.{BreaksOff, EndsIn, GoesOnIn, IsOther, Overruns, OverrunsIn, ReadsOver, Takes, TakesPart, most_at_once, whole_with}
-use Rattle.shm_journal.specs.declared.journal_fault.JournalFault.{JournalFault}
-use Rattle.shm_journal.specs.declared.lines.Lines.{Lines}
-use Rattle.shm_journal.specs.declared.taken.Taken.{Taken}
-use Rattle.shm_journal.specs.declared.taken.Taken.TheVariants as taken
+use Rattle.shm_journal.specs.declared.journal_error.JournalFault.{JournalFault}
+use Rattle.shm_journal.specs.declared.line_reader.Lines.{Lines}
+use Rattle.shm_journal.specs.declared.line_read_outcome.Taken.{Taken}
+use Rattle.shm_journal.specs.declared.line_read_outcome.Taken.TheVariants as taken
 
 -- ---- bytes that were read and not yet taken
 

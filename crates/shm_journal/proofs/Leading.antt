@@ -12,8 +12,8 @@ use Rattle.shm_journal.specs.LinesOf.{Unended}
 use Rattle.shm_journal.specs.ReadUpTo.{BreaksAt, IsSound, LacksLine, ReadsToLine, ReadsWhole, StopsAt}
 use Rattle.shm_journal.specs.Replaying.{IsNext}
 use Rattle.shm_journal.specs.Taking.{BreaksOff, IsOther, Overruns, most_at_once}
-use Rattle.shm_journal.specs.declared.journal_fault.JournalFault.{JournalFault}
-use Rattle.shm_journal.specs.declared.journal_fault.JournalFault.TheVariants as fault
+use Rattle.shm_journal.specs.declared.journal_error.JournalFault.{JournalFault}
+use Rattle.shm_journal.specs.declared.journal_error.JournalFault.TheVariants as fault
 
 -- ---- one step
 

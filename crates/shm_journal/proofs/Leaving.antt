@@ -12,6 +12,7 @@ use Rattle.shm_process.proofs.Proper as proper
 use Rattle.shm_process.specs.Desk.{Desk, cleared, desk_at, on_bytes, restarted}
 use Rattle.shm_process.specs.Node.{Node, is_late}
 use Rattle.shm_process.specs.Recorded.{Event, after_events, kept}
+use Rattle.shm_seal.specs.Seal.{Seal}
 use Rattle.shm_journal.proofs.CrashLemmas.{head-of, kept-disk, published-disk, tail-of}
 use Rattle.shm_journal.proofs.DeskLives.{Took, line_bytes, line_restart, text_both, took_bytes, took_restart}
 use Rattle.shm_journal.proofs.EntriesFit.{events_fit, lives_sound, opened_sound}
@@ -24,8 +25,8 @@ use Rattle.shm_journal.specs.DeskFrom.{with_header}
 use Rattle.shm_journal.specs.Found.{Bad, Lines, Sound, bytes_of_lines, found, max_journal_line, opened, own}
 use Rattle.shm_journal.specs.Lines.{Header, IsHeader, header_line}
 use Rattle.shm_journal.specs.LinesOf.{Unended}
-use Rattle.shm_journal.specs.declared.process_fault.ProcessFault.{ProcessFault}
-use Rattle.shm_journal.specs.declared.process_fault.ProcessFault.TheVariants.{JournalFault, OutOfMemory, ReadFault, WriteFault}
+use Rattle.shm_journal.specs.declared.process_error.ProcessFault.{ProcessFault}
+use Rattle.shm_journal.specs.declared.process_error.ProcessFault.TheVariants.{JournalFault, OutOfMemory, ReadFault, WriteFault}
 use Rattle.shm_journal.specs.Lives.{AreTaken, FindsLives, IsTaken, LeavesFront, LeavesLife, LeavesNewSound, LeavesSound, after_lives, journal_text, lives_text}
 
 -- ---- at each moment
@@ -186,9 +187,9 @@ at-serving (bytes ∷ reads) node file life desk taken same none unended =
           ),
     )
 
-at-run : (reads : List (List ℕ)) (node : Node) (file : List ℕ) (first : Desk) → Took (desk_at node) first → Unended first.line
+at-run : (reads : List (List ℕ)) (seal : Seal) (node : Node) (file : List ℕ) (first : Desk) → Took (desk_at seal node) first → Unended first.line
     → AtAll (OnDisk node file) (disk_of file) (run first reads)
-at-run reads node file first t unended =
+at-run reads seal node file first t unended =
     let whole : file ++ [] ≡ file = append-nil file in
     subst (λ f. AtAll (OnDisk node file) (disk_of f) (run first reads)) whole
     (
@@ -243,16 +244,16 @@ left-life header lives disk left is taken on may =
     }
 
 pub leaves_sound : (header : Header) (lives : List (List Event)) → IsHeader header → AreTaken lives → is_late (after_lives (opened header) lives) 0 ≡ false → LeavesSound header lives
-leaves_sound header lives is taken early result acts before after left ran e may =
+leaves_sound header lives is taken early seal result acts before after left ran e may =
     let node = after_lives (opened header) lives in
     let journal = journal_text header lives in
     let P = Leaves (LeavesLife header lives) in
     at-front P before (disk_of journal) acts after e
     (
-    at-acts (LeavesLife header lives) (restarted (desk_at node)) (disk_of journal)
+    at-acts (LeavesLife header lives) (restarted (desk_at seal node)) (disk_of journal)
     (λ reads.
-    at-weaker (OnDisk node journal) P (run (restarted (desk_at node)) reads) (disk_of journal) (λ disk on left may. left-life header lives disk left is taken on may)
-    (at-run reads node journal (restarted (desk_at node)) (took_restart node early) (line_restart node)))
+    at-weaker (OnDisk node journal) P (run (restarted (desk_at seal node)) reads) (disk_of journal) (λ disk on left may. left-life header lives disk left is taken on may)
+    (at-run reads seal node journal (restarted (desk_at seal node)) (took_restart seal node early) (line_restart seal node)))
     result acts ran
     )
     left may
@@ -270,11 +271,11 @@ record IsBlank (header : Header) (disk : Disk) : Type 0 where
 abbrev NewDisk : Header → Disk → Type 0
 NewDisk header disk = IsBlank header disk ⊎ OnDisk (opened header) (first_line header) disk
 
-at-new : (reads : List (List ℕ)) (header : Header) → AtAll (NewDisk header) (disk_of []) (run (with_header header (desk_at (opened header))) reads)
-at-new reads header =
+at-new : (reads : List (List ℕ)) (seal : Seal) (header : Header) → AtAll (NewDisk header) (disk_of []) (run (with_header header (desk_at seal (opened header))) reads)
+at-new reads seal header =
     let node = opened header in
     let line = first_line header in
-    let first = with_header header (desk_at node) in
+    let first = with_header header (desk_at seal node) in
     let whole : line ++ [] ≡ line = append-nil line in
     let all : AtAll (OnDisk node line) (disk_of line) (serving (cleared first) reads) =
     subst (λ t. AtAll (OnDisk node line) (disk_of t) (serving (cleared first) reads)) whole
@@ -351,14 +352,14 @@ left-new header disk left is (inr on) may =
     )
 
 pub leaves_new_sound : (header : Header) → IsHeader header → LeavesNewSound header
-leaves_new_sound header is result acts before after left ran e may =
+leaves_new_sound header is seal result acts before after left ran e may =
     let R = LeavesNew header in
     at-front (Leaves R) before (disk_of []) acts after e
     (
-    at-acts R (with_header header (desk_at (opened header))) (disk_of [])
+    at-acts R (with_header header (desk_at seal (opened header))) (disk_of [])
     (λ reads.
-    at-weaker (NewDisk header) (Leaves R) (run (with_header header (desk_at (opened header))) reads) (disk_of []) (λ disk on left may. left-new header disk left is on may)
-    (at-new reads header))
+    at-weaker (NewDisk header) (Leaves R) (run (with_header header (desk_at seal (opened header))) reads) (disk_of []) (λ disk on left may. left-new header disk left is on may)
+    (at-new reads seal header))
     result acts ran
     )
     left may

@@ -18,11 +18,11 @@ use Rattle.shm_journal.specs.ReadUpTo.{BreaksAt, LacksLine, ReadsToLine, ReadsWh
 use Rattle.shm_journal.specs.Recovers.{ReadsAll, ReadsUpTo, Recovers, as_recovery, front_checked, header_checked, other_header}
 use Rattle.shm_journal.specs.Replaying.{IsNext}
 use Rattle.shm_journal.specs.Taking.{BreaksOff, most_at_once}
-use Rattle.shm_journal.specs.declared.journal_fault.JournalFault.{JournalFault}
-use Rattle.shm_journal.specs.declared.journal_fault.JournalFault.TheVariants as journal
-use Rattle.shm_journal.specs.declared.recovered.Recovered.{Recovered}
-use Rattle.shm_journal.specs.declared.recovery_fault.RecoveryFault.{RecoveryFault}
-use Rattle.shm_journal.specs.declared.recovery_fault.RecoveryFault.TheVariants as fault
+use Rattle.shm_journal.specs.declared.journal_error.JournalFault.{JournalFault}
+use Rattle.shm_journal.specs.declared.journal_error.JournalFault.TheVariants as journal
+use Rattle.shm_journal.specs.declared.recovered_site.Recovered.{Recovered}
+use Rattle.shm_journal.specs.declared.recovery_error.RecoveryFault.{RecoveryFault}
+use Rattle.shm_journal.specs.declared.recovery_error.RecoveryFault.TheVariants as fault
 
 -- ---- a step
 
@@ -237,8 +237,8 @@ pub whole_found : (A : Type 0) (header : Header) (old new : Option (List ℕ)) (
 whole_found A header old new (Ok x) w empty left = recovers header old new x w empty
 whole_found A header old new (Err f) w empty left = fails A header old new f left
 
-abbrev pub of_numbers : ℕ → ℕ → ℕ → Header
-of_numbers sites me pages = record { sites = sites; me = me; pages = pages }
+abbrev pub of_numbers : ℕ → ℕ → ℕ → Option (List ℕ) → Header
+of_numbers sites me pages cluster = record { sites = sites; me = me; pages = pages; cluster = cluster }
 
 -- memory is missing before anything is read
 pub nothing_read : (header : Header) (old : Option (List ℕ)) → BreaksAt (found header) old old

@@ -10,8 +10,8 @@ use Rattle.std.specs.Prelude.{Option}
 use Rattle.shm_journal.proofs.ActLemmas.{GoesOn-nil, GoesOn-trans, did_both, did_nothing, kept-silent, kept-then, published-told, published-unread, told_in-append}
 use Rattle.shm_journal.specs.Acts.{Act, Append, Around, Did, GoesOn, Read, Served, Sync, Tell, around, keeping, publishing, read_in, run, serving, telling, told_in}
 use Rattle.shm_journal.specs.Publishing.{FailsToPublish}
-use Rattle.shm_journal.specs.declared.process_fault.ProcessFault.{ProcessFault}
-use Rattle.shm_journal.specs.declared.process_fault.ProcessFault.TheVariants.{JournalFault, OutOfMemory, ReadFault, WriteFault}
+use Rattle.shm_journal.specs.declared.process_error.ProcessFault.{ProcessFault}
+use Rattle.shm_journal.specs.declared.process_error.ProcessFault.TheVariants.{JournalFault, OutOfMemory, ReadFault, WriteFault}
 
 -- the desk after these reads, each published
 unfoldable pub standing : Desk → List (List ℕ) → Desk

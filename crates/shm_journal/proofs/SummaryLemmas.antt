@@ -19,10 +19,11 @@ use Rattle.shm_journal.specs.ReadUpTo.{BreaksAt, LacksLine, ReadsToLine, ReadsWh
 use Rattle.shm_journal.specs.Recovers.{ReadsAll}
 use Rattle.shm_journal.specs.Summed.{IsSummary, NamesFirst, RestReadsUpTo, SummaryReadsUpTo, SumsRest, SumsUpKnown, any, entries_in, first_found, found_any, in_limits, node_named, opened_if, summary_of}
 use Rattle.shm_journal.specs.Taking.{BreaksOff, most_at_once}
-use Rattle.shm_journal.specs.declared.journal_fault.JournalFault.{JournalFault}
-use Rattle.shm_journal.specs.declared.journal_fault.JournalFault.TheVariants as fault
-use Rattle.shm_journal.specs.declared.summary.Summary.{Summary}
-use Rattle.shm_journal.specs.declared.journal_summary.Named.{Named}
+use Rattle.shm_journal.specs.declared.journal_error.JournalFault.{JournalFault}
+use Rattle.shm_journal.specs.declared.journal_error.JournalFault.TheVariants as fault
+use Rattle.shm_journal.specs.declared.journal_summary.Summary.{Summary}
+use Rattle.shm_journal.specs.declared.summary_reader.Named.{Named}
+use Rattle.shm_seal.specs.declared.cluster_name.ClusterName.{ClusterName}
 use Rattle.shm_journal.proofs.Fronts.{IsFile, any_file, of_all, whole_of}
 use Rattle.shm_journal.proofs.HeaderWords.{header-is_spelled}
 use Rattle.shm_journal.proofs.Leading.{first_breaks, first_lacks, first_leads, first_overruns, first_stops, joined_fault}
@@ -188,17 +189,17 @@ pub record SumsAll (old new : Option (List ℕ)) (summary : Summary) : Type 0 wh
   pub end : IsAtEnd new
   pub is : IsSummary bytes summary
 
-abbrev made : ℕ → ℕ → ℕ → ℕ → ℕ → ℕ → ℕ → Summary
-made site sites pages steps clock bytes torn =
-    record { site = site; sites = sites; pages = pages; steps = steps; clock = clock; bytes = bytes; torn = torn }
+abbrev made : Option ClusterName → ℕ → ℕ → ℕ → ℕ → ℕ → ℕ → ℕ → Summary
+made cluster site sites pages steps clock bytes torn =
+    record { site = site; sites = sites; pages = pages; cluster = cluster; steps = steps; clock = clock; bytes = bytes; torn = torn }
 
 same-summary : (s : Summary) (site sites pages steps clock bytes torn : ℕ) → s.site ≡ site → s.sites ≡ sites → s.pages ≡ pages → s.steps ≡ steps → s.clock ≡ clock → s.bytes ≡ bytes
-    → s.torn ≡ torn → s ≡ made site sites pages steps clock bytes torn
+    → s.torn ≡ torn → s ≡ made s.cluster site sites pages steps clock bytes torn
 same-summary s site sites pages steps clock bytes torn a b c d e f g =
-    ap (λ x. made x s.sites s.pages s.steps s.clock s.bytes s.torn) a ∙ ap (λ x. made site x s.pages s.steps s.clock s.bytes s.torn) b
-    ∙ ap (λ x. made site sites x s.steps s.clock s.bytes s.torn) c ∙ ap (λ x. made site sites pages x s.clock s.bytes s.torn) d
-    ∙ ap (λ x. made site sites pages steps x s.bytes s.torn) e ∙ ap (λ x. made site sites pages steps clock x s.torn) f
-    ∙ ap (λ x. made site sites pages steps clock bytes x) g
+    ap (λ x. made s.cluster x s.sites s.pages s.steps s.clock s.bytes s.torn) a ∙ ap (λ x. made s.cluster site x s.pages s.steps s.clock s.bytes s.torn) b
+    ∙ ap (λ x. made s.cluster site sites x s.steps s.clock s.bytes s.torn) c ∙ ap (λ x. made s.cluster site sites pages x s.clock s.bytes s.torn) d
+    ∙ ap (λ x. made s.cluster site sites pages steps x s.bytes s.torn) e ∙ ap (λ x. made s.cluster site sites pages steps clock x s.torn) f
+    ∙ ap (λ x. made s.cluster site sites pages steps clock bytes x) g
 
 -- the first line is the header, and the others are entries
 own-leads : (header : Header) (node : Node) (onward : Node → Found Node) (long same : Bool) (read : Option Header)
@@ -237,6 +238,7 @@ sums-all before left now header node count summary n s =
         limits = n.limits;
         begun = begun;
         sound = sound;
+        named = s.cluster;
         summed =
             same-summary summary header.me header.sites header.pages (length (entries_in file)) s.after.clock (length file) (length (lines_of file).torn) s.site s.sites s.pages
             (s.steps ∙ steps) s.clock bytes (s.torn ∙ sym torn);

@@ -2,8 +2,8 @@
 use Rattle.std.specs.Prelude.{⊤, ◌≡◌, ℕ, List, [], ◌∷◌, ◌++◌, take, Option, Some, None, Result, Ok, Err}
 use Rattle.std.specs.Io.KnownBytes.{Appends, Consumes}
 use Rattle.shm_process.specs.Desk.{Desk, cleared, on_bytes}
-use Rattle.shm_journal.specs.declared.process_fault.ProcessFault.{ProcessFault}
-use Rattle.shm_journal.specs.declared.process_fault.ProcessFault.TheVariants.{JournalFault, OutOfMemory, ReadFault, WriteFault}
+use Rattle.shm_journal.specs.declared.process_error.ProcessFault.{ProcessFault}
+use Rattle.shm_journal.specs.declared.process_error.ProcessFault.TheVariants.{JournalFault, OutOfMemory, ReadFault, WriteFault}
 
 -- one read gave these bytes; this was appended to the journal; all that was appended is durable; and this was told
 pub data Act : Type 0 where

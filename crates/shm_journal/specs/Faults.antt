@@ -1,10 +1,10 @@
 -- Why a process ends before its lines do, or a journal leads to nothing, by the numbers of the causes.
 use Rattle.std.specs.Prelude.{ℕ}
 use Rattle.shm_model.specs.Refusal.{bad_line, out_of_memory, read_fault, write_fault}
-use Rattle.shm_journal.specs.declared.journal_fault.JournalFault.{JournalFault}
-use Rattle.shm_journal.specs.declared.journal_fault.JournalFault.TheVariants as journal
-use Rattle.shm_journal.specs.declared.process_fault.ProcessFault.{ProcessFault}
-use Rattle.shm_journal.specs.declared.process_fault.ProcessFault.TheVariants as fault
+use Rattle.shm_journal.specs.declared.journal_error.JournalFault.{JournalFault}
+use Rattle.shm_journal.specs.declared.journal_error.JournalFault.TheVariants as journal
+use Rattle.shm_journal.specs.declared.process_error.ProcessFault.{ProcessFault}
+use Rattle.shm_journal.specs.declared.process_error.ProcessFault.TheVariants as fault
 
 abbrev pub process_fault_number : ProcessFault → ℕ
 process_fault_number fault.OutOfMemory = out_of_memory

@@ -1,37 +1,55 @@
--- The lines of a journal: first `journal SITES ME PAGES`, and then an entry for each step, `step CLOCK LINE`, where LINE is the line that
--- made it, or `restart`. One spelling for each.
-use Rattle.std.specs.Prelude.{ℕ, List, [], ◌∷◌, codes, Option, Some, None, if◌then◌else◌}
+-- The lines of a journal: first `journal SITES ME PAGES`, and ` @NAME` where the cluster has a name; and then an entry for each step, `step CLOCK
+-- LINE`, where LINE is the line that made it, or `restart`. One spelling for each.
+use Rattle.std.specs.Prelude.{ℕ, ◌==◌, List, [], ◌∷◌, codes, IfSome, Option, Some, None, if◌then◌else◌, option_map}
 use Rattle.std.specs.Fmt.{decimal}
 use Rattle.std.specs.List.{join_with_byte}
 use Rattle.std.specs.Str.{bytes_eq}
 use Rattle.shm_lines.specs.Spelling.{IsNumber}
 use Rattle.shm_lines.specs.Words.{◌>>=◌, is_end, next_number, next_of, next_word, words_of, wide_of}
-use Rattle.shm_wire.specs.Words.{by_verb, ended, nothing}
+use Rattle.shm_wire.specs.Words.{by_verb, nothing}
 use Rattle.shm_wire.specs.Line.{Line, read_line}
 use Rattle.shm_process.specs.Cause.{Cause, OfLine, OfRestart}
 use Rattle.shm_process.specs.Recorded.{Entry}
+use Rattle.shm_seal.specs.Name.{IsName, name_if_one}
 
--- how many sites there are, which one's journal it is, and how many pages segment 0 began with
+-- how many sites there are, which one's journal it is, how many pages segment 0 began with, and the cluster's name, if it has one
 pub record Header : Type 0 where
   pub sites : ℕ
   pub me : ℕ
   pub pages : ℕ
+  pub cluster : Option (List ℕ)
 
 abbrev pub IsHeader : Header → Type 0
-IsHeader header = IsNumber header.sites × IsNumber header.me × IsNumber header.pages
+IsHeader header = IsNumber header.sites × IsNumber header.me × IsNumber header.pages × IfSome header.cluster IsName
+
+abbrev pub cluster_words : Option (List ℕ) → List (List ℕ)
+cluster_words None = []
+cluster_words (Some name) = (64 ∷ name) ∷ []
 
 abbrev pub header_line : Header → List ℕ
-header_line header = join_with_byte 32 (codes "journal" ∷ decimal header.sites ∷ decimal header.me ∷ decimal header.pages ∷ [])
+header_line header =
+    join_with_byte 32 (codes "journal" ∷ decimal header.sites ∷ decimal header.me ∷ decimal header.pages ∷ cluster_words header.cluster)
 
 -- ---- how they are read
 
--- `sites me pages`
+-- a name behind an at sign
+abbrev pub cluster_named : List ℕ → Option (List ℕ)
+cluster_named [] = None
+cluster_named (byte ∷ word) = if byte == 64 then name_if_one word else None
+
+-- one such word or none, and no more
+abbrev pub cluster_after : List (List ℕ) → Option (Option (List ℕ))
+cluster_after [] = Some None
+cluster_after (word ∷ words) = if is_end words then option_map Some (cluster_named word) else None
+
+-- `sites me pages`, and the cluster's name
 abbrev pub header_after : List (List ℕ) → Option Header
 header_after words = do
   (sites, words) ← next_number words
   (me, words) ← next_number words
   (pages, words) ← next_number words
-  ended (record { sites = sites; me = me; pages = pages }) words
+  cluster ← cluster_after words
+  Some (record { sites = sites; me = me; pages = pages; cluster = cluster })
 
 abbrev pub read_header : List ℕ → Option Header
 read_header line = do

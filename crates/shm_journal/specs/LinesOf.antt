@@ -2,7 +2,7 @@
 use Rattle.std.specs.Prelude.{◌≡◌, ℕ, ◌==◌, ◌++◌, Bool, false, List, Option, drop, length, nat_lt, not, take}
 use Rattle.std.specs.List.{All}
 use Rattle.std.specs.Io.KnownBytes.{prepend_known}
-use Rattle.shm_journal.specs.declared.lines.Lines.{Lines}
+use Rattle.shm_journal.specs.declared.line_reader.Lines.{Lines}
 
 -- all bytes that were read are taken
 abbrev pub is_used_up : {A : Type 0} → Lines A → Bool

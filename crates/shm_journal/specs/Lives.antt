@@ -11,7 +11,8 @@ use Rattle.shm_journal.specs.DeskFrom.{desk_from}
 use Rattle.shm_journal.specs.Found.{Sound, bytes_of_lines, found, lines_of, opened}
 use Rattle.shm_journal.specs.Lines.{Header, header_line}
 use Rattle.shm_journal.specs.LinesOf.{Unended}
-use Rattle.shm_journal.specs.declared.process_fault.ProcessFault.{ProcessFault}
+use Rattle.shm_journal.specs.declared.process_error.ProcessFault.{ProcessFault}
+use Rattle.shm_seal.specs.Seal.{Seal}
 
 -- a line that is taken has no line feed, and no more bytes than a site's line has
 abbrev pub IsTaken : Event → Type 0
@@ -66,15 +67,15 @@ pub record LeavesFront (header : Header) (durable file : List ℕ) : Type 0 wher
 -- whatever a process does in this life, at each moment of it, and whatever a crash leaves then
 abbrev pub LeavesSound : Header → List (List Event) → Type 0
 LeavesSound header lives =
-    (result : Result (Unit {0}) ProcessFault) (acts before after : List Act) (left : List ℕ)
-    → IsRun (desk_from header false (after_lives (opened header) lives)) result acts → acts ≡ before ++ after
+    (seal : Seal) (result : Result (Unit {0}) ProcessFault) (acts before after : List Act) (left : List ℕ)
+    → IsRun (desk_from header seal false (after_lives (opened header) lives)) result acts → acts ≡ before ++ after
     → MayLeave (after_acts (disk_of (journal_text header lives)) before) left
     → LeavesLife header lives (after_acts (disk_of (journal_text header lives)) before).durable left
 
 abbrev pub LeavesNewSound : Header → Type 0
 LeavesNewSound header =
-    (result : Result (Unit {0}) ProcessFault) (acts before after : List Act) (left : List ℕ)
-    → IsRun (desk_from header true (opened header)) result acts → acts ≡ before ++ after
+    (seal : Seal) (result : Result (Unit {0}) ProcessFault) (acts before after : List Act) (left : List ℕ)
+    → IsRun (desk_from header seal true (opened header)) result acts → acts ≡ before ++ after
     → MayLeave (after_acts (disk_of []) before) left
     → LeavesFront header (after_acts (disk_of []) before).durable left
     ⊎ LeavesLife header [] (after_acts (disk_of []) before).durable left

@@ -2,8 +2,8 @@
 use Rattle.std.specs.Prelude.{◌≢◌, ℕ, [], ◌∷◌, ◌++◌, take}
 use Rattle.shm_process.specs.Desk.{Desk}
 use Rattle.shm_journal.specs.Acts.{Append, Around, Did, Tell, keeping}
-use Rattle.shm_journal.specs.declared.process_fault.ProcessFault.{ProcessFault}
-use Rattle.shm_journal.specs.declared.process_fault.ProcessFault.TheVariants.{JournalFault, OutOfMemory, ReadFault, WriteFault}
+use Rattle.shm_journal.specs.declared.process_error.ProcessFault.{ProcessFault}
+use Rattle.shm_journal.specs.declared.process_error.ProcessFault.TheVariants.{JournalFault, OutOfMemory, ReadFault, WriteFault}
 
 -- a front of what was recorded is appended, and no more is done; or all is kept, and a front of what was to be told is
 abbrev pub FailsToPublish : Desk → Around → Around → ProcessFault → Type 0

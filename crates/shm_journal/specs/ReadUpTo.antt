@@ -4,8 +4,8 @@ use Rattle.std.specs.Io.KnownBytes.{Consumes, IsAtEnd}
 use Rattle.shm_journal.specs.Found.{Found, Sound, Bad, bytes_of_lines, lines_of, max_journal_line}
 use Rattle.shm_journal.specs.LinesOf.{Unended}
 use Rattle.shm_journal.specs.Taking.{IsOther, most_at_once}
-use Rattle.shm_journal.specs.declared.journal_fault.JournalFault.{JournalFault}
-use Rattle.shm_journal.specs.declared.journal_fault.JournalFault.TheVariants as fault
+use Rattle.shm_journal.specs.declared.journal_error.JournalFault.{JournalFault}
+use Rattle.shm_journal.specs.declared.journal_error.JournalFault.TheVariants as fault
 
 -- no line, or lines that lead somewhere
 abbrev pub IsSound : {T : Type 0} → (List ℕ → Found T) → List ℕ → Type 0

@@ -6,11 +6,11 @@ use Rattle.shm_process.specs.NodeOf.{node_of}
 use Rattle.shm_journal.specs.Found.{Sound, Foreign, Bad, bytes_of_lines, found, is_empty, lines_of}
 use Rattle.shm_journal.specs.Lines.{Header, read_header}
 use Rattle.shm_journal.specs.ReadUpTo.{BreaksAt, LacksLine, StopsAt}
-use Rattle.shm_journal.specs.declared.journal_fault.JournalFault.{JournalFault}
-use Rattle.shm_journal.specs.declared.journal_fault.JournalFault.TheVariants as journal
-use Rattle.shm_journal.specs.declared.recovery_fault.RecoveryFault.{RecoveryFault}
-use Rattle.shm_journal.specs.declared.recovery_fault.RecoveryFault.TheVariants as fault
-use Rattle.shm_journal.specs.declared.recovered.Recovered.{Recovered}
+use Rattle.shm_journal.specs.declared.journal_error.JournalFault.{JournalFault}
+use Rattle.shm_journal.specs.declared.journal_error.JournalFault.TheVariants as journal
+use Rattle.shm_journal.specs.declared.recovery_error.RecoveryFault.{RecoveryFault}
+use Rattle.shm_journal.specs.declared.recovery_error.RecoveryFault.TheVariants as fault
+use Rattle.shm_journal.specs.declared.recovered_site.Recovered.{Recovered}
 
 -- what the site of this header finds in this file is what the fault says; where memory is missing or reading fails, nothing is said
 abbrev pub IsFaultOf : Header → List ℕ → RecoveryFault → Type 0

@@ -1,5 +1,5 @@
 -- What a journal has, whichever site's it is: its site, how many entries, where they lead, and how many bytes.
-use Rattle.std.specs.Prelude.{⊤, ◌≡◌, ◌<◌, ◌⊎◌, ℕ, ◌+◌, ◌&&◌, Bool, true, false, List, [], ◌∷◌, ◌++◌, Option, Some, None, Result, Ok, Err, IfSome, codes, drop, if◌then◌else◌, length, nat_lt, option_and_then}
+use Rattle.std.specs.Prelude.{⊤, ◌≡◌, ◌<◌, ◌⊎◌, ℕ, ◌+◌, ◌&&◌, Bool, true, false, List, [], ◌∷◌, ◌++◌, Option, Some, None, Result, Ok, Err, IfSome, codes, drop, if◌then◌else◌, length, nat_lt, option_and_then, option_map}
 use Rattle.std.specs.Fmt.{decimal}
 use Rattle.shm_place.specs.Limits.{max_sites}
 use Rattle.shm_place.specs.Limits as limit
@@ -9,9 +9,11 @@ use Rattle.shm_journal.specs.Leading.{Leads}
 use Rattle.shm_journal.specs.Lines.{Header, read_header}
 use Rattle.shm_journal.specs.ReadUpTo.{BreaksAt, LacksLine, ReadsWhole, StopsAt}
 use Rattle.shm_journal.specs.Recovers.{ReadsAll}
-use Rattle.shm_journal.specs.declared.journal_fault.JournalFault.{JournalFault}
-use Rattle.shm_journal.specs.declared.journal_fault.JournalFault.TheVariants as fault
-use Rattle.shm_journal.specs.declared.summary.Summary.{Summary}
+use Rattle.shm_journal.specs.declared.journal_error.JournalFault.{JournalFault}
+use Rattle.shm_journal.specs.declared.journal_error.JournalFault.TheVariants as fault
+use Rattle.shm_journal.specs.declared.journal_summary.Summary.{Summary}
+use Rattle.shm_seal.specs.NameOf.{name_of}
+use Rattle.shm_seal.specs.declared.cluster_name.ClusterName.{ClusterName}
 
 -- ---- whose it is
 
@@ -45,12 +47,13 @@ found_any file = found_of any file
 abbrev pub entries_in : List ℕ → List (List ℕ)
 entries_in file = drop 1 (lines_of file).whole
 
--- of a file with this header, whose entries lead to this node: the clock is that of the last step, or 0
-abbrev pub summary_of : Header → List ℕ → Node → Summary
-summary_of header file node = record {
+-- of a file with this header, of a cluster of this name, whose entries lead to this node: the clock is that of the last step, or 0
+abbrev pub summary_of : Header → Option ClusterName → List ℕ → Node → Summary
+summary_of header cluster file node = record {
   site = header.me;
   sites = header.sites;
   pages = header.pages;
+  cluster = cluster;
   steps = length (entries_in file);
   clock = node.clock;
   bytes = length file;
@@ -64,7 +67,8 @@ pub record IsSummary (file : List ℕ) (summary : Summary) : Type 0 where
   pub limits : in_limits header ≡ true
   pub begun : is_empty (lines_of file).whole ≡ false
   pub sound : found header file ≡ Sound node
-  pub summed : summary ≡ summary_of header file node
+  pub named : option_map name_of summary.cluster ≡ header.cluster
+  pub summed : summary ≡ summary_of header summary.cluster file node
 
 -- a fault of memory or of the reader says nothing
 abbrev pub SumsUp : List ℕ → Result Summary JournalFault → Type 0
@@ -77,12 +81,17 @@ SumsUp file (Err fault.ReadFault) = ⊤
 abbrev pub SumsUpKnown : Option (List ℕ) → Result Summary JournalFault → Type 0
 SumsUpKnown remaining result = (file : List ℕ) × IfSome remaining (λ known. file ≡ known) × SumsUp file result
 
+-- the line of the cluster's name, if it has one
+abbrev pub cluster_text : Option ClusterName → List ℕ
+cluster_text None = []
+cluster_text (Some name) = codes "cluster " ++ (name_of name ++ 10 ∷ [])
+
 -- a line for each
 abbrev pub summary_text : Summary → List ℕ
 summary_text summary =
     codes "site " ++ (decimal summary.site ++ (codes "\nsites " ++ (decimal summary.sites ++ (codes "\npages " ++ (decimal summary.pages
-    ++ (codes "\nsteps " ++ (decimal summary.steps ++ (codes "\nclock " ++ (decimal summary.clock ++ (codes "\nbytes " ++ (decimal summary.bytes
-    ++ (codes "\ntorn " ++ (decimal summary.torn ++ 10 ∷ [])))))))))))))
+    ++ 10 ∷ (cluster_text summary.cluster ++ (codes "steps " ++ (decimal summary.steps ++ (codes "\nclock " ++ (decimal summary.clock
+    ++ (codes "\nbytes " ++ (decimal summary.bytes ++ (codes "\ntorn " ++ (decimal summary.torn ++ 10 ∷ []))))))))))))))
 
 -- ---- what was read
 
@@ -109,6 +118,7 @@ pub record SumsRest (node : Node) (old new : Option (List ℕ)) (header : Header
   pub site : summary.site ≡ header.me
   pub sites : summary.sites ≡ header.sites
   pub pages : summary.pages ≡ header.pages
+  pub cluster : option_map name_of summary.cluster ≡ header.cluster
   pub steps : summary.steps ≡ after.steps
   pub clock : summary.clock ≡ after.clock
   pub torn : summary.torn ≡ length (lines_of rest.bytes).torn

@@ -3,11 +3,11 @@ use Rattle.std.specs.Prelude.{⊤, ◌≡◌, ◌≤◌, ◌<◌, ℕ, ◌+◌, 
 use Rattle.std.specs.Io.KnownBytes.{Consumes, IsAtEnd}
 use Rattle.shm_journal.specs.Found.{max_journal_line}
 use Rattle.shm_journal.specs.LinesOf.{Unended, behind, line_in}
-use Rattle.shm_journal.specs.declared.journal_fault.JournalFault.{JournalFault}
-use Rattle.shm_journal.specs.declared.journal_fault.JournalFault.TheVariants as fault
-use Rattle.shm_journal.specs.declared.lines.Lines.{Lines}
-use Rattle.shm_journal.specs.declared.taken.Taken.{Taken}
-use Rattle.shm_journal.specs.declared.taken.Taken.TheVariants as taken
+use Rattle.shm_journal.specs.declared.journal_error.JournalFault.{JournalFault}
+use Rattle.shm_journal.specs.declared.journal_error.JournalFault.TheVariants as fault
+use Rattle.shm_journal.specs.declared.line_reader.Lines.{Lines}
+use Rattle.shm_journal.specs.declared.line_read_outcome.Taken.{Taken}
+use Rattle.shm_journal.specs.declared.line_read_outcome.Taken.TheVariants as taken
 
 -- the most that one read gives
 abbrev pub most_at_once : ℕ

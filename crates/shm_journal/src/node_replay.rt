@@ -3,9 +3,9 @@ ghost use Rattle.std.specs.Prelude.{◌≡◌, is_some, unwrap_or, IfOk, OnOk};
 ghost use Rattle.shm_journal.specs.Found.{replayed_line};
 ghost use Rattle.shm_process.specs.NodeOf.{node_of};
 
-use crate::entry::Entry;
-use crate::parse::parse_entry;
-use crate::replay::Replay;
+use crate::journal_entry::Entry;
+use crate::journal_line_parser::parse_entry;
+use crate::replay_lines::Replay;
 use shm_process::Node;
 use std::alloc::{AllocError, Allocator};
 

@@ -6,8 +6,8 @@ ghost use Rattle.shm_journal.specs.Publishing.{FailsToPublish};
 ghost use Rattle.shm_process.specs.Desk.{cleared};
 ghost use Rattle.shm_process.specs.DeskOf.{desk_of};
 
-use crate::journal::{Failed, Journal};
-use crate::process_fault::ProcessFault;
+use crate::journal_trait::{Failed, Journal};
+use crate::process_error::ProcessFault;
 use shm_process::Desk;
 use std::alloc::Allocator;
 use std::io::{Read, Write};
@@ -16,19 +16,18 @@ use std::io::{Read, Write};
 const CHUNK: usize = 8192;
 
 /// Takes lines until the input ends. First, and after each read, it appends what the desk has recorded to the journal, makes that durable,
-/// and then writes the desk's output. It doesn't take a last line without its line feed.
+/// and then writes the desk's output. It doesn't take a last line without its line feed. The desk then has its counts of lines.
 pub fn serve<A: Allocator + Copy, R: Read, W: Write, J: Journal>(
-    desk: Desk<A>,
+    desk: &mut Desk<A>,
     reader: &mut R,
     writer: &mut W,
     journal: &mut J,
 ) -> Result<(), ProcessFault>
     ensures end { OnOk result (IsAtEnd (R.remaining reader.new)) }
-    ensures served { Served (desk_of desk) (around (R.remaining reader.old) (W.contents writer.old) (J.acts journal.old))
+    ensures served { Served (desk_of desk.old) (around (R.remaining reader.old) (W.contents writer.old) (J.acts journal.old))
         (around (R.remaining reader.new) (W.contents writer.new) (J.acts journal.new)) result }
 {
-    let mut desk = desk;
-    match publish(&mut desk, writer, journal) {
+    match publish(desk, writer, journal) {
         Ok(()) => {}
         Err(fault) => return Err(fault),
     }
@@ -44,7 +43,7 @@ pub fn serve<A: Allocator + Copy, R: Read, W: Write, J: Journal>(
             Ok(()) => {}
             Err(_) => return Err(ProcessFault::OutOfMemory),
         }
-        match publish(&mut desk, writer, journal) {
+        match publish(desk, writer, journal) {
             Ok(()) => {}
             Err(fault) => return Err(fault),
         }

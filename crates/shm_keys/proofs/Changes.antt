@@ -7,7 +7,7 @@ use Rattle.shm_model.specs.Permission.{Segment, destroyed}
 use Rattle.shm_model.specs.Kernel.{is_destroyed, replaced, destroyed_in}
 use Rattle.shm_keys.specs.Purge.{AllMissing, AllPass, IsRising, missing_after}
 use Rattle.shm_keys.specs.Table.{IsLive, IsTable, live_count, is_purged_from}
-use Rattle.shm_keys.specs.declared.purge.Purge.{Purge}
+use Rattle.shm_keys.specs.declared.pending_purge.Purge.{Purge}
 use Rattle.shm_keys.proofs.Segments.{freed, place_of_id, live_place, numbered-set, indexed-set, purged-set, with_id_found, with_id_replaced}
 
 -- all sites are missing of the segment from now on, where none was before

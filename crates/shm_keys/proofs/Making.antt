@@ -15,7 +15,7 @@ use Rattle.shm_model.specs.declared.call.Cred.{Cred}
 use Rattle.shm_model.specs.declared.call.Errno.TheVariants.{Enospc}
 use Rattle.shm_model.specs.declared.call.Reply.TheVariants.{Id}
 use Rattle.shm_keys.specs.Table.{IsNumbered, IsIndexed, IsTable, live_count}
-use Rattle.shm_keys.specs.declared.purge.Purge.{Purge}
+use Rattle.shm_keys.specs.declared.pending_purge.Purge.{Purge}
 
 count_congr : (p q : Segment → Bool) (s : List Segment) → ((k : ℕ) (d : Segment) → k < length s → p (get_or s k d) ≡ q (get_or s k d)) → count_by p s ≡ count_by q s
 count_congr p q [] same = refl

@@ -8,7 +8,7 @@ use Rattle.std.proofs.lemmas.List.Edits.{get_or-remove_below, get_or-remove_abov
 use Rattle.std.proofs.lemmas.List.Folds.{list_any-append, list_any_none, list_all_at}
 use Rattle.shm_place.specs.SiteSet.{has, has_none}
 use Rattle.shm_keys.specs.Purge.{awaits_site, missing_in, IsRising}
-use Rattle.shm_keys.specs.declared.purge.Purge.{Purge}
+use Rattle.shm_keys.specs.declared.pending_purge.Purge.{Purge}
 
 pub not_falling : (ps : List Purge) → IsRising ps → IsNonDecreasingBy (λ p. p.id) ps
 not_falling ps up i j d le lt =

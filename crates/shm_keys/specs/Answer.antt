@@ -10,8 +10,8 @@ use Rattle.shm_model.specs.declared.call.Reply.{Reply}
 use Rattle.shm_model.specs.declared.call.Reply.TheVariants.{Id, Attached as AttachedReply, Ok as OkReply, Stat as StatReply, Refused}
 use Rattle.shm_keys.specs.Purge.{missing_after}
 use Rattle.shm_keys.specs.Table.{Table, missing_of}
-use Rattle.shm_keys.specs.declared.get.GetFault.{GetFault}
-use Rattle.shm_keys.specs.declared.get.GetFault.TheVariants as fault
+use Rattle.shm_keys.specs.declared.shmget.GetFault.{GetFault}
+use Rattle.shm_keys.specs.declared.shmget.GetFault.TheVariants as fault
 
 -- the call has this reply, and leaves the segments of the table after it
 abbrev pub Answers : Op → Reply → Table → Table → Type 0

@@ -3,7 +3,7 @@ use Rattle.std.specs.Prelude.{◌≡◌, ℕ, ◌<◌, Bool, true, false, ◌&&�
 use Rattle.std.specs.List.{list_any, AllPairs}
 use Rattle.shm_model.specs.Basics.{at}
 use Rattle.shm_place.specs.SiteSet.{has, has_none}
-use Rattle.shm_keys.specs.declared.purge.Purge.{Purge}
+use Rattle.shm_keys.specs.declared.pending_purge.Purge.{Purge}
 
 abbrev pub awaits_site : ℕ → ℕ → Purge → Bool
 awaits_site id site purge = (id == purge.id) && has purge.missing site

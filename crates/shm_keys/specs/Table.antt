@@ -4,7 +4,7 @@ use Rattle.shm_place.specs.Limits.{segments_of_a_home}
 use Rattle.shm_model.specs.Permission.{Segment, destroyed}
 use Rattle.shm_model.specs.Kernel.{with_id, is_destroyed}
 use Rattle.shm_keys.specs.Purge.{AllMissing, AllPass, IsRising, missing_in}
-use Rattle.shm_keys.specs.declared.purge.Purge.{Purge}
+use Rattle.shm_keys.specs.declared.pending_purge.Purge.{Purge}
 
 -- `segments` are those that the home made, in the order of making; `missing` says which sites have yet to purge which of them
 pub record Table : Type 0 where

@@ -2,18 +2,18 @@
 //! `shmop(2)`, `shmctl(2)`), and which sites still have to purge the destroyed ones.
 #![tactic(auto)]
 
-mod calls;
-mod copy;
-mod get;
+mod copy_table;
+mod pending_purge;
 mod permission;
-mod preset;
-mod purge;
-mod purging;
-mod replace;
-mod segment;
-mod table;
+mod preset_segment;
+mod purge_messages;
+mod replace_segment;
+mod segment_calls;
+mod segment_record;
+mod segment_table;
+mod shmget;
 
-pub use get::{GetFault, MAX_LIVE};
-pub use segment::Segment;
+pub use segment_record::Segment;
+pub use segment_table::SegTable;
 pub use shm_model::{Attached, Cred, Errno, GetFlags, Mode, Stat};
-pub use table::SegTable;
+pub use shmget::{GetFault, MAX_LIVE};

@@ -2,7 +2,7 @@ ghost use Rattle.std.specs.Prelude.{◌≡◌};
 ghost use Rattle.shm_model.specs.Permission.{is_owner, is_in_group, class_of, may_read, may_write, asks_to_read, asks_to_write, permits, may_get, may_attach, may_stat};
 ghost use Rattle.shm_keys.specs.Class.{bits_of};
 
-use crate::segment::Segment;
+use crate::segment_record::Segment;
 use shm_model::{Cred, Mode, Permissions};
 
 /// A class of users. One alone counts for a caller (`shmget(2)`).

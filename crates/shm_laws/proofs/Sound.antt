@@ -3,10 +3,10 @@
 use Rattle.std.proofs.Common.{◌≡◌, ◌≢◌, ℕ, ◌<◌, true, false, ◌==◌, Option, Some, None, List, [], ◌∷◌, nat_lt, slice_get, slice_set, slice_index, Contains, arith, refl, sym, ◌∙◌, ap, subst, zero, suc}
 use Rattle.std.proofs.lemmas.Bool.{cond_both, false_from_ne_true}
 use Rattle.std.proofs.lemmas.Option.{slice_get-get_or}
-use Rattle.shm_place.specs.declared.page.PageId.{PageId}
+use Rattle.shm_place.specs.declared.page_id.PageId.{PageId}
 use Rattle.shm_place.specs.Limits.{page_bytes}
 use Rattle.shm_place.specs.Offset.{rounded, within_of}
-use Rattle.shm_model.specs.declared.kind.Kind.TheVariants.{Read}
+use Rattle.shm_model.specs.declared.request_kind.Kind.TheVariants.{Read}
 use Rattle.shm_model.specs.Entry.{bytes, readable}
 use Rattle.shm_model.specs.Book.{max_sites}
 use Rattle.shm_model.specs.Basics.{greatest}

@@ -5,10 +5,10 @@ mod calls;
 mod logs;
 mod memory;
 mod promise;
-pub mod random;
-pub mod rows;
+pub mod random_scripts;
 mod runs;
 mod transactions;
+pub mod worked_scripts;
 
 pub use calls::{
     attachments_are_counted, each_call_is_executed_once, homes_keep_their_part,

@@ -4,7 +4,7 @@ use Rattle.std.specs.Prelude.{Result, Ok, Err}
 use Rattle.shm_lines.specs.Words.{is_end}
 use Rattle.shm_lines.proofs.WordLemmas.{is_end-parts}
 use Rattle.shm_lines.specs.Workload.{Whole, parts_of, prefixed, read_line, then_rest, with_size, access_of, accesses_on, read_all, after_first, preset_of}
-use Rattle.shm_lines.specs.declared.workload_fault.WorkloadFault.{WorkloadFault}
+use Rattle.shm_lines.specs.declared.workload_error.WorkloadFault.{WorkloadFault}
 use Rattle.shm_lines.specs.declared.workload_access.WorkloadAccess.{WorkloadAccess}
 
 prefixed-then : (before : List WorkloadAccess) (access : WorkloadAccess) (rest : Result (List WorkloadAccess) WorkloadFault)

@@ -10,7 +10,7 @@ use Rattle.std.proofs.lemmas.Bool.Decides.{nat_tests}
 use Rattle.std.proofs.lemmas.Fmt.{decimal_digit}
 use Rattle.std.proofs.lemmas.List.Elements.{All-nil, All-cons}
 use Rattle.std.proofs.lemmas.Slice.Eq.{bytes_eq-Decides}
-use Rattle.shm_model.specs.declared.mode.GetFlags.{GetFlags}
+use Rattle.shm_model.specs.declared.mode_and_get_flags.GetFlags.{GetFlags}
 use Rattle.shm_lines.proofs.NumberWords.{IsPrinter, number}
 use Rattle.shm_lines.proofs.StepLemmas.{step, step-is, some-is, cond-some, and-parts, lt-true, lt-test, NoBlank, NoBlank-test}
 use Rattle.shm_lines.specs.Words.{IsMode, IsFlags, number_of, byte_of, mode_of, flags_of, access_of, flags_word, access_word}

@@ -17,8 +17,8 @@ use Rattle.shm_lines.proofs.StepLemmas.{step, some-is, cond-some, and-parts}
 use Rattle.shm_lines.specs.Words.{◌>>=◌, next_word, next_number, next_named, is_from_1_to, is_end}
 use Rattle.shm_lines.specs.Line.{sites_line, sites_of, preset_of, frames_of, load_of, store_of, deliver_of, repeat_of, lose_of, tick_of, restart_of, show_of, back_of}
 use Rattle.shm_lines.specs.Spelling.{IsLine, spelled_words}
-use Rattle.shm_lines.specs.declared.line.Line.{Line}
-use Rattle.shm_lines.specs.declared.line.Line.TheVariants.{Event, Show, Back}
+use Rattle.shm_lines.specs.declared.script_line.Line.{Line}
+use Rattle.shm_lines.specs.declared.script_line.Line.TheVariants.{Event, Show, Back}
 
 -- a line, and the words that it was read from
 abbrev pub ReadsLine : List (List ℕ) → Line → Type 0

@@ -13,8 +13,8 @@ use Rattle.shm_lines.specs.Calls.{request_of}
 use Rattle.shm_lines.specs.Words.{words_of, by_verb}
 use Rattle.shm_lines.specs.Line.{verbs, call_of, line_of}
 use Rattle.shm_lines.specs.Spelling.{IsLine, spelled_words, spelling}
-use Rattle.shm_lines.specs.declared.line.Line.{Line}
-use Rattle.shm_lines.specs.declared.line.Line.TheVariants.{Event}
+use Rattle.shm_lines.specs.declared.script_line.Line.{Line}
+use Rattle.shm_lines.specs.declared.script_line.Line.TheVariants.{Event}
 
 -- a word behind the first
 behind_first : List ℕ → List (List ℕ) → List (List ℕ)

@@ -21,8 +21,8 @@ use Rattle.shm_lines.specs.Calls.{IsRequest, request_verb, words_of_request}
 use Rattle.shm_lines.specs.Words.{IsNumber, is_from_1_to}
 use Rattle.shm_lines.specs.Line.{line_of, line_of_words, call_of, sites_line}
 use Rattle.shm_lines.specs.Spelling.{IsEvent, IsOpened, IsLine, event_words, first_words, spelling}
-use Rattle.shm_lines.specs.declared.line.Line.{Line}
-use Rattle.shm_lines.specs.declared.line.Line.TheVariants.{Sites, Event as EventLine, Show, Back}
+use Rattle.shm_lines.specs.declared.script_line.Line.{Line}
+use Rattle.shm_lines.specs.declared.script_line.Line.TheVariants.{Sites, Event as EventLine, Show, Back}
 
 -- words without blanks are read as they stand
 stands : (verb : List ℕ) (others : List (List ℕ)) (line : Line) → has_none verb ≡ true → NoBlanks others → line_of_words (verb ∷ others) ≡ Some line

@@ -5,8 +5,8 @@ use Rattle.shm_model.specs.declared.event.Event.TheVariants.{Load, Store, Begin,
 use Rattle.shm_model.specs.Book.{max_sites}
 use Rattle.shm_lines.specs.Calls.{request_of}
 use Rattle.shm_lines.specs.Words.{◌>>=◌, words_of, byte_of, next_word, next_of, next_number, next_named, is_from_1_to, is_end, Verbs, by_verb, ended}
-use Rattle.shm_lines.specs.declared.line.Line.{Line}
-use Rattle.shm_lines.specs.declared.line.Line.TheVariants.{Sites, Event, Show, Back}
+use Rattle.shm_lines.specs.declared.script_line.Line.{Line}
+use Rattle.shm_lines.specs.declared.script_line.Line.TheVariants.{Sites, Event, Show, Back}
 
 -- ---- the first line: `sites N`, `sites N preset P`, `sites N preset P frames F`
 

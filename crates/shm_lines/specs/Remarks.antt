@@ -4,7 +4,7 @@ use Rattle.shm_place.specs.Limits.{pages}
 use Rattle.shm_model.specs.Book.{max_sites}
 use Rattle.shm_lines.specs.Line.{line_of, may_stand}
 use Rattle.shm_lines.specs.Workload.{access_of, preset_of}
-use Rattle.shm_lines.specs.declared.line.Line.{Line}
+use Rattle.shm_lines.specs.declared.script_line.Line.{Line}
 use Rattle.shm_lines.specs.declared.hints.remark.Remark.{Remark}
 use Rattle.shm_lines.specs.declared.hints.remark.Remark.TheVariants.{Blank, CarriageReturn, Comment, FirstLine, OfScript, OfWorkload, Outside, Unended}
 

@@ -6,12 +6,12 @@ use Rattle.std.specs.Int.{IsInRange}
 use Rattle.shm_place.specs.Limits.{max_frames, pages}
 use Rattle.shm_model.specs.declared.event.Event.{Event}
 use Rattle.shm_model.specs.declared.event.Event.TheVariants.{Load, Store, Begin, Tick, Restart, Deliver, Repeat, Lose}
-use Rattle.shm_model.specs.declared.opening.Opening.{Opening}
+use Rattle.shm_model.specs.declared.world_opening.Opening.{Opening}
 use Rattle.shm_model.specs.Book.{max_sites}
 use Rattle.shm_lines.specs.Calls.{IsRequest, request_verb, words_of_request}
 pub use Rattle.shm_lines.specs.Words.{IsNumber, IsMode, access_word}
-use Rattle.shm_lines.specs.declared.line.Line.{Line}
-use Rattle.shm_lines.specs.declared.line.Line.TheVariants.{Sites, Event as EventLine, Show, Back}
+use Rattle.shm_lines.specs.declared.script_line.Line.{Line}
+use Rattle.shm_lines.specs.declared.script_line.Line.TheVariants.{Sites, Event as EventLine, Show, Back}
 
 -- ---- the lines that there are, of all that the numbers could make
 

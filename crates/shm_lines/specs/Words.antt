@@ -6,7 +6,7 @@ use Rattle.std.specs.Char.{is_ascii_digit, is_digit}
 use Rattle.std.specs.Str.{bytes_eq}
 use Rattle.std.specs.Str.Parse.{digits_value}
 use Rattle.shm_model.specs.declared.call.Cred.{Cred}
-use Rattle.shm_model.specs.declared.mode.GetFlags.{GetFlags}
+use Rattle.shm_model.specs.declared.mode_and_get_flags.GetFlags.{GetFlags}
 
 infixl 20 ◌>>=◌
 abbrev pub ◌>>=◌ : {A B : Type 0} → Option A → (A → Option B) → Option B

@@ -1,6 +1,6 @@
 //! Laws of the definitions, for every line.
 ghost use Rattle.std.specs.Prelude.{◌≡◌, ℕ, List, Some};
-ghost use Rattle.shm_lines.specs.declared.line.Line.{Line};
+ghost use Rattle.shm_lines.specs.declared.script_line.Line.{Line};
 ghost use Rattle.shm_lines.specs.Line.{line_of};
 ghost use Rattle.shm_lines.specs.Spelling.{IsLine, spelling};
 

@@ -1,12 +1,12 @@
 //! A whole workload.
 ghost use Rattle.std.specs.Prelude.{◌≡◌, ◌≢◌, ◌≤◌, ◌⊎◌, Ok, Err, length, IfErr, IfOk};
 ghost use Rattle.shm_lines.specs.Workload.{open_line, parts_of, with_size, workload_of, accesses_on};
-ghost use Rattle.shm_lines.specs.declared.workload_fault.WorkloadFault.TheVariants as cause;
+ghost use Rattle.shm_lines.specs.declared.workload_error.WorkloadFault.TheVariants as cause;
 
+use crate::parse_workload_line::{access_line, first_line, open_line};
 use crate::split_at;
 use crate::workload_access::WorkloadAccess;
-use crate::workload_fault::WorkloadFault;
-use crate::workload_line::{access_line, first_line, open_line};
+use crate::workload_error::WorkloadFault;
 use shm_place::{PAGES, Sites};
 use std::alloc::{Allocator, Global};
 

@@ -9,8 +9,8 @@ use Rattle.std.proofs.lemmas.List.FromFn.{filter_of_map_range_with_len_more}
 use Rattle.shm_place.specs.SiteSet.{has, has_none}
 use Rattle.shm_model.specs.Book.{Book, Running, ClearTo, awaits, awaited}
 use Rattle.shm_manager.specs.Orders.{members, orders_of}
-use Rattle.shm_manager.specs.declared.orders.Orders.{Orders}
-use Rattle.shm_manager.specs.declared.orders.Orders.TheVariants as orders
+use Rattle.shm_manager.specs.declared.manager_messages.Orders.{Orders}
+use Rattle.shm_manager.specs.declared.manager_messages.Orders.TheVariants as orders
 
 -- those of the sites below n that pass
 pub sites_below : (ℕ → Bool) → ℕ → List ℕ

@@ -2,7 +2,7 @@
 use Rattle.std.proofs.Common.{◌≡◌, ℕ, ◌+◌, ◌<◌, Bool, false, Some, max, if◌then◌else◌, ◌==◌, ap, refl, arith, List, true}
 use Rattle.std.proofs.lemmas.Bool.Decides.{nat_tests}
 use Rattle.shm_number.specs.Served.{taken}
-use Rattle.shm_model.specs.declared.kind.Kind.{Kind}
+use Rattle.shm_model.specs.declared.request_kind.Kind.{Kind}
 use Rattle.shm_model.specs.Book.{Book, started}
 use Rattle.shm_model.specs.Basics.{at}
 use Rattle.shm_place.specs.SiteSet.{has}

@@ -1,13 +1,13 @@
 -- What shm_model sees of a book, and of what a call answers.
 use Rattle.std.specs.Prelude.{ℕ, Bool, true, false, [], ◌∷◌, ◌++◌, Option, Some, None, Result, Ok, Err}
-use Rattle.shm_model.specs.declared.kind.Kind.{Kind}
+use Rattle.shm_model.specs.declared.request_kind.Kind.{Kind}
 use Rattle.shm_model.specs.Book as model
 use Rattle.shm_number.specs.Served.{served_of}
 use Rattle.shm_number.specs.declared.counter.UsedUp.{UsedUp}
 use Rattle.shm_manager.specs.declared.book.Book.{Book}
-use Rattle.shm_manager.specs.declared.due.Due.{Due}
-use Rattle.shm_manager.specs.declared.due.Due.TheVariants as due
-use Rattle.shm_manager.specs.declared.orders.Orders.{Orders}
+use Rattle.shm_manager.specs.declared.request_decision.Due.{Due}
+use Rattle.shm_manager.specs.declared.request_decision.Due.TheVariants as due
+use Rattle.shm_manager.specs.declared.manager_messages.Orders.{Orders}
 use Rattle.shm_manager.specs.Orders.{orders_of}
 use Rattle.shm_place.specs.SiteSet.{has}
 

@@ -4,8 +4,8 @@ use Rattle.std.specs.List.{range_with_len}
 use Rattle.shm_place.specs.Limits.{max_sites}
 use Rattle.shm_place.specs.SiteSet.{has}
 use Rattle.shm_model.specs.Book.{Order, ClearTo, HandTo}
-use Rattle.shm_manager.specs.declared.orders.Orders.{Orders}
-use Rattle.shm_manager.specs.declared.orders.Orders.TheVariants as orders
+use Rattle.shm_manager.specs.declared.manager_messages.Orders.{Orders}
+use Rattle.shm_manager.specs.declared.manager_messages.Orders.TheVariants as orders
 
 -- the sites of a set, rising
 unfoldable pub members : List Bool → List ℕ

@@ -1,8 +1,8 @@
 -- What shm_model sees of the requests that wait.
 use Rattle.std.specs.Prelude.{ℕ, Bool, ◌&&◌, ◌==◌, List, ◌∷◌, Option, Some, None, map}
 use Rattle.std.specs.List.{list_any}
-use Rattle.shm_model.specs.declared.kind.Kind.{Kind}
-use Rattle.shm_manager.specs.declared.ask.Ask.{Ask}
+use Rattle.shm_model.specs.declared.request_kind.Kind.{Kind}
+use Rattle.shm_manager.specs.declared.waiting_request.Ask.{Ask}
 use Rattle.shm_model.specs.Book.{Waiting}
 
 -- a request, as its site, its number and what it asks for

@@ -4,7 +4,7 @@ ghost use Rattle.shm_manager.specs.Book.{book_of, kind_and_requester, untouched_
 ghost use Rattle.shm_manager.specs.Queue.{waiting_from};
 ghost use Rattle.shm_place.specs.SiteSet.{has};
 
-use crate::queue::Queue;
+use crate::request_queue::Queue;
 use shm_model::Kind;
 use shm_number::Served;
 use shm_place::{SiteId, SiteSet};

@@ -2,14 +2,14 @@
 //! (Li and Hudak 1989, §3.2).
 #![tactic(auto)]
 
-mod ask;
 mod book;
-mod due;
-mod orders;
-mod queue;
-mod rows;
+mod manager_messages;
+mod request_decision;
+mod request_queue;
+mod transaction_rows;
+mod waiting_request;
 
 pub use book::Book;
-pub use due::Due;
-pub use orders::{MOST_ORDERS, Orders};
+pub use manager_messages::{MOST_ORDERS, Orders};
+pub use request_decision::Due;
 pub use shm_model::Kind;

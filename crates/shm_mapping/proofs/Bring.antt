@@ -4,12 +4,12 @@ use Rattle.std.proofs.Math.Path.{fun_ext}
 use Rattle.std.proofs.lemmas.Bool.{cond-true}
 use Rattle.std.proofs.lemmas.Bool.Decides.{nat_tests}
 use Rattle.std.proofs.lemmas.List.{append-nil}
-use Rattle.shm_place.specs.declared.page.PageId.{PageId}
+use Rattle.shm_place.specs.declared.page_id.PageId.{PageId}
 use Rattle.shm_place.specs.Limits.{page_bytes}
 use Rattle.shm_place.specs.Offset.{index_of, rounded, within_of}
 use Rattle.shm_place.specs.Page.{same_page}
 use Rattle.shm_model.specs.declared.answer.Answer.TheVariants.{Refused, Stored}
-use Rattle.shm_model.specs.declared.kind.Kind.TheVariants.{Write}
+use Rattle.shm_model.specs.declared.request_kind.Kind.TheVariants.{Write}
 use Rattle.shm_model.specs.Access.{Place, ask_for, place_in, right_through, store_if, stored_entry}
 use Rattle.shm_model.specs.Basics.{at_page}
 use Rattle.shm_model.specs.Calls.{Attachment}

@@ -1,10 +1,10 @@
 -- A note of a page makes the same step with the machine's bytes, while the right that is mapped stays.
 use Rattle.std.proofs.Common.{◌≡◌, ℕ, Bool, true, false, not, List, [], ◌∷◌, ◌++◌, Option, Some, None, length, refl, sym, ap, ◌∙◌, subst, nat_lt, if◌then◌else◌}
 use Rattle.std.proofs.lemmas.Bool.{cond_both, cond-false}
-use Rattle.shm_place.specs.declared.page.PageId.{PageId}
+use Rattle.shm_place.specs.declared.page_id.PageId.{PageId}
 use Rattle.shm_place.specs.Page.{same_page}
-use Rattle.shm_model.specs.declared.kind.Kind.{Kind}
-use Rattle.shm_model.specs.declared.kind.Kind.TheVariants.{Read, Write}
+use Rattle.shm_model.specs.declared.request_kind.Kind.{Kind}
+use Rattle.shm_model.specs.declared.request_kind.Kind.TheVariants.{Read, Write}
 use Rattle.shm_model.specs.declared.answer.Answer.TheVariants.{Took}
 use Rattle.shm_model.specs.Basics.{at_page}
 use Rattle.shm_model.specs.Book.{Outcome, Ignored, UsedUp, Taken, on_ask, on_cleared, on_confirm}

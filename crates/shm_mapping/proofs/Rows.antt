@@ -1,7 +1,7 @@
 -- A row of the entry's table gives the same with the machine's bytes, while the right that is mapped stays.
 use Rattle.std.proofs.Common.{◌≡◌, ℕ, Bool, true, false, ◌==◌, List, Option, Some, None, refl, nat_lt, nat_le, if◌then◌else◌}
-use Rattle.shm_model.specs.declared.kind.Kind.{Kind}
-use Rattle.shm_model.specs.declared.kind.Kind.TheVariants.{Read, Write}
+use Rattle.shm_model.specs.declared.request_kind.Kind.{Kind}
+use Rattle.shm_model.specs.declared.request_kind.Kind.TheVariants.{Read, Write}
 use Rattle.shm_model.specs.Entry.{Entry, Nil, Copy, OwnRead, OwnWrite, Handed, Out, Nothing, ToManager, ToSite, Cleared, Page, Confirm, on_clear, on_hand, on_page, writable}
 use Rattle.shm_model.specs.Transfer.{is_nothing}
 use Rattle.shm_laws.proofs.Page.Entry.{false-true}

@@ -2,7 +2,7 @@
 -- passes by the machine's memory.
 use Rattle.std.proofs.Common.{◌≡◌, ℕ, Bool, true, false, ◌&&◌, ◌==◌, List, [], ◌∷◌, Option, Some, None, Result, Ok, Err, is_none, is_some, refl, sym, ap, ◌∙◌, if◌then◌else◌, slice_index}
 use Rattle.std.proofs.Math.Path.{fun_ext}
-use Rattle.shm_place.specs.declared.page.PageId.{PageId}
+use Rattle.shm_place.specs.declared.page_id.PageId.{PageId}
 use Rattle.shm_place.specs.Home.{home_of_id}
 use Rattle.shm_model.specs.declared.answer.Answer.{Answer}
 use Rattle.shm_model.specs.declared.answer.Answer.TheVariants.{Byte, Stored, Took, Refused}
@@ -12,8 +12,8 @@ use Rattle.shm_model.specs.declared.call.Reply.{Reply}
 use Rattle.shm_model.specs.declared.call.Reply.TheVariants.{Id, Attached as AttachedReply, Ok as OkReply, Stat as StatReply, Refused as RefusedReply}
 use Rattle.shm_model.specs.declared.call.Request.{Request}
 use Rattle.shm_model.specs.declared.call.Request.TheVariants.{Op as OpRequest, DetachAt}
-use Rattle.shm_model.specs.declared.kind.Kind.{Kind}
-use Rattle.shm_model.specs.declared.kind.Kind.TheVariants.{Read, Write}
+use Rattle.shm_model.specs.declared.request_kind.Kind.{Kind}
+use Rattle.shm_model.specs.declared.request_kind.Kind.TheVariants.{Read, Write}
 use Rattle.shm_model.specs.Access.{Place, ask_for, is_pending, load_at, load_if, right, store_at, store_if, stored_entry}
 use Rattle.shm_model.specs.Basics.{at_page, greatest}
 use Rattle.shm_model.specs.Book.{is_write}

@@ -4,14 +4,14 @@ use Rattle.std.specs.List.{list_all, list_any, range_with_len}
 use Rattle.std.proofs.lemmas.Bool.{and_parts, cond_both, cond-false}
 use Rattle.std.proofs.lemmas.Bool.Decides.{nat_tests}
 use Rattle.std.proofs.lemmas.List.Folds.{list_all-append}
-use Rattle.shm_place.specs.declared.page.PageId.{PageId}
+use Rattle.shm_place.specs.declared.page_id.PageId.{PageId}
 use Rattle.shm_place.specs.Page.{same_page}
 use Rattle.shm_model.specs.declared.call.Op.{Op}
 use Rattle.shm_model.specs.declared.call.Op.TheVariants.{Get, Attach, Detach, Remove, Set, Stat}
 use Rattle.shm_model.specs.declared.call.Reply.{Reply}
 use Rattle.shm_model.specs.declared.call.Reply.TheVariants.{Id, Attached as AttachedReply, Ok as OkReply, Stat as StatReply, Refused as RefusedReply}
-use Rattle.shm_model.specs.declared.kind.Kind.{Kind}
-use Rattle.shm_model.specs.declared.kind.Kind.TheVariants.{Read, Write}
+use Rattle.shm_model.specs.declared.request_kind.Kind.{Kind}
+use Rattle.shm_model.specs.declared.request_kind.Kind.TheVariants.{Read, Write}
 use Rattle.shm_model.specs.Basics.{at, at_page}
 use Rattle.shm_model.specs.Book.{Outcome, Ignored, UsedUp, Taken, on_ask, on_cleared, on_confirm}
 use Rattle.shm_model.specs.Calls.{Attachment, Again, Fresh, Freshness, Old, Outstanding, fits, freshness}
@@ -28,9 +28,9 @@ use Rattle.shm_laws.proofs.Page.Entry.{false-true}
 use Rattle.shm_laws.proofs.Page.Moves.{page-same}
 use Rattle.shm_mapping.specs.Mapped.{Mapped, allows}
 use Rattle.shm_mapping.specs.Verdicts.{Keeps, brought, left_by, may_map, obeyed, verdict, verdict_at}
-use Rattle.shm_mapping.specs.declared.verdict.Brought.TheVariants as brings
-use Rattle.shm_mapping.specs.declared.verdict.Verdict.{Verdict}
-use Rattle.shm_mapping.specs.declared.verdict.Verdict.TheVariants.{Take, UnmapToRead, Unmap}
+use Rattle.shm_mapping.specs.declared.envelope_verdict.Brought.TheVariants as brings
+use Rattle.shm_mapping.specs.declared.envelope_verdict.Verdict.{Verdict}
+use Rattle.shm_mapping.specs.declared.envelope_verdict.Verdict.TheVariants.{Take, UnmapToRead, Unmap}
 
 -- ---- what a verdict leaves of a mapping
 

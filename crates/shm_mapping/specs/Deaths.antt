@@ -1,7 +1,7 @@
 -- A machine that dies: its programs and their memory are gone, and its site comes back with what was brought to it. A machine brings all
 -- that its processors changed, at once, before a page leaves it. Then a death takes an end of what it did, and never a middle.
 use Rattle.std.specs.Prelude.{◌≡◌, ℕ, Bool, false, List, [], ◌∷◌, ◌++◌, Some, not, ◌==◌, if◌then◌else◌, filter, slice_get}
-use Rattle.shm_place.specs.declared.page.PageId.{PageId}
+use Rattle.shm_place.specs.declared.page_id.PageId.{PageId}
 use Rattle.shm_model.specs.declared.event.Event.{Event}
 use Rattle.shm_model.specs.Basics.{at}
 use Rattle.shm_model.specs.Entry.{bytes}

@@ -1,12 +1,12 @@
 -- Worked examples of two hosts and one page, computed by the definitions: what is asked, what is answered, and the events that it is in the
 -- world without mappings and for the sites alone.
 use Rattle.std.specs.Prelude.{◌≡◌, List, [], ◌∷◌, Some, None, map, reverse}
-use Rattle.shm_place.specs.declared.page.PageId.{PageId}
+use Rattle.shm_place.specs.declared.page_id.PageId.{PageId}
 use Rattle.shm_model.specs.declared.answer.Answer.{Answer}
 use Rattle.shm_model.specs.declared.answer.Answer.TheVariants.{Byte, Fault, Stored, Took}
 use Rattle.shm_model.specs.declared.event.Event.{Event}
 use Rattle.shm_model.specs.declared.event.Event.TheVariants.{Deliver, Load, Store}
-use Rattle.shm_model.specs.declared.kind.Kind.TheVariants.{Read, Write}
+use Rattle.shm_model.specs.declared.request_kind.Kind.TheVariants.{Read, Write}
 use Rattle.shm_model.specs.World.{Done, Preset}
 use Rattle.shm_mapping.specs.Hosts.{GiveUp, Happens, HostEvent, ProcessorLoad, Map, ProcessorStore}
 use Rattle.shm_mapping.specs.Programs.{hosts, own, plain}

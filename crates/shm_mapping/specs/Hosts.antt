@@ -3,14 +3,14 @@
 -- would leave the site with less access to a page than what is mapped. It is held, as if the network were slow, until the page is
 -- unmapped. An access of the site itself is held where the machine's memory has the page's bytes, or wouldn't have the byte stored.
 use Rattle.std.specs.Prelude.{ℕ, Bool, true, false, List, [], ◌∷◌, ◌++◌, Option, None, Some, Result, Ok, Err, ◌+◌, ◌*◌, ◌&&◌, ◌||◌, not, ◌==◌, if◌then◌else◌, is_some, map, slice_get, slice_index, slice_set}
-use Rattle.shm_place.specs.declared.page.PageId.{PageId}
+use Rattle.shm_place.specs.declared.page_id.PageId.{PageId}
 use Rattle.shm_place.specs.Limits.{page_bytes}
 use Rattle.shm_place.specs.Page.{same_page}
 use Rattle.shm_model.specs.declared.answer.Answer.{Answer}
 use Rattle.shm_model.specs.declared.answer.Answer.TheVariants.{Byte, Stored}
 use Rattle.shm_model.specs.declared.event.Event.{Event}
 use Rattle.shm_model.specs.declared.event.Event.TheVariants.{Load as LoadEvent, Store as StoreEvent}
-use Rattle.shm_model.specs.declared.kind.Kind.{Kind}
+use Rattle.shm_model.specs.declared.request_kind.Kind.{Kind}
 use Rattle.shm_model.specs.Access.{Place, right}
 use Rattle.shm_model.specs.Basics.{at}
 use Rattle.shm_model.specs.Book.{is_write}

@@ -3,10 +3,10 @@
 -- (userfaultfd(2); Li and Hudak 1989, §3: the memory mapping manager sets the protection of each page by the site's access to it).
 use Rattle.std.specs.Prelude.{ℕ, Bool, List, ◌∷◌, Option, None, Some, not, if◌then◌else◌, filter}
 use Rattle.std.specs.List.{find, list_all}
-use Rattle.shm_place.specs.declared.page.PageId.{PageId}
+use Rattle.shm_place.specs.declared.page_id.PageId.{PageId}
 use Rattle.shm_place.specs.Page.{same_page}
-use Rattle.shm_model.specs.declared.kind.Kind.{Kind}
-use Rattle.shm_model.specs.declared.kind.Kind.TheVariants.{Read, Write}
+use Rattle.shm_model.specs.declared.request_kind.Kind.{Kind}
+use Rattle.shm_model.specs.declared.request_kind.Kind.TheVariants.{Read, Write}
 use Rattle.shm_model.specs.Entry.{Entry, OwnWrite, readable, writable}
 use Rattle.shm_model.specs.Book.{is_write}
 use Rattle.shm_model.specs.Site.{Site}

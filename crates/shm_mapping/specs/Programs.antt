@@ -6,9 +6,9 @@
 -- The premise is in the events: a machine's memory is touched only at pages that are mapped so, and giving a mapping up brings what stands
 -- there. An access of several bytes is so many accesses with nothing between, and so is one that reads and writes at once.
 use Rattle.std.specs.Prelude.{◌≡◌, ◌≢◌, ℕ, List, [], ◌∷◌, None, Some, IsTrue, slice_get, suc}
-use Rattle.shm_place.specs.declared.page.PageId.{PageId}
+use Rattle.shm_place.specs.declared.page_id.PageId.{PageId}
 use Rattle.shm_model.specs.declared.event.Event.{Event}
-use Rattle.shm_model.specs.declared.kind.Kind.TheVariants.{Write}
+use Rattle.shm_model.specs.declared.request_kind.Kind.TheVariants.{Write}
 use Rattle.shm_model.specs.Entry.{bytes}
 use Rattle.shm_model.specs.Site.{Site}
 use Rattle.shm_model.specs.World.{Opening, World, run}

@@ -3,17 +3,17 @@
 use Rattle.std.specs.Prelude.{◌≡◌, ℕ, Bool, true, ◌&&◌, List, [], ◌∷◌, None, ◌==◌, if◌then◌else◌}
 use Rattle.std.specs.List.{flat_map, list_all}
 use Rattle.shm_place.specs.Page.{same_page}
-use Rattle.shm_model.specs.declared.kind.Kind.{Kind}
-use Rattle.shm_model.specs.declared.kind.Kind.TheVariants.{Read, Write}
+use Rattle.shm_model.specs.declared.request_kind.Kind.{Kind}
+use Rattle.shm_model.specs.declared.request_kind.Kind.TheVariants.{Read, Write}
 use Rattle.shm_model.specs.Entry.{Note, Clear, Hand}
 use Rattle.shm_model.specs.Message.{Deliver, Envelope, Message, Of}
 use Rattle.shm_model.specs.Site.{Site, is_attached}
 use Rattle.shm_model.specs.Step.{step}
 use Rattle.shm_mapping.specs.Mapped.{Mapped, allows}
-use Rattle.shm_mapping.specs.declared.verdict.Brought.{Brought}
-use Rattle.shm_mapping.specs.declared.verdict.Brought.TheVariants as brings
-use Rattle.shm_mapping.specs.declared.verdict.Verdict.{Verdict}
-use Rattle.shm_mapping.specs.declared.verdict.Verdict.TheVariants.{Take, UnmapToRead, Unmap}
+use Rattle.shm_mapping.specs.declared.envelope_verdict.Brought.{Brought}
+use Rattle.shm_mapping.specs.declared.envelope_verdict.Brought.TheVariants as brings
+use Rattle.shm_mapping.specs.declared.envelope_verdict.Verdict.{Verdict}
+use Rattle.shm_mapping.specs.declared.envelope_verdict.Verdict.TheVariants.{Take, UnmapToRead, Unmap}
 
 abbrev pub brought : ℕ → Note → Brought
 brought me (Clear n) = brings.Clear

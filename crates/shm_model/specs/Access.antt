@@ -2,13 +2,13 @@
 -- is asked (Li and Hudak 1989, §3.2: a read fault or a write fault).
 use Rattle.std.specs.Prelude.{ℕ, Bool, true, false, List, [], ◌∷◌, Option, Some, None, Result, Ok, Err, ◌+◌, ◌&&◌, ◌||◌, not, ◌==◌, nat_lt, if◌then◌else◌, slice_index, slice_set}
 use Rattle.std.specs.List.{find}
-use Rattle.shm_place.specs.declared.page.PageId.{PageId}
+use Rattle.shm_place.specs.declared.page_id.PageId.{PageId}
 use Rattle.shm_place.specs.Offset.{index_of, within_of, rounded}
 use Rattle.shm_place.specs.Page.{manager_of, same_page}
 use Rattle.shm_model.specs.declared.answer.Answer.{Answer}
 use Rattle.shm_model.specs.declared.answer.Answer.TheVariants.{Byte, Stored, Fault, Waiting, Refused, Dropped}
-use Rattle.shm_model.specs.declared.kind.Kind.{Kind}
-use Rattle.shm_model.specs.declared.kind.Kind.TheVariants.{Read, Write}
+use Rattle.shm_model.specs.declared.request_kind.Kind.{Kind}
+use Rattle.shm_model.specs.declared.request_kind.Kind.TheVariants.{Read, Write}
 use Rattle.shm_model.specs.Entry.{Entry, OwnWrite, Ask, bytes, readable, writable}
 use Rattle.shm_model.specs.Book.{is_write}
 use Rattle.shm_model.specs.Basics.{at_page, greatest}

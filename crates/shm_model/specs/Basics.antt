@@ -1,6 +1,6 @@
 -- What several files of the definitions share: the limits of numbers, and a function with one value changed.
 use Rattle.std.specs.Prelude.{ℕ, ◌==◌, if◌then◌else◌}
-use Rattle.shm_place.specs.declared.page.PageId.{PageId}
+use Rattle.shm_place.specs.declared.page_id.PageId.{PageId}
 use Rattle.shm_place.specs.Page.{same_page}
 
 -- the greatest number of a request, a call or a transaction: 2^64 - 1

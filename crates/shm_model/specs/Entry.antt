@@ -2,8 +2,8 @@
 -- Li and Hudak 1989, §3: a site has nil, read or write access to a page; one site owns it; whoever is to write has all
 -- copies invalidated first. Numbers tell late and repeated messages apart: an entry has met the transactions up to `seen`.
 use Rattle.std.specs.Prelude.{ℕ, Bool, true, false, List, [], ◌&&◌, not, nat_lt, nat_le, ◌==◌, if◌then◌else◌}
-use Rattle.shm_model.specs.declared.kind.Kind.{Kind}
-use Rattle.shm_model.specs.declared.kind.Kind.TheVariants.{Read, Write}
+use Rattle.shm_model.specs.declared.request_kind.Kind.{Kind}
+use Rattle.shm_model.specs.declared.request_kind.Kind.TheVariants.{Read, Write}
 
 -- the number met last, and the bytes where there are any; a page that was handed over keeps them for its receiver
 pub data Entry : Type 0 where

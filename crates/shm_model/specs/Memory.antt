@@ -2,7 +2,7 @@
 -- place. It is read off the account alone, which is a list of what was asked and answered, the newest first; it knows of no copies,
 -- owners or messages. An attachment names a segment as shmop(2) says.
 use Rattle.std.specs.Prelude.{◌≡◌, ◌≢◌, ℕ, ◌<◌, Bool, false, List, [], ◌∷◌, Option, Some, None, ◌&&◌, ◌==◌, if◌then◌else◌, IsTrue, slice_get, slice_index}
-use Rattle.shm_place.specs.declared.page.PageId.{PageId}
+use Rattle.shm_place.specs.declared.page_id.PageId.{PageId}
 use Rattle.shm_place.specs.Limits.{page_bytes}
 use Rattle.shm_place.specs.Page.{in_limits}
 use Rattle.shm_model.specs.declared.answer.Answer.{Answer}

@@ -1,6 +1,6 @@
 -- What sites send one another, and what is handed to a site.
 use Rattle.std.specs.Prelude.{ℕ}
-use Rattle.shm_place.specs.declared.page.PageId.{PageId}
+use Rattle.shm_place.specs.declared.page_id.PageId.{PageId}
 use Rattle.shm_model.specs.Entry.{Note}
 use Rattle.shm_model.specs.declared.call.Op.{Op}
 use Rattle.shm_model.specs.declared.call.Reply.{Reply}

@@ -2,8 +2,8 @@
 use Rattle.std.specs.Prelude.{◌≡◌, ℕ, ◌<◌, Bool, false, ◌&&◌, List, Option, Some, None, ◌==◌, option_map, slice_get}
 use Rattle.std.specs.List.{All, AllPairs, flat_map}
 use Rattle.shm_model.specs.declared.answer.Answer.{Answer}
-use Rattle.shm_model.specs.declared.asked.Asked.{Asked}
-use Rattle.shm_model.specs.declared.asked.Asked.TheVariants as code
+use Rattle.shm_model.specs.declared.asked_access.Asked.{Asked}
+use Rattle.shm_model.specs.declared.asked_access.Asked.TheVariants as code
 use Rattle.shm_model.specs.Message.{Input, Load, Store}
 use Rattle.shm_model.specs.Log.{Logged, log_of}
 

@@ -1,7 +1,7 @@
 -- Segment calls at the site that begins them and at their home, and the purge of what is destroyed.
 use Rattle.std.specs.Prelude.{ℕ, true, false, List, [], ◌∷◌, Option, Some, None, ◌+◌, ◌&&◌, not, ◌==◌, nat_lt, if◌then◌else◌, is_none, is_some, map, filter}
 use Rattle.std.specs.List.{range_with_len}
-use Rattle.shm_place.specs.declared.page.PageId.{PageId}
+use Rattle.shm_place.specs.declared.page_id.PageId.{PageId}
 use Rattle.shm_place.specs.Home.{home_of_id}
 use Rattle.shm_model.specs.declared.answer.Answer.TheVariants.{Began, Replied, Took, Refused}
 use Rattle.shm_model.specs.declared.call.Op.{Op}

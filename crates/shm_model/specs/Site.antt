@@ -1,12 +1,12 @@
 -- A site: what it keeps over a restart, and what a restart takes from it; and what a step of it is.
 use Rattle.std.specs.Prelude.{ℕ, Bool, false, List, [], Option, Some, None, ◌==◌, if◌then◌else◌, is_none, replicate}
 use Rattle.std.specs.List.{find, list_any, range_with_len}
-use Rattle.shm_place.specs.declared.page.PageId.{PageId}
+use Rattle.shm_place.specs.declared.page_id.PageId.{PageId}
 use Rattle.shm_place.specs.Limits.{page_bytes}
 use Rattle.shm_place.specs.Page.{manager_of}
 use Rattle.shm_model.specs.declared.answer.Answer.{Answer}
 use Rattle.shm_model.specs.declared.answer.Answer.TheVariants.{Dropped}
-use Rattle.shm_model.specs.declared.kind.Kind.{Kind}
+use Rattle.shm_model.specs.declared.request_kind.Kind.{Kind}
 use Rattle.shm_model.specs.Entry.{Entry, Nil, OwnWrite}
 use Rattle.shm_model.specs.Book.{Book, untouched_book}
 use Rattle.shm_model.specs.Permission.{Segment}

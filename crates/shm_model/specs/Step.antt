@@ -1,7 +1,7 @@
 -- One step of a site: one case for each input.
 use Rattle.std.specs.Prelude.{ℕ, Bool, true, false, List, [], ◌∷◌, ◌++◌, Option, Some, None, ◌*◌, ◌&&◌, ◌||◌, not, ◌==◌, nat_lt, if◌then◌else◌, map, filter}
 use Rattle.std.specs.List.{flat_map, range_with_len}
-use Rattle.shm_place.specs.declared.page.PageId.{PageId}
+use Rattle.shm_place.specs.declared.page_id.PageId.{PageId}
 use Rattle.shm_place.specs.Home.{home_of_id}
 use Rattle.shm_place.specs.Limits.{segments_of_a_home}
 use Rattle.shm_place.specs.Page.{in_limits, manager_of}

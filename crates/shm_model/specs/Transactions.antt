@@ -2,11 +2,11 @@
 -- before a write, and what may be read or installed is what was stored last. A site that purged the page's segment has no part in it any
 -- more.
 use Rattle.std.specs.Prelude.{◌≡◌, ◌≢◌, ℕ, ◌+◌, ◌*◌, ◌<◌, ◌≤◌, ◌⊎◌, false, List, Some, IsTrue, Contains, slice_get, slice_index}
-use Rattle.shm_place.specs.declared.page.PageId.{PageId}
+use Rattle.shm_place.specs.declared.page_id.PageId.{PageId}
 use Rattle.shm_place.specs.Limits.{page_bytes}
 use Rattle.shm_place.specs.Page.{manager_of}
-use Rattle.shm_model.specs.declared.kind.Kind.{Kind}
-use Rattle.shm_model.specs.declared.kind.Kind.TheVariants.{Write}
+use Rattle.shm_model.specs.declared.request_kind.Kind.{Kind}
+use Rattle.shm_model.specs.declared.request_kind.Kind.TheVariants.{Write}
 use Rattle.shm_model.specs.Entry.{Note, Clear, Hand, Page, Handed, bytes, readable, seen}
 use Rattle.shm_model.specs.Book.{Book, Running}
 use Rattle.shm_model.specs.Message.{Envelope, Of}

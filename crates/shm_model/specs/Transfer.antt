@@ -2,7 +2,7 @@
 -- A site that purged the page's segment drops them all.
 use Rattle.std.specs.Prelude.{ℕ, Bool, true, false, List, [], ◌∷◌, ◌++◌, Option, Some, None, ◌&&◌, ◌||◌, not, nat_lt, if◌then◌else◌, length, map, filter}
 use Rattle.std.specs.List.{list_any}
-use Rattle.shm_place.specs.declared.page.PageId.{PageId}
+use Rattle.shm_place.specs.declared.page_id.PageId.{PageId}
 use Rattle.shm_place.specs.Page.{manager_of, same_page}
 use Rattle.shm_model.specs.declared.answer.Answer.TheVariants.{Took, Refused}
 use Rattle.shm_model.specs.Entry.{Entry, Note, Ask, Clear, Cleared, Hand, Page, Confirm, Out, Nothing, ToManager, ToSite, forget, is_copy, on_clear, on_hand, on_page, readable, seen, writable}

@@ -1,4 +1,4 @@
-use crate::mode::{GetFlags, Mode};
+use crate::mode_and_get_flags::{GetFlags, Mode};
 use shm_place::{Key, SegId};
 
 /// The caller: a user and its one group. No user is privileged.

@@ -3,21 +3,21 @@
 #![tactic(auto)]
 
 mod answer;
-mod asked;
+mod asked_access;
 mod call;
 mod event;
-mod kind;
 mod limits;
-mod mode;
-mod opening;
+mod mode_and_get_flags;
 pub mod refusal;
+mod request_kind;
+mod world_opening;
 
 pub use answer::{Access, Answer, Shown, State};
-pub use asked::Asked;
+pub use asked_access::Asked;
 pub use call::{Attached, Cred, Errno, Op, Reply, Request, Stat};
 pub use event::Event;
-pub use kind::Kind;
 pub use limits::MAX_SENT;
-pub use mode::{GetFlags, Mode, Permissions};
-pub use opening::Opening;
+pub use mode_and_get_flags::{GetFlags, Mode, Permissions};
 pub use refusal::Numbered;
+pub use request_kind::Kind;
+pub use world_opening::Opening;

@@ -1,7 +1,7 @@
 -- The last number and reply of each of 16 sites, in the order of the sites, and what they say of a call that comes in.
 use Rattle.std.specs.Prelude.{ℕ, List, Option, Some, None, nat_lt, slice_index_or, if◌then◌else◌, ◌==◌}
-use Rattle.shm_number.specs.declared.kept.Recall.{Recall}
-use Rattle.shm_number.specs.declared.kept.Recall.TheVariants as recall
+use Rattle.shm_number.specs.declared.kept_reply.Recall.{Recall}
+use Rattle.shm_number.specs.declared.kept_reply.Recall.TheVariants as recall
 
 -- what a number says of a call: that it is to be executed; that it is the last one again, which had this reply; that it is older
 pub data Verdict (R : Type 0) : Type 0 where

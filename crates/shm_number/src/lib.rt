@@ -2,11 +2,11 @@
 #![tactic(auto)]
 
 mod counter;
-mod kept;
+mod kept_reply;
 mod served;
 #[cfg(test)]
 mod tests;
 
 pub use counter::{Counter, Number, UsedUp};
-pub use kept::{KeptReply, Recall};
+pub use kept_reply::{KeptReply, Recall};
 pub use served::Served;

@@ -1,9 +1,9 @@
 -- What a site sends when a message met its entry, as the definitions speak of it.
 use Rattle.std.specs.Prelude.{Bool, true, false}
 use Rattle.shm_model.specs.Entry as model
-use Rattle.shm_model.specs.declared.kind.Kind.TheVariants as kind
-use Rattle.shm_page.specs.declared.out.Out.{Out}
-use Rattle.shm_page.specs.declared.out.Out.TheVariants.{Nothing, Cleared, Confirm, Read, Write}
+use Rattle.shm_model.specs.declared.request_kind.Kind.TheVariants as kind
+use Rattle.shm_page.specs.declared.outgoing_message.Out.{Out}
+use Rattle.shm_page.specs.declared.outgoing_message.Out.TheVariants.{Nothing, Cleared, Confirm, Read, Write}
 
 abbrev pub out_of : {A : Type 0} → Out A → model.Out
 out_of Nothing = model.Nothing

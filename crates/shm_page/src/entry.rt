@@ -2,11 +2,11 @@ ghost use Rattle.std.specs.Prelude.{◌≡◌, IsTrue, IfOk};
 ghost use Rattle.shm_model.specs.Site.{blank};
 ghost use Rattle.shm_page.specs.State.{nil_of, page_of};
 
-use crate::copy::CopyPage;
-use crate::handed::HandedPage;
-use crate::nil::NilPage;
-use crate::own_read::OwnReadPage;
-use crate::own_write::OwnWritePage;
+use crate::copy_page::CopyPage;
+use crate::handed_page::HandedPage;
+use crate::nil_page::NilPage;
+use crate::own_read_page::OwnReadPage;
+use crate::own_write_page::OwnWritePage;
 use std::alloc::{AllocError, Allocator, Global};
 
 /// One page at one site.

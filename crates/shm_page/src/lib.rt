@@ -8,31 +8,31 @@
 //! `on_hand_write`, `on_page_read` and `on_page_write`.
 #![tactic(auto)]
 
-mod copy;
+mod copy_page;
 mod entry;
-mod handed;
-mod nil;
+mod handed_page;
+mod lent_copy;
+mod nil_page;
 mod on_clear;
 mod on_hand_read;
 mod on_hand_write;
 mod on_page_read;
 mod on_page_write;
-mod out;
-mod own_read;
-mod own_write;
-mod read_grant;
-mod sharing;
+mod outgoing_message;
+mod own_read_page;
+mod own_write_page;
+mod share_bytes;
 
-pub use copy::CopyPage;
+pub use copy_page::CopyPage;
 pub use entry::Entry;
-pub use handed::{HandedPage, WriteGrant};
-pub use nil::NilPage;
+pub use handed_page::{HandedPage, WriteGrant};
+pub use lent_copy::ReadGrant;
+pub use nil_page::NilPage;
 pub use on_clear::clear;
 pub use on_hand_read::lend_to;
 pub use on_hand_write::hand_to;
 pub use on_page_read::take_copy;
 pub use on_page_write::take_ownership;
-pub use out::Out;
-pub use own_read::OwnReadPage;
-pub use own_write::OwnWritePage;
-pub use read_grant::ReadGrant;
+pub use outgoing_message::Out;
+pub use own_read_page::OwnReadPage;
+pub use own_write_page::OwnWritePage;

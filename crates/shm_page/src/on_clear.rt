@@ -4,7 +4,7 @@ ghost use Rattle.shm_page.specs.Entry.{entry_of};
 ghost use Rattle.shm_page.specs.Out.{out_of};
 
 use crate::entry::Entry;
-use crate::out::Out;
+use crate::outgoing_message::Out;
 use std::alloc::Allocator;
 
 /// The manager told the site to give its copy up, because another site is to write. A site that has met the number answers again.

@@ -1,14 +1,14 @@
 ghost use Rattle.std.specs.Prelude.{◌≡◌, ◌≤◌, IfOk, IfErr, IsErr, IsTrue};
 ghost use Rattle.shm_model.specs.Entry as model;
-ghost use Rattle.shm_model.specs.declared.kind.Kind.TheVariants as kind;
+ghost use Rattle.shm_model.specs.declared.request_kind.Kind.TheVariants as kind;
 ghost use Rattle.shm_page.specs.Entry.{entry_of};
 ghost use Rattle.shm_page.specs.Out.{out_of, carries_bytes};
 
 use crate::entry::Entry;
-use crate::handed::HandedPage;
-use crate::out::Out;
-use crate::own_read::OwnReadPage;
-use crate::own_write::OwnWritePage;
+use crate::handed_page::HandedPage;
+use crate::outgoing_message::Out;
+use crate::own_read_page::OwnReadPage;
+use crate::own_write_page::OwnWritePage;
 use shm_place::SiteId;
 use std::alloc::{AllocError, Allocator};
 

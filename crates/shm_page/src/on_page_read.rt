@@ -1,12 +1,12 @@
 ghost use Rattle.std.specs.Prelude.{◌≡◌};
 ghost use Rattle.shm_model.specs.Entry as model;
-ghost use Rattle.shm_model.specs.declared.kind.Kind.TheVariants as kind;
+ghost use Rattle.shm_model.specs.declared.request_kind.Kind.TheVariants as kind;
 ghost use Rattle.shm_page.specs.Entry.{entry_of};
 ghost use Rattle.shm_page.specs.Out.{out_of};
 
 use crate::entry::Entry;
-use crate::out::Out;
-use crate::read_grant::ReadGrant;
+use crate::lent_copy::ReadGrant;
+use crate::outgoing_message::Out;
 use std::alloc::Allocator;
 
 /// A lent copy came. A copy that came before is confirmed again and never installed again; an owner needs none.

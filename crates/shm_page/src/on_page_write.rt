@@ -1,12 +1,12 @@
 ghost use Rattle.std.specs.Prelude.{◌≡◌, ◌<◌, IfOk, IfErr, IsErr, false};
 ghost use Rattle.shm_model.specs.Entry as model;
-ghost use Rattle.shm_model.specs.declared.kind.Kind.TheVariants as kind;
+ghost use Rattle.shm_model.specs.declared.request_kind.Kind.TheVariants as kind;
 ghost use Rattle.shm_page.specs.Entry.{entry_of};
 ghost use Rattle.shm_page.specs.Out.{out_of};
 
 use crate::entry::Entry;
-use crate::handed::WriteGrant;
-use crate::out::Out;
+use crate::handed_page::WriteGrant;
+use crate::outgoing_message::Out;
 use std::alloc::{AllocError, Allocator};
 
 /// The page came, and this site is to write it. A page that came before is confirmed again and never installed again,

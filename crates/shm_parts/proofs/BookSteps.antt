@@ -6,9 +6,9 @@ use Rattle.std.proofs.lemmas.Bool.Decides.{nat_tests}
 use Rattle.std.specs.List.{AllZip, list_any}
 use Rattle.std.specs.Map.{keys_of, lookup, values_of}
 use Rattle.indexmap.specs.IndexMap.{set_value_at}
-use Rattle.shm_place.specs.declared.page.PageId.{PageId}
+use Rattle.shm_place.specs.declared.page_id.PageId.{PageId}
 use Rattle.shm_place.specs.Page.{same_page}
-use Rattle.shm_model.specs.declared.kind.Kind.{Kind}
+use Rattle.shm_model.specs.declared.request_kind.Kind.{Kind}
 use Rattle.shm_model.specs.Book as model
 use Rattle.shm_model.specs.Basics.{at_page}
 use Rattle.shm_model.specs.Site.{Site, Step, dropped, still}
@@ -16,12 +16,12 @@ use Rattle.shm_model.specs.Transfer.{booked_with, to_book, order_envelope}
 use Rattle.shm_model.specs.declared.answer.Answer.TheVariants.{Took, Refused}
 use Rattle.shm_model.specs.Refusal.{numbers_used_up}
 use Rattle.shm_manager.specs.Book.{book_of, due_of, starts}
-use Rattle.shm_manager.specs.declared.due.Due.{Due}
+use Rattle.shm_manager.specs.declared.request_decision.Due.{Due}
 use Rattle.shm_manager.specs.declared.book.Book.{Book}
-use Rattle.shm_parts.specs.declared.outcome.Outcome.{Outcome}
-use Rattle.shm_parts.specs.declared.outcome.Outcome.TheVariants as outcome
+use Rattle.shm_parts.specs.declared.book_outcome.Outcome.{Outcome}
+use Rattle.shm_parts.specs.declared.book_outcome.Outcome.TheVariants as outcome
 use Rattle.shm_manager.specs.Orders.{orders_of}
-use Rattle.shm_manager.specs.declared.orders.Orders.{Orders}
+use Rattle.shm_manager.specs.declared.manager_messages.Orders.{Orders}
 use Rattle.shm_manager.proofs.Members.{orders-few}
 use Rattle.shm_parts.specs.Books.{HasRoom, IsSettled, book_or, booked_step, given_by, viewed}
 

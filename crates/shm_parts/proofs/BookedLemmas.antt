@@ -4,7 +4,7 @@ use Rattle.std.proofs.Math.Path.{fun_ext}
 use Rattle.std.proofs.lemmas.Bool.{false≢true, true≢false}
 use Rattle.std.specs.List.{list_any}
 use Rattle.std.specs.Map.{keys_of, lookup}
-use Rattle.shm_place.specs.declared.page.PageId.{PageId}
+use Rattle.shm_place.specs.declared.page_id.PageId.{PageId}
 use Rattle.shm_place.specs.Page.{same_page}
 use Rattle.shm_manager.specs.Book.{book_of}
 use Rattle.shm_manager.specs.declared.book.Book.{Book}
@@ -16,7 +16,7 @@ use Rattle.shm_parts.specs.Bookings.{is_listed, is_marked, listed_of}
 use Rattle.shm_parts.specs.Books.{viewed}
 use Rattle.shm_parts.specs.Ends.{is_past}
 use Rattle.shm_parts.specs.Places.{in_order, place_of}
-use Rattle.shm_parts.specs.declared.bookings.Bookings.{Bookings}
+use Rattle.shm_parts.specs.declared.pages_with_books.Bookings.{Bookings}
 use Rattle.shm_parts.proofs.BookSteps.{as_books, forgotten_books, forgotten_keys, list_any-keys, page-same, same_books, same_keys}
 use Rattle.shm_parts.proofs.GoneLemmas.{gone_below, gone-more, gone-none, gone-past}
 use Rattle.shm_parts.proofs.ListLemmas.{all-map, all-values, filter-agree, filter-twice}

@@ -10,14 +10,14 @@ use Rattle.std.specs.Map.{keys_of}
 use Rattle.std.specs.Option.{option_map}
 use Rattle.indexmap.proofs.CallerLemmas.{updates-with_value_at}
 use Rattle.indexmap.specs.IndexMap.{IsUnique, with_value_at}
-use Rattle.shm_place.specs.declared.page.PageId.{PageId}
+use Rattle.shm_place.specs.declared.page_id.PageId.{PageId}
 use Rattle.shm_place.specs.Page.{same_page}
 use Rattle.shm_model.specs.Entry as model
 use Rattle.shm_model.specs.Basics.{at_page}
 use Rattle.shm_page.specs.Entry.{entry_of}
 use Rattle.shm_page.specs.declared.entry.Entry.{Entry}
 use Rattle.shm_parts.specs.Entries.{StandsAt, entries_of, entry_or, is_stored, stored_at}
-use Rattle.shm_parts.specs.declared.entries.Entries.{Entries}
+use Rattle.shm_parts.specs.declared.page_entries.Entries.{Entries}
 
 -- pages with the same segment and index are the same
 pub page-same : (p q : PageId) → same_page p q ≡ true → p ≡ q

@@ -3,14 +3,14 @@ use Rattle.std.proofs.Common.{◌≡◌, ℕ, Bool, true, false, cond, not, ◌|
 use Rattle.std.specs.List.{list_any}
 use Rattle.std.proofs.lemmas.Bool.{and_from, eq-eqb, or_right}
 use Rattle.std.proofs.lemmas.Option.{same_Some, none-some}
-use Rattle.shm_place.specs.declared.page.PageId.{PageId}
+use Rattle.shm_place.specs.declared.page_id.PageId.{PageId}
 use Rattle.shm_place.specs.Page.{same_page}
 use Rattle.shm_model.specs.Entry.{forget}
 use Rattle.shm_model.specs.Basics.{at_page}
 use Rattle.shm_model.specs.Site as model
 use Rattle.shm_model.specs.SegmentCalls.{without_segment}
 use Rattle.shm_model.specs.Transfer.{drop_first, limited, without_page}
-use Rattle.shm_parts.specs.declared.change.Change.{Change}
+use Rattle.shm_parts.specs.declared.entry_change.Change.{Change}
 use Rattle.shm_parts.specs.Frames.{arranged_by, first_out, overflowed}
 
 -- the page is one of the list

@@ -3,14 +3,14 @@ use Rattle.std.proofs.Common.{◌≡◌, ℕ, Bool, true, false, cond, not, ◌&
 use Rattle.std.specs.Map.{keys_of, lookup}
 use Rattle.std.proofs.lemmas.Bool.{true≢false}
 use Rattle.indexmap.specs.IndexMap.{insert_entry}
-use Rattle.shm_place.specs.declared.page.PageId.{PageId}
+use Rattle.shm_place.specs.declared.page_id.PageId.{PageId}
 use Rattle.shm_place.specs.Page.{same_page}
 use Rattle.shm_model.specs.SegmentCalls.{without_segment}
 use Rattle.shm_model.specs.Site as model
 use Rattle.shm_model.specs.Transfer.{without_page}
 use Rattle.shm_parts.specs.Frames.{IsFor, arranged_by, counted, installs}
 use Rattle.shm_parts.specs.OrderedPages.{without, without_pages_of}
-use Rattle.shm_parts.specs.declared.change.Change.{Change}
+use Rattle.shm_parts.specs.declared.entry_change.Change.{Change}
 use Rattle.shm_parts.proofs.EntryLemmas.{same-page}
 use Rattle.shm_parts.proofs.OrderedPagesLemmas.{filter-both, insert-new}
 

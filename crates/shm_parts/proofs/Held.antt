@@ -2,9 +2,9 @@
 use Rattle.std.proofs.Common.{◌≡◌, ◌∙◌, ℕ, Bool, true, false, ◌==◌, cond, if◌then◌else◌, Option, refl, ap, subst, sym}
 use Rattle.std.proofs.Math.Path.{fun_ext}
 use Rattle.std.proofs.lemmas.Bool.{cond-false, cond-true, true≢false, false≢true}
-use Rattle.shm_place.specs.declared.page.PageId.{PageId}
+use Rattle.shm_place.specs.declared.page_id.PageId.{PageId}
 use Rattle.shm_place.specs.Page.{same_page}
-use Rattle.shm_model.specs.declared.kind.Kind.TheVariants.{Write}
+use Rattle.shm_model.specs.declared.request_kind.Kind.TheVariants.{Write}
 use Rattle.shm_model.specs.declared.answer.Answer.TheVariants.{Stored}
 use Rattle.shm_model.specs.Access.{ask_for, store_at, stored_entry}
 use Rattle.shm_model.specs.Site.{blank, still, Frames as ModelFrames, Site}

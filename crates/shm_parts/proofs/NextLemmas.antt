@@ -8,7 +8,7 @@ use Rattle.std.specs.BTreeMap.{is_at}
 use Rattle.std.specs.List.{AllByRecursion}
 use Rattle.std.specs.List.Sorted.{IsStrictlySortedBy}
 use Rattle.std.specs.Map.{keys_of, values_of}
-use Rattle.shm_place.specs.declared.page.PageId.{PageId}
+use Rattle.shm_place.specs.declared.page_id.PageId.{PageId}
 use Rattle.shm_parts.specs.Places.{IsPlaced, is_behind, is_marked_at, page_at, pages_after, place_of}
 use Rattle.shm_parts.proofs.ListLemmas.{all-filter, all-keys, all-map, all-values, filter-agree, filter-all}
 use Rattle.shm_parts.proofs.PlaceLemmas.{above, at-over, at-same, page_at-all}

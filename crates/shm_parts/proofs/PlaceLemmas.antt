@@ -10,7 +10,7 @@ use Rattle.std.specs.List.{AllByRecursion, list_any}
 use Rattle.std.specs.List.Sorted.{IsStrictlySortedBy}
 use Rattle.std.specs.Map.{keys_of, remove_entry, values_of}
 use Rattle.std.specs.Ordering.{match_ordering}
-use Rattle.shm_place.specs.declared.page.PageId.{PageId}
+use Rattle.shm_place.specs.declared.page_id.PageId.{PageId}
 use Rattle.shm_place.specs.Limits as limit
 use Rattle.shm_place.specs.Page.{same_page}
 use Rattle.shm_model.specs.Transfer.{without_page}

@@ -3,7 +3,7 @@ use Rattle.std.proofs.Common.{◌≡◌, ℕ, ◌<◌, ◌≤◌, true, List, le
 use Rattle.std.proofs.lemmas.Option.{none-some}
 use Rattle.std.specs.Map.{lookup}
 use Rattle.indexmap.specs.IndexMap.{insert_entry}
-use Rattle.shm_place.specs.declared.page.PageId.{PageId}
+use Rattle.shm_place.specs.declared.page_id.PageId.{PageId}
 use Rattle.shm_place.specs.Page.{same_page}
 use Rattle.shm_parts.specs.OrderedPages.{IsIndexed, is_found, place_in, standing}
 use Rattle.shm_parts.proofs.OrderedPagesLemmas.{insert-kept}

@@ -3,7 +3,7 @@ use Rattle.std.proofs.Common.{◌≡◌, ◌∙◌, ℕ, ◌*◌, ◌/◌, ◌<�
 use Rattle.std.proofs.lemmas.Bool.{true≢false, false≢true, not-true}
 use Rattle.std.proofs.lemmas.Option.{same_Some, none-some}
 use Rattle.std.specs.Option.{option_map}
-use Rattle.shm_place.specs.declared.page.PageId.{PageId}
+use Rattle.shm_place.specs.declared.page_id.PageId.{PageId}
 use Rattle.shm_place.specs.Limits.{page_bytes}
 use Rattle.shm_place.specs.Offset.{rounded}
 use Rattle.shm_place.specs.Page.{same_page}
@@ -17,10 +17,10 @@ use Rattle.shm_parts.specs.Frames.{arranged_by}
 use Rattle.shm_parts.specs.Holdings.{arranged_frames, framed, held_frames}
 use Rattle.shm_parts.specs.Purged.{purged_of}
 use Rattle.shm_parts.specs.Reach.{IsReached, copies_of, manages}
-use Rattle.shm_parts.specs.declared.change.Change.{Change}
-use Rattle.shm_parts.specs.declared.entries.Entries.{Entries}
-use Rattle.shm_parts.specs.declared.frames.Frames.{Frames}
-use Rattle.shm_parts.specs.declared.purged.Purged.{Purged}
+use Rattle.shm_parts.specs.declared.entry_change.Change.{Change}
+use Rattle.shm_parts.specs.declared.page_entries.Entries.{Entries}
+use Rattle.shm_parts.specs.declared.frame_order.Frames.{Frames}
+use Rattle.shm_parts.specs.declared.purged_segments.Purged.{Purged}
 use Rattle.shm_parts.proofs.FrameLemmas.{among, among-arranged_by, among-overflowed, among-without_segment, overflowed-among}
 use Rattle.shm_parts.proofs.EntryLemmas.{page-same}
 

@@ -3,13 +3,13 @@ use Rattle.std.proofs.Common.{◌≡◌, ℕ, suc, ◌+◌, Bool, not, true, fal
 use Rattle.std.specs.List.{position_or_len}
 use Rattle.std.specs.Map.{keys_of, lookup}
 use Rattle.indexmap.specs.IndexMap.{insert_entry}
-use Rattle.shm_place.specs.declared.page.PageId.{PageId}
+use Rattle.shm_place.specs.declared.page_id.PageId.{PageId}
 use Rattle.shm_place.specs.Page.{same_page}
 use Rattle.shm_model.specs.Entry as model
 use Rattle.shm_page.specs.Entry.{entry_of}
 use Rattle.shm_page.specs.declared.entry.Entry.{Entry}
 use Rattle.shm_parts.specs.Entries.{entries_of, entry_or, is_stored, stored_at}
-use Rattle.shm_parts.specs.declared.entries.Entries.{Entries}
+use Rattle.shm_parts.specs.declared.page_entries.Entries.{Entries}
 use Rattle.shm_parts.proofs.EntryLemmas.{entries-ensured, page-same}
 use Rattle.shm_parts.proofs.OrderedPagesLemmas.{insert-kept}
 

@@ -2,10 +2,10 @@
 use Rattle.std.proofs.Common.{◌≡◌, ◌∙◌, ℕ, Bool, true, false, not, ◌&&◌, nat_lt, nat_le, ◌==◌, cond, if◌then◌else◌, List, [], ◌∷◌, Option, Some, None, Result, Ok, Err, length, refl, ap, sym}
 use Rattle.std.proofs.lemmas.Bool.{false≢true, cond-false, cond-true, cond_both}
 use Rattle.std.specs.Result.{IfOk, OnErr}
-use Rattle.shm_place.specs.declared.page.PageId.{PageId}
+use Rattle.shm_place.specs.declared.page_id.PageId.{PageId}
 use Rattle.shm_model.specs.declared.answer.Answer.TheVariants.{Took}
-use Rattle.shm_model.specs.declared.kind.Kind.{Kind}
-use Rattle.shm_model.specs.declared.kind.Kind.TheVariants.{Read, Write}
+use Rattle.shm_model.specs.declared.request_kind.Kind.{Kind}
+use Rattle.shm_model.specs.declared.request_kind.Kind.TheVariants.{Read, Write}
 use Rattle.shm_model.specs.Basics.{at_page}
 use Rattle.shm_model.specs.Site.{dropped, Frames as ModelFrames, Site}
 use Rattle.shm_model.specs.Calls.{Attachment}
@@ -16,7 +16,7 @@ use Rattle.shm_parts.specs.Frames.{arranged_by, first_out}
 use Rattle.shm_parts.specs.Holdings.{arranged_frames, given_up, held_entries, rearranged, turned_step, with_frames, with_holdings}
 use Rattle.shm_model.specs.Message.{Envelope as ModelEnvelope}
 use Rattle.shm_parts.specs.Message.{envelope_of}
-use Rattle.shm_parts.specs.declared.change.Change.{Change}
+use Rattle.shm_parts.specs.declared.entry_change.Change.{Change}
 use Rattle.shm_parts.specs.declared.holdings.Holdings.{Holdings}
 use Rattle.shm_parts.specs.declared.message.Envelope.{Envelope}
 use Rattle.shm_parts.proofs.Held.{Pages, at_same, here_alive, masked, masked_at, seated, site_of}

@@ -1,13 +1,13 @@
 -- What a manager's books keep true: the pages that are listed are those with a book, and those whose book runs are marked.
 use Rattle.std.specs.Prelude.{◌≡◌, Bool, true, List, Option, Some, None, is_some}
 use Rattle.std.specs.Map.{lookup}
-use Rattle.shm_place.specs.declared.page.PageId.{PageId}
+use Rattle.shm_place.specs.declared.page_id.PageId.{PageId}
 use Rattle.shm_place.specs.Page.{same_page}
 use Rattle.shm_model.specs.Book as model
 use Rattle.shm_manager.specs.Book.{book_of}
 use Rattle.shm_manager.specs.declared.book.Book.{Book}
 use Rattle.shm_parts.specs.Bookings.{is_listed, is_marked}
-use Rattle.shm_parts.specs.declared.bookings.Bookings.{Bookings}
+use Rattle.shm_parts.specs.declared.pages_with_books.Bookings.{Bookings}
 
 abbrev pub book_or : {A : Type 0} → model.Book → Option (Book A) → model.Book
 book_or rest None = rest

@@ -2,8 +2,8 @@
 use Rattle.std.specs.Prelude.{◌≡◌, ℕ, Bool, false, List, ◌∷◌, ◌++◌, Option, Some, is_some}
 use Rattle.std.specs.List.{AllByRecursion}
 use Rattle.std.specs.Map.{values_of}
-use Rattle.shm_place.specs.declared.page.PageId.{PageId}
-use Rattle.shm_parts.specs.declared.bookings.Bookings.{Bookings}
+use Rattle.shm_place.specs.declared.page_id.PageId.{PageId}
+use Rattle.shm_parts.specs.declared.pages_with_books.Bookings.{Bookings}
 use Rattle.shm_parts.specs.Places.{in_order, is_marked_at, pages_after, place_of}
 
 abbrev pub listed_of : {A : Type 0} → Bookings A → List PageId

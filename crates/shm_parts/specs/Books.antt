@@ -2,7 +2,7 @@
 use Rattle.std.specs.Prelude.{◌≡◌, ◌≤◌, ℕ, List, [], ◌∷◌, ◌++◌, Option, Some, None, length, map}
 use Rattle.std.specs.List.{AllByRecursion}
 use Rattle.std.specs.Map.{lookup}
-use Rattle.shm_place.specs.declared.page.PageId.{PageId}
+use Rattle.shm_place.specs.declared.page_id.PageId.{PageId}
 use Rattle.shm_place.specs.Page.{same_page}
 use Rattle.shm_model.specs.declared.answer.Answer.TheVariants.{Took, Refused}
 use Rattle.shm_model.specs.Site.{Step, dropped, still, Site}
@@ -15,8 +15,8 @@ use Rattle.shm_manager.specs.declared.book.Book.{Book}
 pub use Rattle.shm_parts.specs.Booked.{book_or}
 use Rattle.shm_parts.specs.Bookings.{listed_after, listed_of}
 use Rattle.shm_parts.specs.declared.books.Books.{Books}
-use Rattle.shm_parts.specs.declared.outcome.Outcome.{Outcome}
-use Rattle.shm_parts.specs.declared.outcome.Outcome.TheVariants as outcome
+use Rattle.shm_parts.specs.declared.book_outcome.Outcome.{Outcome}
+use Rattle.shm_parts.specs.declared.book_outcome.Outcome.TheVariants as outcome
 
 -- the entries of a map of books, as the definitions see the books
 abbrev pub viewed : {A : Type 0} → List (PageId × Book A) → List (PageId × model.Book)

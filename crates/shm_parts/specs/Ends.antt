@@ -1,6 +1,6 @@
 -- How far a map has pages of a segment.
 use Rattle.std.specs.Prelude.{ℕ, ◌==◌, ◌&&◌, Bool, nat_le, nat_lt}
-use Rattle.shm_place.specs.declared.page.PageId.{PageId}
+use Rattle.shm_place.specs.declared.page_id.PageId.{PageId}
 use Rattle.shm_place.specs.Limits as limit
 
 -- a page of the segment from an index on, as far as segments have pages

@@ -1,13 +1,13 @@
 -- The entries that a site has stored, as a function of the page; and what a message does to one of them.
 use Rattle.std.specs.Prelude.{◌≡◌, ℕ, Bool, Option, Some, None, is_some, nat_lt, slice_get}
 use Rattle.std.specs.Map.{keys_of, lookup}
-use Rattle.shm_place.specs.declared.page.PageId.{PageId}
+use Rattle.shm_place.specs.declared.page_id.PageId.{PageId}
 use Rattle.shm_place.specs.Page.{same_page}
 use Rattle.shm_model.specs.Entry as model
 use Rattle.shm_page.specs.Entry.{entry_of}
 use Rattle.shm_page.specs.declared.entry.Entry.{Entry}
-use Rattle.shm_parts.specs.declared.change.Change.{Change}
-use Rattle.shm_parts.specs.declared.entries.Entries.{Entries}
+use Rattle.shm_parts.specs.declared.entry_change.Change.{Change}
+use Rattle.shm_parts.specs.declared.page_entries.Entries.{Entries}
 
 abbrev pub entry_or : {A : Type 0} → model.Entry → Option (Entry A) → model.Entry
 entry_or rest None = rest

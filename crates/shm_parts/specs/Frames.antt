@@ -1,12 +1,12 @@
 -- Frames, as the definitions speak of them.
 use Rattle.std.specs.Prelude.{◌≡◌, Bool, true, ◌&&◌, List, [], ◌∷◌, ◌++◌, Option, Some, None, is_some, not, nat_lt, if◌then◌else◌, length, ⊤}
 use Rattle.std.specs.Map.{keys_of, lookup}
-use Rattle.shm_place.specs.declared.page.PageId.{PageId}
+use Rattle.shm_place.specs.declared.page_id.PageId.{PageId}
 use Rattle.shm_place.specs.Page.{same_page}
 use Rattle.shm_model.specs.Site as model
 use Rattle.shm_model.specs.Transfer.{without_page}
-use Rattle.shm_parts.specs.declared.change.Change.{Change}
-use Rattle.shm_parts.specs.declared.frames.Frames.{Frames}
+use Rattle.shm_parts.specs.declared.entry_change.Change.{Change}
+use Rattle.shm_parts.specs.declared.frame_order.Frames.{Frames}
 
 -- the pages that are copies, among which one may stand that is not, but for which room was made
 abbrev pub counted : Option PageId → List PageId → List PageId

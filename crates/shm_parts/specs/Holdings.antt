@@ -1,13 +1,13 @@
 -- What a site holds of pages, as the definitions speak of it; and what its calls mean to the site.
 use Rattle.std.specs.Prelude.{◌≡◌, ℕ, Bool, [], ◌∷◌, Option, Some, None, Result, Ok, Err, if◌then◌else◌, slice_index}
-use Rattle.shm_place.specs.declared.page.PageId.{PageId}
+use Rattle.shm_place.specs.declared.page_id.PageId.{PageId}
 use Rattle.shm_model.specs.declared.answer.Access.{Access}
 use Rattle.shm_model.specs.declared.answer.Access.TheVariants as access
 use Rattle.shm_model.specs.declared.answer.Answer.TheVariants.{Byte, Stored, Refused, Took}
 use Rattle.shm_model.specs.declared.answer.Shown.{Shown}
 use Rattle.shm_model.specs.declared.answer.State.{State}
 use Rattle.shm_model.specs.declared.answer.State.TheVariants as state
-use Rattle.shm_model.specs.declared.kind.Kind.TheVariants.{Read, Write}
+use Rattle.shm_model.specs.declared.request_kind.Kind.TheVariants.{Read, Write}
 use Rattle.shm_model.specs.Access.{ask_for}
 use Rattle.shm_model.specs.Basics.{at_page}
 use Rattle.shm_model.specs.Site.{Step, dropped, still, Frames as ModelFrames, Site, untouched}
@@ -15,19 +15,19 @@ use Rattle.shm_model.specs.Entry as model
 use Rattle.shm_model.specs.Transfer.{settle}
 use Rattle.shm_attach.specs.Attachments.{attachments_of}
 use Rattle.shm_attach.specs.Right.{denied_number}
-use Rattle.shm_attach.specs.declared.fault.Denied.{Denied}
+use Rattle.shm_attach.specs.declared.access_error.Denied.{Denied}
 use Rattle.shm_parts.specs.Entries.{entries_of}
 use Rattle.shm_parts.specs.Frames.{arranged_by, frames_of, overflowed}
 use Rattle.shm_parts.specs.Message.{envelope_of}
 use Rattle.shm_parts.specs.Purged.{purged_of}
-use Rattle.shm_parts.specs.declared.change.Change.{Change}
-use Rattle.shm_parts.specs.declared.frames.Frames.{Frames}
+use Rattle.shm_parts.specs.declared.entry_change.Change.{Change}
+use Rattle.shm_parts.specs.declared.frame_order.Frames.{Frames}
 use Rattle.shm_parts.specs.declared.holdings.Holdings.{Holdings}
 use Rattle.shm_parts.specs.declared.message.Envelope.{Envelope}
-use Rattle.shm_parts.specs.declared.reached.LoadOutcome.{LoadOutcome}
-use Rattle.shm_parts.specs.declared.reached.LoadOutcome.TheVariants as loaded
-use Rattle.shm_parts.specs.declared.reached.StoreOutcome.{StoreOutcome}
-use Rattle.shm_parts.specs.declared.reached.StoreOutcome.TheVariants as stored
+use Rattle.shm_parts.specs.declared.access_outcome.LoadOutcome.{LoadOutcome}
+use Rattle.shm_parts.specs.declared.access_outcome.LoadOutcome.TheVariants as loaded
+use Rattle.shm_parts.specs.declared.access_outcome.StoreOutcome.{StoreOutcome}
+use Rattle.shm_parts.specs.declared.access_outcome.StoreOutcome.TheVariants as stored
 
 -- of a purged segment nothing is left
 abbrev pub held_entries : {A : Type 0} → ℕ → ℕ → Holdings A → PageId → model.Entry

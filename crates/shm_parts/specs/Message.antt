@@ -1,6 +1,6 @@
 -- Messages and envelopes, as the definitions speak of them.
 use Rattle.std.specs.Prelude.{Bool, true, false}
-use Rattle.shm_model.specs.declared.kind.Kind.TheVariants as kind
+use Rattle.shm_model.specs.declared.request_kind.Kind.TheVariants as kind
 use Rattle.shm_model.specs.Entry as entry
 use Rattle.shm_model.specs.Message as model
 use Rattle.shm_parts.specs.declared.message.BookNote.{BookNote}

@@ -2,7 +2,7 @@
 -- copy that is counted.
 use Rattle.std.specs.Prelude.{◌≡◌, ℕ, ◌*◌, ◌<◌, ◌==◌, Bool, true, false, List, [], Option, Some, None, ⊤}
 use Rattle.std.specs.List.{list_any}
-use Rattle.shm_place.specs.declared.page.PageId.{PageId}
+use Rattle.shm_place.specs.declared.page_id.PageId.{PageId}
 use Rattle.shm_place.specs.Limits.{page_bytes}
 use Rattle.shm_place.specs.Offset.{rounded}
 use Rattle.shm_place.specs.Page.{manager_of, same_page}
@@ -11,9 +11,9 @@ use Rattle.shm_attach.specs.Attachments.{attachments_of}
 use Rattle.shm_parts.specs.Entries.{is_stored}
 use Rattle.shm_parts.specs.Frames.{frames_of, has_room}
 use Rattle.shm_parts.specs.Purged.{purged_of}
-use Rattle.shm_parts.specs.declared.entries.Entries.{Entries}
-use Rattle.shm_parts.specs.declared.frames.Frames.{Frames}
-use Rattle.shm_parts.specs.declared.purged.Purged.{Purged}
+use Rattle.shm_parts.specs.declared.page_entries.Entries.{Entries}
+use Rattle.shm_parts.specs.declared.frame_order.Frames.{Frames}
+use Rattle.shm_parts.specs.declared.purged_segments.Purged.{Purged}
 
 -- site `me` manages the page
 abbrev pub manages : ℕ → ℕ → PageId → Bool

@@ -1,9 +1,9 @@
 ghost use Rattle.shm_parts.specs.Reach.{IsReached};
 
-use crate::entries::Entries;
-use crate::first_places::FirstPlaces;
-use crate::frames::Frames;
-use crate::purged::Purged;
+use crate::frame_order::Frames;
+use crate::likely_entry_places::FirstPlaces;
+use crate::page_entries::Entries;
+use crate::purged_segments::Purged;
 use shm_attach::Attachments;
 use shm_place::{SiteId, Sites};
 use std::alloc::{Allocator, Global};

@@ -5,8 +5,8 @@ ghost use Rattle.indexmap.specs.IndexMap.{insert_entry};
 ghost use Rattle.shm_place.specs.Page.{same_page};
 ghost use Rattle.shm_parts.specs.OrderedPages.{first_page, moved_last, without, without_pages_of};
 
-use crate::page_rows::{index, make_room, make_room_for, put_row, sweep};
-use crate::pages_in_order::PagesInOrder;
+use crate::ordered_pages_iterator::PagesInOrder;
+use crate::page_vector_helpers::{index, make_room, make_room_for, put_row, sweep};
 use indexmap::IndexMap;
 use shm_place::{PageId, SegId};
 use std::alloc::{AllocError, Allocator, Global};
@@ -32,7 +32,7 @@ pub struct OrderedPages<V: Drop, A: Allocator + Copy = Global> {
 
 impl<V: Drop, A: Allocator + Copy> Model for OrderedPages<V, A> {
     ghost use Rattle.std.specs.Prelude.{List};
-    ghost use Rattle.shm_place.specs.declared.page.PageId.{PageId as Page};
+    ghost use Rattle.shm_place.specs.declared.page_id.PageId.{PageId as Page};
     ghost use Rattle.shm_parts.specs.OrderedPages.{IsIndexed, IsWithin, standing};
 
     ghost Value = { List (Page × V) };

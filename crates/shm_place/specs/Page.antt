@@ -1,6 +1,6 @@
 -- Pages: which exist at all, and who manages each (Li and Hudak 1989, §3.2: the fixed distributed manager).
 use Rattle.std.specs.Prelude.{ℕ, Bool, ◌+◌, ◌*◌, ◌%◌, ◌==◌, ◌&&◌, nat_lt}
-use Rattle.shm_place.specs.declared.page.PageId.{PageId}
+use Rattle.shm_place.specs.declared.page_id.PageId.{PageId}
 use Rattle.shm_place.specs.Limits.{pages, segments_of_a_home}
 
 abbrev pub manager_of : ℕ → PageId → ℕ

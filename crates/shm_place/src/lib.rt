@@ -1,19 +1,19 @@
 //! Where things live: sites, keys, segment identifiers and pages, with their limits, their homes and their managers.
 #![tactic(auto)]
 
-mod id;
+mod identifiers_and_homes;
 mod limits;
-mod offset;
-mod page;
+mod page_arithmetic;
+mod page_id;
+mod site_count;
 mod site_set;
-mod sites;
 
-pub use id::{Key, SegId, SiteId, home_of_id, home_of_key};
+pub use identifiers_and_homes::{Key, SegId, SiteId, home_of_id, home_of_key};
 pub use limits::{MAX_FRAMES, MAX_SEGMENT_BYTES, PAGE_BYTES, PAGES, SEGMENTS_OF_A_HOME};
-pub use offset::{place, rounded};
-pub use page::{PageId, in_limits, manager_of};
+pub use page_arithmetic::{place, rounded};
+pub use page_id::{PageId, in_limits, manager_of};
+pub use site_count::{MAX_SITES, NoSuchSite, Sites};
 pub use site_set::SiteSet;
-pub use sites::{MAX_SITES, NoSuchSite, Sites};
 
 #[cfg(test)]
 mod tests;

@@ -1,8 +1,8 @@
 ghost use Rattle.std.specs.Prelude.{◌≡◌, ℕ, ◌==◌, ◌&&◌, ◌<◌, if◌then◌else◌, not, false, true, nat_lt, length};
 ghost use Rattle.shm_place.specs.SiteSet.{has, has_none};
 
-use crate::id::SiteId;
-use crate::sites::Sites;
+use crate::identifiers_and_homes::SiteId;
+use crate::site_count::Sites;
 use std::marker::Model;
 
 /// A set of sites: for each of the 16 that there can be, whether it is in the set.

@@ -7,13 +7,13 @@ use Rattle.std.proofs.lemmas.Bool.Decides.{nat_tests}
 use Rattle.shm_model.specs.Message.{Begin, Deliver, Input, Load, Restart, Store, Tick}
 use Rattle.shm_model.specs.Receipt.{access_of}
 use Rattle.shm_model.specs.Step.{foreign, step}
-use Rattle.shm_model.specs.declared.asked.Asked.{Asked}
-use Rattle.shm_model.specs.declared.asked.Asked.TheVariants as asked
+use Rattle.shm_model.specs.declared.asked_access.Asked.{Asked}
+use Rattle.shm_model.specs.declared.asked_access.Asked.TheVariants as asked
 use Rattle.shm_wire.specs.Line as stream
 use Rattle.shm_wire.specs.Line.{read_line}
 use Rattle.shm_wire.specs.Sent.{Sent}
-use Rattle.shm_wire.specs.declared.ask.Question.{Question}
-use Rattle.shm_wire.specs.declared.ask.Question.TheVariants as question
+use Rattle.shm_wire.specs.declared.caller_ask.Question.{Question}
+use Rattle.shm_wire.specs.declared.caller_ask.Question.TheVariants as question
 use Rattle.shm_process.specs.Cause.{Cause, OfLine, OfRestart}
 use Rattle.shm_process.specs.Node.{Node, Heard, Said, handed, heard, input_asked, is_ahead, is_beyond, is_late, most_ahead, new_node, next_clock, says, stepped, under_tag, waits_for}
 use Rattle.shm_process.specs.Numbers.{NumbersWithin, number_named, numbers_fit}
@@ -72,6 +72,7 @@ asked-number (question.Read at offset count) = tt
 asked-number (question.Begin request) = tt
 asked-number question.Tick = tt
 asked-number (question.Show page) = tt
+asked-number question.Health = tt
 
 ask-heeds : (node : Node) (tag : List ℕ) (waits : Option WaitingAsk) (x : Heard) (o : Option Input) (here late : Bool) → IfSome o (InputWithin 0)
     → cond here (cond late None (option_map (under_tag tag waits) o)) None ≡ Some x → Heeds node x

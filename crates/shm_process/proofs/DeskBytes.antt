@@ -1,13 +1,15 @@
 -- A desk line by line: bytes without a line feed are gathered, and the line feed behind them ends a line.
 use Rattle.std.proofs.Common.{◌≡◌, ℕ, zero, suc, ◌+◌, ◌-◌, ◌≤◌, ◌==◌, Bool, true, false, List, [], ◌∷◌, ◌++◌, length, take, min, cond, nat_lt, refl, ap, sym, ◌∙◌, append-nil, arith}
 use Rattle.std.specs.List.{All}
-use Rattle.std.specs.Prelude.{is_some}
+use Rattle.std.specs.Prelude.{Result, Ok, Err, is_some}
 use Rattle.std.proofs.lemmas.Bool.Decides.{nat_tests}
 use Rattle.std.proofs.Math.Seq.{take-nil}
 use Rattle.std.proofs.lemmas.List.{append_assoc, length-append, length-take, take_all, take_min}
 use Rattle.std.proofs.lemmas.List.Elements.{All-head, All-tail}
+use Rattle.shm_seal.specs.Seal.{opened}
+use Rattle.shm_seal.specs.declared.open_line_error.Unsealed.{Unsealed}
 use Rattle.shm_wire.specs.Line.{read_line}
-use Rattle.shm_process.specs.Desk.{Desk, after_line, grown, made_again, max_line_bytes, on_byte, on_bytes, settled, taken}
+use Rattle.shm_process.specs.Desk.{Desk, after_line, after_opened, grown, left_sealed, made_again, max_line_bytes, on_byte, on_bytes, settled, taken}
 use Rattle.shm_process.specs.Waiting.{most_steps, passed_over, said_again}
 use Rattle.shm_process.proofs.DeskLemmas.{on_bytes-append}
 
@@ -76,14 +78,19 @@ settled-line (suc n) l d =
     cond-line (is_some (said_again d.node)) l (settled n (made_again d)) (settled n (made_again (with_line l d))) d (with_line l d)
     (settled-line n l (made_again d)) refl
 
+opened-line : (l : List ℕ) (d : Desk) (inner : Result (List ℕ) Unsealed) → after_opened (with_line l d) inner ≡ with_line l (after_opened d inner)
+unfolding taken
+opened-line l d (Ok line) = settled-line most_steps l (taken d (read_line line))
+opened-line l d (Err why) = settled-line most_steps l (left_sealed d why)
+
 -- what a line does has nothing to do with what is gathered of the next
 line-apart : (l : List ℕ) (d : Desk) (line : List ℕ) → after_line (with_line l d) line ≡ with_line l (after_line d line)
-unfolding after_line taken
+unfolding after_line
 line-apart l d line =
     cond-line (nat_lt max_line_bytes (length line)) l
     (record d { node = passed_over d.node }) (record (with_line l d) { node = passed_over d.node })
-    (settled most_steps (taken d (read_line line))) (settled most_steps (taken (with_line l d) (read_line line)))
-    refl (settled-line most_steps l (taken d (read_line line)))
+    (after_opened d (opened d.seal line)) (after_opened (with_line l d) (opened d.seal line))
+    refl (opened-line l d (opened d.seal line))
 
 ended : (d : Desk) (bytes : List ℕ) → on_bytes d (bytes ++ 10 ∷ []) ≡ with_line [] (after_line (on_bytes d bytes) (on_bytes d bytes).line)
 unfolding on_bytes on_byte
@@ -96,8 +103,8 @@ unfolding after_line
 enough-kept d bytes true is =
     let cut : nat_lt max_line_bytes (length (take (max_line_bytes + 1) bytes)) ≡ true =
     ap (nat_lt max_line_bytes) (length-take (max_line_bytes + 1) bytes) ∙ still (length bytes) is in
-    ap (λ b. cond b (record d { node = passed_over d.node }) (settled most_steps (taken d (read_line (take (max_line_bytes + 1) bytes))))) cut
-    ∙ sym (ap (λ b. cond b (record d { node = passed_over d.node }) (settled most_steps (taken d (read_line bytes)))) is)
+    ap (λ b. cond b (record d { node = passed_over d.node }) (after_opened d (opened d.seal (take (max_line_bytes + 1) bytes)))) cut
+    ∙ sym (ap (λ b. cond b (record d { node = passed_over d.node }) (after_opened d (opened d.seal bytes))) is)
   where
     still : (n : ℕ) → nat_lt max_line_bytes n ≡ true → nat_lt max_line_bytes (min (max_line_bytes + 1) n) ≡ true
     still n h = grind (arith, nat_tests)

@@ -1,9 +1,11 @@
 -- What a desk records of bytes is the entries of what its node did.
 use Rattle.std.proofs.Common.{◌≡◌, ℕ, zero, suc, Bool, true, false, List, [], ◌∷◌, ◌++◌, cond, length, refl, ap, sym, ◌∙◌, append-nil}
-use Rattle.std.specs.Prelude.{Option, Some, None, is_some, nat_lt, ◌==◌}
+use Rattle.std.specs.Prelude.{Option, Some, None, Result, Ok, Err, is_some, nat_lt, ◌==◌}
 use Rattle.std.proofs.lemmas.List.{append_assoc}
+use Rattle.shm_seal.specs.Seal.{opened}
+use Rattle.shm_seal.specs.declared.open_line_error.Unsealed.{Unsealed}
 use Rattle.shm_wire.specs.Line.{read_line}
-use Rattle.shm_process.specs.Desk.{Desk, after_line, grown, made_again, max_line_bytes, on_byte, on_bytes, settled, step_entry, taken}
+use Rattle.shm_process.specs.Desk.{Desk, after_line, after_opened, grown, left_sealed, made_again, max_line_bytes, on_byte, on_bytes, settled, step_entry, taken}
 use Rattle.shm_process.specs.DeskEvents.{DidEvents}
 use Rattle.shm_process.specs.Node.{Node, Said}
 use Rattle.shm_process.specs.Recorded.{Again, Entry, Event, Line, TooLong, after_event, after_events, entries_of, entries_text, entry_line, recorded, said_at}
@@ -66,12 +68,20 @@ did-taken d line = did-one d (taken d (read_line line)) (Line line) refl refl
 did-too-long : (d : Desk) → DidEvents d (record d { node = passed_over d.node })
 did-too-long d = record { events = TooLong ∷ []; node = refl; recorded = sym (append-nil d.recorded) }
 
+did-left : (d : Desk) (why : Unsealed) → DidEvents d (left_sealed d why)
+did-left d why = record { events = TooLong ∷ []; node = refl; recorded = sym (append-nil d.recorded) }
+
+did-opened : (d : Desk) (inner : Result (List ℕ) Unsealed) → DidEvents d (after_opened d inner)
+did-opened d (Ok line) =
+    let next = taken d (read_line line) in
+    did-both d next (settled most_steps next) (did-taken d line) (did-settled most_steps next)
+did-opened d (Err why) = did-both d (left_sealed d why) (settled most_steps (left_sealed d why)) (did-left d why) (did-settled most_steps (left_sealed d why))
+
 did-line : (d : Desk) (line : List ℕ) → DidEvents d (after_line d line)
 unfolding after_line
 did-line d line =
-    let next = taken d (read_line line) in
-    did-cond (nat_lt max_line_bytes (length line)) d (record d { node = passed_over d.node }) (settled most_steps next)
-    (did-too-long d) (did-both d next (settled most_steps next) (did-taken d line) (did-settled most_steps next))
+    did-cond (nat_lt max_line_bytes (length line)) d (record d { node = passed_over d.node }) (after_opened d (opened d.seal line))
+    (did-too-long d) (did-opened d (opened d.seal line))
 
 did-byte : (d : Desk) (byte : ℕ) → DidEvents d (on_byte d byte)
 unfolding on_byte

@@ -1,10 +1,12 @@
 -- A desk step by step: an ask after the others. What a desk told before stands before all that it tells after.
 use Rattle.std.proofs.Common.{◌≡◌, ℕ, zero, suc, ◌==◌, Bool, true, false, List, [], ◌∷◌, ◌++◌, length, cond, refl, ap, ap₂, sym, ◌∙◌, append-nil}
-use Rattle.std.specs.Prelude.{Option, Some, None, is_some, nat_lt, option_and_then, option_map}
+use Rattle.std.specs.Prelude.{Option, Some, None, Result, Ok, Err, is_some, nat_lt, option_and_then, option_map}
 use Rattle.std.specs.Option.{option_map_or}
 use Rattle.std.proofs.lemmas.List.{append_assoc}
+use Rattle.shm_seal.specs.Seal.{opened}
+use Rattle.shm_seal.specs.declared.open_line_error.Unsealed.{Unsealed}
 use Rattle.shm_wire.specs.Line.{Line, read_line}
-use Rattle.shm_process.specs.Desk.{Desk, after_line, cleared, grown, made_again, max_line_bytes, line_text, on_byte, on_bytes, settled, step_entry, step_text, taken, tell, with_step}
+use Rattle.shm_process.specs.Desk.{Desk, after_line, after_opened, cleared, left_sealed, grown, made_again, max_line_bytes, line_text, on_byte, on_bytes, settled, step_entry, step_text, taken, tell, with_step}
 use Rattle.shm_process.specs.Node.{Node, Said}
 use Rattle.shm_process.specs.Telling.{shown_line}
 use Rattle.shm_process.specs.Waiting.{after_again, after_read, again_at, most_steps, passed_over, ready, said_again, said_read, says_at}
@@ -56,7 +58,7 @@ cond-behind false r t x after_x y after_y p q = q
 with_step-behind : (r t : List ℕ) (d : Desk) (said : Option Said) → with_step (behind r t d) said ≡ behind r t (with_step d said)
 with_step-behind r t d said =
     ap₂ (λ recorded told. record d { recorded = recorded; told = told })
-    (append_assoc r d.recorded (step_entry said)) (append_assoc t d.told (step_text said))
+    (append_assoc r d.recorded (step_entry said)) (append_assoc t d.told (step_text d.seal said))
 
 made_again-behind : (r t : List ℕ) (d : Desk) → made_again (behind r t d) ≡ behind r t (made_again d)
 made_again-behind r t d = with_step-behind r t (record d { node = after_again d.node }) (said_again d.node)
@@ -71,18 +73,22 @@ settled-behind (suc n) r t d =
 taken-behind : (r t : List ℕ) (d : Desk) (read : Option Line) → taken (behind r t d) read ≡ behind r t (taken d read)
 unfolding taken
 taken-behind r t d read =
-    let shown = line_text (option_and_then (shown_line d.node) read) in
+    let shown = line_text d.seal (option_and_then (shown_line d.unopened d.node) read) in
     let node = after_read d.node read in
     ap (λ told. with_step (record d { node = node; recorded = r ++ d.recorded; told = told }) (said_read d.node read)) (append_assoc t d.told shown)
     ∙ with_step-behind r t (record (tell d shown) { node = node }) (said_read d.node read)
+
+opened-behind : (r t : List ℕ) (d : Desk) (inner : Result (List ℕ) Unsealed) → after_opened (behind r t d) inner ≡ behind r t (after_opened d inner)
+opened-behind r t d (Ok line) = ap (settled most_steps) (taken-behind r t d (read_line line)) ∙ settled-behind most_steps r t (taken d (read_line line))
+opened-behind r t d (Err why) = settled-behind most_steps r t (left_sealed d why)
 
 after_line-behind : (r t : List ℕ) (d : Desk) (line : List ℕ) → after_line (behind r t d) line ≡ behind r t (after_line d line)
 unfolding after_line
 after_line-behind r t d line =
     cond-behind (nat_lt max_line_bytes (length line)) r t
     (record d { node = passed_over d.node }) (record (behind r t d) { node = passed_over d.node })
-    (settled most_steps (taken d (read_line line))) (settled most_steps (taken (behind r t d) (read_line line)))
-    refl (ap (settled most_steps) (taken-behind r t d (read_line line)) ∙ settled-behind most_steps r t (taken d (read_line line)))
+    (after_opened d (opened d.seal line)) (after_opened (behind r t d) (opened d.seal line))
+    refl (opened-behind r t d (opened d.seal line))
 
 on_byte-behind : (r t : List ℕ) (d : Desk) (byte : ℕ) → on_byte (behind r t d) byte ≡ behind r t (on_byte d byte)
 unfolding on_byte

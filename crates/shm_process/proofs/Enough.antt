@@ -7,8 +7,8 @@ use Rattle.std.proofs.lemmas.List.{length-append}
 use Rattle.shm_place.specs.Limits.{page_bytes}
 use Rattle.shm_model.specs.declared.answer.Answer.{Answer}
 use Rattle.shm_model.specs.declared.answer.Answer.TheVariants.{Byte, Stored, Fault, Waiting, Began, Replied, Took, Dropped, Refused}
-use Rattle.shm_model.specs.declared.asked.Asked.{Asked}
-use Rattle.shm_model.specs.declared.asked.Asked.TheVariants.{Load, Store}
+use Rattle.shm_model.specs.declared.asked_access.Asked.{Asked}
+use Rattle.shm_model.specs.declared.asked_access.Asked.TheVariants.{Load, Store}
 use Rattle.shm_model.specs.Receipt.{access_of}
 use Rattle.shm_process.specs.Access.{is_access, is_waiting}
 use Rattle.shm_process.specs.Blocks.{Block}

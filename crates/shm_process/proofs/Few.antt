@@ -8,8 +8,8 @@ use Rattle.std.proofs.lemmas.List.{length-append, length-set}
 use Rattle.shm_model.specs.declared.answer.Answer.{Answer}
 use Rattle.shm_wire.specs.Line as stream
 use Rattle.shm_wire.specs.Line.{read_line}
-use Rattle.shm_wire.specs.declared.ask.Question.{Question}
-use Rattle.shm_wire.specs.declared.ask.Question.TheVariants as question
+use Rattle.shm_wire.specs.declared.caller_ask.Question.{Question}
+use Rattle.shm_wire.specs.declared.caller_ask.Question.TheVariants as question
 use Rattle.shm_wire.specs.Writes.{WriteAsk}
 use Rattle.shm_process.specs.WaitingAsks.{Reads, WaitingAsk, after_answer, ask_in, goes_on, waiting_after}
 use Rattle.shm_process.specs.Node.{Node, Heard, answer_to, heard, is_late, new_node}
@@ -55,6 +55,7 @@ block-few node true false tag (question.Try asked) room few = few
 block-few node true false tag (question.Begin request) room few = few
 block-few node true false tag question.Tick room few = few
 block-few node true false tag (question.Show page) room few = few
+block-few node true false tag question.Health room few = few
 
 ask-few : (node : Node) (room here late : Bool) (tag : List ℕ) (q : Question) → has_room node ≡ room → Few node
     → Few (after_unheard node (cond room (cond here (cond late None (block_in tag q)) None) None))

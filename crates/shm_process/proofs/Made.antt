@@ -2,7 +2,7 @@
 use Rattle.std.proofs.Common.{◌≡◌, ℕ, ◌+◌, ◌&&◌, Bool, not, List, Option, Some, None, cond, ap, sym, ◌∙◌}
 use Rattle.std.specs.Prelude.{is_some}
 use Rattle.shm_model.specs.declared.answer.Answer.{Answer}
-use Rattle.shm_model.specs.declared.asked.Asked.{Asked}
+use Rattle.shm_model.specs.declared.asked_access.Asked.{Asked}
 use Rattle.shm_model.specs.Message.{Envelope, Input}
 use Rattle.shm_model.specs.Receipt.{access_of}
 use Rattle.shm_model.specs.Site.{Site, Step}

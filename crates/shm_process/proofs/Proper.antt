@@ -13,14 +13,14 @@ use Rattle.shm_model.specs.Receipt.{access_of}
 use Rattle.shm_model.specs.Step.{foreign}
 use Rattle.shm_model.specs.declared.answer.Answer.{Answer}
 use Rattle.shm_model.specs.declared.answer.Answer.TheVariants.{Byte, Stored, Fault, Waiting, Began, Replied, Took, Dropped, Refused}
-use Rattle.shm_model.specs.declared.asked.Asked.TheVariants.{Load}
+use Rattle.shm_model.specs.declared.asked_access.Asked.TheVariants.{Load}
 use Rattle.shm_lines.specs.Words.{IsWide}
 use Rattle.shm_wire.proofs.LineWords.{line-is_spelled}
 use Rattle.shm_wire.specs.Asks.{IsAsk, is_block}
 use Rattle.shm_wire.specs.Line as stream
 use Rattle.shm_wire.specs.Line.{IsLine, read_line}
-use Rattle.shm_wire.specs.declared.ask.Question.{Question}
-use Rattle.shm_wire.specs.declared.ask.Question.TheVariants as question
+use Rattle.shm_wire.specs.declared.caller_ask.Question.{Question}
+use Rattle.shm_wire.specs.declared.caller_ask.Question.TheVariants as question
 use Rattle.shm_wire.specs.Writes.{WriteAsk, IsWrite}
 use Rattle.shm_process.specs.Access.{access_ask}
 use Rattle.shm_process.specs.Cause.{OfLine}
@@ -136,6 +136,7 @@ asks-here node site tag (question.Begin request) x true false own is h e = idle 
 asks-here node site tag question.Tick x true false own is h e = idle false false false node (under_tag tag None Tick) x wide-zero is refl e
 asks-here node site tag (question.Read at offset count) x true false own is h e = absurd (cc)
 asks-here node site tag (question.Show page) x true false own is h e = absurd (cc)
+asks-here node site tag question.Health x true false own is h e = absurd (cc)
 
 same-site : (a b : ℕ) → (a == b) ≡ true → a ≡ b
 same-site a b h = grind (arith, nat_tests)
@@ -169,6 +170,7 @@ blocks-here node site tag (question.Try asked) true true false own is sound = re
 blocks-here node site tag (question.Begin request) true true false own is sound = record { clock = sound.clock; asks = sound.asks }
 blocks-here node site tag question.Tick true true false own is sound = record { clock = sound.clock; asks = sound.asks }
 blocks-here node site tag (question.Show page) true true false own is sound = record { clock = sound.clock; asks = sound.asks }
+blocks-here node site tag question.Health true true false own is sound = record { clock = sound.clock; asks = sound.asks }
 
 writes-here : (node : Node) (write : WriteAsk) (room here late : Bool) → (here ≡ true → write.site ≡ node.me) → IsWrite write → Sound node
     → Sound (after_unheard node (cond room (cond here (cond late None (Some (unstored write))) None) None))

@@ -1,18 +1,20 @@
 -- A step is recorded and told.
 use Rattle.std.proofs.Common.{◌≡◌, ℕ, ◌≤◌, false, List, [], ◌∷◌, ◌++◌, length, cond, nat_lt, ap, ap₂, sym, ◌∙◌, append-nil, arith}
 use Rattle.std.proofs.lemmas.Bool.Decides.{nat_tests}
-use Rattle.std.specs.Prelude.{codes, Option, Some, None, option_and_then}
+use Rattle.std.specs.Prelude.{codes, Option, Some, None, Result, Ok, option_and_then}
 use Rattle.std.specs.Fmt.{decimal}
+use Rattle.shm_seal.specs.Seal.{opened}
+use Rattle.shm_seal.specs.declared.open_line_error.Unsealed.{Unsealed}
 use Rattle.shm_wire.specs.Line.{Line, read_line}
 use Rattle.shm_process.specs.Cause.{Cause, cause_text}
-use Rattle.shm_process.specs.Desk.{Desk, after_line, line_text, max_line_bytes, restarted, settled, step_entry, step_text, taken, tell, with_step}
+use Rattle.shm_process.specs.Desk.{Desk, after_line, after_opened, line_text, max_line_bytes, restarted, settled, step_entry, step_text, taken, tell, with_step}
 use Rattle.shm_process.specs.Node.{Node, Said}
 use Rattle.shm_process.specs.Telling.{shown_line}
 use Rattle.shm_process.specs.Waiting.{after_read, after_restart, most_steps, passed_over, said_read, said_restart}
 
 pub pushed : (d : Desk) (said : Said) (other : Cause) (line recorded told : List ℕ) → cause_text said.cause ≡ line
     → recorded ≡ d.recorded ++ ((codes "step " ++ (decimal said.clock ++ 32 ∷ line)) ++ 10 ∷ [])
-    → told ≡ d.told ++ step_text (Some (record said { cause = other }))
+    → told ≡ d.told ++ step_text d.seal (Some (record said { cause = other }))
     → record d { recorded = recorded; told = told } ≡ with_step d (Some said)
 unfolding step_entry step_text
 pushed d said other line recorded told text r t =
@@ -24,13 +26,13 @@ unfolding step_entry step_text
 nothing_pushed d = ap₂ (λ r t. record d { recorded = r; told = t }) (sym (append-nil d.recorded)) (sym (append-nil d.told))
 
 -- what was read of a line is taken
-pub taken_so : (d next shown : Desk) (read : Option Line) (node : Node) (said : Option Said) → shown ≡ tell d (line_text (option_and_then (shown_line d.node) read))
+pub taken_so : (d next shown : Desk) (read : Option Line) (node : Node) (said : Option Said) → shown ≡ tell d (line_text d.seal (option_and_then (shown_line d.unopened d.node) read))
     → node ≡ after_read d.node read → said ≡ said_read d.node read → next ≡ with_step (record shown { node = node }) said → next ≡ taken d read
 unfolding taken
 taken_so d next shown read node said es en ed e =
     e ∙ ap (λ x. with_step (record x { node = node }) said) es
-    ∙ ap (λ n. with_step (record (tell d (line_text (option_and_then (shown_line d.node) read))) { node = n }) said) en
-    ∙ ap (with_step (record (tell d (line_text (option_and_then (shown_line d.node) read))) { node = after_read d.node read })) ed
+    ∙ ap (λ n. with_step (record (tell d (line_text d.seal (option_and_then (shown_line d.unopened d.node) read))) { node = n }) said) en
+    ∙ ap (with_step (record (tell d (line_text d.seal (option_and_then (shown_line d.unopened d.node) read))) { node = after_read d.node read })) ed
 
 pub restarted_so : (d next : Desk) (node : Node) (said : Said) → node ≡ after_restart d.node → said ≡ said_restart d.node
     → next ≡ with_step (record d { node = node }) (Some said) → next ≡ restarted d
@@ -48,8 +50,13 @@ within-most : (n : ℕ) → n ≤ 8192 → nat_lt max_line_bytes n ≡ false
 within-most n h = grind (arith, nat_tests)
 
 -- the asks that wait are made again after it
-pub line_taken : (d now next : Desk) (line : List ℕ) → length line ≤ 8192 → now ≡ taken d (read_line line) → next ≡ settled most_steps now → next ≡ after_line d line
+pub line_taken : (d now next : Desk) (line : List ℕ) → now ≡ taken d (read_line line) → next ≡ settled most_steps now → next ≡ after_opened d (Ok line)
+line_taken d now next line is e = e ∙ ap (settled most_steps) is
+
+-- a line that isn't too long is opened
+pub line_opened : (d next : Desk) (line : List ℕ) (inner : Result (List ℕ) Unsealed) → length line ≤ 8192 → opened d.seal line ≡ inner → next ≡ after_opened d inner
+    → next ≡ after_line d line
 unfolding after_line
-line_taken d now next line short is e =
-    e ∙ ap (settled most_steps) is
-    ∙ sym (ap (λ b. cond b (record d { node = passed_over d.node }) (settled most_steps (taken d (read_line line)))) (within-most (length line) short))
+line_opened d next line inner short is e =
+    e ∙ ap (after_opened d) (sym is)
+    ∙ sym (ap (λ b. cond b (record d { node = passed_over d.node }) (after_opened d (opened d.seal line))) (within-most (length line) short))

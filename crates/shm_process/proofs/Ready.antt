@@ -4,7 +4,7 @@ use Rattle.std.specs.List.{position_from}
 use Rattle.std.specs.Prelude.{IfNone, IfSome, option_map}
 use Rattle.std.specs.Option.{option_map_or}
 use Rattle.std.proofs.lemmas.List.{drop_all, drop_more, length-map}
-use Rattle.shm_model.specs.declared.asked.Asked.TheVariants.{Load}
+use Rattle.shm_model.specs.declared.asked_access.Asked.TheVariants.{Load}
 use Rattle.shm_process.specs.WaitingAsks.{Access, ask_in}
 use Rattle.shm_process.specs.Node.{Node, Said, is_late}
 use Rattle.shm_process.specs.Waiting.{after_again, again_at, can_be_made, ready, said_again, says_at}

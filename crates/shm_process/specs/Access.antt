@@ -2,10 +2,10 @@
 use Rattle.std.specs.Prelude.{ℕ, Bool, true, false, List}
 use Rattle.shm_model.specs.declared.answer.Answer.{Answer}
 use Rattle.shm_model.specs.declared.answer.Answer.TheVariants.{Fault, Waiting}
-use Rattle.shm_model.specs.declared.asked.Asked.{Asked}
+use Rattle.shm_model.specs.declared.asked_access.Asked.{Asked}
 use Rattle.shm_model.specs.Message.{Input, Load, Store}
 use Rattle.shm_wire.specs.Asks.{Ask}
-use Rattle.shm_wire.specs.declared.ask.Question.TheVariants as question
+use Rattle.shm_wire.specs.declared.caller_ask.Question.TheVariants as question
 
 abbrev pub is_access : Input → Bool
 is_access (Load at offset) = true

@@ -3,10 +3,10 @@ use Rattle.shm_wire.specs.TagOf.{tag_text}
 use Rattle.shm_process.specs.Blocks as spec
 use Rattle.shm_process.specs.WaitingAsks as asks
 use Rattle.shm_process.specs.Writes as writes
-use Rattle.shm_process.specs.declared.block.Block.{Block}
+use Rattle.shm_process.specs.declared.block_load.Block.{Block}
 use Rattle.shm_process.specs.declared.waiting_ask.WaitingAsk.{WaitingAsk}
 use Rattle.shm_process.specs.declared.waiting_ask.WaitingAsk.TheVariants as code
-use Rattle.shm_process.specs.declared.write.Write.{Write}
+use Rattle.shm_process.specs.declared.block_store.Write.{Write}
 
 abbrev pub block_of : {A : Type 0} → Block A → spec.Block
 block_of block = record { tag = tag_text block.tag; at = block.at; offset = block.offset; count = block.length; bytes = block.bytes.items }

@@ -3,8 +3,8 @@
 use Rattle.std.specs.Prelude.{ℕ, ◌+◌, Bool, List, [], ◌∷◌, ◌++◌, Option, Some, None, if◌then◌else◌, length, nat_lt}
 use Rattle.shm_model.specs.declared.answer.Answer.{Answer}
 use Rattle.shm_model.specs.declared.answer.Answer.TheVariants.{Byte}
-use Rattle.shm_model.specs.declared.asked.Asked.{Asked}
-use Rattle.shm_model.specs.declared.asked.Asked.TheVariants.{Load}
+use Rattle.shm_model.specs.declared.asked_access.Asked.{Asked}
+use Rattle.shm_model.specs.declared.asked_access.Asked.TheVariants.{Load}
 use Rattle.shm_process.specs.Access.{is_open}
 
 -- the tag of the caller, through which attachment and from which offset on so many bytes are loaded, and those that were

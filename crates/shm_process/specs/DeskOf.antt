@@ -2,11 +2,15 @@
 use Rattle.std.specs.Prelude.{string_bytes}
 use Rattle.shm_process.specs.Desk as spec
 use Rattle.shm_process.specs.NodeOf.{node_of}
+use Rattle.shm_process.specs.UnopenedOf.{unopened_of}
 use Rattle.shm_process.specs.declared.desk.Desk.{Desk}
+use Rattle.shm_seal.specs.SealOf.{seal_of}
 
 abbrev pub desk_of : {A : Type 0} → Desk A → spec.Desk
 desk_of desk = record {
   node = node_of desk.node;
+  seal = seal_of desk.seal;
+  unopened = unopened_of desk.unopened;
   line = desk.line.items;
   recorded = desk.recorded.items;
   told = string_bytes desk.told;

@@ -11,6 +11,10 @@ pub mod NodeOf
 pub mod Lines
 pub mod Waiting
 pub mod Showing
+pub mod Unopened
+pub mod UnopenedOf
+pub mod Health
+pub mod HealthOf
 pub mod Telling
 pub mod Recorded
 pub mod Desk

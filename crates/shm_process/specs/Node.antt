@@ -13,8 +13,8 @@ use Rattle.shm_model.specs.World.{Preset, opened_site}
 use Rattle.shm_wire.specs.Asks.{Ask}
 use Rattle.shm_wire.specs.Line as stream
 use Rattle.shm_wire.specs.Sent.{Sent}
-use Rattle.shm_wire.specs.declared.ask.Question.{Question}
-use Rattle.shm_wire.specs.declared.ask.Question.TheVariants as question
+use Rattle.shm_wire.specs.declared.caller_ask.Question.{Question}
+use Rattle.shm_wire.specs.declared.caller_ask.Question.TheVariants as question
 use Rattle.shm_process.specs.Cause.{Cause}
 use Rattle.shm_process.specs.Numbers.{numbers_fit}
 use Rattle.shm_process.specs.WaitingAsks.{Access, WaitingAsk}
@@ -78,7 +78,7 @@ handed node sent =
     if foreign node.sites node.me sent.envelope || (is_late node sent.source.at || is_beyond node sent) then None
     else Some (record { input = Deliver sent.envelope; source = sent.source.at; tag = None; waits = None })
 
--- what a site is made to do; a page is only shown, and a block is loaded byte by byte
+-- what a site is made to do; a page and counts are only shown, and a block is loaded byte by byte
 abbrev pub input_asked : Question → Option Input
 input_asked (question.Access asked) = Some (access_of asked)
 input_asked (question.Try asked) = Some (access_of asked)
@@ -86,6 +86,7 @@ input_asked (question.Read at offset count) = None
 input_asked (question.Begin request) = Some (Begin request)
 input_asked question.Tick = Some Tick
 input_asked (question.Show page) = None
+input_asked question.Health = None
 
 -- a load and a store wait for their right, unless they are only tried
 abbrev pub waits_for : List ℕ → Question → Option WaitingAsk

@@ -1,6 +1,6 @@
 -- A node of the code, what it hears and what it says, as the definitions speak of them.
 use Rattle.std.specs.Prelude.{ℕ, List, map, Option, None, Some, option_map}
-use Rattle.shm_model.specs.declared.asked.Asked.{Asked}
+use Rattle.shm_model.specs.declared.asked_access.Asked.{Asked}
 use Rattle.shm_parts.specs.Message.{envelope_of}
 use Rattle.shm_site.specs.Site.{site_of}
 use Rattle.shm_site.specs.Step.{input_of}
@@ -11,10 +11,10 @@ use Rattle.shm_wire.specs.TagOf.{tag_text}
 use Rattle.shm_process.specs.Cause.{Cause, OfLine}
 use Rattle.shm_process.specs.Node as spec
 use Rattle.shm_process.specs.WaitingAsks.{Access, WaitingAsk}
-use Rattle.shm_process.specs.declared.again.Again.{Again}
-use Rattle.shm_process.specs.declared.heard.Heard.{Heard}
+use Rattle.shm_process.specs.declared.retried_step.Again.{Again}
+use Rattle.shm_process.specs.declared.interpreted_line.Heard.{Heard}
 use Rattle.shm_process.specs.declared.node.Node.{Node}
-use Rattle.shm_process.specs.declared.said.Said.{Said}
+use Rattle.shm_process.specs.declared.step_output.Said.{Said}
 
 abbrev pub node_of : {A : Type 0} → Node A → spec.Node
 node_of node = record {

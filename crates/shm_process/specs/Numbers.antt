@@ -1,7 +1,7 @@
 -- The numbers that messages name: a request's, a transaction's, a segment call's. One step gives at most one of each kind, the first is 1,
 -- and each step raises its site's clock. So no site can have got a number above the clock of the step that sends it.
 use Rattle.std.specs.Prelude.{◌≤◌, ℕ, Bool, All, IfSome, nat_le}
-use Rattle.shm_place.specs.declared.page.PageId.{PageId}
+use Rattle.shm_place.specs.declared.page_id.PageId.{PageId}
 use Rattle.shm_model.specs.Book.{Book}
 use Rattle.shm_model.specs.Entry.{Note, Ask, Clear, Cleared, Hand, Page, Confirm, seen}
 use Rattle.shm_model.specs.Message.{Message, Of, Call, Replies, Purge, Purged}

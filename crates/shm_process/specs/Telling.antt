@@ -1,6 +1,6 @@
--- The lines that callers are told: a step's answer in the script's words, a block, and what a page holds.
-use Rattle.std.specs.Prelude.{ℕ, List, Option, Some, None, ◌==◌, ◌||◌, if◌then◌else◌, option_map}
-use Rattle.shm_place.specs.declared.page.PageId.{PageId}
+-- The lines that callers are told: a step's answer in the script's words, a block, what a page holds, and a site's counts.
+use Rattle.std.specs.Prelude.{ℕ, List, Option, Some, None, ◌==◌, ◌||◌, if◌then◌else◌, length, option_map}
+use Rattle.shm_place.specs.declared.page_id.PageId.{PageId}
 use Rattle.shm_place.specs.Page.{in_limits}
 use Rattle.shm_model.specs.declared.answer.Answer.{Answer}
 use Rattle.shm_model.specs.declared.answer.Answer.TheVariants.{Waiting}
@@ -10,10 +10,13 @@ use Rattle.shm_text.specs.Text.{answer_text}
 use Rattle.shm_wire.specs.Answers.{tell_line, block_text}
 use Rattle.shm_wire.specs.Asks.{Ask}
 use Rattle.shm_wire.specs.Line as stream
-use Rattle.shm_wire.specs.declared.ask.Question.{Question}
-use Rattle.shm_wire.specs.declared.ask.Question.TheVariants as question
+use Rattle.shm_wire.specs.declared.caller_ask.Question.{Question}
+use Rattle.shm_wire.specs.declared.caller_ask.Question.TheVariants as question
+use Rattle.shm_process.specs.Health.{Health, health_text}
+use Rattle.shm_wire.specs.Writes.{WriteAsk}
 use Rattle.shm_process.specs.Node.{Node, Said, is_late}
 use Rattle.shm_process.specs.Showing.{shown_text}
+use Rattle.shm_process.specs.Unopened.{Unopened}
 use Rattle.shm_process.specs.Waiting.{has_room}
 
 -- an answer in the script's words; where a block is whole, its bytes
@@ -34,16 +37,40 @@ abbrev pub crowded_out : Node → List ℕ → Option (List ℕ)
 crowded_out node tag =
     if has_room node || is_late node 0 then None else Some (tell_line (record { site = node.me; tag = tag; text = answer_text Waiting }))
 
-abbrev pub shown_for : Node → List ℕ → Question → Option (List ℕ)
-shown_for node tag (question.Show page) = Some (tell_line (record { site = node.me; tag = tag; text = shown_text (shown_at node page) }))
-shown_for node tag (question.Read at offset count) = crowded_out node tag
-shown_for node tag _ = None
+-- the counts of a site's process as it stands
+abbrev pub health_of : Unopened → Node → Health
+health_of unopened node = record {
+  steps = node.steps;
+  clock = node.clock;
+  taken = node.taken;
+  passed = node.passed;
+  waiting = length node.waiting;
+  unopened = unopened;
+}
 
-abbrev pub shown_here : Node → Ask → Option (List ℕ)
-shown_here node ask = if (ask.site == node.me) then shown_for node ask.tag ask.asked else None
+-- what is told of a page
+abbrev pub page_line : Node → List ℕ → PageId → List ℕ
+page_line node tag page = tell_line (record { site = node.me; tag = tag; text = shown_text (shown_at node page) })
+
+-- what is told of counts
+abbrev pub health_line : Node → List ℕ → Health → List ℕ
+health_line node tag health = tell_line (record { site = node.me; tag = tag; text = health_text health })
+
+-- a block to store that finds no room
+abbrev pub shown_write : Node → WriteAsk → Option (List ℕ)
+shown_write node write = if (write.site == node.me) then crowded_out node write.tag else None
+
+abbrev pub shown_for : Unopened → Node → List ℕ → Question → Option (List ℕ)
+shown_for unopened node tag question.Health = Some (health_line node tag (health_of unopened node))
+shown_for unopened node tag (question.Show page) = Some (page_line node tag page)
+shown_for unopened node tag (question.Read at offset count) = crowded_out node tag
+shown_for unopened node tag _ = None
+
+abbrev pub shown_here : Unopened → Node → Ask → Option (List ℕ)
+shown_here unopened node ask = if (ask.site == node.me) then shown_for unopened node ask.tag ask.asked else None
 
 -- what is told at once of a line
-abbrev pub shown_line : Node → stream.Line → Option (List ℕ)
-shown_line node (stream.Envelope sent) = None
-shown_line node (stream.Ask ask) = shown_here node ask
-shown_line node (stream.Write write) = if (write.site == node.me) then crowded_out node write.tag else None
+abbrev pub shown_line : Unopened → Node → stream.Line → Option (List ℕ)
+shown_line unopened node (stream.Envelope sent) = None
+shown_line unopened node (stream.Ask ask) = shown_here unopened node ask
+shown_line unopened node (stream.Write write) = shown_write node write

@@ -5,13 +5,13 @@ use Rattle.std.specs.Option.{option_map_or}
 use Rattle.std.specs.List.{position_from}
 use Rattle.shm_place.specs.Limits.{page_bytes}
 use Rattle.shm_model.specs.Basics.{greatest}
-use Rattle.shm_model.specs.declared.asked.Asked.{Asked}
+use Rattle.shm_model.specs.declared.asked_access.Asked.{Asked}
 use Rattle.shm_model.specs.Message.{Restart}
 use Rattle.shm_model.specs.Receipt.{access_of}
 use Rattle.shm_wire.specs.Asks.{Ask}
 use Rattle.shm_wire.specs.Line as stream
-use Rattle.shm_wire.specs.declared.ask.Question.{Question}
-use Rattle.shm_wire.specs.declared.ask.Question.TheVariants as question
+use Rattle.shm_wire.specs.declared.caller_ask.Question.{Question}
+use Rattle.shm_wire.specs.declared.caller_ask.Question.TheVariants as question
 use Rattle.shm_wire.specs.Writes.{WriteAsk}
 use Rattle.shm_process.specs.Access.{access_ask, is_open, is_waiting}
 use Rattle.shm_process.specs.Cause.{Cause, OfLine, OfRestart}

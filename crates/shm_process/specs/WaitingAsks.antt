@@ -1,8 +1,8 @@
 -- Asks that wait: an access, and a block that is loaded or stored; the access that each makes next, and what becomes of them when it is answered.
 use Rattle.std.specs.Prelude.{ℕ, Bool, List, [], Option, None, if◌then◌else◌, remove, slice_index_or, slice_set}
 use Rattle.shm_model.specs.declared.answer.Answer.{Answer}
-use Rattle.shm_model.specs.declared.asked.Asked.{Asked}
-use Rattle.shm_model.specs.declared.asked.Asked.TheVariants.{Load}
+use Rattle.shm_model.specs.declared.asked_access.Asked.{Asked}
+use Rattle.shm_model.specs.declared.asked_access.Asked.TheVariants.{Load}
 use Rattle.shm_process.specs.Access.{is_open}
 use Rattle.shm_process.specs.Blocks.{Block, bytes_after, next_load, whole_after}
 use Rattle.shm_process.specs.Blocks.{goes_on as block_goes_on}

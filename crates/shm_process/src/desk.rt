@@ -1,22 +1,28 @@
-//! Takes bytes, and gathers the entries and the output of the lines that they end.
-ghost use Rattle.std.specs.Prelude.{◌≡◌, ◌<◌, ◌==◌, ◌++◌, ◌∷◌, [], All, codes, false, if◌then◌else◌, is_some, string_bytes, IfNone, IfOk, IfSome, OnOk};
+//! Takes bytes, opens the lines that they end, and gathers the entries and the sealed output of those lines.
+ghost use Rattle.std.specs.Prelude.{◌≡◌, ◌<◌, ◌==◌, ◌++◌, ◌∷◌, [], All, codes, false, if◌then◌else◌, is_some, string_bytes, IfNone, IfOk, IfSome, Ok, OnOk};
 ghost use Rattle.std.specs.Fmt.{decimal};
 ghost use Rattle.shm_model.specs.Basics.{greatest};
 ghost use Rattle.shm_process.specs.Cause.{Cause, OfRestart, cause_text};
-ghost use Rattle.shm_process.specs.Desk.{after_line, cleared, desk_at, made_again, on_bytes, restarted, settled, step_text, taken, tell, line_text, with_step};
+ghost use Rattle.shm_process.specs.Desk.{after_line, after_opened, cleared, desk_at, left_sealed, made_again, on_bytes, restarted, settled, step_text, taken, tell, line_text, with_step};
 ghost use Rattle.shm_process.specs.DeskOf.{desk_of};
 ghost use Rattle.shm_process.specs.NodeOf.{again_of, node_of, said_of};
 ghost use Rattle.shm_process.specs.Telling.{shown_line};
+ghost use Rattle.shm_process.specs.UnopenedOf.{unopened_of};
 ghost use Rattle.shm_process.specs.Waiting.{most_steps, passed_over, said_again};
+ghost use Rattle.shm_seal.specs.Seal.{Bare};
+ghost use Rattle.shm_seal.specs.SealOf.{seal_of};
 ghost use Rattle.shm_wire.specs.Line as stream;
 ghost use Rattle.shm_wire.specs.Line.{IsLine};
 ghost use Rattle.shm_wire.specs.LineOf.{line_of};
 
-use crate::again::Again;
+use crate::envelope_lines::push_sealed;
 use crate::node::Node;
-use crate::node_take::MOST_STEPS;
-use crate::said::Said;
+use crate::node_takes_line::MOST_STEPS;
+use crate::retried_step::Again;
+use crate::step_output::Said;
+use crate::unopened_line_counts::Unopened;
 use memchr::memchr;
+use shm_seal::{Seal, Unsealed};
 use shm_wire::{Line, parse_line};
 use std::alloc::{AllocError, Allocator, Global};
 use std::mem;
@@ -24,10 +30,13 @@ use std::mem;
 /// How many bytes a line has at most, less its line feed. A longer one is passed over.
 const MAX_LINE_BYTES: usize = 8192;
 
-/// A node whose lines come as bytes. It gathers entries, one for each step, and output: answers, and what its site sent.
+/// A node whose lines come as bytes. It gathers entries, one for each step, and output: answers, and what its site sent. It takes a line as
+/// its seal opens it, passes over one that it doesn't open, and seals its output.
 #[derive(Drop)]
 pub struct Desk<A: Allocator + Copy = Global> {
     pub(crate) node: Node<A>,
+    pub(crate) seal: Seal,
+    pub(crate) unopened: Unopened,
     pub(crate) line: Vec<u8, A>,
     pub(crate) recorded: Vec<u8, A>,
     pub(crate) told: String<A>,
@@ -35,12 +44,21 @@ pub struct Desk<A: Allocator + Copy = Global> {
 }
 
 impl<A: Allocator + Copy> Desk<A> {
-    /// A desk that has read nothing yet.
+    /// A desk that has read nothing yet, of lines without a seal.
     pub fn new(alloc: A, node: Node<A>) -> Desk<A>
-        ensures { desk_of result ≡ desk_at (node_of node) }
+        ensures { desk_of result ≡ desk_at Bare (node_of node) }
+    {
+        Desk::sealed(alloc, Seal::Bare, node)
+    }
+
+    /// A desk that has read nothing yet, of lines under this seal.
+    pub fn sealed(alloc: A, seal: Seal, node: Node<A>) -> Desk<A>
+        ensures { desk_of result ≡ desk_at (seal_of seal) (node_of node) }
     {
         Desk {
             node,
+            seal,
+            unopened: Unopened::none(),
             line: Vec::new(alloc),
             recorded: Vec::new(alloc),
             told: String::new(alloc),
@@ -53,6 +71,13 @@ impl<A: Allocator + Copy> Desk<A> {
         ensures { node_of result.now ≡ (desk_of self.now).node }
     {
         &self.node
+    }
+
+    /// How many lines weren't opened, by their causes. The node counts them too, as lines that it passed over.
+    pub fn unopened(&self) -> Unopened
+        ensures { unopened_of result ≡ (desk_of self.now).unopened }
+    {
+        self.unopened
     }
 
     /// The entries of the steps that were made, each `step CLOCK LINE` and a line feed. They have to be durable before any output is
@@ -141,7 +166,7 @@ impl<A: Allocator + Copy> Desk<A> {
         self.take_line(line.as_slice())
     }
 
-    /// A whole line is taken, unless it is too long.
+    /// A whole line is opened, unless it is too long.
     #[tactic(auto, unfolding(crate::specs::Desk::after_line))]
     fn take_line(&mut self, line: &[u8]) -> Result<(), AllocError>
         ensures { OnOk result (desk_of self.new ≡ after_line (desk_of self.old) line.now) }
@@ -150,6 +175,25 @@ impl<A: Allocator + Copy> Desk<A> {
             self.node.pass_over();
             return Ok(());
         }
+        let seal = self.seal;
+        match seal.open(line) {
+            Ok(inner) => self.take_opened(inner),
+            Err(why) => self.leave_sealed(why),
+        }
+    }
+
+    /// Passes over a line that wasn't opened.
+    fn leave_sealed(&mut self, why: Unsealed) -> Result<(), AllocError>
+        ensures { OnOk result (desk_of self.new ≡ settled most_steps (left_sealed (desk_of self.old) why)) }
+    {
+        self.unopened = self.unopened.with_one(why);
+        self.pass_line()
+    }
+
+    /// Takes a line that was opened.
+    fn take_opened(&mut self, line: &[u8]) -> Result<(), AllocError>
+        ensures { OnOk result (desk_of self.new ≡ after_opened (desk_of self.old) (Ok line.now)) }
+    {
         match parse_line(self.alloc, line)? {
             Some(read) => {
                 self.take_read(line, read)?;
@@ -181,12 +225,12 @@ impl<A: Allocator + Copy> Desk<A> {
         }
     }
 
-    /// Answers the line at once: with a page's state, or that a block finds no room.
+    /// Answers the line at once: with a page's state, with the site's counts, or that a block finds no room.
     fn show(&mut self, read: &Line<A>) -> Result<(), AllocError>
-        ensures { OnOk result (desk_of self.new ≡ tell (desk_of self.old) (line_text (shown_line (desk_of self.old).node (line_of read.now)))) }
+        ensures { OnOk result (desk_of self.new ≡ tell (desk_of self.old) (line_text (desk_of self.old).seal (shown_line (desk_of self.old).unopened (desk_of self.old).node (line_of read.now)))) }
     {
-        match self.node.line_at_once(read)? {
-            Some(shown) => push_line(&mut self.told, shown.as_str()),
+        match self.node.line_at_once(self.unopened, read)? {
+            Some(shown) => push_sealed(self.alloc, &self.seal, &mut self.told, shown.as_str()),
             None => Ok(()),
         }
     }
@@ -232,16 +276,8 @@ impl<A: Allocator + Copy> Desk<A> {
         ensures { (cause : Cause) → cause_text cause ≡ line.now → OnOk result (desk_of self.new ≡ with_step (desk_of self.old) (Some (said_of cause said.now))) }
     {
         push_entry(self.alloc, &mut self.recorded, said.clock, line)?;
-        push_text(self.alloc, &mut self.told, said)
+        push_text(self.alloc, &self.seal, &mut self.told, said)
     }
-}
-
-/// Appends a line and its line feed.
-fn push_line<A: Allocator + Copy>(told: &mut String<A>, line: &str) -> Result<(), AllocError>
-    ensures { OnOk result (string_bytes told.new ≡ string_bytes told.old ++ (line.now ++ 10 ∷ [])) }
-{
-    told.push_str(line)?;
-    told.push_str("\n")
 }
 
 /// Appends the entry of a step: `step CLOCK LINE`, and a line feed.
@@ -260,19 +296,20 @@ fn push_entry<A: Allocator + Copy>(
     Ok(())
 }
 
-/// Appends the output of a step: the answer, if it has a caller, and what the site sent.
+/// Appends the output of a step, sealed: the answer, if it has a caller, and what the site sent.
 #[tactic(auto, unfolding(crate::specs::Desk::step_text))]
 fn push_text<A: Allocator + Copy>(
     alloc: A,
+    seal: &Seal,
     told: &mut String<A>,
     said: &Said<A>,
 ) -> Result<(), AllocError>
-    ensures { OnOk result (string_bytes told.new ≡ string_bytes told.old ++ step_text (Some (said_of OfRestart said.now))) }
+    ensures { OnOk result (string_bytes told.new ≡ string_bytes told.old ++ step_text (seal_of seal.now) (Some (said_of OfRestart said.now))) }
 {
     if let Some(line) = said.answer_line(alloc)? {
-        push_line(told, line.as_str())?;
+        push_sealed(alloc, seal, told, line.as_str())?;
     }
-    let sent = said.envelopes(alloc)?;
+    let sent = said.envelopes(alloc, seal)?;
     told.push_str(sent.as_str())
 }
 

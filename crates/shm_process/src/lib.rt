@@ -4,28 +4,32 @@
 //! or a store waits for its right, and is made again when it may be there. A block is loaded or stored byte by byte.
 #![tactic(auto)]
 
-mod again;
-mod block;
-mod cause;
+mod answer_lines;
+mod block_load;
+mod block_store;
+mod build_step_output;
+mod check_message_numbers;
 mod desk;
 mod envelope_lines;
-mod heard;
+mod health;
+mod interpret_line;
+mod interpreted_line;
 pub mod laws;
-mod message_numbers;
 mod node;
-mod node_again;
-mod node_hear;
 mod node_replay;
-mod node_say;
-mod node_take;
-mod said;
-mod tell_lines;
+mod node_retries;
+mod node_takes_line;
+mod retried_step;
+mod step_cause;
+mod step_output;
+mod unopened_line_counts;
 mod waiting_ask;
-mod write;
 
-pub use again::Again;
-pub use cause::Cause;
 pub use desk::Desk;
+pub use health::Health;
+pub use interpret_line::input_asked;
 pub use node::Node;
-pub use node_hear::input_asked;
-pub use said::Said;
+pub use retried_step::Again;
+pub use step_cause::Cause;
+pub use step_output::Said;
+pub use unopened_line_counts::Unopened;

@@ -8,11 +8,11 @@ ghost use Rattle.shm_process.specs.NodeOf.{heard_of, node_of, said_of};
 ghost use Rattle.shm_process.specs.Waiting.{after_restart, heard_again, replayed, said_restart};
 ghost use Rattle.shm_site.specs.Step.{input_of, is_foreign};
 
-use crate::cause::Cause;
-use crate::heard::Heard;
+use crate::build_step_output::take_tag;
+use crate::interpreted_line::Heard;
 use crate::node::Node;
-use crate::node_say::take_tag;
-use crate::said::Said;
+use crate::step_cause::Cause;
+use crate::step_output::Said;
 use shm_site::{Input, Made};
 use std::alloc::{AllocError, Allocator};
 

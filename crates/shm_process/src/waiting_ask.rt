@@ -1,6 +1,6 @@
-use crate::block::Block;
-use crate::node_say::is_open;
-use crate::write::Write;
+use crate::block_load::Block;
+use crate::block_store::Write;
+use crate::build_step_output::is_open;
 use shm_model::{Answer, Asked};
 use shm_wire::Tag;
 use std::alloc::{Allocator, Global};

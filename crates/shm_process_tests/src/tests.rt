@@ -1,10 +1,11 @@
-mod beyond;
-mod blocks;
+mod block_loads;
+mod block_stores;
 mod exchanges;
-mod full_heap;
-mod process;
+mod fill_heap;
+mod impossible_envelopes;
+mod seal_digests;
+mod two_nodes;
 mod wire;
-mod writes;
 
 use shm_model::Answer;
 use shm_place::{SiteId, Sites};

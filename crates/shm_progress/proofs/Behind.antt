@@ -2,7 +2,7 @@
 use Rattle.std.proofs.Common.{◌≡◌, ℕ, ◌==◌, ◌&&◌, Option, Some, None, List, [], ◌∷◌, length, nat_le, refl}
 use Rattle.std.proofs.lemmas.Bool.{cond_both}
 use Rattle.shm_model.specs.declared.event.Event.{Event}
-use Rattle.shm_model.specs.declared.kind.Kind.{Kind}
+use Rattle.shm_model.specs.declared.request_kind.Kind.{Kind}
 use Rattle.shm_model.specs.Book.{Book, Running, Waiting, ask_while, awaits, cleared_while, confirm_while, ended, is_waiting, max_waiting, on_ask, serve_next, start, start_first, unserved}
 use Rattle.shm_model.specs.Basics.{greatest}
 use Rattle.shm_model.specs.World.{Opening, run, sites_of}

@@ -2,7 +2,7 @@
 -- causes more, and it serves a request that was not served before. So a number falls with each delivery, and it bounds how many there can
 -- be: that a loop ends where a number falls is from Floyd 1967, "Assigning meanings to programs". The numbers are this repository's own.
 use Rattle.std.specs.Prelude.{◌≡◌, ℕ, ◌+◌, ◌*◌, Bool, false, List, [], ◌∷◌, ◌++◌, map, Option, Some, None, ◌&&◌, not, nat_lt, if◌then◌else◌, is_some, IsTrue, slice_get, sum_by, count_by}
-use Rattle.shm_place.specs.declared.page.PageId.{PageId}
+use Rattle.shm_place.specs.declared.page_id.PageId.{PageId}
 use Rattle.shm_model.specs.declared.event.Event.{Event}
 use Rattle.shm_model.specs.declared.event.Event.TheVariants.{Deliver}
 use Rattle.shm_model.specs.Entry.{Note, Ask, Clear, Cleared, Hand, Page, Confirm}

@@ -1,6 +1,6 @@
 -- Queues: one request of a page is served at a time, and the others wait at its manager (Li and Hudak 1989, §3.2).
 use Rattle.std.specs.Prelude.{◌≡◌, ℕ, [], Some, None, slice_get}
-use Rattle.shm_place.specs.declared.page.PageId.{PageId}
+use Rattle.shm_place.specs.declared.page_id.PageId.{PageId}
 use Rattle.shm_model.specs.Site.{Site}
 use Rattle.shm_model.specs.World.{World}
 

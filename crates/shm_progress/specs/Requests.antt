@@ -1,7 +1,7 @@
 -- A request goes on until its page's manager takes it up: what can't be served yet waits there (Li and Hudak 1989, §3.2). A network that
 -- drops every message, or a manager that forgets who waits, breaks it: a pending request would be nowhere.
 use Rattle.std.specs.Prelude.{◌≡◌, ℕ, ◌<◌, ◌≤◌, true, ◌⊎◌, List, [], ◌∷◌, ◌++◌, Some, None, Contains, length, slice_get}
-use Rattle.shm_place.specs.declared.page.PageId.{PageId}
+use Rattle.shm_place.specs.declared.page_id.PageId.{PageId}
 use Rattle.shm_place.specs.Page.{manager_of}
 use Rattle.shm_model.specs.declared.event.Event.{Event}
 use Rattle.shm_model.specs.Entry.{Ask, seen}

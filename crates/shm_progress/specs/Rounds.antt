@@ -1,10 +1,10 @@
 -- Rounds: every site ticks, and what is on its way is handed over until nothing is. This repository's own.
 use Rattle.std.specs.Prelude.{◌≡◌, ℕ, ◌<◌, ◌≤◌, ◌⊎◌, Bool, true, false, List, [], ◌∷◌, ◌++◌, Some, None, Contains, length, slice_get}
-use Rattle.shm_place.specs.declared.page.PageId.{PageId}
+use Rattle.shm_place.specs.declared.page_id.PageId.{PageId}
 use Rattle.shm_model.specs.declared.event.Event.{Event}
 use Rattle.shm_model.specs.declared.event.Event.TheVariants.{Load, Store, Tick}
-use Rattle.shm_model.specs.declared.kind.Kind.{Kind}
-use Rattle.shm_model.specs.declared.kind.Kind.TheVariants.{Read, Write}
+use Rattle.shm_model.specs.declared.request_kind.Kind.{Kind}
+use Rattle.shm_model.specs.declared.request_kind.Kind.TheVariants.{Read, Write}
 use Rattle.shm_model.specs.Entry.{Entry, readable, writable}
 use Rattle.shm_model.specs.Site.{Pending, Site}
 use Rattle.shm_model.specs.World.{IsOpening, Opening, World, is_full, run, sites_of}

@@ -1,7 +1,7 @@
 -- A transaction goes on until its requester's confirmation is heard (Li and Hudak 1989, §3.2). A network that drops every message, or a
 -- manager that asks for nothing, breaks it: a transaction that runs would have nothing on its way.
 use Rattle.std.specs.Prelude.{◌≡◌, ◌≢◌, ℕ, true, ◌⊎◌, List, [], ◌∷◌, Some, Contains, slice_get}
-use Rattle.shm_place.specs.declared.page.PageId.{PageId}
+use Rattle.shm_place.specs.declared.page_id.PageId.{PageId}
 use Rattle.shm_model.specs.declared.event.Event.{Event}
 use Rattle.shm_model.specs.declared.event.Event.TheVariants.{Restart}
 use Rattle.shm_model.specs.Entry.{Note, Clear, Cleared, Hand, Page, Confirm}

@@ -3,30 +3,30 @@
 //! compute; and, of the code, a world that is brought to rest.
 #![tactic(auto)]
 
-mod calls;
-mod deliveries;
-mod purges;
-mod queues;
-mod requests;
-mod rounds;
-mod schedules;
+mod call_laws;
+mod delivery_laws;
+mod purge_laws;
+mod queue_laws;
+mod random_schedules;
+mod request_laws;
+mod round_laws;
 mod settlement;
-mod transactions;
+mod transaction_laws;
 
-pub use calls::{calls_end, calls_go_on};
-pub use deliveries::{
+pub use call_laws::{calls_end, calls_go_on};
+pub use delivery_laws::{
     deliveries_are_few, deliveries_end, each_delivery_counts, worlds_come_to_rest,
 };
-pub use purges::{purges_end, purges_go_on};
-pub use queues::none_waits_for_nothing;
-pub use requests::{requests_end, requests_go_on, started_requests_are_served};
-pub use rounds::{
-    faults_are_served, nothing_stops_a_site_for_good, rounds_exist, rounds_settle_calls_and_purges,
-    rounds_settle_requests, rounds_settle_transactions, second_rounds_settle_requests,
-};
-pub use schedules::{
+pub use purge_laws::{purges_end, purges_go_on};
+pub use queue_laws::none_waits_for_nothing;
+pub use random_schedules::{
     eighth_schedule, fifth_schedule, first_schedule, fourth_schedule, ninth_schedule,
     second_schedule, seventh_schedule, sixth_schedule, tenth_schedule, third_schedule,
 };
+pub use request_laws::{requests_end, requests_go_on, started_requests_are_served};
+pub use round_laws::{
+    faults_are_served, nothing_stops_a_site_for_good, rounds_exist, rounds_settle_calls_and_purges,
+    rounds_settle_requests, rounds_settle_transactions, second_rounds_settle_requests,
+};
 pub use settlement::{Settled, deliver_all, oldest_from, settle};
-pub use transactions::{transactions_end, transactions_go_on};
+pub use transaction_laws::{transactions_end, transactions_go_on};

@@ -8,10 +8,10 @@ ghost use Rattle.shm_progress.specs.Rest.Deliveries.{HandedOver};
 ghost use Rattle.shm_progress.specs.Rest.Rounds.{IsRound, ServesAll, Settles, StoppedInRound, TickedSome, ticks};
 ghost use Rattle.shm_world.specs.World.{StandsFor, after};
 
-mod deliver;
+mod deliver_oldest_first;
 mod settled;
 
-pub use deliver::{deliver_all, oldest_from};
+pub use deliver_oldest_first::{deliver_all, oldest_from};
 pub use settled::Settled;
 use shm_place::SiteId;
 use shm_world::{Event, World};

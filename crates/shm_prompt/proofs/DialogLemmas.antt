@@ -5,8 +5,8 @@ use Rattle.std.proofs.lemmas.Bool.{cases_lt}
 use Rattle.shm_model.specs.World as model
 use Rattle.shm_model.specs.declared.event.Event.TheVariants as event
 use Rattle.shm_lines.specs.Line.{is_first}
-use Rattle.shm_lines.specs.declared.line.Line.{Line}
-use Rattle.shm_lines.specs.declared.line.Line.TheVariants as line
+use Rattle.shm_lines.specs.declared.script_line.Line.{Line}
+use Rattle.shm_lines.specs.declared.script_line.Line.TheVariants as line
 use Rattle.shm_world.proofs.Runs.{run-then}
 use Rattle.shm_text.specs.Text.{line_text}
 use Rattle.shm_debug.specs.Said.{next}

@@ -1,3 +1,5 @@
 mod CommandLemmas
 mod DialogLemmas
+mod OpenLemmas
 mod SavedLemmas
+mod UndoLemmas

@@ -8,8 +8,8 @@ use Rattle.shm_model.specs.declared.event.Event.{Event}
 use Rattle.shm_model.specs.World.{Opening, New, Preset, Framed}
 use Rattle.shm_lines.specs.Line.{line_of, may_stand}
 use Rattle.shm_lines.specs.Spelling.{IsLine, spelling}
-use Rattle.shm_lines.specs.declared.line.Line.{Line}
-use Rattle.shm_lines.specs.declared.line.Line.TheVariants.{Event as EventLine}
+use Rattle.shm_lines.specs.declared.script_line.Line.{Line}
+use Rattle.shm_lines.specs.declared.script_line.Line.TheVariants.{Event as EventLine}
 use Rattle.shm_debug.specs.Said.{next, standing_after}
 use Rattle.shm_debug.specs.Script.{Script, after, parts_of, placed, read_line, read_on, script_of}
 use Rattle.shm_debug.specs.Standing.{Standing, standing}

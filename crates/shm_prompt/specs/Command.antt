@@ -4,8 +4,8 @@ use Rattle.std.specs.Str.{bytes_eq}
 use Rattle.shm_lines.specs.Line.{line_of}
 use Rattle.shm_lines.specs.Spelling.{IsLine}
 use Rattle.shm_lines.specs.Words.{◌>>=◌, words_of, next_word, next_number, is_end}
-use Rattle.shm_prompt.specs.declared.command.Command.{Command}
-use Rattle.shm_prompt.specs.declared.command.Command.TheVariants.{Line, Flight, Sites, Segments, Run, Undo, Help, Save, Quit}
+use Rattle.shm_prompt.specs.declared.prompt_command.Command.{Command}
+use Rattle.shm_prompt.specs.declared.prompt_command.Command.TheVariants.{Line, Flight, Sites, Book, Segments, Run, Undo, Help, Save, Open, Quit}
 
 -- how many envelopes `run` delivers at most, where it isn't told
 abbrev pub most_by_default : ℕ
@@ -39,13 +39,35 @@ save_of words = do
 abbrev pub sites_of : List ℕ → List (List ℕ) → Option Command
 sites_of bytes words = if is_end words then Some Sites else scripted bytes
 
+-- `book SEGMENT PAGE`
+abbrev pub book_of : List (List ℕ) → Option Command
+book_of words = do
+  (seg, words) ← next_number words
+  (index, words) ← next_number words
+  alone (Book (record { seg = seg; index = index })) words
+
+-- `open FILE`, where the name is one word
+abbrev pub open_of : List (List ℕ) → Option Command
+open_of words = do
+  (name, words) ← next_word words
+  alone Open words
+
+-- the shorter words for `help` and `quit`, a page's book, a script that is opened, or a line of a script
+abbrev pub short_by : List ℕ → List ℕ → List (List ℕ) → Option Command
+short_by bytes verb words =
+    if bytes_eq verb (codes "?") then alone Help words
+    else if bytes_eq verb (codes "exit") then alone Quit words
+    else if bytes_eq verb (codes "book") then book_of words
+    else if bytes_eq verb (codes "open") then open_of words
+    else scripted bytes
+
 abbrev pub other_by : List ℕ → List ℕ → List (List ℕ) → Option Command
 other_by bytes verb words =
     if bytes_eq verb (codes "undo") then alone Undo words
     else if bytes_eq verb (codes "help") then alone Help words
     else if bytes_eq verb (codes "save") then save_of words
     else if bytes_eq verb (codes "quit") then alone Quit words
-    else scripted bytes
+    else short_by bytes verb words
 
 abbrev pub command_by : List ℕ → List ℕ → List (List ℕ) → Option Command
 command_by bytes verb words =

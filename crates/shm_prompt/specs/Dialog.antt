@@ -1,16 +1,20 @@
 -- What stands in a dialog, what is told to the lines of a script, and what the commands make of it.
-use Rattle.std.specs.Prelude.{◌≡◌, ℕ, ◌+◌, ◌≤◌, ◌⊎◌, Bool, true, false, List, [], ◌∷◌, ◌++◌, codes, length, Option, None, Some}
+use Rattle.std.specs.Prelude.{◌≡◌, ℕ, ◌+◌, ◌≤◌, ◌==◌, ◌⊎◌, Bool, true, false, List, [], ◌∷◌, ◌++◌, codes, length, Option, None, Some}
 use Rattle.std.specs.Fmt.{decimal}
+use Rattle.std.specs.List.{slice_split}
 use Rattle.shm_model.specs.declared.event.Event.TheVariants as event
-use Rattle.shm_lines.specs.declared.line.Line.{Line}
-use Rattle.shm_lines.specs.declared.line.Line.TheVariants as line
+use Rattle.shm_lines.specs.Line.{line_of}
+use Rattle.shm_lines.specs.declared.script_line.Line.{Line}
+use Rattle.shm_lines.specs.declared.script_line.Line.TheVariants as line
 use Rattle.shm_text.specs.Text.{line_text}
-use Rattle.shm_debug.specs.Said.{next, said}
+use Rattle.shm_debug.specs.Said.{next, standing_after}
 use Rattle.shm_debug.specs.Standing.{Standing, with_event, world_of}
 use Rattle.shm_prompt.specs.Command.{command_of, is_quit}
-use Rattle.shm_prompt.specs.declared.command.Command.{Command}
-use Rattle.shm_prompt.specs.declared.command.Command.TheVariants as command
-use Rattle.shm_prompt.specs.declared.help.TheConstants.{HELP}
+use Rattle.shm_prompt.specs.Refusals.{said_here}
+use Rattle.shm_prompt.specs.Undo.{told_of_undo, undone}
+use Rattle.shm_prompt.specs.declared.prompt_command.Command.{Command}
+use Rattle.shm_prompt.specs.declared.prompt_command.Command.TheVariants as command
+use Rattle.shm_prompt.specs.declared.help_text.TheConstants.{HELP}
 use Rattle.shm_progress.specs.Deliveries.{IsAtRest}
 use Rattle.shm_progress.specs.Rest.Deliveries.{AreOldest, FirstFrom}
 
@@ -23,9 +27,9 @@ last_line (Some s) = length s.events + 1
 abbrev pub not_begun : List ℕ
 not_begun = codes "no sites stand yet: begin with a line as sites 2 preset 1\n"
 
--- what a replay says to the line, behind the number of the line that stands last then
+-- what a replay says to the line, and behind a refusal its words; all behind the number of the line that stands last then
 abbrev pub answered : Option Standing → Line → List ℕ
-answered s l = line_text (last_line (next s l)) (said s l)
+answered s l = line_text (last_line (next s l)) (said_here s l)
 
 -- what is said to a line of a script
 abbrev pub said_to : Option Standing → Line → List ℕ
@@ -80,8 +84,19 @@ Runs most None new text text' = (new ≡ None) × (text' ≡ text ++ not_begun)
 Runs most (Some s) None text text' = ⊥
 Runs most (Some s) (Some t) text text' = Ran most s t text text'
 
+-- ---- `undo`
+
+-- what stands where no sites stand or where they do, and what is told
+abbrev pub next_undo : Option Standing → Option Standing
+next_undo None = None
+next_undo (Some s) = Some (undone s)
+
+abbrev pub told_undo : Option Standing → List ℕ
+told_undo None = not_begun
+told_undo (Some s) = told_of_undo s
+
 -- ---- what a command makes of what stands, and what it tells behind what was told before: only a script's line, `undo` and `run` change
--- what stands, and `undo` is `back 1`; what the tables tell, and what `save` tells, isn't said
+-- what stands; what the tables tell, and what `save` tells, isn't said
 
 -- something is told
 abbrev pub TellsMore : List ℕ → List ℕ → Type 0
@@ -92,15 +107,61 @@ abbrev pub TellsOfStanding : Option Standing → List ℕ → List ℕ → Type 
 TellsOfStanding None text text' = text' ≡ text ++ not_begun
 TellsOfStanding (Some s) text text' = TellsMore text text'
 
+-- ---- `open`: the lines of a script that was saved, as if they were typed into a fresh session
+
+-- the parts that the line feeds leave
+abbrev pub parts_of : List ℕ → List (List ℕ)
+parts_of bytes = slice_split (λ byte. byte == 10) bytes
+
+-- each part but the last is that line; what stands after the last line feed is none
+abbrev pub Reads : List (List ℕ) → List Line → Type 0
+Reads parts [] = length parts ≤ 1
+Reads parts (l ∷ ls) = (line : List ℕ) × (others : List (List ℕ)) × (parts ≡ line ∷ others) × (line_of line ≡ Some l) × Reads others ls
+
+-- each is told as if it was typed
+abbrev pub told_to : Option Standing → List Line → List ℕ
+told_to s [] = []
+told_to s (l ∷ ls) = said_to s l ++ told_to (next s l) ls
+
+-- of these bytes each line was acted on, and was told
+pub record Plays (bytes : List ℕ) (s t : Option Standing) (text text' : List ℕ) : Type 0 where
+  pub lines : List Line
+  pub read : Reads (parts_of bytes) lines
+  pub stands : t ≡ standing_after s lines
+  pub told : text' ≡ text ++ told_to s lines
+
+-- why a script isn't opened
+abbrev pub wrong_text : ℕ → List ℕ
+wrong_text number = codes "not opened: line " ++ (decimal number ++ codes " is none of a script\n")
+
+abbrev pub unread_text : List ℕ → List ℕ
+unread_text name = codes "not opened: " ++ (name ++ codes " can't be read\n")
+
+abbrev pub empty_text : List ℕ
+empty_text = codes "not opened: no line begins the sites\n"
+
+-- what stands is what these bytes lead to from no sites; or nothing changed, and something is told
+abbrev pub OpensScript : List ℕ → Option Standing → Option Standing → List ℕ → List ℕ → Type 0
+OpensScript bytes old new text text' =
+    ((s : Standing) × (new ≡ Some s) × Plays bytes None (Some s) text text') ⊎ ((new ≡ old) × TellsMore text text')
+
+-- the same of some script, as a file has it
+abbrev pub Opens : Option Standing → Option Standing → List ℕ → List ℕ → Type 0
+Opens old new text text' = (bytes : List ℕ) × OpensScript bytes old new text text'
+
+-- ---- each command
+
 abbrev pub Obeyed : Option Standing → Command → Option Standing → List ℕ → List ℕ → Type 0
 Obeyed old (command.Line l) new text text' = (new ≡ next old l) × (text' ≡ text ++ said_to old l)
-Obeyed old command.Undo new text text' = (new ≡ next old (line.Back 1)) × (text' ≡ text ++ said_to old (line.Back 1))
+Obeyed old command.Undo new text text' = (new ≡ next_undo old) × (text' ≡ text ++ told_undo old)
 Obeyed old (command.Run most) new text text' = Runs most old new text text'
 Obeyed old command.Flight new text text' = (new ≡ old) × TellsOfStanding old text text'
 Obeyed old command.Sites new text text' = (new ≡ old) × TellsOfStanding old text text'
+Obeyed old (command.Book page) new text text' = (new ≡ old) × TellsOfStanding old text text'
 Obeyed old command.Segments new text text' = (new ≡ old) × TellsOfStanding old text text'
 Obeyed old command.Help new text text' = (new ≡ old) × (text' ≡ text ++ HELP.now)
 Obeyed old command.Save new text text' = (new ≡ old) × TellsMore text text'
+Obeyed old command.Open new text text' = Opens old new text text'
 Obeyed old command.Quit new text text' = (new ≡ old) × (text' ≡ text)
 
 -- the same of what was typed; a wrong line changes nothing, and is told something
@@ -128,7 +189,7 @@ HaltedRun most (Some s) (Some t) = SomeDelivered most s t
 
 abbrev pub HaltedCommand : Option Standing → Command → Option Standing → Type 0
 HaltedCommand old (command.Line l) new = Halted old l new
-HaltedCommand old command.Undo new = Halted old (line.Back 1) new
+HaltedCommand old command.Undo new = (new ≡ old) ⊎ (new ≡ next_undo old)
 HaltedCommand old (command.Run most) new = HaltedRun most old new
 HaltedCommand old _ new = new ≡ old
 

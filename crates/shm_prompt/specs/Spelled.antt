@@ -2,7 +2,7 @@
 use Rattle.std.specs.Prelude.{◌≡◌, ℕ, ◌≤◌, ◌==◌, true, not, List, [], ◌∷◌, ◌++◌, length}
 use Rattle.std.specs.List.{list_all}
 use Rattle.shm_lines.specs.Spelling.{IsLine, spelling}
-use Rattle.shm_lines.specs.declared.line.Line.{Line}
+use Rattle.shm_lines.specs.declared.script_line.Line.{Line}
 
 -- the most bytes of a line of a script
 abbrev pub max_line_bytes : ℕ

@@ -2,7 +2,7 @@
 ghost use Rattle.std.specs.Prelude.{◌≡◌, true, IfOk, OnErr};
 ghost use Rattle.shm_prompt.specs.Dialog.{Delivered, SomeDelivered};
 
-use crate::dialog_act::happen;
+use crate::script_line_act::happen;
 use shm_debug::Session;
 use shm_model::Event;
 use shm_progress::oldest_from;

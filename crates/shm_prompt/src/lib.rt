@@ -1,29 +1,34 @@
 //! The debugger's session for people at a terminal. It answers each line before it reads the next, and goes on after a wrong line.
 #![tactic(auto)]
 
-mod command;
 mod deliver_all;
-mod dialog;
-mod dialog_act;
-mod dialog_obey;
-mod flight;
-mod help;
-mod hints;
+mod dialog_state;
+mod envelopes_in_flight;
+mod help_text;
+mod last_change;
+mod line_assembler;
+mod obey_command;
+mod open_script;
+mod output_line;
 mod pages_table;
-mod prompt_fault;
+mod prompt_command;
+mod prompt_error;
 mod prompt_loop;
-mod save_file;
+mod refusal_words;
+mod save_file_trait;
 mod save_refusal;
-mod save_script;
-mod segments;
-mod spelled_line;
-mod tell_line;
-mod typed_input;
+mod saved_script_text;
+mod script_line_act;
+mod segments_table;
+mod spell_saved_line;
+mod undo_command;
+mod waiting_sites;
+mod wrong_line_hints;
 
-pub use command::{Command, parse_command};
-pub use dialog::Dialog;
-pub use prompt_fault::PromptFault;
+pub use dialog_state::Dialog;
+pub use prompt_command::{Command, parse_command};
+pub use prompt_error::PromptFault;
 pub use prompt_loop::prompt;
-pub use save_file::SaveFile;
+pub use save_file_trait::SaveFile;
 pub use save_refusal::SaveRefusal;
-pub use save_script::saved_script;
+pub use saved_script_text::saved_script;

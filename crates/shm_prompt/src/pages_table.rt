@@ -1,12 +1,15 @@
-//! `sites`: a row for each page that was asked for, a column for each site, and the manager's book.
-use crate::flight::pages_in_flight;
+//! `sites` and `book`: a row for each page that was asked for, or for one; a column for each site, and the manager's book.
+use crate::envelopes_in_flight::pages_in_flight;
+use crate::waiting_sites::{
+    show_cleared, show_copies, show_page_requests, show_requests, show_waiting,
+};
 use shm_keys::Segment;
 use shm_model::{Kind, Shown, State};
-use shm_place::{MAX_SITES, PAGE_BYTES, PAGES, PageId, SiteId, SiteSet, manager_of};
+use shm_place::{PAGE_BYTES, PAGES, PageId, SiteId, in_limits, manager_of};
 use shm_world::{BookView, World};
 use std::alloc::{AllocError, Allocator};
 
-/// Shows each page that some site has asked for.
+/// Shows each page that some site has asked for, and below what each site waits for.
 pub(crate) fn show_pages<A: Allocator + Copy>(
     text: &mut String<A>,
     world: &World<A>,
@@ -16,7 +19,22 @@ pub(crate) fn show_pages<A: Allocator + Copy>(
     'homes: for home in 0..world.sites().count() {
         show_home(text, world, flying.as_slice(), SiteId(home))?;
     }
-    Ok(())
+    show_requests(text, world)
+}
+
+/// Shows this page, and below it which sites wait for it.
+pub(crate) fn show_book<A: Allocator + Copy>(
+    text: &mut String<A>,
+    world: &World<A>,
+    page: PageId,
+) -> Result<(), AllocError> {
+    let place = &page;
+    if !in_limits(world.sites(), *place) {
+        return text.push_str("no segment can have that page\n");
+    }
+    head(text, world.sites().count())?;
+    show_row(text, world, place)?;
+    show_page_requests(text, world, *place)
 }
 
 /// The names of the columns.
@@ -110,7 +128,13 @@ fn show_row<A: Allocator + Copy>(
     'sites: for site in 0..world.sites().count() {
         show_cell(text, world.shown(SiteId(site), *page))?;
     }
-    show_manager(text, manager_of(world.sites(), *page), world.book(*page))
+    let manager = manager_of(world.sites(), *page);
+    show_manager(text, manager, world.book(*page))?;
+    if let Some(site) = world.site(manager) {
+        show_cleared(text, site.cleared(*page))?;
+        show_waiting(text, site, *page)?;
+    }
+    text.push_str("\n")
 }
 
 /// The state in which a site has the page, and the number that it met last.
@@ -145,30 +169,12 @@ fn show_manager<A: Allocator + Copy>(
 ) -> Result<(), AllocError> {
     write!(text, "{}: ", manager.0)?;
     let Some(book) = book else {
-        return text.push_str("purged\n");
+        return text.push_str("purged");
     };
     write!(text, "owner {} copies ", book.owner.0)?;
     show_copies(text, book.copies)?;
     write!(text, " t {}", book.number)?;
     show_running(text, book.running)
-}
-
-/// The sites that may have copies, with commas between them; or a dash.
-fn show_copies<A: Allocator + Copy>(
-    text: &mut String<A>,
-    copies: SiteSet,
-) -> Result<(), AllocError> {
-    let mut mark = "";
-    'sites: for site in 0..MAX_SITES {
-        if copies.contains(SiteId(site)) {
-            write!(text, "{mark}{site}")?;
-            mark = ",";
-        }
-    }
-    if mark.is_empty() {
-        return text.push_str("-");
-    }
-    Ok(())
 }
 
 /// Prints what the running transaction gives, and to which site.
@@ -177,10 +183,10 @@ fn show_running<A: Allocator + Copy>(
     running: Option<(Kind, SiteId)>,
 ) -> Result<(), AllocError> {
     let Some((kind, site)) = running else {
-        return text.push_str(" idle\n");
+        return text.push_str(" idle");
     };
     match kind {
-        Kind::Read => writeln!(text, " read {}", site.0),
-        Kind::Write => writeln!(text, " write {}", site.0),
+        Kind::Read => write!(text, " read {}", site.0),
+        Kind::Write => write!(text, " write {}", site.0),
     }
 }

@@ -4,7 +4,7 @@ use Rattle.std.specs.Prelude.{MatchBool}
 use Rattle.std.specs.List.{AllZip, filter}
 use Rattle.std.proofs.lemmas.List.{append-nil, take_more}
 use Rattle.std.proofs.lemmas.List.Elements.{filter-append}
-use Rattle.shm_logs.specs.declared.boxes.receipt.Receipt.{Receipt}
+use Rattle.shm_logs.specs.declared.site_boxes.receipt.Receipt.{Receipt}
 use Rattle.shm_lines.specs.declared.workload_access.WorkloadAccess.{WorkloadAccess}
 use Rattle.shm_report.specs.Callers.{Adds, Serves, ServesAll}
 

@@ -2,17 +2,17 @@
 use Rattle.std.proofs.Common.{◌≡◌, ◌≢◌, ◌⊎◌, ◌≤◌, ◌<◌, ◌+◌, inl, inr, ℕ, List, Option, None, Some, Err, Ok, IfSome, false, true, length, min, take, arith, refl, subst, sym}
 use Rattle.shm_lines.specs.Limits.{max_bytes}
 use Rattle.shm_lines.specs.Workload.{workload_of, Whole}
-use Rattle.shm_lines.specs.declared.workload_fault.WorkloadFault.{WorkloadFault}
-use Rattle.shm_lines.specs.declared.workload_fault.WorkloadFault.TheVariants as workload
+use Rattle.shm_lines.specs.declared.workload_error.WorkloadFault.{WorkloadFault}
+use Rattle.shm_lines.specs.declared.workload_error.WorkloadFault.TheVariants as workload
 use Rattle.shm_report.specs.Causes.{ends_writing, fault_of_access, fault_of_run, given_up, input_cause, is_after_reading, IsLineIn, IsLineOf, IsWrongBy}
 use Rattle.shm_report.specs.RunFaults.{NamesAccess}
-use Rattle.shm_report.specs.declared.report_fault.ReportFault.{ReportFault}
-use Rattle.shm_report.specs.declared.report_fault.ReportFault.TheVariants as report
-use Rattle.shm_report.specs.declared.run_fault.RunFault.{RunFault}
-use Rattle.shm_report.specs.declared.run_fault.RunFault.TheVariants as run
-use Rattle.shm_sites.specs.declared.cluster.client_fault.ClientFault.{ClientFault}
-use Rattle.shm_sites.specs.declared.cluster.client_fault.ClientFault.TheVariants as client
-use Rattle.shm_sites.specs.declared.cluster.start_fault.StartFault.TheVariants as start
+use Rattle.shm_report.specs.declared.report_error.ReportFault.{ReportFault}
+use Rattle.shm_report.specs.declared.report_error.ReportFault.TheVariants as report
+use Rattle.shm_report.specs.declared.call_and_run_error.RunFault.{RunFault}
+use Rattle.shm_report.specs.declared.call_and_run_error.RunFault.TheVariants as run
+use Rattle.shm_sites.specs.declared.cluster.client_error.ClientFault.{ClientFault}
+use Rattle.shm_sites.specs.declared.cluster.client_error.ClientFault.TheVariants as client
+use Rattle.shm_sites.specs.declared.cluster.start_error.StartFault.TheVariants as start
 use Rattle.shm_report.proofs.CutInput.{whole_fault}
 
 of_none : {A : Type 0} (o : Option A) (P : A → Type 0) → o ≡ None → IfSome o P

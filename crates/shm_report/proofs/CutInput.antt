@@ -8,8 +8,8 @@ use Rattle.std.proofs.lemmas.List.Splits.{join_with_byte-slice_split, length-sli
 use Rattle.shm_lines.specs.Limits.{max_bytes}
 use Rattle.shm_lines.specs.Workload.{Whole, access_of, accesses_on, after_first, broken_limit, open_line, or_bad, parts_of, preset_of, read_all, read_line, then_rest, unless_broken, with_size, workload_of}
 use Rattle.shm_lines.specs.declared.workload_access.WorkloadAccess.{WorkloadAccess}
-use Rattle.shm_lines.specs.declared.workload_fault.WorkloadFault.{WorkloadFault}
-use Rattle.shm_lines.specs.declared.workload_fault.WorkloadFault.TheVariants.{BadLine, LineTooLong, TooManyLines}
+use Rattle.shm_lines.specs.declared.workload_error.WorkloadFault.{WorkloadFault}
+use Rattle.shm_lines.specs.declared.workload_error.WorkloadFault.TheVariants.{BadLine, LineTooLong, TooManyLines}
 use Rattle.shm_report.proofs.WholeInput.{in_limits}
 
 -- the parts of two texts, one behind the other: the last part of one and the first part of the other are one part

@@ -5,7 +5,7 @@ use Rattle.std.proofs.lemmas.Bool.Decides.{nat_tests}
 use Rattle.std.proofs.lemmas.List.{take_more}
 use Rattle.std.proofs.lemmas.Option.{none-some}
 use Rattle.shm_report.specs.RunFaults.{earlier, fault_of, FirstIfAny, IsFirstFault, NoneFailed}
-use Rattle.shm_report.specs.declared.run_fault.CallFault.{CallFault}
+use Rattle.shm_report.specs.declared.call_and_run_error.CallFault.{CallFault}
 
 same_some : {X : Type 0} (x y : X) → Some x ≡ Some y → x ≡ y
 same_some x y e = cc

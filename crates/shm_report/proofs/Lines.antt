@@ -1,7 +1,7 @@
 -- One more line of a report.
 use Rattle.std.proofs.Common.{◌≡◌, ◌∙◌, ℕ, ◌+◌, List, [], ◌∷◌, ◌++◌, length, ap, sym, arith, append_assoc, append-nil}
 use Rattle.shm_logs.specs.Boxes.Receipt.{receipt_of}
-use Rattle.shm_logs.specs.declared.boxes.receipt.Receipt.{Receipt}
+use Rattle.shm_logs.specs.declared.site_boxes.receipt.Receipt.{Receipt}
 use Rattle.shm_text.specs.Text.{answer_text, line_text}
 use Rattle.shm_report.specs.Report.{answers_text}
 

@@ -2,7 +2,7 @@
 use Rattle.std.proofs.Common.{◌≡◌, ◌∙◌, ℕ, ◌+◌, ◌<◌, List, [], ◌∷◌, ◌++◌, length, map, get_or, take, ap, sym, arith, append_assoc, append-nil}
 use Rattle.std.proofs.lemmas.List.{get_or-map, length-map, length-take, take_more}
 use Rattle.shm_logs.specs.Boxes.Logged.{logged_of}
-use Rattle.shm_logs.specs.declared.boxes.step.Step.{Step}
+use Rattle.shm_logs.specs.declared.site_boxes.logged_step.Step.{Step}
 use Rattle.shm_report.specs.LogText.{log_text, one_sent, sent_text, step_text}
 use Rattle.shm_model.specs.Log.{Logged}
 use Rattle.shm_model.specs.Message.{Envelope}

@@ -9,10 +9,10 @@ use Rattle.shm_report.specs.Callers.{AllServed}
 use Rattle.shm_report.specs.Causes.{IsRight}
 use Rattle.shm_report.specs.Counts.{summary_text}
 use Rattle.shm_report.specs.Report.{audit_yes, whole_of, IsCutShort, IsReport, IsReportOf, IsSummedReport, IsToldReport, TellsLines}
-use Rattle.shm_report.specs.declared.audited.Audited.{Audited}
+use Rattle.shm_report.specs.declared.audited_run.Audited.{Audited}
 use Rattle.shm_logs.specs.Auditing.Logs.{logs_of}
 use Rattle.shm_logs.specs.Boxes.SiteLog.{steps_of}
-use Rattle.shm_logs.specs.declared.boxes.receipt.Receipt.{Receipt}
+use Rattle.shm_logs.specs.declared.site_boxes.receipt.Receipt.{Receipt}
 use Rattle.shm_lines.specs.Workload.{workload_of}
 use Rattle.shm_lines.specs.declared.workload_access.WorkloadAccess.{WorkloadAccess}
 

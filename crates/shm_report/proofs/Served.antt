@@ -3,14 +3,14 @@ use Rattle.std.proofs.Common.{◌≡◌, ◌∙◌, ℕ, zero, suc, ◌<◌, Lis
 use Rattle.std.proofs.lemmas.Option.{get_or_from_slice_get, none-some, slice_get_within}
 use Rattle.std.proofs.Math.ListN.{length-map, get_or-map}
 use Rattle.std.specs.Prelude.{Vec}
-use Rattle.shm_logs.specs.declared.boxes.receipt.Receipt.{Receipt}
+use Rattle.shm_logs.specs.declared.site_boxes.receipt.Receipt.{Receipt}
 use Rattle.shm_lines.specs.declared.workload_access.WorkloadAccess.{WorkloadAccess}
 use Rattle.shm_report.specs.Callers.{AllServed, ServedUnlessEnded, ServesAll}
 use Rattle.shm_report.specs.RunFaults.{NamesAccess, NoneFailed, TellsFirst}
-use Rattle.shm_report.specs.declared.ran.Ran.{Ran}
-use Rattle.shm_report.specs.declared.run_fault.CallFault.{CallFault}
-use Rattle.shm_report.specs.declared.run_fault.RunFault.{RunFault}
-use Rattle.shm_report.specs.declared.run_fault.RunFault.TheVariants as run
+use Rattle.shm_report.specs.declared.workload_outcome.Ran.{Ran}
+use Rattle.shm_report.specs.declared.call_and_run_error.CallFault.{CallFault}
+use Rattle.shm_report.specs.declared.call_and_run_error.RunFault.{RunFault}
+use Rattle.shm_report.specs.declared.call_and_run_error.RunFault.TheVariants as run
 
 pub all_served : {A : Type 0} (sites : ℕ) (accesses : List WorkloadAccess) (told : List (Result (Vec Receipt A) CallFault)) (callers : List (Vec Receipt A))
     → ServedUnlessEnded sites accesses told → told ≡ map Ok callers → AllServed sites accesses callers

@@ -11,8 +11,8 @@ use Rattle.std.specs.List.{join_with_byte}
 use Rattle.shm_lines.specs.Limits.{max_bytes}
 use Rattle.shm_lines.specs.Workload.{Whole, access_of, accesses_on, after_first, open_line, or_bad, parts_of, preset_of, read_all, read_line, then_rest, unless_broken, with_size, workload_of}
 use Rattle.shm_lines.specs.declared.workload_access.WorkloadAccess.{WorkloadAccess}
-use Rattle.shm_lines.specs.declared.workload_fault.WorkloadFault.{WorkloadFault}
-use Rattle.shm_lines.specs.declared.workload_fault.WorkloadFault.TheVariants.{LineTooLong, TooManyLines}
+use Rattle.shm_lines.specs.declared.workload_error.WorkloadFault.{WorkloadFault}
+use Rattle.shm_lines.specs.declared.workload_error.WorkloadFault.TheVariants.{LineTooLong, TooManyLines}
 
 no_limit : {A : Type 0} (many long : Bool) (number : ℕ) (said : Result A WorkloadFault) (x : A)
     → unless_broken (if many then Some TooManyLines else if long then Some (LineTooLong number) else None) said ≡ Ok x → (many ≡ false) × (long ≡ false)

@@ -8,8 +8,8 @@ use Rattle.shm_model.specs.World.{Preset}
 use Rattle.shm_report.specs.Callers.{AllServed}
 use Rattle.shm_report.specs.Counts.{counts_of, summary_text}
 use Rattle.shm_report.specs.Report.{whole_of, IsReportOf}
-use Rattle.shm_report.specs.declared.audited.Audited.{Audited}
-use Rattle.shm_report.specs.declared.counts.Counts.{Counts}
+use Rattle.shm_report.specs.declared.audited_run.Audited.{Audited}
+use Rattle.shm_report.specs.declared.run_counts.Counts.{Counts}
 
 -- An audit accepted what the sites logged and what their callers were told: all of what they were told, a receipt for each line.
 pub record IsAccepted (run : Audited) : Type 0 where

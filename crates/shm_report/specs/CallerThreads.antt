@@ -2,10 +2,10 @@
 use Rattle.std.specs.Prelude.{◌≡◌, ℕ, ◌<◌, List, Result, Vec, length, slice_index_or}
 use Rattle.std.specs.declared.alloc.Global.{Global}
 use Rattle.std.specs.declared.thread.PromisedHandle.{PromisedHandle}
-use Rattle.shm_logs.specs.declared.boxes.receipt.Receipt.{Receipt}
+use Rattle.shm_logs.specs.declared.site_boxes.receipt.Receipt.{Receipt}
 use Rattle.shm_lines.specs.declared.workload_access.WorkloadAccess.{WorkloadAccess}
 use Rattle.shm_report.specs.declared.caller_threads.Caller.{Caller}
-use Rattle.shm_report.specs.declared.run_fault.CallFault.{CallFault}
+use Rattle.shm_report.specs.declared.call_and_run_error.CallFault.{CallFault}
 
 -- the caller of this site, for its part of these accesses
 pub record IsCaller (accesses : List WorkloadAccess) (site : ℕ) (caller : Caller) : Type 0 where

@@ -2,9 +2,9 @@
 use Rattle.std.specs.Prelude.{◌≡◌, ℕ, ◌<◌, ◌==◌, List, [], ◌∷◌, ◌++◌, Result, Vec, IfErr, IfOk, MatchBool, length, slice_index_or}
 use Rattle.std.specs.List.{AllZip, filter}
 use Rattle.shm_model.specs.Receipt.{access_of}
-use Rattle.shm_logs.specs.declared.boxes.receipt.Receipt.{Receipt}
+use Rattle.shm_logs.specs.declared.site_boxes.receipt.Receipt.{Receipt}
 use Rattle.shm_sites.specs.Cluster.Client.{IsServed, TellsOf}
-use Rattle.shm_report.specs.declared.run_fault.CallFault.{CallFault}
+use Rattle.shm_report.specs.declared.call_and_run_error.CallFault.{CallFault}
 use Rattle.shm_lines.specs.declared.workload_access.WorkloadAccess.{WorkloadAccess}
 
 -- a site's lines, in their order

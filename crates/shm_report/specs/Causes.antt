@@ -3,20 +3,20 @@ use Rattle.std.specs.Prelude.{◌≡◌, ◌≤◌, ℕ, ◌+◌, Bool, true, fa
 use Rattle.std.specs.declared.alloc.Global.{Global}
 use Rattle.shm_logs.specs.Auditing.Callers.{callers_of}
 use Rattle.shm_logs.specs.Auditing.Complete.{IsFirstCauseOfAll}
-use Rattle.shm_logs.specs.declared.log_audit.audit_fault.AuditFault.{AuditFault}
-use Rattle.shm_logs.specs.declared.boxes.receipt.Receipt.{Receipt}
-use Rattle.shm_sites.specs.declared.cluster.client_fault.ClientFault.{ClientFault}
-use Rattle.shm_sites.specs.declared.cluster.client_fault.ClientFault.TheVariants as client
-use Rattle.shm_sites.specs.declared.cluster.start_fault.StartFault.TheVariants as start
+use Rattle.shm_logs.specs.declared.log_audit.audit_error.AuditFault.{AuditFault}
+use Rattle.shm_logs.specs.declared.site_boxes.receipt.Receipt.{Receipt}
+use Rattle.shm_sites.specs.declared.cluster.client_error.ClientFault.{ClientFault}
+use Rattle.shm_sites.specs.declared.cluster.client_error.ClientFault.TheVariants as client
+use Rattle.shm_sites.specs.declared.cluster.start_error.StartFault.TheVariants as start
 use Rattle.shm_model.specs.Log.{Logged}
 use Rattle.shm_report.specs.Callers.{AllServed}
-use Rattle.shm_report.specs.declared.run_fault.RunFault.{RunFault}
-use Rattle.shm_report.specs.declared.run_fault.RunFault.TheVariants as run
+use Rattle.shm_report.specs.declared.call_and_run_error.RunFault.{RunFault}
+use Rattle.shm_report.specs.declared.call_and_run_error.RunFault.TheVariants as run
 use Rattle.shm_lines.specs.Workload.{Whole, workload_of}
-use Rattle.shm_lines.specs.declared.workload_fault.WorkloadFault.{WorkloadFault}
-use Rattle.shm_lines.specs.declared.workload_fault.WorkloadFault.TheVariants as workload
-use Rattle.shm_report.specs.declared.report_fault.ReportFault.{ReportFault}
-use Rattle.shm_report.specs.declared.report_fault.ReportFault.TheVariants as report
+use Rattle.shm_lines.specs.declared.workload_error.WorkloadFault.{WorkloadFault}
+use Rattle.shm_lines.specs.declared.workload_error.WorkloadFault.TheVariants as workload
+use Rattle.shm_report.specs.declared.report_error.ReportFault.{ReportFault}
+use Rattle.shm_report.specs.declared.report_error.ReportFault.TheVariants as report
 
 -- what is wrong with the workload
 abbrev pub input_cause : ReportFault → Option WorkloadFault

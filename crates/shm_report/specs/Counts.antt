@@ -7,7 +7,7 @@ use Rattle.shm_model.specs.declared.answer.Answer.{Answer}
 use Rattle.shm_model.specs.declared.answer.Answer.TheVariants.{Fault}
 use Rattle.shm_model.specs.declared.event.Event.{Event}
 use Rattle.shm_model.specs.declared.event.Event.TheVariants.{Repeat}
-use Rattle.shm_report.specs.declared.counts.Counts.{Counts}
+use Rattle.shm_report.specs.declared.run_counts.Counts.{Counts}
 
 -- a load or store that had to wait for its page is answered so when its site asks for it
 abbrev pub is_fault : Answer → Bool

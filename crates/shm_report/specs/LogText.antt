@@ -2,7 +2,7 @@
 use Rattle.std.specs.Prelude.{ℕ, ◌+◌, List, [], ◌∷◌, ◌++◌, codes}
 use Rattle.std.specs.Fmt.{decimal}
 use Rattle.shm_lines.specs.Spelling.{spelling}
-use Rattle.shm_lines.specs.declared.line.Line.TheVariants.{Event}
+use Rattle.shm_lines.specs.declared.script_line.Line.TheVariants.{Event}
 use Rattle.shm_model.specs.Log.{Logged, Stamp}
 use Rattle.shm_model.specs.Message.{Envelope, Input, Load, Store, Begin, Deliver, Tick, Restart}
 use Rattle.shm_model.specs.declared.event.Event.TheVariants as event

@@ -2,8 +2,8 @@
 use Rattle.std.specs.Prelude.{ℕ}
 use Rattle.shm_model.specs.Refusal.{bad_line, clock_end, gave_up, line_too_long, no_thread, other_logs, out_of_memory, read_fault, too_many_lines, write_fault}
 use Rattle.shm_logs.specs.Auditing.Cause.{audit_fault_number}
-use Rattle.shm_report.specs.declared.report_fault.ReportFault.{ReportFault}
-use Rattle.shm_report.specs.declared.report_fault.ReportFault.TheVariants as fault
+use Rattle.shm_report.specs.declared.report_error.ReportFault.{ReportFault}
+use Rattle.shm_report.specs.declared.report_error.ReportFault.TheVariants as fault
 
 abbrev pub report_fault_number : ReportFault → ℕ
 report_fault_number fault.OutOfMemory = out_of_memory

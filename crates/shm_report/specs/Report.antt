@@ -6,7 +6,7 @@ use Rattle.shm_logs.specs.Auditing.Audit.{IsAudited}
 use Rattle.shm_logs.specs.Auditing.Callers.{callers_of}
 use Rattle.shm_logs.specs.Auditing.Complete.{AllTold}
 use Rattle.shm_logs.specs.Boxes.Receipt.{receipt_of}
-use Rattle.shm_logs.specs.declared.boxes.receipt.Receipt.{Receipt}
+use Rattle.shm_logs.specs.declared.site_boxes.receipt.Receipt.{Receipt}
 use Rattle.shm_model.specs.declared.event.Event.{Event}
 use Rattle.shm_model.specs.Log.{Logged}
 use Rattle.shm_model.specs.World.{Preset}

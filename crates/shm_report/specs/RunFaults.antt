@@ -2,9 +2,9 @@
 use Rattle.std.specs.Prelude.{◌≡◌, ℕ, ◌<◌, ◌≤◌, List, Result, Ok, Err, Option, None, Some, if◌then◌else◌, nat_lt, slice_get}
 use Rattle.shm_model.specs.Refusal.{other_logs, out_of_memory}
 use Rattle.shm_sites.specs.Cluster.Faults.{client_fault_number, start_fault_number}
-use Rattle.shm_report.specs.declared.run_fault.CallFault.{CallFault}
-use Rattle.shm_report.specs.declared.run_fault.RunFault.{RunFault}
-use Rattle.shm_report.specs.declared.run_fault.RunFault.TheVariants as run
+use Rattle.shm_report.specs.declared.call_and_run_error.CallFault.{CallFault}
+use Rattle.shm_report.specs.declared.call_and_run_error.RunFault.{RunFault}
+use Rattle.shm_report.specs.declared.call_and_run_error.RunFault.TheVariants as run
 
 -- the fault of an access names one of so many
 abbrev pub NamesAccess : ℕ → RunFault → Type 0

@@ -4,8 +4,8 @@ ghost use Rattle.shm_lines.specs.declared.workload_access.WorkloadAccess.{Worklo
 ghost use Rattle.shm_report.specs.Callers.{IsToldOf, ServedUnlessEnded};
 ghost use Rattle.shm_report.specs.CallerThreads.{AreCallers};
 
-use crate::caller::call_all;
-use crate::run_fault::CallFault;
+use crate::call_and_run_error::CallFault;
+use crate::site_caller::call_all;
 use shm_lines::WorkloadAccess;
 use shm_place::{SiteId, Sites};
 use shm_sites::{Receipt, Shared, StartFault};

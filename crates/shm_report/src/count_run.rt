@@ -8,7 +8,7 @@ ghost use Rattle.shm_logs.specs.Boxes.SiteLog.{steps_of};
 ghost use Rattle.shm_model.specs.Log.{sent_by};
 ghost use Rattle.shm_report.specs.Counts as spec;
 
-use crate::counts::Counts;
+use crate::run_counts::Counts;
 use shm_sites::{Answer, Event, SiteLog, Step};
 use std::alloc::{AllocError, Global};
 

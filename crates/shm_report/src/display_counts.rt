@@ -2,7 +2,7 @@
 ghost use Rattle.std.specs.Prelude.{Some};
 ghost use Rattle.shm_report.specs.Counts.{counts_text};
 
-use crate::counts::Counts;
+use crate::run_counts::Counts;
 use std::fmt;
 
 impl fmt::Display for Counts {

@@ -2,29 +2,29 @@
 //! writes the answer to each line.
 #![tactic(auto)]
 
-mod audited;
-mod audited_summary;
-mod caller;
+mod audited_run;
+mod audited_text;
+mod call_and_run_error;
 mod caller_threads;
 mod count_run;
-mod counts;
 mod display_counts;
-mod fault_number;
+mod error_numbers;
 mod log_lines;
-mod order_steps;
-mod ran;
+mod order_run_steps;
 mod read_input;
-mod report_fault;
+mod report_error;
 mod report_text;
 mod report_workload;
-mod run_fault;
+mod run_counts;
+mod site_caller;
+mod workload_outcome;
 mod workload_run;
 
-pub use audited::Audited;
-pub use counts::Counts;
+pub use audited_run::Audited;
+pub use call_and_run_error::{CallFault, RunFault};
 pub use log_lines::log_text;
-pub use ran::Ran;
-pub use report_fault::ReportFault;
-pub use report_workload::{report, run_audited};
-pub use run_fault::{CallFault, RunFault};
+pub use report_error::ReportFault;
+pub use report_workload::{read_workload, report, run_audited};
+pub use run_counts::Counts;
+pub use workload_outcome::Ran;
 pub use workload_run::run_workload;

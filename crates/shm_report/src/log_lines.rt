@@ -3,7 +3,7 @@ ghost use Rattle.std.specs.Prelude.{◌≡◌, ◌++◌, Some, map, IfErr, IfOk,
 ghost use Rattle.shm_logs.specs.Boxes.Logged.{logged_of, stamp_of};
 ghost use Rattle.shm_logs.specs.Boxes.SiteLog.{steps_of};
 ghost use Rattle.shm_lines.specs.Spelling.{spelling};
-ghost use Rattle.shm_lines.specs.declared.line.Line.TheVariants as line;
+ghost use Rattle.shm_lines.specs.declared.script_line.Line.TheVariants as line;
 ghost use Rattle.shm_model.specs.Log.{Stamp as Source};
 ghost use Rattle.shm_model.specs.Message.{Deliver};
 ghost use Rattle.shm_parts.specs.Message.{envelope_of};

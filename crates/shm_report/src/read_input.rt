@@ -2,9 +2,9 @@
 ghost use Rattle.std.specs.Prelude.{◌≡◌, ◌≢◌, false, take, IfErr, IfOk, IfSome};
 ghost use Rattle.shm_lines.specs.Limits.{max_bytes};
 ghost use Rattle.shm_report.specs.Causes.{is_after_reading, IsOther};
-ghost use Rattle.shm_report.specs.declared.report_fault.ReportFault.TheVariants as cause;
+ghost use Rattle.shm_report.specs.declared.report_error.ReportFault.TheVariants as cause;
 
-use crate::report_fault::ReportFault;
+use crate::report_error::ReportFault;
 use shm_text::read_up_to;
 use std::alloc::Global;
 use std::io::Read;

@@ -4,9 +4,9 @@ ghost use Rattle.std.specs.Io.KnownBytes.{Appends};
 ghost use Rattle.shm_report.specs.Callers.{AllServed};
 ghost use Rattle.shm_report.specs.Causes.{ends_writing, IsOther};
 ghost use Rattle.shm_report.specs.Report.{audit_yes, IsCutShort, HasReceipt, TellsLines, TellsReceipt};
-ghost use Rattle.shm_report.specs.declared.report_fault.ReportFault.TheVariants as cause;
+ghost use Rattle.shm_report.specs.declared.report_error.ReportFault.TheVariants as cause;
 
-use crate::report_fault::ReportFault;
+use crate::report_error::ReportFault;
 use shm_lines::WorkloadAccess;
 use shm_place::MAX_SITES;
 use shm_sites::Receipt;

@@ -7,12 +7,12 @@ ghost use Rattle.shm_report.specs.Callers.{AllServed};
 ghost use Rattle.shm_lines.specs.Workload.{workload_of};
 ghost use Rattle.shm_report.specs.Causes.{audit_cause, given_up, input_cause, is_after_reading, IsFound, IsFoundIn, IsLineIn, IsRight, IsWrongBy};
 ghost use Rattle.shm_report.specs.Report.{whole_of, IsCutShort, IsReport};
-ghost use Rattle.shm_report.specs.declared.report_fault.ReportFault.TheVariants as cause;
+ghost use Rattle.shm_report.specs.declared.report_error.ReportFault.TheVariants as cause;
 
-use crate::audited::Audited;
-use crate::order_steps::order_steps;
+use crate::audited_run::Audited;
+use crate::order_run_steps::order_steps;
 use crate::read_input::read_all;
-use crate::report_fault::ReportFault;
+use crate::report_error::ReportFault;
 use crate::{Ran, run_workload};
 use shm_lines::{Workload, parse_workload};
 use shm_place::{PAGES, Sites};
@@ -77,8 +77,8 @@ pub fn run_audited<R: Threads + Wait + Copy + Send + Sync + 'static, I: Read>(
     audit_run(alloc, sites, workload, ran)
 }
 
-/// Reads the workload.
-fn read_workload<I: Read>(
+/// Reads the reader to its end, a workload for this many sites.
+pub fn read_workload<I: Read>(
     alloc: Global,
     sites: Sites,
     reader: &mut I,

@@ -3,12 +3,12 @@ ghost use Rattle.shm_logs.specs.Auditing.Logs.{AreLogsOf};
 ghost use Rattle.shm_report.specs.Callers.{AllServed, ServedUnlessEnded};
 ghost use Rattle.shm_report.specs.RunFaults as said;
 ghost use Rattle.shm_report.specs.RunFaults.{FirstIfAny, NamesAccess, NoneFailed, TellsFirst};
-ghost use Rattle.shm_report.specs.declared.run_fault.RunFault.TheVariants as cause;
+ghost use Rattle.shm_report.specs.declared.call_and_run_error.RunFault.TheVariants as cause;
 ghost use Rattle.shm_lines.specs.declared.workload_access.WorkloadAccess.{WorkloadAccess};
 
+use crate::call_and_run_error::{CallFault, RunFault};
 use crate::caller_threads::{CallerTold, Told, call};
-use crate::ran::Ran;
-use crate::run_fault::{CallFault, RunFault};
+use crate::workload_outcome::Ran;
 use shm_lines::Workload;
 use shm_place::{PAGES, Sites};
 use shm_sites::{Cluster, OpenGate, Receipt, SiteLog, StartFault, logs_match};

@@ -1,22 +1,22 @@
 ghost use Rattle.std.specs.Prelude.{◌≤◌};
 
 mod examples;
-mod full_heap;
-mod growths;
-mod hints;
-mod lines;
+mod fill_heap;
+mod out_of_memory;
+mod parsed_lines;
 mod prefixes;
+mod printed_text;
+mod reader_and_writer_errors;
 mod refused_lines;
-mod replays;
+mod replay_limits;
 mod restarts;
-mod scripts;
+mod script_fixtures;
 mod session;
-mod streams;
-mod text;
 mod worked_scripts;
 mod worlds;
+mod wrong_line_hints;
 
-use scripts::Script;
+use script_fixtures::Script;
 use shm_debug::{DebugFault, Session, Summary, replay};
 use shm_model::Opening;
 use shm_place::{SiteId, Sites};

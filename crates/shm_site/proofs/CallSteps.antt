@@ -2,7 +2,7 @@
 use Rattle.std.proofs.Common.{◌≡◌, ℕ, ◌+◌, ◌≤◌, sym, Bool, true, false, not, List, [], ◌∷◌, Option, Some, None, Result, Ok, Err, IfOk, IfSome, filter, length, map, ◌==◌, if◌then◌else◌, refl, ap, arith, ◌∙◌}
 use Rattle.std.proofs.lemmas.List.FromFn.{length-map-range_with_len}
 use Rattle.shm_place.specs.Home.{home_of_id}
-use Rattle.shm_place.specs.declared.page.PageId.{PageId}
+use Rattle.shm_place.specs.declared.page_id.PageId.{PageId}
 use Rattle.shm_model.specs.declared.answer.Answer.{Answer}
 use Rattle.shm_model.specs.declared.answer.Answer.TheVariants.{Began, Took, Refused}
 use Rattle.shm_model.specs.declared.call.Op.{Op}
@@ -18,10 +18,10 @@ use Rattle.shm_model.specs.Message as message
 use Rattle.shm_model.specs.Refusal.{numbers_used_up}
 use Rattle.shm_model.specs.SegmentCalls.{attached, begin_detach, call_begun, frames_without, numbered, of_segment, on_purge, purge_envelope, purged_site, purges, replied, without_segment}
 use Rattle.shm_attach.specs.Attachments.{segment_of}
-use Rattle.shm_attach.specs.declared.done.Done.{Done}
+use Rattle.shm_attach.specs.declared.call_outcome.Done.{Done}
 use Rattle.shm_attach.specs.CallBook.{Calls, begun_as, begun_number, number_after, with_calls}
-use Rattle.shm_attach.specs.declared.begin_fault.BeginFault.{BeginFault}
-use Rattle.shm_attach.specs.declared.begin_fault.BeginFault.TheVariants.{UsedUp}
+use Rattle.shm_attach.specs.declared.begin_call_error.BeginFault.{BeginFault}
+use Rattle.shm_attach.specs.declared.begin_call_error.BeginFault.TheVariants.{UsedUp}
 use Rattle.shm_attach.specs.Home.{sent_for}
 use Rattle.shm_parts.specs.Message.{envelope_of}
 use Rattle.shm_parts.specs.declared.message.Envelope.{Envelope}

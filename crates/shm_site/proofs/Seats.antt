@@ -1,20 +1,20 @@
 -- What holdings say of the site that they know they are of, said of the site that has them.
 use Rattle.std.proofs.Common.{◌≡◌, ℕ, Option, Result}
-use Rattle.shm_place.specs.declared.page.PageId.{PageId}
+use Rattle.shm_place.specs.declared.page_id.PageId.{PageId}
 use Rattle.shm_model.specs.Access.{load, store}
 use Rattle.shm_model.specs.Calls.{Attachment}
 use Rattle.shm_model.specs.Entry as model
 use Rattle.shm_model.specs.Site.{Site}
 use Rattle.shm_model.specs.Transfer.{to_entry}
 use Rattle.shm_attach.specs.Attachments.{with_attachments}
-use Rattle.shm_attach.specs.declared.fault.Denied.{Denied}
+use Rattle.shm_attach.specs.declared.access_error.Denied.{Denied}
 use Rattle.shm_parts.specs.Entries.{row}
 use Rattle.shm_parts.specs.Holdings.{held_entries, stored_step, loaded_step, turned_step, with_holdings}
-use Rattle.shm_parts.specs.declared.change.Change.{Change}
+use Rattle.shm_parts.specs.declared.entry_change.Change.{Change}
 use Rattle.shm_parts.specs.declared.holdings.Holdings.{Holdings}
 use Rattle.shm_parts.specs.declared.message.Envelope.{Envelope}
-use Rattle.shm_parts.specs.declared.reached.StoreOutcome.{StoreOutcome}
-use Rattle.shm_parts.specs.declared.reached.LoadOutcome.{LoadOutcome}
+use Rattle.shm_parts.specs.declared.access_outcome.StoreOutcome.{StoreOutcome}
+use Rattle.shm_parts.specs.declared.access_outcome.LoadOutcome.{LoadOutcome}
 use Rattle.shm_parts.proofs.Held.{seated}
 
 module _ {A : Type 0} (sites me sites2 me2 : ℕ) (all : sites2 ≡ sites) (own : me2 ≡ me) (old new : Holdings A) (site : Site) where

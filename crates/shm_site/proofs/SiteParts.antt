@@ -1,6 +1,6 @@
 -- The parts of a site beside its holdings.
 use Rattle.std.proofs.Common.{◌≡◌, ℕ, List, Option, ◌∙◌, ap}
-use Rattle.shm_place.specs.declared.page.PageId.{PageId}
+use Rattle.shm_place.specs.declared.page_id.PageId.{PageId}
 use Rattle.shm_model.specs.Book.{Book}
 use Rattle.shm_model.specs.Calls.{Kept}
 use Rattle.shm_model.specs.Site.{Pending, Site}

@@ -5,12 +5,12 @@ use Rattle.shm_model.specs.declared.answer.Answer.{Answer}
 use Rattle.shm_model.specs.Site.{Step}
 use Rattle.shm_model.specs.Book as book
 use Rattle.shm_model.specs.Site as model
-use Rattle.shm_place.specs.declared.page.PageId.{PageId}
+use Rattle.shm_place.specs.declared.page_id.PageId.{PageId}
 use Rattle.shm_parts.specs.Books.{booked_of, books_of, with_books}
 use Rattle.shm_parts.specs.Holdings.{turned_step, with_holdings}
 use Rattle.shm_parts.specs.Message.{envelope_of}
 use Rattle.shm_parts.specs.declared.books.Books.{Books}
-use Rattle.shm_parts.specs.declared.change.Change.{Change}
+use Rattle.shm_parts.specs.declared.entry_change.Change.{Change}
 use Rattle.shm_parts.specs.declared.holdings.Holdings.{Holdings}
 use Rattle.shm_parts.specs.declared.message.Envelope.{Envelope}
 use Rattle.shm_site.specs.Site.{Makes, SameSeat, StepsTo, stepped}

@@ -1,7 +1,7 @@
 -- A store that found no right to write changed nothing.
 use Rattle.std.proofs.Common.{◌≡◌, ◌∙◌, ℕ, ◌==◌, Bool, true, false, Result, Ok, Err, ap, if◌then◌else◌, refl, subst, sym}
 use Rattle.std.proofs.lemmas.Bool.{false≢true}
-use Rattle.shm_place.specs.declared.page.PageId.{PageId}
+use Rattle.shm_place.specs.declared.page_id.PageId.{PageId}
 use Rattle.shm_model.specs.Access.{Place, ask_for, asked, is_pending, right, store, store_if, stored_entry}
 use Rattle.shm_model.specs.Site.{Step, still, Site}
 use Rattle.shm_model.specs.Basics.{at_page, greatest}
@@ -9,7 +9,7 @@ use Rattle.shm_model.specs.Entry.{writable}
 use Rattle.shm_model.specs.Refusal.{numbers_used_up}
 use Rattle.shm_model.specs.declared.answer.Answer.{Answer}
 use Rattle.shm_model.specs.declared.answer.Answer.TheVariants.{Refused, Stored, Waiting}
-use Rattle.shm_model.specs.declared.kind.Kind.TheVariants.{Write}
+use Rattle.shm_model.specs.declared.request_kind.Kind.TheVariants.{Write}
 use Rattle.shm_attach.specs.Attachments.{attachments_of}
 use Rattle.shm_parts.specs.Holdings.{with_holdings}
 use Rattle.shm_parts.specs.declared.holdings.Holdings.{Holdings}

@@ -10,8 +10,8 @@ use Rattle.shm_model.specs.SegmentCalls.{begin}
 use Rattle.shm_model.specs.Step.{deliver, foreign}
 use Rattle.shm_parts.specs.Message.{envelope_of}
 use Rattle.shm_parts.specs.declared.message.Envelope.{Envelope}
-use Rattle.shm_site.specs.declared.input.Input.{Input}
-use Rattle.shm_site.specs.declared.input.Input.TheVariants as input
+use Rattle.shm_site.specs.declared.site_input.Input.{Input}
+use Rattle.shm_site.specs.declared.site_input.Input.TheVariants as input
 use Rattle.shm_site.specs.declared.step_error.StepFault.{StepFault}
 use Rattle.shm_site.specs.declared.step_error.StepFault.TheVariants as fault
 

@@ -6,8 +6,8 @@ ghost use Rattle.shm_site.specs.Site.{StepsTo, Unchanged, site_of};
 ghost use Rattle.shm_site.specs.Step.{envelope_if, fault_of, handed_envelope, input_of, is_foreign, may_grow};
 ghost use Rattle.shm_site.specs.declared.step_error.StepFault.TheVariants as fault;
 
-use crate::input::Input;
 use crate::site::Site;
+use crate::site_input::Input;
 use crate::step_error::{StepError, StepFault};
 use shm_model::Answer;
 use shm_parts::{Envelope, Outbox};

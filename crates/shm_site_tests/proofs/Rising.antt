@@ -6,9 +6,9 @@ use Rattle.std.proofs.lemmas.List.Elements.{All-push, All-weaker}
 use Rattle.std.proofs.lemmas.List.Quantifiers.{all_pairs_push}
 use Rattle.shm_logs.specs.Boxes.Box.{Box, after, taken}
 use Rattle.shm_logs.specs.Boxes.SiteLog.{steps_of}
-use Rattle.shm_logs.specs.declared.boxes.site_log.SiteLog.{SiteLog}
-use Rattle.shm_logs.specs.declared.boxes.box_fault.BoxFault.{BoxFault}
-use Rattle.shm_logs.specs.declared.boxes.receipt.Receipt.{Receipt}
+use Rattle.shm_logs.specs.declared.site_boxes.site_log.SiteLog.{SiteLog}
+use Rattle.shm_logs.specs.declared.site_boxes.box_error.BoxFault.{BoxFault}
+use Rattle.shm_logs.specs.declared.site_boxes.receipt.Receipt.{Receipt}
 use Rattle.shm_model.specs.Log.{Logged, LogsMatch, Matches, Stamp, log_of}
 use Rattle.shm_model.specs.Message.{Input}
 use Rattle.shm_logs.specs.Auditing.Logs.{logs_of, LogsRise, StampsRise}

@@ -1,16 +1,16 @@
 mod attach;
 mod audit;
 mod boxes;
-mod full_heap;
-mod hand;
+mod fill_heap;
 mod keys;
+mod lent_copy_in_flight;
 mod manager;
 mod merge;
 mod network;
+mod owner_lends_or_hands_over;
 mod page;
-mod read;
 mod site;
-mod write;
+mod write_grant;
 
 use std::process::Abort;
 

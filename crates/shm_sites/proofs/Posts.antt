@@ -3,7 +3,7 @@ use Rattle.std.proofs.Common.{◌≡◌, ℕ, zero, suc, List, [], ◌∷◌, �
 use Rattle.std.specs.Slice.{IsItemAt}
 use Rattle.std.proofs.lemmas.Option.{none-some, slice_get-get_or}
 use Rattle.shm_sites.specs.Cluster.Posts.{AtTheirNumbers}
-use Rattle.shm_sites.specs.declared.cluster.shared.Post.{Post}
+use Rattle.shm_sites.specs.declared.cluster.shared_state.Post.{Post}
 
 -- what a list with one more has at a place: what it had there, or that one
 one-more : {X : Type 0} (xs : List X) (x : X) (i : ℕ) (y : X) → slice_get (xs ++ x ∷ []) i ≡ Some y

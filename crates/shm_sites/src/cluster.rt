@@ -3,31 +3,31 @@
 //!
 //! A site makes each step under its own lock, and sends after it has released the lock. So sites run at once. The network between their
 //! threads loses and repeats envelopes by random numbers; no contract rests on what the channels bring.
-mod access;
-mod carry;
+mod box_access;
+mod channel_message;
 mod client;
-mod client_fault;
-mod fate;
-mod gate;
-mod mail;
-mod opened;
-mod posted;
-mod sent_copies;
-mod shared;
-mod start;
-mod start_fault;
-mod stop;
-mod worker;
+mod client_error;
+mod copy_sent_envelopes;
+mod envelope_fate;
+mod lossy_network;
+mod posted_envelope;
+mod shared_state;
+mod site_thread;
+mod start_error;
+mod start_threads;
+mod step_gate;
+mod stop_threads;
+mod unstarted_sites;
 
 pub use client::Client;
-pub use client_fault::ClientFault;
-pub use gate::{Gate, OpenGate};
-pub use shared::Shared;
+pub use client_error::ClientFault;
+pub use shared_state::Shared;
 use shm_place::{NoSuchSite, SiteId};
-pub use start_fault::StartFault;
+pub use start_error::StartFault;
 use std::alloc::{AllocError, Allocator, Global};
 use std::sync::{Arc, Wait};
 use std::thread::JoinHandle;
+pub use step_gate::{Gate, OpenGate};
 
 #[cfg(test)]
 mod tests;

@@ -3,15 +3,15 @@
 #![tactic(auto)]
 
 mod answer_text;
-mod names;
-mod push;
+mod push_numbers_and_answers;
+mod read_and_write;
 mod reply_text;
 mod stat_text;
-mod streams;
-mod text;
+mod state_and_message_names;
+mod text_of_lines;
 
 pub use answer_text::AnswerText;
-pub use names::{message_name, state_name};
-pub use push::{push_answer, push_number};
-pub use streams::{NotWritten, read_up_to, write_whole};
-pub use text::Text;
+pub use push_numbers_and_answers::{push_answer, push_number};
+pub use read_and_write::{NotWritten, read_up_to, write_whole};
+pub use state_and_message_names::{message_name, state_name};
+pub use text_of_lines::Text;

@@ -1,7 +1,7 @@
 -- Asks: what is read is spelled so.
 use Rattle.std.proofs.Common.{◌≡◌, ℕ, List, ◌∷◌, Some, ap, subst}
 use Rattle.std.specs.Prelude.{codes}
-use Rattle.shm_model.specs.declared.asked.Asked.TheVariants.{Load, Store}
+use Rattle.shm_model.specs.declared.asked_access.Asked.TheVariants.{Load, Store}
 use Rattle.shm_lines.proofs.CallLemmas.{request-is}
 use Rattle.shm_lines.proofs.NumberWords.{number}
 use Rattle.shm_lines.proofs.OneWord.{byte}
@@ -12,8 +12,8 @@ use Rattle.shm_wire.proofs.MessageWords.{took_page}
 use Rattle.shm_wire.proofs.Reading.{took, ended-is, cond-of, Reads, Sound, SoundReader, by_verb-is}
 use Rattle.shm_wire.specs.Asks.{IsAsked, asked_by, asked_words, begun_of, is_block, load_of, own, read_of, show_of, store_of, try_load_of, try_store_of}
 use Rattle.shm_wire.specs.Words.{ended}
-use Rattle.shm_wire.specs.declared.ask.Question.{Question}
-use Rattle.shm_wire.specs.declared.ask.Question.TheVariants.{Access, Try, Read, Begin, Tick, Show}
+use Rattle.shm_wire.specs.declared.caller_ask.Question.{Question}
+use Rattle.shm_wire.specs.declared.caller_ask.Question.TheVariants.{Access, Try, Read, Begin, Tick, Show, Health}
 
 -- ---- what is read is spelled so
 
@@ -71,6 +71,11 @@ module _ (words : List (List ℕ)) (asked : Question) where
       let e = ended-is (Show p.value) asked p.others p.gives in
       subst (ReadsAsked (codes "show" ∷ words)) e.1 (p.is, ap (λ l. codes "show" ∷ l) (onto2 p.are e.0))
 
+  health-is : ended Health words ≡ Some asked → ReadsAsked (codes "health" ∷ words) asked
+  health-is h =
+      let e = ended-is Health asked words h in
+      subst (ReadsAsked (codes "health" ∷ words)) e.1 (tt, ap (λ l. codes "health" ∷ l) e.0)
+
 begun-is : SoundReader IsAsked asked_words begun_of
 begun-is word words asked h =
     let s = step (request_of word words) _ asked h in
@@ -78,7 +83,7 @@ begun-is word words asked h =
     subst (ReadsAsked (word ∷ words)) (some-is (Begin s.value) asked s.gives) r
 
 sound : Sound IsAsked asked_words own
-sound = (load-is, (store-is, (try_load-is, (try_store-is, (read-is, (tick-is, (show-is, tt)))))))
+sound = (load-is, (store-is, (try_load-is, (try_store-is, (read-is, (tick-is, (show-is, (health-is, tt))))))))
 
 -- what is asked under a verb
 pub asked-is : SoundReader IsAsked asked_words asked_by

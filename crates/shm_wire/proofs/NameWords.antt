@@ -5,8 +5,8 @@ use Rattle.std.specs.Str.{bytes_eq}
 use Rattle.std.proofs.lemmas.Slice.Eq.{bytes_eq-Decides}
 use Rattle.shm_model.specs.declared.call.Errno.{Errno}
 use Rattle.shm_model.specs.declared.call.Errno.TheVariants.{Eacces, Eexist, Eidrm, Einval, Enoent, Enospc, Eperm}
-use Rattle.shm_model.specs.declared.kind.Kind.{Kind}
-use Rattle.shm_model.specs.declared.kind.Kind.TheVariants.{Read, Write}
+use Rattle.shm_model.specs.declared.request_kind.Kind.{Kind}
+use Rattle.shm_model.specs.declared.request_kind.Kind.TheVariants.{Read, Write}
 use Rattle.shm_lines.proofs.NumberWords.{IsPrinter}
 use Rattle.shm_lines.proofs.StepLemmas.{some-is, NoBlank, NoBlank-test}
 use Rattle.shm_wire.specs.Words.{Names, by_name, kinds, kind_of, kind_word, standings, standing_of, standing_word, errnos, errno_of, errno_word}

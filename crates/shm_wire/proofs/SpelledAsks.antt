@@ -2,7 +2,7 @@
 use Rattle.std.proofs.Common.{ℕ, List, [], ◌∷◌, Option, Some, refl, ap}
 use Rattle.std.specs.Prelude.{codes, option_map}
 use Rattle.std.specs.Fmt.{decimal}
-use Rattle.shm_model.specs.declared.asked.Asked.TheVariants.{Load, Store}
+use Rattle.shm_model.specs.declared.asked_access.Asked.TheVariants.{Load, Store}
 use Rattle.shm_model.specs.declared.call.Op.TheVariants.{Get, Attach, Detach, Remove, Set, Stat}
 use Rattle.shm_model.specs.declared.call.Request.{Request}
 use Rattle.shm_model.specs.declared.call.Request.TheVariants.{Op as OpRequest, DetachAt}
@@ -16,8 +16,8 @@ use Rattle.shm_wire.proofs.Reading.{prints, Spelled}
 use Rattle.shm_wire.proofs.SpelledMessages.{prints_page}
 use Rattle.shm_wire.specs.Asks.{IsAsked, asked_words}
 use Rattle.shm_wire.specs.Line.{Line, Ask, asked_under}
-use Rattle.shm_wire.specs.declared.ask.Question.{Question}
-use Rattle.shm_wire.specs.declared.ask.Question.TheVariants.{Access, Try, Read, Begin, Tick, Show}
+use Rattle.shm_wire.specs.declared.caller_ask.Question.{Question}
+use Rattle.shm_wire.specs.declared.caller_ask.Question.TheVariants.{Access, Try, Read, Begin, Tick, Show, Health}
 
 -- the words behind a site and a tag
 abbrev pub behind : ℕ → List ℕ → List (List ℕ) → Option Line
@@ -64,6 +64,7 @@ asked-spelled site tag (Read at offset count) h = record {
 }
 asked-spelled site tag (Begin request) h = begun-spelled site tag request h
 asked-spelled site tag Tick h = record { unparted = (NoBlank-test (codes "tick") refl, tt); back = refl }
+asked-spelled site tag Health h = record { unparted = (NoBlank-test (codes "health") refl, tt); back = refl }
 asked-spelled site tag (Show page) h = record {
   unparted = (NoBlank-test (codes "show") refl, (number.unparted page.seg h.0, (number.unparted page.index h.1, tt)));
   back = rw (prints_page page [] h) refl;

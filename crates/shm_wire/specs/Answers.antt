@@ -10,7 +10,7 @@ use Rattle.shm_lines.specs.Spelling.{IsNumber}
 use Rattle.shm_wire.specs.Tag.{IsTag, tag_of}
 use Rattle.shm_wire.specs.TagOf.{tag_text}
 use Rattle.shm_wire.specs.Words.{by_verb, nothing}
-use Rattle.shm_wire.specs.declared.tell_line.TellLine.{TellLine as CodeTellLine}
+use Rattle.shm_wire.specs.declared.answer_line.TellLine.{TellLine as CodeTellLine}
 
 -- printable ASCII, and blanks
 abbrev pub is_text : List ℕ → Bool

@@ -1,11 +1,11 @@
 -- What a caller asks of a site, under a tag of its own: `ask SITE TAG`, and what a script's line says, less the site; or, in words that no
--- script has, an access that is tried once (`try-load`, `try-store`), or a block that is read. What it asks to be stored at once stands in
--- Writes.antt.
+-- script has, an access that is tried once (`try-load`, `try-store`), a block that is read, or the site's counts (`health`). What it asks to
+-- be stored at once stands in Writes.antt.
 use Rattle.std.specs.Prelude.{⊤, ◌≡◌, ℕ, ◌+◌, ◌^◌, ◌<◌, ◌&&◌, Bool, true, if◌then◌else◌, List, [], ◌∷◌, codes, nat_lt, Option, None, Some}
 use Rattle.std.specs.Fmt.{decimal}
 use Rattle.std.specs.List.{join_with_byte}
 use Rattle.shm_place.specs.Limits.{page_bytes}
-use Rattle.shm_model.specs.declared.asked.Asked.TheVariants.{Load, Store}
+use Rattle.shm_model.specs.declared.asked_access.Asked.TheVariants.{Load, Store}
 use Rattle.shm_model.specs.declared.event.Event.TheVariants as event
 use Rattle.shm_lines.specs.Calls.{IsRequest, request_of, request_words}
 use Rattle.shm_lines.specs.Words.{◌>>=◌, byte_of, next_of, next_number}
@@ -15,9 +15,9 @@ use Rattle.shm_wire.specs.Messages.{IsPageId, next_page}
 use Rattle.shm_wire.specs.Tag.{IsTag}
 use Rattle.shm_wire.specs.TagOf.{tag_text}
 use Rattle.shm_wire.specs.Words.{Verbs, by_verb, ended}
-use Rattle.shm_wire.specs.declared.ask.Ask.{Ask as CodeAsk}
-use Rattle.shm_wire.specs.declared.ask.Question.{Question}
-use Rattle.shm_wire.specs.declared.ask.Question.TheVariants.{Access, Try, Read, Begin, Tick, Show}
+use Rattle.shm_wire.specs.declared.caller_ask.Ask.{Ask as CodeAsk}
+use Rattle.shm_wire.specs.declared.caller_ask.Question.{Question}
+use Rattle.shm_wire.specs.declared.caller_ask.Question.TheVariants.{Access, Try, Read, Begin, Tick, Show, Health}
 
 -- ---- what is asked
 
@@ -37,6 +37,7 @@ IsAsked (Read at offset count) = IsNumber at × IsNumber offset × IsNumber coun
 IsAsked (Begin request) = IsRequest request
 IsAsked Tick = ⊤
 IsAsked (Show page) = IsPageId page
+IsAsked Health = ⊤
 
 -- a script's words without the site, which is their second
 abbrev pub less_site : List (List ℕ) → List (List ℕ)
@@ -52,6 +53,7 @@ asked_words (Read at offset count) = codes "read" ∷ decimal at ∷ decimal off
 asked_words (Begin request) = request_words request
 asked_words Tick = less_site (script.event_words (event.Tick 0))
 asked_words (Show page) = codes "show" ∷ decimal page.seg ∷ decimal page.index ∷ []
+asked_words Health = codes "health" ∷ []
 
 -- `load attachment offset`
 abbrev pub load_of : List (List ℕ) → Option Question
@@ -106,7 +108,7 @@ begun_of verb words = do
 abbrev pub own : Verbs Question
 own =
     (codes "load", load_of) ∷ (codes "store", store_of) ∷ (codes "try-load", try_load_of) ∷ (codes "try-store", try_store_of)
-    ∷ (codes "read", read_of) ∷ (codes "tick", ended Tick) ∷ (codes "show", show_of) ∷ []
+    ∷ (codes "read", read_of) ∷ (codes "tick", ended Tick) ∷ (codes "show", show_of) ∷ (codes "health", ended Health) ∷ []
 
 abbrev pub asked_by : List ℕ → List (List ℕ) → Option Question
 asked_by = by_verb own begun_of

@@ -3,8 +3,8 @@ use Rattle.shm_wire.specs.Asks.{ask_of}
 use Rattle.shm_wire.specs.Line as wire
 use Rattle.shm_wire.specs.SentOf.{sent_of}
 use Rattle.shm_wire.specs.WriteOf.{write_of}
-use Rattle.shm_wire.specs.declared.line.Line.{Line}
-use Rattle.shm_wire.specs.declared.line.Line.TheVariants as code
+use Rattle.shm_wire.specs.declared.stream_line.Line.{Line}
+use Rattle.shm_wire.specs.declared.stream_line.Line.TheVariants as code
 
 abbrev pub line_of : {A : Type 0} → Line A → wire.Line
 line_of (code.Envelope sent) = wire.Envelope (sent_of sent)

@@ -1,7 +1,7 @@
 -- Messages between sites as words: the message's kind, and its fields.
 use Rattle.std.specs.Prelude.{ℕ, ◌<◌, if◌then◌else◌, List, [], ◌∷◌, codes, nat_lt, Option, None, Some}
 use Rattle.std.specs.Fmt.{decimal}
-use Rattle.shm_place.specs.declared.page.PageId.{PageId}
+use Rattle.shm_place.specs.declared.page_id.PageId.{PageId}
 use Rattle.shm_model.specs.Entry.{Note, Ask, Clear, Cleared, Hand, Page, Confirm}
 use Rattle.shm_model.specs.Message.{Message, Of, Call, Replies, Purge, Purged}
 use Rattle.shm_lines.specs.Words.{◌>>=◌, next_word, next_of, next_number, IsWide, wide_of}

@@ -2,9 +2,9 @@
 use Rattle.shm_model.specs.Log as model
 use Rattle.shm_parts.specs.Message.{envelope_of}
 use Rattle.shm_wire.specs.Sent as wire
-use Rattle.shm_wire.specs.declared.sent.Sent.{Sent}
-use Rattle.shm_wire.specs.declared.sent.SentLine.{SentLine}
-use Rattle.shm_wire.specs.declared.sent.Source.{Source}
+use Rattle.shm_wire.specs.declared.sent_envelope.Sent.{Sent}
+use Rattle.shm_wire.specs.declared.sent_envelope.SentLine.{SentLine}
+use Rattle.shm_wire.specs.declared.sent_envelope.Source.{Source}
 
 abbrev pub source_of : Source → model.Stamp
 source_of stamp = record { at = stamp.clock; index = stamp.index; place = stamp.place }

@@ -1,6 +1,6 @@
 //! How an envelope is spelled: the one line that is read back as it.
-use crate::display_reply::ReplyWords;
-use crate::sent::{Sent, SentLine};
+use crate::display_call_reply::ReplyWords;
+use crate::sent_envelope::{Sent, SentLine};
 use base64::display::Base64Display;
 use base64::engine::general_purpose::STANDARD;
 use shm_lines::CallWords;

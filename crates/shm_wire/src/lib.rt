@@ -8,30 +8,30 @@
 //! Each has one spelling: what is printed is read back equal, and nothing else is read. No line is two of the three. A line stands without its line feed.
 #![tactic(auto)]
 
-mod ask;
+mod answer_line;
+mod block_write;
+mod caller_ask;
+mod caller_tag;
+mod display_call_reply;
 mod display_envelope;
-mod display_reply;
 pub mod laws;
-mod line;
-mod parse;
+mod parse_answer;
 mod parse_ask;
-mod parse_bytes;
+mod parse_base64;
+mod parse_block_write;
+mod parse_call_reply;
 mod parse_message;
 mod parse_page;
-mod parse_reply;
-mod parse_tell;
-mod parse_word;
-mod parse_write;
-mod sent;
-mod tag;
-mod tell_line;
-mod write_ask;
+mod parse_wire_words;
+mod sent_envelope;
+mod stream_line;
+mod stream_line_parser;
 
-pub use ask::{Ask, Question};
-pub use line::Line;
-pub use parse::parse_line;
-pub use parse_tell::parse_tell_line;
-pub use sent::{Sent, SentLine, Source};
-pub use tag::Tag;
-pub use tell_line::{BlockText, TellLine};
-pub use write_ask::WriteAsk;
+pub use answer_line::{BlockText, TellLine};
+pub use block_write::WriteAsk;
+pub use caller_ask::{Ask, Question};
+pub use caller_tag::Tag;
+pub use parse_answer::parse_tell_line;
+pub use sent_envelope::{Sent, SentLine, Source};
+pub use stream_line::Line;
+pub use stream_line_parser::parse_line;

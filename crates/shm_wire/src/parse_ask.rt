@@ -5,9 +5,9 @@ ghost use Rattle.shm_wire.specs.Asks as said;
 ghost use Rattle.shm_wire.specs.TagOf.{tag_text};
 ghost use Rattle.shm_wire.specs.Asks.{ask_of, asked_by, begun_of, load_of, read_of, show_of, store_of, try_load_of, try_store_of};
 
-use crate::ask::{Ask, Question};
+use crate::caller_ask::{Ask, Question};
+use crate::caller_tag::Tag;
 use crate::parse_message::page_id;
-use crate::tag::Tag;
 use shm_lines::{Words, parse_request};
 use shm_model::Asked;
 use shm_place::{PAGE_BYTES, SiteId};
@@ -43,6 +43,9 @@ fn question(verb: &[u8], words: Words<'_>) -> Option<Question>
     }
     if verb == b"show".as_slice() {
         return show(words);
+    }
+    if verb == b"health".as_slice() {
+        return health(words);
     }
     begin_of_words(verb, words)
 }
@@ -129,6 +132,15 @@ fn show(words: Words<'_>) -> Option<Question>
         return None;
     }
     Some(Question::Show(page))
+}
+
+fn health(words: Words<'_>) -> Option<Question>
+    ensures { result ≡ ended Question.Health words.entry }
+{
+    if !words.is_empty() {
+        return None;
+    }
+    Some(Question::Health)
 }
 
 fn begin_of_words(verb: &[u8], words: Words<'_>) -> Option<Question>

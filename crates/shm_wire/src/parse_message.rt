@@ -5,8 +5,8 @@ ghost use Rattle.shm_model.specs.Message.{Purge, Purged};
 ghost use Rattle.shm_parts.specs.Message.{message_of};
 ghost use Rattle.shm_wire.specs.Messages.{next_page, plain_of, ask_of, numbered_of, hand_of, called_of, replied_of, of_segment};
 
-use crate::parse_reply::reply;
-use crate::parse_word::{kind, wide};
+use crate::parse_call_reply::reply;
+use crate::parse_wire_words::{kind, wide};
 use shm_lines::{Words, parse_call};
 use shm_parts::{BookNote, EntryNote, Message, Note};
 use shm_place::{PageId, SegId, SiteId};

@@ -7,9 +7,9 @@ ghost use Rattle.shm_parts.specs.Message.{message_of, note_of};
 ghost use Rattle.shm_wire.specs.Messages.{page_of};
 ghost use Rattle.shm_wire.specs.PageWord.{page_bytes_of};
 
-use crate::parse_bytes::decode;
+use crate::parse_base64::decode;
 use crate::parse_message::page_id;
-use crate::parse_word::{kind, wide};
+use crate::parse_wire_words::{kind, wide};
 use shm_lines::Words;
 use shm_model::Kind;
 use shm_page::{Entry, OwnWritePage};

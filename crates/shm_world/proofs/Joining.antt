@@ -6,7 +6,7 @@ use Rattle.std.proofs.lemmas.Option.{none-some}
 use Rattle.std.specs.List.{filter, insert}
 use Rattle.std.specs.Option.{is_some}
 use Rattle.shm_world.specs.ByNumber.{StandsAt, place_for, rises, value_of}
-use Rattle.shm_world.specs.declared.place.Place.{Place}
+use Rattle.shm_world.specs.declared.numbered_place.Place.{Place}
 use Rattle.shm_world.proofs.Numbers.{below, first_of, from, is_lt, is_same, le, more, none_below, rest_of, sooner}
 
 module _ {V : Type 0} where

@@ -12,7 +12,7 @@ use Rattle.shm_laws.proofs.Call.Steps.{at-here, at-there}
 use Rattle.shm_world.specs.ByNumber.{rises, value_of}
 use Rattle.shm_world.specs.Network.{envelope_at, on_way, Carries}
 use Rattle.shm_world.specs.declared.network.Network.{Network}
-use Rattle.shm_world.specs.declared.place.Place.{Place}
+use Rattle.shm_world.specs.declared.numbered_place.Place.{Place}
 use Rattle.shm_world.proofs.Numbers.{none_below, first_of, rest_of}
 
 pub envelope_if : {A : Type 0} (b : Bool) (v r : Option (Envelope A)) → envelope_at (if b then v else r) ≡ (if b then envelope_at v else envelope_at r)

@@ -5,7 +5,7 @@ use Rattle.std.proofs.lemmas.Bool.Decides.{nat_tests}
 use Rattle.std.proofs.lemmas.Option.{same_Some, none-some, slice_get_past, slice_get_read, slice_get_within}
 use Rattle.std.specs.Option.{option_map}
 use Rattle.shm_world.specs.ByNumber.{StandsAt, place_for, rises, value_of}
-use Rattle.shm_world.specs.declared.place.Place.{Place}
+use Rattle.shm_world.specs.declared.numbered_place.Place.{Place}
 
 -- ---- tests of numbers
 

@@ -25,7 +25,7 @@ use Rattle.shm_world.specs.Members.{members_of}
 use Rattle.shm_world.specs.Network.{on_way, sent_before}
 use Rattle.shm_world.specs.Undo.{Fits, LeadsBack, has_page, kept_site, with_envelope, with_site}
 use Rattle.shm_world.specs.World.{StandsFor}
-use Rattle.shm_world.specs.declared.undo.Undo.{Undo}
+use Rattle.shm_world.specs.declared.undo_record.Undo.{Undo}
 use Rattle.shm_world.specs.declared.world.World.{World as Running}
 use Rattle.shm_world.proofs.Envelopes.{live_sent}
 use Rattle.shm_world.proofs.Steps.{set_same}

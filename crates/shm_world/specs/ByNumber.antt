@@ -1,7 +1,7 @@
 -- Values under numbers that rise.
 use Rattle.std.specs.Prelude.{◌≡◌, ℕ, ◌+◌, ◌==◌, ◌&&◌, Bool, List, [], ◌∷◌, Option, Some, None, if◌then◌else◌, nat_le, nat_lt, slice_get}
 use Rattle.std.specs.Option.{option_map}
-use Rattle.shm_world.specs.declared.place.Place.{Place}
+use Rattle.shm_world.specs.declared.numbered_place.Place.{Place}
 
 -- the places, the number that the next value takes, and how many more values fit without more memory
 pub record Numbered (V : Type 0) : Type 0 where

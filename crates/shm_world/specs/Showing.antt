@@ -1,6 +1,6 @@
 -- What a world shows of itself.
 use Rattle.std.specs.Prelude.{ℕ, Bool, false, Option, Some, None, if◌then◌else◌, not, slice_get}
-use Rattle.shm_place.specs.declared.page.PageId.{PageId}
+use Rattle.shm_place.specs.declared.page_id.PageId.{PageId}
 use Rattle.shm_place.specs.Page.{in_limits}
 use Rattle.shm_model.specs.declared.answer.Access.{Access}
 use Rattle.shm_model.specs.declared.answer.Shown.{Shown}

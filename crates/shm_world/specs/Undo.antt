@@ -11,7 +11,7 @@ use Rattle.shm_parts.specs.Message.{envelope_of}
 use Rattle.shm_parts.specs.declared.message.Envelope.{Envelope}
 use Rattle.shm_site.specs.Site.{site_of}
 use Rattle.shm_site.specs.declared.site.Site.{Site}
-use Rattle.shm_world.specs.declared.undo.Undo.{Undo}
+use Rattle.shm_world.specs.declared.undo_record.Undo.{Undo}
 use Rattle.shm_world.specs.declared.world.World.{World as Running}
 
 abbrev pub kept_site : {A : Type 0} → Option (ℕ × Site A) → Option model.Site

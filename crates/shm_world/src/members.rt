@@ -10,7 +10,7 @@ ghost use Rattle.shm_model.specs.World.{IsOpening, opened_site};
 ghost use Rattle.shm_parts.specs.Message.{envelope_of};
 ghost use Rattle.shm_site.specs.Step.{envelope_if, handed_envelope, input_of, is_fault, is_foreign, is_refused, may_grow};
 
-use crate::start::begin;
+use crate::site_start::begin;
 use shm_model::{Answer, Opening};
 use shm_parts::{Envelope, Outbox};
 use shm_place::{SiteId, Sites};

@@ -5,7 +5,7 @@ ghost use Rattle.shm_model.specs.Basics.{at};
 ghost use Rattle.shm_model.specs.Message as model;
 ghost use Rattle.shm_parts.specs.Message.{envelope_of};
 
-use crate::by_number::ByNumber;
+use crate::numbered_values::ByNumber;
 use shm_parts::{Envelope, Outbox};
 use std::alloc::{AllocError, Allocator, Global};
 

@@ -9,8 +9,8 @@ use Rattle.clap.specs.Words.{Row, Text, fault_of, subcommand_of}
 use Rattle.shmdbg.specs.Commands.{app}
 use Rattle.shmdbg.specs.Done.{has_audit}
 use Rattle.shmdbg.specs.Words.{among_fault, asked_for, fault_in, file_fault, has_file, has_plain_numbers, is_among, name_of, names_file, names_one, task_fault, AskFor, IsAsked, IsOneOfSites}
-use Rattle.shmdbg.specs.declared.words.task.Task.{Task}
-use Rattle.shmdbg.specs.declared.words.task.Task.TheVariants.{Audit, Draw, Journal, Prompt, Replay, Run, Site}
+use Rattle.shmdbg.specs.declared.args.task.Task.{Task}
+use Rattle.shmdbg.specs.declared.args.task.Task.TheVariants.{Audit, Draw, Journal, Prompt, Replay, Run, Site}
 use Rattle.shmdbg.specs.Status.{Asks, AsksForAudit, Takes}
 use Rattle.shmdbg.proofs.Wrong.{plainly_spelled}
 
@@ -38,8 +38,8 @@ one_of_sites : (name : Text) (rows : List Row) (task : Task) → is_among task �
 one_of_sites name rows (Replay file) among asked = tt
 one_of_sites name rows (Run sites seed summary log) among asked = tt
 one_of_sites name rows Prompt among asked = tt
-one_of_sites name rows (Draw page file) among asked = tt
-one_of_sites name rows (Site sites me pages journal begins) among asked = (is_below sites me among, asked.options.3)
+one_of_sites name rows (Draw page steps notes file) among asked = tt
+one_of_sites name rows (Site sites me pages journal begins seal) among asked = (is_below sites me among, asked.options.3)
 one_of_sites name rows (Audit sites journals) among asked = tt
 one_of_sites name rows (Journal file) among asked = tt
 
@@ -52,8 +52,8 @@ one_named : (name : Text) (rows : List Row) (task : Task) → IsAsked name rows 
 one_named name rows (Replay file) asked = rw asked.called refl
 one_named name rows (Run sites seed summary log) asked = rw asked.called refl
 one_named name rows Prompt asked = rw asked.called refl
-one_named name rows (Draw page file) asked = rw asked.called refl
-one_named name rows (Site sites me pages journal begins) asked = rw (asked.called, asked.options.0, asked.options.1) refl
+one_named name rows (Draw page steps notes file) asked = rw asked.called refl
+one_named name rows (Site sites me pages journal begins seal) asked = rw (asked.called, asked.options.0, asked.options.1) refl
 one_named name rows (Audit sites journals) asked = rw asked.called refl
 one_named name rows (Journal file) asked = rw asked.called refl
 
@@ -67,9 +67,9 @@ file_named : (name : Text) (rows : List Row) (task : Task) → IsAsked name rows
 file_named name rows (Replay file) asked = rw asked.called refl
 file_named name rows (Run sites seed summary log) asked = rw asked.called refl
 file_named name rows Prompt asked = rw asked.called refl
-file_named name rows (Draw page file) asked = rw asked.called refl
-file_named name rows (Site sites me pages None begins) asked = rw (asked.called, asked.options.4, asked.options.5) refl
-file_named name rows (Site sites me pages (Some file) begins) asked = rw (asked.called, asked.options.4, asked.options.5) refl
+file_named name rows (Draw page steps notes file) asked = rw asked.called refl
+file_named name rows (Site sites me pages None begins seal) asked = rw (asked.called, asked.options.4, asked.options.5) refl
+file_named name rows (Site sites me pages (Some file) begins seal) asked = rw (asked.called, asked.options.4, asked.options.5) refl
 file_named name rows (Audit sites journals) asked = rw asked.called refl
 file_named name rows (Journal file) asked = rw asked.called refl
 
@@ -94,8 +94,8 @@ by_name : (task : Task) → has_audit task ≡ names_audit (name_of task)
 by_name (Replay file) = refl
 by_name (Run sites seed summary log) = refl
 by_name Prompt = refl
-by_name (Draw page file) = refl
-by_name (Site sites me pages journal begins) = refl
+by_name (Draw page steps notes file) = refl
+by_name (Site sites me pages journal begins seal) = refl
 by_name (Audit sites journals) = refl
 by_name (Journal file) = refl
 
@@ -103,8 +103,8 @@ of_audit : (task : Task) → has_audit task ≡ true → (name_of task ≡ codes
 of_audit (Replay file) is = absurd (cc)
 of_audit (Run sites seed summary log) is = inl refl
 of_audit Prompt is = absurd (cc)
-of_audit (Draw page file) is = absurd (cc)
-of_audit (Site sites me pages journal begins) is = absurd (cc)
+of_audit (Draw page steps notes file) is = absurd (cc)
+of_audit (Site sites me pages journal begins seal) is = absurd (cc)
 of_audit (Audit sites journals) is = inr refl
 of_audit (Journal file) is = absurd (cc)
 

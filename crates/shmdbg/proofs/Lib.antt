@@ -5,4 +5,5 @@ mod Numbers
 mod Streaming
 mod NotAccepted
 mod Unbegun
+mod Unsealed
 pub mod Untold

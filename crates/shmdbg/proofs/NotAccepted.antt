@@ -2,8 +2,8 @@
 use Rattle.std.proofs.Common.{ℕ, Ok, Err, IfErr}
 use Rattle.std.specs.Prelude.{Result}
 use Rattle.shmdbg.specs.Audited.{IsCauseOf, IsUnread}
-use Rattle.shmdbg.specs.declared.unaudited.Unaudited.{Unaudited}
-use Rattle.shmdbg.specs.declared.unaudited.Unaudited.TheVariants as cause
+use Rattle.shmdbg.specs.declared.audit_failure.Unaudited.{Unaudited}
+use Rattle.shmdbg.specs.declared.audit_failure.Unaudited.TheVariants as cause
 
 -- a fault that isn't the logs' says nothing of them
 pub unread_cause : (journals sites : ℕ) (fault : Unaudited) → IsUnread fault → IsCauseOf journals sites fault
@@ -12,6 +12,7 @@ unread_cause journals sites cause.OutOfMemory unread = tt
 unread_cause journals sites cause.WriteFault unread = tt
 unread_cause journals sites (cause.Unopened at) unread = tt
 unread_cause journals sites (cause.Unread at fault) unread = tt
+unread_cause journals sites (cause.OtherCluster at) unread = tt
 
 pub unread_causes : {X : Type 0} (r : Result X Unaudited) (journals sites : ℕ) → IfErr r IsUnread → IfErr r (IsCauseOf journals sites)
 unread_causes (Ok x) journals sites unread = tt

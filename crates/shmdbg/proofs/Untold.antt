@@ -3,11 +3,11 @@ use Rattle.std.proofs.Common.{ℕ, List, Ok, Err}
 use Rattle.std.specs.Prelude.{OnOk, Option, Result}
 use Rattle.std.specs.Io.KnownBytes.{Appends}
 use Rattle.shm_journal.specs.Summed.{IsSummary, SumsUpKnown, summary_text}
-use Rattle.shm_journal.specs.declared.journal_fault.JournalFault.{JournalFault}
-use Rattle.shm_journal.specs.declared.journal_fault.JournalFault.TheVariants as journal
-use Rattle.shm_journal.specs.declared.summary.Summary.{Summary}
+use Rattle.shm_journal.specs.declared.journal_error.JournalFault.{JournalFault}
+use Rattle.shm_journal.specs.declared.journal_error.JournalFault.TheVariants as journal
+use Rattle.shm_journal.specs.declared.journal_summary.Summary.{Summary}
 use Rattle.shmdbg.specs.Summarized.{IsUntold, TellsSummary}
-use Rattle.shmdbg.specs.declared.unaudited.Unaudited.TheVariants as cause
+use Rattle.shmdbg.specs.declared.audit_failure.Unaudited.TheVariants as cause
 
 pub summary_told : {A B : Type 0} (r : Result A B) (old new : Option (List ℕ)) (file : List ℕ) (summary : Summary) → IsSummary file summary
     → OnOk r (Appends old new (summary_text summary)) → OnOk r (TellsSummary old new)

@@ -5,14 +5,14 @@ use Rattle.std.specs.Io.KnownBytes.{Appends}
 use Rattle.shm_audit.specs.Totals.{totals_of, totals_text}
 use Rattle.shm_audit.specs.OneSet.{AreOneRun, IsWhy}
 use Rattle.shm_audit.specs.declared.totals.Totals.{Totals}
-use Rattle.shm_journal.specs.declared.journal_fault.JournalFault.{JournalFault}
-use Rattle.shm_journal.specs.declared.journal_fault.JournalFault.TheVariants as journal
-use Rattle.shm_audit.specs.declared.journals_fault.JournalsFault.{JournalsFault}
-use Rattle.shm_audit.specs.declared.journals_fault.JournalsFault.TheVariants as journals
+use Rattle.shm_journal.specs.declared.journal_error.JournalFault.{JournalFault}
+use Rattle.shm_journal.specs.declared.journal_error.JournalFault.TheVariants as journal
+use Rattle.shm_audit.specs.declared.journals_error.JournalsFault.{JournalsFault}
+use Rattle.shm_audit.specs.declared.journals_error.JournalsFault.TheVariants as journals
 use Rattle.shm_logs.specs.Auditing.Logs.{logs_of}
-use Rattle.shm_logs.specs.declared.boxes.site_log.SiteLog.{SiteLog}
-use Rattle.shmdbg.specs.declared.unaudited.Unaudited.{Unaudited}
-use Rattle.shmdbg.specs.declared.unaudited.Unaudited.TheVariants as cause
+use Rattle.shm_logs.specs.declared.site_boxes.site_log.SiteLog.{SiteLog}
+use Rattle.shmdbg.specs.declared.audit_failure.Unaudited.{Unaudited}
+use Rattle.shmdbg.specs.declared.audit_failure.Unaudited.TheVariants as cause
 
 abbrev pub audit_text : Totals → List ℕ
 audit_text counts = codes "audit yes" ++ (10 ∷ totals_text counts)
@@ -46,6 +46,7 @@ unaudited_status cause.OutOfMemory = 3
 unaudited_status cause.WriteFault = 3
 unaudited_status (cause.Unopened at) = 3
 unaudited_status (cause.Unread at fault) = journal_status fault
+unaudited_status (cause.OtherCluster at) = 1
 unaudited_status (cause.Unaccepted fault) = journals_status fault
 
 -- why these logs aren't accepted: there isn't one for each of so many sites, or they are no set of logs, or the audit finds this cause. Other

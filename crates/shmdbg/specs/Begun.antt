@@ -6,24 +6,25 @@ use Rattle.shm_journal.specs.DeskFrom.{desk_from}
 use Rattle.shm_journal.specs.Recovers.{ReadsAll, ReadsUpTo}
 use Rattle.shm_process.specs.Desk.{Desk, desk_at}
 use Rattle.shm_process.specs.Node.{Node, new_node}
-use Rattle.shmdbg.specs.declared.site_fault.SiteFault.{SiteFault}
-use Rattle.shmdbg.specs.declared.site_fault.SiteFault.TheVariants as fault
+use Rattle.shm_seal.specs.Seal.{Seal}
+use Rattle.shmdbg.specs.declared.site_error.SiteFault.{SiteFault}
+use Rattle.shmdbg.specs.declared.site_error.SiteFault.TheVariants as fault
 
 -- whose journal it is
-abbrev pub header_at : ℕ → ℕ → ℕ → Header
-header_at sites me pages = record { sites = sites; me = me; pages = pages }
+abbrev pub header_at : ℕ → ℕ → ℕ → Option (List ℕ) → Header
+header_at sites me pages cluster = record { sites = sites; me = me; pages = pages; cluster = cluster }
 
 -- It begins its journal, whose file, of these bytes, has no whole line yet; or it goes on from what the whole lines lead to, where there is one.
-pub record BeginsKept (begins : Bool) (header : Header) (file : List ℕ) (desk : Desk) : Type 0 where
+pub record BeginsKept (begins : Bool) (seal : Seal) (header : Header) (file : List ℕ) (desk : Desk) : Type 0 where
   pub asked : is_empty (lines_of file).whole ≡ begins
   pub node : Node
   pub sound : found header file ≡ Sound node
-  pub begun : desk ≡ desk_from header begins node
+  pub begun : desk ≡ desk_from header seal begins node
 
 -- without a journal nothing has happened; else it begins with its journal, in the way that was asked for
-abbrev pub BeginsWith : Option Bool → Header → Desk → Type 0
-BeginsWith None header desk = desk ≡ desk_at (new_node header.sites header.me header.pages)
-BeginsWith (Some begins) header desk = (file : List ℕ) × BeginsKept begins header file desk
+abbrev pub BeginsWith : Option Bool → Seal → Header → Desk → Type 0
+BeginsWith None seal header desk = desk ≡ desk_at seal (new_node header.sites header.me header.pages)
+BeginsWith (Some begins) seal header desk = (file : List ℕ) × BeginsKept begins seal header file desk
 
 -- what was read of the journal where its site can't begin: up to the journal's fault, or all of it
 abbrev pub ReadsUnbegun : Header → Option (List ℕ) → Option (List ℕ) → SiteFault → Type 0

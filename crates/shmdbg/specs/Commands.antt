@@ -45,8 +45,14 @@ prompt_app = new_app (codes "prompt")
 abbrev pub page_rule : Rule
 page_rule = record (new_rule (codes "page")) { long = Some (codes "page"); action = Some Set; value_names = 2; parser = Some (Signed (pos 0) (pos 4294967295)) }
 
+abbrev pub steps_rule : Rule
+steps_rule = flag_rule (codes "steps")
+
+abbrev pub notes_rule : Rule
+notes_rule = text_rule (codes "notes")
+
 abbrev pub draw_app : App
-draw_app = with_rule (with_rule (new_app (codes "draw")) page_rule) file_rule
+draw_app = with_rule (with_rule (with_rule (with_rule (new_app (codes "draw")) page_rule) steps_rule) notes_rule) file_rule
 
 abbrev pub me_rule : Rule
 me_rule = number_rule (codes "me") (Signed (pos 0) (pos 15))
@@ -60,8 +66,16 @@ journal_rule = text_rule (codes "journal")
 abbrev pub new_journal_rule : Rule
 new_journal_rule = flag_rule (codes "new")
 
+abbrev pub cluster_rule : Rule
+cluster_rule = text_rule (codes "cluster")
+
+abbrev pub key_rule : Rule
+key_rule = text_rule (codes "key")
+
 abbrev pub site_app : App
-site_app = with_rule (with_rule (with_rule (with_rule (with_rule (new_app (codes "site")) sites_rule) me_rule) preset_rule) journal_rule) new_journal_rule
+site_app =
+    with_rule (with_rule (with_rule (with_rule (with_rule (with_rule (with_rule (new_app (codes "site")) sites_rule) me_rule) preset_rule) journal_rule)
+    new_journal_rule) cluster_rule) key_rule
 
 -- 1 to 16 texts that stand by no option's name
 abbrev pub journals_rule : Rule

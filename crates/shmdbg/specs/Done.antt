@@ -1,17 +1,17 @@
 -- What is done of a task, by the exit status, with what is on the input and on the output.
-use Rattle.std.specs.Prelude.{◌≡◌, ◌≢◌, ◌⊎◌, ℕ, Bool, false, true, List, [], length, None, Option, option_map, IfSome, Some}
+use Rattle.std.specs.Prelude.{◌≡◌, ◌≢◌, ◌⊎◌, ℕ, Bool, false, true, List, [], length, None, Option, option_map, IfSome, Ok, Some}
 use Rattle.clap.specs.Words.{Text}
 use Rattle.shm_debug.specs.Script.{script_of}
+use Rattle.shm_draw.specs.Captions.{Beside, captions_in}
 use Rattle.shm_journal.specs.Acts.{Around, Did}
-use Rattle.shm_place.specs.declared.page.PageId.{PageId}
+use Rattle.shm_place.specs.declared.page_id.PageId.{PageId}
 use Rattle.shmdbg.specs.Audited.{FailsAudit, TellsAudit}
-use Rattle.shmdbg.specs.Begun.{header_at}
-use Rattle.shmdbg.specs.Served.{IsSite}
+use Rattle.shmdbg.specs.Sealed.{IsSealedSite}
 use Rattle.shmdbg.specs.Summarized.{Summarizes}
-use Rattle.shmdbg.specs.Status.{Fails, Pictures, PicturesFile, Replays, ReplaysFile, Reports}
+use Rattle.shmdbg.specs.Status.{Fails, HasNoCaptions, Pictures, PicturesFile, Replays, ReplaysFile, Reports}
 use Rattle.shmdbg.specs.Words.{AskFor}
-use Rattle.shmdbg.specs.declared.words.task.Task.{Task}
-use Rattle.shmdbg.specs.declared.words.task.Task.TheVariants.{Replay, Run, Prompt, Draw, Site, Audit, Journal}
+use Rattle.shmdbg.specs.declared.args.task.Task.{Task}
+use Rattle.shmdbg.specs.declared.args.task.Task.TheVariants.{Replay, Run, Prompt, Draw, Site, Audit, Journal}
 
 -- A run of a workload failed; or the logs that were wanted couldn't be made ready, and nothing was done.
 abbrev pub IsUnrun : ℕ → Bool → ℕ → Around → Around → Type 0
@@ -34,18 +34,25 @@ abbrev pub ReplaysFrom : {F : Type 0} → Option F → ℕ → Around → Around
 ReplaysFrom None status old new = IfSome old.remaining (λ script. Replays (script_of script) status old.contents new.contents)
 ReplaysFrom (Some file) status old new = (new.remaining ≡ old.remaining) × ReplaysFile status old.contents new.contents
 
--- so what it leaves was drawn
-abbrev pub PicturesFrom : {F : Type 0} → Option F → Option PageId → ℕ → Around → Around → Type 0
-PicturesFrom None page status old new = IfSome old.remaining (λ script. Pictures page (script_of script) status old.contents new.contents)
-PicturesFrom (Some file) page status old new = (new.remaining ≡ old.remaining) × PicturesFile page status old.contents new.contents
+-- so what it leaves was drawn, with these captions
+abbrev pub PicturesFrom : {F : Type 0} → Option F → Bool → Option PageId → List Beside → ℕ → Around → Around → Type 0
+PicturesFrom None steps page besides status old new = IfSome old.remaining (λ script. Pictures steps page besides (script_of script) status old.contents new.contents)
+PicturesFrom (Some file) steps page besides status old new = (new.remaining ≡ old.remaining) × PicturesFile steps page besides status old.contents new.contents
+
+-- with the captions of the notes that lie in a file, where one is named; or they have none, and nothing was done
+abbrev pub PicturesNoted : {N F : Type 0} → Option N → Option F → Bool → Option PageId → ℕ → Around → Around → Type 0
+PicturesNoted None file steps page status old new = PicturesFrom file steps page [] status old new
+PicturesNoted (Some notes) file steps page status old new =
+    ((bytes : List ℕ) × (besides : List Beside) × (captions_in bytes ≡ Ok besides) × PicturesFrom file steps page besides status old new)
+    ⊎ (HasNoCaptions status × Did old new [])
 
 -- this was done, to an end of this status
 abbrev pub Does : Task → ℕ → Around → Around → Type 0
 Does (Replay file) status old new = ReplaysFrom file status old new
 Does (Run sites seed summary log) status old new = Runs sites summary status old new
 Does Prompt status old new = (status ≡ 0) ⊎ (status ≡ 3)
-Does (Draw page file) status old new = PicturesFrom file page status old new
-Does (Site sites me pages journal begins) status old new = IsSite (option_map (λ file. begins) journal) (header_at sites me pages) status old new
+Does (Draw page steps notes file) status old new = PicturesNoted notes file steps page status old new
+Does (Site sites me pages journal begins seal) status old new = IsSealedSite seal (option_map (λ file. begins) journal) sites me pages status old new
 Does (Audit sites journals) status old new = Audits (length journals.items) sites status old new
 Does (Journal file) status old new = Summarizes status old.contents new.contents
 

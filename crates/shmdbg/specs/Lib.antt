@@ -2,6 +2,7 @@ pub mod Audited
 pub mod Around
 pub mod Begun
 pub mod Served
+pub mod Sealed
 pub mod Status
 pub mod Done
 pub mod Commands

@@ -3,13 +3,14 @@ use Rattle.std.specs.Prelude.{⊤, ◌≡◌, ℕ, Bool, [], Option, Result, Ok,
 use Rattle.std.specs.Io.KnownBytes.{IsAtEnd}
 use Rattle.shm_journal.specs.Acts.{Around, Did, Served}
 use Rattle.shm_journal.specs.Lines.{Header}
-use Rattle.shm_journal.specs.declared.process_fault.ProcessFault.TheVariants.{JournalFault}
-use Rattle.shm_journal.specs.declared.recovery_fault.RecoveryFault.{RecoveryFault}
-use Rattle.shm_journal.specs.declared.recovery_fault.RecoveryFault.TheVariants as recovery
+use Rattle.shm_seal.specs.Seal.{Seal}
+use Rattle.shm_journal.specs.declared.process_error.ProcessFault.TheVariants.{JournalFault}
+use Rattle.shm_journal.specs.declared.recovery_error.RecoveryFault.{RecoveryFault}
+use Rattle.shm_journal.specs.declared.recovery_error.RecoveryFault.TheVariants as recovery
 use Rattle.shm_process.specs.Desk.{Desk}
 use Rattle.shmdbg.specs.Begun.{BeginsWith}
-use Rattle.shmdbg.specs.declared.site_fault.SiteFault.{SiteFault}
-use Rattle.shmdbg.specs.declared.site_fault.SiteFault.TheVariants as fault
+use Rattle.shmdbg.specs.declared.site_error.SiteFault.{SiteFault}
+use Rattle.shmdbg.specs.declared.site_error.SiteFault.TheVariants as fault
 
 -- from this desk on; where it ends well, all of its input was taken
 abbrev pub ServesFrom : Desk → Result (Unit {0}) SiteFault → Around → Around → Type 0
@@ -29,21 +30,21 @@ ServesFrom desk (Err (fault.Unrecovered why)) old new = ⊥
 ServesFrom desk (Err (fault.Unopenable why)) old new = ⊥
 
 -- from the desk that it begins with; or it couldn't begin, and nothing was read and nothing told
-abbrev pub IsServed : Option Bool → Header → Result (Unit {0}) SiteFault → Around → Around → Type 0
-IsServed kept header (Ok end) old new = (desk : Desk) × BeginsWith kept header desk × Served desk old new (Ok end) × IsAtEnd new.remaining
-IsServed kept header (Err (fault.Ended why)) old new = (desk : Desk) × BeginsWith kept header desk × Served desk old new (Err why)
-IsServed kept header (Err (fault.Loose durable)) old new = (desk : Desk) × BeginsWith kept header desk × Served desk old new (Err JournalFault)
-IsServed kept header (Err fault.OutOfMemory) old new = Did old new []
-IsServed kept header (Err fault.Unopened) old new = Did old new []
-IsServed kept header (Err fault.Missing) old new = Did old new []
-IsServed kept header (Err fault.NoFile) old new = Did old new []
-IsServed kept header (Err fault.Existing) old new = Did old new []
-IsServed kept header (Err fault.Blank) old new = Did old new []
-IsServed kept header (Err fault.Taken) old new = Did old new []
-IsServed kept header (Err fault.Uncut) old new = Did old new []
-IsServed kept header (Err fault.Unlisted) old new = Did old new []
-IsServed kept header (Err (fault.Unrecovered why)) old new = Did old new []
-IsServed kept header (Err (fault.Unopenable why)) old new = Did old new []
+abbrev pub IsServed : Option Bool → Seal → Header → Result (Unit {0}) SiteFault → Around → Around → Type 0
+IsServed kept seal header (Ok end) old new = (desk : Desk) × BeginsWith kept seal header desk × Served desk old new (Ok end) × IsAtEnd new.remaining
+IsServed kept seal header (Err (fault.Ended why)) old new = (desk : Desk) × BeginsWith kept seal header desk × Served desk old new (Err why)
+IsServed kept seal header (Err (fault.Loose durable)) old new = (desk : Desk) × BeginsWith kept seal header desk × Served desk old new (Err JournalFault)
+IsServed kept seal header (Err fault.OutOfMemory) old new = Did old new []
+IsServed kept seal header (Err fault.Unopened) old new = Did old new []
+IsServed kept seal header (Err fault.Missing) old new = Did old new []
+IsServed kept seal header (Err fault.NoFile) old new = Did old new []
+IsServed kept seal header (Err fault.Existing) old new = Did old new []
+IsServed kept seal header (Err fault.Blank) old new = Did old new []
+IsServed kept seal header (Err fault.Taken) old new = Did old new []
+IsServed kept seal header (Err fault.Uncut) old new = Did old new []
+IsServed kept seal header (Err fault.Unlisted) old new = Did old new []
+IsServed kept seal header (Err (fault.Unrecovered why)) old new = Did old new []
+IsServed kept seal header (Err (fault.Unopenable why)) old new = Did old new []
 
 -- it ended before it read and told anything
 abbrev pub IsUnbegun : SiteFault → Type 0
@@ -75,5 +76,5 @@ site_status (Err (fault.Unopenable why)) = 3
 site_status (Err (fault.Loose durable)) = 3
 
 -- the site ended with this status, and did what such an end does
-abbrev pub IsSite : Option Bool → Header → ℕ → Around → Around → Type 0
-IsSite kept header status old new = (end : Result (Unit {0}) SiteFault) × (status ≡ site_status end) × IsServed kept header end old new
+abbrev pub IsSite : Option Bool → Seal → Header → ℕ → Around → Around → Type 0
+IsSite kept seal header status old new = (end : Result (Unit {0}) SiteFault) × (status ≡ site_status end) × IsServed kept seal header end old new

@@ -1,20 +1,24 @@
 -- Exit statuses, and what each tells of the script on standard input and of the text on standard output.
-use Rattle.std.specs.Prelude.{◌≡◌, ◌≢◌, ◌⊎◌, ℕ, Bool, true, List, [], codes, IfSome, Option, Some, Result, Ok, Err}
+use Rattle.std.specs.Prelude.{◌≡◌, ◌≢◌, ◌⊎◌, ℕ, Bool, false, true, List, [], codes, IfSome, Option, Some, Result, Ok, Err}
 use Rattle.std.specs.Io.KnownBytes.{Appends}
 use Rattle.clap.specs.Words.{Text}
 use Rattle.shm_debug.specs.Script.{Script, script_of}
 use Rattle.shm_debug.specs.Replay.{Ends}
-use Rattle.shm_debug.specs.declared.outcome.Summary.{Summary}
+use Rattle.shm_debug.specs.declared.script_summary_and_error.Summary.{Summary}
+use Rattle.shm_draw.specs.Captions.{Beside, captions_in}
 use Rattle.shm_draw.specs.Drawn.{Draws}
-use Rattle.shm_place.specs.declared.page.PageId.{PageId}
-use Rattle.shm_debug.specs.declared.outcome.DebugFault.{DebugFault}
-use Rattle.shm_debug.specs.declared.outcome.DebugFault.TheVariants.{OutOfMemory, BadLine, LineTooLong, TooManyLines, ReadFault, WriteFault}
+use Rattle.shm_draw.specs.declared.caption.CaptionFault.{CaptionFault}
+use Rattle.shm_draw.specs.declared.caption.CaptionFault.TheVariants as captions
+use Rattle.shm_place.specs.declared.page_id.PageId.{PageId}
+use Rattle.shm_debug.specs.declared.script_summary_and_error.DebugFault.{DebugFault}
+use Rattle.shm_debug.specs.declared.script_summary_and_error.DebugFault.TheVariants.{OutOfMemory, BadLine, LineTooLong, TooManyLines, ReadFault, WriteFault}
+use Rattle.shm_steps.specs.Stepped.{TellsSteps}
 use Rattle.shm_report.specs.Audited.{TellsRun}
-use Rattle.shm_report.specs.declared.audited.Audited.{Audited}
+use Rattle.shm_report.specs.declared.audited_run.Audited.{Audited}
 use Rattle.shm_report.specs.Causes.{audit_cause, input_cause, is_after_reading, IsFound, IsRight, IsWrongBy}
 use Rattle.shm_report.specs.Report.{IsCutShort, IsToldReport}
-use Rattle.shm_report.specs.declared.report_fault.ReportFault.{ReportFault}
-use Rattle.shm_report.specs.declared.report_fault.ReportFault.TheVariants as report
+use Rattle.shm_report.specs.declared.report_error.ReportFault.{ReportFault}
+use Rattle.shm_report.specs.declared.report_error.ReportFault.TheVariants as report
 use Rattle.shmdbg.specs.Words.{asked_for, fault_in}
 
 -- the script is wrong, or something else failed
@@ -69,14 +73,28 @@ abbrev pub drawn_status : Result (Unit {0}) DebugFault → ℕ
 drawn_status (Ok _) = 0
 drawn_status (Err fault) = fault_status fault
 
+-- the script's picture, or its steps, with these captions, to this end
+abbrev pub DrawsAs : Bool → Option PageId → List Beside → Script → Result (Unit {0}) DebugFault → List ℕ → Type 0
+DrawsAs false page besides = Draws page besides
+DrawsAs true page besides = TellsSteps page besides
+
 -- what the script leaves was drawn to an end of this status, and what was then written is what such an end writes
-abbrev pub Pictures : Option PageId → Script → ℕ → Option (List ℕ) → Option (List ℕ) → Type 0
-Pictures page script status old new =
-    (end : Result (Unit {0}) DebugFault) × (text : List ℕ) × (status ≡ drawn_status end) × Appends old new text × Draws page script end text
+abbrev pub Pictures : Bool → Option PageId → List Beside → Script → ℕ → Option (List ℕ) → Option (List ℕ) → Type 0
+Pictures steps page besides script status old new =
+    (end : Result (Unit {0}) DebugFault) × (text : List ℕ) × (status ≡ drawn_status end) × Appends old new text × DrawsAs steps page besides script end text
 
 -- so a script that lies in a file; or there was none to be read, and nothing was written
-abbrev pub PicturesFile : Option PageId → ℕ → Option (List ℕ) → Option (List ℕ) → Type 0
-PicturesFile page status old new = ((bytes : List ℕ) × Pictures page (script_of bytes) status old new) ⊎ ((status ≡ 3) × (new ≡ old))
+abbrev pub PicturesFile : Bool → Option PageId → List Beside → ℕ → Option (List ℕ) → Option (List ℕ) → Type 0
+PicturesFile steps page besides status old new = ((bytes : List ℕ) × Pictures steps page besides (script_of bytes) status old new) ⊎ ((status ≡ 3) × (new ≡ old))
+
+-- the notes are wrong, or memory was refused
+abbrev pub caption_status : CaptionFault → ℕ
+caption_status (captions.BadNote number) = 1
+caption_status captions.OutOfMemory = 3
+
+-- notes that lie in a file have a fault; or they couldn't be read
+abbrev pub HasNoCaptions : ℕ → Type 0
+HasNoCaptions status = ((bytes : List ℕ) × (number : ℕ) × (captions_in bytes ≡ Err number) × (status ≡ 1)) ⊎ (status ≡ 3)
 
 -- a workload was run over so many sites, and what was then written is the report of it, with a summary or without
 abbrev pub Reports : ℕ → Bool → Option (List ℕ) → Option (List ℕ) → Option (List ℕ) → Type 0

@@ -3,11 +3,11 @@ use Rattle.std.specs.Prelude.{⊤, ◌≡◌, ◌≢◌, ℕ, List, Option}
 use Rattle.std.specs.Io.KnownBytes.{Appends}
 use Rattle.shm_journal.specs.Found.{Bad}
 use Rattle.shm_journal.specs.Summed.{IsSummary, found_any, summary_text}
-use Rattle.shm_journal.specs.declared.journal_fault.JournalFault.TheVariants as journal
-use Rattle.shm_journal.specs.declared.summary.Summary.{Summary}
+use Rattle.shm_journal.specs.declared.journal_error.JournalFault.TheVariants as journal
+use Rattle.shm_journal.specs.declared.journal_summary.Summary.{Summary}
 use Rattle.shmdbg.specs.Audited.{unaudited_status}
-use Rattle.shmdbg.specs.declared.unaudited.Unaudited.{Unaudited}
-use Rattle.shmdbg.specs.declared.unaudited.Unaudited.TheVariants as cause
+use Rattle.shmdbg.specs.declared.audit_failure.Unaudited.{Unaudited}
+use Rattle.shmdbg.specs.declared.audit_failure.Unaudited.TheVariants as cause
 
 -- a file is that of a journal, and what it has was written
 pub record TellsSummary (old new : Option (List ℕ)) : Type 0 where

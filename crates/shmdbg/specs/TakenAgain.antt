@@ -4,7 +4,7 @@ use Rattle.std.specs.Fmt.{decimal}
 use Rattle.shm_journal.specs.Found.{Sound, found}
 use Rattle.shm_journal.specs.Lines.{Header}
 use Rattle.shm_process.specs.Node.{Node}
-use Rattle.shmdbg.specs.declared.taken_again.TakenAgain.{TakenAgain}
+use Rattle.shmdbg.specs.declared.replayed_steps_notice.TakenAgain.{TakenAgain}
 
 abbrev pub again_text : TakenAgain → List ℕ
 again_text again =

@@ -10,10 +10,10 @@ use Rattle.clap.specs.Walk.{all_of}
 use Rattle.clap.specs.Kinds.{or_else}
 use Rattle.clap.specs.declared.error.kind.ErrorKind.TheVariants.{MissingRequiredArgument, UnknownArgument, ValueValidation}
 use Rattle.shm_place.specs.Limits.{pages as most_pages}
-use Rattle.shm_place.specs.declared.page.PageId.{PageId}
+use Rattle.shm_place.specs.declared.page_id.PageId.{PageId}
 use Rattle.shmdbg.specs.Commands.{app}
-use Rattle.shmdbg.specs.declared.words.task.Task.{Task}
-use Rattle.shmdbg.specs.declared.words.task.Task.TheVariants.{Replay, Run, Prompt, Draw, Site, Audit, Journal}
+use Rattle.shmdbg.specs.declared.args.task.Task.{Task}
+use Rattle.shmdbg.specs.declared.args.task.Task.TheVariants.{Replay, Run, Prompt, Draw, Site, Audit, Journal}
 
 -- the name of the subcommand that the words ask for, where the program takes them; the first word is the program's name
 abbrev pub asked_for : List Text → Option Text
@@ -24,8 +24,8 @@ abbrev pub name_of : Task → Text
 name_of (Replay file) = codes "replay"
 name_of (Run sites seed summary log) = codes "run"
 name_of Prompt = codes "prompt"
-name_of (Draw page file) = codes "draw"
-name_of (Site sites me pages journal begins) = codes "site"
+name_of (Draw page steps notes file) = codes "draw"
+name_of (Site sites me pages journal begins seal) = codes "site"
 name_of (Audit sites journals) = codes "audit"
 name_of (Journal file) = codes "journal"
 
@@ -71,10 +71,13 @@ HasOptions rows (Run sites seed summary log) =
     (number_at (codes "sites") rows ≡ Some sites) × (number_at (codes "seed") rows ≡ Some seed) × (is_set_at (codes "summary") rows ≡ summary)
     × (first_of (codes "log") rows ≡ option_map (λ folder. folder.now) log)
 HasOptions rows Prompt = Unit {0}
-HasOptions rows (Draw page file) = (page ≡ page_at rows) × (first_of (codes "file") rows ≡ option_map (λ script. script.now) file)
-HasOptions rows (Site sites me pages journal begins) =
+HasOptions rows (Draw page steps notes file) =
+    (page ≡ page_at rows) × (is_set_at (codes "steps") rows ≡ steps) × (first_of (codes "notes") rows ≡ option_map (λ texts. texts.now) notes)
+    × (first_of (codes "file") rows ≡ option_map (λ script. script.now) file)
+HasOptions rows (Site sites me pages journal begins seal) =
     (number_at (codes "sites") rows ≡ Some sites) × (number_at (codes "me") rows ≡ Some me) × (number_at (codes "preset") rows ≡ Some pages)
     × HasPages pages × (first_of (codes "journal") rows ≡ option_map (λ file. file.now) journal) × (is_set_at (codes "new") rows ≡ begins)
+    × (first_of (codes "cluster") rows ≡ option_map (λ name. name.now) seal.cluster) × (first_of (codes "key") rows ≡ option_map (λ file. file.now) seal.key)
 HasOptions rows (Audit sites journals) =
     (number_at (codes "sites") rows ≡ Some sites) × (all_of (codes "journals") rows ≡ Some (map (λ file. file.now) journals.items))
 HasOptions rows (Journal file) = first_of (codes "file") rows ≡ Some file.now
@@ -105,12 +108,12 @@ has_plain_numbers words = has_plain_rows (option_map (λ named. named.1) (subcom
 
 -- The site that a process is to be is one of those that there are; of other tasks this isn't asked.
 abbrev pub is_among : Task → Bool
-is_among (Site sites me pages journal begins) = nat_lt me sites
+is_among (Site sites me pages journal begins seal) = nat_lt me sites
 is_among _ = true
 
 -- the same, and segment 0 may have so many pages
 abbrev pub IsOneOfSites : Task → Type 0
-IsOneOfSites (Site sites me pages journal begins) = (me < sites) × HasPages pages
+IsOneOfSites (Site sites me pages journal begins seal) = (me < sites) × HasPages pages
 IsOneOfSites _ = ⊤
 
 -- so of what is written for the options
@@ -122,7 +125,7 @@ names_one named = if bytes_eq named.0 (codes "site") then is_below_at named.1 el
 
 -- A journal that a site is to begin has a file; of other tasks this isn't asked.
 abbrev pub has_file : Task → Bool
-has_file (Site sites me pages journal begins) = not begins || is_some journal
+has_file (Site sites me pages journal begins seal) = not begins || is_some journal
 has_file _ = true
 
 -- so of what is written for the options

@@ -3,10 +3,10 @@ ghost use Rattle.std.specs.Prelude.{◌≡◌, ◌≢◌, ◌<◌, ◌⊎◌, �
 ghost use Rattle.std.specs.Io.KnownBytes.{Appends};
 ghost use Rattle.shm_journal.specs.Summed.{IsSummary, summary_text};
 ghost use Rattle.shmdbg.specs.Summarized.{FailsSummary, IsUntold, TellsSummary};
-ghost use Rattle.shmdbg.specs.declared.unaudited.Unaudited.TheVariants as cause;
+ghost use Rattle.shmdbg.specs.declared.audit_failure.Unaudited.TheVariants as cause;
 
-use crate::tell;
-use crate::unaudited::Unaudited;
+use crate::audit_failure::Unaudited;
+use crate::error_text_and_status;
 use shm_journal::{Summary, read_summary};
 use shm_text::write_whole;
 use std::alloc::Global;
@@ -29,7 +29,7 @@ pub(crate) fn tell_journal<R: AllocGlobal + Files, O: Write, E: Write>(
 {
     match tell_summary(rt, name, out) {
         Ok(()) => 0,
-        Err(fault) => tell::audit_fault(fault, &[name], errors),
+        Err(fault) => error_text_and_status::audit_fault(fault, &[name], errors),
     }
 }
 

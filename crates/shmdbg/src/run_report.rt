@@ -4,11 +4,11 @@ ghost use Rattle.std.specs.Io.KnownBytes.{Appends};
 ghost use Rattle.shm_report.specs.Audited.{TellsRun};
 ghost use Rattle.shm_report.specs.Causes.{audit_cause, input_cause, is_after_reading, IsFound, IsOther, IsRight, IsWrongBy};
 ghost use Rattle.shm_report.specs.Report.{IsToldReport};
-ghost use Rattle.shm_report.specs.declared.report_fault.ReportFault.TheVariants as cause;
+ghost use Rattle.shm_report.specs.declared.report_error.ReportFault.TheVariants as cause;
 ghost use Rattle.shmdbg.specs.Status.{CutsReport, CutsRun};
 
-use crate::disk::Disk;
-use crate::log_files::save_logs;
+use crate::disk_save_file::Disk;
+use crate::save_run_logs::save_logs;
 use shm_place::Sites;
 use shm_report::{Audited, ReportFault, run_audited};
 use std::alloc::Global;

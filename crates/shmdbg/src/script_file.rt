@@ -2,8 +2,8 @@
 ghost use Rattle.std.specs.Prelude.{◌≡◌, take, IfOk, IfSome};
 ghost use Rattle.shm_debug.specs.Limits.{max_bytes};
 
-use crate::script_file_fault::ScriptFileFault;
-use crate::source::Recalls;
+use crate::recalling_input::Recalls;
+use crate::script_file_error::ScriptFileFault;
 use shm_text::read_up_to;
 use std::alloc::Global;
 use std::fs::{self, File};
@@ -26,6 +26,10 @@ impl Recalls for WholeScript<'_> {
     fn recall(&self, number: u64) -> Option<&[u8]> {
         let before = number.checked_sub(1)?;
         self.bytes.split(|byte| *byte == b'\n').nth(before as usize)
+    }
+
+    fn is_terminal(&self) -> bool {
+        false
     }
 }
 

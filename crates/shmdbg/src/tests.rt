@@ -1,19 +1,21 @@
+mod captions;
+mod command_line_words;
 mod failed_runs;
-mod files;
+mod failing_streams;
+mod journal_and_log_files;
+mod journal_summaries;
 mod journals;
-mod logs;
 mod prompts;
-mod rows;
+mod replay_limits;
 mod runs;
+mod saved_run_logs;
 mod script_files;
+mod seals;
 mod sites;
-mod streams;
-mod summaries;
-mod words;
 
-use crate::kept_journal::Lock;
-use crate::program::run_words;
-use crate::source::Recalls;
+use crate::dispatch_command::run_words;
+use crate::journal_startup::Lock;
+use crate::recalling_input::Recalls;
 use std::io::Read;
 use std::process::Abort;
 use std::rt::{Clock, Files};
@@ -23,6 +25,10 @@ use std::thread::Threads;
 impl Recalls for &[u8] {
     fn recall(&self, _number: u64) -> Option<&[u8]> {
         None
+    }
+
+    fn is_terminal(&self) -> bool {
+        false
     }
 }
 

@@ -91,7 +91,9 @@ fn steps_are_kept_and_then_told(rt: HostRuntime) -> Result<(), Fail> {
     };
     let mut lines = LINES;
     let mut told = Vec::new(alloc);
-    assert!(rt; serve(new_desk(alloc)?, &mut lines, &mut told, &mut journal).is_ok());
+    let mut desk = new_desk(alloc)?;
+    assert!(rt; serve(&mut desk, &mut lines, &mut told, &mut journal).is_ok());
+    drop(desk);
     assert_eq!(rt; journal.done.as_slice(), DONE);
     assert_eq!(rt; told.as_slice(), &DONE[54..]);
     Ok(())
@@ -121,7 +123,10 @@ fn each_call_fails_in_turn(rt: HostRuntime) -> Result<(), Fail> {
         };
         let mut lines = LINES;
         let mut told = Vec::new(alloc);
-        match serve(new_desk(alloc)?, &mut lines, &mut told, &mut journal) {
+        let mut desk = new_desk(alloc)?;
+        let served = serve(&mut desk, &mut lines, &mut told, &mut journal);
+        drop(desk);
+        match served {
             Ok(()) => return Err(Fail::new("a call failed")),
             Err(found) => assert!(rt; found == *fault),
         }

@@ -4,6 +4,7 @@ use shm_journal::{Entry, Header, Recovered, RecoveryFault, parse_entry, parse_he
 use shm_model::Answer;
 use shm_place::{SiteId, Sites};
 use shm_process::Cause;
+use shm_seal::ClusterName;
 use shm_wire::parse_line;
 use std::alloc::Allocator;
 use std::io::{self, ErrorKind, Read};
@@ -42,7 +43,7 @@ fn recover_first_site<A: Allocator + Copy, R: Read>(
     reader: &mut R,
 ) -> Result<Recovered<A>, RecoveryFault> {
     match Sites::new(2) {
-        Ok(sites) if 0 < sites.count() => recover(alloc, sites, SiteId(0), 4, reader),
+        Ok(sites) if 0 < sites.count() => recover(alloc, sites, SiteId(0), 4, None, reader),
         _ => Err(RecoveryFault::OutOfMemory),
     }
 }
@@ -71,10 +72,18 @@ fn lines_are_read_as_they_are_spelled(rt: HostRuntime) -> Result<(), Fail> {
         sites: 2,
         me: 0,
         pages: 4,
+        cluster: None,
     };
     let line = format!(in rt.alloc(); "{header}")?;
     assert_eq!(rt; line.as_str(), "journal 2 0 4");
     assert_eq!(rt; parse_header(line.as_bytes()), Some(header));
+    let named = Header {
+        cluster: ClusterName::new(b"north".as_slice()),
+        ..header
+    };
+    let line = format!(in rt.alloc(); "{named}")?;
+    assert_eq!(rt; line.as_str(), "journal 2 0 4 @north");
+    assert_eq!(rt; parse_header(line.as_bytes()), Some(named));
     assert_eq!(rt; parse_header(b"journal 2 0 4 ".as_slice()), None);
     let Some(Entry { clock, cause }) = parse_entry(
         rt.alloc(),

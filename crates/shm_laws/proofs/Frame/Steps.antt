@@ -1,9 +1,9 @@
 -- Every step of a site leaves what it counts as copies copies.
 use Rattle.std.proofs.Common.{◌≡◌, ℕ, true, false, not, ◌==◌, Option, Some, None, Result, Ok, Err, List, [], ◌∷◌, length, nat_lt, refl, sym, ◌∙◌, ap, subst}
 use Rattle.std.proofs.lemmas.Bool.{cond_both, cond-false}
-use Rattle.shm_place.specs.declared.page.PageId.{PageId}
-use Rattle.shm_model.specs.declared.kind.Kind.{Kind}
-use Rattle.shm_model.specs.declared.kind.Kind.TheVariants.{Read, Write}
+use Rattle.shm_place.specs.declared.page_id.PageId.{PageId}
+use Rattle.shm_model.specs.declared.request_kind.Kind.{Kind}
+use Rattle.shm_model.specs.declared.request_kind.Kind.TheVariants.{Read, Write}
 use Rattle.shm_model.specs.Entry.{Entry, Nil, Copy, OwnRead, OwnWrite, Handed, Note, Ask, Clear, Cleared, Hand, Page, Confirm, Out, forget, is_copy, on_clear, on_hand, on_page, readable, writable}
 use Rattle.shm_model.specs.Book.{Outcome, Ignored, UsedUp, Taken, on_ask, on_cleared, on_confirm}
 use Rattle.shm_model.specs.Basics.{at_page, greatest}

@@ -1,7 +1,7 @@
 -- The rows of the manager's book keep the invariant, and what they ask for fits.
 use Rattle.std.proofs.Common.{◌≡◌, ℕ, ◌<◌, ◌≤◌, true, None, List, arith, sym, ◌∙◌, ap}
-use Rattle.shm_model.specs.declared.kind.Kind.{Kind}
-use Rattle.shm_model.specs.declared.kind.Kind.TheVariants.{Read, Write}
+use Rattle.shm_model.specs.declared.request_kind.Kind.{Kind}
+use Rattle.shm_model.specs.declared.request_kind.Kind.TheVariants.{Read, Write}
 use Rattle.shm_model.specs.Entry.{Handed, Note, Ask, Clear, Cleared, Hand, Page, Confirm, owned, seen}
 use Rattle.shm_model.specs.Book.{Book, Order, Outcome, Ignored, UsedUp, Taken}
 use Rattle.shm_laws.proofs.Page.View.{View, GaveAway, either, Runs, AllMet, InFlight, Holds, ClearRuns, HandFits, Fits}

@@ -1,8 +1,8 @@
 -- A Clear that its site hasn't met takes the site's copy away, and keeps the invariant.
 use Rattle.std.proofs.Common.{◌≡◌, ℕ, ◌<◌, ◌≤◌, inr, true, false, List, arith, sym, ◌∙◌, subst}
 use Rattle.std.proofs.lemmas.Bool.Decides.{nat_tests}
-use Rattle.shm_model.specs.declared.kind.Kind.{Kind}
-use Rattle.shm_model.specs.declared.kind.Kind.TheVariants.{Write}
+use Rattle.shm_model.specs.declared.request_kind.Kind.{Kind}
+use Rattle.shm_model.specs.declared.request_kind.Kind.TheVariants.{Write}
 use Rattle.shm_model.specs.Entry.{Nil, Handed, Note, owned, seen}
 use Rattle.shm_model.specs.Basics.{at}
 use Rattle.shm_laws.proofs.Page.View.{View, InFlight, Holds, ClearRuns, Fits, with_entry_at}

@@ -1,8 +1,8 @@
 -- A Page that its site hasn't met is the running transaction's: it installs a copy, or makes the site the writer.
 use Rattle.std.proofs.Common.{◌≡◌, ℕ, ◌<◌, ◌≤◌, inl, inr, List, arith, refl, ◌∙◌}
 use Rattle.std.proofs.lemmas.Bool.Decides.{nat_tests}
-use Rattle.shm_model.specs.declared.kind.Kind.{Kind}
-use Rattle.shm_model.specs.declared.kind.Kind.TheVariants.{Read, Write}
+use Rattle.shm_model.specs.declared.request_kind.Kind.{Kind}
+use Rattle.shm_model.specs.declared.request_kind.Kind.TheVariants.{Read, Write}
 use Rattle.shm_model.specs.Entry.{Entry, Copy, OwnWrite, Handed, Note, seen}
 use Rattle.shm_model.specs.Book.{max_sites}
 use Rattle.shm_model.specs.Basics.{at}

@@ -1,7 +1,7 @@
 -- A transaction starts, and a transaction ends.
 use Rattle.std.proofs.Common.{◌≡◌, ◌≢◌, ℕ, ◌+◌, ◌<◌, ◌≤◌, ◌⊎◌, inl, inr, true, false, Some, None, List, arith, sym, ◌∙◌, subst}
-use Rattle.shm_model.specs.declared.kind.Kind.{Kind}
-use Rattle.shm_model.specs.declared.kind.Kind.TheVariants.{Read, Write}
+use Rattle.shm_model.specs.declared.request_kind.Kind.{Kind}
+use Rattle.shm_model.specs.declared.request_kind.Kind.TheVariants.{Read, Write}
 use Rattle.shm_model.specs.Entry.{Note, Ask, Clear, Cleared, Hand, Page, Confirm, is_copy, owned, seen}
 use Rattle.shm_model.specs.Book.{Book, Running, started}
 use Rattle.shm_laws.proofs.Page.View.{View, IsKept, Runs, InFlight, Holds, ClearRuns, HandFits, Fits}

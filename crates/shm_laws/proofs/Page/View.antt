@@ -1,8 +1,8 @@
 -- What is true of one page in every run, and of each note of it that was ever sent: the invariant on which the headline stands.
 -- `Now` says of bytes that they are what was stored last.
 use Rattle.std.proofs.Common.{◌≡◌, ◌≢◌, ℕ, ◌<◌, ◌≤◌, ◌⊎◌, inl, inr, true, false, Some, None, List}
-use Rattle.shm_model.specs.declared.kind.Kind.{Kind}
-use Rattle.shm_model.specs.declared.kind.Kind.TheVariants.{Read, Write}
+use Rattle.shm_model.specs.declared.request_kind.Kind.{Kind}
+use Rattle.shm_model.specs.declared.request_kind.Kind.TheVariants.{Read, Write}
 use Rattle.shm_model.specs.Entry.{Entry, Handed, Note, Ask, Clear, Cleared, Hand, Page, Confirm, bytes, is_copy, owned, readable, seen, writable}
 use Rattle.shm_model.specs.Book.{Book, max_sites}
 use Rattle.shm_model.specs.Basics.{at}

@@ -2,7 +2,7 @@
 -- worked example of all definitions together: they compute each of its lines.
 use Rattle.std.specs.Prelude.{◌≡◌, ℕ, List, [], ◌∷◌, Option, Some, None, drop, filter, if◌then◌else◌, length, map, slice_get}
 use Rattle.std.specs.List.{range_with_len}
-use Rattle.shm_place.specs.declared.page.PageId.{PageId}
+use Rattle.shm_place.specs.declared.page_id.PageId.{PageId}
 use Rattle.shm_place.specs.Page.{manager_of}
 use Rattle.shm_model.specs.declared.answer.Answer.{Answer}
 use Rattle.shm_model.specs.declared.answer.State.{State}

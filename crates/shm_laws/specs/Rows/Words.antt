@@ -13,7 +13,7 @@ use Rattle.shm_model.specs.declared.call.Reply.TheVariants.{Id, Attached, Ok, St
 use Rattle.shm_model.specs.declared.call.Request.TheVariants.{Op, DetachAt}
 use Rattle.shm_model.specs.declared.event.Event.{Event}
 use Rattle.shm_model.specs.declared.event.Event.TheVariants.{Load, Store, Begin, Tick, Restart, Deliver, Repeat, Lose}
-use Rattle.shm_model.specs.declared.kind.Kind.TheVariants.{Read, Write}
+use Rattle.shm_model.specs.declared.request_kind.Kind.TheVariants.{Read, Write}
 use Rattle.shm_model.specs.Book.{Running}
 use Rattle.shm_laws.specs.Rows.Script.{Sort, Sent, Booked, Line, Does, Shows}
 

@@ -1,4 +1,4 @@
-use crate::hints::expected::Expected;
+use crate::hints::expected_word::Expected;
 
 /// Where a line can't be read on.
 #[derive(Clone, Copy, Debug, PartialEq, Eq)]

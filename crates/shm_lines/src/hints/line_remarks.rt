@@ -8,8 +8,8 @@ ghost use Rattle.shm_model.specs.Book.{max_sites};
 
 use crate::hints::remark::Remark;
 use crate::hints::workload_line::{access_of, preset_of};
-use crate::line::Line;
-use crate::parse::read;
+use crate::script_line::Line;
+use crate::script_line_parser::read;
 use shm_place::{MAX_SITES, PAGES, Sites};
 
 /// Says what the wrong line of this number, from 1, is in a script.

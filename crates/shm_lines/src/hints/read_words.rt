@@ -1,7 +1,7 @@
 //! Reads a line word by word.
 ghost use Rattle.std.specs.Prelude.{◌≤◌, ◌+◌, length, IfErr, IfOk};
 
-use crate::hints::expected::{Expected, Word};
+use crate::hints::expected_word::{Expected, Word};
 use crate::hints::hint::Hint;
 use crate::hints::word_prefix::{is_whole, readable};
 

@@ -1,7 +1,7 @@
 //! A reader that remembers the lines that it gave last.
 ghost use Rattle.std.specs.Prelude.{◌≤◌, length, IfSome};
 
-use crate::hints::kept_lines::KeptLines;
+use crate::hints::remembered_lines::KeptLines;
 use std::io::{self, Read};
 
 /// The most bytes that are read at once.

@@ -2,8 +2,8 @@
 ghost use Rattle.std.specs.Prelude.{◌≤◌, length};
 
 use crate::Words;
-use crate::hints::expected::Word;
-use crate::hints::verbs::VERBS;
+use crate::hints::expected_word::Word;
+use crate::hints::words_after_verb::VERBS;
 use shm_place::{MAX_FRAMES, MAX_SITES, PAGES};
 
 /// Counts the bytes that can be read as the front of such a word.

@@ -2,7 +2,7 @@
 use Rattle.std.proofs.Common.{◌≡◌, ℕ, ◌≤◌, List, [], ◌∷◌, Result, Ok, Err, IfOk, Vec, sym, subst, arith}
 use Rattle.std.specs.declared.alloc.AllocError.{AllocError}
 use Rattle.shm_place.specs.Limits as limit
-use Rattle.shm_logs.specs.declared.boxes.site_log.SiteLog.{SiteLog}
+use Rattle.shm_logs.specs.declared.site_boxes.site_log.SiteLog.{SiteLog}
 use Rattle.shm_logs.specs.Auditing.Logs.{AreLogsOf}
 use Rattle.shm_model.specs.declared.event.Event.{Event}
 use Rattle.shm_model.specs.Log.{Logged}
@@ -12,8 +12,8 @@ use Rattle.shm_model.specs.Receipt.{Receipt, ReceiptsHold}
 use Rattle.shm_model.specs.World.{run, IsOpening, Opening, Preset}
 use Rattle.shm_logs.specs.Auditing.Audit.{IsAudited}
 use Rattle.shm_logs.specs.Auditing.Cause.{AllSound, IsFirstCause, IsFirstStep, IsForged}
-use Rattle.shm_logs.specs.declared.log_audit.audit_fault.AuditFault.{AuditFault}
-use Rattle.shm_logs.specs.declared.log_audit.audit_fault.AuditFault.TheVariants as fault
+use Rattle.shm_logs.specs.declared.log_audit.audit_error.AuditFault.{AuditFault}
+use Rattle.shm_logs.specs.declared.log_audit.audit_error.AuditFault.TheVariants as fault
 use Rattle.shm_logs.proofs.Audits.SoundLemmas.{sound-match}
 use Rattle.shm_logs.proofs.Audits.StoreLemmas.{tells-last-store}
 

@@ -12,8 +12,8 @@ use Rattle.shm_model.specs.Receipt.{of_all, same_step, IsTrueOf, Receipt, Receip
 use Rattle.shm_model.specs.World.{Opening}
 use Rattle.shm_logs.specs.Auditing.Audit.{IsAudited}
 use Rattle.shm_logs.specs.Auditing.Cause.{receipts_to, AllSound, IsFirstCause, IsFirstReceipt, IsFirstStep, IsMisordered, IsSound, IsUnsent, IsWrong, IsWrongAt, SoundAt}
-use Rattle.shm_logs.specs.declared.log_audit.audit_fault.AuditFault.{AuditFault}
-use Rattle.shm_logs.specs.declared.log_audit.audit_fault.AuditFault.TheVariants as fault
+use Rattle.shm_logs.specs.declared.log_audit.audit_error.AuditFault.{AuditFault}
+use Rattle.shm_logs.specs.declared.log_audit.audit_error.AuditFault.TheVariants as fault
 use Rattle.shm_logs.proofs.Audits.AllLemmas.{all-front, all-last, pairs-front}
 use Rattle.shm_logs.proofs.Audits.Lookups.{site-below}
 use Rattle.shm_logs.proofs.Audits.ReceiptLemmas.{of-all-own}

@@ -9,8 +9,8 @@ use Rattle.shm_logs.specs.Auditing.Audit.{IsAudited}
 use Rattle.shm_logs.specs.Auditing.Cause.{AllSound, IsFirstCause}
 use Rattle.shm_logs.specs.Auditing.Complete.{needs_receipt, told_by, AllTold, IsFirstCauseOfAll, IsFirstUntold, IsFirstUntoldOf, IsToldAt, IsUntold, IsUntoldAt}
 use Rattle.shm_logs.specs.Auditing.Marks.{mark_at, MarksName}
-use Rattle.shm_logs.specs.declared.log_audit.audit_fault.AuditFault.{AuditFault}
-use Rattle.shm_logs.specs.declared.log_audit.audit_fault.AuditFault.TheVariants as fault
+use Rattle.shm_logs.specs.declared.log_audit.audit_error.AuditFault.{AuditFault}
+use Rattle.shm_logs.specs.declared.log_audit.audit_error.AuditFault.TheVariants as fault
 use Rattle.shm_logs.proofs.Audits.CauseLemmas.{held-no-cause, in-order, one-cause}
 use Rattle.shm_logs.proofs.Audits.Lookups.{site-below}
 

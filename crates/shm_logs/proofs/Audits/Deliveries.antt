@@ -9,7 +9,7 @@ use Rattle.shm_model.specs.Message.{Input, Load, Store, Begin, Deliver, Tick, Re
 use Rattle.shm_model.specs.Basics.{max_sent}
 use Rattle.shm_laws.proofs.Log.Run.{has-log}
 use Rattle.shm_logs.specs.Auditing.Numbering.{sent_in, NumberFits, Numbers}
-use Rattle.shm_logs.specs.declared.log_audit.numbering.Numbering.{Numbering}
+use Rattle.shm_logs.specs.declared.log_audit.envelope_numbering.Numbering.{Numbering}
 use Rattle.shm_logs.proofs.Audits.Numbers.{sent_before-within}
 
 step-sends : (logs : List (List Logged)) (s i : ℕ) (l : Logged) → slice_get (log_of logs s) i ≡ Some l → length l.sent ≤ sum_by sent_by logs

@@ -4,7 +4,7 @@ use Rattle.std.proofs.lemmas.List.{get_or-map, length-map}
 use Rattle.shm_model.specs.Log.{Fits, Logged, LogsFit, log_of}
 use Rattle.shm_model.specs.World.{Preset, opened_site}
 use Rattle.shm_logs.specs.Boxes.SiteLog.{steps_of}
-use Rattle.shm_logs.specs.declared.boxes.site_log.SiteLog.{SiteLog}
+use Rattle.shm_logs.specs.declared.site_boxes.site_log.SiteLog.{SiteLog}
 use Rattle.shm_logs.specs.Auditing.Logs.{AreLogsOf, IsLogOf, logs_of}
 
 fits-there : (sites me pages sites' me' pages' : ℕ) (log : List Logged) → sites ≡ sites' → me ≡ me' → pages ≡ pages'

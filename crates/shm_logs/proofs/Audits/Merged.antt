@@ -16,7 +16,7 @@ use Rattle.shm_logs.specs.declared.log_audit.merge_logs.Head.{Head}
 use Rattle.shm_logs.specs.Auditing.Heads.{IsLeast, IsLeastIf, next}
 use Rattle.shm_logs.specs.Auditing.Logs.{LogsRise}
 use Rattle.shm_logs.specs.Auditing.Order.{order_of, no_step, step_named, AllName, Names}
-use Rattle.shm_logs.specs.declared.log_audit.step_name.StepName.{StepName}
+use Rattle.shm_logs.specs.declared.log_audit.step_id.StepName.{StepName}
 
 -- so many steps of each log stand in this order, which comes before every step that is left
 pub record IsMergedUpTo (logs : List (List Logged)) (heads : List ℕ) (order : List SiteStep) : Type 0 where

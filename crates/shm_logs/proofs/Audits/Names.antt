@@ -6,12 +6,12 @@ use Rattle.std.proofs.lemmas.Option.{slice_get-map, slice_get_read}
 use Rattle.shm_model.specs.Log.{Logged, log_of}
 use Rattle.shm_logs.specs.Boxes.Logged.{logged_of}
 use Rattle.shm_logs.specs.Boxes.SiteLog.{steps_of}
-use Rattle.shm_logs.specs.declared.boxes.site_log.SiteLog.{SiteLog}
-use Rattle.shm_logs.specs.declared.boxes.step.Step.{Step}
+use Rattle.shm_logs.specs.declared.site_boxes.site_log.SiteLog.{SiteLog}
+use Rattle.shm_logs.specs.declared.site_boxes.logged_step.Step.{Step}
 use Rattle.shm_laws.proofs.Log.Run.{has-log}
 use Rattle.shm_logs.specs.Auditing.Logs.{logs_of}
 use Rattle.shm_logs.specs.Auditing.Order.{AllName, Names}
-use Rattle.shm_logs.specs.declared.log_audit.step_name.StepName.{StepName}
+use Rattle.shm_logs.specs.declared.log_audit.step_id.StepName.{StepName}
 
 pub site-there : {A : Type 0} (logs : List (SiteLog A)) (s i : ℕ) → i < length (log_of (logs_of logs) s) → s < length logs
 site-there logs s i below = omega (arith, has-log (logs_of logs) s (omega arith), length-map logs steps_of)

@@ -2,7 +2,7 @@
 use Rattle.std.specs.Prelude.{List, Vec, map}
 use Rattle.shm_model.specs.Receipt as model
 use Rattle.shm_logs.specs.Boxes.Receipt.{receipt_of}
-use Rattle.shm_logs.specs.declared.boxes.receipt.Receipt.{Receipt}
+use Rattle.shm_logs.specs.declared.site_boxes.receipt.Receipt.{Receipt}
 
 -- one caller's receipts
 abbrev pub receipts_of : List Receipt → List model.Receipt

@@ -5,8 +5,8 @@ use Rattle.shm_model.specs.Log.{Logged, log_of}
 use Rattle.shm_model.specs.Message.{Envelope, Input, Deliver}
 use Rattle.shm_model.specs.Receipt.{Receipt, ReceiptsHold}
 use Rattle.shm_model.specs.Refusal.{forged, out_of_memory, stamp_order, unsent, untold}
-use Rattle.shm_logs.specs.declared.log_audit.audit_fault.AuditFault.{AuditFault}
-use Rattle.shm_logs.specs.declared.log_audit.audit_fault.AuditFault.TheVariants as fault
+use Rattle.shm_logs.specs.declared.log_audit.audit_error.AuditFault.{AuditFault}
+use Rattle.shm_logs.specs.declared.log_audit.audit_error.AuditFault.TheVariants as fault
 
 -- the stamp is above that of this step, where there is one
 abbrev pub IsAbove : Option Logged → ℕ → Type 0

@@ -6,8 +6,8 @@ use Rattle.shm_model.specs.Log.{Logged, log_of}
 use Rattle.shm_model.specs.Receipt.{of_all, Receipt, ReceiptsHold}
 use Rattle.shm_logs.specs.Auditing.Cause.{AllSound, IsFirstCause}
 use Rattle.shm_logs.specs.Auditing.Marks.{has_receipt}
-use Rattle.shm_logs.specs.declared.log_audit.audit_fault.AuditFault.{AuditFault}
-use Rattle.shm_logs.specs.declared.log_audit.audit_fault.AuditFault.TheVariants as fault
+use Rattle.shm_logs.specs.declared.log_audit.audit_error.AuditFault.{AuditFault}
+use Rattle.shm_logs.specs.declared.log_audit.audit_error.AuditFault.TheVariants as fault
 
 -- an access that is answered so is completed: the byte was loaded, or stored
 abbrev pub completes : Answer → Bool

@@ -4,7 +4,7 @@ use Rattle.std.specs.List.{AllPairs, sum_by}
 use Rattle.shm_model.specs.Log.{Logged, log_of, sent_by}
 use Rattle.shm_model.specs.Basics.{max_sent}
 use Rattle.shm_logs.specs.Boxes.SiteLog.{steps_of}
-use Rattle.shm_logs.specs.declared.boxes.site_log.SiteLog.{SiteLog}
+use Rattle.shm_logs.specs.declared.site_boxes.site_log.SiteLog.{SiteLog}
 
 abbrev pub logs_of : {A : Type 0} → List (SiteLog A) → List (List Logged)
 logs_of logs = map steps_of logs

@@ -2,7 +2,7 @@
 use Rattle.std.specs.Prelude.{◌≡◌, ℕ, ◌+◌, ◌<◌, ◌≤◌, Bool, true, false, ◌&&◌, ◌||◌, List, [], ◌∷◌, Option, Some, None, ◌==◌, if◌then◌else◌, length, map, max, slice_index_or, slice_set}
 use Rattle.shm_model.specs.Log.{Logged, log_of}
 use Rattle.shm_model.specs.Receipt.{Receipt, IsTrueOf}
-use Rattle.shm_logs.specs.declared.log_audit.marks.Marks.{Marks}
+use Rattle.shm_logs.specs.declared.log_audit.receipt_marks.Marks.{Marks}
 
 -- a mark for each step of each site's log
 abbrev pub marks_of : {A : Type 0} → Marks A → List (List Bool)

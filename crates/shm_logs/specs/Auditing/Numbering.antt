@@ -5,7 +5,7 @@ use Rattle.shm_model.specs.Log.{Stamp}
 use Rattle.shm_model.specs.Merge.{SiteStep, sent_before}
 use Rattle.shm_model.specs.Message.{Input, Deliver}
 use Rattle.shm_logs.specs.Auditing.Rows.{rows_of}
-use Rattle.shm_logs.specs.declared.log_audit.numbering.Numbering.{Numbering}
+use Rattle.shm_logs.specs.declared.log_audit.envelope_numbering.Numbering.{Numbering}
 
 -- how many envelopes the steps send
 abbrev pub sent_in : List SiteStep → ℕ

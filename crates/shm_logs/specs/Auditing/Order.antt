@@ -5,7 +5,7 @@ use Rattle.shm_model.specs.declared.answer.Answer.TheVariants.{Took}
 use Rattle.shm_model.specs.Message.{Tick}
 use Rattle.shm_model.specs.Log.{Logged, log_of}
 use Rattle.shm_model.specs.Merge.{SiteStep}
-use Rattle.shm_logs.specs.declared.log_audit.step_name.StepName.{StepName}
+use Rattle.shm_logs.specs.declared.log_audit.step_id.StepName.{StepName}
 
 -- the name is that of a step in these logs
 abbrev pub Names : List (List Logged) → StepName → Type 0

@@ -8,8 +8,8 @@ use Rattle.shm_model.specs.Site.{Site}
 use Rattle.shm_model.specs.Step.{step}
 use Rattle.shm_model.specs.World.{Preset, opened_site}
 use Rattle.shm_site.specs.Step.{is_foreign, may_grow}
-use Rattle.shm_logs.specs.declared.boxes.box_fault.BoxFault.{BoxFault}
-use Rattle.shm_logs.specs.declared.boxes.box_fault.BoxFault.TheVariants as fault
+use Rattle.shm_logs.specs.declared.site_boxes.box_error.BoxFault.{BoxFault}
+use Rattle.shm_logs.specs.declared.site_boxes.box_error.BoxFault.TheVariants as fault
 
 -- how many sites there are, which one this is, and how many pages segment 0 began with; the site as it stands, its log, and its clock
 pub record Box : Type 0 where

@@ -3,8 +3,8 @@ use Rattle.std.specs.Prelude.{map}
 use Rattle.shm_model.specs.Log as model
 use Rattle.shm_parts.specs.Message.{envelope_of}
 use Rattle.shm_site.specs.Step.{input_of}
-use Rattle.shm_logs.specs.declared.boxes.stamp.Stamp.{Stamp}
-use Rattle.shm_logs.specs.declared.boxes.step.Step.{Step}
+use Rattle.shm_logs.specs.declared.site_boxes.sending_stamp.Stamp.{Stamp}
+use Rattle.shm_logs.specs.declared.site_boxes.logged_step.Step.{Step}
 
 abbrev pub stamp_of : Stamp → model.Stamp
 stamp_of stamp = record { at = stamp.at; index = stamp.index; place = stamp.place }

@@ -6,7 +6,7 @@ use Rattle.shm_model.specs.Site.{Site}
 use Rattle.shm_model.specs.Step.{step}
 use Rattle.shm_model.specs.World.{Opening, Preset, opened_site}
 use Rattle.shm_logs.specs.Boxes.Logged.{logged_of}
-use Rattle.shm_logs.specs.declared.boxes.site_log.SiteLog.{SiteLog}
+use Rattle.shm_logs.specs.declared.site_boxes.site_log.SiteLog.{SiteLog}
 
 abbrev pub steps_of : {A : Type 0} → SiteLog A → List Logged
 steps_of log = map logged_of log.steps.items

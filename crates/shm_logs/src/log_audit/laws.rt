@@ -8,9 +8,9 @@ ghost use Rattle.shm_logs.specs.Auditing.Audit.{IsAudited};
 ghost use Rattle.shm_logs.specs.Auditing.Cause.{IsFirstCause};
 ghost use Rattle.shm_logs.specs.Auditing.Complete.{AllTold, IsFirstCauseOfAll};
 ghost use Rattle.shm_logs.specs.Auditing.Logs.{logs_of, AreLogsOf};
-ghost use Rattle.shm_logs.specs.declared.log_audit.audit_fault.AuditFault.{AuditFault};
+ghost use Rattle.shm_logs.specs.declared.log_audit.audit_error.AuditFault.{AuditFault};
 
-use crate::boxes::SiteLog;
+use crate::site_boxes::SiteLog;
 use shm_place::Sites;
 use std::alloc::Allocator;
 

@@ -6,8 +6,8 @@ ghost use Rattle.shm_logs.specs.Auditing.Logs.{logs_of, LogsRise};
 ghost use Rattle.shm_logs.specs.Auditing.Order.{order_of, AllName};
 ghost use Rattle.shm_model.specs.Merge.{IsMerged};
 
-use crate::boxes::SiteLog;
-use crate::log_audit::step_name::StepName;
+use crate::log_audit::step_id::StepName;
+use crate::site_boxes::SiteLog;
 use shm_place::SiteId;
 use std::alloc::{AllocError, Allocator};
 

@@ -2,9 +2,9 @@
 use Rattle.std.proofs.Common.{◌≡◌, ℕ, ◌==◌, ◌&&◌, Option, Some, None, List, [], ◌∷◌, ◌++◌, length, nat_le, slice_get, Contains}
 use Rattle.std.proofs.lemmas.Bool.{cond_both}
 use Rattle.std.proofs.lemmas.List.Elements.{Contains-append_left}
-use Rattle.shm_place.specs.declared.page.PageId.{PageId}
+use Rattle.shm_place.specs.declared.page_id.PageId.{PageId}
 use Rattle.shm_model.specs.declared.event.Event.{Event}
-use Rattle.shm_model.specs.declared.kind.Kind.{Kind}
+use Rattle.shm_model.specs.declared.request_kind.Kind.{Kind}
 use Rattle.shm_model.specs.Entry.{Ask}
 use Rattle.shm_model.specs.Book.{Book, Outcome, Running, Waiting, ask_while, awaits, cleared_while, confirm_while, ended, is_waiting, is_write, max_waiting, on_ask, serve_next, start, start_first, unserved}
 use Rattle.shm_model.specs.Basics.{greatest}

@@ -2,9 +2,9 @@
 use Rattle.std.proofs.Common.{◌≡◌, ◌≢◌, ℕ, ◌<◌, ◌≤◌, ◌⊎◌, inl, inr, Bool, false, Option, Some, None, List, [], ◌∷◌, ◌++◌, append-nil, slice_get, zero, suc, arith, refl, sym, ◌∙◌, ap, subst, Contains}
 use Rattle.std.proofs.lemmas.Bool.{cases_eq, cond-false}
 use Rattle.std.proofs.lemmas.Option.{get_or_from_slice_get, slice_get_within}
-use Rattle.shm_place.specs.declared.page.PageId.{PageId}
+use Rattle.shm_place.specs.declared.page_id.PageId.{PageId}
 use Rattle.shm_model.specs.declared.event.Event.{Event}
-use Rattle.shm_model.specs.declared.kind.Kind.{Kind}
+use Rattle.shm_model.specs.declared.request_kind.Kind.{Kind}
 use Rattle.shm_model.specs.Entry.{Ask}
 use Rattle.shm_model.specs.Book.{untouched_book}
 use Rattle.shm_model.specs.Message.{Envelope, Input, Load, Store, Begin, Deliver, Tick, Restart, Of}

@@ -5,7 +5,7 @@ use Rattle.std.proofs.Math.Dec.{eqb}
 use Rattle.std.proofs.lemmas.Bool.{eqb-true, ne_eqb}
 use Rattle.std.proofs.lemmas.List.{length-map}
 use Rattle.std.proofs.lemmas.Map.Steps.{length-le_from_distinct_below}
-use Rattle.shm_model.specs.declared.kind.Kind.{Kind}
+use Rattle.shm_model.specs.declared.request_kind.Kind.{Kind}
 use Rattle.shm_model.specs.Book.{Book, Running, Waiting, max_waiting}
 use Rattle.shm_laws.proofs.Page.Orders.{Each, each-imp, each-map}
 use Rattle.shm_progress.proofs.Request.Line.{Apart, Line, NoneFrom}

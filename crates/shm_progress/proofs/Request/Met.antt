@@ -1,8 +1,8 @@
 -- A row of an entry by which the site meets the running transaction, where that is its own, settles the request.
 use Rattle.std.proofs.Common.{◌≡◌, ℕ, ◌<◌, ◌≤◌, ◌⊎◌, inl, inr, Bool, true, false, ◌==◌, ◌&&◌, ◌||◌, not, Option, Some, List, nat_le, nat_lt, arith, refl, ap}
 use Rattle.std.proofs.lemmas.Bool.{and_parts, cases_lt, cond_both, eq-eqb}
-use Rattle.shm_model.specs.declared.kind.Kind.{Kind}
-use Rattle.shm_model.specs.declared.kind.Kind.TheVariants.{Read, Write}
+use Rattle.shm_model.specs.declared.request_kind.Kind.{Kind}
+use Rattle.shm_model.specs.declared.request_kind.Kind.TheVariants.{Read, Write}
 use Rattle.shm_model.specs.Entry.{Entry, Nil, Copy, OwnRead, OwnWrite, Handed, Clear, Page, Out, bytes, handed_to, installed, meet, on_clear, on_hand, on_page, owned, readable, seen, writable}
 use Rattle.shm_model.specs.Book.{Running, is_write}
 use Rattle.shm_model.specs.Site.{Pending}

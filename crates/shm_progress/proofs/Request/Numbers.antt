@@ -5,10 +5,10 @@ use Rattle.std.proofs.lemmas.Bool.{cases_eq, cond_both, ltb-false}
 use Rattle.std.proofs.lemmas.List.{length-append, length-map}
 use Rattle.std.proofs.lemmas.Option.{slice_get_within}
 use Rattle.std.proofs.lemmas.List.FromFn.{length-map-range_with_len}
-use Rattle.shm_place.specs.declared.page.PageId.{PageId}
+use Rattle.shm_place.specs.declared.page_id.PageId.{PageId}
 use Rattle.shm_place.specs.Page.{same_page}
 use Rattle.shm_model.specs.declared.event.Event.{Event}
-use Rattle.shm_model.specs.declared.kind.Kind.{Kind}
+use Rattle.shm_model.specs.declared.request_kind.Kind.{Kind}
 use Rattle.shm_model.specs.Entry.{Note, Ask, Clear, Cleared, Hand, Page, Confirm, on_clear, on_hand, on_page}
 use Rattle.shm_model.specs.Book.{Book, ClearTo, Outcome, Ignored, UsedUp, Taken, Running, Waiting, ask_while, awaited, awaits, cleared_while, confirm_while, is_waiting, is_write, max_waiting, on_ask, on_cleared, on_confirm, orders_to, serve_next, start, start_first, started, unserved, untouched_book}
 use Rattle.shm_model.specs.Basics.{greatest, max_sent}

@@ -1,7 +1,7 @@
 -- Of each page at most one request is pending at a site.
 use Rattle.std.proofs.Common.{◌≡◌, ◌⊎◌, inl, inr, Bool, true, false, List, [], ◌∷◌, filter, arith, refl, sym, ◌∙◌, subst, Contains}
 use Rattle.std.proofs.lemmas.Bool.{cond_both}
-use Rattle.shm_place.specs.declared.page.PageId.{PageId}
+use Rattle.shm_place.specs.declared.page_id.PageId.{PageId}
 use Rattle.shm_place.specs.Page.{same_page}
 use Rattle.shm_model.specs.Site.{Pending}
 use Rattle.shm_model.specs.Access.{put_pending}

@@ -2,7 +2,7 @@
 use Rattle.std.proofs.Common.{◌≡◌, ◌≢◌, ℕ, ◌<◌, ◌≤◌, ◌⊎◌, inl, inr, true, ◌==◌, ◌&&◌, Option, Some, None, List, [], ◌∷◌, length, nat_le, arith, refl, ◌∙◌, ap, subst}
 use Rattle.std.proofs.lemmas.Bool.{and_parts, cases_eq, cond_both, cond-false, cond-true, eq-eqb, eqb-true}
 use Rattle.std.proofs.lemmas.Bool.Decides.{nat_tests}
-use Rattle.shm_model.specs.declared.kind.Kind.{Kind}
+use Rattle.shm_model.specs.declared.request_kind.Kind.{Kind}
 use Rattle.shm_model.specs.Book.{Book, Running, Waiting, ask_while, awaits, cleared_while, confirm_while, is_waiting, is_write, max_waiting, on_ask, on_cleared, on_confirm, serve_next, start, start_first, started, unserved}
 use Rattle.shm_model.specs.Basics.{at, greatest}
 use Rattle.shm_model.specs.Site.{Pending}

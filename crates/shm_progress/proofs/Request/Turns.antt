@@ -1,7 +1,7 @@
 -- A step of the manager keeps that a request that is pending and was started is the transaction that runs.
 use Rattle.std.proofs.Common.{◌≡◌, ℕ, ◌≤◌, Bool, true, false, ◌==◌, if◌then◌else◌, arith, refl, sym, subst}
 use Rattle.std.proofs.lemmas.Bool.{cond_both}
-use Rattle.shm_place.specs.declared.page.PageId.{PageId}
+use Rattle.shm_place.specs.declared.page_id.PageId.{PageId}
 use Rattle.shm_place.specs.Page.{same_page}
 use Rattle.shm_model.specs.Entry.{Note, Ask, Clear, Cleared, Hand, Page, Confirm, on_clear, on_hand, on_page}
 use Rattle.shm_model.specs.Book.{Book, Outcome, Ignored, UsedUp, Taken, on_ask, on_cleared, on_confirm, untouched_book}

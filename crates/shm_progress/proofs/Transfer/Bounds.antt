@@ -1,10 +1,10 @@
 -- Whom a manager's book names are sites, and a page that was asked for is in the limits and at its manager.
 use Rattle.std.proofs.Common.{◌≡◌, ℕ, ◌<◌, Bool, true, false, ◌==◌, ◌&&◌, not, ◌||◌, Option, Some, None, List, [], ◌∷◌, length, nat_le, nat_lt, slice_get, refl, ap, subst}
 use Rattle.std.proofs.lemmas.Bool.{cond_both, eqb-true, ltb-true}
-use Rattle.shm_place.specs.declared.page.PageId.{PageId}
+use Rattle.shm_place.specs.declared.page_id.PageId.{PageId}
 use Rattle.shm_place.specs.Page.{in_limits, manager_of}
 use Rattle.shm_model.specs.declared.event.Event.{Event}
-use Rattle.shm_model.specs.declared.kind.Kind.{Kind}
+use Rattle.shm_model.specs.declared.request_kind.Kind.{Kind}
 use Rattle.shm_model.specs.Entry.{Ask}
 use Rattle.shm_model.specs.Book.{Book, Running, Waiting, ask_while, awaits, cleared_while, confirm_while, ended, is_waiting, is_write, max_waiting, on_ask, serve_next, start, start_first, unserved}
 use Rattle.shm_model.specs.Basics.{at, greatest}

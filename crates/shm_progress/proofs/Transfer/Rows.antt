@@ -1,8 +1,8 @@
 -- What a step of a manager does to the running transaction of one of its books.
 use Rattle.std.proofs.Common.{◌≡◌, ℕ, Bool, true, false, ◌==◌, ◌&&◌, Option, Some, None, List, [], ◌∷◌, length, nat_le, refl, sym, ◌∙◌, ap, subst, Contains}
 use Rattle.std.proofs.lemmas.Bool.{and_parts, cond_both, cond-true, cond-false, eqb-true, eq-eqb, and_from}
-use Rattle.shm_place.specs.declared.page.PageId.{PageId}
-use Rattle.shm_model.specs.declared.kind.Kind.{Kind}
+use Rattle.shm_place.specs.declared.page_id.PageId.{PageId}
+use Rattle.shm_model.specs.declared.request_kind.Kind.{Kind}
 use Rattle.shm_model.specs.Entry.{Note, Ask, Cleared, Confirm}
 use Rattle.shm_model.specs.Book.{Book, Outcome, Ignored, UsedUp, Taken, Running, Waiting, ask_while, awaited, awaits, cleared_while, confirm_while, ended, hand_if_cleared, is_waiting, is_write, max_waiting, on_ask, orders, serve_next, start, start_first, started, unserved}
 use Rattle.shm_model.specs.Basics.{at, greatest}

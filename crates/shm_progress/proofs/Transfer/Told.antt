@@ -4,7 +4,7 @@ use Rattle.std.specs.List.{flat_map, range_with_len}
 use Rattle.std.proofs.lemmas.List.Concat.{flat_map-cons}
 use Rattle.std.proofs.lemmas.List.Elements.{Contains-append_left, Contains-append_right}
 use Rattle.std.proofs.lemmas.Option.{slice_get-get_or}
-use Rattle.shm_place.specs.declared.page.PageId.{PageId}
+use Rattle.shm_place.specs.declared.page_id.PageId.{PageId}
 use Rattle.shm_model.specs.Entry.{Clear, Hand}
 use Rattle.shm_model.specs.Book.{Book, ClearTo, Running, awaited, awaits, max_sites, orders, orders_of, orders_to}
 use Rattle.shm_model.specs.Message.{Envelope, Of}

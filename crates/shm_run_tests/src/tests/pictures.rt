@@ -76,7 +76,7 @@ fn draw_script(
 ) -> (Result<(), DebugFault>, Vec<u8>) {
     let mut reader = script;
     let mut text = Vec::new(alloc);
-    let result = draw(alloc, &mut reader, &mut text, page);
+    let result = draw(alloc, &mut reader, &mut text, page, &[]);
     (result, text)
 }
 

@@ -3,7 +3,7 @@ use super::failing_streams::{Giver, NEVER, Taker};
 use linked_list_allocator::LocalHeap;
 use shm_debug::replay;
 use shm_prompt::{PromptFault, SaveFile, prompt};
-use std::alloc::Global;
+use std::alloc::{Allocator, Global};
 use std::cell::Cell;
 use std::io::{self, ErrorKind, Read, Write};
 use std::test::Fail;
@@ -26,6 +26,13 @@ impl SaveFile for Shelf {
         }
         self.saved = Some(bytes.to_vec(self.alloc)?);
         Ok(())
+    }
+
+    fn read<A: Allocator + Copy>(&self, alloc: A, name: &str) -> io::Result<Vec<u8, A>> {
+        match &self.saved {
+            Some(bytes) if name == "a" => Ok(bytes.as_slice().to_vec(alloc)?),
+            _ => Err(io::Error::from(ErrorKind::NotFound)),
+        }
     }
 }
 
@@ -130,7 +137,7 @@ const TOLD: [&str; 13] = [
     "4 took m2>1:Page\n5 took m3>0:Confirm\n6 took\nnothing is on its way\n",
     "page        site 0        site 1        manager\n0 0         OwnRead/1     Copy/1        0: owner 0 copies 1 t 1 idle\n",
     "key        shmid      owner      perms      bytes      nattch     status\n0x00000000 0          0          666        4096       2          \n",
-    "5 back 4\n",
+    "5 back 4: deliver 3\n",
     "",
 ];
 
@@ -151,7 +158,7 @@ fn each_line_is_answered_before_the_next(rt: HostRuntime) -> Result<(), Fail> {
         seen: &seen,
     };
     let mut files = empty_shelf(rt.alloc());
-    let result = prompt(rt.alloc(), &mut reader, &mut writer, &mut files);
+    let result = prompt(rt.alloc(), &mut reader, &mut writer, &mut files, false);
     assert_eq!(rt; result, Ok(()));
     assert_eq!(rt; writer.text.as_slice(), TOLD.concat(rt.alloc())?.as_bytes());
     assert_eq!(rt; seen.wrong.get(), 0);
@@ -174,8 +181,142 @@ fn type_at_once(alloc: Global, bytes: &[u8]) -> (Result<(), PromptFault>, Vec<u8
     let mut reader = bytes;
     let mut text = Vec::new(alloc);
     let mut files = empty_shelf(alloc);
-    let result = prompt(alloc, &mut reader, &mut text, &mut files);
+    let result = prompt(alloc, &mut reader, &mut text, &mut files, false);
     (result, text, files)
+}
+
+/// What is typed, and what is told.
+const DIALOGS: [(&str, &str); 8] = [
+    (
+        "sites 2 preset 1\nstore 0 0 0 7\n  load 0 0 0\nload 0 0 0\nload 0 5 0\nundo\nundo\nexit\nload 0 0 0\n",
+        "1 ready\n2 stored\n3 byte 7\n4 byte 7\n5 refused 9: site 0 has no such attachment\n\
+1 back 0: store 0 0 0 7\n1 refused 28: no event that stands has changed anything\n",
+    ),
+    (
+        "undo\nbook 0 0\n",
+        "no sites stand yet: begin with a line as sites 2 preset 1\n\
+no sites stand yet: begin with a line as sites 2 preset 1\n",
+    ),
+    (
+        "sites 2 preset 1\nload 9 0 0\ndeliver 4\nload 0 0 4096\nshow 131072 0\nback 9\nget 1 0 0 7 1 600 c\nget 1 0 0 7 1 600 c\n",
+        "1 ready\n2 refused 14: there is no site 9\n\
+3 refused 15: no message is on its way under number 4\n\
+4 refused 11: site 0 has no such offset at this attachment\n\
+4 refused 16: no segment can have that page\n\
+4 refused 28: events that stand: 3\n\
+5 began 1 m0>1:Call\n\
+6 refused 8: site 1 waits for the reply to a segment call\n",
+    ),
+    (
+        "sites 3 preset 1\nstore 1 0 0 7\nload 2 0 0\nget 1 0 0 7 1 600 c\ndeliver 0\ndeliver 1\nbook 0 0\nsites\n",
+        "1 ready\n2 fault m0>0:Ask\n3 fault m1>0:Ask\n4 began 1 m2>1:Call\n5 took m3>0:Hand\n6 took\n\
+page        site 0        site 1        site 2        manager\n\
+0 0         OwnWrite/0    Nil/0         Nil/0         0: owner 0 copies - t 1 write 1 then read 2\n\
+site 1 waits for page 0 0 to write, request 1\n\
+site 2 waits for page 0 0 to read, request 1\n\
+page        site 0        site 1        site 2        manager\n\
+0 0         OwnWrite/0    Nil/0         Nil/0         0: owner 0 copies - t 1 write 1 then read 2\n\
+site 1 waits for page 0 0 to write, request 1\n\
+site 1 waits for the reply to call 1\n\
+site 2 waits for page 0 0 to read, request 1\n",
+    ),
+    (
+        "sites 3 preset 1\nload 1 0 0\nrun\nload 2 0 0\nrun\nstore 0 0 0 9\ndeliver 8\ndeliver 9\ndeliver 11\nbook 0 0\nbook 0 300\n",
+        "1 ready\n2 fault m0>0:Ask\n3 took m1>0:Hand\n4 took m2>1:Page\n5 took m3>0:Confirm\n6 took\nnothing is on its way\n\
+7 fault m4>0:Ask\n8 took m5>0:Hand\n9 took m6>2:Page\n10 took m7>0:Confirm\n11 took\nnothing is on its way\n\
+12 fault m8>0:Ask\n13 took m9>1:Clear m10>2:Clear\n14 took m11>0:Cleared\n15 took\n\
+page        site 0        site 1        site 2        manager\n\
+0 0         OwnRead/2     Nil/3         Copy/2        0: owner 0 copies 1,2 t 3 write 0 cleared 1\n\
+site 0 waits for page 0 0 to write, request 1\n\
+no segment can have that page\n",
+    ),
+    (
+        "? 1\nexit now\nbook 0\nbook 0 x\n",
+        "expected: help\nexpected: quit\nexpected: book SEGMENT PAGE\nexpected: book SEGMENT PAGE\n",
+    ),
+    (
+        "sites 1 preset 1\nopen a\nstore 0 0 0 7\nsave a\nsites 3\nopen b\nopen a\nload 0 0 0\nopen\n",
+        "1 ready\nnot opened: a can't be read\n2 stored\nsaved to a\n1 ready\nnot opened: b can't be read\n\
+1 ready\n2 stored\n3 byte 7\nexpected: open FILE, where FILE is one word\n",
+    ),
+    ("quit\n? \n", ""),
+];
+
+/// Each command is told what stands here, and what it takes back is gone.
+#[test]
+fn commands_are_told(rt: HostRuntime) {
+    for (typed, told) in DIALOGS {
+        let (result, text, _files) = type_at_once(rt.alloc(), typed.as_bytes());
+        assert_eq!(rt; result, Ok(()));
+        assert_eq!(rt; std::str::from_utf8(text.as_slice()), Ok(told));
+    }
+}
+
+/// A terminal: each read gives a line, or where one is empty the input's end, which may come again.
+#[derive(Drop)]
+struct Terminal<'a> {
+    lines: &'a [&'static str],
+    given: usize,
+}
+
+impl Read for Terminal<'_> {
+    fn read(&mut self, buf: &mut [u8]) -> io::Result<usize> {
+        let Some(line) = self.lines.get(self.given) else {
+            return Err(io::Error::from(ErrorKind::Other));
+        };
+        self.given = self.given.saturating_add(1);
+        let count = line.len().min(buf.len());
+        buf[..count].copy_from_slice(&line.as_bytes()[..count]);
+        Ok(count)
+    }
+}
+
+const GREETING: &str = "shmdbg prompt: `help` lists what you may type, `exit` or Ctrl-D ends.
+`rlwrap shmdbg prompt` keeps a history of lines and edits them.
+";
+
+/// What is typed at a terminal, read by read, and what is told behind the greeting.
+const AT_TERMINAL: [(&[&str], &str); 5] = [
+    (&[""], "> \n"),
+    (&["exit\n"], "> "),
+    (
+        &["sites 1\n", "", ""],
+        "> 1 ready\n> \nwhat stands is not saved: `save FILE` first, or Ctrl-D again\n> \n",
+    ),
+    (
+        &["sites 1\n", "save full\n", "", "save a\n", "help x\n", ""],
+        "> 1 ready\n> not saved: full can't be written\n\
+> \nwhat stands is not saved: `save FILE` first, or Ctrl-D again\n\
+> saved to a\n> expected: help\n> \n",
+    ),
+    (
+        &[
+            "sites 1\nsa",
+            "ve a\n",
+            "undo\nsave b\n",
+            "tick 0\n",
+            "",
+            "",
+        ],
+        "> 1 ready\nsaved to a\n> 1 refused 28: no event that stands has changed anything\nsaved to b\n> 2 took\n\
+> \nwhat stands is not saved: `save FILE` first, or Ctrl-D again\n> \n",
+    ),
+];
+
+/// A person is greeted, sees a mark before each line, and is asked before what isn't saved is lost.
+#[test]
+fn a_person_is_greeted_and_asked(rt: HostRuntime) -> Result<(), Fail> {
+    for (lines, told) in AT_TERMINAL {
+        let mut reader = Terminal { lines, given: 0 };
+        let mut text = Vec::new(rt.alloc());
+        let mut files = empty_shelf(rt.alloc());
+        let result = prompt(rt.alloc(), &mut reader, &mut text, &mut files, true);
+        assert_eq!(rt; result, Ok(()));
+        assert_eq!(rt; reader.given, lines.len());
+        let whole = format!(in rt.alloc(); "{GREETING}{told}")?;
+        assert_eq!(rt; std::str::from_utf8(text.as_slice()), Ok(whole.as_str()));
+    }
+    Ok(())
 }
 
 const KEPT: &str = "sites 2 preset 1
@@ -220,7 +361,7 @@ fn one_call_of_a_dialog_fails(rt: HostRuntime) -> Result<(), Fail> {
         };
         let mut reader = b"sites 2\n".as_slice();
         let mut files = empty_shelf(rt.alloc());
-        let result = prompt(rt.alloc(), &mut reader, &mut writer, &mut files);
+        let result = prompt(rt.alloc(), &mut reader, &mut writer, &mut files, false);
         assert_eq!(rt; result, Err(PromptFault::WriteFault));
         assert_eq!(rt;
             writer.text.as_slice(),
@@ -235,7 +376,7 @@ fn one_call_of_a_dialog_fails(rt: HostRuntime) -> Result<(), Fail> {
         };
         let mut text = Vec::new(rt.alloc());
         let mut files = empty_shelf(rt.alloc());
-        let result = prompt(rt.alloc(), &mut reader, &mut text, &mut files);
+        let result = prompt(rt.alloc(), &mut reader, &mut text, &mut files, false);
         assert_eq!(rt; result, Err(PromptFault::ReadFault));
     }
     Ok(())
@@ -245,7 +386,7 @@ fn one_call_of_a_dialog_fails(rt: HostRuntime) -> Result<(), Fail> {
 #[test]
 fn a_dialog_runs_out_of_memory(rt: HostRuntime) -> Result<(), Fail> {
     let bytes =
-        b"sites 2 preset 1\nload 1 0 0\nflight\nrun\nsites\nsegments\nloud\nload 01\nrun 01\nundo\nhelp\n".as_slice();
+        b"sites 2 preset 1\nload 1 0 0\nflight\nbook 0 0\nrun\nsites\nsegments\nload 9 0 0\nloud\nload 01\nrun 01\nundo\nhelp\n".as_slice();
     let (whole, text, _files) = type_at_once(rt.alloc(), bytes);
     assert_eq!(rt; whole, Ok(()));
     let mut done = false;
@@ -254,7 +395,7 @@ fn a_dialog_runs_out_of_memory(rt: HostRuntime) -> Result<(), Fail> {
         let mut reader = bytes;
         let mut told = Vec::new(rt.alloc());
         let mut files = empty_shelf(rt.alloc());
-        let result = prompt(&heap, &mut reader, &mut told, &mut files);
+        let result = prompt(&heap, &mut reader, &mut told, &mut files, false);
         if result.is_ok() {
             assert!(rt; told.as_slice() == text.as_slice());
             done = true;

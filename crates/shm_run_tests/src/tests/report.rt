@@ -1,6 +1,6 @@
+mod io_errors;
 mod runs;
 mod seeds;
-mod streams;
 
 use shm_place::Sites;
 use shm_report::{ReportFault, report};

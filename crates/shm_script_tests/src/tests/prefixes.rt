@@ -1,5 +1,5 @@
 use super::{is_line_feed, replay_script};
-use crate::tests::scripts::{Script, going_back, losses, pages, segments};
+use crate::tests::script_fixtures::{Script, going_back, losses, pages, segments};
 use shm_debug::DebugFault;
 use std::alloc::{AllocError, Global};
 use std::process::Abort;

@@ -1,5 +1,5 @@
 use super::{is_line_feed, open_session};
-use crate::tests::scripts::{Script, losses, pages};
+use crate::tests::script_fixtures::{Script, losses, pages};
 use shm_debug::{Line, Session, parse_line};
 use shm_model::State;
 use shm_place::{PageId, SegId, SiteId};

@@ -1,4 +1,4 @@
-mod back;
+mod going_back;
 
 use shm_debug::Session;
 use shm_model::Opening;

@@ -1,4 +1,4 @@
-use super::scripts::{Script, frames, going_back, losses, pages, purges, segments};
+use super::script_fixtures::{Script, frames, going_back, losses, pages, purges, segments};
 use super::{plays, replay_script};
 use shm_debug::Summary;
 use std::alloc::{AllocError, Global};

@@ -1,12 +1,12 @@
 //! Worlds that are stepped and run by events: a world beside its copy, and memory that is refused.
 
-mod copies;
-mod purged;
-mod refused;
-mod refused_in_turn;
+mod cloned_worlds;
+mod each_event_out_of_memory;
+mod out_of_memory;
+mod purged_page;
 
 use super::is_line_feed;
-use super::scripts::Script;
+use super::script_fixtures::Script;
 use shm_debug::{Line, parse_line};
 use shm_place::{PageId, SegId, SiteId};
 use shm_world::{Access, Answer, Event, Shown, World};

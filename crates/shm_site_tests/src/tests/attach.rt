@@ -1,5 +1,5 @@
 //! Calls under numbers, at the site and at the home, and attachments.
 mod access;
 mod attachments;
-mod call_book;
 mod home;
+mod outstanding_call;

@@ -11,9 +11,9 @@ use shm_place::{PageId, SegId, SiteId, Sites};
 use std::alloc::{AllocError, Allocator};
 use std::test::Fail;
 
-mod complete;
+mod complete_receipts;
 mod deliveries;
-mod memory;
+mod out_of_memory;
 
 /// How many pages segment 0 has.
 const PAGES: u32 = 4;

@@ -10,7 +10,7 @@ use std::alloc::{AllocError, Allocator};
 use std::process::Abort;
 use std::test::Fail;
 
-mod memory;
+mod out_of_memory;
 
 /// One input of a box: an access through attachment 0, a tick, or site 1 asking for this page of segment 0 to read it.
 #[derive(Clone, Copy)]

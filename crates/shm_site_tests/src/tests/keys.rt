@@ -8,9 +8,9 @@ use std::process::Abort;
 
 mod calls;
 mod limits;
+mod out_of_memory;
+mod pending_purges;
 mod preset;
-mod purges;
-mod refused;
 
 /// The table of the one home of a single site: each identifier is its own.
 #[derive(Drop)]

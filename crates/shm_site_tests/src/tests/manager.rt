@@ -3,7 +3,7 @@ use shm_manager::Orders;
 use shm_model::Kind;
 use shm_place::{SiteId, SiteSet};
 
-mod refused;
+mod out_of_memory;
 mod transactions;
 mod waiting_requests;
 

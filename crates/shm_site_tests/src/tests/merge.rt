@@ -14,7 +14,7 @@ use shm_place::{SiteId, Sites};
 use std::alloc::{AllocError, Allocator};
 use std::test::Fail;
 
-mod memory;
+mod out_of_memory;
 
 /// An access through attachment 0, or a tick.
 #[derive(Clone, Copy)]

@@ -5,7 +5,7 @@ use shm_page::{Entry, OwnReadPage, OwnWritePage, ReadGrant};
 use std::alloc::{AllocError, Allocator};
 use std::process::Abort;
 
-mod refused;
+mod out_of_memory;
 mod states;
 
 /// A page at its owner, with 7 stored at its first place and 9 at its last.

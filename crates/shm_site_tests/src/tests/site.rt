@@ -11,9 +11,9 @@ use std::alloc::{AllocError, Allocator};
 use std::process::Abort;
 
 mod calls;
-mod copies;
-mod foreign;
-mod memory;
+mod cloned_sites;
+mod foreign_envelopes;
+mod out_of_memory;
 
 /// A message without a page's bytes. A page of segment 0 stands as its index, a site or segment as its number.
 #[derive(Clone, Copy)]

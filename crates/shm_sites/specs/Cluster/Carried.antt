@@ -4,8 +4,8 @@ use Rattle.rand_pcg.specs.Lcg.{Lcg, increment_of, started}
 use Rattle.rand_pcg.specs.Pcg.{multiplier_64, pcg32}
 use Rattle.shm_sites.specs.Cluster.Fate.{fate_of}
 use Rattle.shm_sites.specs.Cluster.Posted.{Sent}
-use Rattle.shm_sites.specs.declared.cluster.fate.Fate.{Fate}
-use Rattle.shm_sites.specs.declared.cluster.fate.Fate.TheVariants as fate
+use Rattle.shm_sites.specs.declared.cluster.envelope_fate.Fate.{Fate}
+use Rattle.shm_sites.specs.declared.cluster.envelope_fate.Fate.TheVariants as fate
 
 -- of this seed, with the site's number for its stream
 abbrev pub generator_of : ℕ → ℕ → Lcg

@@ -4,7 +4,7 @@ use Rattle.shm_model.specs.declared.answer.Answer.{Answer}
 use Rattle.shm_model.specs.declared.answer.Answer.TheVariants.{Fault, Waiting}
 use Rattle.shm_model.specs.Message.{Input}
 use Rattle.shm_logs.specs.Boxes.Receipt.{receipt_of}
-use Rattle.shm_logs.specs.declared.boxes.receipt.Receipt.{Receipt}
+use Rattle.shm_logs.specs.declared.site_boxes.receipt.Receipt.{Receipt}
 
 -- a step of this site, which was this access
 abbrev pub TellsOf : ℕ → Input → Receipt → Type 0

@@ -1,7 +1,7 @@
 -- What becomes of an envelope between two sites' threads, by the number that was drawn for it.
 use Rattle.std.specs.Prelude.{ℕ, ◌%◌, ◌==◌, if◌then◌else◌}
-use Rattle.shm_sites.specs.declared.cluster.fate.Fate.{Fate}
-use Rattle.shm_sites.specs.declared.cluster.fate.Fate.TheVariants as fate
+use Rattle.shm_sites.specs.declared.cluster.envelope_fate.Fate.{Fate}
+use Rattle.shm_sites.specs.declared.cluster.envelope_fate.Fate.TheVariants as fate
 
 -- of 16 envelopes one is lost, and one comes twice
 abbrev pub fate_of : ℕ → Fate

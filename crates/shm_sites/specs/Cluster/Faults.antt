@@ -2,10 +2,10 @@
 use Rattle.std.specs.Prelude.{ℕ, ◌==◌, if◌then◌else◌}
 use Rattle.shm_model.specs.Refusal.{clock_end, gave_up, no_thread, out_of_memory}
 use Rattle.shm_logs.specs.Boxes.Box.{Box, greatest_stamp}
-use Rattle.shm_sites.specs.declared.cluster.client_fault.ClientFault.{ClientFault}
-use Rattle.shm_sites.specs.declared.cluster.client_fault.ClientFault.TheVariants as client
-use Rattle.shm_sites.specs.declared.cluster.start_fault.StartFault.{StartFault}
-use Rattle.shm_sites.specs.declared.cluster.start_fault.StartFault.TheVariants as start
+use Rattle.shm_sites.specs.declared.cluster.client_error.ClientFault.{ClientFault}
+use Rattle.shm_sites.specs.declared.cluster.client_error.ClientFault.TheVariants as client
+use Rattle.shm_sites.specs.declared.cluster.start_error.StartFault.{StartFault}
+use Rattle.shm_sites.specs.declared.cluster.start_error.StartFault.TheVariants as start
 
 abbrev pub client_fault_number : ClientFault → ℕ
 client_fault_number client.OutOfMemory = out_of_memory

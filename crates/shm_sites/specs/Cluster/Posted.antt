@@ -4,7 +4,7 @@ use Rattle.shm_model.specs.Log.{Logged, Stamp}
 use Rattle.shm_model.specs.Message.{Envelope}
 use Rattle.shm_parts.specs.Message.{envelope_of}
 use Rattle.shm_logs.specs.Boxes.Logged.{stamp_of}
-use Rattle.shm_sites.specs.declared.cluster.posted.Posted.{Posted}
+use Rattle.shm_sites.specs.declared.cluster.posted_envelope.Posted.{Posted}
 
 -- an envelope, and where it was sent
 pub record Sent : Type 0 where

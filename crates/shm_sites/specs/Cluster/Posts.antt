@@ -1,6 +1,6 @@
 -- Where the posts of a cluster stand.
 use Rattle.std.specs.Prelude.{◌≡◌, ℕ, List, Some, slice_get}
-use Rattle.shm_sites.specs.declared.cluster.shared.Post.{Post}
+use Rattle.shm_sites.specs.declared.cluster.shared_state.Post.{Post}
 
 -- each post stands at its number
 abbrev pub AtTheirNumbers : {A : Type 0} → List (Post A) → Type 0

@@ -4,9 +4,9 @@ ghost use Rattle.shm_model.specs.Message.{Load, Store};
 ghost use Rattle.shm_model.specs.Receipt.{access_of};
 ghost use Rattle.shm_sites.specs.Cluster.Client.{waits as is_waiting, IsServed, TellsOf};
 
-use crate::cluster::access::{Accessed, access};
-use crate::cluster::client_fault::ClientFault;
-use crate::cluster::shared::{Post, Shared};
+use crate::cluster::box_access::{Accessed, access};
+use crate::cluster::client_error::ClientFault;
+use crate::cluster::shared_state::{Post, Shared};
 use shm_logs::{Asked, Receipt};
 use shm_model::Answer;
 use shm_place::SiteId;

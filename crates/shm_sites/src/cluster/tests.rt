@@ -7,7 +7,7 @@ use shm_place::{SiteId, Sites};
 use std::sync::Wait;
 use std::test::Fail;
 
-mod memory;
+mod out_of_memory;
 
 /// An offset in page 1, which site 1 manages.
 const THERE: u32 = 4096;

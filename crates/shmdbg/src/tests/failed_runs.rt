@@ -1,8 +1,8 @@
 //! Runs over several sites that fail: their status and what is told of them.
 use super::{expect, run_over};
-use crate::program::run_words;
-use crate::source::Source;
-use crate::tell;
+use crate::dispatch_command::run_words;
+use crate::error_text_and_status;
+use crate::recalling_input::Source;
 use shm_place::SiteId;
 use shm_report::ReportFault;
 use shm_sites::AuditFault;
@@ -98,7 +98,7 @@ fn wrong_lines_are_shown(rt: HostRuntime) {
         ),
     ];
     for (words, input, errors) in cases {
-        let mut reader = Source::new(input, true);
+        let mut reader = Source::new(input, true, false);
         let ran = run_over(&rt, words, &mut reader);
         assert_eq!(rt; ran.status, 1);
         assert!(rt; ran.errors.as_slice().starts_with(errors));
@@ -144,7 +144,7 @@ fn wrong_lines_are_named(rt: HostRuntime) {
         ),
     ];
     for (words, input, told) in cases {
-        let mut reader = Source::new(input, true);
+        let mut reader = Source::new(input, true, false);
         let ran = run_over(&rt, words, &mut reader);
         assert_eq!(rt; ran.status, 1);
         assert!(rt; ran.errors.as_slice().ends_with(told));
@@ -208,7 +208,10 @@ const TOLD: [(ReportFault, u8, &[u8]); 13] = [
 fn each_fault_is_told_in_a_line(rt: HostRuntime) {
     'faults: for (fault, status, line) in TOLD {
         let mut errors = Vec::new(rt.alloc());
-        assert_eq!(rt; tell::run_fault(fault, &mut errors), status);
+        assert_eq!(rt;
+            error_text_and_status::run_fault(fault, &mut errors),
+            status
+        );
         assert_eq!(rt; errors.as_slice(), line);
     }
 }

@@ -1,6 +1,6 @@
 //! Journals in files, in the folder that the tests run in.
 use super::{expect, run_over};
-use crate::kept_journal::Lock;
+use crate::journal_startup::Lock;
 use crate::tests::Ran;
 use std::fs;
 use std::rt::{Clock, Files};
@@ -94,7 +94,7 @@ fn journals_that_are_refused(rt: HostRuntime) -> Result<(), Fail> {
         (
             b"journal 1 0 2\n",
             false,
-            b"shmdbg: journal: of another site, number of sites or opening\n",
+            b"shmdbg: journal: of another site, number of sites, opening or cluster\n",
         ),
         (
             b"journal 1 0 1\nstep 1 tock\n",

@@ -1,5 +1,5 @@
 use super::{Ran, expect, run_over};
-use crate::kept_journal::Lock;
+use crate::journal_startup::Lock;
 use std::rt::{Clock, Files};
 use std::sync::Wait;
 use std::test::Fail;

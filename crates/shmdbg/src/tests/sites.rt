@@ -1,5 +1,5 @@
 use super::{expect, run_over};
-use crate::words::{Task, parse_words};
+use crate::args::{SealWords, Task, parse_words};
 use shm_place::{SiteId, Sites};
 use std::test::Fail;
 
@@ -170,6 +170,10 @@ fn numbers_of_a_site(rt: HostRuntime) -> Result<(), Fail> {
             pages,
             journal,
             begins,
+            seal: SealWords {
+                cluster: None,
+                key: None,
+            },
         };
         assert_eq!(rt; task, asked);
     }

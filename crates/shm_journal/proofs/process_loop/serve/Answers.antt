@@ -9,7 +9,7 @@ returns-in-Err-clause-served g c =
     let remaining = g.R.Read.remaining in
     let contents = g.W.Write.contents in
     let acts = g.J.Journal.acts in
-    never_published (desk_of c.args.desk) c.in-Err.fault (around (remaining c.args.reader.now) (contents c.args.writer.now) (acts c.args.journal.now))
+    never_published (desk_of c.args.desk.now) c.in-Err.fault (around (remaining c.args.reader.now) (contents c.args.writer.now) (acts c.args.journal.now))
     (around (remaining c.args.reader.now) (contents c.publish.new.writer) (acts c.publish.new.journal)) (c.in-Err.ensures.fault (remaining c.args.reader.now))
 
 pub reads-init : goal.reads-init
@@ -18,7 +18,7 @@ reads-init g c =
     let contents = g.W.Write.contents in
     let acts = g.J.Journal.acts in
     record {
-      serves = begun (desk_of c.args.desk) (desk_of c.publish.new.desk) (around (remaining c.args.reader.now) (contents c.args.writer.now) (acts c.args.journal.now))
+      serves = begun (desk_of c.args.desk.now) (desk_of c.publish.new.desk) (around (remaining c.args.reader.now) (contents c.args.writer.now) (acts c.args.journal.now))
           (around (remaining c.args.reader.now) (contents c.publish.new.writer) (acts c.publish.new.journal)) (c.in-Ok.ensures.done (remaining c.args.reader.now))
           c.in-Ok.ensures.cleared;
       room = refl;
@@ -29,7 +29,7 @@ returns-in_default-clause-served g c =
     let remaining = g.R.Read.remaining in
     let contents = g.W.Write.contents in
     let acts = g.J.Journal.acts in
-    read_failed (desk_of c.args.desk) (desk_of c.reads.desk) (around (remaining c.args.reader.now) (contents c.args.writer.now) (acts c.args.journal.now))
+    read_failed (desk_of c.args.desk.now) (desk_of c.reads.desk) (around (remaining c.args.reader.now) (contents c.args.writer.now) (acts c.args.journal.now))
     (around (remaining c.reads.reader) (contents c.reads.writer) (acts c.reads.journal))
     (around (remaining c.read.new.reader) (contents c.reads.writer) (acts c.read.new.self)) c.reads.invariant.serves
     (
@@ -52,7 +52,7 @@ returns-then-count-eq0-clause-served g c =
     let all : Did before after (Read (take c.in-Ok-read.count c.read.new.chunk) ∷ []) =
     did_read (remaining c.reads.reader) (remaining c.read.new.reader) (contents c.reads.writer) (acts c.reads.journal) (acts c.read.new.self) _
     c.in-Ok-read.ensures.read c.in-Ok-read.ensures.act in
-    ended (desk_of c.args.desk) (desk_of c.reads.desk) (around (remaining c.args.reader.now) (contents c.args.writer.now) (acts c.args.journal.now)) before after
+    ended (desk_of c.args.desk.now) (desk_of c.reads.desk) (around (remaining c.args.reader.now) (contents c.args.writer.now) (acts c.args.journal.now)) before after
     c.reads.invariant.serves (subst (λ n. Did before after (Read (take n c.read.new.chunk) ∷ [])) c.if-count-eq0.true all)
 
 pub returns-in-Err-take-clause-served : goal.returns-in-Err-take-clause-served
@@ -60,7 +60,7 @@ returns-in-Err-take-clause-served g c =
     let remaining = g.R.Read.remaining in
     let contents = g.W.Write.contents in
     let acts = g.J.Journal.acts in
-    out_of_memory (desk_of c.args.desk) (desk_of c.reads.desk) (around (remaining c.args.reader.now) (contents c.args.writer.now) (acts c.args.journal.now))
+    out_of_memory (desk_of c.args.desk.now) (desk_of c.reads.desk) (around (remaining c.args.reader.now) (contents c.args.writer.now) (acts c.args.journal.now))
     (around (remaining c.reads.reader) (contents c.reads.writer) (acts c.reads.journal))
     (around (remaining c.read.new.reader) (contents c.reads.writer) (acts c.read.new.self)) (take c.in-Ok-read.count c.read.new.chunk) c.reads.invariant.serves
     (
@@ -73,7 +73,7 @@ returns-in-Err-publish-clause-served g c =
     let remaining = g.R.Read.remaining in
     let contents = g.W.Write.contents in
     let acts = g.J.Journal.acts in
-    not_published (desk_of c.args.desk) (desk_of c.reads.desk) (desk_of c.take.new.self) c.in-Err-publish.fault
+    not_published (desk_of c.args.desk.now) (desk_of c.reads.desk) (desk_of c.take.new.self) c.in-Err-publish.fault
     (around (remaining c.args.reader.now) (contents c.args.writer.now) (acts c.args.journal.now))
     (around (remaining c.reads.reader) (contents c.reads.writer) (acts c.reads.journal))
     (around (remaining c.read.new.reader) (contents c.reads.writer) (acts c.read.new.self))
@@ -91,7 +91,7 @@ reads-preserved g c =
     let contents = g.W.Write.contents in
     let acts = g.J.Journal.acts in
     record {
-      serves = went_on (desk_of c.args.desk) (desk_of c.reads.desk) (desk_of c.take.new.self) (desk_of c.publish-in-reads.new.desk)
+      serves = went_on (desk_of c.args.desk.now) (desk_of c.reads.desk) (desk_of c.take.new.self) (desk_of c.publish-in-reads.new.desk)
           (around (remaining c.args.reader.now) (contents c.args.writer.now) (acts c.args.journal.now))
           (around (remaining c.reads.reader) (contents c.reads.writer) (acts c.reads.journal))
           (around (remaining c.read.new.reader) (contents c.reads.writer) (acts c.read.new.self))

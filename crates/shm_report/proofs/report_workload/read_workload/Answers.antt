@@ -1,7 +1,7 @@
 -- A workload that was read up to the limit is the whole one.
 use Rattle.std.proofs.Common.{◌≡◌, ◌∙◌, ◌⊎◌, Err, ap, subst, sym}
 use Rattle.shm_lines.specs.Workload.{workload_of}
-use Rattle.shm_lines.specs.declared.workload_fault.WorkloadFault.TheVariants.{OutOfMemory}
+use Rattle.shm_lines.specs.declared.workload_error.WorkloadFault.TheVariants.{OutOfMemory}
 use Rattle.shm_report.proofs.Causes.{input_told}
 use Rattle.shm_report.proofs.WholeInput.{whole_input}
 use Rattle.shm_report.proofs.report_workload.read_workload.Goals as goal

@@ -1,7 +1,7 @@
 ghost use Rattle.std.specs.Prelude.{◌≡◌};
 
 use crate::tests::expect;
-use crate::tests::full_heap::fill_heap;
+use crate::tests::fill_heap::fill_heap;
 use linked_list_allocator::LocalHeap;
 use shm_attach::{Done, Home, Op, Reply};
 use shm_keys::SegTable;

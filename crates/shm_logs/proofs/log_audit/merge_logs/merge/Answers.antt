@@ -3,7 +3,7 @@ use Rattle.std.proofs.lemmas.List.{length-map, length-set}
 use Rattle.shm_logs.specs.Boxes.SiteLog.{steps_of}
 use Rattle.shm_logs.specs.Auditing.Logs.{logs_of}
 use Rattle.shm_logs.specs.Auditing.Order.{order_of}
-use Rattle.shm_logs.specs.declared.log_audit.step_name.StepName.{StepName}
+use Rattle.shm_logs.specs.declared.log_audit.step_id.StepName.{StepName}
 use Rattle.shm_logs.proofs.Audits.Merged.{all-merged, fewer-left, merged-with, named-with}
 use Rattle.shm_logs.proofs.log_audit.merge_logs.merge.Goals as goal
 

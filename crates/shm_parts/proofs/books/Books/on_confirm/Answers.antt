@@ -2,7 +2,7 @@ use Rattle.std.proofs.Common.{◌∙◌, ◌&&◌, Bool, ℕ, not, is_some, refl
 use Rattle.shm_model.specs.Book as model
 use Rattle.shm_parts.specs.Booked.{book_or}
 use Rattle.shm_parts.specs.Books.{booked_of}
-use Rattle.shm_parts.specs.declared.outcome.Outcome.TheVariants as outcome
+use Rattle.shm_parts.specs.declared.book_outcome.Outcome.TheVariants as outcome
 use Rattle.shm_place.specs.Page.{same_page}
 use Rattle.shm_parts.specs.Bookings.{listed_of}
 use Rattle.shm_parts.proofs.BookSteps.{present_step, put_back, room_for_all, where_refused}

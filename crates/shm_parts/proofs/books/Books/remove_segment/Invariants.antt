@@ -1,6 +1,6 @@
 use Rattle.std.proofs.Common.{◌≡◌, cond, None}
 use Rattle.std.specs.Map.{lookup}
-use Rattle.shm_place.specs.declared.page.PageId.{PageId}
+use Rattle.shm_place.specs.declared.page_id.PageId.{PageId}
 use Rattle.shm_place.specs.Page.{same_page}
 use Rattle.shm_parts.specs.Books.{booked_of}
 use Rattle.shm_parts.proofs.BookedLemmas.{kept_below}

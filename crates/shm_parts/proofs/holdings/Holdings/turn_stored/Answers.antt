@@ -1,5 +1,5 @@
 use Rattle.std.proofs.Common.{◌∙◌, ap, Bool, sym}
-use Rattle.shm_place.specs.declared.page.PageId.{PageId}
+use Rattle.shm_place.specs.declared.page_id.PageId.{PageId}
 use Rattle.shm_model.specs.Site.{untouched}
 use Rattle.shm_attach.specs.Attachments.{attachments_of}
 use Rattle.shm_page.specs.Out.{out_of}

@@ -12,7 +12,7 @@ returns g c = λ cause text.
     let desk = desk_of c.args.self.now in
     let told = string_bytes c.push_text.new.told in
     let now = record desk { recorded = c.push_entry.new.recorded.items; told = told } in
-    IfOk-weaker c.push_text.result (λ _. told ≡ desk.told ++ step_text (Some (said_of OfRestart c.args.said.now)))
+    IfOk-weaker c.push_text.result (λ _. told ≡ desk.told ++ step_text desk.seal (Some (said_of OfRestart c.args.said.now)))
     (λ _. now ≡ with_step desk (Some (said_of cause c.args.said.now)))
     (λ _ e. pushed desk (said_of cause c.args.said.now) OfRestart c.args.line.now c.push_entry.new.recorded.items told text c.in_ok-push_entry.ensures e)
     c.push_text.ensures

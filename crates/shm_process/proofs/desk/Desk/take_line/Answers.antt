@@ -1,30 +1,25 @@
-use Rattle.std.proofs.Common.{◌≡◌, ◌∙◌, None, Some, ap, sym}
-use Rattle.std.specs.Prelude.{option_map}
+use Rattle.std.proofs.Common.{◌≡◌}
+use Rattle.std.specs.Prelude.{Ok, Err}
 use Rattle.std.proofs.lemmas.Result.{IfOk-weaker}
-use Rattle.shm_wire.specs.Line.{read_line}
-use Rattle.shm_wire.specs.LineOf.{line_of}
-use Rattle.shm_process.specs.Desk.{after_line, settled, taken}
+use Rattle.shm_process.specs.Desk.{after_line, after_opened}
 use Rattle.shm_process.specs.DeskOf.{desk_of}
-use Rattle.shm_process.specs.Waiting.{most_steps, passed_over}
-use Rattle.shm_process.proofs.Pushed.{line_taken, none_taken}
+use Rattle.shm_process.proofs.Pushed.{line_opened}
 use Rattle.shm_process.proofs.desk.Desk.take_line.Goals as goal
 
-pub returns-in_ok-take_read-in-Some : goal.returns-in_ok-take_read-in-Some
-returns-in_ok-take_read-in-Some g c =
+pub returns-in-Ok : goal.returns-in-Ok
+returns-in-Ok g c =
     let desk = desk_of c.args.self.now in
     let line = c.args.line.now in
-    let now = desk_of c.take_read.new.self in
-    let next = desk_of c.settle.new.self in
-    let read : Some (line_of c.in-Some.read) ≡ read_line line = sym (ap (option_map line_of) c.in-Some.is) ∙ c.in_ok-read.ensures.read in
-    IfOk-weaker c.settle.result (λ _. next ≡ settled most_steps now) (λ _. next ≡ after_line desk line)
-    (λ _ e. line_taken desk now next line c.if-line-gt-MAX_LINE_BYTES.false (c.in_ok-take_read-in-Some.ensures ∙ ap (taken desk) read) e) c.settle.ensures
+    let inner = c.in-Ok.inner.now in
+    let next = desk_of c.take_opened.new.self in
+    IfOk-weaker c.take_opened.result (λ _. next ≡ after_opened desk (Ok inner)) (λ _. next ≡ after_line desk line)
+    (λ _ e. line_opened desk next line (Ok inner) c.if-line-gt-MAX_LINE_BYTES.false c.in-Ok.ensures e) c.take_opened.ensures
 
-pub returns-in-None : goal.returns-in-None
-returns-in-None g c =
+pub returns-in-Err : goal.returns-in-Err
+returns-in-Err g c =
     let desk = desk_of c.args.self.now in
     let line = c.args.line.now in
-    let now = record desk { node = passed_over desk.node } in
-    let next = desk_of c.pass_line.new.self in
-    let read : None ≡ read_line line = sym (ap (option_map line_of) c.in-None.is) ∙ c.in_ok-read.ensures.read in
-    IfOk-weaker c.pass_line.result (λ _. next ≡ settled most_steps now) (λ _. next ≡ after_line desk line)
-    (λ _ e. line_taken desk now next line c.if-line-gt-MAX_LINE_BYTES.false (none_taken desk ∙ ap (taken desk) read) e) c.pass_line.ensures
+    let why = c.in-Err.why in
+    let next = desk_of c.leave_sealed.new.self in
+    IfOk-weaker c.leave_sealed.result (λ _. next ≡ after_opened desk (Err why)) (λ _. next ≡ after_line desk line)
+    (λ _ e. line_opened desk next line (Err why) c.if-line-gt-MAX_LINE_BYTES.false c.in-Err.ensures e) c.leave_sealed.ensures

@@ -2,7 +2,7 @@ use Rattle.std.proofs.Common.{◌≡◌, ◌∙◌, Ok, OnErr, ap, refl, subst, 
 use Rattle.shm_model.specs.Access.{ask_for, load}
 use Rattle.shm_model.specs.Site.{Step, still}
 use Rattle.shm_model.specs.declared.answer.Answer.TheVariants.{Fault, Refused}
-use Rattle.shm_model.specs.declared.kind.Kind.TheVariants.{Read}
+use Rattle.shm_model.specs.declared.request_kind.Kind.TheVariants.{Read}
 use Rattle.shm_parts.specs.Holdings.{loaded_step}
 use Rattle.shm_site.specs.Site.{site_of}
 use Rattle.shm_site.proofs.Seats.{load_here}

@@ -1,6 +1,6 @@
 use Rattle.std.proofs.Common.{◌≡◌, ℕ, true, false, Option, refl}
 use Rattle.std.proofs.lemmas.Bool.{false≢true}
-use Rattle.shm_place.specs.declared.page.PageId.{PageId}
+use Rattle.shm_place.specs.declared.page_id.PageId.{PageId}
 use Rattle.shm_manager.specs.Book.{due_of, starts}
 use Rattle.shm_model.specs.Book as book
 use Rattle.shm_model.specs.Site as model

@@ -4,7 +4,7 @@ use Rattle.shm_model.specs.Access.{ask_for, store}
 use Rattle.shm_model.specs.Site.{Step, still}
 use Rattle.shm_model.specs.Site as model
 use Rattle.shm_model.specs.declared.answer.Answer.TheVariants.{Fault, Refused}
-use Rattle.shm_model.specs.declared.kind.Kind.TheVariants.{Write}
+use Rattle.shm_model.specs.declared.request_kind.Kind.TheVariants.{Write}
 use Rattle.shm_parts.specs.Holdings.{stored_step, with_holdings}
 use Rattle.shm_site.specs.Site.{site_of}
 use Rattle.shm_site.proofs.Seats.{store_here}

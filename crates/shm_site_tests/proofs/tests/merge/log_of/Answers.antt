@@ -1,7 +1,7 @@
 use Rattle.std.proofs.Common.{List, subst, sym}
 use Rattle.std.specs.List.{All}
 use Rattle.shm_logs.specs.Boxes.SiteLog.{steps_of}
-use Rattle.shm_logs.specs.declared.boxes.site_log.SiteLog.{SiteLog}
+use Rattle.shm_logs.specs.declared.site_boxes.site_log.SiteLog.{SiteLog}
 use Rattle.shm_model.specs.Log.{Logged, Matches}
 use Rattle.shm_logs.specs.Auditing.Logs.{StampsRise}
 use Rattle.shm_site_tests.proofs.tests.merge.log_of.Goals as goal

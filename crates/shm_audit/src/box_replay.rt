@@ -1,0 +1,68 @@
+//! The entries of a journal.
+ghost use Rattle.std.specs.Prelude.{Some, IfOk};
+ghost use Rattle.shm_journal.specs.EntryOf.{entry_of};
+ghost use Rattle.shm_journal.specs.Replaying.{IsNext};
+ghost use Rattle.shm_logs.specs.Boxes.SiteBox.{box_of};
+ghost use Rattle.shm_audit.specs.Entered.{box_after, box_handed};
+ghost use Rattle.shm_audit.specs.HandedOf.{handed_of};
+
+use crate::box_replay_input::{Handed, handed_input};
+use shm_journal::{Entry, Replay, parse_entry};
+use shm_logs::{BoxFault, SiteBox};
+use std::alloc::{AllocError, Allocator, Global};
+
+/// A site whose box takes the steps that its journal records.
+#[derive(Drop)]
+pub(crate) struct Audited<A: Allocator + Copy = Global> {
+    pub(crate) site_box: SiteBox<A>,
+}
+
+impl<A: Allocator + Copy> Replay<A> for Audited<A> {
+    ghost use Rattle.shm_logs.specs.Boxes.Box.{Box};
+    ghost use Rattle.shm_logs.specs.Boxes.SiteBox.{box_of};
+    ghost use Rattle.shm_audit.specs.Found.{entered};
+
+    ghost State = { Box };
+
+    ghost state = { λ site. box_of site.site_box };
+
+    ghost next = { entered };
+
+    fn replay_line(&mut self, alloc: A, line: &[u8]) -> Result<bool, AllocError> {
+        match parse_entry(alloc, line) {
+            Ok(Some(entry)) => enter(&mut self.site_box, entry),
+            Ok(None) => Ok(false),
+            Err(refused) => Err(refused),
+        }
+    }
+}
+
+/// The box takes the step that the entry records, if it can be its next.
+fn enter<A: Allocator + Copy>(
+    site_box: &mut SiteBox<A>,
+    entry: Entry<A>,
+) -> Result<bool, AllocError>
+    ensures { IfOk result (λ made. IsNext made (box_after (box_of site_box.old) (entry_of entry)) (box_of site_box.new)) }
+{
+    let Entry { clock, cause } = entry;
+    match handed_input(site_box.log().site(), cause) {
+        Some(handed) => take(site_box, clock, handed),
+        None => Ok(false),
+    }
+}
+
+/// The box takes the input of an entry, if that can be its next step under this clock.
+fn take<A: Allocator + Copy>(
+    site_box: &mut SiteBox<A>,
+    clock: u64,
+    handed: Handed<A>,
+) -> Result<bool, AllocError>
+    ensures { IfOk result (λ made. IsNext made (box_handed clock (box_of site_box.old) (Some (handed_of handed))) (box_of site_box.new)) }
+{
+    let Handed { input, source } = handed;
+    match site_box.take(input, source) {
+        Ok(_) if site_box.clock() == clock => Ok(true),
+        Err(BoxFault::OutOfMemory) => Err(AllocError),
+        _ => Ok(false),
+    }
+}

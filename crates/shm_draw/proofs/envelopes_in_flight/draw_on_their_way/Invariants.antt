@@ -1,0 +1,7 @@
+use Rattle.std.proofs.Common.{◌≡◌, ◌+◌, ◌++◌, drop, string_bytes}
+use Rattle.shm_draw.specs.Svg.{flying_text, flying_shape}
+use Rattle.shm_draw.proofs.envelopes_in_flight.draw_on_their_way.Given as goal
+
+abbrev pub invariant-ways : goal.invariant-ways
+invariant-ways g l =
+    string_bytes l.out ++ flying_text flying_shape l.last (l.index + 1) (drop l.index l.ways) ≡ string_bytes l.initial.out ++ flying_text flying_shape l.last 1 l.ways

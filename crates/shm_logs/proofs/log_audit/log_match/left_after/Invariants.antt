@@ -1,7 +1,0 @@
-use Rattle.std.proofs.Common.{◌≡◌, ◌+◌, map, take}
-use Rattle.shm_logs.specs.Boxes.Logged.{logged_of}
-use Rattle.shm_model.specs.Log.{sent_by}
-use Rattle.shm_logs.proofs.log_audit.log_match.left_after.Given as goal
-
-abbrev pub invariant-steps : goal.invariant-steps
-invariant-steps g l = l.left + sent_by (take l.step-index (map logged_of l.steps)) ≡ l.numbers

@@ -1,0 +1,71 @@
+//! What a site's process tells of itself.
+ghost use Rattle.std.specs.Prelude.{◌≡◌};
+ghost use Rattle.shm_process.specs.HealthOf.{health_in};
+ghost use Rattle.shm_process.specs.NodeOf.{node_of};
+ghost use Rattle.shm_process.specs.Telling.{health_of};
+ghost use Rattle.shm_process.specs.UnopenedOf.{unopened_of};
+
+use crate::node::Node;
+use crate::unopened_line_counts::Unopened;
+use std::alloc::Allocator;
+use std::fmt;
+
+/// How much a site's process did since it was started, and what waits. Its steps and its clock are those of the site's whole life.
+#[derive(Clone, Copy, Debug, PartialEq, Eq)]
+pub struct Health {
+    /// The steps of the site, those that were made again from its journal among them.
+    pub steps: u64,
+    /// The clock of the last step, or 0.
+    pub clock: u64,
+    /// The lines that made a step, or brought a block that found room.
+    pub taken: u64,
+    /// The lines that were passed over: those for other sites, those that are no lines, and those that the next three count.
+    pub passed: u64,
+    /// The asks that wait, at most 64.
+    pub waiting: usize,
+    /// The lines that weren't opened, by their causes.
+    pub unopened: Unopened,
+}
+
+impl<A: Allocator + Copy> Node<A> {
+    /// The counts as they stand, with those of lines that weren't opened.
+    #[tactic(auto, using(crate::proofs::Asks::length_map))]
+    pub fn health(&self, unopened: Unopened) -> Health
+        ensures { health_in result ≡ health_of (unopened_of unopened) (node_of self.now) }
+    {
+        Health {
+            steps: self.steps,
+            clock: self.clock,
+            taken: self.taken,
+            passed: self.passed,
+            waiting: self.waiting.len(),
+            unopened,
+        }
+    }
+}
+
+impl fmt::Display for Health {
+    ghost use Rattle.std.specs.Prelude.{Some};
+    ghost use Rattle.shm_process.specs.Health.{health_text};
+    ghost use Rattle.shm_process.specs.HealthOf.{health_in};
+
+    ghost output = { λ health. Some (health_text (health_in health)) };
+
+    /// The counts by their names, in one line.
+    fn fmt<W: fmt::Write>(&self, f: &mut fmt::Formatter<W>) -> fmt::Result {
+        let steps = self.steps;
+        let clock = self.clock;
+        let taken = self.taken;
+        let passed = self.passed;
+        let waiting = self.waiting;
+        let Unopened {
+            other_cluster,
+            no_digest,
+            wrong_digest,
+        } = self.unopened;
+        write!(
+            f,
+            "health steps {steps} clock {clock} taken {taken} passed {passed} waiting {waiting} other-cluster {other_cluster} no-digest {no_digest} wrong-digest {wrong_digest}"
+        )
+    }
+}

@@ -1,0 +1,231 @@
+//! Blocks: many loads that one caller asks for at once, and is told of once.
+use crate::tests::exchanges::{Exchange, Records, counts, first_astray, new_desks, page_line};
+use crate::tests::fill_heap::{Filling, TRIES, fill_heap};
+use crate::tests::{new_node, said_again, take_line, tells};
+use linked_list_allocator::LocalHeap;
+use shm_model::Answer;
+use shm_process::{Node, Unopened};
+use shm_wire::parse_line;
+use std::alloc::{AllocError, Global};
+use std::process::Abort;
+use std::test::Fail;
+
+/// Each line was opened.
+const ALL_OPENED: Unopened = Unopened {
+    other_cluster: 0,
+    no_digest: 0,
+    wrong_digest: 0,
+};
+
+/// The bytes are 7, 255, 0 and 16.
+#[test]
+fn a_block_is_told_once_and_recorded_byte_by_byte(rt: HostRuntime) -> Result<(), Fail> {
+    let mut desks = new_desks(rt.alloc(), 2)?;
+    let exchanges = [
+        Exchange {
+            site: 0,
+            lines: "ask 0 a store 0 5 7\nask 0 a store 0 6 255\nask 0 a store 0 8 16\n",
+            output: "tell 0 a stored\ntell 0 a stored\ntell 0 a stored\n",
+            records: Records::Ending(b"\nstep 3 ask 0 a store 0 8 16\n"),
+        },
+        Exchange {
+            site: 0,
+            lines: "ask 0 b read 0 5 4\n",
+            output: "tell 0 b block B/8AEA==\n",
+            records: Records::All(
+                b"step 4 ask 0 b load 0 5\nstep 5 ask 0 b load 0 6\nstep 6 ask 0 b load 0 7\nstep 7 ask 0 b load 0 8\n",
+            ),
+        },
+    ];
+    assert_eq!(rt; first_astray(desks.as_mut_slice(), &exchanges)?, None);
+    assert_eq!(rt; counts(desks.as_slice(), 0), Some((7, 4, 0, 0)));
+    Ok(())
+}
+
+/// Page 0 is at site 0 and ends with 1 and 2, page 1 is at site 1 and begins with 3, 0 and 5. Site 2 has neither.
+#[test]
+fn a_block_over_two_pages_is_told_when_both_came(rt: HostRuntime) -> Result<(), Fail> {
+    let alloc = rt.alloc();
+    let mut desks = new_desks(alloc, 3)?;
+    let first = page_line(
+        alloc,
+        "env 0 0 3 2 0 hand 0 0 1 read 2\nenv 0 2 4 3 0 page 0 0 1 read ",
+        1364,
+        "AAABAg==\n",
+    )?;
+    let second = page_line(
+        alloc,
+        "env 1 1 9 2 0 hand 0 1 1 read 2\nenv 1 2 10 3 0 page 0 1 1 read AwAF",
+        1364,
+        "AA==\n",
+    )?;
+    let exchanges = over_two_pages(first.as_str(), second.as_str());
+    assert_eq!(rt; first_astray(desks.as_mut_slice(), &exchanges)?, None);
+    assert_eq!(rt; counts(desks.as_slice(), 2), Some((9, 3, 2, 0)));
+    Ok(())
+}
+
+/// What brings both pages to site 2, where the owners tell this of them.
+fn over_two_pages<'a>(first: &'a str, second: &'a str) -> [Exchange<'a>; 7] {
+    [
+        Exchange {
+            site: 0,
+            lines: "ask 0 a store 0 4094 1\nask 0 a store 0 4095 2\n",
+            output: "tell 0 a stored\ntell 0 a stored\n",
+            records: Records::Ending(b"\nstep 2 ask 0 a store 0 4095 2\n"),
+        },
+        Exchange {
+            site: 1,
+            lines: "ask 1 a store 0 4096 3\nask 1 a store 0 4098 5\n",
+            output: "tell 1 a stored\ntell 1 a stored\n",
+            records: Records::Ending(b"\nstep 2 ask 1 a store 0 4098 5\n"),
+        },
+        Exchange {
+            site: 2,
+            lines: "ask 2 b read 0 4094 5\n",
+            output: "env 2 0 1 0 0 ask 0 0 1 read\n",
+            records: Records::All(b"step 1 ask 2 b load 0 4094\n"),
+        },
+        Exchange {
+            site: 0,
+            lines: "env 2 0 1 0 0 ask 0 0 1 read\nenv 0 0 3 2 0 hand 0 0 1 read 2\n",
+            output: first,
+            records: Records::Ending(b"\nstep 4 env 0 0 3 2 0 hand 0 0 1 read 2\n"),
+        },
+        Exchange {
+            site: 2,
+            lines: first,
+            output: "env 2 0 5 1 0 confirm 0 0 1\nenv 2 1 8 4 0 ask 0 1 2 read\n",
+            records: Records::Ending(
+                b"\nstep 6 ask 2 b load 0 4094\nstep 7 ask 2 b load 0 4095\nstep 8 ask 2 b load 0 4096\n",
+            ),
+        },
+        Exchange {
+            site: 1,
+            lines: "env 2 1 8 4 0 ask 0 1 2 read\nenv 1 1 9 2 0 hand 0 1 1 read 2\n",
+            output: second,
+            records: Records::Ending(b"\nstep 10 env 1 1 9 2 0 hand 0 1 1 read 2\n"),
+        },
+        Exchange {
+            site: 2,
+            lines: second,
+            output: "env 2 1 11 5 0 confirm 0 1 1\ntell 2 b block AQIDAAU=\n",
+            records: Records::Ending(
+                b"\nstep 12 ask 2 b load 0 4096\nstep 13 ask 2 b load 0 4097\nstep 14 ask 2 b load 0 4098\n",
+            ),
+        },
+    ]
+}
+
+/// Through an attachment that isn't there.
+#[test]
+fn a_block_that_is_refused_is_told_so_once(rt: HostRuntime) -> Result<(), Fail> {
+    let alloc = rt.alloc();
+    let mut node = new_node(alloc, 1, 0)?;
+    assert!(rt; take_line(alloc, &mut node, b"ask 0 b read 1 0 4")?.is_none());
+    let said = said_again(node.again()?);
+    assert!(rt; tells(&said, "b", Answer::Refused(9)));
+    assert_eq!(rt; (node.steps(), node.asks_waiting()), (1, 0));
+    Ok(())
+}
+
+/// 64 loads wait for one page.
+fn crowd(alloc: Global, node: &mut Node) -> Result<(), AllocError> {
+    'asks: for _ in 0..64 {
+        drop(take_line(alloc, node, b"ask 1 a load 0 2")?);
+    }
+    Ok(())
+}
+
+fn is_line(told: &Option<String>, line: &str) -> bool {
+    match told {
+        Some(told) => told.as_str() == line,
+        None => false,
+    }
+}
+
+#[test]
+fn a_block_that_finds_no_room_is_told_so_and_passed_over(rt: HostRuntime) -> Result<(), Fail> {
+    let alloc = rt.alloc();
+    let mut node = new_node(alloc, 2, 1)?;
+    crowd(alloc, &mut node)?;
+    let Some(line) = parse_line(alloc, b"ask 1 b read 0 2 1")? else {
+        return Err(Fail::new("an ask's line"));
+    };
+    let told = node.line_at_once(ALL_OPENED, &line)?;
+    assert!(rt; is_line(&told, "tell 1 b waiting"));
+    assert!(rt; node.take(line)?.is_none());
+    assert_eq!(rt;
+        (
+            node.steps(),
+            node.lines_taken(),
+            node.lines_passed(),
+            node.asks_waiting()
+        ),
+        (64, 64, 1, 64)
+    );
+    Ok(())
+}
+
+/// Whether the node takes the ask for a page's bytes. Where memory is refused it is as before.
+fn takes<'a>(rt: &impl Abort, heap: &'a LocalHeap, node: &mut Node<&'a LocalHeap>) -> bool {
+    match take_line(heap, node, b"ask 0 b read 0 0 4096") {
+        Ok(said) => {
+            assert!(rt; said.is_none(), "a block that joins makes no step");
+            true
+        }
+        Err(_) => {
+            assert_eq!(rt;
+                (
+                    node.steps(),
+                    node.lines_taken(),
+                    node.lines_passed(),
+                    node.asks_waiting()
+                ),
+                (0, 0, 0, 0)
+            );
+            false
+        }
+    }
+}
+
+/// How often the ask is refused memory while the hole in a full heap widens.
+fn refusals<'a>(
+    rt: &impl Abort,
+    heap: &'a LocalHeap,
+    node: &mut Node<&'a LocalHeap>,
+    filling: &mut Filling<'a>,
+) -> Option<usize> {
+    'tries: for tries in 0..TRIES {
+        if takes(rt, heap, node) {
+            return Some(tries);
+        }
+        drop(filling.pop());
+    }
+    None
+}
+
+/// The bytes need a hole of 4,096: 256 times 16.
+#[test]
+fn each_growth_of_a_block_is_refused_in_turn(rt: HostRuntime) -> Result<(), Fail> {
+    let heap = LocalHeap::new(rt.alloc(), 1 << 16)?;
+    let mut node = new_node(&heap, 2, 0)?;
+    let mut filling = fill_heap(rt.alloc(), &heap)?;
+    let Some(tries) = refusals(&rt, &heap, &mut node, &mut filling) else {
+        return Err(Fail::new("the block never joined"));
+    };
+    assert!(rt;
+        tries > 256,
+        "the place among those that wait was refused too"
+    );
+    assert_eq!(rt;
+        (
+            node.steps(),
+            node.lines_taken(),
+            node.lines_passed(),
+            node.asks_waiting()
+        ),
+        (0, 1, 0, 1)
+    );
+    Ok(())
+}

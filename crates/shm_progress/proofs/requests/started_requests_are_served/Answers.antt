@@ -1,5 +1,0 @@
-use Rattle.shm_progress.proofs.Request.Serving.{started-served}
-use Rattle.shm_progress.proofs.requests.started_requests_are_served.Goals as goal
-
-pub returns : goal.returns
-returns c = λ o events opening. started-served o opening events

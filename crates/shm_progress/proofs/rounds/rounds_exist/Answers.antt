@@ -1,5 +1,0 @@
-use Rattle.shm_progress.proofs.RoundExists.{has-round}
-use Rattle.shm_progress.proofs.rounds.rounds_exist.Goals as goal
-
-pub returns : goal.returns
-returns c = λ o events. has-round o events

@@ -1,5 +1,0 @@
-use Rattle.shm_progress.proofs.Round.{settles}
-use Rattle.shm_progress.proofs.rounds.rounds_settle_calls_and_purges.Goals as goal
-
-pub returns : goal.returns
-returns c = λ o earlier later opening kept ticks free rest. settles o opening earlier later kept ticks free rest

@@ -1,5 +1,0 @@
-use Rattle.shm_progress.proofs.Transfer.Ends.{managers-settle}
-use Rattle.shm_progress.proofs.rounds.rounds_settle_transactions.Goals as goal
-
-pub returns : goal.returns
-returns c = λ o earlier later opening kept unrestarted ticks free rest. managers-settle o opening earlier later kept unrestarted ticks free rest

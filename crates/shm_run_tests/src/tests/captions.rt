@@ -1,0 +1,128 @@
+//! Captions: which notes have them, and where they stand on the picture.
+
+use shm_debug::DebugFault;
+use shm_draw::{Caption, CaptionFault, draw, parse_captions};
+use std::alloc::{AllocError, Global};
+use std::process::Abort;
+use std::test::Fail;
+
+const SCRIPT: &[u8] = b"sites 2 preset 2\nload 1 0 0\nload 1 0 4096\n";
+
+/// The picture has four rows of lines 1 to 3, of which notes name two; no row has number 4.
+const NOTES: &[u8] = b"2 a < b & c > \xc3\xa9\n\n1 it's the opening\n4 no row is here at all\n";
+
+/// Both pages' pictures have them at the end.
+const CAPTIONS: &str = "\
+<text style='font-style:italic;fill:#850' x='680' y='100' dy='4'>a &lt; b &amp; c &gt; é</text>\n\
+<text style='font-style:italic;fill:#850' x='680' y='78' dy='4'>it's the opening</text>\n\
+</g>\n";
+
+/// How the script is drawn with these captions, and what is written.
+fn drawn_with(alloc: Global, captions: &[Caption<'_>]) -> (Result<(), DebugFault>, Vec<u8>) {
+    let mut reader = SCRIPT;
+    let mut text = Vec::new(alloc);
+    let result = draw(alloc, &mut reader, &mut text, None, captions);
+    (result, text)
+}
+
+/// How often this part stands in the text.
+fn count(text: &[u8], part: &[u8]) -> usize {
+    let mut found = 0usize;
+    for at in 0..text.len() {
+        if text[at..].starts_with(part) {
+            found = found.saturating_add(1);
+        }
+    }
+    found
+}
+
+/// Each picture has the captions of its rows, with entities, right of where it would end; and the whole is so much wider.
+#[test]
+fn captions_stand_beside_their_rows(rt: HostRuntime) -> Result<(), Fail> {
+    let Ok(captions) = parse_captions(rt.alloc(), NOTES) else {
+        return Err(Fail::new("notes"));
+    };
+    let (result, text) = drawn_with(rt.alloc(), captions.as_slice());
+    assert_eq!(rt; result, Ok(()));
+    let text = text.as_slice();
+    assert!(rt; text.starts_with(b"<svg xmlns='http://www.w3.org/2000/svg' width='864' height="));
+    assert_eq!(rt; count(text, CAPTIONS.as_bytes()), 2);
+    assert_eq!(rt; count(text, b"font-style"), 4);
+    Ok(())
+}
+
+/// Without captions nothing is wider, and there is no text of a caption.
+#[test]
+fn a_picture_without_captions(rt: HostRuntime) {
+    let (result, text) = drawn_with(rt.alloc(), &[]);
+    assert_eq!(rt; result, Ok(()));
+    let text = text.as_slice();
+    assert!(rt; text.starts_with(b"<svg xmlns='http://www.w3.org/2000/svg' width='680' height="));
+    assert_eq!(rt; count(text, b"font-style"), 0);
+}
+
+/// The number of the first line that is no note, or how many captions there are.
+fn read_notes(alloc: Global, notes: &[u8]) -> Result<usize, CaptionFault> {
+    match parse_captions(alloc, notes) {
+        Ok(captions) => Ok(captions.len()),
+        Err(fault) => Err(fault),
+    }
+}
+
+#[test]
+fn notes_that_are_taken(rt: HostRuntime) {
+    let cases: [(&[u8], usize); 6] = [
+        (b"", 0),
+        (b"\n\n", 0),
+        (b"1 a", 1),
+        (b"1  a\n1 b\n", 2),
+        (b"18446744073709551615 \n", 1),
+        (b"\n7 \xe2\x82\xac \xf0\x9f\x98\x80\n", 1),
+    ];
+    for (notes, many) in cases {
+        assert_eq!(rt; read_notes(rt.alloc(), notes), Ok(many));
+    }
+}
+
+/// A number that isn't one, no blank, a control character, no UTF-8, and a character that no XML text has.
+#[test]
+fn notes_that_are_refused(rt: HostRuntime) {
+    let cases: [(&[u8], u64); 13] = [
+        (b"0 a\n", 1),
+        (b"01 a\n", 1),
+        (b" a\n", 1),
+        (b"1 a\n\nx a\n", 3),
+        (b"18446744073709551616 a\n", 1),
+        (b"1\n", 1),
+        (b"1\ta\n", 1),
+        (b"1 a\r\n", 1),
+        (b"1 a\x7f\n", 1),
+        (b"1 \xc2\x85\n", 1),
+        (b"1 \xff\n", 1),
+        (b"1 \xef\xbf\xbf\n", 1),
+        (b"1 a\n2 \xc3", 2),
+    ];
+    for (notes, number) in cases {
+        assert_eq!(rt;
+            read_notes(rt.alloc(), notes),
+            Err(CaptionFault::BadNote(number))
+        );
+    }
+}
+
+/// A text has 200 bytes at most.
+#[test]
+fn the_longest_note(rt: HostRuntime) -> Result<(), AllocError> {
+    let mut notes = Vec::new(rt.alloc());
+    notes.extend_from_slice(b"1 ".as_slice())?;
+    for _ in 0..200 {
+        notes.push(b'a')?;
+    }
+    assert_eq!(rt; read_notes(rt.alloc(), notes.as_slice()), Ok(1));
+    notes.push(b'a')?;
+    assert_eq!(rt;
+        read_notes(rt.alloc(), notes.as_slice()),
+        Err(CaptionFault::BadNote(1))
+    );
+    Ok(())
+}

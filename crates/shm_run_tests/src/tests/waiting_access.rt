@@ -1,0 +1,72 @@
+//! Accesses of a stepped world that are made until they are answered.
+use shm_stepped::{
+    Answer, Asked, Cost, SiteId, Sites, Unanswered, World, access_until_done, settle,
+};
+use std::alloc::Allocator;
+use std::test::Fail;
+
+/// A store of byte 7 to the first place of the first page, which two sites share.
+const STORE: Asked = Asked::Store {
+    at: 0,
+    offset: 0,
+    byte: 7,
+};
+
+/// A load from there.
+const LOAD: Asked = Asked::Load { at: 0, offset: 0 };
+
+fn world<A: Allocator + Copy>(alloc: A) -> Result<World<A>, Fail> {
+    let sites = Sites::new(2).ok().ok_or("1 to 16 sites")?;
+    Ok(World::preset(alloc, sites, 1)?)
+}
+
+fn cost<A: Allocator + Copy>(
+    world: &mut World<A>,
+    site: u32,
+    asked: Asked,
+    answer: Answer,
+) -> Result<Cost, Fail> {
+    let done = access_until_done(world, SiteId(site), asked, 20)
+        .ok()
+        .ok_or("it still waits")?;
+    if done.answer != answer {
+        return Err("another answer".into());
+    }
+    Ok(done.cost)
+}
+
+#[test]
+fn a_read_fault_costs_three_deliveries(rt: HostRuntime) -> Result<(), Fail> {
+    let mut world = world(rt.alloc())?;
+    let stored = cost(&mut world, 0, STORE, Answer::Stored)?;
+    assert_eq!(rt; (stored.accesses, stored.events), (1, 1));
+    let read = cost(&mut world, 1, LOAD, Answer::Byte(7))?;
+    assert_eq!(rt;
+        (read.accesses, read.asks, read.hands, read.pages),
+        (2, 1, 1, 1)
+    );
+    assert_eq!(rt;
+        (read.confirms, read.clears, read.cleareds, read.others),
+        (0, 0, 0, 0)
+    );
+    assert_eq!(rt; (read.ticks, read.events), (0, 5));
+    Ok(())
+}
+
+#[test]
+fn a_budget_ends(rt: HostRuntime) -> Result<(), Fail> {
+    let mut world = world(rt.alloc())?;
+    match access_until_done(&mut world, SiteId(1), STORE, 3) {
+        Err(Unanswered::BudgetSpent(cost)) => {
+            assert_eq!(rt;
+                (cost.accesses, cost.asks, cost.hands, cost.events),
+                (1, 1, 1, 3)
+            );
+        }
+        _ => return Err("the budget was spent".into()),
+    }
+    settle(&mut world, 20)?;
+    let stored = cost(&mut world, 1, STORE, Answer::Stored)?;
+    assert_eq!(rt; (stored.accesses, stored.events), (1, 1));
+    Ok(())
+}

@@ -1,5 +1,0 @@
-mod at_once;
-mod flushes;
-mod pieces;
-mod reads;
-mod writes;

@@ -1,0 +1,6 @@
+pub mod Name
+pub mod NameOf
+pub mod Hmac
+pub mod KeyOf
+pub mod Seal
+pub mod SealOf

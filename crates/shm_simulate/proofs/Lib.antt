@@ -1,0 +1,6 @@
+pub mod AccountLemmas
+pub mod PartialRunLemmas
+pub mod ListLemmas
+pub mod OutcomeLemmas
+pub mod SpreadLemmas
+pub mod TallyLemmas

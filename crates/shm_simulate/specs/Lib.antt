@@ -1,0 +1,10 @@
+pub mod PartialRun
+pub mod Lines
+pub mod Messages
+pub mod Measures
+pub mod Outcomes
+pub mod Reactions
+pub mod Spreads
+pub mod Tally
+pub mod Texts
+pub mod Tries

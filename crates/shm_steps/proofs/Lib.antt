@@ -1,0 +1,5 @@
+pub mod Framed
+pub mod InARow
+pub mod Kept
+pub mod Stepping
+pub mod Told

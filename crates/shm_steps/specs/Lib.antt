@@ -1,0 +1,4 @@
+pub mod Section
+pub mod Steps
+pub mod Stepping
+pub mod Stepped

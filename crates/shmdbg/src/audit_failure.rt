@@ -1,0 +1,18 @@
+use shm_audit::{JournalFault, JournalsFault};
+
+/// Why journals weren't accepted. They are numbered from 0, in their order.
+#[derive(Clone, Copy, Debug, PartialEq, Eq)]
+pub enum Unaudited {
+    /// An allocation was refused.
+    OutOfMemory,
+    /// The output couldn't be written.
+    WriteFault,
+    /// This journal's file couldn't be opened.
+    Unopened { at: usize },
+    /// Memory or reading failed at this journal, or it is none.
+    Unread { at: usize, fault: JournalFault },
+    /// This journal is of another cluster than the first.
+    OtherCluster { at: usize },
+    /// They aren't those of one set of sites, or an audit found a cause.
+    Unaccepted(JournalsFault),
+}
