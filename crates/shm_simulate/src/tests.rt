@@ -1,3 +1,4 @@
+use crate::tally_text::seed_of;
 use crate::{Odds, simulate};
 use shm_lines::parse_workload;
 use shm_place::Sites;
@@ -19,8 +20,12 @@ fn a_told_seed_gives_its_outcome_again(rt: HostRuntime) -> Result<(), Fail> {
     let many = simulate(alloc, sites, &workload, odds, 7, 60)?;
     assert!(rt; many.outcomes.len() > 1);
     for outcome in &many.outcomes {
-        let one = simulate(alloc, sites, &workload, odds, 7 + outcome.run, 1)?;
-        assert_eq!(rt; one.outcomes[0].given.as_slice(), outcome.given.as_slice());
+        let seed = seed_of(many.seed, outcome.run);
+        let one = simulate(alloc, sites, &workload, odds, seed, 1)?;
+        let Some(again) = one.outcomes.first() else {
+            return Err("an outcome".into());
+        };
+        assert_eq!(rt; again.given.as_slice(), outcome.given.as_slice());
     }
     Ok(())
 }
