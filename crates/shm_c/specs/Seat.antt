@@ -1,5 +1,5 @@
 -- A site behind a handle: how many sites there are, its number, the site, and what its last step sent.
-use Rattle.std.specs.Prelude.{◌≡◌, ℕ, if◌then◌else◌, nat_le, List, [], ◌++◌, length, map, drop, slice_get, Option, None, Some, option_map}
+use Rattle.std.specs.Prelude.{◌≡◌, ℕ, ◌<◌, if◌then◌else◌, nat_le, List, [], ◌++◌, length, map, drop, slice_get, Option, None, Some, option_map}
 use Rattle.shm_place.specs.declared.page_id.PageId.{PageId}
 use Rattle.shm_place.specs.Page.{in_limits}
 use Rattle.shm_model.specs.declared.answer.Access.{Access}
@@ -67,5 +67,4 @@ with_line line buffer = if nat_le (length line) (length buffer) then line ++ dro
 
 -- the length is the line's, and the buffer has it where it has room; or it is 0, and nothing was written
 abbrev pub Printed : List ℕ → List ℕ → List ℕ → ℕ → Type 0
-Printed line old new 0 = new ≡ old
-Printed line old new n = (n ≡ length line) × (new ≡ with_line line old)
+Printed line old new n = (n ≡ 0 → new ≡ old) × (0 < n → (n ≡ length line) × (new ≡ with_line line old))
