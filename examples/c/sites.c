@@ -38,11 +38,10 @@ static uint32_t chance(uint32_t below)
 
 static void plan(uint64_t time, enum kind kind, uint32_t site, const char *line, size_t length)
 {
-    char *copy = kind == ARRIVES ? malloc(length) : NULL;
-    if (waiting == MOST || (kind == ARRIVES && copy == NULL))
+    char *copy = malloc(length + 1);
+    if (waiting == MOST || copy == NULL)
         fail("too much happens at once");
-    if (copy != NULL)
-        memcpy(copy, line, length);
+    memcpy(copy, line, length);
     queue[waiting++] = (struct happening){ time, order++, kind, site, copy, length };
 }
 
@@ -83,9 +82,8 @@ static void try_access(uint32_t site)
     struct access *access = &accesses[site];
     struct leddwyfan_answer answer = access->store ? leddwyfan_site_store(&sites[site], 0, access->offset, access->byte)
                                                    : leddwyfan_site_load(&sites[site], 0, access->offset);
-    send_messages(site);
     if (answer.kind == LEDDWYFAN_FAULT || answer.kind == LEDDWYFAN_WAITING) {
-        plan(now + TRY_AGAIN, ACCESS, site, NULL, 0);
+        plan(now + TRY_AGAIN, ACCESS, site, "", 0);
         return;
     }
     if (answer.kind != (access->store ? LEDDWYFAN_STORED : LEDDWYFAN_BYTE))
@@ -100,28 +98,26 @@ static void try_access(uint32_t site)
     if (--access->left == 0)
         return;
     access->store = chance(3) == 0;
-    access->offset = chance(PAGES) * PAGE_BYTES + 1;
+    access->offset = chance(PAGES * 4) * (PAGE_BYTES / 4);
     access->byte = (uint8_t)chance(256);
-    plan(now + 1 + chance(THINK), ACCESS, site, NULL, 0);
+    plan(now + 1 + chance(THINK), ACCESS, site, "", 0);
 }
 
 static void happen(struct happening happening)
 {
     uint32_t site = happening.site;
-    struct leddwyfan_answer answer;
+    struct leddwyfan_answer answer = { LEDDWYFAN_TOOK, 0, 0 };
     struct leddwyfan_reply reply;
     now = happening.time;
     if (happening.kind == ACCESS) {
         try_access(site);
-        return;
-    }
-    if (happening.kind == TICKS) {
+    } else if (happening.kind == TICKS) {
         answer = chance(40) == 0 ? leddwyfan_site_restart(&sites[site]) : leddwyfan_site_tick(&sites[site]);
-        plan(now + TICK, TICKS, site, NULL, 0);
+        plan(now + TICK, TICKS, site, "", 0);
     } else {
         answer = leddwyfan_site_deliver(&sites[site], happening.line, happening.length, &reply);
-        free(happening.line);
     }
+    free(happening.line);
     if (answer.kind != LEDDWYFAN_TOOK && answer.kind != LEDDWYFAN_DROPPED)
         fail("a step wasn't made");
     send_messages(site);
@@ -138,8 +134,8 @@ int main(int argc, char **argv)
         if (site == MAX_SITES || each == 0 || leddwyfan_site_make(&sites[site], count, site, PAGES, 0) != LEDDWYFAN_OK)
             fail("no such sites");
         accesses[site] = (struct access){ true, site, (uint8_t)site, each };
-        plan(chance(THINK), ACCESS, site, NULL, 0);
-        plan(TICK + chance(TICK), TICKS, site, NULL, 0);
+        plan(chance(THINK), ACCESS, site, "", 0);
+        plan(TICK + chance(TICK), TICKS, site, "", 0);
     }
     for (left = count * each; left > 0;)
         happen(first());

@@ -4,7 +4,7 @@ ghost use Rattle.shm_model.specs.Opening.{opening_of};
 ghost use Rattle.shm_model.specs.World.{IsOpening, opened_site};
 ghost use Rattle.shm_parts.specs.Message.{envelope_of};
 ghost use Rattle.shm_site.specs.Site.{site_of};
-ghost use Rattle.shm_site.specs.Step.{input_of};
+ghost use Rattle.shm_site.specs.Step.{input_of, is_foreign};
 ghost use Rattle.shm_c.specs.Seat.{begun_seat, line_at, seat_of};
 ghost use Rattle.shm_c.specs.SiteSteps.{Delivered, Stepped};
 
@@ -13,7 +13,7 @@ use crate::site_outcome::SiteOutcome;
 use shm_model::Opening;
 use shm_parts::Envelope;
 use shm_place::SiteId;
-use shm_site::{Input, Site, StepFault};
+use shm_site::{Input, Site};
 use std::alloc::{AllocError, Global};
 
 /// A site, and the envelopes that its last step sent.
@@ -42,19 +42,31 @@ impl HeldSite {
     }
 
     /// One step. What it sends takes the place of what the step before sent. A step that isn't made changes nothing.
+    #[inline(always)]
     pub(crate) fn step(&mut self, alloc: Global, input: Input) -> SiteOutcome
         ensures { Stepped (input_of input) (seat_of self.old) (seat_of self.new) result }
     {
+        if self.refuses(&input) {
+            return SiteOutcome::Foreign;
+        }
         let mut sent = Vec::new(alloc);
-        match self.site.step(input, &mut sent) {
+        match self.site.step_proper(input, &mut sent) {
             Ok(answer) => {
                 self.sent = sent;
                 SiteOutcome::Made(answer)
             }
-            Err(error) => match error.fault {
-                StepFault::Foreign => SiteOutcome::Foreign,
-                StepFault::OutOfMemory => SiteOutcome::NoMemory,
-            },
+            Err(_) => SiteOutcome::NoMemory,
+        }
+    }
+
+    /// Checks that the input hands over an envelope that can't be for this site.
+    #[inline(always)]
+    fn refuses(&self, input: &Input) -> bool
+        ensures { result ≡ is_foreign self.now.site.sites self.now.site.me (input_of input.now) }
+    {
+        match input {
+            Input::Deliver(envelope) => self.site.foreign(envelope),
+            _ => false,
         }
     }
 

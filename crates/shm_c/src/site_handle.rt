@@ -81,6 +81,7 @@ impl SiteHandle {
         *self = SiteHandle::of_loose(Loose::of(site));
     }
     /// One step.
+    #[inline(always)]
     pub(crate) fn step(&mut self, alloc: Global, input: Input) -> SiteOutcome
         ensures { Became (Stepped (input_of input)) (seat_in self.old.site) (seat_in self.new.site) result }
     {
