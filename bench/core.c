@@ -1,4 +1,5 @@
-/* Times the proved world beside plain C: a load, a store, and a fault with its messages until the access ends. In nanoseconds. */
+/* Times the proved world beside plain C: a load, a store, and a fault with its messages until the access ends; and a single site's load and
+ * store. In nanoseconds. */
 #include "../clients/core/leddwyfan_core.h"
 
 #include <stdio.h>
@@ -70,6 +71,25 @@ static unsigned long fault(struct leddwyfan_world *world, uint32_t site, uint32_
     return messages;
 }
 
+/* The same loads and stores at a single site. */
+static unsigned long time_site(void)
+{
+    struct leddwyfan_site site = LEDDWYFAN_SITE_EMPTY;
+    unsigned long sum = 0;
+    need(leddwyfan_site_make(&site, SITES, 0, PAGES, 0) == LEDDWYFAN_OK, "a site");
+    leddwyfan_site_store(&site, 0, 0, 1);
+    double began = nanoseconds();
+    for (uint32_t k = 0; k < TIMES; k++)
+        sum += leddwyfan_site_load(&site, 0, k % PAGE_BYTES).value;
+    double load = (nanoseconds() - began) / TIMES;
+    began = nanoseconds();
+    for (uint32_t k = 0; k < TIMES; k++)
+        sum += leddwyfan_site_store(&site, 0, k % PAGE_BYTES, (uint8_t)k).kind;
+    printf("single site: load %.1f, store %.1f ns; ", load, (nanoseconds() - began) / TIMES);
+    leddwyfan_site_free(&site);
+    return sum;
+}
+
 int main(void)
 {
     struct leddwyfan_world world = LEDDWYFAN_WORLD_EMPTY;
@@ -107,6 +127,7 @@ int main(void)
     double plain_fetches = (nanoseconds() - began) / FAULTS;
     printf("load %.1f (plain C %.1f), store %.1f (plain C %.1f), fault with %.2f messages %.0f (plain C, no message, %.0f) ns; %lu\n", load,
            plain_loads, store, plain_stores, (double)messages / FAULTS, fetch, plain_fetches, sum % 10);
+    printf("%lu\n", time_site() % 10);
     leddwyfan_world_free(&world);
     for (uint32_t page = 0; page < PAGES; page++)
         free(plain.bytes[plain.owner[page]][page]);

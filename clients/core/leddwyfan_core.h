@@ -1,18 +1,21 @@
-/* The proved world in your process: all sites and the network between them, in libleddwyfan.a.
+/* The proved world in your process, in libleddwyfan.a: all sites and the network between them. Or single sites, over a network of your own.
  *
  * README.md says how to build and link it. docs/script.md says what each event does, and docs/refusals.md has the refusals' numbers.
  *
  * What you owe, in every call:
- *   - A handle is a struct leddwyfan_world that you set to LEDDWYFAN_WORLD_EMPTY once and that only these functions changed since.
+ *   - A handle is a struct leddwyfan_world that you set to LEDDWYFAN_WORLD_EMPTY once and that only these functions changed since, or a
+ *     struct leddwyfan_site and LEDDWYFAN_SITE_EMPTY.
  *     You never write its pointer, and never use a copy of the struct: move it, and forget the old place.
  *   - No two threads are in calls with one handle, and a handle stays on its thread. Two handles on two threads are fine.
- *   - Each pointer is that of a live object of its type, not null, and no two of one call overlap. A bool is 0 or 1.
+ *   - Each pointer is that of a live object of its type, or of as many bytes as the length behind it says; not null, even where that is 0;
+ *     and no two of one call overlap. A bool is 0 or 1.
  *   - No call comes from a signal handler, nor from the forked child of a process with threads. malloc, realloc and free are the C library's.
  * No function calls you back, and none ends the program. Where malloc answers null, a call says so and changes nothing.
  *
  * What is proved, where you keep this: the world behind a handle is that of the definitions (crates/shm_model/specs/World.antt) after the
- * events that were made of it, and each answer is theirs. So each byte that a load gives is the one stored last to its place. In
- * crates/shm_c/src each function has its contract.
+ * events that were made of it, and each answer is theirs. So each byte that a load gives is the one stored last to its place. A site behind
+ * a handle is that of the definitions (crates/shm_model/specs/Step.antt) after its steps, and answers and sends what they say; what your
+ * network does is yours. In crates/shm_c/src each function has its contract.
  */
 #ifndef LEDDWYFAN_CORE_H
 #define LEDDWYFAN_CORE_H
@@ -29,7 +32,11 @@ extern "C" {
 struct leddwyfan_world { void *at; };
 #define LEDDWYFAN_WORLD_EMPTY { NULL }
 
-/* What became of an event. LEDDWYFAN_NO_MEMORY, _NO_WORLD and _NO_CALL: nothing changed. */
+/* A site, or none. */
+struct leddwyfan_site { void *at; };
+#define LEDDWYFAN_SITE_EMPTY { NULL }
+
+/* What became of an event. From LEDDWYFAN_NO_MEMORY on nothing changed. */
 enum leddwyfan_answer_kind {
     LEDDWYFAN_BYTE = 1,     /* value is the byte that was loaded */
     LEDDWYFAN_STORED = 2,
@@ -42,9 +49,14 @@ enum leddwyfan_answer_kind {
     LEDDWYFAN_REFUSED = 9,  /* value is the refusal's number */
     LEDDWYFAN_NO_MEMORY = 10,
     LEDDWYFAN_NO_WORLD = 11,
-    LEDDWYFAN_NO_CALL = 12  /* no segment call has these numbers */
+    LEDDWYFAN_NO_CALL = 12, /* no segment call has these numbers */
+    LEDDWYFAN_NO_SITE = 13,
+    LEDDWYFAN_NO_LINE = 14  /* the line spells no message */
 };
 struct leddwyfan_answer { uint32_t kind, value; uint64_t number; };
+
+/* No message's line is longer (docs/lines.md). */
+#define LEDDWYFAN_LINE_BYTES 5700
 
 /* The reply to a segment call that ended; fields that its kind doesn't name are 0. */
 enum leddwyfan_reply_kind {
@@ -97,7 +109,7 @@ enum leddwyfan_state {
 };
 struct leddwyfan_shown { uint32_t state; uint64_t seen; };
 
-/* What leddwyfan_world_make and leddwyfan_world_copy answer; at all but 0 nothing changed. */
+/* What making and copying answer; at all but 0 nothing changed. */
 enum leddwyfan_status {
     LEDDWYFAN_OK = 0,
     LEDDWYFAN_BAD_NUMBERS = 4,
@@ -132,8 +144,38 @@ uint64_t leddwyfan_world_sent(struct leddwyfan_world *world);
 void leddwyfan_world_envelope(struct leddwyfan_world *world, uint64_t number, struct leddwyfan_envelope *out);
 /* 0 none, 1 to read, 2 to write; 3: no world, no such site or no such page. */
 uint32_t leddwyfan_world_access(struct leddwyfan_world *world, uint32_t site, uint32_t seg, uint32_t index);
-
 struct leddwyfan_shown leddwyfan_world_shown(struct leddwyfan_world *world, uint32_t site, uint32_t seg, uint32_t index);
+
+/* ---- A single site. Your network carries what it sends: it may lose, repeat and reorder messages, and neither changes nor invents any. */
+
+/* Makes the site me, from 0 on, of so many sites, in an empty handle. sites, pages and frames are as for a world, and the same at each site. */
+uint32_t leddwyfan_site_make(struct leddwyfan_site *site, uint32_t sites, uint32_t me, uint32_t pages, uint32_t frames);
+/* Makes an equal site in the empty handle copy, with what its last step sent. Both go on alone. */
+uint32_t leddwyfan_site_copy(struct leddwyfan_site *site, struct leddwyfan_site *copy);
+/* Frees the site, if there is one. The handle is empty then. */
+void leddwyfan_site_free(struct leddwyfan_site *site);
+
+/* Steps. A load or store that has the right, and a restart, take no memory. */
+struct leddwyfan_answer leddwyfan_site_load(struct leddwyfan_site *site, uint32_t at, uint32_t offset);
+struct leddwyfan_answer leddwyfan_site_store(struct leddwyfan_site *site, uint32_t at, uint32_t offset, uint8_t byte);
+struct leddwyfan_answer leddwyfan_site_begin(struct leddwyfan_site *site, const struct leddwyfan_call *call);
+struct leddwyfan_answer leddwyfan_site_tick(struct leddwyfan_site *site);
+struct leddwyfan_answer leddwyfan_site_restart(struct leddwyfan_site *site);
+/* Hands over a message: its line, of so many bytes, without a line feed. One that is for another site, or that this site can't have been
+ * sent, is refused with 16 and changes nothing. What its line says of the clock, the index and the place doesn't count. */
+struct leddwyfan_answer leddwyfan_site_deliver(struct leddwyfan_site *site, const char *line, size_t length, struct leddwyfan_reply *reply);
+
+/* How many messages the last step sent. Take them before the next step, whose messages take their place. Where nothing changed
+ * (LEDDWYFAN_NO_MEMORY and what follows it in the list, or a delivery refused with 16) no step was made, and they stand. */
+size_t leddwyfan_site_sent(struct leddwyfan_site *site);
+/* Writes the line of the message of this place, from 0 on, if the buffer has room for it, and answers the line's length, with no line feed
+ * and no 0 behind. docs/lines.md has the form: `env FROM TO 0 0 PLACE ..`. At most LEDDWYFAN_LINE_BYTES are needed. 0: there is no such
+ * message, or memory was refused; nothing was written. */
+size_t leddwyfan_site_message(struct leddwyfan_site *site, size_t place, char *buffer, size_t room);
+
+/* Looking, as for a world. */
+uint32_t leddwyfan_site_access(struct leddwyfan_site *site, uint32_t seg, uint32_t index);
+struct leddwyfan_shown leddwyfan_site_shown(struct leddwyfan_site *site, uint32_t seg, uint32_t index);
 
 #ifdef __cplusplus
 }

@@ -1,2 +1,4 @@
 mod Values
 mod Handles
+mod SiteHandles
+mod SeatLemmas

@@ -1,6 +1,10 @@
 pub mod Held
+pub mod HeldSites
 pub mod Numbers
 pub mod Played
 pub mod Calls
 pub mod Sent
 pub mod Openings
+pub mod Seat
+pub mod SiteNumbers
+pub mod SiteSteps

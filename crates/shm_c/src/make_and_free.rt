@@ -12,22 +12,22 @@ use shm_world::World;
 use std::alloc::Global;
 
 /// It was done.
-const DONE: u32 = 0;
+pub(crate) const DONE: u32 = 0;
 
 /// The numbers are no opening's (`EINVAL`).
-const BAD_NUMBERS: u32 = 4;
+pub(crate) const BAD_NUMBERS: u32 = 4;
 
 /// Memory was refused.
-const NO_MEMORY: u32 = 17;
+pub(crate) const NO_MEMORY: u32 = 17;
 
 /// The handle has a world already.
-const FULL: u32 = 32;
+pub(crate) const FULL: u32 = 32;
 
 /// The handle has no world.
-const EMPTY: u32 = 33;
+pub(crate) const EMPTY: u32 = 33;
 
 /// The opening of these numbers, if they are one: 0 pages for no segment, 0 frames for any number of copies.
-fn numbered_opening(sites: u32, pages: u32, frames: u32) -> Option<Opening>
+pub(crate) fn numbered_opening(sites: u32, pages: u32, frames: u32) -> Option<Opening>
     ensures { MatchOption result (is_opening sites pages frames ≡ false)
         (λ opening. (is_opening sites pages frames ≡ true) × model.IsOpening (opening_of opening) × (opening_of opening ≡ numbered_opening sites pages frames)) }
 {

@@ -65,7 +65,7 @@ pub(crate) fn outcome_numbers(outcome: &Outcome) -> AnswerNumbers
 }
 
 /// No reply.
-fn no_reply() -> ReplyNumbers
+pub(crate) fn no_reply() -> ReplyNumbers
     ensures { result ≡ no_reply }
 {
     ReplyNumbers {
@@ -139,7 +139,7 @@ fn with_attachment(attachment: Option<u32>, numbers: ReplyNumbers) -> ReplyNumbe
 }
 
 /// The reply in an answer.
-fn answer_reply(answer: Answer) -> ReplyNumbers
+pub(crate) fn answer_reply(answer: Answer) -> ReplyNumbers
     ensures { result ≡ answer_reply answer }
 {
     match answer {
