@@ -26,9 +26,12 @@ name_typed typed = do
   (name, words) ← next_word words
   Some name
 
+abbrev pub is_control : ℕ → Bool
+is_control byte = nat_lt byte 32 || (byte == 127)
+
 -- a name that a terminal can be told
 abbrev pub is_file_name : List ℕ → Bool
-is_file_name name = not (list_any (λ byte. nat_lt byte 32 || (byte == 127)) name) && is_utf8 name
+is_file_name name = not (list_any is_control name) && is_utf8 name
 
 abbrev pub name_in : List ℕ → Option (List ℕ)
 name_in word = if is_file_name word then Some word else None

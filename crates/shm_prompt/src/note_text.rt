@@ -1,5 +1,5 @@
 //! The texts that may be notes: those that `shmdbg draw` takes as captions, on one line.
-ghost use Rattle.std.specs.Prelude.{◌≡◌, ◌++◌, ◌<◌, codes, OnOk};
+ghost use Rattle.std.specs.Prelude.{◌≡◌, ◌==◌, not};
 ghost use Rattle.std.specs.List.{list_all};
 ghost use Rattle.std.specs.Option.{option_map};
 ghost use Rattle.std.specs.Str.{chars};
@@ -26,13 +26,20 @@ pub(crate) fn may_be_note(bytes: &[u8]) -> bool
     if bytes.len() > MAX_NOTE_BYTES {
         return false;
     }
-    if bytes.iter().any(|byte| *byte == b'\n') {
+    if !is_on_one_line(bytes) {
         return false;
     }
     let Ok(text) = std::str::from_utf8(bytes) else {
         return false;
     };
     may_stand(text)
+}
+
+/// Checks that no byte is a line feed.
+fn is_on_one_line(bytes: &[u8]) -> bool
+    ensures { result ≡ list_all (λ byte. not (byte == 10)) bytes.now }
+{
+    bytes.iter().all(|byte| *byte != b'\n')
 }
 
 /// Checks that no character of the text is a control character.
