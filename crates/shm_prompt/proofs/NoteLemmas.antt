@@ -19,7 +19,7 @@ use Rattle.shm_lines.proofs.NumberLemmas.{digit_at}
 use Rattle.shm_lines.proofs.NumberWords.{wide}
 use Rattle.shm_lines.proofs.WordLemmas.{is_end-parts}
 use Rattle.shm_lines.specs.Words.{is_end, words_of}
-use Rattle.shm_draw.specs.Captions.{Beside, beside_from, beside_in, captions_in, is_caption, lines_of, max_caption_bytes, may_stand, of_note, of_notes, text_in, then_rest}
+use Rattle.shm_draw.specs.Captions.{Beside, captions_in, is_caption, lines_of, max_caption_bytes, may_stand, of_note, of_notes, text_in, then_rest}
 use Rattle.shm_draw.proofs.Captioned.{beside_told, note_told, parts_of_note}
 use Rattle.shm_prompt.specs.Notes.{IsNote, is_note, note, note_bytes, notes_text, text_behind, text_typed, with_note}
 
@@ -133,18 +133,18 @@ body-read k n is =
     let first : 0 < n.line = is.from_1 in
     let numbered : (n.line == 0) ≡ false = grind (arith, nat_tests) in
     note_told k (body n) n there (
-      sym (parts_of_note (body n) (decimal n.line) n.text cut
-      ∙ beside_told (decimal n.line) n.text n.text n.line (sym (wide.prints n.line is.within))
-          (text_in-note n.text (both-left (is_caption n.text) (list_all (λ byte. not (byte == 10)) n.text) is.is)) numbered)
+    sym (parts_of_note (body n) (decimal n.line) n.text cut
+    ∙ beside_told (decimal n.line) n.text n.text n.line (sym (wide.prints n.line is.within))
+    (text_in-note n.text (both-left (is_caption n.text) (list_all (λ byte. not (byte == 10)) n.text) is.is)) numbered)
     )
 
 cut-first : (n : Beside) (rest : List ℕ) → IsNote n → lines_of (note_bytes n ++ rest) ≡ body n ∷ lines_of rest
 unfolding body
 cut-first n rest is =
     ap lines_of (
-      append_assoc (decimal n.line) (32 ∷ (n.text ++ 10 ∷ [])) rest
-      ∙ ap (λ t. decimal n.line ++ 32 ∷ t) (append_assoc n.text (10 ∷ []) rest)
-      ∙ sym (append_assoc (decimal n.line) (32 ∷ n.text) (10 ∷ rest))
+    append_assoc (decimal n.line) (32 ∷ (n.text ++ 10 ∷ [])) rest
+    ∙ ap (λ t. decimal n.line ++ 32 ∷ t) (append_assoc n.text (10 ∷ []) rest)
+    ∙ sym (append_assoc (decimal n.line) (32 ∷ n.text) (10 ∷ rest))
     )
     ∙ slice_split_at (λ byte. byte == 10) (body n) 10 rest (body-feed n is) refl
 

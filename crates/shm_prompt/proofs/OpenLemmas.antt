@@ -1,5 +1,5 @@
 -- The lines of a script, one after another.
-use Rattle.std.proofs.Common.{◌≡◌, ℕ, ◌+◌, ◌==◌, false, List, [], ◌∷◌, ◌++◌, Option, None, Some, refl, sym, ap, ap₂, ◌∙◌, append_assoc, append-nil}
+use Rattle.std.proofs.Common.{◌≡◌, ℕ, ◌+◌, ◌==◌, false, List, [], ◌∷◌, ◌++◌, Option, None, Some, refl, sym, ap, ◌∙◌, append_assoc, append-nil}
 use Rattle.std.specs.Prelude.{Result, Ok, Err}
 use Rattle.shm_lines.specs.Line.{line_of}
 use Rattle.shm_lines.specs.Words.{is_end}
@@ -7,8 +7,7 @@ use Rattle.shm_lines.proofs.WordLemmas.{is_end-parts}
 use Rattle.shm_lines.specs.declared.script_line.Line.{Line}
 use Rattle.shm_debug.specs.Said.{next, standing_after}
 use Rattle.shm_debug.specs.Standing.{Standing}
-use Rattle.shm_prompt.specs.Dialog.{Plays, lines_from, lines_in, opened_by, opened_to, parts_of, said_to, then_lines, told_of_lines, told_of_opened, told_to, wrong_text}
-use Rattle.shm_prompt.specs.State.{State}
+use Rattle.shm_prompt.specs.Dialog.{Plays, lines_from, lines_in, parts_of, said_to, then_lines, told_to}
 
 after-more : (s : Option Standing) (done : List Line) (l : Line) → standing_after s (done ++ l ∷ []) ≡ next (standing_after s done) l
 after-more s [] l = refl
@@ -82,17 +81,3 @@ playing-all bytes rest line number s t text out p parts = record {
   stands = p.stands;
   told = p.told;
 }
-
--- ---- what is made of a script
-
-pub wrong-opened : (bytes : List ℕ) (number : ℕ) (old : State) → lines_in bytes ≡ Err number → old ≡ opened_by (lines_in bytes) old
-wrong-opened bytes number old wrong = sym (ap (λ r. opened_by r old) wrong)
-
-pub wrong-told : (bytes : List ℕ) (number : ℕ) → lines_in bytes ≡ Err number → wrong_text number ≡ told_of_lines (lines_in bytes)
-wrong-told bytes number wrong = sym (ap told_of_lines wrong)
-
-pub plays-opened : (bytes told : List ℕ) (t : Option Standing) (old : State) → Plays bytes None t [] told → opened_to t old ≡ opened_by (lines_in bytes) old
-plays-opened bytes told t old p = ap (λ x. opened_to x old) p.stands ∙ sym (ap (λ r. opened_by r old) p.read)
-
-pub plays-told : (bytes told : List ℕ) (t : Option Standing) → Plays bytes None t [] told → told_of_opened t told ≡ told_of_lines (lines_in bytes)
-plays-told bytes told t p = ap₂ told_of_opened p.stands p.told ∙ sym (ap told_of_lines p.read)

@@ -1,8 +1,8 @@
 -- Notes: captions for lines of the script of what stands, as `shmdbg draw` reads them.
-use Rattle.std.specs.Prelude.{◌≡◌, ℕ, ◌==◌, ◌&&◌, ◌<◌, ◌^◌, Bool, not, true, if◌then◌else◌, List, [], ◌∷◌, ◌++◌, codes, filter, nat_le, nat_lt, All, Option, None, Some, Ok}
+use Rattle.std.specs.Prelude.{◌≡◌, ℕ, ◌==◌, ◌&&◌, ◌<◌, ◌^◌, Bool, not, true, if◌then◌else◌, List, [], ◌∷◌, ◌++◌, codes, filter, nat_le, nat_lt, Option, None, Some, Ok}
 use Rattle.std.specs.Fmt.{decimal}
 use Rattle.std.specs.List.{join_with_byte, list_all}
-use Rattle.shm_lines.specs.Words.{◌>>=◌, is_end, next_word, words_of}
+use Rattle.shm_lines.specs.Words.{words_of}
 use Rattle.shm_text.specs.Text.{line_text}
 use Rattle.shm_draw.specs.Captions.{Beside, captions_in, is_caption}
 

@@ -16,7 +16,7 @@ impl Unsaved {
         notes: false,
     };
 
-    /// What is unsaved after a line that was told this, and after which there are other notes than before it, or not.
+    /// What is unsaved after a line, which was told this and may have dropped notes.
     pub(crate) fn after(self, line: &[u8], told: &[u8], drops_notes: bool) -> Unsaved {
         let command = parse_command(line);
         Unsaved {

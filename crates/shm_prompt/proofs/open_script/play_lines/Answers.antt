@@ -1,4 +1,4 @@
-use Rattle.std.proofs.Common.{◌≡◌, ◌==◌, ℕ, List, [], ◌∷◌, ◌∙◌, Option, Some, ap, arith, sym}
+use Rattle.std.proofs.Common.{rules, ◌<◌, [], ◌∷◌, ◌∙◌, ap, arith, length, sym}
 use Rattle.std.specs.Option.{option_map_or}
 use Rattle.shm_lines.specs.Line.{line_of}
 use Rattle.shm_prompt.specs.Dialog.{parts_of}
@@ -15,12 +15,12 @@ returns-in_default g c =
     c.lines.invariant.1
     (c.split_at.ensures.parts ∙ ap (λ o. c.split_at.result.0.now ∷ option_map_or (λ rest. parts_of rest.now) o []) c.in_default.is)
 
-pub returns-in_default-2 : goal.returns-in_default-2
-returns-in_default-2 g c =
+pub returns-in_default-parse_line : goal.returns-in_default-parse_line
+returns-in_default-parse_line g c =
     playing-wrong c.args.bytes.now c.lines.rest.now c.split_at.result.0.now c.in-Some.others.now c.lines.number
     c.args.session.now c.lines.session c.args.out.now.items c.lines.out.items c.lines.invariant.1
     (c.split_at.ensures.parts ∙ ap (λ o. c.split_at.result.0.now ∷ option_map_or (λ rest. parts_of rest.now) o []) c.in-Some.is)
-    (none_there (line_of c.split_at.result.0.now) c.in_default-2.field-0 _ (sym c.in_default-2.is ∙ c.parse_line.ensures))
+    (none_there (line_of c.split_at.result.0.now) c.in_default-parse_line.field-0 _ (sym c.in_default-parse_line.is ∙ c.parse_line.ensures))
 
 pub act_on-requires : goal.act_on-requires
 act_on-requires g c =
@@ -29,7 +29,7 @@ act_on-requires g c =
 
 pub lines-preserved : goal.lines-preserved
 lines-preserved g c = (
-  omega (arith, c.lines.invariant.0, c.split_at.ensures.shorter),
+  let shorter : length c.in-Some.others.now < length c.lines.rest.now = search rules in omega (arith, shorter),
   playing-more c.args.bytes.now c.lines.rest.now c.split_at.result.0.now c.in-Some.others.now c.lines.number
       c.args.session.now c.lines.session c.act_on.new.session c.args.out.now.items c.lines.out.items c.act_on.new.out.items c.in-Ok.line
       c.lines.invariant.1

@@ -1,4 +1,4 @@
-use Rattle.std.proofs.Common.{rules, ◌≡◌, ◌∙◌, ◌∷◌, ◌++◌, [], List, ap, filter, nat_lt}
+use Rattle.std.proofs.Common.{rules, ◌≡◌, ◌∙◌, List, ap, filter, nat_lt}
 use Rattle.std.proofs.lemmas.Fn.{filter_same}
 use Rattle.shm_draw.specs.Captions.{Beside}
 use Rattle.shm_prompt.specs.Notes.{is_note, note, with_note}

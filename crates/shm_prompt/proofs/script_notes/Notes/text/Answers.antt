@@ -1,4 +1,3 @@
-use Rattle.std.proofs.Common.{◌≡◌, ◌∙◌, List, Ok, Err, Result, IfOk, ap, refl, sym}
 use Rattle.shm_prompt.proofs.NoteLemmas.{drawn-text}
 use Rattle.shm_prompt.proofs.script_notes.Notes.text.Goals as goal
 
