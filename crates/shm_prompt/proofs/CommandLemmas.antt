@@ -12,3 +12,7 @@ none_scripted (Some line) e f h = absurd (cc)
 pub read_there : (o : Option script.Line) (line : script.Line) (f : BadLine) → Ok line ≡ ok_or o f → o ≡ Some line
 read_there None line f h = absurd (cc)
 read_there (Some l) line f h = cc
+
+pub none_there : (o : Option script.Line) (e f : BadLine) → Err e ≡ ok_or o f → o ≡ None
+none_there None e f h = refl
+none_there (Some line) e f h = absurd (cc)

@@ -5,7 +5,7 @@ use Rattle.shm_lines.specs.Line.{line_of}
 use Rattle.shm_lines.specs.Spelling.{IsLine}
 use Rattle.shm_lines.specs.Words.{◌>>=◌, words_of, next_word, next_number, is_end}
 use Rattle.shm_prompt.specs.declared.prompt_command.Command.{Command}
-use Rattle.shm_prompt.specs.declared.prompt_command.Command.TheVariants.{Line, Flight, Sites, Book, Segments, Run, Undo, Help, Save, Open, Quit}
+use Rattle.shm_prompt.specs.declared.prompt_command.Command.TheVariants.{Line, Flight, Sites, Book, Segments, Run, Undo, Help, Save, Open, Note, Notes, Quit}
 
 -- how many envelopes `run` delivers at most, where it isn't told
 abbrev pub most_by_default : ℕ
@@ -52,14 +52,33 @@ open_of words = do
   (name, words) ← next_word words
   alone Open words
 
--- the shorter words for `help` and `quit`, a page's book, a script that is opened, or a line of a script
+-- `note TEXT`, where the text is all that stands behind the first blank
+abbrev pub note_of : List (List ℕ) → Option Command
+note_of words = do
+  (word, words) ← next_word words
+  Some Note
+
+-- `notes FILE`, where the name is one word
+abbrev pub notes_of : List (List ℕ) → Option Command
+notes_of words = do
+  (name, words) ← next_word words
+  alone Notes words
+
+-- notes, or a line of a script
+abbrev pub noted_by : List ℕ → List ℕ → List (List ℕ) → Option Command
+noted_by bytes verb words =
+    if bytes_eq verb (codes "note") then note_of words
+    else if bytes_eq verb (codes "notes") then notes_of words
+    else scripted bytes
+
+-- the shorter words for `help` and `quit`, a page's book, a script that is opened, or others
 abbrev pub short_by : List ℕ → List ℕ → List (List ℕ) → Option Command
 short_by bytes verb words =
     if bytes_eq verb (codes "?") then alone Help words
     else if bytes_eq verb (codes "exit") then alone Quit words
     else if bytes_eq verb (codes "book") then book_of words
     else if bytes_eq verb (codes "open") then open_of words
-    else scripted bytes
+    else noted_by bytes verb words
 
 abbrev pub other_by : List ℕ → List ℕ → List (List ℕ) → Option Command
 other_by bytes verb words =
@@ -88,10 +107,14 @@ abbrev pub is_quit : Option Command → Bool
 is_quit (Some Quit) = true
 is_quit _ = false
 
--- whether it writes a file
+-- whether it saves the script, or the notes
 abbrev pub is_save : Option Command → Bool
 is_save (Some Save) = true
 is_save _ = false
+
+abbrev pub is_notes : Option Command → Bool
+is_notes (Some Notes) = true
+is_notes _ = false
 
 -- a line of a script is one that there is
 abbrev pub IsCommand : Command → Type 0

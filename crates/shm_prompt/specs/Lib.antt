@@ -1,8 +1,11 @@
 pub mod Command
 pub mod Dialog
 pub mod Faults
+pub mod Given
+pub mod Notes
 pub mod Refusals
 pub mod Saved
 pub mod Saves
 pub mod Spelled
+pub mod State
 pub mod Undo

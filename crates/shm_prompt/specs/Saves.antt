@@ -1,7 +1,11 @@
--- What is saved through the prompt, file by file, and what `save` saves and tells.
-use Rattle.std.specs.Prelude.{⊤, ◌≡◌, ◌⊎◌, ℕ, List, [], ◌∷◌, ◌++◌, codes, Option, None, Some}
+-- What is saved through the prompt, file by file, and what `save` and `notes` save and tell.
+use Rattle.std.specs.Prelude.{⊤, ◌≡◌, ◌==◌, ◌&&◌, ◌||◌, ◌⊎◌, ℕ, Bool, not, if◌then◌else◌, List, [], ◌∷◌, ◌++◌, codes, nat_lt, Option, None, Some}
+use Rattle.std.specs.List.{list_any}
+use Rattle.std.specs.Str.{is_utf8}
 use Rattle.shm_debug.specs.Standing.{Standing}
 use Rattle.shm_lines.specs.Words.{◌>>=◌, next_word, words_of}
+use Rattle.shm_draw.specs.Captions.{Beside}
+use Rattle.shm_prompt.specs.Notes.{AreDrawn, notes_text}
 use Rattle.shm_prompt.specs.Saved.{lines_of, text_of_lines}
 
 -- a file of this name was written whole, with these bytes; or it couldn't be
@@ -21,6 +25,22 @@ name_typed typed = do
   (verb, words) ← next_word (words_of typed)
   (name, words) ← next_word words
   Some name
+
+abbrev pub is_control : ℕ → Bool
+is_control byte = nat_lt byte 32 || (byte == 127)
+
+-- a name that a terminal can be told
+abbrev pub is_file_name : List ℕ → Bool
+is_file_name name = not (list_any is_control name) && is_utf8 name
+
+abbrev pub name_in : List ℕ → Option (List ℕ)
+name_in word = if is_file_name word then Some word else None
+
+-- the file that is named, if that is one
+abbrev pub file_named : List ℕ → Option (List ℕ)
+file_named typed = do
+  name ← name_typed typed
+  name_in name
 
 -- what is told of a file that was written
 abbrev pub saved_to : List ℕ → List ℕ
@@ -45,3 +65,18 @@ SavesScript s typed old new text text' =
 abbrev pub SavesTyped : Option Standing → List ℕ → Option (List Save) → Option (List Save) → List ℕ → List ℕ → Type 0
 SavesTyped None typed old new text text' = new ≡ old
 SavesTyped (Some s) typed old new text text' = SavesScript s typed old new text text'
+
+-- ---- `notes`
+
+abbrev pub unnamed_notes : List ℕ
+unnamed_notes = codes "not saved: the file's name is no text\n"
+
+-- all notes, under this name, as captions of pictures; where there is none, nothing
+abbrev pub SavesUnder : Option (List ℕ) → List Beside → Option (List Save) → Option (List Save) → List ℕ → List ℕ → Type 0
+SavesUnder None notes old new text text' = (new ≡ old) × (text' ≡ text ++ unnamed_notes)
+SavesUnder (Some name) notes old new text text' = Writes name (notes_text notes) old new text text' × AreDrawn (notes_text notes) notes
+
+-- the same of the name that was typed; where no sites stand nothing is saved
+abbrev pub SavesNotes : Option Standing → List Beside → List ℕ → Option (List Save) → Option (List Save) → List ℕ → List ℕ → Type 0
+SavesNotes None notes typed old new text text' = new ≡ old
+SavesNotes (Some s) notes typed old new text text' = SavesUnder (file_named typed) notes old new text text'

@@ -11,6 +11,8 @@ run 5                          the same, at most 5 times
 undo                           takes back the last event that changed something, and says which
 save story.txt                 writes the script of what stands to a file
 open story.txt                 plays the script of a file into a fresh session
+note the copy is stale         a note for the line that stands last, beside its row of a picture
+notes story.notes              writes the notes to a file for shmdbg draw --notes
 quit                           ends, as exit does
 sites 2 preset 1               begins anew: 2 sites, and segment 0 of 1 page
 load 1 0 4095                  site 1 loads byte 4095 through its attachment 0

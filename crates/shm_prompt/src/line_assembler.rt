@@ -3,9 +3,8 @@ ghost use Rattle.std.specs.Prelude.{◌≡◌, [], false, OnOk};
 ghost use Rattle.shm_prompt.specs.Dialog.{LineEnds};
 
 use crate::dialog_state::Dialog;
-use crate::prompt_command::{Command, parse_command};
 use crate::save_file_trait::SaveFile;
-use shm_lines::Line;
+use crate::unsaved_changes::Unsaved;
 use std::alloc::{AllocError, Allocator};
 
 /// The most bytes that a line has, without its line feed.
@@ -18,8 +17,7 @@ pub(crate) struct Typed<A: Allocator + Copy> {
     line: Vec<u8, A>,
     is_long: bool,
     has_quit: bool,
-    /// What stands may have changed since it was saved.
-    is_unsaved: bool,
+    unsaved: Unsaved,
 }
 
 impl<A: Allocator + Copy> Typed<A> {
@@ -31,7 +29,7 @@ impl<A: Allocator + Copy> Typed<A> {
             line,
             is_long: false,
             has_quit: false,
-            is_unsaved: false,
+            unsaved: Unsaved::NOTHING,
         })
     }
 
@@ -45,11 +43,14 @@ impl<A: Allocator + Copy> Typed<A> {
         self.line.is_empty() && !self.is_long
     }
 
-    /// Whether what stands may have changed since it was saved. It is told once, until the next change.
-    pub(crate) fn take_unsaved(&mut self) -> bool {
-        let was = self.is_unsaved;
-        self.is_unsaved = false;
-        was
+    /// What may have changed since it was saved: of the notes, where some stand. It is told once, until the next change.
+    pub(crate) fn take_unsaved(&mut self) -> Unsaved {
+        let was = self.unsaved;
+        self.unsaved = Unsaved::NOTHING;
+        Unsaved {
+            script: was.script,
+            notes: was.notes && self.dialog.note_count() > 0,
+        }
     }
 
     /// Takes the bytes on, and does what the lines say that they end.
@@ -95,7 +96,7 @@ impl<A: Allocator + Copy> Typed<A> {
         files: &mut S,
         out: &mut Vec<u8, A>,
     ) -> Result<(), AllocError>
-        ensures ends { OnOk result (LineEnds self.old.is_long self.old.dialog self.old.line.items
+        ensures ends { OnOk result (LineEnds (S.gives files.old) self.old.is_long self.old.dialog self.old.line.items
             self.new.dialog self.new.has_quit out.old.items out.new.items) }
         ensures cleared { OnOk result ((self.new.line.items ≡ []) × (self.new.is_long ≡ false)) }
     {
@@ -114,20 +115,21 @@ impl<A: Allocator + Copy> Typed<A> {
         files: &mut S,
         out: &mut Vec<u8, A>,
     ) -> Result<(), AllocError>
-        ensures { OnOk result (LineEnds self.old.is_long self.old.dialog self.old.line.items
+        ensures { OnOk result (LineEnds (S.gives files.old) self.old.is_long self.old.dialog self.old.line.items
             self.new.dialog self.new.has_quit out.old.items out.new.items) }
     {
         if self.is_long {
             return out.extend_from_slice(b"a line has at most 200 bytes\n");
         }
         let told = out.len();
+        let notes = self.dialog.note_count();
         match self.dialog.obey(self.line.as_slice(), files, out) {
             Ok(quits) => {
                 self.has_quit = quits;
-                self.is_unsaved = is_unsaved(
-                    self.is_unsaved,
+                self.unsaved = self.unsaved.after(
                     self.line.as_slice(),
-                    out.get(told..),
+                    told_from(out.as_slice(), told),
+                    self.dialog.note_count() < notes,
                 );
                 Ok(())
             }
@@ -136,22 +138,10 @@ impl<A: Allocator + Copy> Typed<A> {
     }
 }
 
-/// Whether what stands may have changed since it was saved: so it was before this line, and this was told to the line.
-fn is_unsaved(was: bool, line: &[u8], told: Option<&[u8]>) -> bool {
-    match parse_command(line) {
-        Some(Command::Line(Line::Show(_))) => was,
-        Some(Command::Line(_)) => true,
-        Some(Command::Run(_)) => true,
-        Some(Command::Undo) => true,
-        Some(Command::Save) => was && !is_saved(told),
-        _ => was,
-    }
-}
-
-/// Checks that `save` told that it saved.
-fn is_saved(told: Option<&[u8]>) -> bool {
-    match told {
-        Some(told) => told.starts_with(b"saved to "),
-        None => false,
+/// What was told from this place on.
+fn told_from(out: &[u8], place: usize) -> &[u8] {
+    match out.get(place..) {
+        Some(told) => told,
+        None => out,
     }
 }

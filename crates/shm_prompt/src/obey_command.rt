@@ -1,14 +1,14 @@
 //! What each command does to the session, and its answer.
-ghost use Rattle.std.specs.Prelude.{◌≡◌, ◌++◌, ◌⊎◌, Some, codes, false, true, IfOk, IfSome, OnErr, OnOk};
-ghost use Rattle.shm_prompt.specs.Command.{IsCommand, command_of, is_quit, is_save};
-ghost use Rattle.shm_prompt.specs.Dialog.{HaltedCommand, HaltedRun, HaltedTyped, Obeyed, ObeyedTyped, Opens, Ran, Runs, SomeDelivered, TellsMore, TellsOfStanding, next_undo, run_end, told_undo};
-ghost use Rattle.shm_prompt.specs.Saves.{SavesScript, SavesTyped, TellsUnsaved, Writes, name_typed, saved_to};
+ghost use Rattle.std.specs.Prelude.{◌≡◌, ◌++◌, ◌⊎◌, Some, false, true, IfOk, OnErr, OnOk};
+ghost use Rattle.shm_prompt.specs.Command.{IsCommand, command_of, is_notes, is_quit, is_save};
+ghost use Rattle.shm_prompt.specs.Dialog.{HaltedCommand, HaltedRun, HaltedTyped, LeavesNotes, Obeyed, ObeyedTyped, OpensTyped, Ran, Runs, SomeDelivered, TellsMore, TellsOfStanding, next_undo, run_end, standing_now, told_undo};
+ghost use Rattle.shm_prompt.specs.Saves.{SavesNotes, SavesScript, SavesTyped, TellsUnsaved, file_named};
 
 use crate::deliver_all::deliver_all;
 use crate::dialog_state::Dialog;
 use crate::envelopes_in_flight::list_flight;
+use crate::file_name::file_name;
 use crate::help_text::HELP;
-use crate::open_script::open_file;
 use crate::pages_table::{show_book, show_pages};
 use crate::prompt_command::{Command, parse_command};
 use crate::save_file_trait::SaveFile;
@@ -17,9 +17,9 @@ use crate::saved_script_text::saved_script;
 use crate::script_line_act::NOT_BEGUN;
 use crate::segments_table::list_segments;
 use crate::undo_command::undo_on;
+use crate::write_named_file::{tell_unsaved, write_named};
 use crate::wrong_line_hints::tell_hint;
 use shm_debug::Session;
-use shm_lines::Words;
 use shm_place::PageId;
 use std::alloc::{AllocError, Allocator};
 
@@ -27,20 +27,22 @@ impl<A: Allocator + Copy> Dialog<A> {
     /// Does what a line asks for, without its line feed, and answers whether it was `quit`, which has no answer of its own. The answer to a
     /// wrong line shows where it goes wrong and what could stand there.
     ///
-    /// `save` writes the whole script under the name in the line, or nothing, and says whether it did. No clause says what the tables and hints
-    /// print.
+    /// `save` writes the whole script under the name in the line, or nothing, and `notes` all notes; each says whether it did. No clause says
+    /// what the tables and hints print.
     pub fn obey<S: SaveFile>(
         &mut self,
         typed: &[u8],
         files: &mut S,
         out: &mut Vec<u8, A>,
     ) -> Result<bool, AllocError>
-        ensures obeyed { OnOk result (ObeyedTyped self.old (command_of typed.now) self.new out.old.items out.new.items) }
+        ensures obeyed { OnOk result (ObeyedTyped (S.gives files.old) typed.now self.old (command_of typed.now) self.new out.old.items out.new.items) }
         ensures quits { IfOk result (λ quits. quits ≡ is_quit (command_of typed.now)) }
         ensures halted { OnErr result (HaltedTyped self.old (command_of typed.now) self.new) }
         ensures saves { is_save (command_of typed.now) ≡ true
-            → OnOk result (SavesTyped self.old typed.now (S.saves files.old) (S.saves files.new) out.old.items out.new.items) }
-        ensures unsaved { is_save (command_of typed.now) ≡ false → files.new ≡ files.old }
+            → OnOk result (SavesTyped self.old.standing typed.now (S.saves files.old) (S.saves files.new) out.old.items out.new.items) }
+        ensures saves_notes { is_notes (command_of typed.now) ≡ true
+            → OnOk result (SavesNotes self.old.standing self.old.notes typed.now (S.saves files.old) (S.saves files.new) out.old.items out.new.items) }
+        ensures unsaved { is_save (command_of typed.now) ≡ false → is_notes (command_of typed.now) ≡ false → files.new ≡ files.old }
     {
         let Some(command) = parse_command(typed) else {
             tell_hint(out, typed)?;
@@ -59,11 +61,13 @@ impl<A: Allocator + Copy> Dialog<A> {
         out: &mut Vec<u8, A>,
     ) -> Result<(), AllocError>
         requires { IsCommand command }
-        ensures obeyed { OnOk result (Obeyed self.old command self.new out.old.items out.new.items) }
+        ensures obeyed { OnOk result (Obeyed (S.gives files.old) typed.now self.old command self.new out.old.items out.new.items) }
         ensures halted { OnErr result (HaltedCommand self.old command self.new) }
         ensures saves { is_save (Some command) ≡ true
-            → OnOk result (SavesTyped self.old typed.now (S.saves files.old) (S.saves files.new) out.old.items out.new.items) }
-        ensures unsaved { is_save (Some command) ≡ false → files.new ≡ files.old }
+            → OnOk result (SavesTyped self.old.standing typed.now (S.saves files.old) (S.saves files.new) out.old.items out.new.items) }
+        ensures saves_notes { is_notes (Some command) ≡ true
+            → OnOk result (SavesNotes self.old.standing self.old.notes typed.now (S.saves files.old) (S.saves files.new) out.old.items out.new.items) }
+        ensures unsaved { is_save (Some command) ≡ false → is_notes (Some command) ≡ false → files.new ≡ files.old }
     {
         match command {
             Command::Line(line) => self.act(line, out),
@@ -71,6 +75,8 @@ impl<A: Allocator + Copy> Dialog<A> {
             Command::Run(most) => self.run(most, out),
             Command::Save => self.save(typed, files, out),
             Command::Open => self.open(typed, files, out),
+            Command::Note => self.note(typed, out),
+            Command::Notes => self.save_notes(typed, files, out),
             Command::Help => out.extend_from_slice(HELP.as_bytes()),
             Command::Quit => Ok(()),
             Command::Flight => self.show(View::Flight, out),
@@ -81,8 +87,9 @@ impl<A: Allocator + Copy> Dialog<A> {
     }
 
     fn run(&mut self, most: u32, out: &mut Vec<u8, A>) -> Result<(), AllocError>
-        ensures runs { OnOk result (Runs most self.old self.new out.old.items out.new.items) }
-        ensures halted { OnErr result (HaltedRun most self.old self.new) }
+        ensures runs { OnOk result (Runs most self.old.standing self.new.standing out.old.items out.new.items) }
+        ensures halted { OnErr result (HaltedRun most self.old.standing self.new.standing) }
+        ensures notes { self.new.notes ≡ self.old.notes }
     {
         let alloc = self.alloc;
         match &mut self.session {
@@ -92,19 +99,18 @@ impl<A: Allocator + Copy> Dialog<A> {
     }
 
     fn undo(&mut self, out: &mut Vec<u8, A>) -> Result<(), AllocError>
-        ensures told { OnOk result (out.new.items ≡ out.old.items ++ told_undo self.old) }
-        ensures next { OnOk result (self.new ≡ next_undo self.old) }
-        ensures halted { OnErr result ((self.new ≡ self.old) ⊎ (self.new ≡ next_undo self.old)) }
+        ensures told { OnOk result (out.new.items ≡ out.old.items ++ told_undo self.old.standing) }
+        ensures next { OnOk result (self.new ≡ standing_now self.old (next_undo self.old.standing)) }
+        ensures halted { OnErr result ((self.new.standing ≡ self.old.standing) ⊎ (self.new.standing ≡ next_undo self.old.standing)) }
+        ensures notes { OnErr result (LeavesNotes self.old self.new) }
     {
-        let alloc = self.alloc;
-        match &mut self.session {
-            None => out.extend_from_slice(NOT_BEGUN.as_bytes()),
-            Some(session) => undo_on(session, alloc, out),
-        }
+        let done = undo_in(&mut self.session, self.alloc, out);
+        self.drop_gone_notes();
+        done
     }
 
     fn show(&self, view: View, out: &mut Vec<u8, A>) -> Result<(), AllocError>
-        ensures { OnOk result (TellsOfStanding self.now out.old.items out.new.items) }
+        ensures { OnOk result (TellsOfStanding self.now.standing out.old.items out.new.items) }
     {
         match &self.session {
             None => out.extend_from_slice(NOT_BEGUN.as_bytes()),
@@ -118,12 +124,11 @@ impl<A: Allocator + Copy> Dialog<A> {
         files: &S,
         out: &mut Vec<u8, A>,
     ) -> Result<(), AllocError>
-        ensures opened { OnOk result (Opens self.old self.new out.old.items out.new.items) }
+        ensures opened { OnOk result (OpensTyped (S.gives files.now) (file_named typed.now) self.old self.new out.old.items out.new.items) }
         ensures halted { OnErr result (self.new ≡ self.old) }
     {
-        let alloc = self.alloc;
         match file_name(typed) {
-            Some(name) => open_file(&mut self.session, alloc, name, files, out),
+            Some(name) => self.open_file(name, files, out),
             None => out.extend_from_slice(b"not opened: the file's name is no text\n"),
         }
     }
@@ -134,13 +139,29 @@ impl<A: Allocator + Copy> Dialog<A> {
         files: &mut S,
         out: &mut Vec<u8, A>,
     ) -> Result<(), AllocError>
-        ensures tells { OnOk result (TellsMore out.old.items out.new.items) }
-        ensures saves { OnOk result (SavesTyped self.now typed.now (S.saves files.old) (S.saves files.new) out.old.items out.new.items) }
+        ensures tells { OnOk result (TellsOfStanding self.now.standing out.old.items out.new.items) }
+        ensures saves { OnOk result (SavesTyped self.now.standing typed.now (S.saves files.old) (S.saves files.new) out.old.items out.new.items) }
     {
         match &self.session {
             None => out.extend_from_slice(NOT_BEGUN.as_bytes()),
             Some(session) => save_to(session, self.alloc, typed, files, out),
         }
+    }
+}
+
+/// Takes the last change back, if sites stand.
+fn undo_in<A: Allocator + Copy>(
+    session: &mut Option<Session<A>>,
+    alloc: A,
+    out: &mut Vec<u8, A>,
+) -> Result<(), AllocError>
+    ensures told { OnOk result (out.new.items ≡ out.old.items ++ told_undo session.old) }
+    ensures next { OnOk result (session.new ≡ next_undo session.old) }
+    ensures halted { OnErr result ((session.new ≡ session.old) ⊎ (session.new ≡ next_undo session.old)) }
+{
+    match session {
+        None => out.extend_from_slice(NOT_BEGUN.as_bytes()),
+        Some(session) => undo_on(session, alloc, out),
     }
 }
 
@@ -227,39 +248,9 @@ fn save_to<A: Allocator + Copy, S: SaveFile>(
         return tell_unsaved(b"the file's name is no text\n", out);
     };
     match saved_script(alloc, session) {
-        Ok(script) => write_script(script.as_slice(), name, files, out),
+        Ok(script) => write_named(script.as_slice(), name, files, out),
         Err(refusal) => tell_refusal(refusal, out),
     }
-}
-
-/// Writes the file, and says so or that it can't be.
-fn write_script<A: Allocator + Copy, S: SaveFile>(
-    script: &[u8],
-    name: &str,
-    files: &mut S,
-    out: &mut Vec<u8, A>,
-) -> Result<(), AllocError>
-    ensures tells { OnOk result (TellsMore out.old.items out.new.items) }
-    ensures writes { OnOk result (Writes name.now script.now (S.saves files.old) (S.saves files.new) out.old.items out.new.items) }
-{
-    match files.save(name, script) {
-        Ok(()) => tell_saved(name, out),
-        Err(_) => tell_unwritten(name, out),
-    }
-}
-
-fn tell_saved<A: Allocator + Copy>(name: &str, out: &mut Vec<u8, A>) -> Result<(), AllocError>
-    ensures { OnOk result (out.new.items ≡ out.old.items ++ saved_to name.now) }
-{
-    let text = format!(in *out.allocator(); "saved to {name}\n")?;
-    out.extend_from_slice(text.as_bytes())
-}
-
-fn tell_unwritten<A: Allocator + Copy>(name: &str, out: &mut Vec<u8, A>) -> Result<(), AllocError>
-    ensures { OnOk result (TellsUnsaved out.old.items out.new.items) }
-{
-    let text = format!(in *out.allocator(); "{name} can't be written\n")?;
-    tell_unsaved(text.as_bytes(), out)
 }
 
 fn tell_refusal<A: Allocator + Copy>(
@@ -270,24 +261,4 @@ fn tell_refusal<A: Allocator + Copy>(
 {
     let text = format!(in *out.allocator(); "{refusal}\n")?;
     tell_unsaved(text.as_bytes(), out)
-}
-
-/// Says that nothing was saved, and behind that why.
-fn tell_unsaved<A: Allocator + Copy>(why: &[u8], out: &mut Vec<u8, A>) -> Result<(), AllocError>
-    ensures { OnOk result (out.new.items ≡ out.old.items ++ (codes "not saved: " ++ why.now)) }
-{
-    out.extend_from_slice(b"not saved: ")?;
-    out.extend_from_slice(why)
-}
-
-/// The second word, where it is text that a terminal can be told.
-fn file_name(typed: &[u8]) -> Option<&str>
-    ensures { IfSome result (λ name. name_typed typed.now ≡ Some name.now) }
-{
-    let (_verb, words) = Words::of(typed).word()?;
-    let (name, _others) = words.word()?;
-    if name.iter().any(|byte| *byte < b' ' || *byte == 127) {
-        return None;
-    }
-    std::str::from_utf8(name).ok()
 }

@@ -1,6 +1,7 @@
 //! The form of an output line: its number, a blank, the text, and a line feed.
 ghost use Rattle.std.specs.Prelude.{◌≡◌, ◌+◌, ◌++◌, OnOk, length};
 ghost use Rattle.shm_text.specs.Text.{line_text};
+ghost use Rattle.shm_prompt.specs.Dialog as dialog;
 
 use shm_debug::Session;
 use std::alloc::{AllocError, Allocator};
@@ -24,4 +25,14 @@ pub(crate) fn last_line<A: Allocator + Copy>(session: &Session<A>) -> u64
     ensures { result ≡ length session.now.events + 1 }
 {
     session.events().len() as u64 + 1
+}
+
+/// The same, or 0 where no sites stand.
+pub(crate) fn last_line_of<A: Allocator + Copy>(session: &Option<Session<A>>) -> u64
+    ensures { result ≡ dialog.last_line session.now }
+{
+    match session {
+        None => 0,
+        Some(session) => last_line(session),
+    }
 }

@@ -31,6 +31,10 @@ pub enum Command {
     Save,
     /// Opens a script that was saved; the line's second word is the file's name.
     Open,
+    /// Keeps a note for the last line of the script; its text is what stands behind the first blank.
+    Note,
+    /// Saves the notes to a file; the line's second word is its name.
+    Notes,
     /// Ends.
     Quit,
 }
@@ -75,7 +79,7 @@ fn other(bytes: &[u8], verb: &[u8], words: Words<'_>) -> Option<Command>
     short(bytes, verb, words)
 }
 
-/// The shorter words for `help` and `quit`, a page's book, a script that is opened, or a line of a script.
+/// The shorter words for `help` and `quit`, a page's book, a script that is opened, or others.
 fn short(bytes: &[u8], verb: &[u8], words: Words<'_>) -> Option<Command>
     ensures command { result ≡ said.short_by bytes.now verb.now words.entry }
     ensures is_line { IfSome result said.IsCommand }
@@ -92,7 +96,37 @@ fn short(bytes: &[u8], verb: &[u8], words: Words<'_>) -> Option<Command>
     if verb == b"open".as_slice() {
         return open(words);
     }
+    noted(bytes, verb, words)
+}
+
+/// Notes, or a line of a script.
+fn noted(bytes: &[u8], verb: &[u8], words: Words<'_>) -> Option<Command>
+    ensures command { result ≡ said.noted_by bytes.now verb.now words.entry }
+    ensures is_line { IfSome result said.IsCommand }
+{
+    if verb == b"note".as_slice() {
+        return note(words);
+    }
+    if verb == b"notes".as_slice() {
+        return notes(words);
+    }
     script_command(bytes)
+}
+
+fn note(words: Words<'_>) -> Option<Command>
+    ensures command { result ≡ said.note_of words.entry }
+    ensures is_line { IfSome result said.IsCommand }
+{
+    let (_word, _words) = words.word()?;
+    Some(Command::Note)
+}
+
+fn notes(words: Words<'_>) -> Option<Command>
+    ensures command { result ≡ said.notes_of words.entry }
+    ensures is_line { IfSome result said.IsCommand }
+{
+    let (_name, words) = words.word()?;
+    alone(Command::Notes, words)
 }
 
 fn open(words: Words<'_>) -> Option<Command>

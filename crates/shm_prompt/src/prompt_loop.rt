@@ -17,8 +17,11 @@ const GREETING: &[u8] = b"shmdbg prompt: `help` lists what you may type, `exit` 
 /// What stands before the line that a person types.
 const MARK: &[u8] = b"> ";
 
-/// What is told where the input ends and something isn't saved.
-const UNSAVED: &[u8] = b"\nwhat stands is not saved: `save FILE` first, or Ctrl-D again\n";
+/// What is told where the input ends and what stands isn't saved.
+const UNSAVED: &[u8] = b"what stands is not saved: `save FILE` first, or Ctrl-D again\n";
+
+/// The same of its notes.
+const UNSAVED_NOTES: &[u8] = b"notes are not saved: `notes FILE` first, or Ctrl-D again\n";
 
 /// The debugger's session for people at a terminal: reads line by line, to the input's end or to `quit`, and answers each line. After a
 /// wrong line, which it explains, it goes on.
@@ -27,7 +30,7 @@ const UNSAVED: &[u8] = b"\nwhat stands is not saved: `save FILE` first, or Ctrl-
 /// line feed is none. Any error of the reader or the writer ends it, and so does refused memory.
 ///
 /// Where `is_terminal`, a person is greeted, and a mark stands before each line; and the input's end, which may come again, ends the session
-/// only the second time where what stands isn't saved.
+/// only the second time where what stands, or a note, isn't saved.
 pub fn prompt<A: Allocator + Copy, R: Read, W: Write, S: SaveFile>(
     alloc: A,
     reader: &mut R,
@@ -118,12 +121,15 @@ fn end<A: Allocator + Copy>(
     if !is_terminal {
         return Ok(true);
     }
-    if typed.take_unsaved() {
-        out.extend_from_slice(UNSAVED)?;
-        return Ok(false);
-    }
     out.extend_from_slice(b"\n")?;
-    Ok(true)
+    let unsaved = typed.take_unsaved();
+    if unsaved.script {
+        out.extend_from_slice(UNSAVED)?;
+    }
+    if unsaved.notes {
+        out.extend_from_slice(UNSAVED_NOTES)?;
+    }
+    Ok(!unsaved.script && !unsaved.notes)
 }
 
 /// Writes all output, empties it, and flushes the writer.

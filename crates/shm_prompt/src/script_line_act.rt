@@ -1,5 +1,5 @@
 //! The lines of scripts: each is acted on as a replay does.
-ghost use Rattle.std.specs.Prelude.{◌≡◌, ◌++◌, ◌⊎◌, Some, OnErr, OnOk};
+ghost use Rattle.std.specs.Prelude.{◌≡◌, ◌++◌, ◌⊎◌, [], Some, OnErr, OnOk};
 ghost use Rattle.shm_lines.specs.Spelling.{IsLine};
 ghost use Rattle.shm_lines.specs.declared.script_line.Line.TheVariants as line;
 ghost use Rattle.shm_debug.specs.Said.{next, next_back};
@@ -10,7 +10,7 @@ ghost use Rattle.shm_text.specs.Text.{line_text};
 ghost use Rattle.shm_world.specs.World.{StandsFor};
 ghost use Rattle.shm_prompt.specs.Refusals as told;
 ghost use Rattle.shm_prompt.specs.Refusals.{refused_text, with_words};
-ghost use Rattle.shm_prompt.specs.Dialog.{Halted, answered, said_to};
+ghost use Rattle.shm_prompt.specs.Dialog.{Halted, LeavesNotes, after_line, answered, said_to, standing_now};
 
 use crate::dialog_state::Dialog;
 use crate::output_line::{last_line, tell_line};
@@ -26,14 +26,43 @@ use std::alloc::{AllocError, Allocator};
 pub(crate) const NOT_BEGUN: &str = "no sites stand yet: begin with a line as sites 2 preset 1\n";
 
 impl<A: Allocator + Copy> Dialog<A> {
-    /// Acts on a line of a script. A `sites` line begins a new session.
+    /// Acts on a line of a script. A `sites` line begins a new session, without notes.
     pub fn act(&mut self, line: Line, out: &mut Vec<u8, A>) -> Result<(), AllocError>
         requires { IsLine line }
-        ensures told { OnOk result (out.new.items ≡ out.old.items ++ said_to self.old line) }
-        ensures next { OnOk result (self.new ≡ next self.old line) }
-        ensures halted { OnErr result (Halted self.old line self.new) }
+        ensures told { OnOk result (out.new.items ≡ out.old.items ++ said_to self.old.standing line) }
+        ensures next { OnOk result (self.new ≡ after_line self.old line) }
+        ensures halted { OnErr result (Halted self.old.standing line self.new.standing × LeavesNotes self.old self.new) }
     {
-        act_on(&mut self.session, self.alloc, line, out)
+        match line {
+            Line::Sites(opening) => self.begin_anew(Line::Sites(opening), out),
+            Line::Event(event) => self.go_on(Line::Event(event), out),
+            Line::Show(page) => self.go_on(Line::Show(page), out),
+            Line::Back(count) => self.go_on(Line::Back(count), out),
+        }
+    }
+
+    /// Acts on a line, and drops all notes.
+    fn begin_anew(&mut self, line: Line, out: &mut Vec<u8, A>) -> Result<(), AllocError>
+        requires { IsLine line }
+        ensures told { OnOk result (out.new.items ≡ out.old.items ++ said_to self.old.standing line) }
+        ensures next { OnOk result (self.new ≡ record { standing = next self.old.standing line; notes = [] }) }
+        ensures halted { OnErr result (Halted self.old.standing line self.new.standing × LeavesNotes self.old self.new) }
+    {
+        act_on(&mut self.session, self.alloc, line, out)?;
+        self.notes.clear();
+        Ok(())
+    }
+
+    /// Acts on a line, and drops the notes of lines that stand no more.
+    fn go_on(&mut self, line: Line, out: &mut Vec<u8, A>) -> Result<(), AllocError>
+        requires { IsLine line }
+        ensures told { OnOk result (out.new.items ≡ out.old.items ++ said_to self.old.standing line) }
+        ensures next { OnOk result (self.new ≡ standing_now self.old (next self.old.standing line)) }
+        ensures halted { OnErr result (Halted self.old.standing line self.new.standing × LeavesNotes self.old self.new) }
+    {
+        let done = act_on(&mut self.session, self.alloc, line, out);
+        self.drop_gone_notes();
+        done
     }
 }
 

@@ -51,6 +51,8 @@ fn form_of(verb: &[u8]) -> Option<&'static str> {
         b"help" | b"?" => Some("help"),
         b"save" => Some("save FILE, where FILE is one word"),
         b"open" => Some("open FILE, where FILE is one word"),
+        b"note" => Some("note TEXT"),
+        b"notes" => Some("notes FILE, where FILE is one word"),
         b"quit" | b"exit" => Some("quit"),
         _ => None,
     }

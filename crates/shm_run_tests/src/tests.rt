@@ -8,6 +8,7 @@ mod long_wait;
 mod pictures;
 mod prompt_dialogs;
 mod report;
+mod script_notes;
 mod seeded_runs;
 mod settlement;
 mod waiting_access;

@@ -11,7 +11,7 @@ use std::io::{ErrorKind, Read};
 use std::rt::Files;
 
 /// How many bytes are read at most: one byte more than all lines of a script can have.
-const MAX_BYTES: usize = 100_000 * 201 + 1;
+pub(crate) const MAX_BYTES: usize = 100_000 * 201 + 1;
 
 /// How many bytes are read at once.
 const CHUNK: usize = 8192;

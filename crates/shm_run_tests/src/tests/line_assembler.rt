@@ -1,5 +1,5 @@
 //! What of that which is typed is done, and under which names scripts are saved.
-use shm_prompt::{SaveFile, prompt};
+use shm_prompt::{ReadRefusal, SaveFile, prompt};
 use std::alloc::{Allocator, Global};
 use std::io::{self, ErrorKind};
 use std::test::Fail;
@@ -12,9 +12,11 @@ struct Shelf {
 }
 
 impl SaveFile for Shelf {
-    ghost use Rattle.std.specs.Prelude.{None};
+    ghost use Rattle.std.specs.Prelude.{None, ⊤};
 
     ghost saves = { λ _. None };
+
+    ghost gives = { λ _ _ _. ⊤ };
 
     fn save(&mut self, name: &str, bytes: &[u8]) -> io::Result<()> {
         if name.starts_with("full") {
@@ -26,8 +28,11 @@ impl SaveFile for Shelf {
         Ok(())
     }
 
-    fn read<A: Allocator + Copy>(&self, alloc: A, name: &str) -> io::Result<Vec<u8, A>> {
-        Ok(name.as_bytes().to_vec(alloc)?)
+    fn read<A: Allocator + Copy>(&self, alloc: A, name: &str) -> Result<Vec<u8, A>, ReadRefusal> {
+        match name.as_bytes().to_vec(alloc) {
+            Ok(bytes) => Ok(bytes),
+            Err(_) => Err(ReadRefusal::OutOfMemory),
+        }
     }
 }
 

@@ -2,7 +2,7 @@
 use super::failing_streams::{Giver, NEVER, Taker};
 use linked_list_allocator::LocalHeap;
 use shm_debug::replay;
-use shm_prompt::{PromptFault, SaveFile, prompt};
+use shm_prompt::{PromptFault, ReadRefusal, SaveFile, prompt};
 use std::alloc::{Allocator, Global};
 use std::cell::Cell;
 use std::io::{self, ErrorKind, Read, Write};
@@ -10,15 +10,17 @@ use std::test::Fail;
 
 /// The file that was saved last, if one was.
 #[derive(Drop)]
-struct Shelf {
-    saved: Option<Vec<u8>>,
+pub(super) struct Shelf {
+    pub(super) saved: Option<Vec<u8>>,
     alloc: Global,
 }
 
 impl SaveFile for Shelf {
-    ghost use Rattle.std.specs.Prelude.{None};
+    ghost use Rattle.std.specs.Prelude.{None, ⊤};
 
     ghost saves = { λ _. None };
+
+    ghost gives = { λ _ _ _. ⊤ };
 
     fn save(&mut self, name: &str, bytes: &[u8]) -> io::Result<()> {
         if name == "full" {
@@ -28,12 +30,40 @@ impl SaveFile for Shelf {
         Ok(())
     }
 
-    fn read<A: Allocator + Copy>(&self, alloc: A, name: &str) -> io::Result<Vec<u8, A>> {
+    fn read<A: Allocator + Copy>(&self, alloc: A, name: &str) -> Result<Vec<u8, A>, ReadRefusal> {
+        if name == "long" {
+            return Err(ReadRefusal::TooLong);
+        }
         match &self.saved {
-            Some(bytes) if name == "a" => Ok(bytes.as_slice().to_vec(alloc)?),
-            _ => Err(io::Error::from(ErrorKind::NotFound)),
+            Some(bytes) if name == "a" => copied(alloc, bytes.as_slice()),
+            _ => copied(alloc, shelved(name)?),
         }
     }
+}
+
+fn copied<A: Allocator + Copy>(alloc: A, bytes: &[u8]) -> Result<Vec<u8, A>, ReadRefusal> {
+    match bytes.to_vec(alloc) {
+        Ok(copy) => Ok(copy),
+        Err(_) => Err(ReadRefusal::OutOfMemory),
+    }
+}
+
+/// Files that lie there from the beginning.
+const SHELVED: [(&str, &str); 5] = [
+    ("wrong", "sites 2\ntick 0\nloud\nloud\n"),
+    ("early", "tick 0\nsites 1\ntick 0\n"),
+    ("siteless", "tick 0\n"),
+    ("unended", "sites 1\ntick 0"),
+    ("nothing", ""),
+];
+
+fn shelved(name: &str) -> Result<&'static [u8], ReadRefusal> {
+    for (shelved, script) in SHELVED {
+        if shelved == name {
+            return Ok(script.as_bytes());
+        }
+    }
+    Err(ReadRefusal::Unread)
 }
 
 fn empty_shelf(alloc: Global) -> Shelf {
@@ -177,7 +207,10 @@ expected a command: `help` lists them\n";
 }
 
 /// What is answered to bytes that are typed at once, and what is saved.
-fn type_at_once(alloc: Global, bytes: &[u8]) -> (Result<(), PromptFault>, Vec<u8>, Shelf) {
+pub(super) fn type_at_once(
+    alloc: Global,
+    bytes: &[u8],
+) -> (Result<(), PromptFault>, Vec<u8>, Shelf) {
     let mut reader = bytes;
     let mut text = Vec::new(alloc);
     let mut files = empty_shelf(alloc);
@@ -186,7 +219,7 @@ fn type_at_once(alloc: Global, bytes: &[u8]) -> (Result<(), PromptFault>, Vec<u8
 }
 
 /// What is typed, and what is told.
-const DIALOGS: [(&str, &str); 8] = [
+const DIALOGS: [(&str, &str); 11] = [
     (
         "sites 2 preset 1\nstore 0 0 0 7\n  load 0 0 0\nload 0 0 0\nload 0 5 0\nundo\nundo\nexit\nload 0 0 0\n",
         "1 ready\n2 stored\n3 byte 7\n4 byte 7\n5 refused 9: site 0 has no such attachment\n\
@@ -239,6 +272,23 @@ no segment can have that page\n",
         "1 ready\nnot opened: a can't be read\n2 stored\nsaved to a\n1 ready\nnot opened: b can't be read\n\
 1 ready\n2 stored\n3 byte 7\nexpected: open FILE, where FILE is one word\n",
     ),
+    (
+        "sites 1\ntick 0\nopen wrong\nopen siteless\nopen nothing\nopen long\nopen b\nopen \x1b[2J\ntick 0\n",
+        "1 ready\n2 took\nnot opened: line 3 is none of a script\nnot opened: no line begins the sites\n\
+not opened: no line begins the sites\nnot opened: long is longer than any script\nnot opened: b can't be read\n\
+not opened: the file's name is no text\n3 took\n",
+    ),
+    (
+        "open early\nopen unended\ntick 0\n",
+        "no sites stand yet: begin with a line as sites 2 preset 1\n1 ready\n2 took\n1 ready\n2 took\n",
+    ),
+    (
+        "note a\nnotes n\nsites 1\nnote\nnote \x1b[2J\nnote a\u{85}\nnote a\nnotes full\nnotes\nnotes n\n",
+        "no sites stand yet: begin with a line as sites 2 preset 1\nno sites stand yet: begin with a line as sites 2 preset 1\n\
+1 ready\nexpected: note TEXT\nnot noted: a note has at most 200 bytes, in UTF-8 without control characters\n\
+not noted: a note has at most 200 bytes, in UTF-8 without control characters\n1 noted\nnot saved: full can't be written\n\
+expected: notes FILE, where FILE is one word\nsaved to n\n",
+    ),
     ("quit\n? \n", ""),
 ];
 
@@ -276,7 +326,7 @@ const GREETING: &str = "shmdbg prompt: `help` lists what you may type, `exit` or
 ";
 
 /// What is typed at a terminal, read by read, and what is told behind the greeting.
-const AT_TERMINAL: [(&[&str], &str); 5] = [
+const AT_TERMINAL: [(&[&str], &str); 7] = [
     (&[""], "> \n"),
     (&["exit\n"], "> "),
     (
@@ -300,6 +350,30 @@ const AT_TERMINAL: [(&[&str], &str); 5] = [
         ],
         "> 1 ready\nsaved to a\n> 1 refused 28: no event that stands has changed anything\nsaved to b\n> 2 took\n\
 > \nwhat stands is not saved: `save FILE` first, or Ctrl-D again\n> \n",
+    ),
+    (
+        &[
+            "sites 1\nnote a\n",
+            "",
+            "save a\nnotes full\n",
+            "note b\n",
+            "",
+            "notes n\n",
+            "",
+        ],
+        "> 1 ready\n1 noted\n> \nwhat stands is not saved: `save FILE` first, or Ctrl-D again\n\
+notes are not saved: `notes FILE` first, or Ctrl-D again\n> saved to a\nnot saved: full can't be written\n> 1 noted\n\
+> \nnotes are not saved: `notes FILE` first, or Ctrl-D again\n> saved to n\n> \n",
+    ),
+    (
+        &[
+            "sites 1\nnote a\ntick 0\nnote b\nnotes n\nback 1\nsave a\n",
+            "",
+            "note c\nsites 1\nsave a\n",
+            "",
+        ],
+        "> 1 ready\n1 noted\n2 took\n2 noted\nsaved to n\n1 back 0\nsaved to a\n\
+> \nnotes are not saved: `notes FILE` first, or Ctrl-D again\n> 1 noted\n1 ready\nsaved to a\n> \n",
     ),
 ];
 

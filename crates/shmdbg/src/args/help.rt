@@ -186,6 +186,8 @@ Lines are those of a script, and
   undo      take back the last event that changed something
   save FILE the script of what stands
   open FILE play a script into a fresh session
+  note TEXT keep a caption for the line that stands last
+  notes FILE  the captions, as `shmdbg draw --notes` reads them
   help, ?   an example of each
   quit, exit
 A wrong line changes nothing.

@@ -1,7 +1,7 @@
 //! The logs that a run leaves.
 use crate::save_run_logs::save_logs;
 use shm_place::{SiteId, Sites};
-use shm_prompt::SaveFile;
+use shm_prompt::{ReadRefusal, SaveFile};
 use shm_report::ReportFault;
 use shm_sites::{Input, SiteBox, SiteLog, Stamp};
 use std::alloc::{AllocError, Allocator, Global};
@@ -16,9 +16,11 @@ struct Shelf {
 }
 
 impl SaveFile for Shelf {
-    ghost use Rattle.std.specs.Prelude.{None};
+    ghost use Rattle.std.specs.Prelude.{None, ⊤};
 
     ghost saves = { λ _. None };
+
+    ghost gives = { λ _ _ _. ⊤ };
 
     fn save(&mut self, name: &str, bytes: &[u8]) -> io::Result<()> {
         if name.starts_with("full") {
@@ -29,8 +31,11 @@ impl SaveFile for Shelf {
         Ok(())
     }
 
-    fn read<A: Allocator + Copy>(&self, alloc: A, _name: &str) -> io::Result<Vec<u8, A>> {
-        Ok(self.saved.as_slice().to_vec(alloc)?)
+    fn read<A: Allocator + Copy>(&self, alloc: A, _name: &str) -> Result<Vec<u8, A>, ReadRefusal> {
+        match self.saved.as_slice().to_vec(alloc) {
+            Ok(bytes) => Ok(bytes),
+            Err(_) => Err(ReadRefusal::OutOfMemory),
+        }
     }
 }
 

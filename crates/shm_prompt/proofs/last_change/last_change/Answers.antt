@@ -1,4 +1,4 @@
-use Rattle.std.proofs.Common.{◌≡◌, ℕ, length, arith, subst, sym}
+use Rattle.std.proofs.Common.{◌≡◌, length, arith, subst, sym}
 use Rattle.shm_model.specs.Opening.{opening_of}
 use Rattle.shm_model.specs.declared.event.Event.{Event}
 use Rattle.shm_debug.specs.Standing.{first_events, standing, world_of}
