@@ -7,6 +7,7 @@ Each start has its status, its one line on standard error and its output; and wh
 may trace, calls of the system fail, too. The status is 1 where something else is told than has to be."""
 
 import os
+import re
 import resource
 import shutil
 import signal
@@ -27,7 +28,8 @@ OTHER = 'journal: of another site, number of sites, opening or cluster'
 NO_FILE = 'journal: it is no plain file'
 NO_NAME = 'cluster: a name has 1 to 32 bytes of printable ASCII, and no blank'
 FAILED = 'journal: write fault'
-AGAIN = 'journal: 0 steps taken again, clock 0, 0 torn bytes cut off'
+TOOK = re.compile(rb', in \d+ ms$', re.M)
+AGAIN = 'journal: steps taken again: 0, clock: 0, torn bytes cut off: 0'
 tried = [0]
 
 
@@ -41,7 +43,7 @@ def start(name, command, status, fault, told=b'', **options):
     done = subprocess.run(command, input=options.pop('given', STORE), stdout=subprocess.PIPE, stderr=subprocess.PIPE, timeout=60, check=False,
                           **options)
     errors = f'shmdbg: {fault}\n'.encode() if fault else b''
-    if (done.returncode, done.stdout, done.stderr) != (status, told, errors):
+    if (done.returncode, done.stdout, TOOK.sub(b'', done.stderr)) != (status, told, errors):
         sys.exit(f'{name}: status {done.returncode}, told {done.stdout}, on standard error {done.stderr}')
     tried[0] += 1
 
@@ -158,7 +160,7 @@ def try_streams(program, folder):
     stays('an input that is a folder', journal, HEADER)
     start('an output that is full', over('> /dev/full'), 3, AGAIN + '\nshmdbg: write fault')
     stays('an output that is full', journal, HEADER + b'step 1 restart\nstep 2 ask 0 a store 0 5 7\n')
-    start('after both', words(program, journal), 0, AGAIN.replace('0 steps taken again, clock 0', '2 steps taken again, clock 2'), b'tell 0 b byte 7\n',
+    start('after both', words(program, journal), 0, AGAIN.replace('again: 0, clock: 0', 'again: 2, clock: 2'), b'tell 0 b byte 7\n',
           given=b'ask 0 b load 0 5\n')
     for streams, fault in ((f'< {folder}', 'read fault'), ('> /dev/full', 'write fault')):
         start(f'a prompt {streams}', ['sh', '-c', f'exec "$@" {streams}', 'sh', program, 'prompt'], 3, fault, given=b'sites 1\n')

@@ -8,8 +8,8 @@ use Rattle.shmdbg.specs.declared.replayed_steps_notice.TakenAgain.{TakenAgain}
 
 abbrev pub again_text : TakenAgain → List ℕ
 again_text again =
-    codes "journal: " ++ (decimal again.steps ++ (codes " steps taken again, clock " ++ (decimal again.clock
-    ++ (codes ", " ++ (decimal again.torn ++ codes " torn bytes cut off")))))
+    codes "journal: steps taken again: " ++ (decimal again.steps ++ (codes ", clock: " ++ (decimal again.clock
+    ++ (codes ", torn bytes cut off: " ++ decimal again.torn))))
 
 -- the steps that this journal led through, and the clock to which they led; what was torn is known of the file alone
 pub record IsTakenAgain (header : Header) (remaining : Option (List ℕ)) (again : TakenAgain) : Type 0 where

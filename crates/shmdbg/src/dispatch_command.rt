@@ -372,7 +372,7 @@ fn talk<R: AllocGlobal + Files, I: Read + Recalls, O: Write, E: Write>(
 }
 
 /// Runs a site as a process until its input ends, and answers the exit status.
-fn site<R: AllocGlobal + Files, I: Read, O: Write, E: Write>(
+fn site<R: AllocGlobal + Clock + Files, I: Read, O: Write, E: Write>(
     rt: &R,
     sites: Sites,
     me: SiteId,
@@ -403,7 +403,7 @@ where
 }
 
 /// Runs a site under this seal as a process until its input ends, and answers the exit status.
-fn sealed_site<R: AllocGlobal + Files, I: Read, O: Write, E: Write>(
+fn sealed_site<R: AllocGlobal + Clock + Files, I: Read, O: Write, E: Write>(
     rt: &R,
     sites: Sites,
     me: SiteId,

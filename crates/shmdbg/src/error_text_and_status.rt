@@ -115,9 +115,13 @@ pub fn seal_error<E: Write>(fault: SealFault, errors: &mut E) -> u8
     }
 }
 
-/// Tells what a site took again of its journal. A failure to write it is passed over.
-pub fn taken_again<E: Write>(again: TakenAgain, errors: &mut E) {
-    let _ = writeln!(errors, "shmdbg: {again}");
+/// Tells what a site took again of its journal, and in how many milliseconds, if the clock could be read. A failure to write it is passed
+/// over.
+pub fn taken_again<E: Write>(again: TakenAgain, took: Option<u64>, errors: &mut E) {
+    let _ = match took {
+        Some(took) => writeln!(errors, "shmdbg: {again}, in {took} ms"),
+        None => writeln!(errors, "shmdbg: {again}"),
+    };
 }
 
 /// Tells how many lines a site didn't open, by their causes, if there was one. A failure to write it is passed over.

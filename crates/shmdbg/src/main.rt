@@ -8,6 +8,7 @@ mod audit_files;
 mod closed_standard_streams;
 mod disk_save_file;
 mod dispatch_command;
+mod elapsed_time;
 mod error_text_and_status;
 mod journal_backends;
 mod journal_startup;

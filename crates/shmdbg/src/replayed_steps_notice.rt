@@ -22,7 +22,7 @@ impl fmt::Display for TakenAgain {
         let TakenAgain { steps, clock, torn } = *self;
         write!(
             f,
-            "journal: {steps} steps taken again, clock {clock}, {torn} torn bytes cut off"
+            "journal: steps taken again: {steps}, clock: {clock}, torn bytes cut off: {torn}"
         )
     }
 }

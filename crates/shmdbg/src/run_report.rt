@@ -8,6 +8,7 @@ ghost use Rattle.shm_report.specs.declared.report_error.ReportFault.TheVariants 
 ghost use Rattle.shmdbg.specs.Status.{CutsReport, CutsRun};
 
 use crate::disk_save_file::Disk;
+use crate::elapsed_time::milliseconds_since;
 use crate::save_run_logs::save_logs;
 use shm_place::Sites;
 use shm_report::{Audited, ReportFault, run_audited};
@@ -124,9 +125,4 @@ fn tell_with_summary<O: Write>(
         return Err(ReportFault::OutOfMemory);
     };
     run.write(alloc, more.as_str(), out)
-}
-
-fn milliseconds_since<R: Clock>(rt: &R, started: Option<Instant>) -> Option<u64> {
-    let elapsed = started?.elapsed(rt).ok()?;
-    u64::try_from(elapsed.as_millis()).ok()
 }

@@ -9,6 +9,7 @@ ghost use Rattle.shmdbg.specs.Around.{streams};
 ghost use Rattle.shmdbg.specs.Begun.{header_at};
 ghost use Rattle.shmdbg.specs.Served.{IsServed, ServesFrom};
 
+use crate::elapsed_time::milliseconds_since;
 use crate::error_text_and_status;
 use crate::journal_backends::{JournalFile, NoJournal};
 use crate::journal_startup::{Begun, Kept, Lock, begin_kept, open_journal};
@@ -20,7 +21,8 @@ use shm_seal::Seal;
 use std::alloc::{AllocError, Global};
 use std::fs::OpenFile;
 use std::io::{Read, Write};
-use std::rt::Files;
+use std::rt::{Clock, Files};
+use std::time::Instant;
 
 /// Runs this site until its input ends. Without a journal, all that the site holds ends with it. Writes to `errors` how many lines weren't
 /// opened.
@@ -54,8 +56,8 @@ pub(crate) fn be_site<R: AllocGlobal, I: Read, O: Write, E: Write>(
 }
 
 /// Runs this site until its input ends, and keeps its steps in this journal. Writes to `errors` what it takes again of a journal that it
-/// goes on with, and how many lines weren't opened.
-pub(crate) fn be_kept_site<R: AllocGlobal + Files, I: Read, O: Write, E: Write>(
+/// goes on with, how long that took, and how many lines weren't opened.
+pub(crate) fn be_kept_site<R: AllocGlobal + Clock + Files, I: Read, O: Write, E: Write>(
     rt: &R,
     sites: Sites,
     me: SiteId,
@@ -78,6 +80,7 @@ where
         Ok(file) => file,
         Err(fault) => return Err(fault),
     };
+    let started = Instant::now(rt).ok();
     match begin_kept(rt, sites, me, pages, seal, kept, &mut file) {
         Ok(begun) => {
             let Begun {
@@ -86,7 +89,7 @@ where
                 again,
             } = begun;
             if !kept.begins {
-                error_text_and_status::taken_again(again, errors);
+                error_text_and_status::taken_again(again, milliseconds_since(rt, started), errors);
             }
             serve_kept(desk, reader, out, JournalFile::new(file, durable), errors)
         }

@@ -73,8 +73,9 @@ fn a_site_goes_on_from_its_journal(rt: HostRuntime) -> Result<(), Fail> {
     torn.extend_from_slice(b"step 2 ask 0 b sto")?;
     fs::write(&rt, JOURNAL, torn.as_slice())?;
     let ran = site_kept(&rt, false, JOURNAL, b"ask 0 b load 0 5\n");
-    let again = b"shmdbg: journal: 1 steps taken again, clock 1, 18 torn bytes cut off\n";
-    expect(&rt, &ran, 0, b"tell 0 b byte 7\n", again);
+    let again = b"shmdbg: journal: steps taken again: 1, clock: 1, torn bytes cut off: 18, in ";
+    assert_eq!(rt; ran.out.as_slice(), b"tell 0 b byte 7\n".as_slice());
+    assert!(rt; ran.errors.as_slice().starts_with(again.as_slice()));
     let kept = fs::read(&rt, JOURNAL)?;
     let mut whole = Vec::from_slice(rt.alloc(), STORED)?;
     whole.extend_from_slice(b"step 2 restart\nstep 3 ask 0 b load 0 5\n")?;
