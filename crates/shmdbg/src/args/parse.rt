@@ -7,7 +7,7 @@ use crate::args::check_site::look_for_site;
 use crate::args::command_definitions::command;
 use crate::args::task::Task;
 use crate::args::task_from_options::{
-    audit_task, draw_task, journal_task, replay_task, run_task, site_task,
+    audit_task, draw_task, journal_task, replay_task, run_task, simulate_task, site_task,
 };
 use crate::args::word_checks::{has_plain_numbers, short_error, spelling_error};
 use clap::{ArgMatches, Error};
@@ -52,6 +52,9 @@ fn task_of<'a>(alloc: Global, name: &str, found: &ArgMatches<'a>) -> Option<Task
     }
     if name == "run" {
         return run_task(found);
+    }
+    if name == "simulate" {
+        return simulate_task(found);
     }
     if name == "draw" {
         return draw_task(found);
