@@ -5,6 +5,7 @@ mod command_definitions;
 mod help;
 mod parse;
 mod seal_words;
+mod simulation_options;
 mod simulation_words;
 mod task;
 mod task_from_options;

@@ -5,9 +5,10 @@ ghost use Rattle.shmdbg.specs.Words.{fault_in, is_among, IsAsked};
 
 use crate::args::check_site::look_for_site;
 use crate::args::command_definitions::command;
+use crate::args::simulation_options::simulate_task;
 use crate::args::task::Task;
 use crate::args::task_from_options::{
-    audit_task, draw_task, journal_task, replay_task, run_task, simulate_task, site_task,
+    audit_task, draw_task, journal_task, replay_task, run_task, site_task,
 };
 use crate::args::word_checks::{has_plain_numbers, short_error, spelling_error};
 use clap::{ArgMatches, Error};

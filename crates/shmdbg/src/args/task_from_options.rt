@@ -1,15 +1,13 @@
 //! Reads a subcommand's options. Words that clap took have all that are required, in range.
 ghost use Rattle.std.specs.Prelude.{◌≡◌, Some, codes, map, IfSome};
 ghost use Rattle.clap.specs.Words.{all_of, found_of, rows_of};
-ghost use Rattle.shmdbg.specs.Words.{is_set_at, number_at, number_of, page_named, percent_at, HasOdds, IsAsked};
+ghost use Rattle.shmdbg.specs.Words.{is_set_at, number_at, number_of, page_named, IsAsked};
 
 use crate::args::seal_words::SealWords;
-use crate::args::simulation_words::Simulation;
 use crate::args::task::Task;
 use crate::args::word_checks::is_plain_at;
 use clap::ArgMatches;
 use shm_place::{PAGES, PageId, SegId, SiteId, Sites};
-use shm_simulate::Odds;
 use std::alloc::Global;
 
 /// A run's options.
@@ -28,48 +26,6 @@ pub(crate) fn run_task<'a>(found: &ArgMatches<'a>) -> Option<Task<'a>>
     })
 }
 
-/// A simulation's options.
-pub(crate) fn simulate_task<'a>(found: &ArgMatches<'a>) -> Option<Task<'a>>
-    ensures { IfSome result (λ task. IsAsked (codes "simulate") (rows_of (found_of found.now)) task) }
-{
-    let sites = Sites::new(number(found, "sites")?).ok()?;
-    let seed = number(found, "seed")?;
-    let runs = number(found, "runs")?;
-    let odds = odds(found)?;
-    let keep = found.get_str("keep");
-    Some(Task::Simulate(Simulation {
-        sites,
-        seed,
-        runs,
-        odds,
-        keep,
-    }))
-}
-
-/// How often things are to go wrong: never, where nothing is written of it.
-fn odds(found: &ArgMatches<'_>) -> Option<Odds>
-    ensures { IfSome result (HasOdds (rows_of (found_of found.now))) }
-{
-    let lose = percent(found, "lose")?;
-    let repeat = percent(found, "repeat")?;
-    let restart = percent(found, "restart")?;
-    Some(Odds {
-        lose,
-        repeat,
-        restart,
-    })
-}
-
-/// The number that is written for an option, or 0 where none is.
-fn percent(found: &ArgMatches<'_>, option: &str) -> Option<u32>
-    ensures { IfSome result (λ percent. percent_at option.now (rows_of (found_of found.now)) ≡ Some percent) }
-{
-    match found.get_raw(option) {
-        Some(_) => number(found, option),
-        None => Some(0),
-    }
-}
-
 /// Checks that an option without a value is there.
 fn is_set(found: &ArgMatches<'_>, option: &str) -> bool
     ensures { result ≡ is_set_at option.now (rows_of (found_of found.now)) }
@@ -81,7 +37,7 @@ fn is_set(found: &ArgMatches<'_>, option: &str) -> bool
 }
 
 /// The number that is written for an option.
-fn number(found: &ArgMatches<'_>, option: &str) -> Option<u32>
+pub(crate) fn number(found: &ArgMatches<'_>, option: &str) -> Option<u32>
     ensures { IfSome result (λ number. number_at option.now (rows_of (found_of found.now)) ≡ Some number) }
 {
     if is_plain_at(found, option) {

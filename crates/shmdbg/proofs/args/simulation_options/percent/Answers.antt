@@ -3,7 +3,7 @@ use Rattle.std.specs.Prelude.{None, Some}
 use Rattle.clap.specs.Walk.{all_of}
 use Rattle.clap.specs.Words.{found_of, rows_of}
 use Rattle.clap.proofs.WalkLemmas.{raw_values-rows}
-use Rattle.shmdbg.proofs.args.task_from_options.percent.Goals as goal
+use Rattle.shmdbg.proofs.args.simulation_options.percent.Goals as goal
 
 pub returns-in-Some : goal.returns-in-Some
 returns-in-Some c =

@@ -2,7 +2,7 @@ use Rattle.std.proofs.Common.{rules, ◌≡◌, ◌∙◌, ap, codes, option_map
 use Rattle.std.specs.Prelude.{Some}
 use Rattle.clap.specs.Words.{first_of, found_of, rows_of}
 use Rattle.clap.proofs.WalkLemmas.{first_value-rows}
-use Rattle.shmdbg.proofs.args.task_from_options.simulate_task.Goals as goal
+use Rattle.shmdbg.proofs.args.simulation_options.simulate_task.Goals as goal
 
 pub returns : goal.returns
 returns c =
