@@ -6,8 +6,8 @@ _shmdbg() {
   [ "$word" != = ] || word=
   [ "$before" != = ] || before=${COMP_WORDS[COMP_CWORD - 2]}
   case $COMP_CWORD:${COMP_WORDS[1]} in
-    1:*) offered='replay run prompt draw site audit journal help -h --help -V --version' ;;
-    2:help) offered='replay run prompt draw site audit journal help' ;;
+    1:*) offered='replay run simulate prompt draw site audit journal help -h --help -V --version' ;;
+    2:help) offered='replay run simulate prompt draw site audit journal help' ;;
     *:replay)
       mapfile -t COMPREPLY < <(compgen -W '-h --help' -- "$word"; compgen -f -- "$word")
       compopt -o filenames 2> /dev/null
@@ -24,6 +24,18 @@ _shmdbg() {
           return
           ;;
         *) offered='--sites --seed --summary --log -h --help' ;;
+      esac
+      ;;
+    *:simulate)
+      case $before in
+        --sites) offered='1 2 3 4 5 6 7 8 9 10 11 12 13 14 15 16' ;;
+        --seed | --runs | --lose | --repeat | --restart) ;;
+        --keep)
+          mapfile -t COMPREPLY < <(compgen -d -- "$word")
+          compopt -o filenames 2> /dev/null
+          return
+          ;;
+        *) offered='--sites --seed --runs --lose --repeat --restart --keep -h --help' ;;
       esac
       ;;
     *:draw)

@@ -3,6 +3,7 @@
 complete -c shmdbg -f
 complete -c shmdbg -n __fish_use_subcommand -a replay -d 'Replay a script, of a file or of standard input'
 complete -c shmdbg -n __fish_use_subcommand -a run -d 'Run the workload on standard input on sites in threads, and audit it'
+complete -c shmdbg -n __fish_use_subcommand -a simulate -d 'Run the workload on standard input over and over, and count its outcomes'
 complete -c shmdbg -n __fish_use_subcommand -a prompt -d 'Answer each line as it is typed'
 complete -c shmdbg -n __fish_use_subcommand -a draw -d 'Draw the run that a script leaves, of a file or of standard input'
 complete -c shmdbg -n __fish_use_subcommand -a site -d 'Run one site of a cluster on the lines of standard input'
@@ -18,6 +19,14 @@ complete -c shmdbg -n '__fish_seen_subcommand_from run' -l seed -x -d 'The seed 
 complete -c shmdbg -n '__fish_seen_subcommand_from run' -l summary -d 'Add how much was done, and how long it took'
 complete -c shmdbg -n '__fish_seen_subcommand_from run' -l log -r -a '(__fish_complete_directories)' -d "Leave each site's log in this folder, which exists"
 complete -c shmdbg -n '__fish_seen_subcommand_from run' -s h -l help -d 'Print help'
+complete -c shmdbg -n '__fish_seen_subcommand_from simulate' -l sites -x -a '(seq 16)' -d 'How many sites, 1 to 16'
+complete -c shmdbg -n '__fish_seen_subcommand_from simulate' -l seed -x -d 'The seed of the first run; each further run has the next'
+complete -c shmdbg -n '__fish_seen_subcommand_from simulate' -l runs -x -d 'How many runs, from 1 on'
+complete -c shmdbg -n '__fish_seen_subcommand_from simulate' -l lose -x -d 'Of 100 messages that would arrive, so many are lost'
+complete -c shmdbg -n '__fish_seen_subcommand_from simulate' -l repeat -x -d 'Of 100 messages that arrive, so many do once more'
+complete -c shmdbg -n '__fish_seen_subcommand_from simulate' -l restart -x -d 'Of 100 events so many are restarts of a site'
+complete -c shmdbg -n '__fish_seen_subcommand_from simulate' -l keep -r -a '(__fish_complete_directories)' -d 'Leave a script of each outcome in this folder, which exists'
+complete -c shmdbg -n '__fish_seen_subcommand_from simulate' -s h -l help -d 'Print help'
 complete -c shmdbg -n '__fish_seen_subcommand_from prompt' -s h -l help -d 'Print help'
 complete -c shmdbg -n '__fish_seen_subcommand_from draw' -F
 complete -c shmdbg -n '__fish_seen_subcommand_from draw' -l page -x -d 'The page to show, by its segment and its index'
@@ -37,4 +46,4 @@ complete -c shmdbg -n '__fish_seen_subcommand_from audit' -l sites -x -a '(seq 1
 complete -c shmdbg -n '__fish_seen_subcommand_from audit' -s h -l help -d 'Print help'
 complete -c shmdbg -n '__fish_seen_subcommand_from journal' -F
 complete -c shmdbg -n '__fish_seen_subcommand_from journal' -s h -l help -d 'Print help'
-complete -c shmdbg -n '__fish_seen_subcommand_from help' -a 'replay run prompt draw site audit journal help'
+complete -c shmdbg -n '__fish_seen_subcommand_from help' -a 'replay run simulate prompt draw site audit journal help'

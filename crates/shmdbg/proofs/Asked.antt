@@ -7,10 +7,10 @@ use Rattle.std.specs.Str.{bytes_eq}
 use Rattle.clap.specs.Kinds.{or_else}
 use Rattle.clap.specs.Words.{Row, Text, fault_of, subcommand_of}
 use Rattle.shmdbg.specs.Commands.{app}
-use Rattle.shmdbg.specs.Done.{has_audit}
+use Rattle.shmdbg.specs.Done.{has_audit, is_simulation}
 use Rattle.shmdbg.specs.Words.{among_fault, asked_for, fault_in, file_fault, has_file, has_plain_numbers, is_among, name_of, names_file, names_one, task_fault, AskFor, IsAsked, IsOneOfSites}
 use Rattle.shmdbg.specs.declared.args.task.Task.{Task}
-use Rattle.shmdbg.specs.declared.args.task.Task.TheVariants.{Audit, Draw, Journal, Prompt, Replay, Run, Site}
+use Rattle.shmdbg.specs.declared.args.task.Task.TheVariants.{Audit, Draw, Journal, Prompt, Replay, Run, Simulate, Site}
 use Rattle.shmdbg.specs.Status.{Asks, AsksForAudit, Takes}
 use Rattle.shmdbg.proofs.Wrong.{plainly_spelled}
 
@@ -37,6 +37,7 @@ is_below sites me among = grind (arith, nat_tests)
 one_of_sites : (name : Text) (rows : List Row) (task : Task) → is_among task ≡ true → IsAsked name rows task → IsOneOfSites task
 one_of_sites name rows (Replay file) among asked = tt
 one_of_sites name rows (Run sites seed summary log) among asked = tt
+one_of_sites name rows (Simulate simulation) among asked = tt
 one_of_sites name rows Prompt among asked = tt
 one_of_sites name rows (Draw page steps notes file) among asked = tt
 one_of_sites name rows (Site sites me pages journal begins seal) among asked = (is_below sites me among, asked.options.3)
@@ -51,6 +52,7 @@ one_of_asked words task among asked =
 one_named : (name : Text) (rows : List Row) (task : Task) → IsAsked name rows task → names_one (name, rows) ≡ is_among task
 one_named name rows (Replay file) asked = rw asked.called refl
 one_named name rows (Run sites seed summary log) asked = rw asked.called refl
+one_named name rows (Simulate simulation) asked = rw asked.called refl
 one_named name rows Prompt asked = rw asked.called refl
 one_named name rows (Draw page steps notes file) asked = rw asked.called refl
 one_named name rows (Site sites me pages journal begins seal) asked = rw (asked.called, asked.options.0, asked.options.1) refl
@@ -66,6 +68,7 @@ among_asked words task asked =
 file_named : (name : Text) (rows : List Row) (task : Task) → IsAsked name rows task → names_file (name, rows) ≡ has_file task
 file_named name rows (Replay file) asked = rw asked.called refl
 file_named name rows (Run sites seed summary log) asked = rw asked.called refl
+file_named name rows (Simulate simulation) asked = rw asked.called refl
 file_named name rows Prompt asked = rw asked.called refl
 file_named name rows (Draw page steps notes file) asked = rw asked.called refl
 file_named name rows (Site sites me pages None begins seal) asked = rw (asked.called, asked.options.4, asked.options.5) refl
@@ -93,6 +96,7 @@ names_audit name = bytes_eq name (codes "run") || bytes_eq name (codes "audit")
 by_name : (task : Task) → has_audit task ≡ names_audit (name_of task)
 by_name (Replay file) = refl
 by_name (Run sites seed summary log) = refl
+by_name (Simulate simulation) = refl
 by_name Prompt = refl
 by_name (Draw page steps notes file) = refl
 by_name (Site sites me pages journal begins seal) = refl
@@ -102,6 +106,7 @@ by_name (Journal file) = refl
 of_audit : (task : Task) → has_audit task ≡ true → (name_of task ≡ codes "run") ⊎ (name_of task ≡ codes "audit")
 of_audit (Replay file) is = absurd (cc)
 of_audit (Run sites seed summary log) is = inl refl
+of_audit (Simulate simulation) is = absurd (cc)
 of_audit Prompt is = absurd (cc)
 of_audit (Draw page steps notes file) is = absurd (cc)
 of_audit (Site sites me pages journal begins seal) is = absurd (cc)
@@ -123,3 +128,23 @@ asked_audit words task asked asks =
       | inl run ↦ by_name task ∙ ap names_audit (sym (same_name words task (codes "run") asked run))
       | inr audit ↦ by_name task ∙ ap names_audit (sym (same_name words task (codes "audit") asked audit))
     ]
+
+-- ---- a simulation
+
+-- by its name
+abbrev names_simulation : Text → Bool
+names_simulation name = bytes_eq name (codes "simulate")
+
+simulation_named : (task : Task) → is_simulation task ≡ names_simulation (name_of task)
+simulation_named (Replay file) = refl
+simulation_named (Run sites seed summary log) = refl
+simulation_named (Simulate simulation) = refl
+simulation_named Prompt = refl
+simulation_named (Draw page steps notes file) = refl
+simulation_named (Site sites me pages journal begins seal) = refl
+simulation_named (Audit sites journals) = refl
+simulation_named (Journal file) = refl
+
+pub asked_simulation : (words : List Text) (task : Task) → AskFor words task → Asks (codes "simulate") words → is_simulation task ≡ true
+asked_simulation words task asked asks =
+    simulation_named task ∙ ap names_simulation (sym (same_name words task (codes "simulate") asked asks))

@@ -4,6 +4,8 @@ mod Wrong
 mod Numbers
 mod Streaming
 mod NotAccepted
+mod SimulationLemmas
+mod KeptLemmas
 mod Unbegun
 mod Unsealed
 pub mod Untold

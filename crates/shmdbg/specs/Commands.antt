@@ -39,6 +39,30 @@ replay_app = with_rule (new_app (codes "replay")) file_rule
 abbrev pub run_app : App
 run_app = with_rule (with_rule (with_rule (with_rule (new_app (codes "run")) sites_rule) seed_rule) summary_rule) log_rule
 
+abbrev pub runs_rule : Rule
+runs_rule = number_rule (codes "runs") (Signed (pos 1) (pos 4294967295))
+
+-- an option with a number of hundredths
+abbrev pub percent_rule : Text → Rule
+percent_rule name = record (new_rule name) { long = Some name; action = Some Set; value_names = 1; parser = Some (Signed (pos 0) (pos 100)) }
+
+abbrev pub lose_rule : Rule
+lose_rule = percent_rule (codes "lose")
+
+abbrev pub repeat_rule : Rule
+repeat_rule = percent_rule (codes "repeat")
+
+abbrev pub restart_rule : Rule
+restart_rule = percent_rule (codes "restart")
+
+abbrev pub keep_rule : Rule
+keep_rule = text_rule (codes "keep")
+
+abbrev pub simulate_app : App
+simulate_app =
+    with_rule (with_rule (with_rule (with_rule (with_rule (with_rule (with_rule (new_app (codes "simulate")) sites_rule) seed_rule) runs_rule) lose_rule)
+    repeat_rule) restart_rule) keep_rule
+
 abbrev pub prompt_app : App
 prompt_app = new_app (codes "prompt")
 
@@ -103,7 +127,7 @@ bare_app = record { top = record (new_app (codes "shmdbg")).top { subcommand_req
 -- the program with all its subcommands
 abbrev pub app : App
 app =
-    with_subcommand (with_subcommand (with_subcommand (with_subcommand (with_subcommand (with_subcommand (with_subcommand bare_app replay_app.top)
-    run_app.top) prompt_app.top) draw_app.top) site_app.top)
+    with_subcommand (with_subcommand (with_subcommand (with_subcommand (with_subcommand (with_subcommand (with_subcommand (with_subcommand bare_app replay_app.top)
+    run_app.top) simulate_app.top) prompt_app.top) draw_app.top) site_app.top)
     audit_app.top)
     journal_app.top

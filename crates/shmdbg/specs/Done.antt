@@ -7,11 +7,12 @@ use Rattle.shm_journal.specs.Acts.{Around, Did}
 use Rattle.shm_place.specs.declared.page_id.PageId.{PageId}
 use Rattle.shmdbg.specs.Audited.{FailsAudit, TellsAudit}
 use Rattle.shmdbg.specs.Sealed.{IsSealedSite}
+use Rattle.shmdbg.specs.Simulated.{Simulates}
 use Rattle.shmdbg.specs.Summarized.{Summarizes}
 use Rattle.shmdbg.specs.Status.{Fails, HasNoCaptions, Pictures, PicturesFile, Replays, ReplaysFile, Reports}
 use Rattle.shmdbg.specs.Words.{AskFor}
 use Rattle.shmdbg.specs.declared.args.task.Task.{Task}
-use Rattle.shmdbg.specs.declared.args.task.Task.TheVariants.{Replay, Run, Prompt, Draw, Site, Audit, Journal}
+use Rattle.shmdbg.specs.declared.args.task.Task.TheVariants.{Replay, Run, Simulate, Prompt, Draw, Site, Audit, Journal}
 
 -- A run of a workload failed; or the logs that were wanted couldn't be made ready, and nothing was done.
 abbrev pub IsUnrun : ℕ → Bool → ℕ → Around → Around → Type 0
@@ -50,6 +51,7 @@ PicturesNoted (Some notes) file steps page status old new =
 abbrev pub Does : Task → ℕ → Around → Around → Type 0
 Does (Replay file) status old new = ReplaysFrom file status old new
 Does (Run sites seed summary log) status old new = Runs sites summary status old new
+Does (Simulate asked) status old new = Simulates asked status old new
 Does Prompt status old new = (status ≡ 0) ⊎ (status ≡ 3)
 Does (Draw page steps notes file) status old new = PicturesNoted notes file steps page status old new
 Does (Site sites me pages journal begins seal) status old new = IsSealedSite seal (option_map (λ file. begins) journal) sites me pages status old new
@@ -61,6 +63,11 @@ abbrev pub has_audit : Task → Bool
 has_audit (Run sites seed summary log) = true
 has_audit (Audit sites journals) = true
 has_audit _ = false
+
+-- a workload is simulated
+abbrev pub is_simulation : Task → Bool
+is_simulation (Simulate asked) = true
+is_simulation _ = false
 
 -- What the words ask for was done. Or memory was refused while they were read, and nothing was.
 abbrev pub IsDone : List Text → ℕ → Around → Around → Type 0

@@ -4,6 +4,8 @@ pub mod Begun
 pub mod Served
 pub mod Sealed
 pub mod Status
+pub mod Simulated
+pub mod Kept
 pub mod Done
 pub mod Commands
 pub mod Words

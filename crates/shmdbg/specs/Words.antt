@@ -13,7 +13,8 @@ use Rattle.shm_place.specs.Limits.{pages as most_pages}
 use Rattle.shm_place.specs.declared.page_id.PageId.{PageId}
 use Rattle.shmdbg.specs.Commands.{app}
 use Rattle.shmdbg.specs.declared.args.task.Task.{Task}
-use Rattle.shmdbg.specs.declared.args.task.Task.TheVariants.{Replay, Run, Prompt, Draw, Site, Audit, Journal}
+use Rattle.shmdbg.specs.declared.args.task.Task.TheVariants.{Replay, Run, Simulate, Prompt, Draw, Site, Audit, Journal}
+use Rattle.shm_simulate.specs.declared.odds.Odds.{Odds}
 
 -- the name of the subcommand that the words ask for, where the program takes them; the first word is the program's name
 abbrev pub asked_for : List Text → Option Text
@@ -23,6 +24,7 @@ asked_for words = option_map (λ named. named.0) (subcommand_of app words)
 abbrev pub name_of : Task → Text
 name_of (Replay file) = codes "replay"
 name_of (Run sites seed summary log) = codes "run"
+name_of (Simulate asked) = codes "simulate"
 name_of Prompt = codes "prompt"
 name_of (Draw page steps notes file) = codes "draw"
 name_of (Site sites me pages journal begins seal) = codes "site"
@@ -47,6 +49,16 @@ is_plain_at option rows = option_map_or (list_all is_plain) (all_of option rows)
 abbrev pub number_at : Text → List Row → Option ℕ
 number_at option rows = if is_plain_at option rows then option_map number_of (one_of option rows) else None
 
+-- the hundredths that were written for an option, or 0 where nothing was
+abbrev pub percent_at : Text → List Row → Option ℕ
+percent_at option rows = option_map_or (λ texts. number_at option rows) (all_of option rows) (Some 0)
+
+-- how often things are to go wrong
+pub record HasOdds (rows : List Row) (odds : Odds) : Type 0 where
+  pub lose : percent_at (codes "lose") rows ≡ Some odds.lose
+  pub repeat : percent_at (codes "repeat") rows ≡ Some odds.repeat
+  pub restart : percent_at (codes "restart") rows ≡ Some odds.restart
+
 -- the page that two numbers name
 abbrev pub page_named : List Text → Option PageId
 page_named (seg ∷ index ∷ []) = Some (record { seg = number_of seg; index = number_of index })
@@ -70,6 +82,10 @@ HasOptions rows (Replay file) = first_of (codes "file") rows ≡ option_map (λ 
 HasOptions rows (Run sites seed summary log) =
     (number_at (codes "sites") rows ≡ Some sites) × (number_at (codes "seed") rows ≡ Some seed) × (is_set_at (codes "summary") rows ≡ summary)
     × (first_of (codes "log") rows ≡ option_map (λ folder. folder.now) log)
+HasOptions rows (Simulate asked) =
+    (number_at (codes "sites") rows ≡ Some asked.sites) × (number_at (codes "seed") rows ≡ Some asked.seed)
+    × (number_at (codes "runs") rows ≡ Some asked.runs) × HasOdds rows asked.odds
+    × (first_of (codes "keep") rows ≡ option_map (λ folder. folder.now) asked.keep)
 HasOptions rows Prompt = Unit {0}
 HasOptions rows (Draw page steps notes file) =
     (page ≡ page_at rows) × (is_set_at (codes "steps") rows ≡ steps) × (first_of (codes "notes") rows ≡ option_map (λ texts. texts.now) notes)
@@ -95,7 +111,8 @@ AskFor words task = IsSomeAnd (subcommand_of app words) (λ named. IsAsked named
 
 -- the numbers of a subcommand's options
 abbrev pub numbers : List Text
-numbers = codes "sites" ∷ codes "seed" ∷ codes "page" ∷ codes "me" ∷ codes "preset" ∷ []
+numbers =
+    codes "sites" ∷ codes "seed" ∷ codes "page" ∷ codes "me" ∷ codes "preset" ∷ codes "runs" ∷ codes "lose" ∷ codes "repeat" ∷ codes "restart" ∷ []
 
 abbrev pub are_plain : List Row → Bool
 are_plain rows = list_all (λ option. is_plain_at option rows) numbers

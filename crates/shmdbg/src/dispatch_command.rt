@@ -4,12 +4,12 @@ ghost use Rattle.shm_debug.specs.Script.{script_of};
 ghost use Rattle.shm_draw.specs.Captions.{besides_of};
 ghost use Rattle.shmdbg.specs.Around.{streams};
 ghost use Rattle.shmdbg.specs.Begun.{header_at};
-ghost use Rattle.shmdbg.specs.Done.{Does, IsDone, IsUnrun, PicturesFrom, PicturesNoted, ReplaysFrom, has_audit};
+ghost use Rattle.shmdbg.specs.Done.{Does, IsDone, IsUnrun, PicturesFrom, PicturesNoted, ReplaysFrom, has_audit, is_simulation};
 ghost use Rattle.shm_seal.specs.Seal.{cluster_of};
 ghost use Rattle.shm_seal.specs.SealOf.{seal_of};
 ghost use Rattle.shmdbg.specs.Sealed.{IsSealedSite};
 ghost use Rattle.shmdbg.specs.Served.{site_status, IsSite};
-ghost use Rattle.shmdbg.specs.Status.{AsksForAudit, DrawsAs, Pictures, PicturesFile, Replays, ReplaysFile, Reports, Takes};
+ghost use Rattle.shmdbg.specs.Status.{Asks, AsksForAudit, DrawsAs, Pictures, PicturesFile, Replays, ReplaysFile, Reports, Takes};
 ghost use Rattle.shmdbg.specs.Words.{IsOneOfSites};
 
 use crate::args::{SealWords, Task, parse_words};
@@ -25,6 +25,7 @@ use crate::save_run_logs::{Unlogged, open_logs};
 use crate::script_file::{WholeScript, read_script_file};
 use crate::serve_site::{be_kept_site, be_site};
 use crate::show_wrong_line::{script_fault, workload_fault};
+use crate::simulation_report::tell_simulation;
 use crate::site_error::SiteFault;
 use shm_debug::{DebugFault, replay};
 use shm_draw::{Caption, draw, parse_captions};
@@ -61,6 +62,7 @@ where
         (streams (I.remaining reader.old) (O.contents out.old)) (streams (I.remaining reader.new) (O.contents out.new)) }
     ensures audit { result ≡ 4 → AsksForAudit (map S.text words.now) }
     ensures quiet { AsksForAudit (map S.text words.now) → (result ≡ 1) ⊎ (result ≡ 4) → out.new ≡ out.old }
+    ensures unsimulated { Asks (codes "simulate") (map S.text words.now) → result ≡ 1 → out.new ≡ out.old }
     ensures refused { ¬ Takes (map S.text words.now) → (reader.new ≡ reader.old) × (out.new ≡ out.old) }
     ensures nothing_read { result ≡ 2 → reader.new ≡ reader.old }
     ensures nothing_written { result ≡ 2 → out.new ≡ out.old }
@@ -86,6 +88,7 @@ where
     ensures done { Does task.entry result (streams (I.remaining reader.old) (O.contents out.old)) (streams (I.remaining reader.new) (O.contents out.new)) }
     ensures audit { result ≡ 4 → has_audit task.entry ≡ true }
     ensures quiet { has_audit task.entry ≡ true → (result ≡ 1) ⊎ (result ≡ 4) → out.new ≡ out.old }
+    ensures unsimulated { is_simulation task.entry ≡ true → result ≡ 1 → out.new ≡ out.old }
 {
     match task {
         Task::Replay { file } => replay_from(rt, file, reader, out, errors),
@@ -98,6 +101,7 @@ where
             let wanted = Wanted { summary, log };
             run(rt, sites, seed, &wanted, reader, out, errors)
         }
+        Task::Simulate(asked) => tell_simulation(rt, &asked, reader, out, errors),
         Task::Prompt => talk(rt, reader, out, errors),
         Task::Draw {
             page,

@@ -1,5 +1,5 @@
-//! `shmdbg`, the command line: it replays and draws scripts, answers at the prompt, runs a workload on sites in threads, runs a site as a
-//! process, audits journals, and summarises one.
+//! `shmdbg`, the command line: it replays and draws scripts, answers at the prompt, runs a workload on sites in threads, simulates one, runs
+//! a site as a process, audits journals, and summarises one.
 #![tactic(auto)]
 
 mod args;
@@ -17,12 +17,14 @@ mod read_seal;
 mod recalling_input;
 mod replayed_steps_notice;
 mod run_report;
+mod save_outcome_scripts;
 mod save_run_logs;
 mod script_file;
 mod script_file_error;
 mod seal_error;
 mod serve_site;
 mod show_wrong_line;
+mod simulation_report;
 mod site_error;
 #[cfg(test)]
 mod tests;

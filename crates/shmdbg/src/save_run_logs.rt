@@ -10,7 +10,7 @@ use std::alloc::{AllocError, Global};
 use std::fs::OpenOptions;
 use std::rt::Files;
 
-/// Why no log can be saved.
+/// Why no log, or no outcome's script, can be saved.
 #[derive(Drop)]
 pub enum Unlogged {
     /// An allocation was refused.
@@ -39,6 +39,11 @@ fn open_log<R: AllocGlobal + Files>(rt: &R, folder: &str, site: u32) -> Result<(
     let Ok(name) = name_of(rt.alloc(), folder, site) else {
         return Err(Unlogged::OutOfMemory);
     };
+    open_file(rt, name)
+}
+
+/// Opens the file of this name, and makes it where it isn't there; what it has stays.
+pub(crate) fn open_file<R: AllocGlobal + Files>(rt: &R, name: String) -> Result<(), Unlogged> {
     let opened = OpenOptions::new()
         .append(true)
         .create(true)

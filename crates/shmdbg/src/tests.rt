@@ -11,6 +11,7 @@ mod runs;
 mod saved_run_logs;
 mod script_files;
 mod seals;
+mod simulations;
 mod sites;
 
 use crate::dispatch_command::run_words;

@@ -18,6 +18,7 @@ pub(crate) fn command<'a>(alloc: Global) -> Result<Command<'a>, AllocError>
     bare_command(alloc)
         .subcommand(replay_command(alloc)?)?
         .subcommand(run_command(alloc)?)?
+        .subcommand(simulate_command(alloc)?)?
         .subcommand(prompt_command(alloc))?
         .subcommand(draw_command(alloc)?)?
         .subcommand(site_command(alloc)?)?
@@ -57,6 +58,22 @@ fn run_command<'a>(alloc: Global) -> Result<Command<'a>, AllocError>
         .arg(seed_arg(alloc))?
         .arg(summary_arg(alloc))?
         .arg(log_arg(alloc))
+}
+
+fn simulate_command<'a>(alloc: Global) -> Result<Command<'a>, AllocError>
+    ensures app { IfOk result (λ c. app_of c ≡ spec.simulate_app) }
+    ensures local { IfOk result (λ c. (out-Command c).has_globals ≡ false) }
+{
+    Command::new(alloc, "simulate")
+        .about("Run the workload on standard input over and over, and count its outcomes")
+        .after_help(help::SIMULATE)
+        .arg(sites_arg(alloc))?
+        .arg(first_seed_arg(alloc))?
+        .arg(runs_arg(alloc))?
+        .arg(lose_arg(alloc))?
+        .arg(repeat_arg(alloc))?
+        .arg(restart_arg(alloc))?
+        .arg(keep_arg(alloc))
 }
 
 fn prompt_command<'a>(alloc: Global) -> Command<'a>
@@ -168,6 +185,79 @@ fn seed_arg<'a>(alloc: Global) -> Arg<'a>
         .required(true)
         .action(ArgAction::Set)
         .value_parser(value_parser!(u32))
+}
+
+fn first_seed_arg<'a>(alloc: Global) -> Arg<'a>
+    ensures rule { rule_of result ≡ spec.seed_rule }
+    ensures local { result.global ≡ false }
+{
+    Arg::new(alloc, "seed")
+        .long("seed")
+        .value_name("S")
+        .help("The seed of the first run; each further run has the next")
+        .required(true)
+        .action(ArgAction::Set)
+        .value_parser(value_parser!(u32))
+}
+
+fn runs_arg<'a>(alloc: Global) -> Arg<'a>
+    ensures rule { rule_of result ≡ spec.runs_rule }
+    ensures local { result.global ≡ false }
+{
+    Arg::new(alloc, "runs")
+        .long("runs")
+        .value_name("M")
+        .help("How many runs, from 1 on")
+        .required(true)
+        .action(ArgAction::Set)
+        .value_parser(value_parser!(u32).range(1..=4294967295))
+}
+
+fn lose_arg<'a>(alloc: Global) -> Arg<'a>
+    ensures rule { rule_of result ≡ spec.lose_rule }
+    ensures local { result.global ≡ false }
+{
+    Arg::new(alloc, "lose")
+        .long("lose")
+        .value_name("P")
+        .help("Of 100 messages that would arrive, so many are lost")
+        .action(ArgAction::Set)
+        .value_parser(value_parser!(u32).range(0..=100))
+}
+
+fn repeat_arg<'a>(alloc: Global) -> Arg<'a>
+    ensures rule { rule_of result ≡ spec.repeat_rule }
+    ensures local { result.global ≡ false }
+{
+    Arg::new(alloc, "repeat")
+        .long("repeat")
+        .value_name("P")
+        .help("Of 100 messages that arrive, so many do once more")
+        .action(ArgAction::Set)
+        .value_parser(value_parser!(u32).range(0..=100))
+}
+
+fn restart_arg<'a>(alloc: Global) -> Arg<'a>
+    ensures rule { rule_of result ≡ spec.restart_rule }
+    ensures local { result.global ≡ false }
+{
+    Arg::new(alloc, "restart")
+        .long("restart")
+        .value_name("P")
+        .help("Of 100 events so many are restarts of a site")
+        .action(ArgAction::Set)
+        .value_parser(value_parser!(u32).range(0..=100))
+}
+
+fn keep_arg<'a>(alloc: Global) -> Arg<'a>
+    ensures rule { rule_of result ≡ spec.keep_rule }
+    ensures local { result.global ≡ false }
+{
+    Arg::new(alloc, "keep")
+        .long("keep")
+        .value_name("DIR")
+        .help("Leave a script of each outcome in this folder, which exists")
+        .action(ArgAction::Set)
 }
 
 fn page_arg<'a>(alloc: Global) -> Arg<'a>

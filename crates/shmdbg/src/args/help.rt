@@ -94,6 +94,29 @@ Exit status: 0 done, 1 the workload has a fault, 2 these words were refused,
 3 memory, reading, writing or a thread failed, or a site's clock ended, 4 the
 run gave up or its audit found a cause.";
 
+/// Of a simulation: what is written.
+pub const SIMULATE: &str = "\
+Runs a workload M times over N sites, without threads: what happens next is
+drawn each time, among the sites' next lines and the messages on their way. The
+lines are those of `shmdbg run`. The draws of run K come from seed S+K, so the
+same words give the same text. With --lose, --repeat and --restart things go
+wrong so often; without them nothing does.
+Output: for each outcome how many runs came to it, the seed of the first of
+them, and the byte of each line that loads; then how often each line faulted
+and was tried, and how many messages and moves of pages there were: the least,
+the median and the greatest of all runs.
+  $ printf 'preset 1\\nstore 0 0 7\\nload 1 0\\n' > my.work
+  $ shmdbg simulate --sites 2 --seed 1 --runs 1000 < my.work | head -6
+  runs 1000
+  outcome 1 count 0 seed 1
+  line 3 byte 0
+A run is given up after 1000 events for each line; `gave up` stands then in
+place of a byte. What no run came to is not therefore impossible.
+With --keep DIR, the folder DIR has a script of the first run of each outcome,
+as outcome-1.shm and so on, for `shmdbg replay` and `shmdbg draw`.
+Exit status: 0 done, 1 the workload has a fault, 2 these words were refused,
+3 memory, reading or writing failed, or a script can't be saved.";
+
 /// Of a site as a process.
 pub const SITE: &str = "\
 Reads lines from standard input, and writes those of its site: envelopes for

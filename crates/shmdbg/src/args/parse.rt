@@ -5,6 +5,7 @@ ghost use Rattle.shmdbg.specs.Words.{fault_in, is_among, IsAsked};
 
 use crate::args::check_site::look_for_site;
 use crate::args::command_definitions::command;
+use crate::args::simulation_options::simulate_task;
 use crate::args::task::Task;
 use crate::args::task_from_options::{
     audit_task, draw_task, journal_task, replay_task, run_task, site_task,
@@ -52,6 +53,9 @@ fn task_of<'a>(alloc: Global, name: &str, found: &ArgMatches<'a>) -> Option<Task
     }
     if name == "run" {
         return run_task(found);
+    }
+    if name == "simulate" {
+        return simulate_task(found);
     }
     if name == "draw" {
         return draw_task(found);

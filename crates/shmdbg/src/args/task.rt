@@ -1,4 +1,5 @@
 use crate::args::seal_words::SealWords;
+use crate::args::simulation_words::Simulation;
 use shm_place::{PageId, SiteId, Sites};
 
 /// The task that the words behind the program's name ask for.
@@ -16,6 +17,8 @@ pub enum Task<'a> {
         summary: bool,
         log: Option<&'a str>,
     },
+    /// Run the workload on standard input over and over, without threads, and tell the outcomes.
+    Simulate(Simulation<'a>),
     /// Answer what is typed, line by line.
     Prompt,
     /// Draw the run that a script leaves, which lies in a file, or else stands on standard input: what is about this page, or each page that

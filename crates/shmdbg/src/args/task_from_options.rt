@@ -37,7 +37,7 @@ fn is_set(found: &ArgMatches<'_>, option: &str) -> bool
 }
 
 /// The number that is written for an option.
-fn number(found: &ArgMatches<'_>, option: &str) -> Option<u32>
+pub(crate) fn number(found: &ArgMatches<'_>, option: &str) -> Option<u32>
     ensures { IfSome result (λ number. number_at option.now (rows_of (found_of found.now)) ≡ Some number) }
 {
     if is_plain_at(found, option) {

@@ -56,6 +56,10 @@ fn are_plain(found: &ArgMatches<'_>) -> bool
         && is_plain_at(found, "page")
         && is_plain_at(found, "me")
         && is_plain_at(found, "preset")
+        && is_plain_at(found, "runs")
+        && is_plain_at(found, "lose")
+        && is_plain_at(found, "repeat")
+        && is_plain_at(found, "restart")
 }
 
 /// Checks that what is written for an option is spelled plainly.
@@ -150,12 +154,14 @@ pub fn spelling_error(alloc: Global, matches: &ArgMatches<'_>) -> Result<Error, 
 
 /// The first of the options whose numbers aren't spelled plainly.
 fn option_of_error(found: &ArgMatches<'_>) -> &'static str {
-    for option in ["sites", "seed", "page", "me"] {
+    for option in [
+        "sites", "seed", "page", "me", "preset", "runs", "lose", "repeat",
+    ] {
         if !is_plain_at(found, option) {
             return option;
         }
     }
-    "preset"
+    "restart"
 }
 
 /// The first of an option's values that isn't spelled plainly.

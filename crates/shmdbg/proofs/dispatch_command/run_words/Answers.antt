@@ -2,7 +2,7 @@ use Rattle.std.proofs.Common.{rules, codes, ◌≢◌, [], map, inl, inr, subst,
 use Rattle.shm_journal.specs.Acts.{Did}
 use Rattle.shmdbg.specs.Around.{streams}
 use Rattle.shmdbg.specs.Status.{Asks}
-use Rattle.shmdbg.proofs.Asked.{asked_audit, audit_asked, one_of_asked}
+use Rattle.shmdbg.proofs.Asked.{asked_audit, asked_simulation, audit_asked, one_of_asked}
 use Rattle.shmdbg.proofs.Plain.{plain_words}
 use Rattle.shmdbg.proofs.Streaming.{did_nothing}
 use Rattle.shmdbg.proofs.dispatch_command.run_words.Goals as goal
@@ -20,6 +20,10 @@ returns-in-Ok-clause-audit g c four =
 pub returns-in-Ok-clause-quiet : goal.returns-in-Ok-clause-quiet
 returns-in-Ok-clause-quiet g c asks =
     c.carry_out.ensures.quiet (asked_audit (map g.S.AsStr.text c.args.words.now) c.in-Ok.task c.in-Ok.ensures.task asks)
+
+pub returns-in-Ok-clause-unsimulated : goal.returns-in-Ok-clause-unsimulated
+returns-in-Ok-clause-unsimulated g c asks =
+    c.carry_out.ensures.unsimulated (asked_simulation (map g.S.AsStr.text c.args.words.now) c.in-Ok.task c.in-Ok.ensures.task asks)
 
 pub returns-in-Err-clause-plain : goal.returns-in-Err-clause-plain
 returns-in-Err-clause-plain g c name e =

@@ -1,7 +1,7 @@
 use Rattle.std.proofs.Common.{ap, ap₂, ◌≡◌, ◌∙◌}
 use Rattle.std.proofs.lemmas.Result.{IfOk-weaker}
 use Rattle.clap.specs.Words.{App, app_of, with_subcommand}
-use Rattle.shmdbg.specs.Commands.{audit_app, bare_app, draw_app, prompt_app, replay_app, run_app, site_app}
+use Rattle.shmdbg.specs.Commands.{audit_app, bare_app, draw_app, prompt_app, replay_app, run_app, simulate_app, site_app}
 use Rattle.shmdbg.proofs.args.command_definitions.command.Goals as goal
 
 pub returns : goal.returns
@@ -10,20 +10,24 @@ returns c =
     c.in_ok-subcommand.ensures.shape c.in_ok-replay_command.ensures.local ∙ ap₂ with_subcommand c.bare_command.ensures.app (ap (λ (a : App). a.top) c.in_ok-replay_command.ensures.app) in
     let with_run : app_of c.in_ok-subcommand-2.field-0 ≡ with_subcommand (with_subcommand bare_app replay_app.top) run_app.top =
     c.in_ok-subcommand-2.ensures.shape c.in_ok-run_command.ensures.local ∙ ap₂ with_subcommand with_replay (ap (λ (a : App). a.top) c.in_ok-run_command.ensures.app) in
-    let with_prompt : app_of c.in_ok-subcommand-3.field-0 ≡ with_subcommand (with_subcommand (with_subcommand bare_app replay_app.top) run_app.top) prompt_app.top =
-    c.in_ok-subcommand-3.ensures.shape c.prompt_command.ensures.local ∙ ap₂ with_subcommand with_run (ap (λ (a : App). a.top) c.prompt_command.ensures.app) in
-    let with_draw :
+    let with_simulate : app_of c.in_ok-subcommand-3.field-0 ≡ with_subcommand (with_subcommand (with_subcommand bare_app replay_app.top) run_app.top) simulate_app.top =
+    c.in_ok-subcommand-3.ensures.shape c.in_ok-simulate_command.ensures.local ∙ ap₂ with_subcommand with_run (ap (λ (a : App). a.top) c.in_ok-simulate_command.ensures.app) in
+    let with_prompt :
     app_of c.in_ok-subcommand-4.field-0
-    ≡ with_subcommand (with_subcommand (with_subcommand (with_subcommand bare_app replay_app.top) run_app.top) prompt_app.top) draw_app.top =
-    c.in_ok-subcommand-4.ensures.shape c.in_ok-draw_command.ensures.local ∙ ap₂ with_subcommand with_prompt (ap (λ (a : App). a.top) c.in_ok-draw_command.ensures.app) in
-    let with_site :
+    ≡ with_subcommand (with_subcommand (with_subcommand (with_subcommand bare_app replay_app.top) run_app.top) simulate_app.top) prompt_app.top =
+    c.in_ok-subcommand-4.ensures.shape c.prompt_command.ensures.local ∙ ap₂ with_subcommand with_simulate (ap (λ (a : App). a.top) c.prompt_command.ensures.app) in
+    let with_draw :
     app_of c.in_ok-subcommand-5.field-0
-    ≡ with_subcommand (with_subcommand (with_subcommand (with_subcommand (with_subcommand bare_app replay_app.top) run_app.top) prompt_app.top) draw_app.top) site_app.top =
-    c.in_ok-subcommand-5.ensures.shape c.in_ok-site_command.ensures.local ∙ ap₂ with_subcommand with_draw (ap (λ (a : App). a.top) c.in_ok-site_command.ensures.app) in
-    let with_audit :
+    ≡ with_subcommand (with_subcommand (with_subcommand (with_subcommand (with_subcommand bare_app replay_app.top) run_app.top) simulate_app.top) prompt_app.top) draw_app.top =
+    c.in_ok-subcommand-5.ensures.shape c.in_ok-draw_command.ensures.local ∙ ap₂ with_subcommand with_prompt (ap (λ (a : App). a.top) c.in_ok-draw_command.ensures.app) in
+    let with_site :
     app_of c.in_ok-subcommand-6.field-0
-    ≡ with_subcommand (with_subcommand (with_subcommand (with_subcommand (with_subcommand (with_subcommand bare_app replay_app.top) run_app.top) prompt_app.top) draw_app.top) site_app.top) audit_app.top =
-    c.in_ok-subcommand-6.ensures.shape c.in_ok-audit_command.ensures.local ∙ ap₂ with_subcommand with_site (ap (λ (a : App). a.top) c.in_ok-audit_command.ensures.app) in
+    ≡ with_subcommand (with_subcommand (with_subcommand (with_subcommand (with_subcommand (with_subcommand bare_app replay_app.top) run_app.top) simulate_app.top) prompt_app.top) draw_app.top) site_app.top =
+    c.in_ok-subcommand-6.ensures.shape c.in_ok-site_command.ensures.local ∙ ap₂ with_subcommand with_draw (ap (λ (a : App). a.top) c.in_ok-site_command.ensures.app) in
+    let with_audit :
+    app_of c.in_ok-subcommand-7.field-0
+    ≡ with_subcommand (with_subcommand (with_subcommand (with_subcommand (with_subcommand (with_subcommand (with_subcommand bare_app replay_app.top) run_app.top) simulate_app.top) prompt_app.top) draw_app.top) site_app.top) audit_app.top =
+    c.in_ok-subcommand-7.ensures.shape c.in_ok-audit_command.ensures.local ∙ ap₂ with_subcommand with_site (ap (λ (a : App). a.top) c.in_ok-audit_command.ensures.app) in
     record {
-      app = IfOk-weaker c.subcommand-7.result _ _ (λ r h. h.shape c.in_ok-journal_command.ensures.local ∙ ap₂ with_subcommand with_audit (ap (λ (a : App). a.top) c.in_ok-journal_command.ensures.app)) c.subcommand-7.ensures;
+      app = IfOk-weaker c.subcommand-8.result _ _ (λ r h. h.shape c.in_ok-journal_command.ensures.local ∙ ap₂ with_subcommand with_audit (ap (λ (a : App). a.top) c.in_ok-journal_command.ensures.app)) c.subcommand-8.ensures;
     }
