@@ -6,7 +6,7 @@ use crate::recalling_input::Source;
 use crate::save_outcome_scripts::save_outcome_scripts;
 use shm_lines::parse_workload;
 use shm_place::Sites;
-use shm_prompt::SaveFile;
+use shm_prompt::{ReadRefusal, SaveFile};
 use shm_report::ReportFault;
 use shm_simulate::{Odds, simulate};
 use std::alloc::Allocator;
@@ -187,9 +187,11 @@ struct Counter {
 }
 
 impl SaveFile for Counter {
-    ghost use Rattle.std.specs.Prelude.{None};
+    ghost use Rattle.std.specs.Prelude.{None, ⊤};
 
     ghost saves = { λ _. None };
+
+    ghost gives = { λ _ _ _. ⊤ };
 
     fn save(&mut self, name: &str, _bytes: &[u8]) -> io::Result<()> {
         if name.starts_with("full") {
@@ -199,8 +201,8 @@ impl SaveFile for Counter {
         Ok(())
     }
 
-    fn read<A: Allocator + Copy>(&self, _alloc: A, _name: &str) -> io::Result<Vec<u8, A>> {
-        Err(io::Error::from(ErrorKind::Other))
+    fn read<A: Allocator + Copy>(&self, _alloc: A, _name: &str) -> Result<Vec<u8, A>, ReadRefusal> {
+        Err(ReadRefusal::Unread)
     }
 }
 
