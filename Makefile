@@ -96,9 +96,9 @@ crashes:
 clients:
 	@clients/try.py --program $(PROGRAM)/out/shmdbg
 
-# The world as a static library for C, C++ and Rust: proves it, leaves clients/core/libleddwyfan.a, and runs the simulators of examples/c and
-# examples/rust over it, whose every answer is compared with a replay: make core SHMDBG=path, or the program that `make build` leaves. Needs
-# a C and a C++ compiler, and rustc; valgrind is left out where it isn't there.
+# Worlds and single sites as a static library for C, C++ and Rust: proves it, leaves clients/core/libleddwyfan.a, and runs the simulators of
+# examples/c and examples/rust over it; every answer of a world is compared with a replay: make core SHMDBG=path, or the program that
+# `make build` leaves. Needs a C and a C++ compiler, and rustc; valgrind is left out where it isn't there.
 SHMDBG ?= $(PROGRAM)/out/shmdbg
 .PHONY: core bench-core
 core:

@@ -14,8 +14,9 @@
  *
  * What is proved, where you keep this: the world behind a handle is that of the definitions (crates/shm_model/specs/World.antt) after the
  * events that were made of it, and each answer is theirs. So each byte that a load gives is the one stored last to its place. A site behind
- * a handle is that of the definitions (crates/shm_model/specs/Step.antt) after its steps, and answers and sends what they say; what your
- * network does is yours. In crates/shm_c/src each function has its contract.
+ * a handle is that of the definitions (crates/shm_model/specs/Step.antt) after its steps, and answers and sends what they say. So single
+ * sites that were made alike make a run of a world, as long as your network hands over only what they sent, unchanged. In crates/shm_c/src
+ * each function has its contract.
  */
 #ifndef LEDDWYFAN_CORE_H
 #define LEDDWYFAN_CORE_H

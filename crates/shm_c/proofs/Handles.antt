@@ -4,12 +4,12 @@ use lib.Dec.{T}
 use seplogic.Ra.Ura.{Ura}
 use mir.Syntax.{ty_ptr}
 use mir.Raw.{raw as bare}
-use mir.Val.{Val, vptr, vstruct, vcons, vnil, of_list, has_ty, WT}
+use mir.Val.{Val, vstruct, vcons, vnil, of_list, has_ty, WT}
 use base.Logic.{SProp, ent, guard, via, guard_i, snd∗, fst∗, never}
 use base.Fml.{Fml}
 use base.Fraction.{full_share}
 use types.Logic.{Logic, sem}
-use types.Kit.{Item, Goal, Seq, Step, step, ‵, given, ◌$◌, move, drop, fsplit, fjoin, fpick, fpack, feq_i, feq_l, use1, learn}
+use types.Kit.{Item, Goal, Seq, Step, step, ‵, given, ◌$◌, drop, fsplit, fjoin, fpick, fpack, feq_i, feq_l, use1, learn}
 use contract.Monad.{fact_use}
 use denote.RattleType.{RattleType, Valss}
 use denote.Builtin.{RawPtr}

@@ -2,3 +2,4 @@ mod Values
 mod Handles
 mod SiteHandles
 mod SeatLemmas
+mod SiteLaws

@@ -1,5 +1,5 @@
 -- Seats after a step, and at the beginning.
-use Rattle.std.proofs.Common.{◌≡◌, ℕ, ◌==◌, Bool, true, false, if◌then◌else◌, List, [], ◌++◌, map, refl, sym, ap, ◌∙◌}
+use Rattle.std.proofs.Common.{◌≡◌, ℕ, ◌==◌, Bool, true, false, if◌then◌else◌, [], ◌++◌, map, refl, sym, ap, ◌∙◌}
 use Rattle.std.specs.Prelude.{Vec, Option, Some, None}
 use Rattle.std.specs.declared.alloc.Global.{Global}
 use Rattle.shm_model.specs.Opening.{opening_of, opening_with}
@@ -10,7 +10,7 @@ use Rattle.shm_model.specs.declared.world_opening.Opening.{Opening}
 use Rattle.shm_parts.specs.Message.{envelope_of}
 use Rattle.shm_parts.specs.Outbox.{AddedTo}
 use Rattle.shm_parts.specs.declared.message.Envelope.{Envelope}
-use Rattle.shm_site.specs.Site.{Makes, SameSeat, StepsTo, Unchanged, site_of}
+use Rattle.shm_site.specs.Site.{StepsTo, Unchanged, site_of}
 use Rattle.shm_c.specs.Openings.{numbered_opening}
 use Rattle.shm_c.specs.Seat.{Seat, begun_seat, seat_of}
 use Rattle.shm_c.specs.SiteSteps.{seat_after}

@@ -8,3 +8,4 @@ pub mod Openings
 pub mod Seat
 pub mod SiteNumbers
 pub mod SiteSteps
+pub mod SiteOf

@@ -1,5 +1,5 @@
 -- Answers and replies, as numbers.
-use Rattle.std.specs.Prelude.{ℕ, Bool, false, true, Option, None, Some}
+use Rattle.std.specs.Prelude.{ℕ, false, true, Option, None, Some}
 use Rattle.shm_model.specs.declared.answer.Answer.{Answer}
 use Rattle.shm_model.specs.declared.answer.Answer.TheVariants.{Byte, Stored, Fault, Waiting, Began, Replied, Took, Dropped, Refused}
 use Rattle.shm_model.specs.declared.call.Reply.{Reply}

@@ -1,6 +1,5 @@
 -- Envelopes and what worlds show of pages, as numbers.
 use Rattle.std.specs.Prelude.{ℕ, Bool, false, true, Option, None, Some}
-use Rattle.shm_place.specs.declared.page_id.PageId.{PageId}
 use Rattle.shm_model.specs.declared.answer.Access.{Access}
 use Rattle.shm_model.specs.declared.answer.Access.TheVariants as access
 use Rattle.shm_model.specs.declared.answer.Shown.{Shown}

@@ -12,6 +12,7 @@ mod segment_calls;
 mod site_events;
 mod site_handle;
 mod site_inspect;
+pub mod site_laws;
 mod site_make_and_free;
 mod site_messages;
 mod site_outcome;
