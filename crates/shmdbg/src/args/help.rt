@@ -98,18 +98,20 @@ run gave up or its audit found a cause.";
 pub const SIMULATE: &str = "\
 Runs a workload M times over N sites, without threads: what happens next is
 drawn each time, among the sites' next lines and the messages on their way. The
-lines are those of `shmdbg run`. The draws of run K come from seed S+K, so the
-same words give the same text. With --lose, --repeat and --restart things go
-wrong so often; without them nothing does.
+lines are those of `shmdbg run`. The first run's draws come from seed S, the
+next one's from S+1, so the same words give the same text. With --lose, --repeat
+and --restart things go wrong so often; without them nothing does.
 Output: for each outcome how many runs came to it, the seed of the first of
-them, and the byte of each line that loads; then how often each line faulted
-and was tried, and how many messages and moves of pages there were: the least,
-the median and the greatest of all runs.
-  $ printf 'preset 1\\nstore 0 0 7\\nload 1 0\\n' > my.work
-  $ shmdbg simulate --sites 2 --seed 1 --runs 1000 < my.work | head -6
+them, and the byte of each line that loads; then how often each line faulted and
+waited, and how many messages and moves of pages there were: the least, the
+median and the greatest of all runs.
+  $ printf 'preset 1\\nstore 0 0 7\\nload 1 0\\n' |
+    shmdbg simulate --sites 2 --seed 1 --runs 1000 | head -5
   runs 1000
-  outcome 1 count 0 seed 1
+  outcome 1 count 98 seed 1
   line 3 byte 0
+  outcome 2 count 902 seed 2
+  line 3 byte 7
 A run is given up after 1000 events for each line; `gave up` stands then in
 place of a byte. What no run came to is not therefore impossible.
 With --keep DIR, the folder DIR has a script of the first run of each outcome,
