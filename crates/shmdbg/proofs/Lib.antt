@@ -6,6 +6,7 @@ mod Streaming
 mod NotAccepted
 mod SimulationLemmas
 mod KeptLemmas
+mod PlayedLemmas
 mod Unbegun
 mod Unsealed
 pub mod Untold

@@ -1,6 +1,6 @@
 //! The scripts of a simulation's outcomes, as files.
 ghost use Rattle.std.specs.Prelude.{◌≡◌, ◌≤◌, IfErr, IfOk, OnOk, string_bytes};
-ghost use Rattle.shm_debug.specs.Standing.{standing};
+ghost use Rattle.shm_debug.specs.Standing.{standing, with_event};
 ghost use Rattle.shm_model.specs.World as model;
 ghost use Rattle.shm_prompt.specs.Saved.{Replays};
 ghost use Rattle.shm_prompt.specs.Saves.{Adds, Whole};
@@ -120,9 +120,19 @@ fn play_again(
 {
     let mut session = Session::new(alloc, Opening::preset(sites, pages))?;
     'events: for event in events {
-        session.apply(*event)?;
+        happen(&mut session, *event)?;
     }
     Ok(session)
+}
+
+/// Makes one more event.
+fn happen(session: &mut Session, event: Event) -> Result<(), AllocError>
+    ensures { OnOk result (session.new ≡ with_event session.old event) }
+{
+    match session.apply(event) {
+        Ok(_) => Ok(()),
+        Err(_) => Err(AllocError),
+    }
 }
 
 /// What a refused script is told as. The events of a run are fewer than a script has lines, and each has a line.
