@@ -464,7 +464,7 @@ fn a_dialog_runs_out_of_memory(rt: HostRuntime) -> Result<(), Fail> {
     let (whole, text, _files) = type_at_once(rt.alloc(), bytes);
     assert_eq!(rt; whole, Ok(()));
     let mut done = false;
-    for step in 1..2000usize {
+    for step in 1..6000usize {
         let heap = LocalHeap::new(rt.alloc(), step * 64)?;
         let mut reader = bytes;
         let mut told = Vec::new(rt.alloc());
