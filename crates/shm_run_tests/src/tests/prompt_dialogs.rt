@@ -460,7 +460,7 @@ fn one_call_of_a_dialog_fails(rt: HostRuntime) -> Result<(), Fail> {
 #[test]
 fn a_dialog_runs_out_of_memory(rt: HostRuntime) -> Result<(), Fail> {
     let bytes =
-        b"sites 2 preset 1\nload 1 0 0\nflight\nbook 0 0\nrun\nsites\nsegments\nload 9 0 0\nloud\nload 01\nrun 01\nundo\nhelp\n".as_slice();
+        b"sites 2 preset 1\nload 1 0 0\nflight\nbook 0 0\nrun\nsites\nsegments\nload 9 0 0\nloud\nload 01\nrun 01\nundo\nnote a\nnotes n\nopen early\nnote b\nhelp\n".as_slice();
     let (whole, text, _files) = type_at_once(rt.alloc(), bytes);
     assert_eq!(rt; whole, Ok(()));
     let mut done = false;
