@@ -212,7 +212,7 @@ def run_three_sites(options, broker, folder):
 def run_counters(options, broker, folder):
     """The two counters, of which one is in C."""
     counter = os.path.join(folder, 'counter')
-    sources = [os.path.join(CLIENTS, 'c', name) for name in ('counter.c', 'leddwyfan.c')]
+    sources = [os.path.join(CLIENTS, 'c', name) for name in ('counter.c', 'leddwyfan.c', 'seal.c')]
     subprocess.run(['cc', '-std=c11', '-O2', '-pthread', '-o', counter, *sources], check=True)
     commands = ([counter], [sys.executable, os.path.join(CLIENTS, 'python', 'counter.py')])
     journals = [os.path.join(folder, f'counter-{me}.journal') for me in range(2)]
