@@ -2,6 +2,8 @@ mod beyond;
 mod blocks;
 mod exchanges;
 mod full_heap;
+mod mapped_lines;
+mod mappings;
 mod process;
 mod wire;
 mod writes;
@@ -47,7 +49,7 @@ fn take_line<A: Allocator + Copy>(
 
 /// What is said of a step of an ask that waited.
 fn said_again<A: Allocator + Copy>(again: Option<Again<A>>) -> Option<Said<A>> {
-    let Again { said, ask: _ } = again?;
+    let Again { said, line: _ } = again?;
     Some(said)
 }
 

@@ -1,11 +1,13 @@
 //! A caller's ask of a site, under a tag of its own.
+use crate::display_envelope::KindWord;
 use crate::tag::Tag;
 use shm_lines::RequestWords;
-use shm_model::{Asked, Request};
+use shm_model::{Asked, Kind, Request};
 use shm_place::{PageId, SiteId};
 use std::fmt;
 
-/// A caller's question to a site: each event that a site can be made to have, a block of loads, and the state of a page.
+/// A caller's question to a site: each event that a site can be made to have, a block of loads, a mapping, and the state of a page or of
+/// what is mapped.
 #[derive(Clone, Copy, Debug, PartialEq, Eq)]
 pub enum Question {
     /// It waits for its right.
@@ -18,6 +20,10 @@ pub enum Question {
     Begin(Request),
     Tick,
     Show(PageId),
+    /// The page with this index in the attachment's segment is to be mapped into the memory of the site's machine. It waits for its right.
+    Map { at: u32, index: u32, kind: Kind },
+    /// What is mapped.
+    Mappings,
 }
 
 /// A caller's ask of a site.
@@ -64,6 +70,8 @@ impl fmt::Display for Question {
             Question::Begin(request) => write!(f, "{}", RequestWords(*request)),
             Question::Tick => write!(f, "tick"),
             Question::Show(page) => write!(f, "show {} {}", page.seg.0, page.index),
+            Question::Map { at, index, kind } => write!(f, "map {at} {index} {}", KindWord(*kind)),
+            Question::Mappings => write!(f, "mappings"),
         }
     }
 }

@@ -1,5 +1,6 @@
 use crate::ask::Ask;
 use crate::sent::Sent;
+use crate::unmap_ask::UnmapAsk;
 use crate::write_ask::WriteAsk;
 use std::alloc::{Allocator, Global};
 
@@ -12,4 +13,6 @@ pub enum Line<A: Allocator + Copy = Global> {
     Ask(Ask),
     /// Bytes that a caller asks to be stored.
     Write(WriteAsk<A>),
+    /// A mapping that a caller gives up, or whose bytes it brings.
+    Unmap(UnmapAsk<A>),
 }
