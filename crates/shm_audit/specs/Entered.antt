@@ -34,6 +34,7 @@ abbrev pub handed : ℕ → Cause → Option Handed
 handed me (OfLine (stream.Envelope sent)) = Some (delivered sent)
 handed me (OfLine (stream.Ask ask)) = asked_here me ask
 handed me (OfLine (stream.Write write)) = None
+handed me (OfLine (stream.Unmap unmap)) = None
 handed me OfRestart = Some (unsent Restart)
 
 -- ---- the box

@@ -27,7 +27,7 @@ pub(crate) fn handed_input<A: Allocator + Copy>(me: SiteId, cause: Cause<A>) -> 
     match cause {
         Cause::Line(Line::Envelope(sent)) => Some(delivered_input(sent)),
         Cause::Line(Line::Ask(ask)) => asked_input(me, ask),
-        Cause::Line(Line::Write(_)) => None,
+        Cause::Line(Line::Write(_) | Line::Unmap(_)) => None,
         Cause::Restart => Some(unsent_input(Input::Restart)),
     }
 }

@@ -6,16 +6,17 @@ use Rattle.std.proofs.lemmas.List.Elements.{All-head, All-nil, All-tail}
 use Rattle.shm_lines.proofs.StepLemmas.{some-is}
 use Rattle.shm_wire.proofs.LineWords.{line-is_spelled}
 use Rattle.shm_wire.specs.Line as stream
-use Rattle.shm_wire.specs.Line.{read_line}
+use Rattle.shm_model.specs.declared.asked_access.Asked.{Asked}
+use Rattle.shm_wire.specs.Line.{IsLine, read_line}
 use Rattle.shm_process.proofs.Proper as proper
 use Rattle.shm_process.proofs.Proper.{IsProper}
 use Rattle.shm_process.specs.Cause.{IsCause, OfLine, cause_text}
 use Rattle.shm_process.specs.Desk.{max_line_bytes}
 use Rattle.shm_process.specs.Node.{Heard, Node, Said, heard, is_late, says}
 use Rattle.shm_process.specs.Recorded.{Entry, Event, Line, TooLong, Again, Restarted, IsEntry, after_event, after_events, entries_of, entry_line, entry_of, kept, recorded, said_at}
-use Rattle.shm_process.specs.Waiting.{joins, next_line, ready, said_read, said_restart, says_at}
-use Rattle.shm_process.specs.WaitingAsks.{ask_in, next_access, tag_of}
-use Rattle.shm_journal.proofs.Fits.{Fits, fits-access, fits-entry, fits-restart}
+use Rattle.shm_process.specs.Waiting.{joins, line_if, next_line, ready, said_read, said_restart, says_at}
+use Rattle.shm_process.specs.WaitingAsks.{Access, Maps, Reads, Unmaps, WaitingAsk, Writes, ask_in, is_last, next_access, tag_of}
+use Rattle.shm_journal.proofs.Fits.{Fits, fits-access, fits-entry, fits-map, fits-restart, fits-unmap}
 use Rattle.shm_journal.specs.Found.{max_journal_line, opened}
 use Rattle.shm_journal.specs.Lines.{Header}
 use Rattle.shm_journal.specs.Lives.{IsTaken, after_lives}
@@ -44,12 +45,22 @@ read-text node bytes (Some line) said e fits made =
     subst (λ c. Fits max_line_bytes (cause_text c)) (line-cause node line (heard node line) said made)
     (subst (Fits max_line_bytes) ((line-is_spelled bytes line e).1) fits)
 
+-- the line of an ask's next step alone
+line-fits : (last : Bool) (me : ℕ) (ask : WaitingAsk) (asked : Asked) → IsLine (line_if last me ask asked) → Fits max_line_bytes (stream.line_text (line_if last me ask asked))
+line-fits false me ask asked is = fits-access me (tag_of ask) asked is
+line-fits true me (Access tag access) asked is = fits-access me tag asked is
+line-fits true me (Reads block) asked is = fits-access me block.tag asked is
+line-fits true me (Writes write) asked is = fits-access me write.tag asked is
+line-fits true me (Maps map) asked is = fits-map me map.tag map.at map.index map.kind is
+line-fits true me (Unmaps unmap) asked is = fits-unmap me unmap.tag unmap.at unmap.index unmap.keeps is
+
 again-text : (node : Node) (p : Option ℕ) (said : Said) → option_map (says_at node) p ≡ Some said → IsCause said.cause → TextFits said
 again-text node None said made is = absurd (cc)
 again-text node (Some at) said made is =
     let ask = ask_in node.waiting at in
-    let cause : OfLine (next_line node.me ask) ≡ said.cause = ap (λ (s : Said). s.cause) (some-is (says_at node at) said made) in
-    subst (λ c. Fits max_line_bytes (cause_text c)) cause (fits-access node.me (tag_of ask) (next_access ask) (subst IsCause (sym cause) is))
+    let cause : OfLine (next_line node ask) ≡ said.cause = ap (λ (s : Said). s.cause) (some-is (says_at node at) said made) in
+    subst (λ c. Fits max_line_bytes (cause_text c)) cause
+    (line-fits (is_last node.sites node.site ask) node.me ask (next_access node.sites node.site ask) (subst IsCause (sym cause) is))
 
 restart-text : (node : Node) (late : Bool) (said : Said) → cond late None (Some (said_restart node)) ≡ Some said → TextFits said
 restart-text node true said made = absurd (cc)

@@ -17,9 +17,14 @@ use Rattle.shm_lines.proofs.NumberLemmas.{digit_at}
 use Rattle.shm_lines.specs.Words.{IsNumber, IsWide}
 use Rattle.shm_model.specs.declared.asked_access.Asked.{Asked}
 use Rattle.shm_model.specs.declared.asked_access.Asked.TheVariants.{Load, Store}
+use Rattle.shm_model.specs.declared.request_kind.Kind.{Kind}
+use Rattle.shm_model.specs.declared.request_kind.Kind.TheVariants.{Read, Write}
 use Rattle.shm_wire.specs.Asks.{IsAsk}
 use Rattle.shm_wire.specs.Line as stream
 use Rattle.shm_wire.specs.Tag.{IsTag}
+use Rattle.shm_wire.specs.Unmaps.{IsUnmap}
+use Rattle.shm_wire.specs.Words.{kind_word}
+use Rattle.shm_wire.specs.declared.caller_ask.Question.TheVariants.{Map}
 use Rattle.shm_process.specs.Access.{access_ask}
 use Rattle.shm_process.specs.Cause.{cause_text}
 use Rattle.shm_process.specs.Desk.{max_line_bytes}
@@ -147,6 +152,57 @@ fits-access me tag (Store at offset byte) h =
     (fits-word 5 63 (codes "store") _ (fits-text (codes "store") refl)
     (fits-word 20 42 (decimal at) _ (fits-number at h.2.0)
     (fits-word 20 21 (decimal offset) _ (fits-number offset h.2.1) (fits-more 20 21 (decimal byte) (omega arith) (fits-number byte small)))))))
+    )
+
+-- what asks for a page to be mapped
+fits-kind : (kind : Kind) → Fits 5 (kind_word kind)
+fits-kind Read = fits-more 4 5 (codes "read") (omega arith) (fits-text (codes "read") refl)
+fits-kind Write = fits-text (codes "write") refl
+
+pub fits-map : (me : ℕ) (tag : List ℕ) (at index : ℕ) (kind : Kind) → IsAsk (record { site = me; tag = tag; asked = Map at index kind })
+    → Fits max_line_bytes (stream.line_text (stream.Ask (record { site = me; tag = tag; asked = Map at index kind })))
+fits-map me tag at index kind h =
+    fits-more 110 max_line_bytes _ (omega arith)
+    (
+    fits-word 3 106 (codes "ask") _ (fits-text (codes "ask") refl)
+    (fits-word 20 85 (decimal me) _ (fits-number me h.0)
+    (fits-word 32 52 tag _ (fits-tag tag h.1)
+    (fits-word 3 48 (codes "map") _ (fits-text (codes "map") refl)
+    (fits-word 20 27 (decimal at) _ (fits-number at h.2.0)
+    (fits-word 20 6 (decimal index) _ (fits-number index h.2.1) (fits-more 5 6 (kind_word kind) (omega arith) (fits-kind kind)))))))
+    )
+
+-- what gives a page up, or brings its bytes, once they are stored
+pub fits-unmap : (me : ℕ) (tag : List ℕ) (at index : ℕ) (keeps : Option Kind) → IsUnmap (record { site = me; tag = tag; at = at; index = index; keeps = keeps; runs = [] })
+    → Fits max_line_bytes (stream.line_text (stream.Unmap (record { site = me; tag = tag; at = at; index = index; keeps = keeps; runs = [] })))
+fits-unmap me tag at index None h =
+    fits-more 120 max_line_bytes _ (omega arith)
+    (
+    fits-word 3 116 (codes "ask") _ (fits-text (codes "ask") refl)
+    (fits-word 20 95 (decimal me) _ (fits-number me h.0)
+    (fits-word 32 62 tag _ (fits-tag tag h.1)
+    (fits-word 5 56 (codes "unmap") _ (fits-text (codes "unmap") refl)
+    (fits-word 20 35 (decimal at) _ (fits-number at h.2)
+    (fits-word 20 14 (decimal index) _ (fits-number index h.3) (fits-more 4 14 (codes "none") (omega arith) (fits-text (codes "none") refl)))))))
+    )
+fits-unmap me tag at index (Some Read) h =
+    fits-more 120 max_line_bytes _ (omega arith)
+    (
+    fits-word 3 116 (codes "ask") _ (fits-text (codes "ask") refl)
+    (fits-word 20 95 (decimal me) _ (fits-number me h.0)
+    (fits-word 32 62 tag _ (fits-tag tag h.1)
+    (fits-word 5 56 (codes "unmap") _ (fits-text (codes "unmap") refl)
+    (fits-word 20 35 (decimal at) _ (fits-number at h.2)
+    (fits-word 20 14 (decimal index) _ (fits-number index h.3) (fits-more 4 14 (codes "read") (omega arith) (fits-text (codes "read") refl)))))))
+    )
+fits-unmap me tag at index (Some Write) h =
+    fits-more 120 max_line_bytes _ (omega arith)
+    (
+    fits-word 3 116 (codes "ask") _ (fits-text (codes "ask") refl)
+    (fits-word 20 95 (decimal me) _ (fits-number me h.0)
+    (fits-word 32 62 tag _ (fits-tag tag h.1)
+    (fits-word 4 57 (codes "sync") _ (fits-text (codes "sync") refl)
+    (fits-word 20 36 (decimal at) _ (fits-number at h.2) (fits-more 20 36 (decimal index) (omega arith) (fits-number index h.3))))))
     )
 
 pub fits-restart : Fits max_line_bytes (codes "restart")

@@ -9,7 +9,8 @@ use Rattle.std.proofs.lemmas.Slice.Eq.{bytes_eq-Decides}
 use Rattle.shm_process.specs.Node.{Heard, Node, next_clock, stepped}
 use Rattle.shm_process.specs.Recorded.{Entry}
 use Rattle.shm_process.specs.NodeOf.{node_of}
-use Rattle.shm_process.specs.Waiting.{heard_again, replayed_heard}
+use Rattle.shm_process.specs.Waiting.{heard_again, mapped_again, replayed_heard}
+use Rattle.shm_wire.specs.declared.mapping_text.Mapping.{Mapping}
 use Rattle.shm_journal.specs.Found.{Found, Sound, Foreign, Bad, Lines, bytes_of_lines, found, found_behind, found_from, found_in, is_empty, is_long, lines_behind, lines_of, max_journal_line, next_found, not_own, opened, own, replayed_entry, replayed_line, then_found, unless_long, with_line}
 use Rattle.shm_journal.specs.HeaderOf.{header_of}
 use Rattle.shm_journal.specs.Leading.{Leads}
@@ -30,18 +31,20 @@ use Rattle.shm_journal.proofs.Leading.{first_breaks, first_lacks, first_leads, f
 
 -- ---- each entry is a step
 
-test-steps : (node after : Node) (heard : Heard) (b : Bool) → cond b (Some (stepped node heard)) None ≡ Some after → after.steps ≡ node.steps + 1
-test-steps node after heard true h = let e : stepped node heard ≡ after = cc in sym (ap (λ (n : Node). n.steps) e)
-test-steps node after heard false h = absurd (cc)
+test-steps : (node next after : Node) (b : Bool) → next.steps ≡ node.steps + 1 → cond b (Some next) None ≡ Some after → after.steps ≡ node.steps + 1
+test-steps node next after true one h = let e : next ≡ after = cc in sym (ap (λ (n : Node). n.steps) e) ∙ one
+test-steps node next after false one h = absurd (cc)
 
-heard-steps : (node after : Node) (clock : ℕ) (heard : Option Heard) → replayed_heard node clock heard ≡ Some after → after.steps ≡ node.steps + 1
-heard-steps node after clock None h = absurd (cc)
-heard-steps node after clock (Some heard) h = test-steps node after heard (next_clock node heard.source == clock) h
+heard-steps : (node after : Node) (clock : ℕ) (mapped : List Mapping) (heard : Option Heard) → replayed_heard node clock mapped heard ≡ Some after
+    → after.steps ≡ node.steps + 1
+heard-steps node after clock mapped None h = absurd (cc)
+heard-steps node after clock mapped (Some heard) h =
+    test-steps node (record (stepped node heard) { mapped = mapped }) after (next_clock node heard.source == clock) refl h
 
 entry-steps : (node after : Node) (entry : Option Entry) → replayed_entry node entry ≡ Some after → after.steps ≡ node.steps + 1
 unfolding replayed_entry
 entry-steps node after None h = absurd (cc)
-entry-steps node after (Some entry) h = heard-steps node after entry.clock (heard_again node entry.cause) h
+entry-steps node after (Some entry) h = heard-steps node after entry.clock (mapped_again node entry.cause) (heard_again node entry.cause) h
 
 torn-leads : (number : ℕ) (state node : Node) (b : Bool) → cond b (Bad number) (Sound state) ≡ Sound node → state ≡ node
 torn-leads number state node true h = absurd (cc)

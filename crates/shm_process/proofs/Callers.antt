@@ -4,7 +4,8 @@ use Rattle.shm_model.specs.declared.answer.Answer.{Answer}
 use Rattle.shm_model.specs.declared.answer.Answer.TheVariants.{Byte, Stored, Fault, Waiting, Began, Replied, Took, Dropped, Refused}
 use Rattle.shm_process.specs.Access.{is_open}
 use Rattle.shm_process.specs.Node.{caller_after, tag_told}
-use Rattle.shm_process.specs.WaitingAsks.{Access, Reads, Writes, WaitingAsk, goes_on}
+use Rattle.shm_process.specs.Remaps.{Unmap, unmap_goes_on}
+use Rattle.shm_process.specs.WaitingAsks.{Access, Maps, Reads, Unmaps, Writes, WaitingAsk, goes_on}
 use Rattle.shm_process.specs.Writes.{Write}
 use Rattle.shm_process.proofs.WriteLemmas.{GoesOn, goes-on}
 
@@ -29,6 +30,17 @@ writes-callers : (write : Write) (answer : Answer) → GoesOn write answer → i
 writes-callers write answer (inl h) = ap is_callers h.0
 writes-callers write answer (inr h) = open-callers answer h.0
 
+unmaps-callers : (unmap : Unmap) (answer : Answer) → unmap_goes_on unmap answer ≡ true → is_callers answer ≡ true
+unmaps-callers unmap (Byte byte) h = refl
+unmaps-callers unmap Stored h = refl
+unmaps-callers unmap Fault h = refl
+unmaps-callers unmap Waiting h = refl
+unmaps-callers unmap (Began number) h = absurd (cc)
+unmaps-callers unmap (Replied number reply attachment) h = absurd (cc)
+unmaps-callers unmap Took h = refl
+unmaps-callers unmap Dropped h = refl
+unmaps-callers unmap (Refused refusal) h = refl
+
 goes_on-callers : (ask : WaitingAsk) (answer : Answer) → goes_on ask answer ≡ true → is_callers answer ≡ true
 goes_on-callers (Access tag asked) answer h = open-callers answer h
 goes_on-callers (Reads block) (Byte byte) h = refl
@@ -41,6 +53,8 @@ goes_on-callers (Reads block) Took h = refl
 goes_on-callers (Reads block) Dropped h = refl
 goes_on-callers (Reads block) (Refused refusal) h = refl
 goes_on-callers (Writes write) answer h = writes-callers write answer (goes-on write answer h)
+goes_on-callers (Maps map) answer h = open-callers answer h
+goes_on-callers (Unmaps unmap) answer h = unmaps-callers unmap answer h
 
 any-caller : (answer : Answer) (one other caller : Option (List ℕ)) → is_callers answer ≡ true → caller_after one caller answer ≡ caller_after other caller answer
 any-caller (Byte byte) one other caller h = refl

@@ -1,24 +1,29 @@
 -- How far a line raises a node's clock; and that no number of the node is above it, nor one that it sends.
-use Rattle.std.proofs.Common.{◌≡◌, ℕ, suc, ◌+◌, ◌*◌, ◌<◌, ◌≤◌, ◌==◌, ◌||◌, not, nat_le, nat_lt, Bool, true, false, List, [], ◌∷◌, Option, Some, None, length, max, cond, refl, subst, arith}
+use Rattle.std.proofs.Common.{◌≡◌, ℕ, suc, ◌+◌, ◌*◌, ◌<◌, ◌≤◌, ◌==◌, ◌||◌, ◌&&◌, not, nat_le, nat_lt, Bool, true, false, List, [], ◌∷◌, Option, Some, None, length, max, cond, refl, subst, arith}
 use Rattle.std.specs.List.{All}
 use Rattle.std.specs.Prelude.{IfSome, option_map}
 use Rattle.std.specs.Option.{option_map_or}
 use Rattle.std.proofs.lemmas.Bool.Decides.{nat_tests}
 use Rattle.shm_model.specs.Message.{Begin, Deliver, Input, Load, Restart, Store, Tick}
 use Rattle.shm_model.specs.Receipt.{access_of}
+use Rattle.shm_model.specs.Site.{Site}
 use Rattle.shm_model.specs.Step.{foreign, step}
 use Rattle.shm_model.specs.declared.asked_access.Asked.{Asked}
 use Rattle.shm_model.specs.declared.asked_access.Asked.TheVariants as asked
 use Rattle.shm_wire.specs.Line as stream
 use Rattle.shm_wire.specs.Line.{read_line}
 use Rattle.shm_wire.specs.Sent.{Sent}
+use Rattle.shm_wire.specs.Unmaps.{UnmapAsk}
+use Rattle.shm_wire.specs.declared.mapping_text.Mapping.{Mapping}
 use Rattle.shm_wire.specs.declared.caller_ask.Question.{Question}
 use Rattle.shm_wire.specs.declared.caller_ask.Question.TheVariants as question
 use Rattle.shm_process.specs.Cause.{Cause, OfLine, OfRestart}
-use Rattle.shm_process.specs.Node.{Node, Heard, Said, handed, heard, input_asked, is_ahead, is_beyond, is_late, most_ahead, new_node, next_clock, says, stepped, under_tag, waits_for}
+use Rattle.shm_process.specs.Mapped.{first_byte, has_right, is_within}
+use Rattle.shm_process.specs.Remaps.{is_empty}
+use Rattle.shm_process.specs.Node.{Node, Heard, Said, handed, heard, input_asked, is_ahead, is_beyond, is_late, is_lost, is_stopped, is_withheld, most_ahead, new_node, next_clock, says, stepped, under_tag, waits_for}
 use Rattle.shm_process.specs.Numbers.{NumbersWithin, number_named, numbers_fit}
 use Rattle.shm_process.specs.Recorded.{Event, Line, TooLong, Again, Restarted, after_event, after_events, said_at}
-use Rattle.shm_process.specs.Waiting.{after, after_heard, after_read, after_restart, again_at, heard_again, joining, joins, next_heard, ready, replayed, replayed_heard, restarting, said_read, said_restart, says_at}
+use Rattle.shm_process.specs.Waiting.{after, after_heard, after_read, after_restart, again_at, heard_again, input_again, joining, joins, line_again, map_again, mapped_again, next_heard, ready, replayed, replayed_heard, restarting, said_read, said_restart, says_at}
 use Rattle.shm_process.specs.WaitingAsks.{WaitingAsk, ask_in, next_access}
 use Rattle.shm_process.proofs.NumberedRows.{Good}
 use Rattle.shm_process.proofs.NumberedSteps.{InputWithin, good-step, opened-within}
@@ -49,10 +54,10 @@ zero-near clock = omega arith
 
 envelope-heeds : (node : Node) (sent : Sent) (x : Heard) → handed node sent ≡ Some x → Heeds node x
 envelope-heeds node sent x e =
-    let lost = foreign node.sites node.me sent.envelope || (is_late node sent.source.at || is_beyond node sent) in
     let made : Heard = record { input = Deliver sent.envelope; source = sent.source.at; tag = None; waits = None } in
-    let is = unless-some lost (Some made) x e in
-    let own = neither (foreign node.sites node.me sent.envelope) (is_late node sent.source.at || is_beyond node sent) is.0 in
+    let is = unless-some (is_lost node sent || is_withheld node sent) (Some made) x e in
+    let found = neither (is_lost node sent) (is_withheld node sent) is.0 in
+    let own = neither (foreign node.sites node.me sent.envelope) (is_late node sent.source.at || is_beyond node sent) found.0 in
     let early = neither (is_late node sent.source.at) (is_beyond node sent) own.1 in
     let both = neither (is_ahead node sent.source.at) (not (numbers_fit sent.source.at sent.envelope.message)) early.1 in
     subst (Heeds node) (some-is made x is.1)
@@ -73,6 +78,23 @@ asked-number (question.Begin request) = tt
 asked-number question.Tick = tt
 asked-number (question.Show page) = tt
 asked-number question.Health = tt
+asked-number (question.Map at index kind) = tt
+asked-number question.Mappings = tt
+
+map-number : (has : Bool) (at index : ℕ) → IfSome (map_again has at index) (InputWithin 0)
+map-number true at index = tt
+map-number false at index = tt
+
+again-number : (sites : ℕ) (site : Site) (q : Question) → IfSome (input_again sites site q) (InputWithin 0)
+again-number sites site (question.Access a) = access-number 0 a
+again-number sites site (question.Try a) = access-number 0 a
+again-number sites site (question.Read at offset count) = tt
+again-number sites site (question.Begin request) = tt
+again-number sites site question.Tick = tt
+again-number sites site (question.Show page) = tt
+again-number sites site (question.Map at index kind) = map-number (has_right sites site at index kind) at index
+again-number sites site question.Health = tt
+again-number sites site question.Mappings = tt
 
 ask-heeds : (node : Node) (tag : List ℕ) (waits : Option WaitingAsk) (x : Heard) (o : Option Input) (here late : Bool) → IfSome o (InputWithin 0)
     → cond here (cond late None (option_map (under_tag tag waits) o)) None ≡ Some x → Heeds node x
@@ -85,11 +107,29 @@ ask-heeds node tag waits x (Some input) true false number e =
 line-heeds : (node : Node) (line : stream.Line) (x : Heard) → heard node line ≡ Some x → Heeds node x
 line-heeds node (stream.Envelope sent) x e = envelope-heeds node sent x e
 line-heeds node (stream.Write write) x e = absurd (cc)
+line-heeds node (stream.Unmap unmap) x e = absurd (cc)
 line-heeds node (stream.Ask ask) x e =
-    ask-heeds node ask.tag (waits_for ask.tag ask.asked) x (input_asked ask.asked) (ask.site == node.me) (is_late node 0) (asked-number ask.asked) e
+    ask-heeds node ask.tag (waits_for ask.tag ask.asked) x (input_asked ask.asked) (ask.site == node.me) (is_stopped node ask.asked) (asked-number ask.asked) e
 
-next-heeds : (node : Node) (ask : WaitingAsk) → Heeds node (next_heard ask)
-next-heeds node ask = record { near = zero-near node.clock; number = access-number 0 (next_access ask) }
+-- the same of a line whose step was recorded
+unmap-heeds : (node : Node) (unmap : UnmapAsk) (x : Heard) (here stopped : Bool)
+    → cond here (cond stopped None (Some (under_tag unmap.tag None (Load unmap.at (first_byte unmap.index))))) None ≡ Some x → Heeds node x
+unmap-heeds node unmap x false stopped e = absurd (cc)
+unmap-heeds node unmap x true true e = absurd (cc)
+unmap-heeds node unmap x true false e =
+    subst (Heeds node) (some-is (under_tag unmap.tag None (Load unmap.at (first_byte unmap.index))) x e) (record { near = zero-near node.clock; number = tt })
+
+line_again-heeds : (node : Node) (line : stream.Line) (x : Heard) → line_again node line ≡ Some x → Heeds node x
+line_again-heeds node (stream.Envelope sent) x e = envelope-heeds node sent x e
+line_again-heeds node (stream.Write write) x e = absurd (cc)
+line_again-heeds node (stream.Unmap unmap) x e =
+    unmap-heeds node unmap x (unmap.site == node.me) (is_late node 0 || not (is_within unmap.at unmap.index && is_empty unmap.runs)) e
+line_again-heeds node (stream.Ask ask) x e =
+    ask-heeds node ask.tag (waits_for ask.tag ask.asked) x (input_again node.sites node.site ask.asked) (ask.site == node.me) (is_late node 0)
+    (again-number node.sites node.site ask.asked) e
+
+next-heeds : (node : Node) (ask : WaitingAsk) → Heeds node (next_heard node ask)
+next-heeds node ask = record { near = zero-near node.clock; number = access-number 0 (next_access node.sites node.site ask) }
 
 restart-heeds : (node : Node) → Heeds node restarting
 restart-heeds node = record { near = zero-near node.clock; number = tt }
@@ -186,7 +226,7 @@ read-within node (Some line) within = heard-within node (joining node line) (hea
 
 again-within : (node : Node) (p : Option ℕ) → Within node → Within (option_map_or (again_at node) p node)
 again-within node None within = within
-again-within node (Some at) within = (heard-good node (next_heard (ask_in node.waiting at)) (next-heeds node (ask_in node.waiting at)) within).site
+again-within node (Some at) within = (heard-good node (next_heard node (ask_in node.waiting at)) (next-heeds node (ask_in node.waiting at)) within).site
 
 restart-within : (node : Node) (late : Bool) → Within node → Within (cond late node (after_restart node))
 restart-within node true within = within
@@ -204,22 +244,24 @@ new_within sites me pages = opened-within 0 sites pages me
 -- ---- recorded steps
 
 again-heeds : (node : Node) (cause : Cause) (x : Heard) → heard_again node cause ≡ Some x → Heeds node x
-again-heeds node (OfLine line) x e = line-heeds node line x e
+again-heeds node (OfLine line) x e = line_again-heeds node line x e
 again-heeds node OfRestart x e =
     subst (Heeds node) (some-is restarting x (unless-some (is_late node 0) (Some restarting) x e).1) (restart-heeds node)
 
-made-within : (node : Node) (x : Heard) (next : Node) (same : Bool) → Heeds node x → Within node → cond same (Some (stepped node x)) None ≡ Some next → Within next
-made-within node x next true is within e = subst Within (some-is (stepped node x) next e) (heard-good node x is within).site
-made-within node x next false is within e = absurd (cc)
+made-within : (node : Node) (x : Heard) (mapped : List Mapping) (next : Node) (same : Bool) → Heeds node x → Within node
+    → cond same (Some (record (stepped node x) { mapped = mapped })) None ≡ Some next → Within next
+made-within node x mapped next true is within e = subst Within (some-is (record (stepped node x) { mapped = mapped }) next e) (heard-good node x is within).site
+made-within node x mapped next false is within e = absurd (cc)
 
-replay-within : (node : Node) (clock : ℕ) (o : Option Heard) (next : Node) → ((x : Heard) → o ≡ Some x → Heeds node x) → Within node
-    → replayed_heard node clock o ≡ Some next → Within next
-replay-within node clock None next is within e = absurd (cc)
-replay-within node clock (Some x) next is within e = made-within node x next (next_clock node x.source == clock) (is x refl) within e
+replay-within : (node : Node) (clock : ℕ) (mapped : List Mapping) (o : Option Heard) (next : Node) → ((x : Heard) → o ≡ Some x → Heeds node x) → Within node
+    → replayed_heard node clock mapped o ≡ Some next → Within next
+replay-within node clock mapped None next is within e = absurd (cc)
+replay-within node clock mapped (Some x) next is within e = made-within node x mapped next (next_clock node x.source == clock) (is x refl) within e
 
 pub replayed_within : (node : Node) (clock : ℕ) (cause : Cause) (next : Node) → replayed node clock cause ≡ Some next
     → NumbersWithin node.clock node.site → NumbersWithin next.clock next.site
-replayed_within node clock cause next e within = replay-within node clock (heard_again node cause) next (again-heeds node cause) within e
+replayed_within node clock cause next e within =
+    replay-within node clock (mapped_again node cause) (heard_again node cause) next (again-heeds node cause) within e
 
 -- ---- what is sent
 
@@ -240,7 +282,7 @@ again-sends : (node : Node) (p : Option ℕ) (said : Said) → Within node → o
 again-sends node None said within made = absurd (cc)
 again-sends node (Some at) said within made =
     subst SentFits (some-is (says_at node at) said made)
-    (heard-good node (next_heard (ask_in node.waiting at)) (next-heeds node (ask_in node.waiting at)) within).sent
+    (heard-good node (next_heard node (ask_in node.waiting at)) (next-heeds node (ask_in node.waiting at)) within).sent
 
 restart-sends : (node : Node) (late : Bool) (said : Said) → Within node → cond late None (Some (said_restart node)) ≡ Some said → SentFits said
 restart-sends node true said within made = absurd (cc)

@@ -1,25 +1,35 @@
 -- After a line so many steps are enough: each that an ask makes leaves it fewer, and no other ask more.
-use Rattle.std.proofs.Common.{◌≡◌, ℕ, zero, suc, ◌+◌, ◌-◌, ◌*◌, ◌<◌, ◌≤◌, not, Bool, true, false, List, [], ◌∷◌, ◌++◌, Option, Some, None, length, set, get_or, cond, nat_lt, refl, ap, sym, subst, ◌∙◌, arith}
+use Rattle.std.proofs.Common.{◌≡◌, ℕ, zero, suc, ◌+◌, ◌-◌, ◌*◌, ◌<◌, ◌≤◌, ◌&&◌, ◌||◌, not, Bool, true, false, List, [], ◌∷◌, ◌++◌, Option, Some, None, Result, Ok, Err, length, set, get_or, cond, nat_lt, refl, ap, sym, subst, ◌∙◌, arith}
 use Rattle.std.specs.List.{position_from, remove}
 use Rattle.std.specs.Prelude.{is_some, option_map}
 use Rattle.std.specs.Option.{option_map_or}
 use Rattle.std.proofs.lemmas.List.{length-append}
 use Rattle.shm_place.specs.Limits.{page_bytes}
+use Rattle.shm_place.specs.Page.{in_limits}
 use Rattle.shm_model.specs.declared.answer.Answer.{Answer}
 use Rattle.shm_model.specs.declared.answer.Answer.TheVariants.{Byte, Stored, Fault, Waiting, Began, Replied, Took, Dropped, Refused}
 use Rattle.shm_model.specs.declared.asked_access.Asked.{Asked}
 use Rattle.shm_model.specs.declared.asked_access.Asked.TheVariants.{Load, Store}
+use Rattle.shm_model.specs.declared.request_kind.Kind.{Kind}
+use Rattle.shm_model.specs.declared.request_kind.Kind.TheVariants.{Read, Write}
+use Rattle.shm_model.specs.Access.{Place, right}
+use Rattle.shm_model.specs.Book.{is_write}
+use Rattle.shm_model.specs.Entry.{Entry, readable, writable}
 use Rattle.shm_model.specs.Receipt.{access_of}
+use Rattle.shm_model.specs.Site.{Site}
+use Rattle.shm_mapping.specs.Mapped.{allows}
 use Rattle.shm_process.specs.Access.{is_access, is_waiting}
+use Rattle.shm_process.specs.Mapped.{allows_at, first_byte, is_within}
+use Rattle.shm_process.specs.Remaps.{Map, Unmap, is_mappable}
 use Rattle.shm_process.specs.Blocks.{Block}
 use Rattle.shm_process.specs.Desk.{Desk, made_again as desk_made_again, settled}
-use Rattle.shm_process.specs.WaitingAsks.{Access, Reads, Writes, WaitingAsk, after_answer, ask_in, goes_on, next_access}
+use Rattle.shm_process.specs.WaitingAsks.{Access, Maps, Reads, Unmaps, Writes, WaitingAsk, access_if, after_answer, ask_in, goes_on, is_held, is_last, next_access, tag_of}
 use Rattle.shm_process.specs.Node.{Node, Heard, Said, answer_to, is_late, new_node}
 use Rattle.shm_process.specs.Recorded.{Event, after_events}
-use Rattle.shm_process.specs.Writes.{Write}
-use Rattle.shm_process.specs.Waiting.{after_again, again_at, can_be_made, most_steps, most_waiting, next_heard, ready, said_again, says_at}
+use Rattle.shm_process.specs.Writes.{Write as Stores}
+use Rattle.shm_process.specs.Waiting.{access_heard, after_again, again_at, can_be_made, most_steps, most_waiting, next_heard, ready, said_again, says_at}
 use Rattle.shm_process.proofs.Few.{few_wait}
-use Rattle.shm_process.proofs.Lasting.{is_fault, lasts, waits_next}
+use Rattle.shm_process.proofs.Lasting.{Keeps, access_keeps, is_fault, lasts, waits_next}
 use Rattle.shm_process.proofs.Proper.{IsProper, block-size, proper_asks}
 use Rattle.shm_process.proofs.Tests.{below, unless-some}
 use Rattle.shm_process.proofs.Totals.{Found, found_at, total, total-most, total-remove, total-set}
@@ -31,15 +41,23 @@ abbrev weight : WaitingAsk → ℕ
 weight (Access tag asked) = 1
 weight (Reads block) = (block.count - (length block.bytes + 1)) + 1
 weight (Writes w) = (length w.bytes - (w.stored + 1)) + 1
+weight (Maps map) = 1
+weight (Unmaps u) = (length u.bytes - u.stored) + 1
 
 some-weight : (ask : WaitingAsk) → 0 < weight ask
 some-weight (Access tag asked) = omega arith
 some-weight (Reads block) = omega arith
 some-weight (Writes w) = omega arith
+some-weight (Maps map) = omega arith
+some-weight (Unmaps u) = omega arith
 
--- none, as long as it only waits
+-- it waits for what was asked already
+abbrev waits : Node → WaitingAsk → Bool
+waits node ask = is_waiting (answer_to node (next_heard node ask))
+
+-- none, as long as it only waits so; what a mapping holds may be made after it
 abbrev left : Node → WaitingAsk → ℕ
-left node ask = cond (can_be_made node ask) (weight ask) 0
+left node ask = cond (not (waits node ask)) (weight ask) 0
 
 abbrev pub all_left : Node → ℕ
 all_left node = total (left node) node.waiting
@@ -63,10 +81,6 @@ left-less false false w h = omega arith
 
 -- ---- a node after others of its steps
 
--- what waits there waits on
-pub record Later (old new : Node) : Type 0 where
-  pub waits : (x : Heard) → is_access x.input ≡ true → is_waiting (answer_to old x) ≡ true → is_waiting (answer_to new x) ≡ true
-
 access-of : (asked : Asked) → is_access (access_of asked) ≡ true
 access-of (Load at offset) = refl
 access-of (Store at offset byte) = refl
@@ -75,37 +89,74 @@ not-yes : (a b : Bool) → (b ≡ true → a ≡ true) → not a ≡ true → no
 not-yes a true more h = absurd (let e = more refl in cc)
 not-yes a false more h = refl
 
-left-later : (old new : Node) → Later old new → (ask : WaitingAsk) → left new ask ≤ left old ask
-left-later old new later ask =
-    left-less (can_be_made old ask) (can_be_made new ask) (weight ask)
-    (not-yes (is_waiting (answer_to new (next_heard ask))) (is_waiting (answer_to old (next_heard ask)))
-    (later.waits (next_heard ask) (access-of (next_access ask))))
+allows-same : (kind : Kind) (old new : Entry) → readable new ≡ readable old → writable new ≡ writable old → allows kind new ≡ allows kind old
+allows-same Read old new r w = r
+allows-same Write old new r w = w
+
+-- no access changes whether a page may be mapped
+allows_at-same : (sites : ℕ) (kind : Kind) (old new : Site) (r : Result Place ℕ) → Keeps old new → allows_at sites kind new r ≡ allows_at sites kind old r
+allows_at-same sites kind old new (Err refusal) k = refl
+allows_at-same sites kind old new (Ok place) k =
+    ap (λ b. in_limits sites place.page && b) (allows-same kind (old.entries place.page) (new.entries place.page) (k.reads place.page) (k.writes place.page))
+
+mappable-same : (sites : ℕ) (old new : Site) (map : Map) → Keeps old new → is_mappable sites new map ≡ is_mappable sites old map
+mappable-same sites old new map k =
+    ap (λ a. is_within map.at map.index && allows_at sites map.kind new (right a map.at (first_byte map.index) (is_write map.kind))) k.attachments
+    ∙ ap (λ b. is_within map.at map.index && b) (allows_at-same sites map.kind old new (right old.attachments map.at (first_byte map.index) (is_write map.kind)) k)
+
+last-same : (sites : ℕ) (old new : Site) (ask : WaitingAsk) → Keeps old new → is_last sites new ask ≡ is_last sites old ask
+last-same sites old new (Access tag asked) k = refl
+last-same sites old new (Reads block) k = refl
+last-same sites old new (Writes w) k = refl
+last-same sites old new (Maps map) k = mappable-same sites old new map k
+last-same sites old new (Unmaps u) k = refl
 
 -- ---- one step
 
 -- the node after a step of the ask at this place
 module _ (node : Node) (at : ℕ) (can : can_be_made node (ask_in node.waiting at) ≡ true) where
   abbrev x : Heard
-  x = next_heard (ask_in node.waiting at)
+  x = next_heard node (ask_in node.waiting at)
 
   access-is : is_access x.input ≡ true
-  access-is = access-of (next_access (ask_in node.waiting at))
+  access-is = access-of (next_access node.sites node.site (ask_in node.waiting at))
 
-  step-later : Later node (again_at node at)
-  step-later = record { waits = λ y is h. lasts node.sites node.me node.site x.input y.input access-is is h }
+  keeps : Keeps node.site (again_at node at).site
+  keeps = access_keeps node.sites node.me node.site x.input access-is
+
+  -- each ask's next access stays what it is
+  same-next : (ask : WaitingAsk) → next_heard (again_at node at) ask ≡ next_heard node ask
+  same-next ask = ap (λ last. access_heard last (tag_of ask) (access_if last ask)) (last-same node.sites node.site (again_at node at).site ask keeps)
+
+  -- and what waits there waits on
+  waits-on : (ask : WaitingAsk) → waits node ask ≡ true → waits (again_at node at) ask ≡ true
+  waits-on ask h =
+      ap (λ heard. is_waiting (answer_to (again_at node at) heard)) (same-next ask)
+      ∙ lasts node.sites node.me node.site x.input (next_heard node ask).input access-is (access-of (next_access node.sites node.site ask)) h
+
+  left-later : (ask : WaitingAsk) → left (again_at node at) ask ≤ left node ask
+  left-later ask =
+      left-less (not (waits node ask)) (not (waits (again_at node at) ask)) (weight ask) (not-yes (waits (again_at node at) ask) (waits node ask) (waits-on ask))
+
+  not-held : (w held : Bool) → not (w || held) ≡ true → not w ≡ true
+  not-held true held h = absurd (cc)
+  not-held false held h = refl
+
+  no-wait : not (waits node (ask_in node.waiting at)) ≡ true
+  no-wait = not-held (waits node (ask_in node.waiting at)) (is_held node.mapped node.site (ask_in node.waiting at)) can
 
   -- who faults waits
-  fault-left : (ask : WaitingAsk) → next_heard ask ≡ x → is_fault (answer_to node x) ≡ true → left (again_at node at) ask ≡ 0
+  fault-left : (ask : WaitingAsk) → next_heard node ask ≡ x → is_fault (answer_to node x) ≡ true → left (again_at node at) ask ≡ 0
   fault-left ask same fault =
-      left-none (can_be_made (again_at node at) ask) (weight ask)
-      (ap (λ h. not (is_waiting (answer_to (again_at node at) h))) same
+      left-none (not (waits (again_at node at) ask)) (weight ask)
+      (ap (λ h. not (is_waiting (answer_to (again_at node at) h))) (same-next ask ∙ same)
       ∙ ap not (waits_next node.sites node.me node.site x.input access-is fault))
 
-  fault-less : (ask : WaitingAsk) → next_heard ask ≡ x → is_fault (answer_to node x) ≡ true → left (again_at node at) ask < weight ask
+  fault-less : (ask : WaitingAsk) → next_heard node ask ≡ x → is_fault (answer_to node x) ≡ true → left (again_at node at) ask < weight ask
   fault-less ask same fault = subst (λ n. n < weight ask) (sym (fault-left ask same fault)) (some-weight ask)
 
   waits-not : (answer : Answer) → answer_to node x ≡ answer → not (is_waiting answer) ≡ true
-  waits-not answer is = ap (λ a. not (is_waiting a)) (sym is) ∙ can
+  waits-not answer is = ap (λ a. not (is_waiting a)) (sym is) ∙ no-wait
 
   -- a byte more is loaded
   byte-less : (block : Block) (byte : ℕ) → nat_lt (length block.bytes + 1) block.count ≡ true
@@ -113,21 +164,30 @@ module _ (node : Node) (at : ℕ) (can : can_be_made node (ask_in node.waiting a
   byte-less block byte on =
       let next = Reads (record block { bytes = block.bytes ++ byte ∷ [] }) in
       let most : left (again_at node at) next ≤ (block.count - (length (block.bytes ++ byte ∷ []) + 1)) + 1 =
-      left-most (can_be_made (again_at node at) next) (weight next) in
+      left-most (not (waits (again_at node at) next)) (weight next) in
       let more : length (block.bytes ++ byte ∷ []) ≡ length block.bytes + 1 = length-append block.bytes (byte ∷ []) in
       let room : length block.bytes + 1 < block.count = below (length block.bytes + 1) block.count on in
       omega (arith, most, more, room)
 
   -- a byte more is stored
-  stored-less : (w : Write) → nat_lt (w.stored + 1) (length w.bytes) ≡ true → left (again_at node at) (after_answer (Writes w) Stored) < weight (Writes w)
+  stored-less : (w : Stores) → nat_lt (w.stored + 1) (length w.bytes) ≡ true → left (again_at node at) (after_answer (Writes w) Stored) < weight (Writes w)
   stored-less w on =
       let next = Writes (record w { stored = w.stored + 1 }) in
       let most : left (again_at node at) next ≤ (length w.bytes - ((w.stored + 1) + 1)) + 1 =
-      left-most (can_be_made (again_at node at) next) (weight next) in
+      left-most (not (waits (again_at node at) next)) (weight next) in
       let room : w.stored + 1 < length w.bytes = below (w.stored + 1) (length w.bytes) on in
       omega (arith, most, room)
 
-  own-less : (ask : WaitingAsk) (answer : Answer) → next_heard ask ≡ x → answer_to node x ≡ answer → goes_on ask answer ≡ true
+  -- a byte more of an unmap is stored
+  brought-less : (u : Unmap) → nat_lt u.stored (length u.bytes) ≡ true → left (again_at node at) (after_answer (Unmaps u) Stored) < weight (Unmaps u)
+  brought-less u on =
+      let next = Unmaps (record u { stored = u.stored + 1 }) in
+      let most : left (again_at node at) next ≤ (length u.bytes - (u.stored + 1)) + 1 =
+      left-most (not (waits (again_at node at) next)) (weight next) in
+      let room : u.stored < length u.bytes = below u.stored (length u.bytes) on in
+      omega (arith, most, room)
+
+  own-less : (ask : WaitingAsk) (answer : Answer) → next_heard node ask ≡ x → answer_to node x ≡ answer → goes_on ask answer ≡ true
       → left (again_at node at) (after_answer ask answer) < weight ask
   own-less (Access tag asked) (Byte byte) same is on = absurd (cc)
   own-less (Access tag asked) Stored same is on = absurd (cc)
@@ -156,20 +216,38 @@ module _ (node : Node) (at : ℕ) (can : can_be_made node (ask_in node.waiting a
   own-less (Writes w) Took same is on = absurd (cc)
   own-less (Writes w) Dropped same is on = absurd (cc)
   own-less (Writes w) (Refused refusal) same is on = absurd (cc)
+  own-less (Maps map) (Byte byte) same is on = absurd (cc)
+  own-less (Maps map) Stored same is on = absurd (cc)
+  own-less (Maps map) Fault same is on = fault-less (Maps map) same (ap is_fault is)
+  own-less (Maps map) Waiting same is on = absurd (let no_wait = waits-not Waiting is in cc)
+  own-less (Maps map) (Began number) same is on = absurd (cc)
+  own-less (Maps map) (Replied number reply attachment) same is on = absurd (cc)
+  own-less (Maps map) Took same is on = absurd (cc)
+  own-less (Maps map) Dropped same is on = absurd (cc)
+  own-less (Maps map) (Refused refusal) same is on = absurd (cc)
+  own-less (Unmaps u) (Byte byte) same is on = absurd (cc)
+  own-less (Unmaps u) Stored same is on = brought-less u on
+  own-less (Unmaps u) Fault same is on = fault-less (Unmaps u) same (ap is_fault is)
+  own-less (Unmaps u) Waiting same is on = absurd (let no_wait = waits-not Waiting is in cc)
+  own-less (Unmaps u) (Began number) same is on = absurd (cc)
+  own-less (Unmaps u) (Replied number reply attachment) same is on = absurd (cc)
+  own-less (Unmaps u) Took same is on = absurd (cc)
+  own-less (Unmaps u) Dropped same is on = absurd (cc)
+  own-less (Unmaps u) (Refused refusal) same is on = absurd (cc)
 
   own-left : left node (ask_in node.waiting at) ≡ weight (ask_in node.waiting at)
   own-left =
-      left-all (can_be_made node (ask_in node.waiting at)) (weight (ask_in node.waiting at)) can
+      left-all (not (waits node (ask_in node.waiting at))) (weight (ask_in node.waiting at)) no-wait
 
   case-less : (on : Bool) → at < length node.waiting → goes_on (ask_in node.waiting at) (answer_to node x) ≡ on
       → total (left (again_at node at)) (cond on (set node.waiting at (after_answer (ask_in node.waiting at) (answer_to node x))) (remove node.waiting at)) < all_left node
   case-less true within on =
       let ask = ask_in node.waiting at in
-      total-set (left node) (left (again_at node at)) (left-later node (again_at node at) step-later) node.waiting at
+      total-set (left node) (left (again_at node at)) left-later node.waiting at
       (after_answer ask (answer_to node x)) (Access [] (Load 0 0)) within
       (subst (λ n. left (again_at node at) (after_answer ask (answer_to node x)) < n) (sym own-left) (own-less ask (answer_to node x) refl refl on))
   case-less false within on =
-      total-remove (left node) (left (again_at node at)) (left-later node (again_at node at) step-later) node.waiting at (Access [] (Load 0 0)) within
+      total-remove (left node) (left (again_at node at)) left-later node.waiting at (Access [] (Load 0 0)) within
       (subst (λ n. 0 < n) (sym own-left) (some-weight (ask_in node.waiting at)))
 
   step-less : at < length node.waiting → all_left (again_at node at) < all_left node
@@ -212,26 +290,33 @@ quiet (suc n) d few =
     quiet-case n d (is_some (said_again d.node)) refl
     (λ some. quiet n (desk_made_again d) (let less = again-less d.node some in omega (arith, less, few)))
 
-small-left : (node : Node) (ask : WaitingAsk) → IsProper node.me ask → left node ask ≤ page_bytes
+small-left : (node : Node) (ask : WaitingAsk) → IsProper node.me ask → left node ask ≤ page_bytes + 1
 small-left node (Access tag asked) proper =
-    let most = left-most (can_be_made node (Access tag asked)) 1 in omega (arith, most)
+    let most = left-most (not (waits node (Access tag asked))) 1 in omega (arith, most)
 small-left node (Reads block) proper =
     let most : left node (Reads block) ≤ (block.count - (length block.bytes + 1)) + 1 =
-    left-most (can_be_made node (Reads block)) (weight (Reads block)) in
+    left-most (not (waits node (Reads block))) (weight (Reads block)) in
     let small : block.count ≤ page_bytes = block-size block.offset block.count proper.0.2.3 in
     omega (arith, most, small)
 small-left node (Writes w) proper =
     let most : left node (Writes w) ≤ (length w.bytes - (w.stored + 1)) + 1 =
-    left-most (can_be_made node (Writes w)) (weight (Writes w)) in
+    left-most (not (waits node (Writes w))) (weight (Writes w)) in
     let small : length w.bytes ≤ page_bytes = block-size w.offset (length w.bytes) proper.0.4 in
     let more = proper.1 in
     omega (arith, most, small, more)
+small-left node (Maps map) proper =
+    let most = left-most (not (waits node (Maps map))) 1 in omega (arith, most)
+small-left node (Unmaps u) proper =
+    let most : left node (Unmaps u) ≤ (length u.bytes - u.stored) + 1 =
+    left-most (not (waits node (Unmaps u))) (weight (Unmaps u)) in
+    let small : length u.bytes ≤ page_bytes = proper.most in
+    omega (arith, most, small)
 
 bounded : (sites me pages : ℕ) (events : List Event) → all_left (after_events (new_node sites me pages) events) ≤ most_steps
 bounded sites me pages events =
     let node = after_events (new_node sites me pages) events in
-    let most : all_left node ≤ length node.waiting * page_bytes =
-    total-most (left node) page_bytes (IsProper node.me) (small-left node) node.waiting (proper_asks sites me pages events) in
+    let most : all_left node ≤ length node.waiting * (page_bytes + 1) =
+    total-most (left node) (page_bytes + 1) (IsProper node.me) (small-left node) node.waiting (proper_asks sites me pages events) in
     let few : length node.waiting ≤ most_waiting = few_wait sites me pages events in
     omega (arith, most, few)
 

@@ -1,5 +1,5 @@
 -- At most so many asks wait at a node.
-use Rattle.std.proofs.Common.{◌≡◌, ℕ, zero, suc, ◌+◌, ◌≤◌, ◌==◌, ◌&&◌, Bool, true, false, List, [], ◌∷◌, ◌++◌, Option, Some, None, length, set, cond, refl, sym, subst, arith}
+use Rattle.std.proofs.Common.{◌≡◌, ℕ, zero, suc, ◌+◌, ◌≤◌, ◌&&◌, Bool, true, false, List, [], ◌∷◌, ◌++◌, Option, Some, None, length, set, cond, refl, sym, subst, arith}
 use Rattle.std.specs.List.{remove}
 use Rattle.std.specs.Prelude.{is_some, nat_lt}
 use Rattle.std.specs.Option.{option_map_or}
@@ -8,13 +8,10 @@ use Rattle.std.proofs.lemmas.List.{length-append, length-set}
 use Rattle.shm_model.specs.declared.answer.Answer.{Answer}
 use Rattle.shm_wire.specs.Line as stream
 use Rattle.shm_wire.specs.Line.{read_line}
-use Rattle.shm_wire.specs.declared.caller_ask.Question.{Question}
-use Rattle.shm_wire.specs.declared.caller_ask.Question.TheVariants as question
-use Rattle.shm_wire.specs.Writes.{WriteAsk}
-use Rattle.shm_process.specs.WaitingAsks.{Reads, WaitingAsk, after_answer, ask_in, goes_on, waiting_after}
+use Rattle.shm_process.specs.WaitingAsks.{WaitingAsk, after_answer, ask_in, goes_on, waiting_after}
 use Rattle.shm_process.specs.Node.{Node, Heard, answer_to, heard, is_late, new_node}
 use Rattle.shm_process.specs.Recorded.{Event, Line, TooLong, Again, Restarted, after_event, after_events}
-use Rattle.shm_process.specs.Waiting.{after_heard, after_read, after_restart, after_unheard, again_at, block_in, has_room, joining, joins, most_waiting, next_heard, ready, unstored, with_ask}
+use Rattle.shm_process.specs.Waiting.{after_heard, after_read, after_restart, after_unheard, again_at, block_here, has_room, joining, joins, most_waiting, next_heard, ready, unmap_here, with_ask, write_here}
 
 abbrev Few : Node → Type 0
 Few node = length node.waiting ≤ most_waiting
@@ -44,35 +41,19 @@ after-few waiting at answer few =
 
 -- ---- a line
 
-block-few : (node : Node) (here late : Bool) (tag : List ℕ) (q : Question) → has_room node ≡ true → Few node
-    → Few (after_unheard node (cond here (cond late None (block_in tag q)) None))
-block-few node false late tag q room few = few
-block-few node true true tag q room few = few
-block-few node true false tag (question.Read at offset count) room few =
-    room-for-one node.waiting (Reads (record { tag = tag; at = at; offset = offset; count = count; bytes = [] })) room
-block-few node true false tag (question.Access asked) room few = few
-block-few node true false tag (question.Try asked) room few = few
-block-few node true false tag (question.Begin request) room few = few
-block-few node true false tag question.Tick room few = few
-block-few node true false tag (question.Show page) room few = few
-block-few node true false tag question.Health room few = few
+option-few : (node : Node) (ask : Option WaitingAsk) → has_room node ≡ true → Few node → Few (after_unheard node ask)
+option-few node None room few = few
+option-few node (Some ask) room few = room-for-one node.waiting ask room
 
-ask-few : (node : Node) (room here late : Bool) (tag : List ℕ) (q : Question) → has_room node ≡ room → Few node
-    → Few (after_unheard node (cond room (cond here (cond late None (block_in tag q)) None) None))
-ask-few node false here late tag q room few = few
-ask-few node true here late tag q room few = block-few node here late tag q room few
-
-write-few : (node : Node) (write : WriteAsk) (room here late : Bool) → has_room node ≡ room → Few node
-    → Few (after_unheard node (cond room (cond here (cond late None (Some (unstored write))) None) None))
-write-few node write false here late room few = few
-write-few node write true false late room few = few
-write-few node write true true true room few = few
-write-few node write true true false room few = room-for-one node.waiting (unstored write) room
+room-few : (node : Node) (ask : Option WaitingAsk) (room : Bool) → has_room node ≡ room → Few node → Few (after_unheard node (cond room ask None))
+room-few node ask true room few = option-few node ask room few
+room-few node ask false room few = few
 
 unheard-few : (node : Node) (line : stream.Line) → Few node → Few (after_unheard node (joining node line))
 unheard-few node (stream.Envelope sent) few = few
-unheard-few node (stream.Write write) few = write-few node write (has_room node) (write.site == node.me) (is_late node 0) refl few
-unheard-few node (stream.Ask ask) few = ask-few node (has_room node) (ask.site == node.me) (is_late node 0) ask.tag ask.asked refl few
+unheard-few node (stream.Write write) few = room-few node (write_here node write) (has_room node) refl few
+unheard-few node (stream.Ask ask) few = room-few node (block_here node ask) (has_room node) refl few
+unheard-few node (stream.Unmap unmap) few = room-few node (unmap_here node unmap) (has_room node) refl few
 
 joins-room : (a b c : Bool) → ((a && b) && c) ≡ true → b ≡ true
 joins-room true true c h = refl
@@ -97,7 +78,7 @@ read-few node (Some line) few = line-few node line (heard node line) few
 
 again-few : (node : Node) (p : Option ℕ) → Few node → Few (option_map_or (again_at node) p node)
 again-few node None few = few
-again-few node (Some at) few = after-few node.waiting at (answer_to node (next_heard (ask_in node.waiting at))) few
+again-few node (Some at) few = after-few node.waiting at (answer_to node (next_heard node (ask_in node.waiting at))) few
 
 restart-few : (node : Node) (late : Bool) → Few node → Few (cond late node (after_restart node))
 restart-few node true few = few

@@ -20,3 +20,8 @@ pub mod DeskEvents
 pub mod NumberedRows
 pub mod NumberedSteps
 pub mod Clocks
+pub mod Rights
+pub mod Finds
+pub mod LastLemmas
+pub mod KeptSites
+pub mod KeptMapped

@@ -1,5 +1,5 @@
 -- A step by what the site answered: of an ask that waits, and of what a line handed over.
-use Rattle.std.proofs.Common.{◌≡◌, ℕ, ◌+◌, ◌&&◌, Bool, not, List, Option, Some, None, cond, ap, sym, ◌∙◌}
+use Rattle.std.proofs.Common.{◌≡◌, ℕ, ◌+◌, ◌&&◌, ◌||◌, Bool, true, false, not, refl, List, Option, Some, None, cond, ap, sym, ◌∙◌}
 use Rattle.std.specs.Prelude.{is_some}
 use Rattle.shm_model.specs.declared.answer.Answer.{Answer}
 use Rattle.shm_model.specs.declared.asked_access.Asked.{Asked}
@@ -8,16 +8,30 @@ use Rattle.shm_model.specs.Receipt.{access_of}
 use Rattle.shm_model.specs.Site.{Site, Step}
 use Rattle.shm_model.specs.Step.{step}
 use Rattle.shm_wire.specs.Line as stream
-use Rattle.shm_process.specs.Access.{access_ask, is_open, is_waiting}
+use Rattle.shm_wire.specs.declared.mapping_text.Mapping.{Mapping}
+use Rattle.shm_process.specs.Access.{is_open, is_waiting}
 use Rattle.shm_process.specs.Cause.{Cause, OfLine}
 use Rattle.shm_process.specs.Node.{Node, Heard, Said, answer_to, caller_after, next_clock, says, tag_told}
-use Rattle.shm_process.specs.Waiting.{again_at, can_be_made, counted, has_room, joins, next_heard, next_line, says_at, taken, with_ask}
-use Rattle.shm_process.specs.WaitingAsks.{WaitingAsk, all_bytes, ask_in, goes_on, next_access, tag_of, waiting_after}
+use Rattle.shm_process.specs.Remaps.{Remapped}
+use Rattle.shm_process.specs.Waiting.{again_at, can_be_made, counted, has_room, joins, mapped_by, next_heard, next_line, says_at, taken, with_ask}
+use Rattle.shm_process.specs.WaitingAsks.{WaitingAsk, all_bytes, ask_in, goes_on, is_held, next_access, remapping, tag_of, waiting_after}
 use Rattle.shm_process.proofs.Callers.{goes_on_caller, joins_caller, stays_told}
+
+or-neither : (b : Bool) → (b || false) ≡ b
+or-neither true = refl
+or-neither false = refl
+
+-- an ask that is held isn't made
+pub held_back : (node : Node) (ask : WaitingAsk) → is_held node.mapped node.site ask ≡ true → can_be_made node ask ≡ false
+held_back node ask held = ap (λ h. not (is_waiting (answer_to node (next_heard node ask)) || h)) held ∙ ap not (or-either (is_waiting (answer_to node (next_heard node ask))))
+  where
+    or-either : (b : Bool) → (b || true) ≡ true
+    or-either true = refl
+    or-either false = refl
 
 -- the ask at this place made its next access, and the site answered so
 pub record IsMade (node : Node) (at : ℕ) (asked : Asked) (input : Input) (site : Site) (answer : Answer) (sent : List Envelope) : Type 0 where
-  pub asks : asked ≡ next_access (ask_in node.waiting at)
+  pub asks : asked ≡ next_access node.sites node.site (ask_in node.waiting at)
   pub hands : input ≡ access_of asked
   pub made : step node.sites node.me node.site input ≡ record { site = site; answer = answer; sent = sent }
 
@@ -25,14 +39,19 @@ module _ (node : Node) (at : ℕ) (asked : Asked) (input : Input) (site : Site) 
   abbrev ask : WaitingAsk
   ask = ask_in node.waiting at
 
-  done-is : step node.sites node.me node.site (next_heard ask).input ≡ record { site = site; answer = answer; sent = sent }
+  done-is : step node.sites node.me node.site (next_heard node ask).input ≡ record { site = site; answer = answer; sent = sent }
   done-is = ap (step node.sites node.me node.site) (sym (m.hands ∙ ap access_of m.asks)) ∙ m.made
 
-  answer-is : answer_to node (next_heard ask) ≡ answer
+  answer-is : answer_to node (next_heard node ask) ≡ answer
   answer-is = ap (λ (s : Step). s.answer) done-is
 
-  pub can_be : (waits : Bool) → is_waiting answer ≡ waits → can_be_made node ask ≡ not waits
-  can_be waits is = ap (λ a. not (is_waiting a)) answer-is ∙ ap not is
+  -- it is made unless it only waits, where nothing holds it
+  pub can_be : (waits : Bool) → is_waiting answer ≡ waits → is_held node.mapped node.site ask ≡ false → can_be_made node ask ≡ not waits
+  can_be waits is free =
+      ap (λ a. not (is_waiting a || is_held node.mapped node.site ask)) answer-is
+      ∙ ap (λ w. not (w || is_held node.mapped node.site ask)) is
+      ∙ ap (λ h. not (waits || h)) free
+      ∙ ap not (or-neither waits)
 
   says-made : says_at node at ≡ record {
     site = node.me;
@@ -42,7 +61,8 @@ module _ (node : Node) (at : ℕ) (asked : Asked) (input : Input) (site : Site) 
     tag = tag_told (goes_on ask answer) (Some (tag_of ask)) node.caller answer;
     answer = answer;
     block = all_bytes ask answer;
-    cause = OfLine (next_line node.me ask);
+    remapped = remapping node.sites node.me node.mapped node.site ask;
+    cause = OfLine (next_line node ask);
   }
   says-made = ap (λ (s : Step). record {
     site = node.me;
@@ -52,12 +72,14 @@ module _ (node : Node) (at : ℕ) (asked : Asked) (input : Input) (site : Site) 
     tag = tag_told (goes_on ask s.answer) (Some (tag_of ask)) node.caller s.answer;
     answer = s.answer;
     block = all_bytes ask s.answer;
-    cause = OfLine (next_line node.me ask);
+    remapped = remapping node.sites node.me node.mapped node.site ask;
+    cause = OfLine (next_line node ask);
   }) done-is
 
   -- what is said of it
-  pub said_made : (said : Said) (stays : Bool) (told block : Option (List ℕ)) (clock : ℕ) (tag : List ℕ) → tag ≡ tag_of ask → stays ≡ goes_on ask answer
+  pub said_made : (said : Said) (stays : Bool) (told block : Option (List ℕ)) (clock : ℕ) (change : Option Remapped) (line : stream.Line) → stays ≡ goes_on ask answer
       → told ≡ cond stays None (Some (tag_of ask)) → block ≡ all_bytes ask answer → clock ≡ next_clock node 0
+      → change ≡ remapping node.sites node.me node.mapped node.site ask → line ≡ next_line node ask
       → said ≡ record {
         site = node.me;
         clock = clock;
@@ -66,11 +88,12 @@ module _ (node : Node) (at : ℕ) (asked : Asked) (input : Input) (site : Site) 
         tag = tag_told stays told node.caller answer;
         answer = answer;
         block = block;
-        cause = OfLine (stream.Ask (access_ask node.me tag asked));
+        remapped = change;
+        cause = OfLine line;
       }
       → said ≡ says_at node at
-  said_made said stays told block clock tag et es eo eb ec e =
-      let shape : ℕ → Option (List ℕ) → Option (List ℕ) → Cause → Said = λ c t b k. record {
+  said_made said stays told block clock change line es eo eb ec er el e =
+      let shape : ℕ → Option (List ℕ) → Option (List ℕ) → Option Remapped → stream.Line → Said = λ c t b r l. record {
         site = node.me;
         clock = c;
         index = node.steps;
@@ -78,17 +101,18 @@ module _ (node : Node) (at : ℕ) (asked : Asked) (input : Input) (site : Site) 
         tag = t;
         answer = answer;
         block = b;
-        cause = k;
+        remapped = r;
+        cause = OfLine l;
       } in
-      let cause : List ℕ → Asked → Cause = λ t a. OfLine (stream.Ask (access_ask node.me t a)) in
       let told_is : tag_told stays told node.caller answer ≡ tag_told (goes_on ask answer) (Some (tag_of ask)) node.caller answer =
       stays_told stays told (Some (tag_of ask)) node.caller answer eo ∙ ap (λ s. tag_told s (Some (tag_of ask)) node.caller answer) es in
+      let tag = tag_told (goes_on ask answer) (Some (tag_of ask)) node.caller answer in
       e
-      ∙ ap (λ c. shape c (tag_told stays told node.caller answer) block (cause tag asked)) ec
-      ∙ ap (λ t. shape (next_clock node 0) t block (cause tag asked)) told_is
-      ∙ ap (λ b. shape (next_clock node 0) (tag_told (goes_on ask answer) (Some (tag_of ask)) node.caller answer) b (cause tag asked)) eb
-      ∙ ap (λ t. shape (next_clock node 0) (tag_told (goes_on ask answer) (Some (tag_of ask)) node.caller answer) (all_bytes ask answer) (cause t asked)) et
-      ∙ ap (λ a. shape (next_clock node 0) (tag_told (goes_on ask answer) (Some (tag_of ask)) node.caller answer) (all_bytes ask answer) (cause (tag_of ask) a)) m.asks
+      ∙ ap (λ c. shape c (tag_told stays told node.caller answer) block change line) ec
+      ∙ ap (λ t. shape (next_clock node 0) t block change line) told_is
+      ∙ ap (λ b. shape (next_clock node 0) tag b change line) eb
+      ∙ ap (λ r. shape (next_clock node 0) tag (all_bytes ask answer) r line) er
+      ∙ ap (shape (next_clock node 0) tag (all_bytes ask answer) (remapping node.sites node.me node.mapped node.site ask)) el
       ∙ sym says-made
 
   again-made : again_at node at ≡ record node {
@@ -97,6 +121,7 @@ module _ (node : Node) (at : ℕ) (asked : Asked) (input : Input) (site : Site) 
     steps = node.steps + 1;
     caller = caller_after (Some (tag_of ask)) node.caller answer;
     waiting = waiting_after node.waiting at answer;
+    mapped = mapped_by node (next_line node ask);
   }
   again-made = ap (λ (s : Step). record node {
     site = s.site;
@@ -104,19 +129,36 @@ module _ (node : Node) (at : ℕ) (asked : Asked) (input : Input) (site : Site) 
     steps = node.steps + 1;
     caller = caller_after (Some (tag_of ask)) node.caller s.answer;
     waiting = waiting_after node.waiting at s.answer;
+    mapped = mapped_by node (next_line node ask);
   }) done-is
 
   -- and the node after it
-  pub node_made : (next : Node) (stays : Bool) (told : Option (List ℕ)) (waiting : List WaitingAsk) (clock : ℕ) → stays ≡ goes_on ask answer
+  pub node_made : (next : Node) (stays : Bool) (told : Option (List ℕ)) (waiting : List WaitingAsk) (clock : ℕ) (mapped : List Mapping) → stays ≡ goes_on ask answer
       → told ≡ cond stays None (Some (tag_of ask)) → waiting ≡ waiting_after node.waiting at answer → clock ≡ next_clock node 0
-      → next ≡ record node { site = site; clock = clock; steps = node.steps + 1; caller = caller_after told node.caller answer; waiting = waiting }
+      → mapped ≡ mapped_by node (next_line node ask)
+      → next ≡ record node {
+        site = site;
+        clock = clock;
+        steps = node.steps + 1;
+        caller = caller_after told node.caller answer;
+        waiting = waiting;
+        mapped = mapped;
+      }
       → next ≡ again_at node at
-  node_made next stays told waiting clock es eo ew ec e =
-      let shape : ℕ → Option (List ℕ) → List WaitingAsk → Node = λ c t w. record node { site = site; clock = c; steps = node.steps + 1; caller = t; waiting = w } in
+  node_made next stays told waiting clock mapped es eo ew ec em e =
+      let shape : ℕ → Option (List ℕ) → List WaitingAsk → List Mapping → Node = λ c t w m. record node {
+        site = site;
+        clock = c;
+        steps = node.steps + 1;
+        caller = t;
+        waiting = w;
+        mapped = m;
+      } in
       e
-      ∙ ap (λ c. shape c (caller_after told node.caller answer) waiting) ec
-      ∙ ap (λ t. shape (next_clock node 0) t waiting) (goes_on_caller ask stays told (Some (tag_of ask)) node.caller answer eo es)
-      ∙ ap (λ w. shape (next_clock node 0) (caller_after (Some (tag_of ask)) node.caller answer) w) ew
+      ∙ ap (λ c. shape c (caller_after told node.caller answer) waiting mapped) ec
+      ∙ ap (λ t. shape (next_clock node 0) t waiting mapped) (goes_on_caller ask stays told (Some (tag_of ask)) node.caller answer eo es)
+      ∙ ap (λ w. shape (next_clock node 0) (caller_after (Some (tag_of ask)) node.caller answer) w mapped) ew
+      ∙ ap (shape (next_clock node 0) (caller_after (Some (tag_of ask)) node.caller answer) (waiting_after node.waiting at answer)) em
       ∙ sym again-made
 
 -- ---- a line
@@ -131,6 +173,7 @@ pub says_made : (node : Node) (h : Heard) (cause : Cause) (stays : Bool) (site :
       tag = tag_told stays h.tag node.caller answer;
       answer = answer;
       block = None;
+      remapped = None;
       cause = cause;
     }
 says_made node h cause stays site answer sent made = ap (λ (s : Step). record {
@@ -141,6 +184,7 @@ says_made node h cause stays site answer sent made = ap (λ (s : Step). record {
   tag = tag_told stays h.tag node.caller s.answer;
   answer = s.answer;
   block = None;
+  remapped = None;
   cause = cause;
 }) made
 
@@ -158,6 +202,7 @@ module _ (node : Node) (h : Heard) (site : Site) (answer : Answer) (sent : List 
     tag = tag_told stays_so h.tag node.caller answer;
     answer = answer;
     block = None;
+    remapped = None;
     cause = cause;
   }
   says-taken cause = ap (λ (s : Step). record {
@@ -168,6 +213,7 @@ module _ (node : Node) (h : Heard) (site : Site) (answer : Answer) (sent : List 
     tag = tag_told ((is_some h.waits && has_room node) && is_open s.answer) h.tag node.caller s.answer;
     answer = s.answer;
     block = None;
+    remapped = None;
     cause = cause;
   }) made
 
@@ -181,6 +227,7 @@ module _ (node : Node) (h : Heard) (site : Site) (answer : Answer) (sent : List 
         tag = tag_told stays told node.caller answer;
         answer = answer;
         block = None;
+        remapped = None;
         cause = cause;
       }
       → said ≡ says node cause h (joins node h)
@@ -193,6 +240,7 @@ module _ (node : Node) (h : Heard) (site : Site) (answer : Answer) (sent : List 
         tag = t;
         answer = answer;
         block = None;
+        remapped = None;
         cause = cause;
       } in
       e

@@ -3,6 +3,10 @@ pub mod Cause
 pub mod CauseOf
 pub mod Blocks
 pub mod Writes
+pub mod Mapped
+pub mod Remaps
+pub mod RemappedOf
+pub mod ChangeOf
 pub mod WaitingAsks
 pub mod AskOf
 pub mod Numbers
@@ -10,6 +14,7 @@ pub mod Node
 pub mod NodeOf
 pub mod Lines
 pub mod Waiting
+pub mod KeptMapped
 pub mod Showing
 pub mod Unopened
 pub mod UnopenedOf

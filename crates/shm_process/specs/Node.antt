@@ -1,7 +1,7 @@
 -- A site as a process. Lines come on one stream, which all sites and callers share; each that is for this site makes one step of it, and
 -- the others are passed over. A step's clock is above those of the steps before it, and above that of the step which sent what it is
 -- handed.
-use Rattle.std.specs.Prelude.{ℕ, ◌+◌, Bool, true, false, ◌||◌, not, List, [], Option, Some, None, ◌==◌, if◌then◌else◌, max, nat_lt, option_map}
+use Rattle.std.specs.Prelude.{ℕ, ◌+◌, Bool, true, false, ◌||◌, not, List, [], Option, Some, None, ◌==◌, if◌then◌else◌, is_some, max, nat_lt, option_map}
 use Rattle.shm_model.specs.declared.answer.Answer.{Answer}
 use Rattle.shm_model.specs.declared.answer.Answer.TheVariants.{Began, Replied}
 use Rattle.shm_model.specs.Basics.{greatest}
@@ -15,13 +15,16 @@ use Rattle.shm_wire.specs.Line as stream
 use Rattle.shm_wire.specs.Sent.{Sent}
 use Rattle.shm_wire.specs.declared.caller_ask.Question.{Question}
 use Rattle.shm_wire.specs.declared.caller_ask.Question.TheVariants as question
+use Rattle.shm_wire.specs.declared.mapping_text.Mapping.{Mapping}
 use Rattle.shm_process.specs.Cause.{Cause}
+use Rattle.shm_process.specs.Mapped.{is_kept_back, wanted}
 use Rattle.shm_process.specs.Numbers.{numbers_fit}
+use Rattle.shm_process.specs.Remaps.{Remapped}
 use Rattle.shm_process.specs.WaitingAsks.{Access, WaitingAsk}
 
 -- how many sites there are, and which one this is; the site as it stands, its clock, and how many steps it made; how many lines made
--- a step or brought a block that found room, and how many were passed over; the tag of the caller whose segment call is outstanding;
--- and the asks that wait, the oldest first
+-- a step or brought an ask that found room to wait, and how many were passed over; the tag of the caller whose segment call is outstanding;
+-- the asks that wait, the oldest first; and the pages that the site's machine maps
 pub record Node : Type 0 where
   pub sites : ℕ
   pub me : ℕ
@@ -32,6 +35,7 @@ pub record Node : Type 0 where
   pub passed : ℕ
   pub caller : Option (List ℕ)
   pub waiting : List WaitingAsk
+  pub mapped : List Mapping
 
 -- a node at which nothing has happened
 abbrev pub new_node : ℕ → ℕ → ℕ → Node
@@ -45,6 +49,7 @@ new_node sites me pages = record {
   passed = 0;
   caller = None;
   waiting = [];
+  mapped = [];
 }
 
 -- ---- what a line is to a node
@@ -72,13 +77,21 @@ is_ahead node source = nat_lt (node.clock + most_ahead) source
 abbrev pub is_beyond : Node → Sent → Bool
 is_beyond node sent = is_ahead node sent.source.at || not (numbers_fit sent.source.at sent.envelope.message)
 
--- an envelope, unless it can't be for this site
+-- an envelope that can't be for this site, or that no site that keeps up can have sent
+abbrev pub is_lost : Node → Sent → Bool
+is_lost node sent = foreign node.sites node.me sent.envelope || (is_late node sent.source.at || is_beyond node sent)
+
+-- it asks for more of a page than the machine has given up
+abbrev pub is_withheld : Node → Sent → Bool
+is_withheld node sent = is_some (wanted node.me sent.envelope.message node.mapped)
+
+-- an envelope, unless it can't be for this site, or what it asks for is still mapped
 abbrev pub handed : Node → Sent → Option Heard
 handed node sent =
-    if foreign node.sites node.me sent.envelope || (is_late node sent.source.at || is_beyond node sent) then None
+    if is_lost node sent || is_withheld node sent then None
     else Some (record { input = Deliver sent.envelope; source = sent.source.at; tag = None; waits = None })
 
--- what a site is made to do; a page and counts are only shown, and a block is loaded byte by byte
+-- what a site is made to do; a page and counts are only shown, a page waits to be mapped, and a block is loaded byte by byte
 abbrev pub input_asked : Question → Option Input
 input_asked (question.Access asked) = Some (access_of asked)
 input_asked (question.Try asked) = Some (access_of asked)
@@ -87,6 +100,8 @@ input_asked (question.Begin request) = Some (Begin request)
 input_asked question.Tick = Some Tick
 input_asked (question.Show page) = None
 input_asked question.Health = None
+input_asked (question.Map at index kind) = None
+input_asked question.Mappings = None
 
 -- a load and a store wait for their right, unless they are only tried
 abbrev pub waits_for : List ℕ → Question → Option WaitingAsk
@@ -96,11 +111,15 @@ waits_for tag _ = None
 abbrev pub under_tag : List ℕ → Option WaitingAsk → Input → Heard
 under_tag tag waits input = record { input = input; source = 0; tag = Some tag; waits = waits }
 
+-- no step is made of it: there is no clock for one, or the page that it goes to is mapped
+abbrev pub is_stopped : Node → Question → Bool
+is_stopped node question = is_late node 0 || is_kept_back node.mapped node.site question
+
 -- what a caller asks of this site
 abbrev pub asked_here : Node → Ask → Option Heard
 asked_here node ask =
     if (ask.site == node.me)
-    then (if is_late node 0 then None else option_map (under_tag ask.tag (waits_for ask.tag ask.asked)) (input_asked ask.asked))
+    then (if is_stopped node ask.asked then None else option_map (under_tag ask.tag (waits_for ask.tag ask.asked)) (input_asked ask.asked))
     else None
 
 -- a block that is to be stored hands over nothing yet
@@ -108,6 +127,7 @@ abbrev pub heard : Node → stream.Line → Option Heard
 heard node (stream.Envelope sent) = handed node sent
 heard node (stream.Ask ask) = asked_here node ask
 heard node (stream.Write write) = None
+heard node (stream.Unmap unmap) = None
 
 -- ---- one step
 
@@ -137,7 +157,7 @@ stepped node heard =
 -- ---- what it says
 
 -- of one step: which site made it, its clock and its index, the envelopes that the site sent, what it answers, all bytes of the block whose
--- last load it was, the tag of the caller who is told that; and what made it
+-- last load it was, or what was mapped or given up with it, the tag of the caller who is told that; and what made it
 pub record Said : Type 0 where
   pub site : ℕ
   pub clock : ℕ
@@ -146,6 +166,7 @@ pub record Said : Type 0 where
   pub tag : Option (List ℕ)
   pub answer : Answer
   pub block : Option (List ℕ)
+  pub remapped : Option Remapped
   pub cause : Cause
 
 -- each ask is answered once: a segment call when it is replied to, unless it is refused, and an ask that still waits not yet
@@ -166,5 +187,6 @@ says node cause heard stays =
       tag = tag_told stays heard.tag node.caller done.answer;
       answer = done.answer;
       block = None;
+      remapped = None;
       cause = cause;
     }

@@ -5,11 +5,11 @@ use Rattle.shm_parts.specs.Message.{envelope_of}
 use Rattle.shm_site.specs.Site.{site_of}
 use Rattle.shm_site.specs.Step.{input_of}
 use Rattle.shm_process.specs.AskOf.{ask_of}
-use Rattle.shm_wire.specs.Asks as asked
-use Rattle.shm_wire.specs.Line as stream
+use Rattle.shm_wire.specs.LineOf.{line_of}
 use Rattle.shm_wire.specs.TagOf.{tag_text}
 use Rattle.shm_process.specs.Cause.{Cause, OfLine}
 use Rattle.shm_process.specs.Node as spec
+use Rattle.shm_process.specs.RemappedOf.{remapped_of}
 use Rattle.shm_process.specs.WaitingAsks.{Access, WaitingAsk}
 use Rattle.shm_process.specs.declared.retried_step.Again.{Again}
 use Rattle.shm_process.specs.declared.interpreted_line.Heard.{Heard}
@@ -27,6 +27,7 @@ node_of node = record {
   passed = node.passed;
   caller = option_map tag_text node.caller;
   waiting = map ask_of node.waiting.items;
+  mapped = node.mapped.items;
 }
 
 -- an access under the tag of its caller
@@ -53,9 +54,10 @@ said_of cause said = record {
   tag = option_map tag_text said.tag;
   answer = said.answer;
   block = option_map (λ bytes. bytes.items) said.block;
+  remapped = option_map remapped_of said.remapped;
   cause = cause;
 }
 
--- of a step of an ask that waited: its cause is the line that asks for the access alone
+-- of a step of an ask that waited: its cause is the line that asks for it alone
 abbrev pub again_of : {A : Type 0} → Again A → spec.Said
-again_of again = said_of (OfLine (stream.Ask (asked.ask_of again.ask))) again.said
+again_of again = said_of (OfLine (line_of again.line)) again.said

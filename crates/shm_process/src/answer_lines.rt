@@ -1,24 +1,17 @@
-//! The lines that callers get: answers, blocks, a page's state, and the site's counts.
-ghost use Rattle.std.specs.Prelude.{◌≡◌, option_map, string_bytes, IfOk, Some};
+//! The lines that callers get: answers, blocks, what is mapped, and a page's state.
+ghost use Rattle.std.specs.Prelude.{◌≡◌, option_map, string_bytes, IfOk};
 ghost use Rattle.shm_process.specs.Cause.{OfRestart};
-ghost use Rattle.shm_process.specs.NodeOf.{node_of, said_of};
-ghost use Rattle.shm_process.specs.Telling.{answer_line_of, crowded_out, health_line, page_line, shown_for, shown_here, shown_line, shown_write};
-ghost use Rattle.shm_process.specs.HealthOf.{health_in};
-ghost use Rattle.shm_process.specs.UnopenedOf.{unopened_of};
-ghost use Rattle.shm_wire.specs.Asks.{ask_of};
-ghost use Rattle.shm_wire.specs.LineOf.{line_of};
-ghost use Rattle.shm_wire.specs.TagOf.{tag_text};
-ghost use Rattle.shm_wire.specs.WriteOf.{write_of};
+ghost use Rattle.shm_process.specs.ChangeOf.{change_of};
+ghost use Rattle.shm_process.specs.NodeOf.{said_of};
+ghost use Rattle.shm_process.specs.RemappedOf.{remapped_of};
+ghost use Rattle.shm_process.specs.Telling.{answer_line_of};
 
-use crate::health::Health;
-use crate::node::Node;
+use crate::mapping_change::Remapped;
 use crate::step_output::Said;
-use crate::unopened_line_counts::Unopened;
 use shm_model::refusal::FOREIGN;
 use shm_model::{Answer, Shown, State};
-use shm_place::PageId;
 use shm_text::AnswerText;
-use shm_wire::{Ask, BlockText, Line, Question, Tag, WriteAsk};
+use shm_wire::{BlockText, MappedText};
 use std::alloc::{AllocError, Allocator};
 use std::fmt;
 
@@ -35,6 +28,7 @@ impl<A: Allocator + Copy> Said<A> {
         let text = ToldText {
             answer: self.answer,
             block: self.whole_block(),
+            remapped: self.change(),
         };
         let line = format!(in alloc; "tell {site} {tag} {text}")?;
         Ok(Some(line))
@@ -48,22 +42,65 @@ impl<A: Allocator + Copy> Said<A> {
             None => None,
         }
     }
+
+    fn change(&self) -> Option<Change<'_>>
+        ensures { option_map change_of result ≡ option_map remapped_of self.now.remapped }
+    {
+        match &self.remapped {
+            Some(Remapped::Mapped(Some(bytes))) => Some(Change::Mapped(bytes.as_slice())),
+            Some(Remapped::Mapped(None)) => Some(Change::Raised),
+            Some(Remapped::Unmapped) => Some(Change::Unmapped),
+            Some(Remapped::Synced) => Some(Change::Synced),
+            None => None,
+        }
+    }
 }
 
-/// An answer in the script's words, or the bytes of a block.
+/// What is told at the end of a map or an unmap.
+#[derive(Clone, Copy)]
+enum Change<'a> {
+    Mapped(&'a [u8]),
+    Raised,
+    Unmapped,
+    Synced,
+}
+
+impl<'a> fmt::Display for Change<'a> {
+    ghost use Rattle.std.specs.Prelude.{Some};
+    ghost use Rattle.shm_process.specs.ChangeOf.{change_of};
+    ghost use Rattle.shm_process.specs.Telling.{remapped_text};
+
+    ghost output = { λ change. Some (remapped_text (change_of change)) };
+
+    fn fmt<W: fmt::Write>(&self, f: &mut fmt::Formatter<W>) -> fmt::Result {
+        match *self {
+            Change::Mapped(bytes) => write!(f, "{}", MappedText(bytes)),
+            Change::Raised => write!(f, "mapped"),
+            Change::Unmapped => write!(f, "unmapped"),
+            Change::Synced => write!(f, "synced"),
+        }
+    }
+}
+
+/// An answer in the script's words, the bytes of a block, or how a mapping changes.
 #[derive(Clone, Copy)]
 struct ToldText<'a> {
     answer: Answer,
     block: Option<&'a [u8]>,
+    remapped: Option<Change<'a>>,
 }
 
 impl<'a> fmt::Display for ToldText<'a> {
     ghost use Rattle.std.specs.Prelude.{Some, option_map};
+    ghost use Rattle.shm_process.specs.ChangeOf.{change_of};
     ghost use Rattle.shm_process.specs.Telling.{text_of};
 
-    ghost output = { λ text. Some (text_of text.answer (option_map (λ bytes. bytes.now) text.block)) };
+    ghost output = { λ text. Some (text_of text.answer (option_map (λ bytes. bytes.now) text.block) (option_map change_of text.remapped)) };
 
     fn fmt<W: fmt::Write>(&self, f: &mut fmt::Formatter<W>) -> fmt::Result {
+        if let Some(change) = self.remapped {
+            return write!(f, "{change}");
+        }
         match self.block {
             Some(bytes) => write!(f, "{}", BlockText(bytes)),
             None => write!(f, "{}", AnswerText(self.answer)),
@@ -71,93 +108,9 @@ impl<'a> fmt::Display for ToldText<'a> {
     }
 }
 
-impl<A: Allocator + Copy> Node<A> {
-    /// The line that answers this one at once, without a line feed: the site's state of a page, or its counts, where that is asked for, or
-    /// that a block finds no room to wait. It makes no step. `unopened` is how many lines weren't opened. Ask for it before the line is taken: a block that has joined may have taken the last room.
-    pub fn line_at_once(
-        &self,
-        unopened: Unopened,
-        line: &Line<A>,
-    ) -> Result<Option<String<A>>, AllocError>
-        ensures { IfOk result (λ told. option_map string_bytes told ≡ shown_line (unopened_of unopened) (node_of self.now) (line_of line.now)) }
-    {
-        match line {
-            Line::Envelope(_) => Ok(None),
-            Line::Ask(ask) => self.ask_at_once(unopened, ask),
-            Line::Write(write) => self.write_at_once(write),
-        }
-    }
-
-    fn ask_at_once(&self, unopened: Unopened, ask: &Ask) -> Result<Option<String<A>>, AllocError>
-        ensures { IfOk result (λ told. option_map string_bytes told ≡ shown_here (unopened_of unopened) (node_of self.now) (ask_of ask.now)) }
-    {
-        let Ask { site, tag, asked } = *ask;
-        if site != self.me {
-            return Ok(None);
-        }
-        self.question_at_once(unopened, tag, asked)
-    }
-
-    fn question_at_once(
-        &self,
-        unopened: Unopened,
-        tag: Tag,
-        asked: Question,
-    ) -> Result<Option<String<A>>, AllocError>
-        ensures { IfOk result (λ told. option_map string_bytes told ≡ shown_for (unopened_of unopened) (node_of self.now) (tag_text tag) asked) }
-    {
-        match asked {
-            Question::Show(page) => self.show_page(tag, page),
-            Question::Health => self.tell_health(tag, self.health(unopened)),
-            Question::Read { .. } => self.crowd_out(tag),
-            _ => Ok(None),
-        }
-    }
-
-    fn write_at_once(&self, write: &WriteAsk<A>) -> Result<Option<String<A>>, AllocError>
-        ensures { IfOk result (λ told. option_map string_bytes told ≡ shown_write (node_of self.now) (write_of write.now)) }
-    {
-        if write.site != self.me {
-            return Ok(None);
-        }
-        self.crowd_out(write.tag)
-    }
-
-    fn show_page(&self, tag: Tag, page: PageId) -> Result<Option<String<A>>, AllocError>
-        ensures { IfOk result (λ told. option_map string_bytes told ≡ Some (page_line (node_of self.now) (tag_text tag) page)) }
-    {
-        let site = self.me.0;
-        let shown = ShownText(self.site.shown(page));
-        let line = format!(in self.alloc; "tell {site} {tag} {shown}")?;
-        Ok(Some(line))
-    }
-
-    /// The answer to a caller who asks for these counts.
-    fn tell_health(&self, tag: Tag, health: Health) -> Result<Option<String<A>>, AllocError>
-        ensures { IfOk result (λ told. option_map string_bytes told ≡ Some (health_line (node_of self.now) (tag_text tag) (health_in health))) }
-    {
-        let site = self.me.0;
-        let line = format!(in self.alloc; "tell {site} {tag} {health}")?;
-        Ok(Some(line))
-    }
-
-    /// The answer to a block that finds no room to wait.
-    fn crowd_out(&self, tag: Tag) -> Result<Option<String<A>>, AllocError>
-        ensures { IfOk result (λ told. option_map string_bytes told ≡ crowded_out (node_of self.now) (tag_text tag)) }
-    {
-        if self.has_room() || self.is_late(0) {
-            return Ok(None);
-        }
-        let site = self.me.0;
-        let waiting = AnswerText(Answer::Waiting);
-        let line = format!(in self.alloc; "tell {site} {tag} {waiting}")?;
-        Ok(Some(line))
-    }
-}
-
 /// A site's state of a page, and the greatest transaction number that it met.
 #[derive(Clone, Copy)]
-struct ShownText(Option<Shown>);
+pub(crate) struct ShownText(pub(crate) Option<Shown>);
 
 impl fmt::Display for ShownText {
     ghost use Rattle.std.specs.Prelude.{Some};

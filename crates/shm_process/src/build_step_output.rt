@@ -5,8 +5,10 @@ ghost use Rattle.shm_process.specs.Cause.{Cause};
 ghost use Rattle.shm_process.specs.Node.{caller_after, tag_told};
 ghost use Rattle.shm_process.specs.NodeOf.{node_of, said_of};
 ghost use Rattle.shm_process.specs.Access.{is_open, is_waiting};
+ghost use Rattle.shm_process.specs.RemappedOf.{remapped_of};
 ghost use Rattle.shm_wire.specs.TagOf.{tag_text};
 
+use crate::mapping_change::Remapped;
 use crate::node::Node;
 use crate::step_output::Said;
 use shm_model::Answer;
@@ -23,6 +25,7 @@ impl<A: Allocator + Copy> Node<A> {
         stays: bool,
         made: Made<A>,
         block: Option<Vec<u8, A>>,
+        remapped: Option<Remapped<A>>,
     ) -> Said<A>
         requires { self.old.clock < clock }
         ensures said { (cause : Cause) → said_of cause result ≡ record {
@@ -33,6 +36,7 @@ impl<A: Allocator + Copy> Node<A> {
           tag = tag_told stays (option_map tag_text tag) (option_map tag_text self.old.caller) made.answer;
           answer = made.answer;
           block = option_map (λ bytes. bytes.items) block;
+          remapped = option_map remapped_of remapped;
           cause = cause;
         } }
         ensures after { node_of self.new ≡ record (node_of self.old) {
@@ -54,6 +58,7 @@ impl<A: Allocator + Copy> Node<A> {
             tag,
             answer,
             block,
+            remapped,
         }
     }
 }

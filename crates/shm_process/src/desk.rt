@@ -266,8 +266,7 @@ impl<A: Allocator + Copy> Desk<A> {
     fn push_again(&mut self, again: &Again<A>) -> Result<(), AllocError>
         ensures { OnOk result (desk_of self.new ≡ with_step (desk_of self.old) (Some (again_of again.now))) }
     {
-        let ask = again.ask;
-        let line = format!(in self.alloc; "{ask}")?;
+        let line = text_of_line(self.alloc, &again.line)?;
         self.push_step(line.as_bytes(), &again.said)
     }
 
@@ -277,6 +276,18 @@ impl<A: Allocator + Copy> Desk<A> {
     {
         push_entry(self.alloc, &mut self.recorded, said.clock, line)?;
         push_text(self.alloc, &self.seal, &mut self.told, said)
+    }
+}
+
+/// The text of what a caller asks.
+fn text_of_line<A: Allocator + Copy>(alloc: A, line: &Line<A>) -> Result<String<A>, AllocError>
+    ensures { IfOk result (λ text. string_bytes text ≡ stream.line_text (line_of line.now)) }
+{
+    match line {
+        Line::Envelope(sent) => format!(in alloc; "{sent}"),
+        Line::Ask(ask) => format!(in alloc; "{ask}"),
+        Line::Write(write) => format!(in alloc; "{write}"),
+        Line::Unmap(unmap) => format!(in alloc; "{unmap}"),
     }
 }
 

@@ -3,6 +3,7 @@ ghost use Rattle.std.specs.Prelude.{◌≡◌, ◌≤◌, ◌+◌, ◌*◌, All,
 ghost use Rattle.shm_process.specs.Cause.{Cause};
 ghost use Rattle.shm_process.specs.Desk.{Desk, on_bytes, settled};
 ghost use Rattle.shm_process.specs.DeskEvents.{DidEvents};
+ghost use Rattle.shm_process.specs.KeptMapped.{KeepsMapped};
 ghost use Rattle.shm_process.specs.Node as spec;
 ghost use Rattle.shm_process.specs.Node.{most_ahead};
 ghost use Rattle.shm_process.specs.Numbers.{NumbersWithin, numbers_fit};
@@ -69,4 +70,12 @@ pub fn no_number_is_above_the_clock()
 pub fn what_is_sent_names_no_number_above_its_clock()
     ensures { (node : spec.Node) (event : Event) (said : spec.Said) → said_at node event ≡ Some said → NumbersWithin node.clock node.site
         → All (λ e. numbers_fit said.clock e.message ≡ true) said.sent }
+{}
+
+/// A site has the right to each page that its machine maps: at its beginning, when nothing is mapped, and after any event, whatever lines
+/// come. An attachment names the page's segment, so no purge takes it.
+#[tactic(auto, using(crate::proofs::KeptMapped::new_keeps, crate::proofs::KeptMapped::event_keeps))]
+pub fn what_is_mapped_stays_allowed()
+    ensures new { (sites me pages : ℕ) → KeepsMapped (spec.new_node sites me pages) }
+    ensures event { (node : spec.Node) (event : Event) → KeepsMapped node → KeepsMapped (after_event node event) }
 {}

@@ -1,7 +1,8 @@
 //! A site as a process, but for its streams: a line comes, and the site makes a step; what it says are lines again.
 //!
 //! All sites and callers share one stream. A line for another site, or that is no line of the stream (`shm_wire`), is passed over. A load
-//! or a store waits for its right, and is made again when it may be there. A block is loaded or stored byte by byte.
+//! or a store waits for its right, and is made again when it may be there. A block is loaded or stored byte by byte. The site's machine maps
+//! pages into its memory: what would take them away isn't taken.
 #![tactic(auto)]
 
 mod answer_lines;
@@ -15,10 +16,17 @@ mod health;
 mod interpret_line;
 mod interpreted_line;
 pub mod laws;
+mod lines_at_once;
+mod mapping_change;
+mod mapping_list;
+mod next_waiting_step;
 mod node;
+mod node_mapped_pages;
 mod node_replay;
 mod node_retries;
 mod node_takes_line;
+mod page_map;
+mod page_unmap;
 mod retried_step;
 mod step_cause;
 mod step_output;
@@ -28,6 +36,7 @@ mod waiting_ask;
 pub use desk::Desk;
 pub use health::Health;
 pub use interpret_line::input_asked;
+pub use mapping_change::Remapped;
 pub use node::Node;
 pub use retried_step::Again;
 pub use step_cause::Cause;

@@ -3,10 +3,11 @@ ghost use Rattle.std.specs.Prelude.{◌≡◌, ◌≤◌};
 use crate::waiting_ask::WaitingAsk;
 use shm_place::{PAGES, SiteId, Sites};
 use shm_site::Site;
-use shm_wire::Tag;
+use shm_wire::{Mapping, Tag};
 use std::alloc::{AllocError, Allocator, Global};
 
-/// A site as a process: it takes line after line, and holds the site, and the asks that wait: at most 64.
+/// A site as a process: it takes line after line, and holds the site, the asks that wait, at most 64, and what is mapped into the memory of
+/// the site's machine.
 #[derive(Drop)]
 pub struct Node<A: Allocator + Copy = Global> {
     pub(crate) site: Site<A>,
@@ -18,6 +19,7 @@ pub struct Node<A: Allocator + Copy = Global> {
     pub(crate) passed: u64,
     pub(crate) caller: Option<Tag>,
     pub(crate) waiting: Vec<WaitingAsk<A>, A>,
+    pub(crate) mapped: Vec<Mapping, A>,
     pub(crate) alloc: A,
     ghost all_sites: { site.sites ≡ sites },
     ghost own_number: { site.me ≡ me },
@@ -49,6 +51,7 @@ impl<A: Allocator + Copy> Node<A> {
             passed: 0,
             caller: None,
             waiting: Vec::new(alloc),
+            mapped: Vec::new(alloc),
             alloc,
         })
     }
@@ -74,18 +77,25 @@ impl<A: Allocator + Copy> Node<A> {
         self.steps
     }
 
-    /// How many lines made a step when they were taken, or brought a block that found room.
+    /// How many lines made a step when they were taken, or brought an ask that found room to wait.
     pub fn lines_taken(&self) -> u64
         ensures { result ≡ (node_of self.now).taken }
     {
         self.taken
     }
 
-    /// How many lines were passed over: the others; a `show`, and a block that found no room, too, though they are answered.
+    /// How many lines were passed over: the others; a `show`, and what found no room, too, though they are answered.
     pub fn lines_passed(&self) -> u64
         ensures { result ≡ (node_of self.now).passed }
     {
         self.passed
+    }
+
+    /// The pages that the site's machine maps.
+    pub fn mapped(&self) -> &[Mapping]
+        ensures { result.now ≡ (node_of self.now).mapped }
+    {
+        self.mapped.as_slice()
     }
 
     /// How many asks wait.

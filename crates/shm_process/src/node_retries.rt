@@ -1,29 +1,33 @@
 //! Asks that wait for their right, and are made again.
-ghost use Rattle.std.specs.Prelude.{◌≡◌, ◌<◌, false, true, map, max, length, option_map, None, remove, IfNone, IfOk, IfSome, OnErr, OnOk, Some, if◌then◌else◌, vec_len};
+ghost use Rattle.std.specs.Prelude.{◌≡◌, ◌<◌, false, true, map, max, length, option_map, None, remove, IfNone, IfOk, IfSome, OnErr, OnOk, Some, if◌then◌else◌, unwrap_or, vec_len};
 ghost use Rattle.shm_model.specs.Basics.{greatest};
 ghost use Rattle.shm_model.specs.Step.{step};
 ghost use Rattle.shm_parts.specs.Message.{envelope_of};
 ghost use Rattle.shm_process.specs.Access.{is_access, is_waiting};
 ghost use Rattle.shm_process.specs.AskOf.{ask_of};
-ghost use Rattle.shm_process.specs.WaitingAsks.{all_bytes, ask_in, goes_on, next_access, tag_of, waiting_after};
+ghost use Rattle.shm_process.specs.WaitingAsks.{access_if, all_bytes, ask_in, goes_on, is_held, next_access, remapping, tag_of, waiting_after};
 ghost use Rattle.shm_process.specs.NodeOf.{again_of, node_of};
-ghost use Rattle.shm_process.specs.Waiting.{after_again, again_at, can_be_made, said_again, says_at};
+ghost use Rattle.shm_process.specs.RemappedOf.{remapped_of};
+ghost use Rattle.shm_process.specs.Waiting.{after_again, again_at, can_be_made, mapped_by, next_line, said_again, says_at};
 ghost use Rattle.shm_site.specs.Site.{SameSeat, site_of, stepped};
 ghost use Rattle.shm_site.specs.Step.{input_of};
+ghost use Rattle.shm_wire.specs.LineOf.{line_of};
 ghost use Rattle.shm_wire.specs.TagOf.{tag_text};
 
 use crate::build_step_output::is_waiting;
+use crate::mapping_change::Remapped;
+use crate::next_waiting_step::line_at;
 use crate::node::Node;
 use crate::retried_step::Again;
 use crate::waiting_ask::{Ended, WaitingAsk};
 use shm_model::Asked;
 use shm_site::{Answer, Input, Made, Site};
-use shm_wire::{Ask, Question, Tag};
+use shm_wire::{Line, Mapping, Tag};
 use std::alloc::{AllocError, Allocator};
 
 impl<A: Allocator + Copy> Node<A> {
     /// Makes one step of the oldest waiting ask that can be made or refused now, or has to ask for its right again: the access, or a
-    /// block's next load. `None`: there is none. Where memory is refused the node is as before.
+    /// block's next load, or the step with which a page is mapped or given up. `None`: there is none. Where memory is refused the node is as before.
     ///
     /// Call this after each line, until there is none.
     pub fn again(&mut self) -> Result<Option<Again<A>>, AllocError>
@@ -42,8 +46,8 @@ impl<A: Allocator + Copy> Node<A> {
         Ok(None)
     }
 
-    /// Makes the next access of the ask at this place, its own or a block's next load, unless it only waits for a right that was asked for
-    /// before.
+    /// Makes the next step of the ask at this place, unless it only waits for a right that was asked for before, or until a page isn't mapped
+    /// any more.
     fn make_at(&mut self, at: usize) -> Result<Option<Again<A>>, AllocError>
         requires at { at < vec_len self.old.waiting }
         requires early { max self.old.clock 0 < greatest }
@@ -55,15 +59,42 @@ impl<A: Allocator + Copy> Node<A> {
         ensures after { IfOk result (λ again. IfSome again (λ a. node_of self.new ≡ again_at (node_of self.old) at)) }
         ensures refused { OnErr result (node_of self.new ≡ node_of self.old) }
     {
-        let (tag, asked) = next_at(self.waiting.as_slice(), at);
-        self.try_at(at, tag, asked)
+        if self.is_held_at(at) {
+            return Ok(None);
+        }
+        let last = self.is_last_at(at)?;
+        let remapped = self.remapping_at(at, last)?;
+        let asked = next_at(self.waiting.as_slice(), at, last);
+        let line = line_at(
+            self.alloc,
+            self.me,
+            self.waiting.as_slice(),
+            at,
+            last,
+            asked,
+        );
+        let mapped = self.mapped_after(&line)?;
+        self.try_at(
+            at,
+            Next {
+                asked,
+                line,
+                mapped,
+                remapped,
+            },
+        )
     }
 
-    fn try_at(&mut self, at: usize, tag: Tag, asked: Asked) -> Result<Option<Again<A>>, AllocError>
+    fn try_at(&mut self, at: usize, next: Next<A>) -> Result<Option<Again<A>>, AllocError>
         requires at { at < vec_len self.old.waiting }
         requires early { max self.old.clock 0 < greatest }
-        requires tag { tag_text tag ≡ tag_of (ask_in (node_of self.old).waiting at) }
-        requires asked { asked ≡ next_access (ask_in (node_of self.old).waiting at) }
+        requires free { is_held (node_of self.old).mapped (node_of self.old).site (ask_in (node_of self.old).waiting at) ≡ false }
+        requires asked { next.asked ≡ next_access (node_of self.old).sites (node_of self.old).site (ask_in (node_of self.old).waiting at) }
+        requires line { line_of next.line ≡ next_line (node_of self.old) (ask_in (node_of self.old).waiting at) }
+        requires mapped { unwrap_or (option_map (λ m. m.items) next.mapped) (node_of self.old).mapped
+            ≡ mapped_by (node_of self.old) (next_line (node_of self.old) (ask_in (node_of self.old).waiting at)) }
+        requires told { option_map remapped_of next.remapped ≡ remapping (node_of self.old).sites (node_of self.old).me (node_of self.old).mapped
+            (node_of self.old).site (ask_in (node_of self.old).waiting at) }
         ensures none { IfOk result (λ again. IfNone again ((can_be_made (node_of self.old) (ask_in (node_of self.old).waiting at) ≡ false)
             × (node_of self.new ≡ node_of self.old))) }
         ensures count { IfOk result (λ again. IfNone again (vec_len self.new.waiting ≡ vec_len self.old.waiting)) }
@@ -72,11 +103,12 @@ impl<A: Allocator + Copy> Node<A> {
         ensures after { IfOk result (λ again. IfSome again (λ a. node_of self.new ≡ again_at (node_of self.old) at)) }
         ensures refused { OnErr result (node_of self.new ≡ node_of self.old) }
     {
-        let ask = Ask {
-            site: self.me,
-            tag,
-            asked: Question::Access(asked),
-        };
+        let Next {
+            asked,
+            line,
+            mapped,
+            remapped,
+        } = next;
         let clock = self.next_clock(0);
         let made = step_access(&mut self.site, Input::of(asked))?;
         if is_waiting(&made.answer) {
@@ -84,24 +116,46 @@ impl<A: Allocator + Copy> Node<A> {
         }
         let stays = goes_on_at(self.waiting.as_slice(), at, &made.answer);
         let (told, block) = go_on_or_end(&mut self.waiting, at, stays, &made.answer);
-        let said = self.say(clock, told, stays, made, block);
-        Ok(Some(Again { said, ask }))
+        change_mapped(&mut self.mapped, mapped);
+        let said = self.say(clock, told, stays, made, block, remapped);
+        Ok(Some(Again { said, line }))
     }
 }
 
-/// The tag and the next access of the ask at this place.
-#[tactic(auto, using(crate::proofs::Asks::map_read))]
-fn next_at<A: Allocator + Copy>(waiting: &[WaitingAsk<A>], at: usize) -> (Tag, Asked)
-    requires { at < length waiting.now }
-    ensures tag { tag_text result.0 ≡ tag_of (ask_in (map ask_of waiting.now) at) }
-    ensures asked { result.1 ≡ next_access (ask_in (map ask_of waiting.now) at) }
+/// The next step of an ask that waits.
+#[derive(Drop)]
+struct Next<A: Allocator + Copy> {
+    asked: Asked,
+    /// The line for it alone.
+    line: Line<A>,
+    /// What is mapped after it, where that changes.
+    mapped: Option<Vec<Mapping, A>>,
+    remapped: Option<Remapped<A>>,
+}
+
+/// What is mapped changes, if it does.
+pub(crate) fn change_mapped<A: Allocator + Copy>(
+    mapped: &mut Vec<Mapping, A>,
+    after: Option<Vec<Mapping, A>>,
+)
+    ensures { mapped.new.items ≡ unwrap_or (option_map (λ m. m.items) after) mapped.old.items }
 {
-    let ask = &waiting[at];
-    (ask.tag(), ask.next_access())
+    if let Some(after) = after {
+        *mapped = after;
+    }
+}
+
+/// The next access of the ask at this place, which may be its last.
+#[tactic(auto, using(crate::proofs::Asks::map_read))]
+fn next_at<A: Allocator + Copy>(waiting: &[WaitingAsk<A>], at: usize, last: bool) -> Asked
+    requires { at < length waiting.now }
+    ensures { result ≡ access_if last (ask_in (map ask_of waiting.now) at) }
+{
+    waiting[at].next_access(last)
 }
 
 /// One step of the site at an access. One that waits for what was asked already leaves the site as it is.
-fn step_access<A: Allocator + Copy>(
+pub(crate) fn step_access<A: Allocator + Copy>(
     site: &mut Site<A>,
     input: Input<A>,
 ) -> Result<Made<A>, AllocError>

@@ -4,17 +4,21 @@ ghost use Rattle.shm_model.specs.Basics.{greatest};
 ghost use Rattle.shm_process.specs.Access.{is_open};
 ghost use Rattle.shm_process.specs.AskOf.{ask_of};
 ghost use Rattle.shm_process.specs.Cause.{Cause, OfLine};
+ghost use Rattle.shm_process.specs.Mapped as mapped;
+ghost use Rattle.shm_process.specs.Mapped.{is_passing};
 ghost use Rattle.shm_process.specs.Node.{next_clock, says};
 ghost use Rattle.shm_process.specs.NodeOf.{access_under, heard_of, node_of, said_of};
-ghost use Rattle.shm_process.specs.Waiting.{after, after_unheard, counted, has_room, joined, joining, joins, passed_over, said, taken, with_ask};
+ghost use Rattle.shm_process.specs.Waiting.{after, after_unheard, block_in, counted, has_room, joined, joining, joins, map_in, passed_over, passing_in, said, taken, with_ask};
 ghost use Rattle.shm_site.specs.Step.{input_of, is_foreign};
 ghost use Rattle.shm_wire.specs.Asks as asks;
-ghost use Rattle.shm_wire.specs.Asks.{IsAsk};
+ghost use Rattle.shm_wire.specs.Asks.{IsAsk, IsAsked};
 ghost use Rattle.shm_wire.specs.Line as stream;
 ghost use Rattle.shm_wire.specs.Line.{IsLine};
 ghost use Rattle.shm_wire.specs.LineOf.{line_of};
 ghost use Rattle.shm_wire.specs.SentOf.{sent_of};
 ghost use Rattle.shm_wire.specs.TagOf.{tag_text};
+ghost use Rattle.shm_wire.specs.UnmapOf.{unmap_in};
+ghost use Rattle.shm_wire.specs.Unmaps.{IsUnmap};
 ghost use Rattle.shm_wire.specs.WriteOf.{write_of};
 ghost use Rattle.shm_wire.specs.Writes.{IsWrite};
 
@@ -23,16 +27,18 @@ use crate::block_store::Write;
 use crate::build_step_output::is_open;
 use crate::interpreted_line::Heard;
 use crate::node::Node;
+use crate::page_map::{Map, is_within};
+use crate::page_unmap::Unmap;
 use crate::step_output::Said;
 use crate::waiting_ask::WaitingAsk;
-use shm_model::Asked;
+use shm_model::{Asked, Kind};
 use shm_place::PAGE_BYTES;
 use shm_site::Answer;
-use shm_wire::{Ask, Line, Question, Sent, Tag, WriteAsk};
+use shm_wire::{Ask, Line, Question, Sent, Tag, UnmapAsk, WriteAsk};
 use std::alloc::{AllocError, Allocator};
 
-/// The most asks that wait. A further access is answered at once, as one that is only tried; a further block is answered `waiting`, and
-/// isn't tried.
+/// The most asks that wait. A further access is answered at once, as one that is only tried; a further block or mapping is answered
+/// `waiting`, and isn't tried.
 pub(crate) const MOST_WAITING: usize = 64;
 
 /// The most steps of waiting asks after one line: for each ask a page's bytes, and one step more that asks for a right. They are always
@@ -52,6 +58,7 @@ impl<A: Allocator + Copy> Node<A> {
             Line::Envelope(sent) => self.take_envelope(sent),
             Line::Ask(ask) => self.take_ask(&ask),
             Line::Write(write) => self.take_write(write),
+            Line::Unmap(unmap) => self.take_unmap(unmap),
         }
     }
 
@@ -123,7 +130,24 @@ impl<A: Allocator + Copy> Node<A> {
         Ok(None)
     }
 
-    /// The block that is asked for, if it finds room to wait.
+    /// Takes what gives a mapping up: it joins those that wait, or it is passed over.
+    fn take_unmap(&mut self, unmap: UnmapAsk<A>) -> Result<Option<Said<A>>, AllocError>
+        requires { IsUnmap (unmap_in unmap) }
+        ensures said { IfOk result (λ said_now. option_map (said_of (OfLine (stream.Unmap (unmap_in unmap)))) said_now
+            ≡ said (node_of self.old) (stream.Unmap (unmap_in unmap))) }
+        ensures after { OnOk result (node_of self.new ≡ after (node_of self.old) (stream.Unmap (unmap_in unmap))) }
+        ensures refused { OnErr result (node_of self.new ≡ node_of self.old) }
+    {
+        if !self.has_room() || unmap.site != self.me || self.is_late(0) || !self.may_unmap(&unmap) {
+            self.pass_over();
+            return Ok(None);
+        }
+        let unmap = Unmap::new(self.alloc, unmap)?;
+        self.join_block(WaitingAsk::Unmaps(unmap))?;
+        Ok(None)
+    }
+
+    /// What is asked for, if it waits without a step and finds room.
     fn joining_block(&self, ask: &Ask) -> Result<Option<WaitingAsk<A>>, AllocError>
         requires { IsAsk (asks.ask_of ask.now) }
         ensures { IfOk result (λ block. option_map ask_of block ≡ joining (node_of self.now) (stream.Ask (asks.ask_of ask.now))) }
@@ -131,11 +155,32 @@ impl<A: Allocator + Copy> Node<A> {
         if !self.has_room() || ask.site != self.me || self.is_late(0) {
             return Ok(None);
         }
-        let Question::Read { at, offset, length } = ask.asked else {
-            return Ok(None);
-        };
-        let block = Block::new(self.alloc, ask.tag, at, offset, length)?;
-        Ok(Some(WaitingAsk::Reads(block)))
+        self.block_asked(ask.tag, ask.asked)
+    }
+
+    /// A block that is to be loaded, a page that is to be mapped, or an access that goes to what is mapped.
+    fn block_asked(&self, tag: Tag, question: Question) -> Result<Option<WaitingAsk<A>>, AllocError>
+        requires { IsAsked question }
+        ensures { IfOk result (λ block. option_map ask_of block ≡ block_in (node_of self.now) (tag_text tag) question) }
+    {
+        match question {
+            Question::Read { at, offset, length } => {
+                let block = Block::new(self.alloc, tag, at, offset, length)?;
+                Ok(Some(WaitingAsk::Reads(block)))
+            }
+            Question::Map { at, index, kind } => Ok(map_asked(tag, at, index, kind)),
+            Question::Access(asked) => Ok(self.passing_asked(tag, asked)),
+            _ => Ok(None),
+        }
+    }
+
+    fn passing_asked(&self, tag: Tag, asked: Asked) -> Option<WaitingAsk<A>>
+        ensures { option_map ask_of result ≡ passing_in (is_passing (node_of self.now).mapped (node_of self.now).site asked) (tag_text tag) asked }
+    {
+        if !self.is_passing(asked) {
+            return None;
+        }
+        Some(WaitingAsk::Access { tag, asked })
     }
 
     /// The block joins those that wait.
@@ -177,7 +222,7 @@ impl<A: Allocator + Copy> Node<A> {
         let made = self.site.step_spending(input)?;
         self.taken = one_more(self.taken);
         let (tag, stays) = join(&mut self.waiting, room, waits, tag, &made.answer);
-        Ok(self.say(clock, tag, stays, made, None))
+        Ok(self.say(clock, tag, stays, made, None, None))
     }
 
     /// Checks that one more ask may wait.
@@ -195,6 +240,26 @@ impl<A: Allocator + Copy> Node<A> {
     {
         self.clock.max(source) + 1
     }
+}
+
+/// A page that a segment can have is to be mapped.
+fn map_asked<A: Allocator + Copy>(
+    tag: Tag,
+    at: u32,
+    index: u32,
+    kind: Kind,
+) -> Option<WaitingAsk<A>>
+    ensures { option_map ask_of result ≡ map_in (mapped.is_within at index) (tag_text tag) at index kind }
+{
+    if !is_within(at, index) {
+        return None;
+    }
+    Some(WaitingAsk::Maps(Map {
+        tag,
+        at,
+        index,
+        kind,
+    }))
 }
 
 /// An access joins those that wait, if there is room for it and it was neither made nor refused: then it stays. The tag, unless it does.

@@ -1,3 +1,4 @@
+use crate::mapping_change::Remapped;
 use shm_model::Answer;
 use shm_parts::Envelope;
 use shm_place::SiteId;
@@ -21,4 +22,6 @@ pub struct Said<A: Allocator + Copy = Global> {
     pub answer: Answer,
     /// All bytes of a block, where the step is its last load. They are written in place of the answer.
     pub block: Option<Vec<u8, A>>,
+    /// What the step changes of the pages that are mapped. It is written in place of the answer.
+    pub remapped: Option<Remapped<A>>,
 }

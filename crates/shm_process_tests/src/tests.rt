@@ -3,6 +3,8 @@ mod block_stores;
 mod exchanges;
 mod fill_heap;
 mod impossible_envelopes;
+mod mapped_lines;
+mod mappings;
 mod seal_digests;
 mod two_nodes;
 mod wire;
@@ -48,7 +50,7 @@ fn take_line<A: Allocator + Copy>(
 
 /// What is said of a step of an ask that waited.
 fn said_again<A: Allocator + Copy>(again: Option<Again<A>>) -> Option<Said<A>> {
-    let Again { said, ask: _ } = again?;
+    let Again { said, line: _ } = again?;
     Some(said)
 }
 

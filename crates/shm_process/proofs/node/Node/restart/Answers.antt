@@ -26,6 +26,7 @@ returns-clause-said g c =
       tag = tag_told false None node.caller done.answer;
       answer = done.answer;
       block = None;
+      remapped = None;
       cause = OfRestart;
     } in
     c.say.ensures.said OfRestart ∙ ap shape c.next_clock-clock.ensures

@@ -1,15 +1,15 @@
-use Rattle.std.proofs.Common.{◌≡◌, ◌∙◌, true, ap, ap₂, map, sym}
+use Rattle.std.proofs.Common.{◌≡◌, ◌∙◌, false, true, ap, ap₂, map, sym}
 use Rattle.std.specs.Prelude.{option_map}
 use Rattle.shm_model.specs.Step.{step}
 use Rattle.shm_parts.specs.Message.{envelope_of}
 use Rattle.shm_site.specs.Site.{site_of, stepped}
 use Rattle.shm_site.specs.Step.{input_of}
-use Rattle.shm_wire.specs.Line as stream
+use Rattle.shm_wire.specs.LineOf.{line_of}
 use Rattle.shm_wire.specs.TagOf.{tag_text}
-use Rattle.shm_process.specs.Access.{access_ask}
 use Rattle.shm_process.specs.AskOf.{ask_of}
 use Rattle.shm_process.specs.Cause.{OfLine}
 use Rattle.shm_process.specs.NodeOf.{node_of}
+use Rattle.shm_process.specs.RemappedOf.{remapped_of}
 use Rattle.shm_process.specs.WaitingAsks.{ask_in, goes_on}
 use Rattle.shm_process.proofs.Made.{IsMade, can_be, node_made, said_made}
 use Rattle.shm_process.proofs.node.Node.try_at.Goals as goal
@@ -23,9 +23,9 @@ returns-then-is_waiting-clause-none g c =
     let made : step node.sites node.me node.site input ≡ stepped c.step_access.new.site done.answer (map envelope_of done.sent.items) =
     sym (ap₂ (λ sites me. step sites me node.site input) self.all_sites self.own_number) ∙ c.in_ok-made.ensures.step in
     let waits = sym c.is_waiting.ensures ∙ c.if-is_waiting.true in
-    let m : IsMade node c.args.at c.args.asked input (site_of c.step_access.new.site) done.answer (map envelope_of done.sent.items) =
+    let m : IsMade node c.args.at c.args.next.asked input (site_of c.step_access.new.site) done.answer (map envelope_of done.sent.items) =
     record { asks = c.requires.asked; hands = c.of.ensures.input; made = made } in (
-      can_be node c.args.at c.args.asked input (site_of c.step_access.new.site) done.answer (map envelope_of done.sent.items) m true waits,
+      can_be node c.args.at c.args.next.asked input (site_of c.step_access.new.site) done.answer (map envelope_of done.sent.items) m true waits c.requires.free,
       ap (λ site. record node { site = site }) (c.in_ok-made.ensures.still waits),
     )
 
@@ -37,16 +37,16 @@ returns-clause-said g c =
     let input = input_of c.of.result in
     let made : step node.sites node.me node.site input ≡ stepped c.step_access.new.site done.answer (map envelope_of done.sent.items) =
     sym (ap₂ (λ sites me. step sites me node.site input) self.all_sites self.own_number) ∙ c.in_ok-made.ensures.step in
-    let m : IsMade node c.args.at c.args.asked input (site_of c.step_access.new.site) done.answer (map envelope_of done.sent.items) =
+    let m : IsMade node c.args.at c.args.next.asked input (site_of c.step_access.new.site) done.answer (map envelope_of done.sent.items) =
     record { asks = c.requires.asked; hands = c.of.ensures.input; made = made } in
     let stays : c.goes_on_at-stays.result ≡ goes_on (ask_in node.waiting c.args.at) done.answer =
     c.goes_on_at-stays.ensures ∙ ap (λ asks. goes_on (ask_in (map ask_of asks) c.args.at) done.answer) c.as_slice.ensures.value in
     let told = option_map tag_text c.go_on_or_end-told.result.0 in
     let block = option_map (λ bytes. bytes.items) c.go_on_or_end-told.result.1 in
-    said_made node c.args.at c.args.asked input (site_of c.step_access.new.site) done.answer (map envelope_of done.sent.items) m _
-    c.goes_on_at-stays.result told block c.next_clock-clock.result (tag_text c.args.tag) c.requires.tag stays c.go_on_or_end-told.ensures.tag
-    c.go_on_or_end-told.ensures.whole c.next_clock-clock.ensures
-    (c.say-said.ensures.said (OfLine (stream.Ask (access_ask node.me (tag_text c.args.tag) c.args.asked))))
+    said_made node c.args.at c.args.next.asked input (site_of c.step_access.new.site) done.answer (map envelope_of done.sent.items) m _
+    c.goes_on_at-stays.result told block c.next_clock-clock.result (option_map remapped_of c.args.next.remapped) (line_of c.args.next.line) stays c.go_on_or_end-told.ensures.tag
+    c.go_on_or_end-told.ensures.whole c.next_clock-clock.ensures c.requires.told c.requires.line
+    (c.say-said.ensures.said (OfLine (line_of c.args.next.line)))
 
 pub returns-clause-after : goal.returns-clause-after
 returns-clause-after g c =
@@ -56,10 +56,24 @@ returns-clause-after g c =
     let input = input_of c.of.result in
     let made : step node.sites node.me node.site input ≡ stepped c.step_access.new.site done.answer (map envelope_of done.sent.items) =
     sym (ap₂ (λ sites me. step sites me node.site input) self.all_sites self.own_number) ∙ c.in_ok-made.ensures.step in
-    let m : IsMade node c.args.at c.args.asked input (site_of c.step_access.new.site) done.answer (map envelope_of done.sent.items) =
+    let m : IsMade node c.args.at c.args.next.asked input (site_of c.step_access.new.site) done.answer (map envelope_of done.sent.items) =
     record { asks = c.requires.asked; hands = c.of.ensures.input; made = made } in
     let stays : c.goes_on_at-stays.result ≡ goes_on (ask_in node.waiting c.args.at) done.answer =
     c.goes_on_at-stays.ensures ∙ ap (λ asks. goes_on (ask_in (map ask_of asks) c.args.at) done.answer) c.as_slice.ensures.value in
-    node_made node c.args.at c.args.asked input (site_of c.step_access.new.site) done.answer (map envelope_of done.sent.items) m _
+    node_made node c.args.at c.args.next.asked input (site_of c.step_access.new.site) done.answer (map envelope_of done.sent.items) m _
     c.goes_on_at-stays.result (option_map tag_text c.go_on_or_end-told.result.0) (map ask_of c.go_on_or_end-told.new.waiting.items) c.next_clock-clock.result
-    stays c.go_on_or_end-told.ensures.tag c.go_on_or_end-told.ensures.after c.next_clock-clock.ensures c.say-said.ensures.after
+    c.change_mapped.new.mapped.items stays c.go_on_or_end-told.ensures.tag c.go_on_or_end-told.ensures.after c.next_clock-clock.ensures
+    (c.change_mapped.ensures ∙ c.requires.mapped) c.say-said.ensures.after
+
+pub returns-clause-can : goal.returns-clause-can
+returns-clause-can g c =
+    let self = c.args.self.now in
+    let node = node_of self in
+    let done = c.in_ok-made.made in
+    let input = input_of c.of.result in
+    let made : step node.sites node.me node.site input ≡ stepped c.step_access.new.site done.answer (map envelope_of done.sent.items) =
+    sym (ap₂ (λ sites me. step sites me node.site input) self.all_sites self.own_number) ∙ c.in_ok-made.ensures.step in
+    let waits = sym c.is_waiting.ensures ∙ c.if-is_waiting.false in
+    let m : IsMade node c.args.at c.args.next.asked input (site_of c.step_access.new.site) done.answer (map envelope_of done.sent.items) =
+    record { asks = c.requires.asked; hands = c.of.ensures.input; made = made } in
+    can_be node c.args.at c.args.next.asked input (site_of c.step_access.new.site) done.answer (map envelope_of done.sent.items) m false waits c.requires.free
