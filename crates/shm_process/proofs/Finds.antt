@@ -1,24 +1,12 @@
--- Loops over lists, one more at a time: what is still to come makes the whole.
-use Rattle.std.proofs.Common.{arith, ◌≡◌, ℕ, ◌+◌, ◌-◌, ◌<◌, ◌≤◌, Bool, true, false, List, [], ◌∷◌, ◌++◌, Option, Some, None, length, drop, get_or, cond, refl, ap, sym, ◌∙◌, append-nil, nat_le}
-use Rattle.std.specs.List.{find, flat_map}
+-- Loops over lists, one more at a time: what is still to come makes the whole. The items may be seen otherwise than they stand.
+use Rattle.std.proofs.Common.{arith, ◌≡◌, ℕ, ◌+◌, ◌-◌, ◌<◌, ◌≤◌, Bool, true, false, suc, List, [], ◌∷◌, ◌++◌, length, map, drop, get_or, refl, ap, ap₂, sym, subst, ◌∙◌, append-nil, nat_le}
+use Rattle.std.specs.List.{All, flat_map}
 use Rattle.std.proofs.lemmas.Bool.Decides.{nat_tests}
-use Rattle.std.proofs.lemmas.List.{append_assoc, drop_all, drop_more, length-append}
-use Rattle.shm_process.specs.Remaps.{stored_offsets}
-
--- ---- a search
-
-pub find_past : {X : Type 0} (p : X → Bool) (xs : List X) (i : ℕ) (d : X) (whole : Option X) → i < length xs → p (get_or xs i d) ≡ false
-    → find p (drop i xs) ≡ whole → find p (drop (i + 1) xs) ≡ whole
-find_past p xs i d whole h fails e =
-    sym (ap (find p) (drop_more xs i d h) ∙ ap (λ b. cond b (Some (get_or xs i d)) (find p (drop (i + 1) xs))) fails) ∙ e
-
-pub find_here : {X : Type 0} (p : X → Bool) (xs : List X) (i : ℕ) (d : X) (whole : Option X) → i < length xs → p (get_or xs i d) ≡ true
-    → find p (drop i xs) ≡ whole → Some (get_or xs i d) ≡ whole
-find_here p xs i d whole h passes e =
-    sym (ap (find p) (drop_more xs i d h) ∙ ap (λ b. cond b (Some (get_or xs i d)) (find p (drop (i + 1) xs))) passes) ∙ e
-
-pub find_over : {X : Type 0} (p : X → Bool) (xs : List X) (i : ℕ) (whole : Option X) → length xs ≤ i → find p (drop i xs) ≡ whole → None ≡ whole
-find_over p xs i whole h e = sym (ap (find p) (drop_all i xs h)) ∙ e
+use Rattle.std.proofs.lemmas.List.{append_assoc, drop_all, drop_more, length-append, length-map}
+use Rattle.std.proofs.lemmas.List.Elements.{All-get_or}
+use Rattle.shm_wire.specs.Unmaps.{Run}
+use Rattle.shm_process.specs.Remaps.{run_bytes, run_offsets, stored_offsets}
+use Rattle.shm_process.proofs.Asks.{map_read}
 
 -- ---- lists one after another
 
@@ -33,7 +21,37 @@ one_left f xs i d old new whole h pushed e =
 pub none_left : {X Y : Type 0} (f : X → List Y) (xs : List X) (i : ℕ) (old whole : List Y) → length xs ≤ i → old ++ flat_map f (drop i xs) ≡ whole → old ≡ whole
 none_left f xs i old whole h e = sym (append-nil old) ∙ sym (ap (λ l. old ++ flat_map f l) (drop_all i xs h)) ∙ e
 
+module _ {Z X : Type 0} (s : Z → X) (zs : List Z) where
+  -- an item, as it is seen
+  seen-within : (i : ℕ) → i < length zs → i < length (map s zs)
+  seen-within i h = subst (λ n. i < n) (sym (length-map zs s)) h
+
+  seen-over : (i : ℕ) → length zs ≤ i → length (map s zs) ≤ i
+  seen-over i h = subst (λ n. n ≤ i) (sym (length-map zs s)) h
+
+  pub seen_all : (P : X → Type 0) (i : ℕ) (z : Z) → i < length zs → z ≡ get_or zs i z → All P (map s zs) → P (s z)
+  seen_all P i z h is all = subst P (map_read s zs i z (s z) h is) (All-get_or P (map s zs) i (s z) (seen-within i h) all)
+
+  pub seen_left : {Y : Type 0} (f : X → List Y) (i : ℕ) (z : Z) (old new whole : List Y) → i < length zs → z ≡ get_or zs i z → new ≡ old ++ f (s z)
+      → old ++ flat_map f (drop i (map s zs)) ≡ whole → new ++ flat_map f (drop (i + 1) (map s zs)) ≡ whole
+  seen_left f i z old new whole h is pushed e =
+      one_left f (map s zs) i (s z) old new whole (seen-within i h) (pushed ∙ ap (λ x. old ++ f x) (sym (map_read s zs i z (s z) h is))) e
+
+  pub seen_none : {Y : Type 0} (f : X → List Y) (i : ℕ) (old whole : List Y) → length zs ≤ i → old ++ flat_map f (drop i (map s zs)) ≡ whole → old ≡ whole
+  seen_none f i old whole h e = none_left f (map s zs) i old whole (seen-over i h) e
+
 -- ---- offsets
+
+pub offsets_count : (offset : ℕ) (bytes : List ℕ) → length (stored_offsets offset bytes) ≡ length bytes
+offsets_count offset [] = refl
+offsets_count offset (byte ∷ bytes) = ap suc (offsets_count (offset + 1) bytes)
+
+pub as_many_offsets : (runs : List Run) → length (flat_map run_offsets runs) ≡ length (flat_map run_bytes runs)
+as_many_offsets [] = refl
+as_many_offsets (run ∷ runs) =
+    length-append (run_offsets run) (flat_map run_offsets runs)
+    ∙ ap₂ (λ a b. a + b) (offsets_count run.offset run.bytes) (as_many_offsets runs)
+    ∙ sym (length-append run.bytes (flat_map run_bytes runs))
 
 pub one_offset : (first place : ℕ) (bytes old new whole : List ℕ) (offset : ℕ) → place < length bytes → offset ≡ first + place → new ≡ old ++ offset ∷ []
     → old ++ stored_offsets (first + place) (drop place bytes) ≡ whole → new ++ stored_offsets (first + (place + 1)) (drop (place + 1) bytes) ≡ whole
@@ -84,3 +102,18 @@ module _ {X : Type 0} (f : X → List ℕ) (xs : List X) where
 
   pub fits_all : (i left : ℕ) (whole : Bool) → length xs ≤ i → nat_le (length (flat_map f (drop i xs))) left ≡ whole → true ≡ whole
   fits_all i left whole h e = sym (zero-fits left) ∙ sym (ap (λ l. nat_le (length (flat_map f l)) left) (drop_all i xs h)) ∙ e
+
+-- of items as they are seen
+module _ {Z X : Type 0} (s : Z → X) (f : X → List ℕ) (zs : List Z) where
+  pub seen_fits : (i : ℕ) (z : Z) (left next count : ℕ) (whole : Bool) → i < length zs → z ≡ get_or zs i z → count ≡ length (f (s z)) → count ≤ left → next ≡ left - count
+      → nat_le (length (flat_map f (drop i (map s zs)))) left ≡ whole → nat_le (length (flat_map f (drop (i + 1) (map s zs)))) next ≡ whole
+  seen_fits i z left next count whole h is counts few rest e =
+      fits_on f (map s zs) i (s z) left next count whole (seen-within s zs i h) (counts ∙ ap (λ x. length (f x)) (sym (map_read s zs i z (s z) h is))) few rest e
+
+  pub seen_not : (i : ℕ) (z : Z) (left count : ℕ) (whole : Bool) → i < length zs → z ≡ get_or zs i z → count ≡ length (f (s z)) → left < count
+      → nat_le (length (flat_map f (drop i (map s zs)))) left ≡ whole → false ≡ whole
+  seen_not i z left count whole h is counts many e =
+      fits_not f (map s zs) i (s z) left count whole (seen-within s zs i h) (counts ∙ ap (λ x. length (f x)) (sym (map_read s zs i z (s z) h is))) many e
+
+  pub seen_all_fit : (i left : ℕ) (whole : Bool) → length zs ≤ i → nat_le (length (flat_map f (drop i (map s zs)))) left ≡ whole → true ≡ whole
+  seen_all_fit i left whole h e = fits_all f (map s zs) i left whole (seen-over s zs i h) e

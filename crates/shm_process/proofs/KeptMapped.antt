@@ -1,6 +1,6 @@
 -- Whatever happens to a node, its site has the right to each page that its machine maps.
 use Rattle.std.proofs.Common.{arith, ◌≡◌, ℕ, ◌+◌, Bool, true, false, ◌&&◌, ◌||◌, ◌==◌, not, List, [], ◌∷◌, ◌++◌, Option, Some, None, Result, Ok, Err, refl, sym, ◌∙◌, ap, subst, cond, is_some, nat_lt}
-use Rattle.std.specs.List.{find, flat_map, list_all, list_any, position_from}
+use Rattle.std.specs.List.{cons_option, find, list_all, list_any, position_from}
 use Rattle.std.specs.Prelude.{option_map}
 use Rattle.std.specs.Option.{option_map_or}
 use Rattle.std.proofs.lemmas.Bool.{and_parts}
@@ -95,31 +95,40 @@ lower Write (OwnRead n b) a = refl
 lower Write (OwnWrite n b) a = refl
 lower Write (Handed n to b) a = absurd (false-true a)
 
-kept_as-kept : (site : Site) (keeps : Option Kind) (m : Mapping) → is_kept site m ≡ true → list_all (is_kept site) (kept_as keeps m) ≡ true
-kept_as-kept site None m e = refl
-kept_as-kept site (Some Write) m e = both _ _ e refl
+-- a mapping is kept, if there is one
+FoundKept : Site → Option Mapping → Type 0
+FoundKept site None = Unit {0}
+FoundKept site (Some m) = is_kept site m ≡ true
+
+kept_as-kept : (site : Site) (keeps : Option Kind) (m : Mapping) → is_kept site m ≡ true → FoundKept site (kept_as keeps m)
+unfolding FoundKept
+kept_as-kept site None m e = tt
+kept_as-kept site (Some Write) m e = e
 kept_as-kept site (Some Read) m e =
     let k = kept-is site m e in
-    both _ _ (is-kept site (record m { kind = Read }) (record { number = k.number; named = k.named; allowed = lower m.kind (site.entries m.page) k.allowed })) refl
+    is-kept site (record m { kind = Read }) (record { number = k.number; named = k.named; allowed = lower m.kind (site.entries m.page) k.allowed })
 
 left-kept : (site : Site) (page : PageId) (keeps : Option Kind) (m : Mapping) (same : Bool) → is_kept site m ≡ true
-    → list_all (is_kept site) (cond same (kept_as keeps m) (m ∷ [])) ≡ true
+    → FoundKept site (cond same (kept_as keeps m) (Some m))
+unfolding FoundKept
 left-kept site page keeps m true e = kept_as-kept site keeps m e
-left-kept site page keeps m false e = both _ _ e refl
+left-kept site page keeps m false e = e
+
+with-kept : (site : Site) (o : Option Mapping) (ms : List Mapping) → FoundKept site o → list_all (is_kept site) ms ≡ true
+    → list_all (is_kept site) (cons_option o ms) ≡ true
+unfolding FoundKept
+with-kept site None ms f all = all
+with-kept site (Some m) ms f all = both _ _ f all
 
 lowered-kept : (site : Site) (page : PageId) (keeps : Option Kind) (mapped : List Mapping) → list_all (is_kept site) mapped ≡ true
     → list_all (is_kept site) (lowered page keeps mapped) ≡ true
 lowered-kept site page keeps [] e = refl
 lowered-kept site page keeps (m ∷ ms) e =
     let parts = and_parts (is_kept site m) (list_all (is_kept site) ms) e in
-    list_all-append (is_kept site) (left_of page keeps m) (lowered page keeps ms)
-    ∙ both _ _ (left-kept site page keeps m (same_page page m.page) parts.0) (lowered-kept site page keeps ms parts.1)
+    with-kept site (left_of page keeps m) (lowered page keeps ms) (left-kept site page keeps m (same_page page m.page) parts.0)
+    (lowered-kept site page keeps ms parts.1)
 
 -- a mapping that is found is kept
-FoundKept : Site → Option Mapping → Type 0
-FoundKept site None = Unit {0}
-FoundKept site (Some m) = is_kept site m ≡ true
-
 found-kept : (site : Site) (page : PageId) (mapped : List Mapping) → list_all (is_kept site) mapped ≡ true → FoundKept site (mapped_at page mapped)
 unfolding FoundKept
 found-kept site page [] e = tt
@@ -128,7 +137,6 @@ found-kept site page (m ∷ ms) e =
     here-kept (same_page page m.page) parts.0 (found-kept site page ms parts.1)
   where
     here-kept : (here : Bool) → is_kept site m ≡ true → FoundKept site (mapped_at page ms) → FoundKept site (cond here (Some m) (mapped_at page ms))
-    unfolding FoundKept
     here-kept true here later = here
     here-kept false here later = later
 
@@ -294,6 +302,7 @@ asked-line node tag question.Tick x true false free e k =
 asked-line node tag (question.Read at offset count) x true false free e k = absurd (cc)
 asked-line node tag (question.Show page) x true false free e k = absurd (cc)
 asked-line node tag (question.Map at index kind) x true false free e k = absurd (cc)
+asked-line node tag question.Health x true false free e k = absurd (cc)
 asked-line node tag question.Mappings x true false free e k = absurd (cc)
 
 line-harmless : (node : Node) (line : stream.Line) (x : Heard) → heard node line ≡ Some x → KeepsMapped node → IsHarmless node x.input

@@ -60,6 +60,7 @@ module _ (node : Node) (site : ℕ) (tag : List ℕ) (x : Heard) where
   ask-again (question.Read at offset count) e = absurd (none-here (site == node.me) (is_stopped node (question.Read at offset count)) x e)
   ask-again (question.Show page) e = absurd (none-here (site == node.me) (is_stopped node (question.Show page)) x e)
   ask-again (question.Map at index kind) e = absurd (none-here (site == node.me) (is_stopped node (question.Map at index kind)) x e)
+  ask-again question.Health e = absurd (none-here (site == node.me) (is_stopped node question.Health) x e)
   ask-again question.Mappings e = absurd (none-here (site == node.me) (is_stopped node question.Mappings) x e)
 
   ask-mapped : (q : Question) → heard node (stream.Ask (record { site = site; tag = tag; asked = q })) ≡ Some x
@@ -71,6 +72,7 @@ module _ (node : Node) (site : ℕ) (tag : List ℕ) (x : Heard) where
   ask-mapped (question.Read at offset count) e = refl
   ask-mapped (question.Show page) e = refl
   ask-mapped (question.Map at index kind) e = absurd (none-here (site == node.me) (is_stopped node (question.Map at index kind)) x e)
+  ask-mapped question.Health e = refl
   ask-mapped question.Mappings e = refl
 
 pub heard-again : (node : Node) (line : stream.Line) (x : Heard) → heard node line ≡ Some x → line_again node line ≡ Some x
@@ -104,6 +106,7 @@ kept-mapped node (stream.Ask ask) = asked-mapped node ask.asked
     asked-mapped node (question.Read at offset count) = refl
     asked-mapped node (question.Show page) = refl
     asked-mapped node (question.Map at index kind) = refl
+    asked-mapped node question.Health = refl
     asked-mapped node question.Mappings = refl
 kept-mapped node (stream.Write write) = refl
 kept-mapped node (stream.Unmap unmap) = refl

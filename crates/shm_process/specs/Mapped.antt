@@ -1,7 +1,7 @@
 -- The pages of a site that its machine maps: processors load and store there without a step of the site. So nothing is taken that asks for
 -- more than the machine has given up, and no access of the site passes the machine's memory by.
 use Rattle.std.specs.Prelude.{ℕ, ◌*◌, Bool, true, false, ◌&&◌, ◌||◌, not, List, [], ◌∷◌, ◌++◌, Option, None, Some, Result, Ok, Err, ◌==◌, if◌then◌else◌, is_some, map, nat_lt, option_and_then}
-use Rattle.std.specs.List.{find, flat_map, list_any}
+use Rattle.std.specs.List.{filter_map, find, list_any}
 use Rattle.shm_place.specs.declared.page_id.PageId.{PageId}
 use Rattle.shm_place.specs.Limits.{page_bytes, pages}
 use Rattle.shm_place.specs.Page.{in_limits, same_page}
@@ -30,17 +30,17 @@ abbrev pub mapped_at : PageId → List Mapping → Option Mapping
 mapped_at page mapped = find (λ m. same_page page m.page) mapped
 
 -- what stays of a page's mapping
-abbrev pub kept_as : Option Kind → Mapping → List Mapping
-kept_as None m = []
-kept_as (Some Read) m = record m { kind = Read } ∷ []
-kept_as (Some Write) m = m ∷ []
+abbrev pub kept_as : Option Kind → Mapping → Option Mapping
+kept_as None m = None
+kept_as (Some Read) m = Some (record m { kind = Read })
+kept_as (Some Write) m = Some m
 
-abbrev pub left_of : PageId → Option Kind → Mapping → List Mapping
-left_of page keeps m = if same_page page m.page then kept_as keeps m else m ∷ []
+abbrev pub left_of : PageId → Option Kind → Mapping → Option Mapping
+left_of page keeps m = if same_page page m.page then kept_as keeps m else Some m
 
 -- what is mapped once the page is given up so far
 abbrev pub lowered : PageId → Option Kind → List Mapping → List Mapping
-lowered page keeps mapped = flat_map (left_of page keeps) mapped
+lowered page keeps mapped = filter_map (left_of page keeps) mapped
 
 -- what is mapped to write stays so, and its bytes are the machine's
 abbrev pub mapped_for : Mapping → Option Mapping → Mapping

@@ -1,5 +1,5 @@
 //! Lists of what is mapped.
-ghost use Rattle.std.specs.Prelude.{◌≡◌, ◌++◌, IfOk, OnOk, option_to_list};
+ghost use Rattle.std.specs.Prelude.{◌≡◌, IfOk};
 ghost use Rattle.shm_mapping.specs.Verdicts as verdicts;
 ghost use Rattle.shm_parts.specs.Message.{message_of, note_of};
 ghost use Rattle.shm_process.specs.Mapped as spec;
@@ -15,12 +15,7 @@ use std::alloc::{AllocError, Allocator};
 pub(crate) fn mapped_at(mapped: &[Mapping], page: &PageId) -> Option<Mapping>
     ensures { result ≡ spec.mapped_at page.now mapped.now }
 {
-    'mapped: for mapping in mapped {
-        if *page == mapping.page {
-            return Some(*mapping);
-        }
-    }
-    None
+    mapped.iter().copied().find(|mapping| *page == mapping.page)
 }
 
 /// Checks that a page is mapped through the attachment.
@@ -39,30 +34,15 @@ pub(crate) fn lowered<A: Allocator + Copy>(
 ) -> Result<Vec<Mapping, A>, AllocError>
     ensures { IfOk result (λ left. left.items ≡ spec.lowered page.now keeps mapped.now) }
 {
-    let mut left = Vec::new(alloc);
-    'mapped: for mapping in mapped {
-        push_left(&mut left, page, keeps, mapping)?;
-    }
-    Ok(left)
+    mapped
+        .iter()
+        .filter_map(|mapping| left_of(page, keeps, mapping))
+        .collect(alloc)
 }
 
-/// Appends what stays of a mapping.
-fn push_left<A: Allocator + Copy>(
-    left: &mut Vec<Mapping, A>,
-    page: &PageId,
-    keeps: Option<Kind>,
-    mapping: &Mapping,
-) -> Result<(), AllocError>
-    ensures { OnOk result (left.new.items ≡ left.old.items ++ spec.left_of page.now keeps mapping.now) }
-{
-    if let Some(stays) = left_of(page, keeps, mapping) {
-        left.push(stays)?;
-    }
-    Ok(())
-}
-
+/// What stays of a mapping.
 fn left_of(page: &PageId, keeps: Option<Kind>, mapping: &Mapping) -> Option<Mapping>
-    ensures { option_to_list result ≡ spec.left_of page.now keeps mapping.now }
+    ensures { result ≡ spec.left_of page.now keeps mapping.now }
 {
     if *page != mapping.page {
         return Some(*mapping);
@@ -108,12 +88,7 @@ pub(crate) fn wanted<A: Allocator + Copy>(
 ) -> Option<Mapping>
     ensures { result ≡ spec.wanted me (message_of message.now) mapped.now }
 {
-    'mapped: for mapping in mapped {
-        if verdict_for(me, message, mapping) != Verdict::Take {
-            return Some(*mapping);
-        }
-    }
-    None
+    mapped.iter().copied().find(|mapping| verdict_for(me, message, mapping) != Verdict::Take)
 }
 
 /// What has to be done to a mapping before the site takes the message.

@@ -149,11 +149,11 @@ impl<A: Allocator + Copy> Node<A> {
             (spec.first_byte index) 4096) }
         ensures same { node_of self.new ≡ node_of self.old }
     {
-        let mut bytes = Vec::with_capacity(self.alloc, PAGE_BYTES)?;
+        let mut bytes = Vec::new(self.alloc);
         let offset = first_byte(at, index);
         'bytes: for place in 0..PAGE_BYTES {
             let byte = self.byte_there(at, offset + place as u32)?;
-            bytes.push_reserved(byte);
+            bytes.push(byte)?;
         }
         Ok(bytes)
     }
@@ -165,10 +165,17 @@ impl<A: Allocator + Copy> Node<A> {
         ensures same { node_of self.new ≡ node_of self.old }
     {
         let made = step_access(&mut self.site, Input::Load { at, offset })?;
-        match made.answer {
-            Answer::Byte(byte) => Ok(byte),
-            _ => Ok(0),
-        }
+        Ok(byte_in(&made.answer))
+    }
+}
+
+/// The byte that a load gave.
+fn byte_in(answer: &Answer) -> u8
+    ensures { result ≡ byte_in answer.now }
+{
+    match answer {
+        Answer::Byte(byte) => *byte,
+        _ => 0,
     }
 }
 
@@ -183,14 +190,12 @@ fn may_give_up<A: Allocator + Copy>(at: u32, runs: &[Run<A>], mapping: Option<Ma
 }
 
 fn are_of_page<A: Allocator + Copy>(index: u32, runs: &[Run<A>]) -> bool
-    requires { index < 256 }
     ensures { result ≡ list_all (remaps.is_of_page index) (map run_in runs.now) }
 {
     runs.iter().all(|run| is_of_page(index, run))
 }
 
 fn is_of_page<A: Allocator + Copy>(index: u32, run: &Run<A>) -> bool
-    requires { index < 256 }
     ensures { result ≡ remaps.is_of_page index (run_in run.now) }
 {
     let first = index as usize * PAGE_BYTES;

@@ -1,5 +1,6 @@
 //! A page that is given up, or whose bytes are brought.
-ghost use Rattle.std.specs.Prelude.{◌≡◌, ◌≤◌, ◌++◌, All, OnOk, take, true, vec_len};
+ghost use Rattle.std.specs.List.{flat_map};
+ghost use Rattle.std.specs.Prelude.{◌≡◌, ◌≤◌, ◌++◌, All, IfOk, OnOk, map, true, vec_len};
 ghost use Rattle.shm_process.specs.Mapped as mapped;
 ghost use Rattle.shm_process.specs.RemappedOf.{remapped_of};
 ghost use Rattle.shm_process.specs.Remaps as remaps;
@@ -31,23 +32,20 @@ pub(crate) struct Unmap<A: Allocator + Copy = Global> {
 }
 
 impl<A: Allocator + Copy> Unmap<A> {
-    ghost use Rattle.std.specs.Prelude.{[], false, IfOk};
+    ghost use Rattle.std.specs.Prelude.{[]};
     ghost use Rattle.shm_process.specs.AskOf.{unmap_of};
     ghost use Rattle.shm_process.specs.Remaps.{has_stored, made_after, unmap_access, unmap_goes_on, unmapping};
     ghost use Rattle.shm_wire.specs.TagOf.{tag_text};
     ghost use Rattle.shm_wire.specs.UnmapOf.{unmap_in};
 
     /// Nothing of it is stored yet.
+    #[tactic(auto, using(crate::proofs::Finds::as_many_offsets))]
     pub(crate) fn new(alloc: A, ask: UnmapAsk<A>) -> Result<Unmap<A>, AllocError>
         requires within { mapped.is_within ask.at ask.index ≡ true }
         requires runs { All IsRun (unmap_in ask).runs }
         ensures { IfOk result (λ unmap. unmap_of unmap ≡ unmapping (unmap_in ask)) }
     {
-        let mut offsets = Vec::new(alloc);
-        let mut bytes = Vec::new(alloc);
-        'runs: for run in ask.runs.as_slice() {
-            push_run(&mut offsets, &mut bytes, run)?;
-        }
+        let (offsets, bytes) = flatten_runs(alloc, ask.runs.as_slice())?;
         Ok(Unmap {
             tag: ask.tag,
             at: ask.at,
@@ -133,6 +131,23 @@ fn unmapped_as<A: Allocator + Copy>(keeps: Option<Kind>) -> Remapped<A>
         None | Some(Kind::Read) => Remapped::Unmapped,
         Some(Kind::Write) => Remapped::Synced,
     }
+}
+
+/// The bytes of all runs, behind the offset of each.
+fn flatten_runs<A: Allocator + Copy>(
+    alloc: A,
+    runs: &[Run<A>],
+) -> Result<(Vec<u32, A>, Vec<u8, A>), AllocError>
+    requires { All IsRun (map run_in runs.now) }
+    ensures offsets { IfOk result (λ flat. flat.0.items ≡ flat_map run_offsets (map run_in runs.now)) }
+    ensures bytes { IfOk result (λ flat. flat.1.items ≡ flat_map run_bytes (map run_in runs.now)) }
+{
+    let mut offsets = Vec::new(alloc);
+    let mut bytes = Vec::new(alloc);
+    'runs: for run in runs {
+        push_run(&mut offsets, &mut bytes, run)?;
+    }
+    Ok((offsets, bytes))
 }
 
 /// Appends a run's bytes, and the offset of each.
