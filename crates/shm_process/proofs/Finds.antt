@@ -1,12 +1,24 @@
 -- Loops over lists, one more at a time: what is still to come makes the whole. The items may be seen otherwise than they stand.
-use Rattle.std.proofs.Common.{arith, ◌≡◌, ℕ, ◌+◌, ◌-◌, ◌<◌, ◌≤◌, Bool, true, false, suc, List, [], ◌∷◌, ◌++◌, length, map, drop, get_or, refl, ap, ap₂, sym, subst, ◌∙◌, append-nil, nat_le}
-use Rattle.std.specs.List.{All, flat_map}
+use Rattle.std.proofs.Common.{arith, ◌≡◌, ℕ, ◌+◌, ◌-◌, ◌<◌, ◌≤◌, Bool, true, false, ◌&&◌, suc, List, [], ◌∷◌, ◌++◌, length, map, drop, get_or, refl, ap, ap₂, sym, subst, ◌∙◌, append-nil, nat_le}
+use Rattle.std.specs.List.{All, flat_map, list_all}
 use Rattle.std.proofs.lemmas.Bool.Decides.{nat_tests}
 use Rattle.std.proofs.lemmas.List.{append_assoc, drop_all, drop_more, length-append, length-map}
 use Rattle.std.proofs.lemmas.List.Elements.{All-get_or}
 use Rattle.shm_wire.specs.Unmaps.{Run}
 use Rattle.shm_process.specs.Remaps.{run_bytes, run_offsets, stored_offsets}
 use Rattle.shm_process.proofs.Asks.{map_read}
+
+-- ---- a test of each
+
+module _ {X : Type 0} (p : X → Bool) (xs : List X) where
+  passes_on : (i : ℕ) (d : X) (whole : Bool) → i < length xs → p (get_or xs i d) ≡ true → list_all p (drop i xs) ≡ whole → list_all p (drop (i + 1) xs) ≡ whole
+  passes_on i d whole h passes e = sym (ap (list_all p) (drop_more xs i d h) ∙ ap (λ b. b && list_all p (drop (i + 1) xs)) passes) ∙ e
+
+  fails_here : (i : ℕ) (d : X) (whole : Bool) → i < length xs → p (get_or xs i d) ≡ false → list_all p (drop i xs) ≡ whole → false ≡ whole
+  fails_here i d whole h fails e = sym (ap (list_all p) (drop_more xs i d h) ∙ ap (λ b. b && list_all p (drop (i + 1) xs)) fails) ∙ e
+
+  passes_over : (i : ℕ) (whole : Bool) → length xs ≤ i → list_all p (drop i xs) ≡ whole → true ≡ whole
+  passes_over i whole h e = sym (ap (list_all p) (drop_all i xs h)) ∙ e
 
 -- ---- lists one after another
 
@@ -39,6 +51,18 @@ module _ {Z X : Type 0} (s : Z → X) (zs : List Z) where
 
   pub seen_none : {Y : Type 0} (f : X → List Y) (i : ℕ) (old whole : List Y) → length zs ≤ i → old ++ flat_map f (drop i (map s zs)) ≡ whole → old ≡ whole
   seen_none f i old whole h e = none_left f (map s zs) i old whole (seen-over i h) e
+
+-- of items as they are seen
+module _ {Z X : Type 0} (s : Z → X) (p : X → Bool) (zs : List Z) where
+  pub seen_passes : (i : ℕ) (z : Z) (whole : Bool) → i < length zs → z ≡ get_or zs i z → p (s z) ≡ true → list_all p (drop i (map s zs)) ≡ whole
+      → list_all p (drop (i + 1) (map s zs)) ≡ whole
+  seen_passes i z whole h is passes e = passes_on p (map s zs) i (s z) whole (seen-within s zs i h) (ap p (map_read s zs i z (s z) h is) ∙ passes) e
+
+  pub seen_fails : (i : ℕ) (z : Z) (whole : Bool) → i < length zs → z ≡ get_or zs i z → p (s z) ≡ false → list_all p (drop i (map s zs)) ≡ whole → false ≡ whole
+  seen_fails i z whole h is fails e = fails_here p (map s zs) i (s z) whole (seen-within s zs i h) (ap p (map_read s zs i z (s z) h is) ∙ fails) e
+
+  pub seen_all_pass : (i : ℕ) (whole : Bool) → length zs ≤ i → list_all p (drop i (map s zs)) ≡ whole → true ≡ whole
+  seen_all_pass i whole h e = passes_over p (map s zs) i whole (seen-over s zs i h) e
 
 -- ---- offsets
 

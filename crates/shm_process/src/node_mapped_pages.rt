@@ -1,5 +1,5 @@
 //! Mapped pages: which access of the site waits for them, and whether the site has the right to a page.
-ghost use Rattle.std.specs.Prelude.{◌≡◌, ◌<◌, false, is_ok, is_some, length, map, nat_le, true, IfOk};
+ghost use Rattle.std.specs.Prelude.{◌≡◌, ◌<◌, false, is_ok, is_some, length, map, nat_le, true, vec_len, IfOk};
 ghost use Rattle.shm_model.specs.Access.{load, right};
 ghost use Rattle.shm_model.specs.Entry.{Entry};
 ghost use Rattle.shm_model.specs.Message.{Store};
@@ -83,6 +83,7 @@ impl<A: Allocator + Copy> Node<A> {
     pub(crate) fn has_right(&mut self, at: u32, index: u32, kind: Kind) -> Result<bool, AllocError>
         ensures right { IfOk result (λ has. has ≡ spec.has_right (node_of self.old).sites (node_of self.old).site at index kind) }
         ensures same { node_of self.new ≡ node_of self.old }
+        ensures count { vec_len self.new.waiting ≡ vec_len self.old.waiting }
     {
         if !is_within(at, index) {
             return Ok(false);
@@ -130,6 +131,7 @@ impl<A: Allocator + Copy> Node<A> {
         requires { is_some (spec.page_at (node_of self.old).site at offset) ≡ true }
         ensures right { IfOk result (λ may. may ≡ is_ok (right (node_of self.old).site.attachments at offset true)) }
         ensures same { node_of self.new ≡ node_of self.old }
+        ensures count { vec_len self.new.waiting ≡ vec_len self.old.waiting }
     {
         if self.site.reached(at, u32::MAX).is_none() {
             let made = self.site.step_spending(store_of_0(at, u32::MAX))?;
@@ -148,6 +150,7 @@ impl<A: Allocator + Copy> Node<A> {
         ensures bytes { IfOk result (λ bytes. bytes.items ≡ bytes_there (node_of self.old).sites (node_of self.old).me (node_of self.old).site at
             (spec.first_byte index) 4096) }
         ensures same { node_of self.new ≡ node_of self.old }
+        ensures count { vec_len self.new.waiting ≡ vec_len self.old.waiting }
     {
         let mut bytes = Vec::new(self.alloc);
         let offset = first_byte(at, index);
@@ -163,6 +166,7 @@ impl<A: Allocator + Copy> Node<A> {
         requires { is_byte (load (node_of self.old).sites (node_of self.old).me at offset (node_of self.old).site).answer ≡ true }
         ensures byte { IfOk result (λ byte. byte ≡ byte_in (load (node_of self.old).sites (node_of self.old).me at offset (node_of self.old).site).answer) }
         ensures same { node_of self.new ≡ node_of self.old }
+        ensures count { vec_len self.new.waiting ≡ vec_len self.old.waiting }
     {
         let made = step_access(&mut self.site, Input::Load { at, offset })?;
         Ok(byte_in(&made.answer))
@@ -192,7 +196,12 @@ fn may_give_up<A: Allocator + Copy>(at: u32, runs: &[Run<A>], mapping: Option<Ma
 fn are_of_page<A: Allocator + Copy>(index: u32, runs: &[Run<A>]) -> bool
     ensures { result ≡ list_all (remaps.is_of_page index) (map run_in runs.now) }
 {
-    runs.iter().all(|run| is_of_page(index, run))
+    'runs: for run in runs {
+        if !is_of_page(index, run) {
+            return false;
+        }
+    }
+    true
 }
 
 fn is_of_page<A: Allocator + Copy>(index: u32, run: &Run<A>) -> bool

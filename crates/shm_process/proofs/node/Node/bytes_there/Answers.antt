@@ -25,6 +25,7 @@ bytes-preserved g c =
     ∙ ap (λ o. byte_in (load node.sites node.me c.args.at (o + c.bytes.place) node.site).answer) c.first_byte-offset.ensures in
     record {
       same = c.byte_there-byte.ensures.same ∙ c.bytes.invariant.same;
+      count = c.byte_there-byte.ensures.count ∙ c.bytes.invariant.count;
       so_far = one_byte_more node.sites node.me node.site c.args.at at c.bytes.place (c.bytes.place + 1) c.bytes.bytes.items c.push.new.self.items c.in_ok-byte.byte
           refl c.bytes.invariant.so_far now c.in_ok-push.ensures.items;
     }

@@ -1,4 +1,4 @@
-use Rattle.std.proofs.Common.{◌≡◌, ◌∙◌, ℕ, Bool, true, false, Option, None, Some, absurd, ap, ap₂, map, refl, sym}
+use Rattle.std.proofs.Common.{◌≡◌, ◌∙◌, ℕ, Bool, true, false, Option, None, Some, ap, ap₂, map, refl, sym}
 use Rattle.std.specs.Prelude.{is_none, is_some}
 use Rattle.shm_model.specs.Message.{Store}
 use Rattle.shm_model.specs.Step.{step}
