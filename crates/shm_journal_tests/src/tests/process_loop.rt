@@ -91,8 +91,9 @@ fn steps_are_kept_and_then_told(rt: HostRuntime) -> Result<(), Fail> {
     };
     let mut lines = LINES;
     let mut told = Vec::new(alloc);
+    let mut errors = Vec::new(alloc);
     let mut desk = new_desk(alloc)?;
-    assert!(rt; serve(&mut desk, &mut lines, &mut told, &mut journal).is_ok());
+    assert!(rt; serve(&mut desk, &mut lines, &mut told, &mut errors, &mut journal).is_ok());
     drop(desk);
     assert_eq!(rt; journal.done.as_slice(), DONE);
     assert_eq!(rt; told.as_slice(), &DONE[54..]);
@@ -123,8 +124,9 @@ fn each_call_fails_in_turn(rt: HostRuntime) -> Result<(), Fail> {
         };
         let mut lines = LINES;
         let mut told = Vec::new(alloc);
+        let mut errors = Vec::new(alloc);
         let mut desk = new_desk(alloc)?;
-        let served = serve(&mut desk, &mut lines, &mut told, &mut journal);
+        let served = serve(&mut desk, &mut lines, &mut told, &mut errors, &mut journal);
         drop(desk);
         match served {
             Ok(()) => return Err(Fail::new("a call failed")),
