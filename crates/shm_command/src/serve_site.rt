@@ -6,15 +6,9 @@ ghost use Rattle.shm_process.specs.DeskOf.{desk_of};
 ghost use Rattle.shm_process.specs.Node.{new_node};
 ghost use Rattle.shm_seal.specs.Seal.{cluster_of};
 ghost use Rattle.shm_seal.specs.SealOf.{seal_of};
-<<<<<<< HEAD:crates/shmdbg/src/serve_site.rt
-ghost use Rattle.shmdbg.specs.Around.{streams};
-ghost use Rattle.shmdbg.specs.Begun.{header_at, start_at};
-ghost use Rattle.shmdbg.specs.Served.{IsServed, ServesFrom};
-=======
 ghost use Rattle.shm_command.specs.Around.{streams};
-ghost use Rattle.shm_command.specs.Begun.{header_at};
+ghost use Rattle.shm_command.specs.Begun.{header_at, start_at};
 ghost use Rattle.shm_command.specs.Served.{IsServed, ServesFrom};
->>>>>>> 8ecd8a7754bd611610e0349ba9e081bc172ad786:crates/shm_command/src/serve_site.rt
 
 use crate::elapsed_time::{milliseconds_since, seconds_since_1970};
 use crate::error_text_and_status;

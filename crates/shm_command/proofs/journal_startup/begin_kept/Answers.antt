@@ -6,13 +6,8 @@ use Rattle.shm_journal.specs.DeskFrom.{desk_from}
 use Rattle.shm_journal.specs.Found.{Sound, bytes_of_lines, found as found_at, is_empty, lines_of}
 use Rattle.shm_seal.specs.Seal.{cluster_of}
 use Rattle.shm_seal.specs.SealOf.{seal_of}
-<<<<<<< HEAD:crates/shmdbg/proofs/journal_startup/begin_kept/Answers.antt
-use Rattle.shmdbg.specs.Begun.{header_at, start_at}
-use Rattle.shmdbg.proofs.journal_startup.begin_kept.Goals as goal
-=======
-use Rattle.shm_command.specs.Begun.{header_at}
+use Rattle.shm_command.specs.Begun.{header_at, start_at}
 use Rattle.shm_command.proofs.journal_startup.begin_kept.Goals as goal
->>>>>>> 8ecd8a7754bd611610e0349ba9e081bc172ad786:crates/shm_command/proofs/journal_startup/begin_kept/Answers.antt
 
 -- a journal that is as it was asked for is new exactly where it is to be begun
 same : (begins is_new : Bool) → (if begins then is_new else not is_new) ≡ true → is_new ≡ begins
