@@ -12,8 +12,8 @@ use std::rt::{Clock, Files};
 use std::sync::Wait;
 use std::thread::Threads;
 
-/// Does what the process's words ask for over its standard streams, and answers the exit status, as `run_words` does. It is 3 as well where
-/// standard input or output is closed, and 2 where a word is no UTF-8.
+/// Does what the process's words ask for over its standard streams, and answers the exit status, as `run_words` does. Where standard input
+/// or output is closed, or `/dev/null` can't be opened, that is 3, and where a word is no UTF-8 it is 2.
 pub fn run_process<
     R: AllocGlobal
         + Clock
