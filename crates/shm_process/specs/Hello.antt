@@ -45,13 +45,16 @@ numbers_of from to words = do
   (pages, words) ← next_number words
   ended (record { from = from; to = to; sites = sites; pages = pages }) words
 
-abbrev pub read_hello : List ℕ → Option Hello
-read_hello line = do
-  words ← past (codes "env") (words_of line)
+abbrev pub hello_of_words : List (List ℕ) → Option Hello
+hello_of_words words = do
+  words ← past (codes "env") words
   (from, words) ← next_number words
   (to, words) ← next_number words
   words ← past_stamp words
   numbers_of from to words
+
+abbrev pub read_hello : List ℕ → Option Hello
+read_hello line = hello_of_words (words_of line)
 
 -- ---- what a site says
 

@@ -295,12 +295,7 @@ impl<A: Allocator + Copy> Desk<A> {
     }
 
     /// Records the step that this line made, an envelope's or another, counts it, and gathers its output.
-    fn push_step(
-        &mut self,
-        line: &[u8],
-        said: &Said<A>,
-        received: bool,
-    ) -> Result<(), AllocError>
+    fn push_step(&mut self, line: &[u8], said: &Said<A>, received: bool) -> Result<(), AllocError>
         ensures { (cause : Cause) → cause_text cause ≡ line.now → was_received cause ≡ received
             → OnOk result (desk_of self.new ≡ with_step (desk_of self.old) (Some (said_of cause said.now))) }
     {

@@ -8,7 +8,7 @@ use Rattle.shm_process.proofs.Pushed.{pushed}
 use Rattle.shm_process.proofs.desk.Desk.push_step.Goals as goal
 
 pub returns : goal.returns
-returns g c = λ cause text.
+returns g c = λ cause text from.
     let desk = desk_of c.args.self.now in
     let told = string_bytes c.push_text.new.told in
     let now = record desk { recorded = c.push_entry.new.recorded.items; told = told } in
