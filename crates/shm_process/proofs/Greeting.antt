@@ -1,26 +1,24 @@
 -- The hellos of a site, one more at a time; and a line of the stream is none.
-use Rattle.std.proofs.Common.{◌≡◌, ℕ, zero, suc, ◌+◌, ◌-◌, ◌==◌, Bool, true, false, List, [], ◌++◌, Option, None, Some, cond, refl, ap, sym, ◌∙◌, append-nil}
+use Rattle.std.proofs.Common.{◌≡◌, ℕ, suc, ◌+◌, List, [], ◌++◌, Option, None, Some, refl, ap, sym, ◌∙◌, append-nil}
 use Rattle.std.proofs.lemmas.List.{append_assoc}
 use Rattle.std.specs.Option.{option_map_or}
 use Rattle.shm_seal.specs.Seal.{Seal}
 use Rattle.shm_wire.specs.Line.{Line, read_line}
 use Rattle.shm_process.proofs.HelloWords.{hello_is_no_line}
 use Rattle.shm_process.specs.Desk.{Desk, noted, with_other}
-use Rattle.shm_process.specs.Hello.{first_other, hello_line, hello_to, hellos_from, read_hello}
+use Rattle.shm_process.specs.Hello.{first_other, hello_for, hellos_from, read_hello}
 use Rattle.shm_process.specs.declared.hello_line.Hello.{Hello}
 use Rattle.shm_process.specs.declared.site_opening.Opening.{Opening}
 
 -- ---- the hellos
 
--- one of `n` is said, or it would be the site's own
-pub hello_said : (seal : Seal) (own : Opening) (to n m : ℕ) (old new whole : List ℕ) (is_own : Bool) → n ≡ suc m → (to == own.site) ≡ is_own
-    → new ≡ old ++ cond is_own [] (hello_line seal (hello_to own to)) → old ++ hellos_from seal own to n ≡ whole → new ++ hellos_from seal own (to + 1) m ≡ whole
+-- one of `n` is said
+pub hello_said : (seal : Seal) (own : Opening) (to n m : ℕ) (old new whole : List ℕ) → n ≡ suc m → new ≡ old ++ hello_for seal own to
+    → old ++ hellos_from seal own to n ≡ whole → new ++ hellos_from seal own (to + 1) m ≡ whole
 unfolding hellos_from
-hello_said seal own to n m old new whole is_own more is pushed before =
+hello_said seal own to n m old new whole more pushed before =
     let rest = hellos_from seal own (to + 1) m in
-    ap (λ t. t ++ rest) pushed ∙ append_assoc old (cond is_own [] (hello_line seal (hello_to own to))) rest
-    ∙ ap (λ b. old ++ (cond b [] (hello_line seal (hello_to own to)) ++ rest)) (sym is)
-    ∙ sym (ap (λ k. old ++ hellos_from seal own to k) more) ∙ before
+    ap (λ t. t ++ rest) pushed ∙ append_assoc old (hello_for seal own to) rest ∙ sym (ap (λ k. old ++ hellos_from seal own to k) more) ∙ before
 
 pub all_said : (seal : Seal) (own : Opening) (to n : ℕ) (text whole : List ℕ) → n ≡ 0 → text ++ hellos_from seal own to n ≡ whole → text ≡ whole
 unfolding hellos_from

@@ -76,14 +76,12 @@ pub fn what_is_sent_names_no_number_above_its_clock()
 {}
 
 /// Each hello has one spelling: what is read is spelled so, and what is spelled so is read.
-#[tactic(auto, using(crate::proofs::HelloWords::hello_is_spelled, crate::proofs::HelloWords::hello_is_read))]
 pub fn hellos_have_one_spelling()
     ensures read { (line : List ℕ) (hello : Hello) → read_hello line ≡ Some hello → IsHello hello × (line ≡ hello_text hello) }
     ensures spelled { (hello : Hello) → IsHello hello → read_hello (hello_text hello) ≡ Some hello }
 {}
 
 /// A hello is no line that a site takes, though it stands in the stream as an envelope does.
-#[tactic(auto, using(crate::proofs::HelloWords::hello_is_no_line))]
 pub fn a_hello_is_no_line_of_the_stream()
     ensures { (line : List ℕ) (hello : Hello) → read_hello line ≡ Some hello → read_line line ≡ None }
 {}
