@@ -1,18 +1,18 @@
 -- The words of a hello: what is read is spelled so, what is spelled so is read, and it is no line of the stream.
-use Rattle.std.proofs.Common.{◌≡◌, ℕ, Bool, true, false, List, [], ◌∷◌, Option, None, Some, cond, refl, sym, ap, subst, ◌∙◌, arith}
-use Rattle.std.specs.Prelude.{codes, ◌<◌, ◌^◌, option_map}
+use Rattle.std.proofs.Common.{◌≡◌, ℕ, Bool, true, false, List, [], ◌∷◌, Option, None, Some, cond, refl, sym, ap, subst, ◌∙◌}
+use Rattle.std.specs.Prelude.{codes, ◌<◌, ◌^◌}
 use Rattle.std.specs.Fmt.{decimal}
 use Rattle.std.specs.List.{join_with_byte}
 use Rattle.std.specs.Str.{bytes_eq}
 use Rattle.std.proofs.lemmas.List.Splits.{join_with_byte-slice_split}
 use Rattle.std.proofs.lemmas.Slice.Eq.{bytes_eq-Decides}
-use Rattle.shm_lines.proofs.NumberWords.{number, wide}
+use Rattle.shm_lines.proofs.NumberWords.{number}
 use Rattle.shm_lines.proofs.ReadLemmas.{onto}
 use Rattle.shm_lines.proofs.Reading.{ended-is}
 use Rattle.shm_lines.proofs.StepLemmas.{NoBlanks, NoBlank-test, step, words_of-join}
-use Rattle.shm_lines.specs.Words.{◌>>=◌, next_word, words_of}
+use Rattle.shm_lines.specs.Words.{◌>>=◌, words_of}
 use Rattle.shm_wire.proofs.Reading.{prints, took}
-use Rattle.shm_wire.specs.Line.{Line, line_of_words, read_line}
+use Rattle.shm_wire.specs.Line.{line_of_words, read_line}
 use Rattle.shm_process.specs.Hello.{IsHello, hello_of_words, hello_text, hello_words, numbers_of, past, past_stamp, read_hello}
 use Rattle.shm_process.specs.declared.hello_line.Hello.{Hello}
 

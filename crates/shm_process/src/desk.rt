@@ -1,5 +1,5 @@
 //! Takes bytes, opens the lines that they end, and gathers the entries and the sealed output of those lines.
-ghost use Rattle.std.specs.Prelude.{◌≡◌, ◌<◌, ◌==◌, ◌++◌, ◌∷◌, [], All, codes, false, length, ℕ, ◌+◌, ◌-◌, if◌then◌else◌, is_some, string_bytes, IfNone, IfOk, IfSome, Ok, OnOk};
+ghost use Rattle.std.specs.Prelude.{◌≡◌, ◌<◌, ◌==◌, ◌++◌, ◌∷◌, [], All, codes, false, length, if◌then◌else◌, is_some, string_bytes, IfNone, IfOk, IfSome, Ok, OnOk};
 ghost use Rattle.std.specs.Fmt.{decimal};
 ghost use Rattle.shm_model.specs.Basics.{greatest};
 ghost use Rattle.shm_process.specs.Cause.{Cause, OfRestart, cause_text};

@@ -1,8 +1,6 @@
-use Rattle.std.proofs.Common.{◌≡◌, string_bytes}
+use Rattle.std.proofs.Common.{string_bytes}
 use Rattle.shm_process.specs.Cause.{OfRestart}
-use Rattle.shm_process.specs.Counts.{Counts}
 use Rattle.shm_process.specs.CountsOf.{counts_of}
-use Rattle.shm_process.specs.Desk.{counts_after}
 use Rattle.shm_process.specs.DeskOf.{desk_of}
 use Rattle.shm_process.specs.NodeOf.{said_of}
 use Rattle.shm_process.proofs.Pushed.{pushed, step_counted}

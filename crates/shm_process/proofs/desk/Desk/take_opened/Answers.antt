@@ -3,9 +3,8 @@ use Rattle.std.specs.Prelude.{Ok, option_map}
 use Rattle.std.proofs.lemmas.Result.{IfOk-weaker}
 use Rattle.shm_wire.specs.Line.{read_line}
 use Rattle.shm_wire.specs.LineOf.{line_of}
-use Rattle.shm_process.specs.Desk.{after_opened, noted, settled, taken}
+use Rattle.shm_process.specs.Desk.{after_opened, settled, taken}
 use Rattle.shm_process.specs.DeskOf.{desk_of}
-use Rattle.shm_process.specs.Hello.{read_hello}
 use Rattle.shm_process.specs.Waiting.{most_steps, passed_over}
 use Rattle.shm_process.proofs.Greeting.{nothing_noted}
 use Rattle.shm_process.proofs.Pushed.{line_taken, none_taken}
