@@ -99,5 +99,5 @@ first_other own other read =
 
 abbrev pub disagreement_text : Disagreement → List ℕ
 disagreement_text d =
-    codes "site " ++ (decimal d.other.site ++ (codes " was begun with " ++ (decimal d.other.sites ++ (codes " sites and " ++ (decimal d.other.pages
-    ++ (codes " pages, this one with " ++ (decimal d.own.sites ++ (codes " sites and " ++ (decimal d.own.pages ++ codes " pages")))))))))
+    codes "site " ++ (decimal d.other.site ++ (codes " was begun with --sites " ++ (decimal d.other.sites ++ (codes " --preset " ++ (decimal d.other.pages
+    ++ (codes ", this one with --sites " ++ (decimal d.own.sites ++ (codes " --preset " ++ decimal d.own.pages))))))))

@@ -69,7 +69,7 @@ impl fmt::Display for Disagreement {
         let own_pages = self.own.pages;
         write!(
             f,
-            "site {site} was begun with {sites} sites and {pages} pages, this one with {own_sites} sites and {own_pages} pages"
+            "site {site} was begun with --sites {sites} --preset {pages}, this one with --sites {own_sites} --preset {own_pages}"
         )
     }
 }

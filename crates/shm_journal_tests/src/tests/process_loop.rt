@@ -180,7 +180,7 @@ fn another_opening_is_warned_of_once(rt: HostRuntime) -> Result<(), Fail> {
     assert_eq!(rt; told.as_slice(), b"env 0 1 0 0 0 hello 1 1\n".as_slice());
     assert_eq!(rt;
         errors.as_slice(),
-        b"shmdbg: site 1 was begun with 2 sites and 1 pages, this one with 1 sites and 1 pages\n".as_slice()
+        b"shmdbg: site 1 was begun with --sites 2 --preset 1, this one with --sites 1 --preset 1\n".as_slice()
     );
     Ok(())
 }

@@ -94,17 +94,17 @@ const NOTED: [Heard<'static>; 3] = [
     Heard {
         line: "env 2 1 0 0 0 hello 4 4\n",
         told: "env 1 2 0 0 0 hello 3 4\n",
-        noted: "site 2 was begun with 4 sites and 4 pages, this one with 3 sites and 4 pages",
+        noted: "site 2 was begun with --sites 4 --preset 4, this one with --sites 3 --preset 4",
     },
     Heard {
         line: "env 0 1 0 0 0 hello 3 8\n",
         told: "env 1 0 0 0 0 hello 3 4\n",
-        noted: "site 0 was begun with 3 sites and 8 pages, this one with 3 sites and 4 pages",
+        noted: "site 0 was begun with --sites 3 --preset 8, this one with --sites 3 --preset 4",
     },
     Heard {
         line: "env 3 1 0 0 0 hello 3 4\n",
         told: "env 1 3 0 0 0 hello 3 4\n",
-        noted: "site 3 was begun with 3 sites and 4 pages, this one with 3 sites and 4 pages",
+        noted: "site 3 was begun with --sites 3 --preset 4, this one with --sites 3 --preset 4",
     },
 ];
 
