@@ -3,7 +3,7 @@ use Rattle.std.proofs.Common.{◌≡◌, ℕ, ◌||◌, Bool, true, false, List,
 use Rattle.std.proofs.Math.Seq.{take-length, take-nil}
 use Rattle.std.proofs.KnownBytes.{Appends-nil, Appends-trans}
 use Rattle.std.specs.Io.KnownBytes.{Appends}
-use Rattle.std.specs.Prelude.{is_some}
+use Rattle.std.specs.Prelude.{Err, Ok, OnErr, OnOk, Result, is_some}
 use Rattle.shm_process.proofs.Noting.{stays_noted}
 use Rattle.shm_process.specs.Desk.{Desk, cleared, disagreement_in, on_bytes}
 use Rattle.shm_process.specs.declared.site_opening.Disagreement.{Disagreement}
@@ -14,6 +14,12 @@ warns_nothing e d = (0, Appends-nil e)
 
 pub warns_whole : (a b : Option (List ℕ)) (d : Option Disagreement) → Appends a b (warning d) → Warns a b d
 warns_whole a b d h = (length (warning d), subst (Appends a b) (sym (take-length (warning d))) h)
+
+-- it was tried to write this text
+pub warns_tried : {A B : Type 0} (r : Result A B) (a b : Option (List ℕ)) (d : Option Disagreement) (text : List ℕ) → text ≡ warning d
+    → OnOk r (Appends a b text) → OnErr r ((n : ℕ) × Appends a b (take n text)) → Warns a b d
+warns_tried (Ok x) a b d text e ok err = warns_whole a b d (subst (Appends a b) e ok)
+warns_tried (Err x) a b d text e ok err = (err.0, subst (λ t. Appends a b (take err.0 t)) e err.1)
 
 -- where nothing is there to warn of, nothing was written
 none-written : (a b : Option (List ℕ)) → Warns a b None → Appends a b []
