@@ -21,7 +21,7 @@ use shm_debug::DebugFault;
 use shm_draw::CaptionFault;
 use shm_journal::RecoveryFault;
 use shm_place::SiteId;
-use shm_process::Unopened;
+use shm_process::{Health, Unopened};
 use shm_prompt::PromptFault;
 use shm_report::ReportFault;
 use shm_sites::AuditFault;
@@ -138,6 +138,11 @@ pub fn unopened<E: Write>(counts: Unopened, errors: &mut E) {
         errors,
         "shmdbg: lines passed over: {other_cluster} of another cluster, {no_digest} without a digest, {wrong_digest} with a wrong digest"
     );
+}
+
+/// Tells what a site counted. A failure to write it is passed over.
+pub fn health<E: Write>(health: Health, errors: &mut E) {
+    let _ = writeln!(errors, "shmdbg: {health}");
 }
 
 /// The exit status where journals of these names weren't accepted. Its one line goes to `errors`: with the journal and the line, where there

@@ -13,7 +13,7 @@ use crate::replayed_steps_notice::TakenAgain;
 use crate::site_error::SiteFault;
 use shm_journal::{Header, Recovered, open_desk, recover};
 use shm_place::{PAGES, SiteId, Sites};
-use shm_process::Desk;
+use shm_process::{Desk, Start};
 use shm_seal::Seal;
 use std::fs::{self, File, OpenFile, OpenOptions, TryLockError};
 use std::io::{self, ErrorKind, Read};
@@ -91,7 +91,8 @@ where
 }
 
 /// Begins a site with what it finds in its journal. There has to be no whole line exactly where the journal is to be begun. Cuts off what
-/// is torn, and makes that durable; for a new journal it makes the file's name durable too.
+/// is torn, and makes that durable; for a new journal it makes the file's name durable too. `since` is when the process started, in seconds
+/// since 1970.
 pub(crate) fn begin_kept<R: AllocGlobal + Files, F: Read + OpenFile>(
     rt: &R,
     sites: Sites,
@@ -99,6 +100,7 @@ pub(crate) fn begin_kept<R: AllocGlobal + Files, F: Read + OpenFile>(
     pages: u32,
     seal: Seal,
     kept: Kept<'_>,
+    since: u64,
     file: &mut F,
 ) -> Result<Begun, SiteFault>
     requires below { me < sites }
@@ -106,7 +108,7 @@ pub(crate) fn begin_kept<R: AllocGlobal + Files, F: Read + OpenFile>(
     requires to { pages ≤ PAGES }
     ensures begun { IfOk result (λ begun. (journal : List ℕ) × IfSome (F.remaining file.old) (λ known. journal ≡ known)
         × (begun.durable ≡ bytes_of_lines (lines_of journal).whole)
-        × BeginsKept kept.entry.begins (seal_of seal) (header_at sites me pages (cluster_of (seal_of seal))) journal (desk_of begun.desk)) }
+        × BeginsKept kept.entry.begins (seal_of seal) (header_at sites me pages (cluster_of (seal_of seal))) since journal (desk_of begun.desk)) }
     ensures again { IfOk result (λ begun. IsTakenAgain (header_at sites me pages (cluster_of (seal_of seal))) (F.remaining file.old) begun.again) }
     ensures all { OnOk result (ReadsAll (F.remaining file.old) (F.remaining file.new)) }
     ensures left { IfErr result (ReadsUnbegun (header_at sites me pages (cluster_of (seal_of seal))) (F.remaining file.old) (F.remaining file.new)) }
@@ -145,7 +147,11 @@ pub(crate) fn begin_kept<R: AllocGlobal + Files, F: Read + OpenFile>(
         pages,
         cluster,
     };
-    match open_desk(rt.alloc(), header, seal, is_new, node) {
+    let start = Start {
+        journal: whole,
+        since,
+    };
+    match open_desk(rt.alloc(), header, seal, is_new, node, start) {
         Ok(desk) => Ok(Begun {
             desk,
             durable: whole,

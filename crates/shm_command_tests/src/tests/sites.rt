@@ -15,7 +15,13 @@ fn words_of(me: &str) -> [&str; 8] {
 fn two_sites(rt: HostRuntime) -> Result<(), Fail> {
     let mut asks = b"ask 1 b load 0 5\n".as_slice();
     let reader = run_over(&rt, &words_of("1"), &mut asks);
-    expect(&rt, &reader, 0, b"env 1 0 1 0 0 ask 0 0 1 read\n", b"");
+    expect(
+        &rt,
+        &reader,
+        0,
+        b"env 1 0 0 0 0 hello 2 1\nenv 1 0 1 0 0 ask 0 0 1 read\n",
+        b"",
+    );
     let mut lines = Vec::from_slice(rt.alloc(), b"ask 0 a store 0 5 7\n")?;
     lines.extend_from_slice(reader.out.as_slice())?;
     lines.extend_from_slice(b"env 0 0 2 1 0 hand 0 0 1 read 1\n")?;
@@ -23,7 +29,7 @@ fn two_sites(rt: HostRuntime) -> Result<(), Fail> {
     assert_eq!(rt; owner.status, 0);
     assert!(rt;
         owner.out.as_slice().starts_with(
-            b"tell 0 a stored\nenv 0 0 2 1 0 hand 0 0 1 read 1\nenv 0 1 3 2 0 page "
+            b"env 0 1 0 0 0 hello 2 1\ntell 0 a stored\nenv 0 0 2 1 0 hand 0 0 1 read 1\nenv 0 1 3 2 0 page "
         )
     );
     let mut lines = Vec::from_slice(rt.alloc(), b"ask 1 b load 0 5\n")?;
@@ -33,7 +39,7 @@ fn two_sites(rt: HostRuntime) -> Result<(), Fail> {
         &rt,
         &reader,
         0,
-        b"env 1 0 1 0 0 ask 0 0 1 read\nenv 1 0 4 1 0 confirm 0 0 1\ntell 1 b byte 7\n",
+        b"env 1 0 0 0 0 hello 2 1\nenv 1 0 1 0 0 ask 0 0 1 read\nenv 1 0 4 1 0 confirm 0 0 1\ntell 1 b byte 7\n",
         b"",
     );
     Ok(())
@@ -51,10 +57,24 @@ fn lines_that_are_passed_over(rt: HostRuntime) -> Result<(), Fail> {
         &rt,
         &ran,
         0,
-        b"tell 0 b took\ntell 0 c page OwnWrite/0\n",
+        b"env 0 1 0 0 0 hello 2 1\ntell 0 b took\ntell 0 c page OwnWrite/0\n",
         b"",
     );
     Ok(())
+}
+
+/// Another site says that it was begun with other numbers, twice: it is told how this one was, and standard error says it once.
+#[test]
+fn another_opening(rt: HostRuntime) {
+    let mut lines = b"env 1 0 0 0 0 hello 3 1\nenv 1 0 0 0 0 hello 2 4\n".as_slice();
+    let ran = run_over(&rt, &words_of("0"), &mut lines);
+    expect(
+        &rt,
+        &ran,
+        0,
+        b"env 0 1 0 0 0 hello 2 1\nenv 0 1 0 0 0 hello 2 1\n",
+        b"shmdbg: site 1 was begun with --sites 3 --preset 1, this one with --sites 2 --preset 1\n",
+    );
 }
 
 /// Words of a site that are refused, and what the parser's text begins with; nothing is read and nothing is written.

@@ -3,10 +3,10 @@ use Rattle.shm_process.specs.Desk.{Desk}
 use Rattle.shm_process.specs.DeskOf.{desk_of}
 use Rattle.shm_process.specs.NodeOf.{node_of}
 use Rattle.shm_journal.specs.DeskFrom.{desk_from}
-use Rattle.shm_journal.specs.Found.{Sound, found as found_at, is_empty, lines_of}
+use Rattle.shm_journal.specs.Found.{Sound, bytes_of_lines, found as found_at, is_empty, lines_of}
 use Rattle.shm_seal.specs.Seal.{cluster_of}
 use Rattle.shm_seal.specs.SealOf.{seal_of}
-use Rattle.shm_command.specs.Begun.{header_at}
+use Rattle.shm_command.specs.Begun.{header_at, start_at}
 use Rattle.shm_command.proofs.journal_startup.begin_kept.Goals as goal
 
 -- a journal that is as it was asked for is new exactly where it is to be begun
@@ -26,7 +26,8 @@ returns-in-Ok-open_desk-clause-begun g c =
     let named = c.name-cluster.ensures in
     let sound = subst (λ (cluster : Option (List ℕ)). found_at (header_at c.args.sites c.args.me c.args.pages cluster) found.0 ≡ Sound (node_of c.in-Ok.found.node)) named found.2.0 in
     let seal = seal_of c.args.seal in
-    let begin : Bool → Desk = λ begins. desk_from (header_at c.args.sites c.args.me c.args.pages (cluster_of seal)) seal begins (node_of c.in-Ok.found.node) in
+    let begin : Bool → Desk = λ begins. desk_from (header_at c.args.sites c.args.me c.args.pages (cluster_of seal)) seal begins (node_of c.in-Ok.found.node)
+    (start_at c.args.since (bytes_of_lines (lines_of found.0).whole)) in
     let begun : desk_of c.in-Ok-open_desk.desk ≡ begin (is_empty (lines_of found.0).whole) = cc in (
       found.0,
       found.1,
