@@ -64,11 +64,14 @@ where
 
 /// A site stored one byte in a journal that it began, and tells its counts at the end.
 fn expect_stored(rt: &impl Abort, ran: &Ran) {
-    let counts = b"shmdbg: health steps 1 clock 1 taken 1 passed 0 waiting 0 received 0 sent 0 journal 41 since ";
+    let counts =
+        b"shmdbg: health steps 1 clock 1 taken 1 passed 0 waiting 0 received 0 sent 0 journal 41 since ";
     assert_eq!(rt; ran.status, 0);
     assert_eq!(rt; ran.out.as_slice(), b"tell 0 a stored\n".as_slice());
     assert!(rt; ran.errors.as_slice().starts_with(counts.as_slice()));
-    assert!(rt; ran.errors.as_slice().ends_with(b" other-cluster 0 no-digest 0 wrong-digest 0\n".as_slice()));
+    assert!(rt;
+        ran.errors.as_slice().ends_with(b" other-cluster 0 no-digest 0 wrong-digest 0\n".as_slice())
+    );
 }
 
 /// What is stored outlives the process; what is torn at the end of its journal doesn't count; and an audit accepts the journal.
