@@ -199,16 +199,16 @@ def try_full(program, folder):
 
 
 def try_streams(program, folder):
-    """An input that can't be read, and an output that takes nothing: what was durable stays, and nothing counts as done."""
-    journal = os.path.join(folder, 'streams')
+    """Of the only site, which greets nobody: an input that can't be read, and an output that takes nothing: what was durable stays, and nothing counts as done."""
+    journal, header = os.path.join(folder, 'streams'), b'journal 1 0 1\n'
 
     def over(streams, new=False):
-        return ['sh', '-c', f'exec "$@" {streams}', 'sh'] + words(program, journal, new)
+        return ['sh', '-c', f'exec "$@" {streams}', 'sh'] + words(program, journal, new, sites=1)
     start('an input that is a folder', over(f'< {folder}', new=True), 3, 'read fault')
-    stays('an input that is a folder', journal, HEADER)
+    stays('an input that is a folder', journal, header)
     start('an output that is full', over('> /dev/full'), 3, AGAIN + '\nshmdbg: write fault')
-    stays('an output that is full', journal, HEADER + b'step 1 restart\nstep 2 ask 0 a store 0 5 7\n')
-    start('after both', words(program, journal), 0, AGAIN.replace('again: 0, clock: 0', 'again: 2, clock: 2'), b'tell 0 b byte 7\n',
+    stays('an output that is full', journal, header + b'step 1 restart\nstep 2 ask 0 a store 0 5 7\n')
+    start('after both', words(program, journal, sites=1), 0, AGAIN.replace('again: 0, clock: 0', 'again: 2, clock: 2'), b'tell 0 b byte 7\n',
           given=b'ask 0 b load 0 5\n')
     for streams, fault in ((f'< {folder}', 'read fault'), ('> /dev/full', 'write fault')):
         start(f'a prompt {streams}', ['sh', '-c', f'exec "$@" {streams}', 'sh', program, 'prompt'], 3, fault, given=b'sites 1\n')
