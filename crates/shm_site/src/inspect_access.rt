@@ -1,0 +1,32 @@
+//! Shows what a load or a store would do at once. No step is made, and nothing is asked for.
+ghost use Rattle.std.specs.Prelude.{◌≡◌, ℕ};
+ghost use Rattle.shm_model.specs.Access as model;
+ghost use Rattle.shm_site.specs.AtOnce.{byte_given, is_stored};
+ghost use Rattle.shm_site.specs.Site.{site_of};
+
+use crate::site::Site;
+use shm_model::Access;
+use shm_parts::LoadOutcome;
+use std::alloc::Allocator;
+
+impl<A: Allocator + Copy> Site<A> {
+    /// The byte that a load through this attachment at this offset would give at once. None: it would wait for its right, or be refused.
+    pub fn byte_at(&self, at: u32, offset: u32) -> Option<u8>
+        ensures { result ≡ byte_given (model.load self.now.sites self.now.me at offset (site_of self.now)).answer }
+    {
+        match self.holdings.load(at, offset) {
+            Ok(LoadOutcome::Byte(byte)) => Some(byte),
+            Ok(LoadOutcome::Absent(_)) | Err(_) => None,
+        }
+    }
+
+    /// Checks that a store through this attachment at this offset would be made at once, whatever its byte.
+    pub fn takes_store(&self, at: u32, offset: u32) -> bool
+        ensures { (byte : ℕ) → result ≡ is_stored (model.store self.now.sites self.now.me at offset byte (site_of self.now)).answer }
+    {
+        match self.holdings.reached_to_store(at, offset) {
+            Some(page) => self.holdings.access(page) == Access::Write,
+            None => false,
+        }
+    }
+}
