@@ -1,15 +1,15 @@
 //! A process: it takes what comes, makes what it recorded durable, and only then writes its answers.
-ghost use Rattle.std.specs.Prelude.{◌≡◌, ◌≢◌, ◌||◌, [], ◌∷◌, ℕ, List, Option, is_some, take, IfErr, OnErr, OnOk};
+ghost use Rattle.std.specs.Prelude.{◌≡◌, ◌≢◌, ◌||◌, [], ◌∷◌, ℕ, List, Option, Some, is_some, take, IfErr, OnErr, OnOk};
 ghost use Rattle.std.specs.Io.KnownBytes.{Appends, IsAtEnd};
 ghost use Rattle.shm_journal.specs.Acts.{Append, Did, GoesOn, Served, Tell, around, keeping, publishing, telling};
 ghost use Rattle.shm_journal.specs.Publishing.{FailsToPublish};
-ghost use Rattle.shm_journal.specs.Warning.{Warns, warned_if};
+ghost use Rattle.shm_journal.specs.Warning.{Warns, WarnsOnce, warned_if};
 ghost use Rattle.shm_process.specs.Desk.{cleared, disagreement_in};
 ghost use Rattle.shm_process.specs.DeskOf.{desk_of};
 
 use crate::journal_trait::{Failed, Journal};
 use crate::process_error::ProcessFault;
-use shm_process::Desk;
+use shm_process::{Desk, Disagreement};
 use shm_text::write_whole;
 use std::alloc::Allocator;
 use std::io::{Read, Write};
@@ -31,7 +31,7 @@ pub fn serve<A: Allocator + Copy, R: Read, W: Write, E: Write, J: Journal>(
     ensures end { OnOk result (IsAtEnd (R.remaining reader.new)) }
     ensures served { Served (desk_of desk.old) (around (R.remaining reader.old) (W.contents writer.old) (J.acts journal.old))
         (around (R.remaining reader.new) (W.contents writer.new) (J.acts journal.new)) result }
-    ensures warned { OnOk result (Warns (E.contents errors.old) (E.contents errors.new) (disagreement_in (desk_of desk.new))) }
+    ensures warned { WarnsOnce (E.contents errors.old) (E.contents errors.new) (desk_of desk.new) result }
 {
     let mut warned = warn(desk, false, errors);
     match publish(desk, writer, journal) {
@@ -71,10 +71,22 @@ fn warn<A: Allocator + Copy, E: Write>(desk: &Desk<A>, warned: bool, errors: &mu
     let Some(disagreement) = desk.disagreement() else {
         return false;
     };
-    if let Ok(line) = format!(in desk.allocator(); "shmdbg: {disagreement}\n") {
-        let _ = write_whole(errors, line.as_bytes());
-    }
+    write_warning(desk.allocator(), disagreement, errors);
     true
+}
+
+/// Writes the line that warns of another opening.
+fn write_warning<A: Allocator + Copy, E: Write>(
+    alloc: A,
+    disagreement: Disagreement,
+    errors: &mut E,
+)
+    ensures { Warns (E.contents errors.old) (E.contents errors.new) (Some disagreement) }
+{
+    let Ok(line) = format!(in alloc; "shmdbg: {disagreement}\n") else {
+        return;
+    };
+    let _ = write_whole(errors, line.as_bytes());
 }
 
 /// Makes the desk's entries durable, and then writes its output.

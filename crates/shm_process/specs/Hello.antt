@@ -45,13 +45,16 @@ numbers_of from to words = do
   (pages, words) ← next_number words
   ended (record { from = from; to = to; sites = sites; pages = pages }) words
 
-abbrev pub read_hello : List ℕ → Option Hello
-read_hello line = do
-  words ← past (codes "env") (words_of line)
+abbrev pub hello_of_words : List (List ℕ) → Option Hello
+hello_of_words words = do
+  words ← past (codes "env") words
   (from, words) ← next_number words
   (to, words) ← next_number words
   words ← past_stamp words
   numbers_of from to words
+
+abbrev pub read_hello : List ℕ → Option Hello
+read_hello line = hello_of_words (words_of line)
 
 -- ---- what a site says
 
@@ -63,11 +66,14 @@ hello_to own to = record { from = own.site; to = to; sites = own.sites; pages = 
 unfoldable pub hello_line : Seal → Hello → List ℕ
 hello_line seal hello = sealed seal (hello_text hello) ++ 10 ∷ []
 
--- to so many sites, from this one on, less itself
+-- to that site, unless it is this one
+abbrev pub hello_for : Seal → Opening → ℕ → List ℕ
+hello_for seal own to = if to == own.site then [] else hello_line seal (hello_to own to)
+
+-- to so many sites, from that one on
 unfoldable pub hellos_from : Seal → Opening → ℕ → ℕ → List ℕ
 hellos_from seal own to zero = []
-hellos_from seal own to (suc n) =
-    (if to == own.site then [] else hello_line seal (hello_to own to)) ++ hellos_from seal own (to + 1) n
+hellos_from seal own to (suc n) = hello_for seal own to ++ hellos_from seal own (to + 1) n
 
 -- to all the others of its cluster
 abbrev pub greeting : Seal → Opening → List ℕ

@@ -1,5 +1,5 @@
 //! Takes bytes, opens the lines that they end, and gathers the entries and the sealed output of those lines.
-ghost use Rattle.std.specs.Prelude.{◌≡◌, ◌<◌, ◌==◌, ◌++◌, ◌∷◌, [], All, codes, false, length, ℕ, ◌+◌, ◌-◌, if◌then◌else◌, is_some, string_bytes, IfNone, IfOk, IfSome, Ok, OnOk, Some};
+ghost use Rattle.std.specs.Prelude.{◌≡◌, ◌<◌, ◌==◌, ◌++◌, ◌∷◌, [], All, codes, false, length, if◌then◌else◌, is_some, string_bytes, IfNone, IfOk, IfSome, Ok, OnOk, Some};
 ghost use Rattle.std.specs.Fmt.{decimal};
 ghost use Rattle.shm_model.specs.Basics.{greatest};
 ghost use Rattle.shm_process.specs.Cause.{Cause, OfRestart, cause_text};
@@ -318,10 +318,18 @@ impl<A: Allocator + Copy> Desk<A> {
     {
         let bytes = push_entry(self.alloc, &mut self.recorded, said.clock, line)?;
         push_text(self.alloc, &self.seal, &mut self.told, said)?;
-        let counts = self.counts.with_step(received, said.sent.len());
+        let counts = self.counts.with_step(received, count_sent(said));
         self.counts = counts.with_recorded(bytes);
         Ok(())
     }
+}
+
+/// How many envelopes a step sent.
+#[tactic(auto, using(crate::proofs::Asks::length_map))]
+fn count_sent<A: Allocator + Copy>(said: &Said<A>) -> usize
+    ensures { result ≡ length (said_of OfRestart said.now).sent }
+{
+    said.sent.len()
 }
 
 /// Checks that a line is an envelope.

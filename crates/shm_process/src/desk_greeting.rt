@@ -2,7 +2,7 @@
 ghost use Rattle.std.specs.Prelude.{◌≡◌, ◌++◌, string_bytes, IfOk, OnOk};
 ghost use Rattle.shm_process.specs.Desk.{disagreement_in, greeting_at, noted, with_other};
 ghost use Rattle.shm_process.specs.DeskOf.{desk_of};
-ghost use Rattle.shm_process.specs.Hello.{first_other, greeting, hello_line, read_hello};
+ghost use Rattle.shm_process.specs.Hello.{first_other, greeting, hello_for, hello_line, read_hello};
 ghost use Rattle.shm_process.specs.NodeOf.{node_of};
 ghost use Rattle.shm_seal.specs.SealOf.{seal_of};
 
@@ -94,11 +94,25 @@ fn hellos<A: Allocator + Copy>(
 {
     let mut text = String::new(alloc);
     'sites: for to in 0..own.sites {
-        if to != own.site {
-            push_hello(alloc, seal, &mut text, &own.hello_to(to))?;
-        }
+        push_hello_for(alloc, seal, &mut text, own, to)?;
     }
     Ok(text)
+}
+
+/// Appends the hello to that site, unless it is this one.
+fn push_hello_for<A: Allocator + Copy>(
+    alloc: A,
+    seal: &Seal,
+    text: &mut String<A>,
+    own: &Opening,
+    to: u32,
+) -> Result<(), AllocError>
+    ensures { OnOk result (string_bytes text.new ≡ string_bytes text.old ++ hello_for (seal_of seal.now) own.now to) }
+{
+    if to == own.site {
+        return Ok(());
+    }
+    push_hello(alloc, seal, text, &own.hello_to(to))
 }
 
 /// Appends a hello, sealed, and a line feed.

@@ -139,8 +139,10 @@ impl<A: Allocator + Copy> Desk<A> {
         if !may_keep(self.kept.as_slice(), page) {
             return self.answer(tag, Answer::Waiting);
         }
+        self.kept.reserve(1)?;
         let line = line.to_vec(self.alloc)?;
-        self.kept.push(KeptLine { line, page })
+        self.kept.push_reserved(KeptLine { line, page });
+        Ok(())
     }
 
     /// Answers a line that makes no step.

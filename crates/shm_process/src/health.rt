@@ -61,7 +61,7 @@ impl fmt::Display for Health {
     ghost use Rattle.std.specs.Prelude.{Some};
     ghost use Rattle.shm_process.specs.Health.{health_text};
     ghost use Rattle.shm_process.specs.CountsOf.{counts_of};
-ghost use Rattle.shm_process.specs.HealthOf.{health_in};
+    ghost use Rattle.shm_process.specs.HealthOf.{health_in};
 
     ghost output = { λ health. Some (health_text (health_in health)) };
 

@@ -65,7 +65,7 @@ impl<A: Allocator + Copy> Node<A> {
 
     /// The envelope can't be for this site, or no site that keeps up can have sent it.
     pub(crate) fn is_lost(&self, sent: &Sent<A>) -> bool
-        ensures { result ≡ spec.is_lost (node_of self.now) (sent_of sent.now) }
+        ensures lost { result ≡ spec.is_lost (node_of self.now) (sent_of sent.now) }
         ensures proper { result ≡ false → foreign self.now.sites self.now.me (envelope_of sent.now.envelope) ≡ false }
         ensures early { result ≡ false → max self.now.clock sent.now.source.clock < greatest }
     {
