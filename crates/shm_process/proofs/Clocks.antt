@@ -1,5 +1,5 @@
 -- How far a line raises a node's clock; and that no number of the node is above it, nor one that it sends.
-use Rattle.std.proofs.Common.{◌≡◌, ℕ, suc, ◌+◌, ◌*◌, ◌<◌, ◌≤◌, ◌==◌, ◌||◌, not, nat_le, nat_lt, Bool, true, false, List, [], ◌∷◌, Option, Some, None, length, max, cond, refl, subst, arith}
+use Rattle.std.proofs.Common.{◌≡◌, ℕ, suc, ◌+◌, ◌*◌, ◌<◌, ◌≤◌, ◌==◌, ◌&&◌, ◌||◌, not, nat_le, nat_lt, Bool, true, false, List, [], ◌∷◌, Option, Some, None, length, max, cond, refl, subst, arith}
 use Rattle.std.specs.List.{All}
 use Rattle.std.specs.Prelude.{IfSome, option_map}
 use Rattle.std.specs.Option.{option_map_or}
@@ -9,14 +9,18 @@ use Rattle.shm_model.specs.Receipt.{access_of}
 use Rattle.shm_model.specs.Step.{foreign, step}
 use Rattle.shm_model.specs.declared.asked_access.Asked.{Asked}
 use Rattle.shm_model.specs.declared.asked_access.Asked.TheVariants as asked
+use Rattle.shm_model.specs.declared.request_kind.Kind.{Kind}
+use Rattle.shm_model.specs.declared.request_kind.Kind.TheVariants.{Read, Write}
 use Rattle.shm_wire.specs.Line as stream
 use Rattle.shm_wire.specs.Line.{read_line}
 use Rattle.shm_wire.specs.Sent.{Sent}
+use Rattle.shm_wire.specs.Unmaps.{UnmapAsk}
 use Rattle.shm_wire.specs.declared.caller_ask.Question.{Question}
 use Rattle.shm_wire.specs.declared.caller_ask.Question.TheVariants as question
 use Rattle.shm_process.specs.Cause.{Cause, OfLine, OfRestart}
-use Rattle.shm_process.specs.Node.{Node, Heard, Said, handed, heard, input_asked, is_ahead, is_beyond, is_late, most_ahead, new_node, next_clock, says, stepped, under_tag, waits_for}
+use Rattle.shm_process.specs.Node.{Node, Heard, Said, handed, heard, input_asked, is_ahead, is_beyond, is_late, map_heard, most_ahead, new_node, next_clock, question_heard, says, stepped, under_tag, unmap_heard, waits_for}
 use Rattle.shm_process.specs.Numbers.{NumbersWithin, number_named, numbers_fit}
+use Rattle.shm_process.specs.Remaps.{has_right, is_empty, map_input}
 use Rattle.shm_process.specs.Recorded.{Event, Line, TooLong, Again, Restarted, after_event, after_events, said_at}
 use Rattle.shm_process.specs.Waiting.{after, after_heard, after_read, after_restart, again_at, heard_again, joining, joins, next_heard, ready, replayed, replayed_heard, restarting, said_read, said_restart, says_at}
 use Rattle.shm_process.specs.WaitingAsks.{WaitingAsk, ask_in, next_access}
@@ -50,7 +54,7 @@ zero-near clock = omega arith
 envelope-heeds : (node : Node) (sent : Sent) (x : Heard) → handed node sent ≡ Some x → Heeds node x
 envelope-heeds node sent x e =
     let lost = foreign node.sites node.me sent.envelope || (is_late node sent.source.at || is_beyond node sent) in
-    let made : Heard = record { input = Deliver sent.envelope; source = sent.source.at; tag = None; waits = None } in
+    let made : Heard = record { input = Deliver sent.envelope; source = sent.source.at; tag = None; waits = None; mapped = None } in
     let is = unless-some lost (Some made) x e in
     let own = neither (foreign node.sites node.me sent.envelope) (is_late node sent.source.at || is_beyond node sent) is.0 in
     let early = neither (is_late node sent.source.at) (is_beyond node sent) own.1 in
@@ -73,20 +77,54 @@ asked-number (question.Begin request) = tt
 asked-number question.Tick = tt
 asked-number (question.Show page) = tt
 asked-number question.Health = tt
+asked-number (question.Map at index kind) = tt
+asked-number question.Mappings = tt
 
-ask-heeds : (node : Node) (tag : List ℕ) (waits : Option WaitingAsk) (x : Heard) (o : Option Input) (here late : Bool) → IfSome o (InputWithin 0)
-    → cond here (cond late None (option_map (under_tag tag waits) o)) None ≡ Some x → Heeds node x
-ask-heeds node tag waits x o false late number e = absurd (cc)
-ask-heeds node tag waits x o true true number e = absurd (cc)
-ask-heeds node tag waits x None true false number e = absurd (cc)
-ask-heeds node tag waits x (Some input) true false number e =
+plainly-heeds : (node : Node) (tag : List ℕ) (waits : Option WaitingAsk) (o : Option Input) (x : Heard) → IfSome o (InputWithin 0)
+    → option_map (under_tag tag waits) o ≡ Some x → Heeds node x
+plainly-heeds node tag waits None x number e = absurd (cc)
+plainly-heeds node tag waits (Some input) x number e =
     subst (Heeds node) (some-is (under_tag tag waits input) x e) (record { near = zero-near node.clock; number = number })
+
+map-number : (has : Bool) (at index : ℕ) (kind : Kind) → InputWithin 0 (map_input has at index kind)
+map-number true at index kind = tt
+map-number false at index Read = tt
+map-number false at index Write = tt
+
+question-heeds : (node : Node) (tag : List ℕ) (q : Question) (x : Heard) → question_heard node tag q ≡ Some x → Heeds node x
+question-heeds node tag (question.Access a) x e =
+    plainly-heeds node tag (waits_for tag (question.Access a)) (input_asked (question.Access a)) x (asked-number (question.Access a)) e
+question-heeds node tag (question.Try a) x e =
+    plainly-heeds node tag (waits_for tag (question.Try a)) (input_asked (question.Try a)) x (asked-number (question.Try a)) e
+question-heeds node tag (question.Read at offset count) x e = absurd (cc)
+question-heeds node tag (question.Begin request) x e =
+    plainly-heeds node tag (waits_for tag (question.Begin request)) (input_asked (question.Begin request)) x (asked-number (question.Begin request)) e
+question-heeds node tag question.Tick x e = plainly-heeds node tag (waits_for tag question.Tick) (input_asked question.Tick) x (asked-number question.Tick) e
+question-heeds node tag (question.Show page) x e = absurd (cc)
+question-heeds node tag question.Health x e = absurd (cc)
+question-heeds node tag question.Mappings x e = absurd (cc)
+question-heeds node tag (question.Map at index kind) x e =
+    subst (Heeds node) (some-is (map_heard node tag at index kind) x e)
+    (record { near = zero-near node.clock; number = map-number (has_right node.sites node.me node.site at index kind) at index kind })
+
+ask-heeds : (node : Node) (tag : List ℕ) (q : Question) (x : Heard) (here late : Bool)
+    → cond here (cond late None (question_heard node tag q)) None ≡ Some x → Heeds node x
+ask-heeds node tag q x false late e = absurd (cc)
+ask-heeds node tag q x true true e = absurd (cc)
+ask-heeds node tag q x true false e = question-heeds node tag q x e
+
+unmap-heeds : (node : Node) (unmap : UnmapAsk) (x : Heard) (here late : Bool)
+    → cond here (cond late None (Some (unmap_heard node unmap))) None ≡ Some x → Heeds node x
+unmap-heeds node unmap x false late e = absurd (cc)
+unmap-heeds node unmap x true true e = absurd (cc)
+unmap-heeds node unmap x true false e =
+    subst (Heeds node) (some-is (unmap_heard node unmap) x e) (record { near = zero-near node.clock; number = tt })
 
 line-heeds : (node : Node) (line : stream.Line) (x : Heard) → heard node line ≡ Some x → Heeds node x
 line-heeds node (stream.Envelope sent) x e = envelope-heeds node sent x e
 line-heeds node (stream.Write write) x e = absurd (cc)
-line-heeds node (stream.Ask ask) x e =
-    ask-heeds node ask.tag (waits_for ask.tag ask.asked) x (input_asked ask.asked) (ask.site == node.me) (is_late node 0) (asked-number ask.asked) e
+line-heeds node (stream.Ask ask) x e = ask-heeds node ask.tag ask.asked x (ask.site == node.me) (is_late node 0) e
+line-heeds node (stream.Unmap unmap) x e = unmap-heeds node unmap x ((unmap.site == node.me) && is_empty unmap.runs) (is_late node 0) e
 
 next-heeds : (node : Node) (ask : WaitingAsk) → Heeds node (next_heard ask)
 next-heeds node ask = record { near = zero-near node.clock; number = access-number 0 (next_access ask) }

@@ -1,18 +1,34 @@
 -- What a desk records of bytes is the entries of what its node did.
-use Rattle.std.proofs.Common.{◌≡◌, ℕ, zero, suc, Bool, true, false, List, [], ◌∷◌, ◌++◌, cond, length, refl, ap, sym, ◌∙◌, append-nil}
+use Rattle.std.proofs.Common.{◌≡◌, ℕ, zero, suc, ◌+◌, ◌<◌, ◌≤◌, Bool, true, false, List, [], ◌∷◌, ◌++◌, cond, length, refl, ap, sym, ◌∙◌, append-nil, arith}
+use Rattle.std.specs.List.{All}
 use Rattle.std.specs.Option.{option_map_or}
-use Rattle.std.specs.Prelude.{Option, Some, None, Result, Ok, Err, is_some, nat_lt, ◌==◌}
+use Rattle.std.specs.Prelude.{Option, Some, None, Result, Ok, Err, is_some, nat_lt, option_map, ◌==◌, ◌^◌}
+use Rattle.std.proofs.lemmas.Bool.Decides.{nat_tests}
 use Rattle.std.proofs.lemmas.List.{append_assoc}
+use Rattle.std.proofs.lemmas.List.Elements.{All-head, All-nil, All-tail}
+use Rattle.base64.specs.GeneralPurpose.{IsBytes}
+use Rattle.shm_place.specs.declared.page_id.PageId.{PageId}
+use Rattle.shm_model.specs.declared.answer.Answer.{Answer}
+use Rattle.shm_model.specs.declared.answer.Answer.TheVariants.{Waiting}
 use Rattle.shm_seal.specs.Seal.{opened}
 use Rattle.shm_seal.specs.declared.open_line_error.Unsealed.{Unsealed}
-use Rattle.shm_wire.specs.Line.{read_line}
-use Rattle.shm_process.specs.Desk.{Desk, after_line, after_opened, grown, left_sealed, made_again, max_line_bytes, noted, on_byte, on_bytes, settled, step_entry, taken, with_other}
+use Rattle.shm_wire.proofs.LineWords.{line-is_read, line-is_spelled}
+use Rattle.shm_wire.specs.Asks.{IsBlock}
+use Rattle.shm_wire.specs.Line as stream
+use Rattle.shm_wire.specs.Line.{IsLine, read_line}
+use Rattle.shm_wire.specs.Unmaps.{IsRun, IsUnmap, Run, UnmapAsk}
+use Rattle.shm_wire.specs.declared.mapping_text.RevokeText.{RevokeText}
+use Rattle.shm_process.specs.Access.{is_open, is_waiting}
+use Rattle.shm_process.specs.Desk.{Desk, KeptLine, after_line, after_opened, after_read_line, all_met, answered, brought, by_meeting, finished, given_up_by, grown, keep, left_sealed, made_again, made_and_told, map_reply, max_line_bytes, may_keep, met, met_read, noted, on_byte, on_bytes, openly, passed, quietly, reminded, reminded_if, revoked, settled, step_entry, store_line, stored_run, tag_in, taken, ticks, tried, unmap_reply, untagged, with_other}
 use Rattle.shm_process.specs.DeskEvents.{DidEvents}
 use Rattle.shm_process.specs.Hello.{first_other, read_hello}
-use Rattle.shm_process.specs.Node.{Node, Said}
+use Rattle.shm_process.specs.Meetings.{meeting}
+use Rattle.shm_process.specs.Node.{Node, Said, answer_to, heard}
 use Rattle.shm_process.specs.Recorded.{Again, Entry, Event, Line, TooLong, after_event, after_events, entries_of, entries_text, entry_line, recorded, said_at}
-use Rattle.shm_process.specs.Waiting.{most_steps, passed_over, said_again}
+use Rattle.shm_process.specs.Waiting.{after, after_read, most_steps, passed_over, said, said_again, said_read}
 use Rattle.shm_process.specs.declared.hello_line.Hello.{Hello}
+use Rattle.shm_process.specs.declared.line_meeting.Meeting.{Meeting}
+use Rattle.shm_process.specs.declared.line_meeting.Meeting.TheVariants.{Answered, Free, Kept, Maps, Tries, Unmaps}
 use Rattle.shm_process.specs.declared.site_opening.Disagreement.{Disagreement}
 
 more-recorded : (said : Option Said) (xs ys : List Entry) → recorded said (xs ++ ys) ≡ recorded said xs ++ ys
@@ -57,6 +73,15 @@ did-cond : (b : Bool) (d x y : Desk) → DidEvents d x → DidEvents d y → Did
 did-cond true d x y p q = p
 did-cond false d x y p q = q
 
+-- the entry of a step doesn't say who is told
+untagged-entry : (said : Option Said) → step_entry (option_map untagged said) ≡ step_entry said
+unfolding step_entry
+untagged-entry None = refl
+untagged-entry (Some said) = refl
+
+run-end : (offset count : ℕ) → IsBlock offset count → offset + count ≤ 2 ^ 32
+run-end offset count h = grind (arith, nat_tests)
+
 did-settled : (n : ℕ) (d : Desk) → DidEvents d (settled n d)
 unfolding settled
 did-settled zero d = did-nothing d d refl refl
@@ -65,12 +90,138 @@ did-settled (suc n) d =
     (did-both d (made_again d) (settled n (made_again d)) (did-one d (made_again d) Again refl refl) (did-settled n (made_again d)))
     (did-nothing d d refl refl)
 
-did-taken : (d : Desk) (line : List ℕ) → DidEvents d (taken d (read_line line))
-unfolding taken
-did-taken d line = did-one d (taken d (read_line line)) (Line line) refl refl
-
 did-too-long : (d : Desk) → DidEvents d (record d { node = passed_over d.node })
 did-too-long d = record { events = TooLong ∷ []; node = refl; recorded = sym (append-nil d.recorded) }
+
+-- ---- a line while pages are mapped
+
+-- a line was taken, and what is told of it may be less
+module _ (d : Desk) (bytes : List ℕ) (line : stream.Line) (is : read_line bytes ≡ Some line) where
+  after-is : after d.node line ≡ after_event d.node (Line bytes)
+  after-is = ap (after_read d.node) (sym is)
+
+  said-is : said d.node line ≡ said_at d.node (Line bytes)
+  said-is = ap (said_read d.node) (sym is)
+
+  did-taken : DidEvents d (taken d (Some line))
+  unfolding taken
+  did-taken = did-one d (taken d (Some line)) (Line bytes) after-is (ap (λ s. d.recorded ++ step_entry s) said-is)
+
+  did-openly : DidEvents d (openly d line)
+  did-openly = did-one d (openly d line) (Line bytes) after-is (ap (λ s. d.recorded ++ step_entry s) said-is)
+
+  did-quietly : DidEvents d (quietly d line)
+  unfolding quietly
+  did-quietly =
+      did-one d (quietly d line) (Line bytes) after-is
+      (ap (λ e. d.recorded ++ e) (untagged-entry (said d.node line)) ∙ ap (λ s. d.recorded ++ step_entry s) said-is)
+
+  did-made : (text : List ℕ) → DidEvents d (made_and_told d line text)
+  did-made text = did-both d (quietly d line) (made_and_told d line text) did-quietly (did-nothing (quietly d line) (made_and_told d line text) refl refl)
+
+did-answered : (d : Desk) (tag : Option (List ℕ)) (answer : Answer) → DidEvents d (answered d tag answer)
+did-answered d tag answer = did-both d (passed d) (answered d tag answer) (did-too-long d) (did-nothing (passed d) (answered d tag answer) refl refl)
+
+did-keep : (d : Desk) (page : Option PageId) (line : List ℕ) (tag : Option (List ℕ)) → DidEvents d (keep d page line tag)
+did-keep d page line tag =
+    did-cond (may_keep d.kept page) d (record d { kept = d.kept ++ record { line = line; page = page } ∷ [] }) (answered d tag Waiting)
+    (did-nothing d (record d { kept = d.kept ++ record { line = line; page = page } ∷ [] }) refl refl) (did-answered d tag Waiting)
+
+did-revoked : (d : Desk) (fresh : Bool) (wants : Option RevokeText) → DidEvents d (revoked fresh wants d)
+did-revoked d false wants = did-nothing d d refl refl
+did-revoked d true wants = did-nothing d (revoked true wants d) refl refl
+
+did-tried : (d : Desk) (line : List ℕ) (read : stream.Line) (answer : Option Answer) → read_line line ≡ Some read → DidEvents d (tried d line read answer)
+did-tried d line read None is = did-nothing d d refl refl
+did-tried d line read (Some answer) is =
+    let tag = tag_in read in
+    let asked = quietly d read in
+    did-cond (is_waiting answer) d (keep d None line tag) (cond (is_open answer) (keep asked None line tag) (openly d read)) (did-keep d None line tag)
+    (did-cond (is_open answer) d (keep asked None line tag) (openly d read)
+    (did-both d asked (keep asked None line tag) (did-quietly d line read is) (did-keep asked None line tag)) (did-openly d line read is))
+
+-- a byte that is brought is stored by a line of its own
+store-is_line : (ask : UnmapAsk) (offset byte : ℕ) → IsUnmap ask → offset < 2 ^ 32 → byte < 256 → IsLine (store_line ask offset byte)
+store-is_line ask offset byte is place small = (is.0, (is.1, (is.2, (place, small))))
+
+first-place : (offset count : ℕ) → offset + suc count ≤ 2 ^ 32 → offset < 2 ^ 32
+first-place offset count h = omega (arith, h)
+
+next-place : (offset count : ℕ) → offset + suc count ≤ 2 ^ 32 → (offset + 1) + count ≤ 2 ^ 32
+next-place offset count h = omega (arith, h)
+
+did-run : (bytes : List ℕ) (d : Desk) (ask : UnmapAsk) (offset : ℕ) → IsUnmap ask → offset + length bytes ≤ 2 ^ 32 → IsBytes bytes
+    → DidEvents d (stored_run d ask offset bytes)
+unfolding stored_run
+did-run [] d ask offset is within small = did-nothing d d refl refl
+did-run (byte ∷ bytes) d ask offset is within small =
+    let line = store_line ask offset byte in
+    let proper = store-is_line ask offset byte is (first-place offset (length bytes) within) (small 0) in
+    let next = quietly d line in
+    did-both d next (stored_run next ask (offset + 1) bytes) (did-quietly d (stream.line_text line) line (line-is_read line proper))
+    (did-run bytes next ask (offset + 1) is (next-place offset (length bytes) within) (λ i. small (suc i)))
+
+did-brought : (runs : List Run) (d : Desk) (ask : UnmapAsk) → IsUnmap ask → All IsRun runs → DidEvents d (brought d ask runs)
+unfolding brought
+did-brought [] d ask is proper = did-nothing d d refl refl
+did-brought (run ∷ runs) d ask is proper =
+    let r = All-head IsRun run runs proper in
+    let next = stored_run d ask run.offset run.bytes in
+    did-both d next (brought next ask runs) (did-run run.bytes d ask run.offset is (run-end run.offset (length run.bytes) r.1) r.2)
+    (did-brought runs next ask is (All-tail IsRun run runs proper))
+
+did-given_up : (d : Desk) (read : stream.Line) → IsLine read → DidEvents d (given_up_by d read)
+did-given_up d (stream.Envelope sent) is = did-nothing d d refl refl
+did-given_up d (stream.Ask ask) is = did-nothing d d refl refl
+did-given_up d (stream.Write write) is = did-nothing d d refl refl
+did-given_up d (stream.Unmap ask) is =
+    let last = stream.Unmap (record ask { runs = [] }) in
+    let proper : IsLine last = (is.0, (is.1, (is.2, (is.3, All-nil IsRun)))) in
+    let next = brought d ask ask.runs in
+    did-both d next (given_up_by d (stream.Unmap ask)) (did-brought ask.runs d ask is is.4)
+    (did-made next (stream.line_text last) last (line-is_read last proper) (unmap_reply ask.keeps))
+
+did-met : (d : Desk) (fresh : Bool) (line : List ℕ) (read : stream.Line) (m : Meeting) → read_line line ≡ Some read → DidEvents d (by_meeting fresh d line read m)
+unfolding by_meeting
+did-met d fresh line read Free is = did-taken d line read is
+did-met d fresh line read (Kept page wants) is =
+    did-both d (revoked fresh wants d) (keep (revoked fresh wants d) page line (tag_in read)) (did-revoked d fresh wants)
+    (did-keep (revoked fresh wants d) page line (tag_in read))
+did-met d fresh line read (Answered answer) is = did-answered d (tag_in read) answer
+did-met d fresh line read (Maps at index) is = did-made d line read is (map_reply d.node at index)
+did-met d fresh line read Tries is = did-tried d line read (option_map (answer_to d.node) (heard d.node read)) is
+did-met d fresh line read Unmaps is = did-given_up d read (line-is_spelled line read is).0
+
+did-met_read : (d : Desk) (fresh : Bool) (line : List ℕ) (read : Option stream.Line) → read_line line ≡ read → DidEvents d (met_read fresh d line read)
+did-met_read d fresh line None is = did-too-long d
+did-met_read d fresh line (Some read) is = did-met d fresh line read (meeting d.node read) is
+
+did-all_met : (kept : List KeptLine) (d : Desk) (fresh : Bool) → DidEvents d (all_met fresh d kept)
+unfolding all_met
+did-all_met [] d fresh = did-nothing d d refl refl
+did-all_met (k ∷ kept) d fresh =
+    let next = met fresh d k.line in
+    did-both d next (all_met fresh next kept) (did-met_read d fresh k.line (read_line k.line) refl) (did-all_met kept next fresh)
+
+did-reminded : (d : Desk) (tick : Bool) → DidEvents d (reminded_if tick d)
+unfolding reminded
+did-reminded d false = did-nothing d d refl refl
+did-reminded d true = did-nothing d (reminded d) refl refl
+
+did-finished : (d : Desk) (tick : Bool) → DidEvents d (finished tick d)
+did-finished d tick =
+    let now = reminded_if tick d in
+    let free = record now { kept = [] } in
+    let last = all_met tick free now.kept in
+    did-both d now (settled most_steps last) (did-reminded d tick)
+    (did-both now free (settled most_steps last) (did-nothing now free refl refl)
+    (did-both free last (settled most_steps last) (did-all_met now.kept free tick) (did-settled most_steps last)))
+
+did-read_line : (d : Desk) (line : List ℕ) (read : Option stream.Line) → read_line line ≡ read → DidEvents d (after_read_line d line read)
+did-read_line d line None is = did-both d (passed d) (settled most_steps (passed d)) (did-too-long d) (did-settled most_steps (passed d))
+did-read_line d line (Some read) is =
+    let next = by_meeting true d line read (meeting d.node read) in
+    did-both d next (finished (ticks d.node read) next) (did-met d true line read (meeting d.node read) is) (did-finished next (ticks d.node read))
 
 did-left : (d : Desk) (why : Unsealed) → DidEvents d (left_sealed d why)
 did-left d why = record { events = TooLong ∷ []; node = refl; recorded = sym (append-nil d.recorded) }
@@ -84,10 +235,8 @@ did-noted d read = did-other d (first_other d.opening d.other read)
 
 did-opened : (d : Desk) (inner : Result (List ℕ) Unsealed) → DidEvents d (after_opened d inner)
 did-opened d (Ok line) =
-    let heard = noted d (read_hello line) in
-    let next = taken heard (read_line line) in
-    did-both d heard (settled most_steps next) (did-noted d (read_hello line))
-    (did-both heard next (settled most_steps next) (did-taken heard line) (did-settled most_steps next))
+    let now = noted d (read_hello line) in
+    did-both d now (after_read_line now line (read_line line)) (did-noted d (read_hello line)) (did-read_line now line (read_line line) refl)
 did-opened d (Err why) = did-both d (left_sealed d why) (settled most_steps (left_sealed d why)) (did-left d why) (did-settled most_steps (left_sealed d why))
 
 did-line : (d : Desk) (line : List ℕ) → DidEvents d (after_line d line)
