@@ -5,6 +5,8 @@ mod exchanges;
 mod fill_heap;
 mod hellos;
 mod impossible_envelopes;
+mod mapped_lines;
+mod mappings;
 mod seal_digests;
 mod two_nodes;
 mod wire;

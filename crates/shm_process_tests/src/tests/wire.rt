@@ -37,7 +37,7 @@ const BAD: [&str; 8] = [
 ];
 
 /// A line of each form that a caller may ask in.
-const ASKS: [&str; 15] = [
+const ASKS: [&str; 18] = [
     "ask 0 a load 0 4096",
     "ask 15 ~!tag~ store 63 4294967295 255",
     "ask 1 t try-load 0 4096",
@@ -52,12 +52,15 @@ const ASKS: [&str; 15] = [
     "ask 1 t stat 10 20 1",
     "ask 1 t tick",
     "ask 1 t show 3 255",
+    "ask 1 t map 63 255 read",
+    "ask 1 t map 0 0 write",
+    "ask 1 t mappings",
     "ask 1 12345678901234567890123456789012 tick",
 ];
 
 /// No asks: no tag, one of 33 bytes and one with a byte that isn't ASCII, a blank too many, blocks of no byte, of more than a page and with
-/// a byte behind the last offset, and the words of other lines.
-const NO_ASKS: [&[u8]; 11] = [
+/// a byte behind the last offset, a mapping of no kind, and the words of other lines.
+const NO_ASKS: [&[u8]; 13] = [
     b"ask 1 tick",
     b"ask 1 123456789012345678901234567890123 tick",
     b"ask 1 \xc3\xa9 tick",
@@ -65,6 +68,8 @@ const NO_ASKS: [&[u8]; 11] = [
     b"ask 1 t read 0 0 0",
     b"ask 1 t read 0 0 4097",
     b"ask 1 t read 0 4294967295 2",
+    b"ask 1 t map 0 0 none",
+    b"ask 1 t mappings 0",
     b"ask 1 t detach id 2",
     b"ask 1 t restart",
     b"1 t tick",
