@@ -16,16 +16,16 @@ use Rattle.shm_wire.specs.Line.{Line, read_line}
 use Rattle.shm_wire.specs.Line as stream
 use Rattle.shm_wire.specs.Unmaps.{Run, UnmapAsk}
 use Rattle.shm_wire.specs.declared.mapping_text.RevokeText.{RevokeText}
-use Rattle.shm_process.specs.Access.{is_open, is_waiting}
-use Rattle.shm_process.specs.Desk.{Desk, KeptLine, after_line, after_opened, after_read_line, all_met, answered, brought, by_meeting, finished, given_up_by, grown, keep, left_sealed, made_again, made_and_told, map_reply, max_line_bytes, may_keep, met, met_again, met_read, noted, on_byte, on_bytes, openly, passed, quietly, reminded, reminded_if, revoked, settled, store_line, stored_run, tag_in, taken, tell_caller, ticks, tried, unmap_reply, with_other}
+use Rattle.shm_process.specs.Access.{is_open}
+use Rattle.shm_process.specs.Desk.{Desk, KeptLine, after_line, after_opened, after_read_line, all_met, answered, brought, by_meeting, finished, given_up_by, grown, keep, left_sealed, made_again, made_and_told, map_reply, max_line_bytes, may_keep, met, met_again, met_read, noted, on_byte, on_bytes, passed, quietly, reminded, reminded_if, revoked, settled, store_line, stored_run, tag_in, taken, tell_caller, ticks, tried, tried_by, unmap_reply, untagged, with_other, with_step}
 use Rattle.shm_process.specs.Hello.{first_other, read_hello}
 use Rattle.shm_process.specs.Meetings.{meeting}
-use Rattle.shm_process.specs.Node.{answer_to, heard}
+use Rattle.shm_process.specs.Node.{Said}
 use Rattle.shm_process.specs.declared.hello_line.Hello.{Hello}
 use Rattle.shm_process.specs.declared.line_meeting.Meeting.{Meeting}
 use Rattle.shm_process.specs.declared.line_meeting.Meeting.TheVariants.{Answered, Free, Kept, Maps, Tries, Unmaps}
 use Rattle.shm_process.specs.declared.site_opening.Disagreement.{Disagreement}
-use Rattle.shm_process.specs.Waiting.{most_steps, passed_over, said_again}
+use Rattle.shm_process.specs.Waiting.{after, most_steps, passed_over, said, said_again}
 use Rattle.shm_process.proofs.DeskLemmas.{on_bytes-append}
 
 abbrev NoFeed : List ℕ → Type 0
@@ -121,17 +121,17 @@ keep-line l d page line tag =
 made-line : (l : List ℕ) (d : Desk) (line : Line) (text : List ℕ) → made_and_told (with_line l d) line text ≡ with_line l (made_and_told d line text)
 made-line l d line text = ap (λ x. tell_caller x (tag_in line) text) (quietly-line l d line)
 
-tried-line : (l : List ℕ) (d : Desk) (line : List ℕ) (read : Line) (answer : Option Answer) → tried (with_line l d) line read answer ≡ with_line l (tried d line read answer)
-tried-line l d line read None = refl
-tried-line l d line read (Some answer) =
-    let tag = tag_in read in
-    let open_now = keep (quietly d read) None line tag in
-    let open_then = keep (quietly (with_line l d) read) None line tag in
-    cond-line (is_waiting answer) l (keep d None line tag) (keep (with_line l d) None line tag)
-    (cond (is_open answer) open_now (openly d read)) (cond (is_open answer) open_then (openly (with_line l d) read))
-    (keep-line l d None line tag)
-    (cond-line (is_open answer) l open_now open_then (openly d read) (openly (with_line l d) read)
-    (ap (λ x. keep x None line tag) (quietly-line l d read) ∙ keep-line l (quietly d read) None line tag) refl)
+tried_by-line : (l : List ℕ) (d : Desk) (line : List ℕ) (tag : Option (List ℕ)) (said : Option Said)
+    → tried_by (with_line l d) line tag said ≡ with_line l (tried_by d line tag said)
+tried_by-line l d line tag None = refl
+tried_by-line l d line tag (Some said) =
+    let quiet = with_step d (Some (untagged said)) in
+    cond-line (is_open said.answer) l (keep quiet None line tag) (keep (with_line l quiet) None line tag) (with_step d (Some said)) (with_step (with_line l d) (Some said))
+    (keep-line l quiet None line tag) refl
+
+tried-line : (l : List ℕ) (d : Desk) (line : List ℕ) (read : Line) → tried (with_line l d) line read ≡ with_line l (tried d line read)
+unfolding tried
+tried-line l d line read = tried_by-line l (record d { node = after d.node read }) line (tag_in read) (said d.node read)
 
 run-line : (bytes l : List ℕ) (d : Desk) (ask : UnmapAsk) (offset : ℕ) → stored_run (with_line l d) ask offset bytes ≡ with_line l (stored_run d ask offset bytes)
 unfolding stored_run
@@ -162,7 +162,7 @@ meeting-line l d fresh line read (Kept page wants) =
     ap (λ x. keep x page line (tag_in read)) (revoked-line l d fresh wants) ∙ keep-line l (revoked fresh wants d) page line (tag_in read)
 meeting-line l d fresh line read (Answered answer) = refl
 meeting-line l d fresh line read (Maps at index) = made-line l d read (map_reply d.node at index)
-meeting-line l d fresh line read Tries = tried-line l d line read (option_map (answer_to d.node) (heard d.node read))
+meeting-line l d fresh line read Tries = tried-line l d line read
 meeting-line l d fresh line read Unmaps = given_up-line l d read
 
 met_read-line : (l : List ℕ) (d : Desk) (fresh : Bool) (line : List ℕ) (read : Option Line)

@@ -18,12 +18,12 @@ use Rattle.shm_wire.specs.Line as stream
 use Rattle.shm_wire.specs.Line.{IsLine, read_line}
 use Rattle.shm_wire.specs.Unmaps.{IsRun, IsUnmap, Run, UnmapAsk}
 use Rattle.shm_wire.specs.declared.mapping_text.RevokeText.{RevokeText}
-use Rattle.shm_process.specs.Access.{is_open, is_waiting}
-use Rattle.shm_process.specs.Desk.{Desk, KeptLine, after_line, after_opened, after_read_line, all_met, answered, brought, by_meeting, finished, given_up_by, grown, keep, left_sealed, made_again, made_and_told, map_reply, max_line_bytes, may_keep, met, met_read, noted, on_byte, on_bytes, openly, passed, quietly, reminded, reminded_if, revoked, settled, step_entry, store_line, stored_run, tag_in, taken, ticks, tried, unmap_reply, untagged, with_other}
+use Rattle.shm_process.specs.Access.{is_open}
+use Rattle.shm_process.specs.Desk.{Desk, KeptLine, after_line, after_opened, after_read_line, all_met, answered, brought, by_meeting, finished, given_up_by, grown, keep, left_sealed, made_again, made_and_told, map_reply, max_line_bytes, may_keep, met, met_read, noted, on_byte, on_bytes, passed, quietly, reminded, reminded_if, revoked, settled, step_entry, store_line, stored_run, tag_in, taken, ticks, tried, tried_by, unmap_reply, untagged, with_other, with_step}
 use Rattle.shm_process.specs.DeskEvents.{DidEvents}
 use Rattle.shm_process.specs.Hello.{first_other, read_hello}
 use Rattle.shm_process.specs.Meetings.{meeting}
-use Rattle.shm_process.specs.Node.{Node, Said, answer_to, heard}
+use Rattle.shm_process.specs.Node.{Node, Said}
 use Rattle.shm_process.specs.Recorded.{Again, Entry, Event, Line, TooLong, after_event, after_events, entries_of, entries_text, entry_line, recorded, said_at}
 use Rattle.shm_process.specs.Waiting.{after, after_read, most_steps, passed_over, said, said_again, said_read}
 use Rattle.shm_process.specs.declared.hello_line.Hello.{Hello}
@@ -107,9 +107,6 @@ module _ (d : Desk) (bytes : List ℕ) (line : stream.Line) (is : read_line byte
   unfolding taken
   did-taken = did-one d (taken d (Some line)) (Line bytes) after-is (ap (λ s. d.recorded ++ step_entry s) said-is)
 
-  did-openly : DidEvents d (openly d line)
-  did-openly = did-one d (openly d line) (Line bytes) after-is (ap (λ s. d.recorded ++ step_entry s) said-is)
-
   did-quietly : DidEvents d (quietly d line)
   unfolding quietly
   did-quietly =
@@ -131,14 +128,26 @@ did-revoked : (d : Desk) (fresh : Bool) (wants : Option RevokeText) → DidEvent
 did-revoked d false wants = did-nothing d d refl refl
 did-revoked d true wants = did-nothing d (revoked true wants d) refl refl
 
-did-tried : (d : Desk) (line : List ℕ) (read : stream.Line) (answer : Option Answer) → read_line line ≡ Some read → DidEvents d (tried d line read answer)
-did-tried d line read None is = did-nothing d d refl refl
-did-tried d line read (Some answer) is =
-    let tag = tag_in read in
-    let asked = quietly d read in
-    did-cond (is_waiting answer) d (keep d None line tag) (cond (is_open answer) (keep asked None line tag) (openly d read)) (did-keep d None line tag)
-    (did-cond (is_open answer) d (keep asked None line tag) (openly d read)
-    (did-both d asked (keep asked None line tag) (did-quietly d line read is) (did-keep asked None line tag)) (did-openly d line read is))
+-- the step that was said was made
+did-tried_by : (d : Desk) (line : List ℕ) (read : stream.Line) (tag : Option (List ℕ)) (says : Option Said) → read_line line ≡ Some read → said d.node read ≡ says
+    → DidEvents d (tried_by (record d { node = after d.node read }) line tag says)
+unfolding step_entry
+did-tried_by d line read tag None is so =
+    let now = record d { node = after d.node read } in
+    did-one d now (Line line) (after-is d line read is)
+    (sym (append-nil d.recorded) ∙ ap (λ s. d.recorded ++ step_entry s) (sym so ∙ said-is d line read is))
+did-tried_by d line read tag (Some says) is so =
+    let now = record d { node = after d.node read } in
+    let quiet = with_step now (Some (untagged says)) in
+    let loud = with_step now (Some says) in
+    let made : DidEvents d loud = did-one d loud (Line line) (after-is d line read is) (ap (λ s. d.recorded ++ step_entry s) (sym so ∙ said-is d line read is)) in
+    let quietly_made : DidEvents d quiet =
+    did-one d quiet (Line line) (after-is d line read is) (ap (λ s. d.recorded ++ step_entry s) (sym so ∙ said-is d line read is)) in
+    did-cond (is_open says.answer) d (keep quiet None line tag) loud (did-both d quiet (keep quiet None line tag) quietly_made (did-keep quiet None line tag)) made
+
+did-tried : (d : Desk) (line : List ℕ) (read : stream.Line) → read_line line ≡ Some read → DidEvents d (tried d line read)
+unfolding tried
+did-tried d line read is = did-tried_by d line read (tag_in read) (said d.node read) is refl
 
 -- a byte that is brought is stored by a line of its own
 store-is_line : (ask : UnmapAsk) (offset byte : ℕ) → IsUnmap ask → offset < 2 ^ 32 → byte < 256 → IsLine (store_line ask offset byte)
@@ -189,7 +198,7 @@ did-met d fresh line read (Kept page wants) is =
     (did-keep (revoked fresh wants d) page line (tag_in read))
 did-met d fresh line read (Answered answer) is = did-answered d (tag_in read) answer
 did-met d fresh line read (Maps at index) is = did-made d line read is (map_reply d.node at index)
-did-met d fresh line read Tries is = did-tried d line read (option_map (answer_to d.node) (heard d.node read)) is
+did-met d fresh line read Tries is = did-tried d line read is
 did-met d fresh line read Unmaps is = did-given_up d read (line-is_spelled line read is).0
 
 did-met_read : (d : Desk) (fresh : Bool) (line : List ℕ) (read : Option stream.Line) → read_line line ≡ read → DidEvents d (met_read fresh d line read)

@@ -14,11 +14,11 @@ use Rattle.shm_wire.specs.Line.{Line, read_line}
 use Rattle.shm_wire.specs.Line as stream
 use Rattle.shm_wire.specs.Unmaps.{Run, UnmapAsk}
 use Rattle.shm_wire.specs.declared.mapping_text.RevokeText.{RevokeText}
-use Rattle.shm_process.specs.Access.{is_open, is_waiting}
-use Rattle.shm_process.specs.Desk.{Desk, KeptLine, after_line, after_opened, after_read_line, all_met, answered, brought, by_meeting, cleared, counts_after, finished, given_up_by, grown, keep, left_sealed, line_text, made_again, made_and_told, map_reply, max_line_bytes, may_keep, met, met_again, met_read, noted, on_byte, on_bytes, openly, passed, quietly, reminded, reminded_if, reminder, revoke_line, revoked, settled, step_entry, step_text, store_line, stored_run, tag_in, taken, tell, tell_caller, ticks, told_to, tried, unmap_reply, untagged, with_other, with_step}
+use Rattle.shm_process.specs.Access.{is_open}
+use Rattle.shm_process.specs.Desk.{Desk, KeptLine, after_line, after_opened, after_read_line, all_met, answered, brought, by_meeting, cleared, counts_after, finished, given_up_by, grown, keep, left_sealed, line_text, made_again, made_and_told, map_reply, max_line_bytes, may_keep, met, met_again, met_read, noted, on_byte, on_bytes, passed, quietly, reminded, reminded_if, reminder, revoke_line, revoked, settled, step_entry, step_text, store_line, stored_run, tag_in, taken, tell, tell_caller, ticks, told_to, tried, tried_by, unmap_reply, untagged, with_other, with_step}
 use Rattle.shm_process.specs.Hello.{first_other, hello_line, hello_to, read_hello}
 use Rattle.shm_process.specs.Meetings.{meeting}
-use Rattle.shm_process.specs.Node.{Node, Said, answer_to, heard}
+use Rattle.shm_process.specs.Node.{Node, Said}
 use Rattle.shm_process.specs.Telling.{shown_line}
 use Rattle.shm_process.specs.Waiting.{after, after_again, after_read, again_at, most_steps, passed_over, ready, said, said_again, said_read, says_at}
 use Rattle.shm_process.specs.WaitingAsks.{next_access}
@@ -116,9 +116,6 @@ quietly-behind : (r t : List ℕ) (d : Desk) (line : Line) → quietly (behind r
 unfolding quietly
 quietly-behind r t d line = with_step-behind r t (record d { node = after d.node line }) (option_map untagged (said d.node line))
 
-openly-behind : (r t : List ℕ) (d : Desk) (line : Line) → openly (behind r t d) line ≡ behind r t (openly d line)
-openly-behind r t d line = with_step-behind r t (record d { node = after d.node line }) (said d.node line)
-
 revoked-behind : (r t : List ℕ) (d : Desk) (fresh : Bool) (wants : Option RevokeText) → revoked fresh wants (behind r t d) ≡ behind r t (revoked fresh wants d)
 revoked-behind r t d false wants = refl
 revoked-behind r t d true wants = tell-behind r t d (line_text d.seal (option_map (revoke_line d.node) wants))
@@ -137,18 +134,18 @@ made-behind : (r t : List ℕ) (d : Desk) (line : Line) (text : List ℕ) → ma
 made-behind r t d line text =
     ap (λ x. tell_caller x (tag_in line) text) (quietly-behind r t d line) ∙ tell_caller-behind r t (quietly d line) (tag_in line) text
 
-tried-behind : (r t : List ℕ) (d : Desk) (line : List ℕ) (read : Line) (answer : Option Answer)
-    → tried (behind r t d) line read answer ≡ behind r t (tried d line read answer)
-tried-behind r t d line read None = refl
-tried-behind r t d line read (Some answer) =
-    let tag = tag_in read in
-    let open_now = keep (quietly d read) None line tag in
-    let open_then = keep (quietly (behind r t d) read) None line tag in
-    cond-behind (is_waiting answer) r t (keep d None line tag) (keep (behind r t d) None line tag)
-    (cond (is_open answer) open_now (openly d read)) (cond (is_open answer) open_then (openly (behind r t d) read))
-    (keep-behind r t d None line tag)
-    (cond-behind (is_open answer) r t open_now open_then (openly d read) (openly (behind r t d) read)
-    (ap (λ x. keep x None line tag) (quietly-behind r t d read) ∙ keep-behind r t (quietly d read) None line tag) (openly-behind r t d read))
+tried_by-behind : (r t : List ℕ) (d : Desk) (line : List ℕ) (tag : Option (List ℕ)) (said : Option Said)
+    → tried_by (behind r t d) line tag said ≡ behind r t (tried_by d line tag said)
+tried_by-behind r t d line tag None = refl
+tried_by-behind r t d line tag (Some said) =
+    let quiet = with_step d (Some (untagged said)) in
+    let quiet_then = with_step (behind r t d) (Some (untagged said)) in
+    cond-behind (is_open said.answer) r t (keep quiet None line tag) (keep quiet_then None line tag) (with_step d (Some said)) (with_step (behind r t d) (Some said))
+    (ap (λ x. keep x None line tag) (with_step-behind r t d (Some (untagged said))) ∙ keep-behind r t quiet None line tag) (with_step-behind r t d (Some said))
+
+tried-behind : (r t : List ℕ) (d : Desk) (line : List ℕ) (read : Line) → tried (behind r t d) line read ≡ behind r t (tried d line read)
+unfolding tried
+tried-behind r t d line read = tried_by-behind r t (record d { node = after d.node read }) line (tag_in read) (said d.node read)
 
 run-behind : (bytes r t : List ℕ) (d : Desk) (ask : UnmapAsk) (offset : ℕ) → stored_run (behind r t d) ask offset bytes ≡ behind r t (stored_run d ask offset bytes)
 unfolding stored_run
@@ -180,7 +177,7 @@ meeting-behind r t d fresh line read (Kept page wants) =
     ap (λ x. keep x page line (tag_in read)) (revoked-behind r t d fresh wants) ∙ keep-behind r t (revoked fresh wants d) page line (tag_in read)
 meeting-behind r t d fresh line read (Answered answer) = answered-behind r t d (tag_in read) answer
 meeting-behind r t d fresh line read (Maps at index) = made-behind r t d read (map_reply d.node at index)
-meeting-behind r t d fresh line read Tries = tried-behind r t d line read (option_map (answer_to d.node) (heard d.node read))
+meeting-behind r t d fresh line read Tries = tried-behind r t d line read
 meeting-behind r t d fresh line read Unmaps = given_up-behind r t d read
 
 met_read-behind : (r t : List ℕ) (d : Desk) (fresh : Bool) (line : List ℕ) (read : Option Line)

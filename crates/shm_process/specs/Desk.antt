@@ -25,13 +25,13 @@ use Rattle.shm_wire.specs.declared.caller_ask.Question.{Question}
 use Rattle.shm_wire.specs.declared.caller_ask.Question.TheVariants as question
 use Rattle.shm_wire.specs.declared.mapping_text.Mapping.{Mapping}
 use Rattle.shm_wire.specs.declared.mapping_text.RevokeText.{RevokeText}
-use Rattle.shm_process.specs.Access.{is_open, is_waiting}
+use Rattle.shm_process.specs.Access.{is_open}
 use Rattle.shm_process.specs.Counts.{Counts, counts_from, with_said, with_text, with_unopened}
 use Rattle.shm_process.specs.Hello.{first_other, greeting, hello_line, hello_to, read_hello}
 use Rattle.shm_process.specs.Lines.{sent_lines}
 use Rattle.shm_process.specs.Mapped.{byte_place, keeps_beside, mapped_there, passing}
 use Rattle.shm_process.specs.Meetings.{meeting, revoking}
-use Rattle.shm_process.specs.Node.{Node, Said, answer_to, heard}
+use Rattle.shm_process.specs.Node.{Node, Said}
 use Rattle.shm_process.specs.Recorded.{entries_text, recorded}
 use Rattle.shm_process.specs.Remaps.{bytes_there}
 use Rattle.shm_process.specs.Telling.{answer_line_of, shown_line}
@@ -143,10 +143,6 @@ untagged said = record said { tag = None }
 unfoldable pub quietly : Desk → Line → Desk
 quietly desk line = with_step (record desk { node = after desk.node line }) (option_map untagged (said desk.node line))
 
--- one whose answer is told
-abbrev pub openly : Desk → Line → Desk
-openly desk line = with_step (record desk { node = after desk.node line }) (said desk.node line)
-
 -- the tag of the caller who asks
 abbrev pub tag_in : Line → Option (List ℕ)
 tag_in (stream.Envelope sent) = None
@@ -212,21 +208,17 @@ map_reply node at index =
 abbrev pub made_and_told : Desk → Line → List ℕ → Desk
 made_and_told desk line text = tell_caller (quietly desk line) (tag_in line) text
 
--- a map without its right asks for it, unless it was asked for, and is kept back; or is refused
-abbrev pub tried_so : Desk → List ℕ → Line → Answer → Desk
-tried_so desk line read answer =
-    if is_waiting answer then keep desk None line (tag_in read)
-    else if is_open answer then keep (quietly desk read) None line (tag_in read)
-    else openly desk read
+-- a step that asked for a right: its line is kept back, unless it was refused
+abbrev pub tried_so : Desk → List ℕ → Option (List ℕ) → Said → Desk
+tried_so desk line tag said =
+    if is_open said.answer then keep (with_step desk (Some (untagged said))) None line tag else with_step desk (Some said)
 
--- the step that asked for it is said
-abbrev pub end_tried : Desk → List ℕ → List ℕ → Said → Desk
-end_tried desk line tag said =
-    if is_open said.answer then keep (with_step desk (Some (untagged said))) None line (Some tag) else with_step desk (Some said)
+abbrev pub tried_by : Desk → List ℕ → Option (List ℕ) → Option Said → Desk
+tried_by desk line tag None = desk
+tried_by desk line tag (Some said) = tried_so desk line tag said
 
-abbrev pub tried : Desk → List ℕ → Line → Option Answer → Desk
-tried desk line read None = desk
-tried desk line read (Some answer) = tried_so desk line read answer
+unfoldable pub tried : Desk → List ℕ → Line → Desk
+tried desk line read = tried_by (record desk { node = after desk.node read }) line (tag_in read) (said desk.node read)
 
 -- a byte that is brought
 abbrev pub store_line : UnmapAsk → ℕ → ℕ → Line
@@ -261,7 +253,7 @@ by_meeting fresh desk line read Free = taken desk (Some read)
 by_meeting fresh desk line read (Kept page wants) = keep (revoked fresh wants desk) page line (tag_in read)
 by_meeting fresh desk line read (Answered answer) = answered desk (tag_in read) answer
 by_meeting fresh desk line read (Maps at index) = made_and_told desk read (map_reply desk.node at index)
-by_meeting fresh desk line read Tries = tried desk line read (option_map (answer_to desk.node) (heard desk.node read))
+by_meeting fresh desk line read Tries = tried desk line read
 by_meeting fresh desk line read Unmaps = given_up_by desk read
 
 abbrev pub met_read : Bool → Desk → List ℕ → Option Line → Desk

@@ -11,7 +11,7 @@ use Rattle.shm_model.specs.Access.{load, store}
 use Rattle.shm_model.specs.Book.{is_write}
 use Rattle.shm_model.specs.Message.{Input, Load, Store}
 use Rattle.shm_model.specs.Site.{Site}
-use Rattle.shm_site.specs.AtOnce.{byte_given, is_stored}
+use Rattle.shm_site.specs.AtOnce.{byte_given, is_stored, waits}
 use Rattle.shm_wire.specs.Unmaps.{Run, UnmapAsk}
 use Rattle.shm_wire.specs.declared.mapping_text.Mapping.{Mapping}
 use Rattle.shm_process.specs.Mapped.{byte_place, lowered, mapped_there, page_at, remapped}
@@ -22,6 +22,11 @@ use Rattle.shm_process.specs.Mapped.{byte_place, lowered, mapped_there, page_at,
 abbrev pub has_right : ℕ → ℕ → Site → ℕ → ℕ → Kind → Bool
 has_right sites me site at index Read = is_some (byte_given (load sites me at (byte_place index 0) site).answer)
 has_right sites me site at index Write = is_stored (store sites me at (byte_place index 0) 0 site).answer
+
+-- it would wait for a right that was asked for before
+abbrev pub waits_for_right : ℕ → ℕ → Site → ℕ → ℕ → Kind → Bool
+waits_for_right sites me site at index Read = waits (load sites me at (byte_place index 0) site).answer
+waits_for_right sites me site at index Write = waits (store sites me at (byte_place index 0) 0 site).answer
 
 abbrev pub first_load : ℕ → ℕ → Input
 first_load at index = Load at (byte_place index 0)

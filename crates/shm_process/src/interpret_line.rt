@@ -227,7 +227,7 @@ fn hear_plainly<A: Allocator + Copy>(tag: Tag, asked: Question) -> Option<Heard<
 }
 
 /// With the right a load of the page's first byte; else an access that asks for the right, which stores nothing.
-pub(crate) fn map_input<A: Allocator + Copy>(has: bool, at: u32, index: u32, kind: Kind) -> Input<A>
+fn map_input<A: Allocator + Copy>(has: bool, at: u32, index: u32, kind: Kind) -> Input<A>
     ensures input { input_of result ≡ remaps.map_input has at index kind }
     ensures proper { (sites me : ℕ) → is_foreign sites me (input_of result) ≡ false }
 {

@@ -16,7 +16,7 @@ pub(crate) enum Meeting {
     Answered(Answer),
     /// It maps the page with this index in the attachment's segment, whose right is there.
     Maps { at: u32, index: u32 },
-    /// It is a map whose right isn't there.
+    /// It is a map whose right is still to be asked for.
     Tries,
     /// It gives up a page that is mapped so.
     Unmaps,

@@ -57,6 +57,17 @@ impl<A: Allocator + Copy> Node<A> {
         }
     }
 
+    /// Checks that such an access would wait for a right that was asked for before.
+    pub(crate) fn waits_for_right(&self, at: u32, index: u32, kind: Kind) -> bool
+        ensures { result ≡ remaps.waits_for_right (node_of self.now).sites (node_of self.now).me (node_of self.now).site at index kind }
+    {
+        let offset = byte_place(index, 0);
+        match kind {
+            Kind::Read => self.site.load_waits(at, offset),
+            Kind::Write => self.site.store_waits(at, offset),
+        }
+    }
+
     /// Checks that the page is mapped so, and that the runs are the page's.
     pub(crate) fn may_unmap(&self, ask: &UnmapAsk<A>) -> bool
         ensures { result ≡ may_unmap (node_of self.now).mapped (node_of self.now).site (unmap_in ask.now) }

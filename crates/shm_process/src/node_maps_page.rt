@@ -1,24 +1,11 @@
-//! A node maps a page: what is answered, and how its right is asked for.
-ghost use Rattle.std.specs.Prelude.{◌≡◌, ◌<◌, false, true, max, option_map, string_bytes, IfNone, IfOk, IfSome, OnErr};
-ghost use Rattle.shm_model.specs.Basics.{greatest};
-ghost use Rattle.shm_process.specs.Access.{is_waiting};
-ghost use Rattle.shm_process.specs.Cause.{Cause};
+//! What is answered to a map.
+ghost use Rattle.std.specs.Prelude.{◌≡◌, string_bytes, IfOk};
 ghost use Rattle.shm_process.specs.Desk.{map_reply};
-ghost use Rattle.shm_process.specs.Node.{answer_to, map_heard, says};
-ghost use Rattle.shm_process.specs.NodeOf.{node_of, said_of};
-ghost use Rattle.shm_process.specs.Remaps.{has_right};
-ghost use Rattle.shm_process.specs.Waiting.{taken};
-ghost use Rattle.shm_wire.specs.TagOf.{tag_text};
+ghost use Rattle.shm_process.specs.NodeOf.{node_of};
 
-use crate::build_step_output::is_waiting;
 use crate::byte_place::byte_place;
-use crate::interpret_line::map_input;
 use crate::node::Node;
-use crate::node_retries::step_access;
-use crate::node_takes_line::one_more;
-use crate::step_output::Said;
-use shm_model::Kind;
-use shm_wire::{MappedText, Tag};
+use shm_wire::MappedText;
 use std::alloc::{AllocError, Allocator};
 
 impl<A: Allocator + Copy> Node<A> {
@@ -32,32 +19,5 @@ impl<A: Allocator + Copy> Node<A> {
         let bytes = self.bytes_there(at, index)?;
         let text = MappedText(bytes.as_slice());
         format!(in self.alloc; "{text}")
-    }
-
-    /// Asks for the right to map a page, one step. `None`: it was asked for before, and nothing changes.
-    pub(crate) fn ask_to_map(
-        &mut self,
-        tag: Tag,
-        at: u32,
-        index: u32,
-        kind: Kind,
-    ) -> Result<Option<Said<A>>, AllocError>
-        requires early { max self.old.clock 0 < greatest }
-        requires without { has_right (node_of self.old).sites (node_of self.old).me (node_of self.old).site at index kind ≡ false }
-        ensures none { IfOk result (λ said. IfNone said ((is_waiting (answer_to (node_of self.old) (map_heard (node_of self.old) (tag_text tag) at index kind)) ≡ true)
-            × (node_of self.new ≡ node_of self.old))) }
-        ensures some { IfOk result (λ said. IfSome said (λ s. is_waiting (answer_to (node_of self.old) (map_heard (node_of self.old) (tag_text tag) at index kind)) ≡ false)) }
-        ensures said { (cause : Cause) → IfOk result (λ said. IfSome said (λ s. said_of cause s
-            ≡ says (node_of self.old) cause (map_heard (node_of self.old) (tag_text tag) at index kind) false)) }
-        ensures after { IfOk result (λ said. IfSome said (λ s. node_of self.new ≡ taken (node_of self.old) (map_heard (node_of self.old) (tag_text tag) at index kind))) }
-        ensures refused { OnErr result (node_of self.new ≡ node_of self.old) }
-    {
-        let clock = self.next_clock(0);
-        let made = step_access(&mut self.site, map_input(false, at, index, kind))?;
-        if is_waiting(&made.answer) {
-            return Ok(None);
-        }
-        self.taken = one_more(self.taken);
-        Ok(Some(self.say(clock, Some(tag), false, made, None)))
     }
 }

@@ -72,7 +72,8 @@ impl<A: Allocator + Copy> Node<A> {
             Question::Try(asked) => try_meeting(self.passing(asked)),
             Question::Begin(request) => begin_meeting(self.is_detained(request)),
             Question::Map { at, index, kind } => {
-                map_meeting(self.has_right(at, index, kind), at, index)
+                let has = self.has_right(at, index, kind);
+                map_meeting(has, self.waits_for_right(at, index, kind), at, index)
             }
             Question::Read { .. } | Question::Tick | Question::Show(_) => Meeting::Free,
             Question::Health | Question::Mappings => Meeting::Free,
@@ -148,11 +149,18 @@ fn begin_meeting(detained: bool) -> Meeting
     Meeting::Free
 }
 
-fn map_meeting(has: bool, at: u32, index: u32) -> Meeting
-    ensures { result ≡ spec.map_meeting has at index }
+/// A map waits for its right, and asks for it once.
+fn map_meeting(has: bool, waits: bool, at: u32, index: u32) -> Meeting
+    ensures { result ≡ spec.map_meeting has waits at index }
 {
     if has {
         return Meeting::Maps { at, index };
+    }
+    if waits {
+        return Meeting::Kept {
+            page: None,
+            wants: None,
+        };
     }
     Meeting::Tries
 }

@@ -105,7 +105,7 @@ fn next_at<A: Allocator + Copy>(waiting: &[WaitingAsk<A>], at: usize) -> (Tag, A
 }
 
 /// One step of the site at an access. One that waits for what was asked already leaves the site as it is.
-pub(crate) fn step_access<A: Allocator + Copy>(
+fn step_access<A: Allocator + Copy>(
     site: &mut Site<A>,
     input: Input<A>,
 ) -> Result<Made<A>, AllocError>

@@ -249,7 +249,7 @@ fn join<A: Allocator + Copy>(
 }
 
 /// One more line.
-pub(crate) fn one_more(lines: u64) -> u64
+fn one_more(lines: u64) -> u64
     ensures { result ≡ counted lines }
 {
     lines.saturating_add(1)

@@ -1,11 +1,11 @@
 //! Shows what a load or a store would do at once. No step is made, and nothing is asked for.
 ghost use Rattle.std.specs.Prelude.{◌≡◌, ℕ};
 ghost use Rattle.shm_model.specs.Access as model;
-ghost use Rattle.shm_site.specs.AtOnce.{byte_given, is_stored};
+ghost use Rattle.shm_site.specs.AtOnce.{byte_given, is_stored, waits};
 ghost use Rattle.shm_site.specs.Site.{site_of};
 
 use crate::site::Site;
-use shm_model::Access;
+use shm_model::{Access, Kind};
 use shm_parts::LoadOutcome;
 use std::alloc::Allocator;
 
@@ -26,6 +26,29 @@ impl<A: Allocator + Copy> Site<A> {
     {
         match self.holdings.reached_to_store(at, offset) {
             Some(page) => self.holdings.access(page) == Access::Write,
+            None => false,
+        }
+    }
+
+    /// Checks that a load would wait for a right that was asked for before.
+    pub fn load_waits(&self, at: u32, offset: u32) -> bool
+        ensures { result ≡ waits (model.load self.now.sites self.now.me at offset (site_of self.now)).answer }
+    {
+        match self.holdings.load(at, offset) {
+            Ok(LoadOutcome::Absent(page)) => self.pending.serves(Kind::Read, page),
+            Ok(LoadOutcome::Byte(_)) | Err(_) => false,
+        }
+    }
+
+    /// Checks that a store would wait for a right that was asked for before.
+    pub fn store_waits(&self, at: u32, offset: u32) -> bool
+        ensures { (byte : ℕ) → result ≡ waits (model.store self.now.sites self.now.me at offset byte (site_of self.now)).answer }
+    {
+        match self.holdings.reached_to_store(at, offset) {
+            Some(page) => {
+                self.holdings.access(page) != Access::Write
+                    && self.pending.serves(Kind::Write, page)
+            }
             None => false,
         }
     }
