@@ -79,7 +79,7 @@ unfolding step_entry
 untagged-entry None = refl
 untagged-entry (Some said) = refl
 
-run-end : (offset count : ℕ) → IsBlock offset count → offset + count ≤ 2 ^ 32
+pub run-end : (offset count : ℕ) → IsBlock offset count → offset + count ≤ 2 ^ 32
 run-end offset count h = grind (arith, nat_tests)
 
 did-settled : (n : ℕ) (d : Desk) → DidEvents d (settled n d)

@@ -32,10 +32,10 @@ none_left f xs i old whole h e = sym (append-nil old) ∙ sym (ap (λ l. old ++ 
 
 module _ {Z X : Type 0} (s : Z → X) (zs : List Z) where
   -- an item, as it is seen
-  seen-within : (i : ℕ) → i < length zs → i < length (map s zs)
+  pub seen-within : (i : ℕ) → i < length zs → i < length (map s zs)
   seen-within i h = subst (λ n. i < n) (sym (length-map zs s)) h
 
-  seen-over : (i : ℕ) → length zs ≤ i → length (map s zs) ≤ i
+  pub seen-over : (i : ℕ) → length zs ≤ i → length (map s zs) ≤ i
   seen-over i h = subst (λ n. n ≤ i) (sym (length-map zs s)) h
 
   pub seen_all : (P : X → Type 0) (i : ℕ) (z : Z) → i < length zs → z ≡ get_or zs i z → All P (map s zs) → P (s z)

@@ -23,3 +23,6 @@ pub mod Clocks
 pub mod HelloWords
 pub mod Greeting
 pub mod Noting
+pub mod Finds
+pub mod MappedBytes
+pub mod MetLines

@@ -65,8 +65,8 @@ impl<A: Allocator + Copy> Desk<A> {
         requires within { offset + length bytes.now ≤ 2 ^ 32 }
         ensures { OnOk result (desk_of self.new ≡ stored_run (desk_of self.old) (unmap_in ask.now) offset bytes.now) }
     {
-        'bytes: for (place, byte) in bytes.iter().enumerate() {
-            self.store_byte(ask, offset + place as u32, *byte)?;
+        'bytes: for place in 0..bytes.len() {
+            self.store_byte(ask, offset + place as u32, bytes[place])?;
         }
         Ok(())
     }

@@ -1,15 +1,16 @@
 //! What a desk does with a line while pages are mapped: it is taken, kept back until a page is given up, or answered at once.
-ghost use Rattle.std.specs.Prelude.{◌≡◌, Some, false, map, option_map, string_bytes, IfOk, OnOk};
-ghost use Rattle.std.specs.List.{list_any};
+ghost use Rattle.std.specs.Prelude.{◌≡◌, ◌++◌, Some, map, option_map, string_bytes, IfOk, OnOk};
+ghost use Rattle.std.specs.List.{flat_map, list_any};
+ghost use Rattle.shm_process.specs.AskOf.{ask_of};
 ghost use Rattle.shm_process.specs.Cause.{Cause, cause_text};
 ghost use Rattle.shm_process.specs.Counts.{was_received};
-ghost use Rattle.shm_process.specs.Desk.{answered, by_meeting, end_tried, finished, keep, made_and_told, map_reply, may_keep, met, met_again, quietly, reminded, revoked, tell_caller, ticks, tried, untagged, with_step};
+ghost use Rattle.shm_process.specs.Desk.{answered, by_meeting, finished, keep, made_and_told, map_reply, may_keep, met, met_again, quietly, reminded_if, reminder, revoked, tell_caller, ticks, tried, tried_so, untagged, with_step};
 ghost use Rattle.shm_process.specs.Desk as spec;
 ghost use Rattle.shm_process.specs.DeskOf.{desk_of, kept_of};
 ghost use Rattle.shm_process.specs.Meetings.{meeting};
-ghost use Rattle.shm_process.specs.declared.line_meeting.Meeting.TheVariants.{Tries};
-ghost use Rattle.shm_process.specs.Node.{answer_to, heard};
 ghost use Rattle.shm_process.specs.NodeOf.{node_of, said_of};
+ghost use Rattle.shm_process.specs.WaitingAsks.{next_access};
+ghost use Rattle.shm_seal.specs.SealOf.{seal_of};
 ghost use Rattle.shm_wire.specs.Line as stream;
 ghost use Rattle.shm_wire.specs.Line.{IsLine};
 ghost use Rattle.shm_wire.specs.LineOf.{line_of};
@@ -23,8 +24,10 @@ use crate::line_meeting::Meeting;
 use crate::node::Node;
 use crate::node_meets_line::{keeps_beside, revoking};
 use crate::step_output::Said;
+use crate::waiting_ask::WaitingAsk;
 use shm_model::{Answer, Asked};
 use shm_place::PageId;
+use shm_seal::Seal;
 use shm_text::AnswerText;
 use shm_wire::{Line, Question, RevokeText, Tag, parse_line};
 use std::alloc::{AllocError, Allocator};
@@ -54,7 +57,7 @@ impl<A: Allocator + Copy> Desk<A> {
             }
             Meeting::Answered(answer) => self.answer(tag_in(&read), answer),
             Meeting::Maps { at, index } => self.make_map(line, read, at, index),
-            Meeting::Tries => self.try_map(line, &read),
+            Meeting::Tries => self.try_map(line, read),
             Meeting::Unmaps => self.give_up_by(read),
         }
     }
@@ -76,9 +79,7 @@ impl<A: Allocator + Copy> Desk<A> {
     pub(crate) fn finish(&mut self, tick: bool) -> Result<(), AllocError>
         ensures { OnOk result (desk_of self.new ≡ finished tick (desk_of self.old)) }
     {
-        if tick {
-            self.remind()?;
-        }
+        self.remind(tick)?;
         self.meet_kept(tick)?;
         self.settle()
     }
@@ -102,15 +103,14 @@ impl<A: Allocator + Copy> Desk<A> {
 
     /// Asks the machine for what the asks that wait want to be given up.
     #[tactic(auto, unfolding(crate::specs::Desk::reminded))]
-    fn remind(&mut self) -> Result<(), AllocError>
-        ensures { OnOk result (desk_of self.new ≡ reminded (desk_of self.old)) }
+    fn remind(&mut self, tick: bool) -> Result<(), AllocError>
+        ensures { OnOk result (desk_of self.new ≡ reminded_if tick (desk_of self.old)) }
     {
-        'asks: for ask in self.node.waiting.as_slice() {
-            if let Some(line) = self.node.reminder(ask.next_access())? {
-                push_sealed(self.alloc, &self.seal, &mut self.told, line.as_str())?;
-            }
+        if !tick {
+            return Ok(());
         }
-        Ok(())
+        let asks = self.node.waiting.as_slice();
+        push_reminders(self.alloc, &self.seal, &self.node, asks, &mut self.told)
     }
 
     /// Asks the machine to give a page up.
@@ -225,35 +225,37 @@ impl<A: Allocator + Copy> Desk<A> {
         self.push_step(line, &said, received)
     }
 
-    /// Asks for the right to map a page, unless it was asked for, and keeps the map back; or it is refused.
-    fn try_map(&mut self, line: &[u8], read: &Line<A>) -> Result<(), AllocError>
-        requires spelled { line.now ≡ stream.line_text (line_of read.now) }
-        requires tries { meeting (desk_of self.old).node (line_of read.now) ≡ Tries }
-        ensures { OnOk result (desk_of self.new ≡ tried (desk_of self.old) line.now (line_of read.now) (option_map (answer_to (desk_of self.old).node)
-            (heard (desk_of self.old).node (line_of read.now)))) }
+    /// Asks for the right to map a page, and keeps the map back; or it is refused.
+    #[tactic(auto, unfolding(crate::specs::Desk::tried))]
+    fn try_map(&mut self, line: &[u8], read: Line<A>) -> Result<(), AllocError>
+        requires is_line { IsLine (line_of read) }
+        requires spelled { line.now ≡ stream.line_text (line_of read) }
+        ensures { OnOk result (desk_of self.new ≡ tried (desk_of self.old) line.now (line_of read)) }
     {
-        let Line::Ask(ask) = read else {
-            return Ok(());
-        };
-        let Question::Map { at, index, kind } = ask.asked else {
-            return Ok(());
-        };
-        let tag = ask.tag;
-        match self.node.ask_to_map(tag, at, index, kind)? {
-            Some(said) => self.end_try(line, said, tag),
-            None => self.keep_back(None, line, Some(tag)),
+        let tag = tag_in(&read);
+        let received = is_envelope(&read);
+        match self.node.take(read)? {
+            Some(said) => self.end_try(line, said, tag, received),
+            None => Ok(()),
         }
     }
 
-    fn end_try(&mut self, line: &[u8], said: Said<A>, tag: Tag) -> Result<(), AllocError>
-        ensures { (cause : Cause) → cause_text cause ≡ line.now → was_received cause ≡ false
-            → OnOk result (desk_of self.new ≡ end_tried (desk_of self.old) line.now (tag_text tag) (said_of cause said)) }
+    /// A step that asked for a right was made.
+    fn end_try(
+        &mut self,
+        line: &[u8],
+        said: Said<A>,
+        tag: Option<Tag>,
+        received: bool,
+    ) -> Result<(), AllocError>
+        ensures { (cause : Cause) → cause_text cause ≡ line.now → was_received cause ≡ received
+            → OnOk result (desk_of self.new ≡ tried_so (desk_of self.old) line.now (option_map tag_text tag) (said_of cause said)) }
     {
         if !is_open(&said.answer) {
-            return self.push_step(line, &said, false);
+            return self.push_step(line, &said, received);
         }
-        self.push_quietly(line, said, false)?;
-        self.keep_back(None, line, Some(tag))
+        self.push_quietly(line, said, received)?;
+        self.keep_back(None, line, tag)
     }
 }
 
@@ -285,6 +287,39 @@ impl<A: Allocator + Copy> Node<A> {
         };
         let line = self.revoke_line(revoking(keeps_beside(asked), &mapping))?;
         Ok(Some(line))
+    }
+}
+
+/// Appends what these asks want to be given up.
+fn push_reminders<A: Allocator + Copy>(
+    alloc: A,
+    seal: &Seal,
+    node: &Node<A>,
+    asks: &[WaitingAsk<A>],
+    told: &mut String<A>,
+) -> Result<(), AllocError>
+    ensures { OnOk result (string_bytes told.new ≡ string_bytes told.old
+        ++ flat_map (λ ask. reminder (seal_of seal.now) (node_of node.now) (next_access ask)) (map ask_of asks.now)) }
+{
+    'asks: for ask in asks {
+        push_reminder(alloc, seal, node, ask, told)?;
+    }
+    Ok(())
+}
+
+fn push_reminder<A: Allocator + Copy>(
+    alloc: A,
+    seal: &Seal,
+    node: &Node<A>,
+    ask: &WaitingAsk<A>,
+    told: &mut String<A>,
+) -> Result<(), AllocError>
+    ensures { OnOk result (string_bytes told.new ≡ string_bytes told.old
+        ++ reminder (seal_of seal.now) (node_of node.now) (next_access (ask_of ask.now))) }
+{
+    match node.reminder(ask.next_access())? {
+        Some(line) => push_sealed(alloc, seal, told, line.as_str()),
+        None => Ok(()),
     }
 }
 
