@@ -9,18 +9,17 @@ use Rattle.shm_model.specs.Receipt.{access_of}
 use Rattle.shm_model.specs.Step.{foreign, step}
 use Rattle.shm_model.specs.declared.asked_access.Asked.{Asked}
 use Rattle.shm_model.specs.declared.asked_access.Asked.TheVariants as asked
-use Rattle.shm_model.specs.declared.request_kind.Kind.{Kind}
-use Rattle.shm_model.specs.declared.request_kind.Kind.TheVariants.{Read, Write}
 use Rattle.shm_wire.specs.Line as stream
 use Rattle.shm_wire.specs.Line.{read_line}
 use Rattle.shm_wire.specs.Sent.{Sent}
 use Rattle.shm_wire.specs.Unmaps.{UnmapAsk}
 use Rattle.shm_wire.specs.declared.caller_ask.Question.{Question}
+use Rattle.shm_wire.specs.declared.mapping_text.Mapping.{Mapping}
 use Rattle.shm_wire.specs.declared.caller_ask.Question.TheVariants as question
 use Rattle.shm_process.specs.Cause.{Cause, OfLine, OfRestart}
-use Rattle.shm_process.specs.Node.{Node, Heard, Said, handed, heard, input_asked, is_ahead, is_beyond, is_late, map_heard, most_ahead, new_node, next_clock, question_heard, says, stepped, under_tag, unmap_heard, waits_for}
+use Rattle.shm_process.specs.Node.{Node, Heard, Said, handed, heard, input_asked, is_ahead, is_beyond, asked_under, is_late, most_ahead, new_node, next_clock, remapped_by, says, stepped, unmap_heard, waits_for}
 use Rattle.shm_process.specs.Numbers.{NumbersWithin, number_named, numbers_fit}
-use Rattle.shm_process.specs.Remaps.{has_right, is_empty, map_input}
+use Rattle.shm_process.specs.Remaps.{is_empty}
 use Rattle.shm_process.specs.Recorded.{Event, Line, TooLong, Again, Restarted, after_event, after_events, said_at}
 use Rattle.shm_process.specs.Waiting.{after, after_heard, after_read, after_restart, again_at, heard_again, joining, joins, next_heard, ready, replayed, replayed_heard, restarting, said_read, said_restart, says_at}
 use Rattle.shm_process.specs.WaitingAsks.{WaitingAsk, ask_in, next_access}
@@ -80,38 +79,13 @@ asked-number question.Health = tt
 asked-number (question.Map at index kind) = tt
 asked-number question.Mappings = tt
 
-plainly-heeds : (node : Node) (tag : List ℕ) (waits : Option WaitingAsk) (o : Option Input) (x : Heard) → IfSome o (InputWithin 0)
-    → option_map (under_tag tag waits) o ≡ Some x → Heeds node x
-plainly-heeds node tag waits None x number e = absurd (cc)
-plainly-heeds node tag waits (Some input) x number e =
-    subst (Heeds node) (some-is (under_tag tag waits input) x e) (record { near = zero-near node.clock; number = number })
-
-map-number : (has : Bool) (at index : ℕ) (kind : Kind) → InputWithin 0 (map_input has at index kind)
-map-number true at index kind = tt
-map-number false at index Read = tt
-map-number false at index Write = tt
-
-question-heeds : (node : Node) (tag : List ℕ) (q : Question) (x : Heard) → question_heard node tag q ≡ Some x → Heeds node x
-question-heeds node tag (question.Access a) x e =
-    plainly-heeds node tag (waits_for tag (question.Access a)) (input_asked (question.Access a)) x (asked-number (question.Access a)) e
-question-heeds node tag (question.Try a) x e =
-    plainly-heeds node tag (waits_for tag (question.Try a)) (input_asked (question.Try a)) x (asked-number (question.Try a)) e
-question-heeds node tag (question.Read at offset count) x e = absurd (cc)
-question-heeds node tag (question.Begin request) x e =
-    plainly-heeds node tag (waits_for tag (question.Begin request)) (input_asked (question.Begin request)) x (asked-number (question.Begin request)) e
-question-heeds node tag question.Tick x e = plainly-heeds node tag (waits_for tag question.Tick) (input_asked question.Tick) x (asked-number question.Tick) e
-question-heeds node tag (question.Show page) x e = absurd (cc)
-question-heeds node tag question.Health x e = absurd (cc)
-question-heeds node tag question.Mappings x e = absurd (cc)
-question-heeds node tag (question.Map at index kind) x e =
-    subst (Heeds node) (some-is (map_heard node tag at index kind) x e)
-    (record { near = zero-near node.clock; number = map-number (has_right node.sites node.me node.site at index kind) at index kind })
-
-ask-heeds : (node : Node) (tag : List ℕ) (q : Question) (x : Heard) (here late : Bool)
-    → cond here (cond late None (question_heard node tag q)) None ≡ Some x → Heeds node x
-ask-heeds node tag q x false late e = absurd (cc)
-ask-heeds node tag q x true true e = absurd (cc)
-ask-heeds node tag q x true false e = question-heeds node tag q x e
+ask-heeds : (node : Node) (tag : List ℕ) (waits : Option WaitingAsk) (mapped : Option (List Mapping)) (x : Heard) (o : Option Input) (here late : Bool)
+    → IfSome o (InputWithin 0) → cond here (cond late None (option_map (asked_under tag waits mapped) o)) None ≡ Some x → Heeds node x
+ask-heeds node tag waits mapped x o false late number e = absurd (cc)
+ask-heeds node tag waits mapped x o true true number e = absurd (cc)
+ask-heeds node tag waits mapped x None true false number e = absurd (cc)
+ask-heeds node tag waits mapped x (Some input) true false number e =
+    subst (Heeds node) (some-is (asked_under tag waits mapped input) x e) (record { near = zero-near node.clock; number = number })
 
 unmap-heeds : (node : Node) (unmap : UnmapAsk) (x : Heard) (here late : Bool)
     → cond here (cond late None (Some (unmap_heard node unmap))) None ≡ Some x → Heeds node x
@@ -123,7 +97,9 @@ unmap-heeds node unmap x true false e =
 line-heeds : (node : Node) (line : stream.Line) (x : Heard) → heard node line ≡ Some x → Heeds node x
 line-heeds node (stream.Envelope sent) x e = envelope-heeds node sent x e
 line-heeds node (stream.Write write) x e = absurd (cc)
-line-heeds node (stream.Ask ask) x e = ask-heeds node ask.tag ask.asked x (ask.site == node.me) (is_late node 0) e
+line-heeds node (stream.Ask ask) x e =
+    ask-heeds node ask.tag (waits_for ask.tag ask.asked) (remapped_by node ask.asked) x (input_asked ask.asked) (ask.site == node.me) (is_late node 0)
+    (asked-number ask.asked) e
 line-heeds node (stream.Unmap unmap) x e = unmap-heeds node unmap x ((unmap.site == node.me) && is_empty unmap.runs) (is_late node 0) e
 
 next-heeds : (node : Node) (ask : WaitingAsk) → Heeds node (next_heard ask)

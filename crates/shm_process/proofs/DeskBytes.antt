@@ -10,6 +10,7 @@ use Rattle.std.proofs.lemmas.List.Elements.{All-head, All-tail}
 use Rattle.shm_place.specs.declared.page_id.PageId.{PageId}
 use Rattle.shm_model.specs.declared.answer.Answer.{Answer}
 use Rattle.shm_model.specs.declared.answer.Answer.TheVariants.{Waiting}
+use Rattle.shm_model.specs.declared.asked_access.Asked.{Asked}
 use Rattle.shm_seal.specs.Seal.{opened}
 use Rattle.shm_seal.specs.declared.open_line_error.Unsealed.{Unsealed}
 use Rattle.shm_wire.specs.Line.{Line, read_line}
@@ -17,7 +18,7 @@ use Rattle.shm_wire.specs.Line as stream
 use Rattle.shm_wire.specs.Unmaps.{Run, UnmapAsk}
 use Rattle.shm_wire.specs.declared.mapping_text.RevokeText.{RevokeText}
 use Rattle.shm_process.specs.Access.{is_open}
-use Rattle.shm_process.specs.Desk.{Desk, KeptLine, after_line, after_opened, after_read_line, all_met, answered, brought, by_meeting, finished, given_up_by, grown, keep, left_sealed, made_again, made_and_told, map_reply, max_line_bytes, may_keep, met, met_again, met_read, noted, on_byte, on_bytes, passed, quietly, reminded, reminded_if, revoked, settled, store_line, stored_run, tag_in, taken, tell_caller, ticks, tried, tried_by, unmap_reply, untagged, with_other, with_step}
+use Rattle.shm_process.specs.Desk.{Desk, KeptLine, after_line, after_opened, after_read_line, all_met, answered, brought, by_meeting, finished, given_up_by, grown, keep, left_sealed, made_again, made_and_told, map_reply, max_line_bytes, may_keep, met, met_again, met_read, noted, on_byte, on_bytes, passed, quietly, reminded, reminded_if, revoked, settled, store_line, stored_run, tag_in, taken, tell_caller, ticks, tried, tried_by, try_of, unmap_reply, untagged, with_other, with_step}
 use Rattle.shm_process.specs.Hello.{first_other, read_hello}
 use Rattle.shm_process.specs.Meetings.{meeting}
 use Rattle.shm_process.specs.Node.{Said}
@@ -129,9 +130,11 @@ tried_by-line l d line tag (Some said) =
     cond-line (is_open said.answer) l (keep quiet None line tag) (keep (with_line l quiet) None line tag) (with_step d (Some said)) (with_step (with_line l d) (Some said))
     (keep-line l quiet None line tag) refl
 
-tried-line : (l : List ℕ) (d : Desk) (line : List ℕ) (read : Line) → tried (with_line l d) line read ≡ with_line l (tried d line read)
+tried-line : (l : List ℕ) (d : Desk) (line : List ℕ) (read : Line) (asked : Asked) → tried (with_line l d) line read asked ≡ with_line l (tried d line read asked)
 unfolding tried
-tried-line l d line read = tried_by-line l (record d { node = after d.node read }) line (tag_in read) (said d.node read)
+tried-line l d line read asked =
+    let step = try_of read asked in
+    tried_by-line l (record d { node = after d.node step }) line (tag_in step) (said d.node step)
 
 run-line : (bytes l : List ℕ) (d : Desk) (ask : UnmapAsk) (offset : ℕ) → stored_run (with_line l d) ask offset bytes ≡ with_line l (stored_run d ask offset bytes)
 unfolding stored_run
@@ -162,7 +165,7 @@ meeting-line l d fresh line read (Kept page wants) =
     ap (λ x. keep x page line (tag_in read)) (revoked-line l d fresh wants) ∙ keep-line l (revoked fresh wants d) page line (tag_in read)
 meeting-line l d fresh line read (Answered answer) = refl
 meeting-line l d fresh line read (Maps at index) = made-line l d read (map_reply d.node at index)
-meeting-line l d fresh line read Tries = tried-line l d line read
+meeting-line l d fresh line read (Tries asked) = tried-line l d line read asked
 meeting-line l d fresh line read Unmaps = given_up-line l d read
 
 met_read-line : (l : List ℕ) (d : Desk) (fresh : Bool) (line : List ℕ) (read : Option Line)

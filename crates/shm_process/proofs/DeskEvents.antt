@@ -9,6 +9,7 @@ use Rattle.std.proofs.lemmas.List.Elements.{All-head, All-nil, All-tail}
 use Rattle.base64.specs.GeneralPurpose.{IsBytes}
 use Rattle.shm_place.specs.declared.page_id.PageId.{PageId}
 use Rattle.shm_model.specs.declared.answer.Answer.{Answer}
+use Rattle.shm_model.specs.declared.asked_access.Asked.{Asked}
 use Rattle.shm_model.specs.declared.answer.Answer.TheVariants.{Waiting}
 use Rattle.shm_seal.specs.Seal.{opened}
 use Rattle.shm_seal.specs.declared.open_line_error.Unsealed.{Unsealed}
@@ -19,8 +20,9 @@ use Rattle.shm_wire.specs.Line.{IsLine, read_line}
 use Rattle.shm_wire.specs.Unmaps.{IsRun, IsUnmap, Run, UnmapAsk}
 use Rattle.shm_wire.specs.declared.mapping_text.RevokeText.{RevokeText}
 use Rattle.shm_process.specs.Access.{is_open}
-use Rattle.shm_process.specs.Desk.{Desk, KeptLine, after_line, after_opened, after_read_line, all_met, answered, brought, by_meeting, finished, given_up_by, grown, keep, left_sealed, made_again, made_and_told, map_reply, max_line_bytes, may_keep, met, met_read, noted, on_byte, on_bytes, passed, quietly, reminded, reminded_if, revoked, settled, step_entry, store_line, stored_run, tag_in, taken, ticks, tried, tried_by, unmap_reply, untagged, with_other, with_step}
+use Rattle.shm_process.specs.Desk.{Desk, KeptLine, after_line, after_opened, after_read_line, all_met, answered, brought, by_meeting, finished, given_up_by, grown, keep, left_sealed, made_again, made_and_told, map_reply, max_line_bytes, may_keep, met, met_read, noted, on_byte, on_bytes, passed, quietly, reminded, reminded_if, revoked, settled, step_entry, store_line, stored_run, tag_in, taken, ticks, tried, tried_by, try_of, unmap_reply, untagged, with_other, with_step}
 use Rattle.shm_process.specs.DeskEvents.{DidEvents}
+use Rattle.shm_process.proofs.Tries.{meeting-tries, try-is_line}
 use Rattle.shm_process.specs.Hello.{first_other, read_hello}
 use Rattle.shm_process.specs.Meetings.{meeting}
 use Rattle.shm_process.specs.Node.{Node, Said}
@@ -129,25 +131,27 @@ did-revoked d false wants = did-nothing d d refl refl
 did-revoked d true wants = did-nothing d (revoked true wants d) refl refl
 
 -- the step that was said was made
-did-tried_by : (d : Desk) (line : List ℕ) (read : stream.Line) (tag : Option (List ℕ)) (says : Option Said) → read_line line ≡ Some read → said d.node read ≡ says
-    → DidEvents d (tried_by (record d { node = after d.node read }) line tag says)
+did-tried_by : (d : Desk) (line bytes : List ℕ) (step : stream.Line) (tag : Option (List ℕ)) (says : Option Said) → read_line bytes ≡ Some step
+    → said d.node step ≡ says → DidEvents d (tried_by (record d { node = after d.node step }) line tag says)
 unfolding step_entry
-did-tried_by d line read tag None is so =
-    let now = record d { node = after d.node read } in
-    did-one d now (Line line) (after-is d line read is)
-    (sym (append-nil d.recorded) ∙ ap (λ s. d.recorded ++ step_entry s) (sym so ∙ said-is d line read is))
-did-tried_by d line read tag (Some says) is so =
-    let now = record d { node = after d.node read } in
+did-tried_by d line bytes step tag None is so =
+    let now = record d { node = after d.node step } in
+    did-one d now (Line bytes) (after-is d bytes step is)
+    (sym (append-nil d.recorded) ∙ ap (λ s. d.recorded ++ step_entry s) (sym so ∙ said-is d bytes step is))
+did-tried_by d line bytes step tag (Some says) is so =
+    let now = record d { node = after d.node step } in
     let quiet = with_step now (Some (untagged says)) in
     let loud = with_step now (Some says) in
-    let made : DidEvents d loud = did-one d loud (Line line) (after-is d line read is) (ap (λ s. d.recorded ++ step_entry s) (sym so ∙ said-is d line read is)) in
+    let made : DidEvents d loud = did-one d loud (Line bytes) (after-is d bytes step is) (ap (λ s. d.recorded ++ step_entry s) (sym so ∙ said-is d bytes step is)) in
     let quietly_made : DidEvents d quiet =
-    did-one d quiet (Line line) (after-is d line read is) (ap (λ s. d.recorded ++ step_entry s) (sym so ∙ said-is d line read is)) in
+    did-one d quiet (Line bytes) (after-is d bytes step is) (ap (λ s. d.recorded ++ step_entry s) (sym so ∙ said-is d bytes step is)) in
     did-cond (is_open says.answer) d (keep quiet None line tag) loud (did-both d quiet (keep quiet None line tag) quietly_made (did-keep quiet None line tag)) made
 
-did-tried : (d : Desk) (line : List ℕ) (read : stream.Line) → read_line line ≡ Some read → DidEvents d (tried d line read)
+did-tried : (d : Desk) (line : List ℕ) (read : stream.Line) (asked : Asked) → IsLine (try_of read asked) → DidEvents d (tried d line read asked)
 unfolding tried
-did-tried d line read is = did-tried_by d line read (tag_in read) (said d.node read) is refl
+did-tried d line read asked proper =
+    let step = try_of read asked in
+    did-tried_by d line (stream.line_text step) step (tag_in step) (said d.node step) (line-is_read step proper) refl
 
 -- a byte that is brought is stored by a line of its own
 store-is_line : (ask : UnmapAsk) (offset byte : ℕ) → IsUnmap ask → offset < 2 ^ 32 → byte < 256 → IsLine (store_line ask offset byte)
@@ -190,20 +194,23 @@ did-given_up d (stream.Unmap ask) is =
     did-both d next (given_up_by d (stream.Unmap ask)) (did-brought ask.runs d ask is is.4)
     (did-made next (stream.line_text last) last (line-is_read last proper) (unmap_reply ask.keeps))
 
-did-met : (d : Desk) (fresh : Bool) (line : List ℕ) (read : stream.Line) (m : Meeting) → read_line line ≡ Some read → DidEvents d (by_meeting fresh d line read m)
+did-met : (d : Desk) (fresh : Bool) (line : List ℕ) (read : stream.Line) (m : Meeting) → read_line line ≡ Some read → meeting d.node read ≡ m
+    → DidEvents d (by_meeting fresh d line read m)
 unfolding by_meeting
-did-met d fresh line read Free is = did-taken d line read is
-did-met d fresh line read (Kept page wants) is =
+did-met d fresh line read Free is so = did-taken d line read is
+did-met d fresh line read (Kept page wants) is so =
     did-both d (revoked fresh wants d) (keep (revoked fresh wants d) page line (tag_in read)) (did-revoked d fresh wants)
     (did-keep (revoked fresh wants d) page line (tag_in read))
-did-met d fresh line read (Answered answer) is = did-answered d (tag_in read) answer
-did-met d fresh line read (Maps at index) is = did-made d line read is (map_reply d.node at index)
-did-met d fresh line read Tries is = did-tried d line read is
-did-met d fresh line read Unmaps is = did-given_up d read (line-is_spelled line read is).0
+did-met d fresh line read (Answered answer) is so = did-answered d (tag_in read) answer
+did-met d fresh line read (Maps at index) is so = did-made d line read is (map_reply d.node at index)
+did-met d fresh line read (Tries asked) is so =
+    let proper = (line-is_spelled line read is).0 in
+    did-tried d line read asked (try-is_line read asked proper (meeting-tries d.node read asked proper so))
+did-met d fresh line read Unmaps is so = did-given_up d read (line-is_spelled line read is).0
 
 did-met_read : (d : Desk) (fresh : Bool) (line : List ℕ) (read : Option stream.Line) → read_line line ≡ read → DidEvents d (met_read fresh d line read)
 did-met_read d fresh line None is = did-too-long d
-did-met_read d fresh line (Some read) is = did-met d fresh line read (meeting d.node read) is
+did-met_read d fresh line (Some read) is = did-met d fresh line read (meeting d.node read) is refl
 
 did-all_met : (kept : List KeptLine) (d : Desk) (fresh : Bool) → DidEvents d (all_met fresh d kept)
 unfolding all_met
@@ -230,7 +237,7 @@ did-read_line : (d : Desk) (line : List ℕ) (read : Option stream.Line) → rea
 did-read_line d line None is = did-both d (passed d) (settled most_steps (passed d)) (did-too-long d) (did-settled most_steps (passed d))
 did-read_line d line (Some read) is =
     let next = by_meeting true d line read (meeting d.node read) in
-    did-both d next (finished (ticks d.node read) next) (did-met d true line read (meeting d.node read) is) (did-finished next (ticks d.node read))
+    did-both d next (finished (ticks d.node read) next) (did-met d true line read (meeting d.node read) is refl) (did-finished next (ticks d.node read))
 
 did-left : (d : Desk) (why : Unsealed) → DidEvents d (left_sealed d why)
 did-left d why = record { events = TooLong ∷ []; node = refl; recorded = sym (append-nil d.recorded) }

@@ -7,6 +7,7 @@ use Rattle.std.proofs.lemmas.List.{append_assoc}
 use Rattle.shm_place.specs.declared.page_id.PageId.{PageId}
 use Rattle.shm_model.specs.declared.answer.Answer.{Answer}
 use Rattle.shm_model.specs.declared.answer.Answer.TheVariants.{Waiting}
+use Rattle.shm_model.specs.declared.asked_access.Asked.{Asked}
 use Rattle.shm_seal.specs.Seal.{opened}
 use Rattle.shm_seal.specs.declared.open_line_error.Unsealed.{Unsealed}
 use Rattle.shm_text.specs.Text.{answer_text}
@@ -15,7 +16,7 @@ use Rattle.shm_wire.specs.Line as stream
 use Rattle.shm_wire.specs.Unmaps.{Run, UnmapAsk}
 use Rattle.shm_wire.specs.declared.mapping_text.RevokeText.{RevokeText}
 use Rattle.shm_process.specs.Access.{is_open}
-use Rattle.shm_process.specs.Desk.{Desk, KeptLine, after_line, after_opened, after_read_line, all_met, answered, brought, by_meeting, cleared, counts_after, finished, given_up_by, grown, keep, left_sealed, line_text, made_again, made_and_told, map_reply, max_line_bytes, may_keep, met, met_again, met_read, noted, on_byte, on_bytes, passed, quietly, reminded, reminded_if, reminder, revoke_line, revoked, settled, step_entry, step_text, store_line, stored_run, tag_in, taken, tell, tell_caller, ticks, told_to, tried, tried_by, unmap_reply, untagged, with_other, with_step}
+use Rattle.shm_process.specs.Desk.{Desk, KeptLine, after_line, after_opened, after_read_line, all_met, answered, brought, by_meeting, cleared, counts_after, finished, given_up_by, grown, keep, left_sealed, line_text, made_again, made_and_told, map_reply, max_line_bytes, may_keep, met, met_again, met_read, noted, on_byte, on_bytes, passed, quietly, reminded, reminded_if, reminder, revoke_line, revoked, settled, step_entry, step_text, store_line, stored_run, tag_in, taken, tell, tell_caller, ticks, told_to, tried, tried_by, try_of, unmap_reply, untagged, with_other, with_step}
 use Rattle.shm_process.specs.Hello.{first_other, hello_line, hello_to, read_hello}
 use Rattle.shm_process.specs.Meetings.{meeting}
 use Rattle.shm_process.specs.Node.{Node, Said}
@@ -143,9 +144,11 @@ tried_by-behind r t d line tag (Some said) =
     cond-behind (is_open said.answer) r t (keep quiet None line tag) (keep quiet_then None line tag) (with_step d (Some said)) (with_step (behind r t d) (Some said))
     (ap (λ x. keep x None line tag) (with_step-behind r t d (Some (untagged said))) ∙ keep-behind r t quiet None line tag) (with_step-behind r t d (Some said))
 
-tried-behind : (r t : List ℕ) (d : Desk) (line : List ℕ) (read : Line) → tried (behind r t d) line read ≡ behind r t (tried d line read)
+tried-behind : (r t : List ℕ) (d : Desk) (line : List ℕ) (read : Line) (asked : Asked) → tried (behind r t d) line read asked ≡ behind r t (tried d line read asked)
 unfolding tried
-tried-behind r t d line read = tried_by-behind r t (record d { node = after d.node read }) line (tag_in read) (said d.node read)
+tried-behind r t d line read asked =
+    let step = try_of read asked in
+    tried_by-behind r t (record d { node = after d.node step }) line (tag_in step) (said d.node step)
 
 run-behind : (bytes r t : List ℕ) (d : Desk) (ask : UnmapAsk) (offset : ℕ) → stored_run (behind r t d) ask offset bytes ≡ behind r t (stored_run d ask offset bytes)
 unfolding stored_run
@@ -177,7 +180,7 @@ meeting-behind r t d fresh line read (Kept page wants) =
     ap (λ x. keep x page line (tag_in read)) (revoked-behind r t d fresh wants) ∙ keep-behind r t (revoked fresh wants d) page line (tag_in read)
 meeting-behind r t d fresh line read (Answered answer) = answered-behind r t d (tag_in read) answer
 meeting-behind r t d fresh line read (Maps at index) = made-behind r t d read (map_reply d.node at index)
-meeting-behind r t d fresh line read Tries = tried-behind r t d line read
+meeting-behind r t d fresh line read (Tries asked) = tried-behind r t d line read asked
 meeting-behind r t d fresh line read Unmaps = given_up-behind r t d read
 
 met_read-behind : (r t : List ℕ) (d : Desk) (fresh : Bool) (line : List ℕ) (read : Option Line)

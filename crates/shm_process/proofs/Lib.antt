@@ -26,3 +26,4 @@ pub mod Noting
 pub mod Finds
 pub mod MappedBytes
 pub mod MetLines
+pub mod Tries

@@ -26,8 +26,8 @@ use Rattle.shm_wire.specs.Writes.{WriteAsk, IsWrite}
 use Rattle.shm_process.specs.Access.{access_ask}
 use Rattle.shm_process.specs.Cause.{OfLine}
 use Rattle.shm_process.specs.WaitingAsks.{Access, Reads, Writes, WaitingAsk, after_answer, ask_in, goes_on, waiting_after}
-use Rattle.shm_process.specs.Node.{Node, Heard, Said, answer_to, heard, input_asked, is_beyond, is_late, map_heard, new_node, question_heard, says, under_tag, unmap_heard, waits_for}
-use Rattle.shm_process.specs.Remaps.{is_empty}
+use Rattle.shm_process.specs.Node.{Node, Heard, Said, answer_to, asked_under, heard, input_asked, is_beyond, is_late, new_node, remapped_by, says, under_tag, unmap_heard, waits_for}
+use Rattle.shm_process.specs.Remaps.{first_load, is_empty}
 use Rattle.shm_process.specs.Recorded.{Entry, Event, Line, TooLong, Again, Restarted, IsEntry, entry_of, after_event, after_events, entries_of, recorded, said_at}
 use Rattle.shm_process.specs.Waiting.{after_heard, after_read, after_restart, after_unheard, again_at, block_in, can_be_made, has_room, joining, joins, next_heard, next_line, ready, said_read, said_restart, says_at, unstored, with_ask}
 use Rattle.shm_process.proofs.Tests.{below, unless-some}
@@ -123,7 +123,7 @@ wide-zero = omega arith
 
 asks-here : (node : Node) (site : ℕ) (tag : List ℕ) (q : Question) (x : Heard) (here late : Bool) → (here ≡ true → site ≡ node.me) → is_late node 0 ≡ late
     → IsAsk (record { site = site; tag = tag; asked = q })
-    → cond here (cond late None (question_heard node tag q)) None ≡ Some x → IsHeard node x
+    → cond here (cond late None (option_map (asked_under tag (waits_for tag q) (remapped_by node q)) (input_asked q))) None ≡ Some x → IsHeard node x
 asks-here node site tag q x false late own is h e = absurd (cc)
 asks-here node site tag q x true true own is h e = absurd (cc)
 asks-here node site tag (question.Access asked) x true false own is h e =
@@ -141,7 +141,7 @@ asks-here node site tag (question.Show page) x true false own is h e = absurd (c
 asks-here node site tag question.Health x true false own is h e = absurd (cc)
 asks-here node site tag question.Mappings x true false own is h e = absurd (cc)
 asks-here node site tag (question.Map at index kind) x true false own is h e =
-    idle false false false node (map_heard node tag at index kind) x wide-zero is refl e
+    idle false false false node (asked_under tag None (remapped_by node (question.Map at index kind)) (first_load at index)) x wide-zero is refl e
 
 unmaps-here : (node : Node) (unmap : UnmapAsk) (x : Heard) (here late : Bool) → is_late node 0 ≡ late
     → cond here (cond late None (Some (unmap_heard node unmap))) None ≡ Some x → IsHeard node x

@@ -3,12 +3,13 @@ use Rattle.std.proofs.Common.{◌≡◌, ℕ, ◌≤◌, Bool, false, List, [], 
 use Rattle.std.proofs.lemmas.Bool.Decides.{nat_tests}
 use Rattle.std.specs.Prelude.{codes, Option, Some, None, Result, Ok, option_and_then, option_map}
 use Rattle.std.specs.Fmt.{decimal}
+use Rattle.shm_model.specs.declared.asked_access.Asked.{Asked}
 use Rattle.shm_seal.specs.Seal.{opened}
 use Rattle.shm_seal.specs.declared.open_line_error.Unsealed.{Unsealed}
 use Rattle.shm_wire.specs.Line.{Line, read_line}
 use Rattle.shm_process.specs.Cause.{Cause, cause_text}
 use Rattle.shm_process.specs.Counts.{Counts, counted_on, was_received}
-use Rattle.shm_process.specs.Desk.{Desk, after_line, after_opened, after_read_line, counts_after, line_text, max_line_bytes, noted, passed, quietly, restarted, settled, step_entry, step_text, taken, tell, untagged, with_step}
+use Rattle.shm_process.specs.Desk.{Desk, after_line, after_opened, after_read_line, counts_after, line_text, max_line_bytes, noted, passed, quietly, restarted, settled, step_entry, step_text, tag_in, taken, tell, tried, tried_by, tried_so, try_of, untagged, with_step}
 use Rattle.shm_process.specs.Hello.{read_hello}
 use Rattle.shm_process.specs.Node.{Node, Said}
 use Rattle.shm_process.specs.Telling.{shown_line}
@@ -91,3 +92,23 @@ unfolding after_line
 line_opened d next line inner short is e =
     e ∙ ap (after_opened d) (sym is)
     ∙ sym (ap (λ b. cond b (record d { node = passed_over d.node }) (after_opened d (opened d.seal line))) (within-most (length line) short))
+
+-- ---- a step that asked for a right
+
+pub tried_made : (d next : Desk) (line : List ℕ) (read : Line) (asked : Asked) (step : Line) (node : Node) (says : Said) (tag : Option (List ℕ)) → step ≡ try_of read asked
+    → node ≡ after d.node step → Some says ≡ said_of_line d.node step → tag ≡ tag_in step → next ≡ tried_so (record d { node = node }) line tag says
+    → next ≡ tried d line read asked
+unfolding tried
+tried_made d next line read asked step node says tag is en es et e =
+    e ∙ ap (λ n. tried_so (record d { node = n }) line tag says) en
+    ∙ ap (λ t. tried_so (record d { node = after d.node step }) line t says) et
+    ∙ ap (tried_by (record d { node = after d.node step }) line (tag_in step)) es
+    ∙ ap (λ (x : Line). tried_by (record d { node = after d.node x }) line (tag_in x) (said_of_line d.node x)) is
+
+pub tried_none : (d : Desk) (line : List ℕ) (read : Line) (asked : Asked) (step : Line) (node : Node) → step ≡ try_of read asked
+    → node ≡ after d.node step → None ≡ said_of_line d.node step → record d { node = node } ≡ tried d line read asked
+unfolding tried
+tried_none d line read asked step node is en es =
+    ap (λ n. record d { node = n }) en
+    ∙ ap (tried_by (record d { node = after d.node step }) line (tag_in step)) es
+    ∙ ap (λ (x : Line). tried_by (record d { node = after d.node x }) line (tag_in x) (said_of_line d.node x)) is

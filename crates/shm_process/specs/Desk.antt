@@ -217,8 +217,17 @@ abbrev pub tried_by : Desk → List ℕ → Option (List ℕ) → Option Said �
 tried_by desk line tag None = desk
 tried_by desk line tag (Some said) = tried_so desk line tag said
 
-unfoldable pub tried : Desk → List ℕ → Line → Desk
-tried desk line read = tried_by (record desk { node = after desk.node read }) line (tag_in read) (said desk.node read)
+-- the line of that step, under the caller's tag
+abbrev pub try_of : Line → Asked → Line
+try_of (stream.Ask ask) asked = stream.Ask (record ask { asked = question.Try asked })
+try_of (stream.Envelope sent) asked = stream.Envelope sent
+try_of (stream.Write write) asked = stream.Write write
+try_of (stream.Unmap unmap) asked = stream.Unmap unmap
+
+unfoldable pub tried : Desk → List ℕ → Line → Asked → Desk
+tried desk line read asked =
+    let step = try_of read asked in
+    tried_by (record desk { node = after desk.node step }) line (tag_in step) (said desk.node step)
 
 -- a byte that is brought
 abbrev pub store_line : UnmapAsk → ℕ → ℕ → Line
@@ -253,7 +262,7 @@ by_meeting fresh desk line read Free = taken desk (Some read)
 by_meeting fresh desk line read (Kept page wants) = keep (revoked fresh wants desk) page line (tag_in read)
 by_meeting fresh desk line read (Answered answer) = answered desk (tag_in read) answer
 by_meeting fresh desk line read (Maps at index) = made_and_told desk read (map_reply desk.node at index)
-by_meeting fresh desk line read Tries = tried desk line read
+by_meeting fresh desk line read (Tries asked) = tried desk line read asked
 by_meeting fresh desk line read Unmaps = given_up_by desk read
 
 abbrev pub met_read : Bool → Desk → List ℕ → Option Line → Desk

@@ -16,7 +16,7 @@ use Rattle.shm_wire.specs.declared.mapping_text.Mapping.{Mapping}
 use Rattle.shm_wire.specs.declared.mapping_text.RevokeText.{RevokeText}
 use Rattle.shm_process.specs.Mapped.{is_detained, keeps_beside, keeps_under, passing, verdict_for, wanted}
 use Rattle.shm_process.specs.Node.{Node, is_late, is_lost}
-use Rattle.shm_process.specs.Remaps.{has_right, may_unmap, waits_for_right}
+use Rattle.shm_process.specs.Remaps.{has_right, may_unmap, right_asked, waits_for_right}
 use Rattle.shm_process.specs.declared.line_meeting.Meeting.{Meeting}
 use Rattle.shm_process.specs.declared.line_meeting.Meeting.TheVariants.{Answered, Free, Kept, Maps, Tries, Unmaps}
 
@@ -49,15 +49,15 @@ abbrev pub begin_meeting : Bool → Meeting
 begin_meeting detained = if detained then Answered (Refused busy) else Free
 
 -- a map waits for its right, and asks for it once
-abbrev pub map_meeting : Bool → Bool → ℕ → ℕ → Meeting
-map_meeting has waits at index = if has then Maps at index else if waits then Kept None None else Tries
+abbrev pub map_meeting : Bool → Bool → ℕ → ℕ → Kind → Meeting
+map_meeting has waits at index kind = if has then Maps at index else if waits then Kept None None else Tries (right_asked kind at index)
 
 abbrev pub question_meeting : Node → Question → Meeting
 question_meeting node (question.Access asked) = access_meeting asked (passing node.mapped node.site asked)
 question_meeting node (question.Try asked) = try_meeting (passing node.mapped node.site asked)
 question_meeting node (question.Begin request) = begin_meeting (is_detained node.mapped request)
 question_meeting node (question.Map at index kind) = 
-    map_meeting (has_right node.sites node.me node.site at index kind) (waits_for_right node.sites node.me node.site at index kind) at index
+    map_meeting (has_right node.sites node.me node.site at index kind) (waits_for_right node.sites node.me node.site at index kind) at index kind
 question_meeting node (question.Read at offset count) = Free
 question_meeting node question.Tick = Free
 question_meeting node (question.Show page) = Free

@@ -4,7 +4,6 @@
 use Rattle.std.specs.Prelude.{ℕ, ◌+◌, Bool, true, false, ◌||◌, not, List, [], Option, Some, None, ◌==◌, ◌&&◌, if◌then◌else◌, max, nat_lt, option_map, unwrap_or}
 use Rattle.shm_model.specs.declared.answer.Answer.{Answer}
 use Rattle.shm_model.specs.declared.answer.Answer.TheVariants.{Began, Replied}
-use Rattle.shm_model.specs.declared.request_kind.Kind.{Kind}
 use Rattle.shm_model.specs.Basics.{greatest}
 use Rattle.shm_model.specs.Message.{Envelope, Input, Begin, Deliver, Tick}
 use Rattle.shm_model.specs.Receipt.{access_of}
@@ -21,7 +20,7 @@ use Rattle.shm_wire.specs.declared.mapping_text.Mapping.{Mapping}
 use Rattle.shm_process.specs.Cause.{Cause}
 use Rattle.shm_process.specs.Mapped.{byte_place, page_at}
 use Rattle.shm_process.specs.Numbers.{numbers_fit}
-use Rattle.shm_process.specs.Remaps.{first_load, has_right, is_empty, map_input, mapped_if, unmapped_to}
+use Rattle.shm_process.specs.Remaps.{first_load, has_right, is_empty, mapped_if, unmapped_to}
 use Rattle.shm_process.specs.WaitingAsks.{Access, WaitingAsk}
 
 -- how many sites there are, and which one this is; the site as it stands, its clock, and how many steps it made; how many lines made
@@ -90,7 +89,8 @@ handed node sent =
     if is_lost node sent then None
     else Some (record { input = Deliver sent.envelope; source = sent.source.at; tag = None; waits = None; mapped = None })
 
--- what a site is made to do; a page, counts and mappings are only shown, and a block is loaded byte by byte
+-- what a site is made to do; a page, counts and mappings are only shown, a block is loaded byte by byte, and a page is mapped with a load of
+-- its first byte
 abbrev pub input_asked : Question → Option Input
 input_asked (question.Access asked) = Some (access_of asked)
 input_asked (question.Try asked) = Some (access_of asked)
@@ -99,7 +99,7 @@ input_asked (question.Begin request) = Some (Begin request)
 input_asked question.Tick = Some Tick
 input_asked (question.Show page) = None
 input_asked question.Health = None
-input_asked (question.Map at index kind) = None
+input_asked (question.Map at index kind) = Some (first_load at index)
 input_asked question.Mappings = None
 
 -- a load and a store wait for their right, unless they are only tried
@@ -110,29 +110,28 @@ waits_for tag _ = None
 abbrev pub under_tag : List ℕ → Option WaitingAsk → Input → Heard
 under_tag tag waits input = record { input = input; source = 0; tag = Some tag; waits = waits; mapped = None }
 
--- a page is mapped with the load of its first byte, where the right is there
-abbrev pub map_heard : Node → List ℕ → ℕ → ℕ → Kind → Heard
-map_heard node tag at index kind =
-    let has = has_right node.sites node.me node.site at index kind in
-    record (under_tag tag None (map_input has at index kind)) { mapped = mapped_if has node.mapped node.site at index kind }
+-- what is mapped after it, where that changes: a page whose right is there
+abbrev pub remapped_by : Node → Question → Option (List Mapping)
+remapped_by node (question.Map at index kind) = mapped_if (has_right node.sites node.me node.site at index kind) node.mapped node.site at index kind
+remapped_by node (question.Access asked) = None
+remapped_by node (question.Try asked) = None
+remapped_by node (question.Read at offset count) = None
+remapped_by node (question.Begin request) = None
+remapped_by node question.Tick = None
+remapped_by node (question.Show page) = None
+remapped_by node question.Health = None
+remapped_by node question.Mappings = None
 
-abbrev pub plainly_heard : List ℕ → Question → Option Heard
-plainly_heard tag asked = option_map (under_tag tag (waits_for tag asked)) (input_asked asked)
-
-abbrev pub question_heard : Node → List ℕ → Question → Option Heard
-question_heard node tag (question.Map at index kind) = Some (map_heard node tag at index kind)
-question_heard node tag (question.Access asked) = plainly_heard tag (question.Access asked)
-question_heard node tag (question.Try asked) = plainly_heard tag (question.Try asked)
-question_heard node tag (question.Read at offset count) = None
-question_heard node tag (question.Begin request) = plainly_heard tag (question.Begin request)
-question_heard node tag question.Tick = plainly_heard tag question.Tick
-question_heard node tag (question.Show page) = None
-question_heard node tag question.Health = None
-question_heard node tag question.Mappings = None
+abbrev pub asked_under : List ℕ → Option WaitingAsk → Option (List Mapping) → Input → Heard
+asked_under tag waits mapped input = record (under_tag tag waits input) { mapped = mapped }
 
 -- what a caller asks of this site
 abbrev pub asked_here : Node → Ask → Option Heard
-asked_here node ask = if (ask.site == node.me) then (if is_late node 0 then None else question_heard node ask.tag ask.asked) else None
+asked_here node ask =
+    if (ask.site == node.me)
+    then (if is_late node 0 then None
+    else option_map (asked_under ask.tag (waits_for ask.tag ask.asked) (remapped_by node ask.asked)) (input_asked ask.asked))
+    else None
 
 -- a page is given up with such a load too, once the bytes that are brought were stored
 abbrev pub unmap_heard : Node → UnmapAsk → Heard

@@ -1,15 +1,17 @@
 -- Asks for a page to be mapped into the memory of the site's machine, and to be given up. Each is a step that loads the page's first byte,
--- and with it what is mapped changes. Where the right to map isn't there, a map is a step that asks for it, and nothing changes: it never
--- stores. An unmap brings bytes; each is stored by a step of its own before.
+-- and with it what is mapped changes. Where the right to map isn't there, an access is tried that asks for it: it never stores, as a store
+-- isn't made without its right. An unmap brings bytes; each is stored by a step of its own before.
 use Rattle.std.specs.Prelude.{ℕ, zero, suc, ◌+◌, ◌*◌, ◌&&◌, ◌||◌, ◌==◌, Bool, true, false, List, [], ◌∷◌, ◌++◌, Option, None, Some, is_some, length, nat_le, option_map}
 use Rattle.std.specs.List.{list_all}
 use Rattle.shm_place.specs.declared.page_id.PageId.{PageId}
 use Rattle.shm_place.specs.Limits.{page_bytes}
+use Rattle.shm_model.specs.declared.asked_access.Asked.{Asked}
+use Rattle.shm_model.specs.declared.asked_access.Asked.TheVariants as asked
 use Rattle.shm_model.specs.declared.request_kind.Kind.{Kind}
 use Rattle.shm_model.specs.declared.request_kind.Kind.TheVariants.{Read, Write}
 use Rattle.shm_model.specs.Access.{load, store}
 use Rattle.shm_model.specs.Book.{is_write}
-use Rattle.shm_model.specs.Message.{Input, Load, Store}
+use Rattle.shm_model.specs.Message.{Input, Load}
 use Rattle.shm_model.specs.Site.{Site}
 use Rattle.shm_site.specs.AtOnce.{byte_given, is_stored, waits}
 use Rattle.shm_wire.specs.Unmaps.{Run, UnmapAsk}
@@ -31,11 +33,10 @@ waits_for_right sites me site at index Write = waits (store sites me at (byte_pl
 abbrev pub first_load : ℕ → ℕ → Input
 first_load at index = Load at (byte_place index 0)
 
--- with the right a load, and else an access that asks for it
-abbrev pub map_input : Bool → ℕ → ℕ → Kind → Input
-map_input true at index kind = first_load at index
-map_input false at index Read = first_load at index
-map_input false at index Write = Store at (byte_place index 0) 0
+-- the access that asks for the right
+abbrev pub right_asked : Kind → ℕ → ℕ → Asked
+right_asked Read at index = asked.Load at (byte_place index 0)
+right_asked Write at index = asked.Store at (byte_place index 0) 0
 
 -- what is mapped with the page
 abbrev pub mapped_through : List Mapping → ℕ → Kind → Option PageId → Option (List Mapping)

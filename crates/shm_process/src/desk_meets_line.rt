@@ -4,9 +4,10 @@ ghost use Rattle.std.specs.List.{flat_map, list_any};
 ghost use Rattle.shm_process.specs.AskOf.{ask_of};
 ghost use Rattle.shm_process.specs.Cause.{Cause, cause_text};
 ghost use Rattle.shm_process.specs.Counts.{was_received};
-ghost use Rattle.shm_process.specs.Desk.{answered, by_meeting, finished, keep, made_and_told, map_reply, may_keep, met, met_again, quietly, reminded_if, reminder, revoked, tell_caller, ticks, tried, tried_so, untagged, with_step};
+ghost use Rattle.shm_process.specs.Desk.{answered, by_meeting, finished, keep, made_and_told, map_reply, may_keep, met, met_again, quietly, reminded_if, reminder, revoked, tell_caller, ticks, tried, tried_so, try_of, untagged, with_step};
 ghost use Rattle.shm_process.specs.Desk as spec;
 ghost use Rattle.shm_process.specs.DeskOf.{desk_of, kept_of};
+ghost use Rattle.shm_model.specs.declared.asked_access.Asked.{Asked};
 ghost use Rattle.shm_process.specs.Meetings.{meeting};
 ghost use Rattle.shm_process.specs.NodeOf.{node_of, said_of};
 ghost use Rattle.shm_process.specs.WaitingAsks.{next_access};
@@ -29,7 +30,7 @@ use shm_model::{Answer, Asked};
 use shm_place::PageId;
 use shm_seal::Seal;
 use shm_text::AnswerText;
-use shm_wire::{Line, Question, RevokeText, Tag, parse_line};
+use shm_wire::{Ask, Line, Question, RevokeText, Tag, parse_line};
 use std::alloc::{AllocError, Allocator};
 use std::mem;
 
@@ -57,7 +58,7 @@ impl<A: Allocator + Copy> Desk<A> {
             }
             Meeting::Answered(answer) => self.answer(tag_in(&read), answer),
             Meeting::Maps { at, index } => self.make_map(line, read, at, index),
-            Meeting::Tries => self.try_map(line, read),
+            Meeting::Tries(asked) => self.try_access(line, try_of(read, asked)),
             Meeting::Unmaps => self.give_up_by(read),
         }
     }
@@ -225,17 +226,17 @@ impl<A: Allocator + Copy> Desk<A> {
         self.push_step(line, &said, received)
     }
 
-    /// Asks for the right to map a page, and keeps the map back; or it is refused.
-    #[tactic(auto, unfolding(crate::specs::Desk::tried))]
-    fn try_map(&mut self, line: &[u8], read: Line<A>) -> Result<(), AllocError>
-        requires is_line { IsLine (line_of read) }
-        requires spelled { line.now ≡ stream.line_text (line_of read) }
-        ensures { OnOk result (desk_of self.new ≡ tried (desk_of self.old) line.now (line_of read)) }
+    /// Makes the step that asks for the right to map a page, and keeps the map's line back; or it is refused.
+    fn try_access(&mut self, line: &[u8], step: Line<A>) -> Result<(), AllocError>
+        requires { IsLine (line_of step) }
+        ensures { (read : stream.Line) (asked : Asked) → line_of step ≡ try_of read asked
+            → OnOk result (desk_of self.new ≡ tried (desk_of self.old) line.now read asked) }
     {
-        let tag = tag_in(&read);
-        let received = is_envelope(&read);
-        match self.node.take(read)? {
-            Some(said) => self.end_try(line, said, tag, received),
+        let tag = tag_in(&step);
+        let received = is_envelope(&step);
+        let text = text_of_line(self.alloc, &step)?;
+        match self.node.take(step)? {
+            Some(said) => self.end_try(line, text.as_bytes(), said, tag, received),
             None => Ok(()),
         }
     }
@@ -244,18 +245,45 @@ impl<A: Allocator + Copy> Desk<A> {
     fn end_try(
         &mut self,
         line: &[u8],
+        step: &[u8],
         said: Said<A>,
         tag: Option<Tag>,
         received: bool,
     ) -> Result<(), AllocError>
-        ensures { (cause : Cause) → cause_text cause ≡ line.now → was_received cause ≡ received
+        ensures { (cause : Cause) → cause_text cause ≡ step.now → was_received cause ≡ received
             → OnOk result (desk_of self.new ≡ tried_so (desk_of self.old) line.now (option_map tag_text tag) (said_of cause said)) }
     {
         if !is_open(&said.answer) {
-            return self.push_step(line, &said, received);
+            return self.push_step(step, &said, received);
         }
-        self.push_quietly(line, said, received)?;
+        self.push_quietly(step, said, received)?;
         self.keep_back(None, line, tag)
+    }
+}
+
+/// The line of that step, under the caller's tag.
+fn try_of<A: Allocator + Copy>(read: Line<A>, asked: Asked) -> Line<A>
+    ensures { line_of result ≡ try_of (line_of read) asked }
+{
+    match read {
+        Line::Ask(ask) => Line::Ask(Ask {
+            site: ask.site,
+            tag: ask.tag,
+            asked: Question::Try(asked),
+        }),
+        other => other,
+    }
+}
+
+/// A line's text.
+fn text_of_line<A: Allocator + Copy>(alloc: A, line: &Line<A>) -> Result<String<A>, AllocError>
+    ensures { IfOk result (λ text. string_bytes text ≡ stream.line_text (line_of line.now)) }
+{
+    match line {
+        Line::Envelope(sent) => format!(in alloc; "{sent}"),
+        Line::Ask(ask) => format!(in alloc; "{ask}"),
+        Line::Write(write) => format!(in alloc; "{write}"),
+        Line::Unmap(unmap) => format!(in alloc; "{unmap}"),
     }
 }
 

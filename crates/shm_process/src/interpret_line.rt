@@ -12,7 +12,6 @@ ghost use Rattle.shm_site.specs.Step.{input_of, is_foreign};
 ghost use Rattle.shm_wire.specs.Asks.{ask_of};
 ghost use Rattle.shm_wire.specs.LineOf.{line_of};
 ghost use Rattle.shm_wire.specs.SentOf.{sent_of};
-ghost use Rattle.shm_wire.specs.TagOf.{tag_text};
 ghost use Rattle.shm_wire.specs.UnmapOf.{unmap_in};
 
 use crate::byte_place::byte_place;
@@ -83,34 +82,33 @@ impl<A: Allocator + Copy> Node<A> {
         if ask.site != self.me || self.is_late(0) {
             return Ok(None);
         }
-        match ask.asked {
-            Question::Map { at, index, kind } => self.hear_map(ask.tag, at, index, kind),
-            asked => Ok(hear_plainly(ask.tag, asked)),
-        }
-    }
-
-    /// A load of the page's first byte, with which it is mapped, or an access that asks for the right.
-    fn hear_map(
-        &self,
-        tag: Tag,
-        at: u32,
-        index: u32,
-        kind: Kind,
-    ) -> Result<Option<Heard<A>>, AllocError>
-        requires { max self.now.clock 0 < greatest }
-        ensures heard { IfOk result (λ heard. option_map heard_of heard ≡ Some (spec.map_heard (node_of self.now) (tag_text tag) at index kind)) }
-        ensures proper { IfOk result (λ heard. IfSome heard (λ h. is_foreign self.now.sites self.now.me (input_of h.input) ≡ false)) }
-        ensures early { IfOk result (λ heard. IfSome heard (λ h. max self.now.clock h.source < greatest)) }
-    {
-        let has = self.has_right(at, index, kind);
-        let mapped = self.mapped_if(has, at, index, kind)?;
+        let waits = waits_for_right(ask.asked);
+        let Some(input) = input_asked(ask.asked) else {
+            return Ok(None);
+        };
+        let mapped = self.remapped_by(ask.asked)?;
         Ok(Some(Heard {
-            input: map_input(has, at, index, kind),
+            input,
             source: 0,
-            tag: Some(tag),
-            waits: None,
+            tag: Some(ask.tag),
+            waits,
             mapped,
         }))
+    }
+
+    /// What is mapped after a step that is asked for, where that changes: a page whose right is there.
+    fn remapped_by(&self, asked: Question) -> Result<Option<Vec<Mapping, A>>, AllocError>
+        ensures { IfOk result (λ mapped. option_map (λ m. m.items) mapped ≡ spec.remapped_by (node_of self.now) asked) }
+    {
+        match asked {
+            Question::Map { at, index, kind } => {
+                let has = self.has_right(at, index, kind);
+                self.mapped_if(has, at, index, kind)
+            }
+            Question::Access(_) | Question::Try(_) | Question::Read { .. } => Ok(None),
+            Question::Begin(_) | Question::Tick | Question::Show(_) => Ok(None),
+            Question::Health | Question::Mappings => Ok(None),
+        }
     }
 
     /// What is mapped with the page.
@@ -194,8 +192,8 @@ impl<A: Allocator + Copy> Node<A> {
     }
 }
 
-/// The input for a question. A page, counts and mappings are only shown, a block is loaded byte by byte, and a map's depends on its right, so
-/// these have none.
+/// The input for a question. A page, counts and mappings are only shown, and a block is loaded byte by byte, so these have none. A map is a
+/// load of the page's first byte.
 pub fn input_asked<A: Allocator + Copy>(question: Question) -> Option<Input<A>>
     ensures input { option_map input_of result ≡ spec.input_asked question }
     ensures proper { (sites me : ℕ) → IfSome result (λ input. is_foreign sites me (input_of input) ≡ false) }
@@ -205,39 +203,8 @@ pub fn input_asked<A: Allocator + Copy>(question: Question) -> Option<Input<A>>
         Question::Begin(request) => Some(Input::Begin(request)),
         Question::Tick => Some(Input::Tick),
         Question::Show(_) | Question::Health | Question::Read { .. } => None,
-        Question::Map { .. } | Question::Mappings => None,
-    }
-}
-
-/// What an ask other than a map hands to the site.
-fn hear_plainly<A: Allocator + Copy>(tag: Tag, asked: Question) -> Option<Heard<A>>
-    ensures heard { option_map heard_of result ≡ spec.plainly_heard (tag_text tag) asked }
-    ensures proper { (sites me : ℕ) → IfSome result (λ h. is_foreign sites me (input_of h.input) ≡ false) }
-    ensures source { IfSome result (λ h. h.source ≡ 0) }
-{
-    let waits = waits_for_right(asked);
-    let input = input_asked(asked)?;
-    Some(Heard {
-        input,
-        source: 0,
-        tag: Some(tag),
-        waits,
-        mapped: None,
-    })
-}
-
-/// With the right a load of the page's first byte; else an access that asks for the right, which stores nothing.
-fn map_input<A: Allocator + Copy>(has: bool, at: u32, index: u32, kind: Kind) -> Input<A>
-    ensures input { input_of result ≡ remaps.map_input has at index kind }
-    ensures proper { (sites me : ℕ) → is_foreign sites me (input_of result) ≡ false }
-{
-    if has || kind == Kind::Read {
-        return first_load(at, index);
-    }
-    Input::Store {
-        at,
-        offset: byte_place(index, 0),
-        byte: 0,
+        Question::Mappings => None,
+        Question::Map { at, index, .. } => Some(first_load(at, index)),
     }
 }
 

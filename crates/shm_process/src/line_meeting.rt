@@ -1,4 +1,4 @@
-use shm_model::Answer;
+use shm_model::{Answer, Asked};
 use shm_place::PageId;
 use shm_wire::RevokeText;
 
@@ -16,8 +16,8 @@ pub(crate) enum Meeting {
     Answered(Answer),
     /// It maps the page with this index in the attachment's segment, whose right is there.
     Maps { at: u32, index: u32 },
-    /// It is a map whose right is still to be asked for.
-    Tries,
+    /// It is a map whose right is still to be asked for, by this access, which isn't made.
+    Tries(Asked),
     /// It gives up a page that is mapped so.
     Unmaps,
 }

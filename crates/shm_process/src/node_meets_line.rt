@@ -4,11 +4,13 @@ ghost use Rattle.shm_parts.specs.Message.{envelope_of};
 ghost use Rattle.shm_process.specs.Mapped as mapped;
 ghost use Rattle.shm_process.specs.Meetings as spec;
 ghost use Rattle.shm_process.specs.NodeOf.{node_of};
+ghost use Rattle.shm_process.specs.Remaps as remaps;
 ghost use Rattle.shm_wire.specs.Asks.{ask_of};
 ghost use Rattle.shm_wire.specs.LineOf.{line_of};
 ghost use Rattle.shm_wire.specs.SentOf.{sent_of};
 ghost use Rattle.shm_wire.specs.UnmapOf.{unmap_in};
 
+use crate::byte_place::byte_place;
 use crate::line_meeting::Meeting;
 use crate::mapping_list::{keeps_under, verdict_for, wanted};
 use crate::node::Node;
@@ -73,7 +75,7 @@ impl<A: Allocator + Copy> Node<A> {
             Question::Begin(request) => begin_meeting(self.is_detained(request)),
             Question::Map { at, index, kind } => {
                 let has = self.has_right(at, index, kind);
-                map_meeting(has, self.waits_for_right(at, index, kind), at, index)
+                map_meeting(has, self.waits_for_right(at, index, kind), at, index, kind)
             }
             Question::Read { .. } | Question::Tick | Question::Show(_) => Meeting::Free,
             Question::Health | Question::Mappings => Meeting::Free,
@@ -150,8 +152,8 @@ fn begin_meeting(detained: bool) -> Meeting
 }
 
 /// A map waits for its right, and asks for it once.
-fn map_meeting(has: bool, waits: bool, at: u32, index: u32) -> Meeting
-    ensures { result ≡ spec.map_meeting has waits at index }
+fn map_meeting(has: bool, waits: bool, at: u32, index: u32, kind: Kind) -> Meeting
+    ensures { result ≡ spec.map_meeting has waits at index kind }
 {
     if has {
         return Meeting::Maps { at, index };
@@ -162,7 +164,22 @@ fn map_meeting(has: bool, waits: bool, at: u32, index: u32) -> Meeting
             wants: None,
         };
     }
-    Meeting::Tries
+    Meeting::Tries(right_asked(kind, at, index))
+}
+
+/// The access that asks for the right to map a page: it isn't made without it.
+fn right_asked(kind: Kind, at: u32, index: u32) -> Asked
+    ensures { result ≡ remaps.right_asked kind at index }
+{
+    let offset = byte_place(index, 0);
+    match kind {
+        Kind::Read => Asked::Load { at, offset },
+        Kind::Write => Asked::Store {
+            at,
+            offset,
+            byte: 0,
+        },
+    }
 }
 
 /// What isn't mapped so can't be given up.
