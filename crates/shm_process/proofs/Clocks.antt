@@ -1,5 +1,5 @@
 -- How far a line raises a node's clock; and that no number of the node is above it, nor one that it sends.
-use Rattle.std.proofs.Common.{◌≡◌, ℕ, suc, ◌+◌, ◌*◌, ◌<◌, ◌≤◌, ◌==◌, ◌&&◌, ◌||◌, not, nat_le, nat_lt, Bool, true, false, List, [], ◌∷◌, Option, Some, None, length, max, cond, refl, subst, arith}
+use Rattle.std.proofs.Common.{◌≡◌, ℕ, suc, ◌+◌, ◌*◌, ◌<◌, ◌≤◌, ◌==◌, ◌||◌, not, nat_le, nat_lt, Bool, true, false, List, [], ◌∷◌, Option, Some, None, length, max, cond, refl, subst, arith}
 use Rattle.std.specs.List.{All}
 use Rattle.std.specs.Prelude.{IfSome, option_map}
 use Rattle.std.specs.Option.{option_map_or}
@@ -12,14 +12,14 @@ use Rattle.shm_model.specs.declared.asked_access.Asked.TheVariants as asked
 use Rattle.shm_wire.specs.Line as stream
 use Rattle.shm_wire.specs.Line.{read_line}
 use Rattle.shm_wire.specs.Sent.{Sent}
-use Rattle.shm_wire.specs.Unmaps.{UnmapAsk}
 use Rattle.shm_wire.specs.declared.caller_ask.Question.{Question}
 use Rattle.shm_wire.specs.declared.mapping_text.Mapping.{Mapping}
 use Rattle.shm_wire.specs.declared.caller_ask.Question.TheVariants as question
 use Rattle.shm_process.specs.Cause.{Cause, OfLine, OfRestart}
-use Rattle.shm_process.specs.Node.{Node, Heard, Said, handed, heard, input_asked, is_ahead, is_beyond, asked_under, is_late, most_ahead, new_node, next_clock, remapped_by, says, stepped, unmap_heard, waits_for}
+use Rattle.shm_process.specs.Node.{Node, Heard, Said, handed, heard, input_asked, is_ahead, is_beyond, asked_under, is_late, most_ahead, new_node, next_clock, remapped_by, says, stepped, unmap_input, waits_for}
 use Rattle.shm_process.specs.Numbers.{NumbersWithin, number_named, numbers_fit}
-use Rattle.shm_process.specs.Remaps.{is_empty}
+use Rattle.shm_process.specs.Mapped.{byte_place, page_at}
+use Rattle.shm_process.specs.Remaps.{first_load, is_empty, unmapped_to}
 use Rattle.shm_process.specs.Recorded.{Event, Line, TooLong, Again, Restarted, after_event, after_events, said_at}
 use Rattle.shm_process.specs.Waiting.{after, after_heard, after_read, after_restart, again_at, heard_again, joining, joins, next_heard, ready, replayed, replayed_heard, restarting, said_read, said_restart, says_at}
 use Rattle.shm_process.specs.WaitingAsks.{WaitingAsk, ask_in, next_access}
@@ -87,12 +87,9 @@ ask-heeds node tag waits mapped x None true false number e = absurd (cc)
 ask-heeds node tag waits mapped x (Some input) true false number e =
     subst (Heeds node) (some-is (asked_under tag waits mapped input) x e) (record { near = zero-near node.clock; number = number })
 
-unmap-heeds : (node : Node) (unmap : UnmapAsk) (x : Heard) (here late : Bool)
-    → cond here (cond late None (Some (unmap_heard node unmap))) None ≡ Some x → Heeds node x
-unmap-heeds node unmap x false late e = absurd (cc)
-unmap-heeds node unmap x true true e = absurd (cc)
-unmap-heeds node unmap x true false e =
-    subst (Heeds node) (some-is (unmap_heard node unmap) x e) (record { near = zero-near node.clock; number = tt })
+unmap-number : (empty : Bool) (at index : ℕ) → IfSome (cond empty (Some (first_load at index)) None) (InputWithin 0)
+unmap-number true at index = tt
+unmap-number false at index = tt
 
 line-heeds : (node : Node) (line : stream.Line) (x : Heard) → heard node line ≡ Some x → Heeds node x
 line-heeds node (stream.Envelope sent) x e = envelope-heeds node sent x e
@@ -100,7 +97,9 @@ line-heeds node (stream.Write write) x e = absurd (cc)
 line-heeds node (stream.Ask ask) x e =
     ask-heeds node ask.tag (waits_for ask.tag ask.asked) (remapped_by node ask.asked) x (input_asked ask.asked) (ask.site == node.me) (is_late node 0)
     (asked-number ask.asked) e
-line-heeds node (stream.Unmap unmap) x e = unmap-heeds node unmap x ((unmap.site == node.me) && is_empty unmap.runs) (is_late node 0) e
+line-heeds node (stream.Unmap unmap) x e =
+    ask-heeds node unmap.tag None (unmapped_to node.mapped unmap.keeps (page_at node.site unmap.at (byte_place unmap.index 0))) x (unmap_input unmap)
+    (unmap.site == node.me) (is_late node 0) (unmap-number (is_empty unmap.runs) unmap.at unmap.index) e
 
 next-heeds : (node : Node) (ask : WaitingAsk) → Heeds node (next_heard ask)
 next-heeds node ask = record { near = zero-near node.clock; number = access-number 0 (next_access ask) }

@@ -1,5 +1,5 @@
 -- The asks that wait at a node are ones that its callers may make of it; so each entry of its steps has a line.
-use Rattle.std.proofs.Common.{◌≡◌, ℕ, suc, ◌+◌, ◌<◌, ◌≤◌, ◌==◌, ◌&&◌, ◌||◌, Bool, true, false, List, [], ◌∷◌, ◌++◌, Option, Some, None, length, set, take, drop, max, cond, refl, sym, subst, ◌∙◌, arith}
+use Rattle.std.proofs.Common.{◌≡◌, ℕ, suc, ◌+◌, ◌<◌, ◌≤◌, ◌==◌, ◌||◌, Bool, true, false, List, [], ◌∷◌, ◌++◌, Option, Some, None, length, set, take, drop, max, cond, refl, sym, subst, ◌∙◌, arith}
 use Rattle.std.specs.List.{All, position_from, remove}
 use Rattle.std.specs.Prelude.{◌^◌, option_map}
 use Rattle.std.specs.Option.{option_map_or}
@@ -22,12 +22,14 @@ use Rattle.shm_wire.specs.Line.{IsLine, read_line}
 use Rattle.shm_wire.specs.declared.caller_ask.Question.{Question}
 use Rattle.shm_wire.specs.declared.caller_ask.Question.TheVariants as question
 use Rattle.shm_wire.specs.Unmaps.{UnmapAsk}
+use Rattle.shm_wire.specs.declared.mapping_text.Mapping.{Mapping}
 use Rattle.shm_wire.specs.Writes.{WriteAsk, IsWrite}
 use Rattle.shm_process.specs.Access.{access_ask}
 use Rattle.shm_process.specs.Cause.{OfLine}
 use Rattle.shm_process.specs.WaitingAsks.{Access, Reads, Writes, WaitingAsk, after_answer, ask_in, goes_on, waiting_after}
-use Rattle.shm_process.specs.Node.{Node, Heard, Said, answer_to, asked_under, heard, input_asked, is_beyond, is_late, new_node, remapped_by, says, under_tag, unmap_heard, waits_for}
-use Rattle.shm_process.specs.Remaps.{first_load, is_empty}
+use Rattle.shm_process.specs.Node.{Node, Heard, Said, answer_to, asked_under, heard, input_asked, is_beyond, is_late, new_node, remapped_by, says, under_tag, waits_for}
+use Rattle.shm_process.specs.Mapped.{byte_place, page_at}
+use Rattle.shm_process.specs.Remaps.{first_load, is_empty, unmapped_to}
 use Rattle.shm_process.specs.Recorded.{Entry, Event, Line, TooLong, Again, Restarted, IsEntry, entry_of, after_event, after_events, entries_of, recorded, said_at}
 use Rattle.shm_process.specs.Waiting.{after_heard, after_read, after_restart, after_unheard, again_at, block_in, can_be_made, has_room, joining, joins, next_heard, next_line, ready, said_read, said_restart, says_at, unstored, with_ask}
 use Rattle.shm_process.proofs.Tests.{below, unless-some}
@@ -143,11 +145,14 @@ asks-here node site tag question.Mappings x true false own is h e = absurd (cc)
 asks-here node site tag (question.Map at index kind) x true false own is h e =
     idle false false false node (asked_under tag None (remapped_by node (question.Map at index kind)) (first_load at index)) x wide-zero is refl e
 
-unmaps-here : (node : Node) (unmap : UnmapAsk) (x : Heard) (here late : Bool) → is_late node 0 ≡ late
-    → cond here (cond late None (Some (unmap_heard node unmap))) None ≡ Some x → IsHeard node x
-unmaps-here node unmap x false late is e = absurd (cc)
-unmaps-here node unmap x true true is e = absurd (cc)
-unmaps-here node unmap x true false is e = idle false false false node (unmap_heard node unmap) x wide-zero is refl e
+unmaps-here : (node : Node) (unmap : UnmapAsk) (x : Heard) (mapped : Option (List Mapping)) (here late empty : Bool) → is_late node 0 ≡ late
+    → cond here (cond late None (option_map (asked_under unmap.tag None mapped) (cond empty (Some (first_load unmap.at unmap.index)) None))) None ≡ Some x
+    → IsHeard node x
+unmaps-here node unmap x mapped false late empty is e = absurd (cc)
+unmaps-here node unmap x mapped true true empty is e = absurd (cc)
+unmaps-here node unmap x mapped true false false is e = absurd (cc)
+unmaps-here node unmap x mapped true false true is e =
+    idle false false false node (asked_under unmap.tag None mapped (first_load unmap.at unmap.index)) x wide-zero is refl e
 
 same-site : (a b : ℕ) → (a == b) ≡ true → a ≡ b
 same-site a b h = grind (arith, nat_tests)
@@ -157,7 +162,9 @@ line-heard node (stream.Envelope sent) x is e =
     idle (foreign node.sites node.me sent.envelope) (is_late node sent.source.at) (is_beyond node sent) node
     (record { input = Deliver sent.envelope; source = sent.source.at; tag = None; waits = None; mapped = None }) x is.2.0 refl refl e
 line-heard node (stream.Write write) x is e = absurd (cc)
-line-heard node (stream.Unmap unmap) x is e = unmaps-here node unmap x ((unmap.site == node.me) && is_empty unmap.runs) (is_late node 0) refl e
+line-heard node (stream.Unmap unmap) x is e =
+    unmaps-here node unmap x (unmapped_to node.mapped unmap.keeps (page_at node.site unmap.at (byte_place unmap.index 0))) (unmap.site == node.me)
+    (is_late node 0) (is_empty unmap.runs) refl e
 line-heard node (stream.Ask ask) x is e = asks-here node ask.site ask.tag ask.asked x (ask.site == node.me) (is_late node 0) (same-site ask.site node.me) refl is e
 
 with-proper : (me : ℕ) (waiting : List WaitingAsk) (ask : Option WaitingAsk) (joins : Bool) → ((a : WaitingAsk) → ask ≡ Some a → IsProper me a)

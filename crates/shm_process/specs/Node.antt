@@ -1,7 +1,7 @@
 -- A site as a process. Lines come on one stream, which all sites and callers share; each that is for this site makes one step of it, and
 -- the others are passed over. A step's clock is above those of the steps before it, and above that of the step which sent what it is
 -- handed.
-use Rattle.std.specs.Prelude.{ℕ, ◌+◌, Bool, true, false, ◌||◌, not, List, [], Option, Some, None, ◌==◌, ◌&&◌, if◌then◌else◌, max, nat_lt, option_map, unwrap_or}
+use Rattle.std.specs.Prelude.{ℕ, ◌+◌, Bool, true, false, ◌||◌, not, List, [], Option, Some, None, ◌==◌, if◌then◌else◌, max, nat_lt, option_map, unwrap_or}
 use Rattle.shm_model.specs.declared.answer.Answer.{Answer}
 use Rattle.shm_model.specs.declared.answer.Answer.TheVariants.{Began, Replied}
 use Rattle.shm_model.specs.Basics.{greatest}
@@ -134,14 +134,15 @@ asked_here node ask =
     else None
 
 -- a page is given up with such a load too, once the bytes that are brought were stored
-abbrev pub unmap_heard : Node → UnmapAsk → Heard
-unmap_heard node ask = record (under_tag ask.tag None (first_load ask.at ask.index)) {
-  mapped = unmapped_to node.mapped ask.keeps (page_at node.site ask.at (byte_place ask.index 0));
-}
+abbrev pub unmap_input : UnmapAsk → Option Input
+unmap_input ask = if is_empty ask.runs then Some (first_load ask.at ask.index) else None
 
 abbrev pub unmapped_here : Node → UnmapAsk → Option Heard
 unmapped_here node ask =
-    if (ask.site == node.me) && is_empty ask.runs then (if is_late node 0 then None else Some (unmap_heard node ask)) else None
+    if (ask.site == node.me)
+    then (if is_late node 0 then None
+    else option_map (asked_under ask.tag None (unmapped_to node.mapped ask.keeps (page_at node.site ask.at (byte_place ask.index 0)))) (unmap_input ask))
+    else None
 
 -- a block that is to be stored hands over nothing yet
 abbrev pub heard : Node → stream.Line → Option Heard

@@ -138,12 +138,15 @@ impl<A: Allocator + Copy> Node<A> {
         ensures proper { IfOk result (λ heard. IfSome heard (λ h. is_foreign self.now.sites self.now.me (input_of h.input) ≡ false)) }
         ensures early { IfOk result (λ heard. IfSome heard (λ h. max self.now.clock h.source < greatest)) }
     {
-        if unmap.site != self.me || !unmap.runs.is_empty() || self.is_late(0) {
+        if unmap.site != self.me || self.is_late(0) {
             return Ok(None);
         }
+        let Some(input) = input_unmapped(unmap) else {
+            return Ok(None);
+        };
         let mapped = self.unmapped_to(unmap.at, unmap.index, unmap.keeps)?;
         Ok(Some(Heard {
-            input: first_load(unmap.at, unmap.index),
+            input,
             source: 0,
             tag: Some(unmap.tag),
             waits: None,
@@ -206,6 +209,17 @@ pub fn input_asked<A: Allocator + Copy>(question: Question) -> Option<Input<A>>
         Question::Mappings => None,
         Question::Map { at, index, .. } => Some(first_load(at, index)),
     }
+}
+
+/// The input with which a page is given up: a load of its first byte, once no bytes are brought any more.
+pub fn input_unmapped<A: Allocator + Copy>(unmap: &UnmapAsk<A>) -> Option<Input<A>>
+    ensures input { option_map input_of result ≡ spec.unmap_input (unmap_in unmap.now) }
+    ensures proper { (sites me : ℕ) → IfSome result (λ input. is_foreign sites me (input_of input) ≡ false) }
+{
+    if !unmap.runs.is_empty() {
+        return None;
+    }
+    Some(first_load(unmap.at, unmap.index))
 }
 
 /// A load of the page's first byte.

@@ -41,7 +41,7 @@ mod waiting_ask;
 pub use desk::Desk;
 pub use health::Health;
 pub use hello_line::{Hello, parse_hello};
-pub use interpret_line::input_asked;
+pub use interpret_line::{input_asked, input_unmapped};
 pub use node::Node;
 pub use process_counts::{Counts, Start};
 pub use retried_step::Again;
