@@ -136,13 +136,13 @@ fn a_waiting_map<'a>(page: &'a str, mapped: &'a str) -> [Exchange<'a>; 6] {
             site: 1,
             lines: "ask 1 m map 0 0 read\n",
             output: "env 1 0 1 0 0 ask 0 0 1 read\n",
-            records: Records::All(b"step 1 ask 1 m map 0 0 read\n"),
+            records: Records::All(b"step 1 ask 1 m try-load 0 0\n"),
         },
         Exchange {
             site: 1,
             lines: "ask 1 a show 0 0\nask 1 n map 7 0 write\n",
             output: "tell 1 a page Nil/0\ntell 1 n refused 9\n",
-            records: Records::All(b"step 2 ask 1 n map 7 0 write\n"),
+            records: Records::All(b"step 2 ask 1 n try-store 7 0 0\n"),
         },
         Exchange {
             site: 0,
