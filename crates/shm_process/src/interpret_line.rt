@@ -21,7 +21,7 @@ use crate::mapping_list::{lowered, remapped};
 use crate::node::Node;
 use shm_model::{Asked, Kind};
 use shm_site::Input;
-use shm_wire::{Ask, Line, Mapping, Question, Sent, Tag, UnmapAsk};
+use shm_wire::{Ask, Line, Mapping, Question, Sent, UnmapAsk};
 use std::alloc::{AllocError, Allocator};
 
 /// The most by which an envelope's clock may be above its receiver's. So one line raises the clock no further, and bringing it to its end
@@ -161,7 +161,7 @@ impl<A: Allocator + Copy> Node<A> {
         index: u32,
         keeps: Option<Kind>,
     ) -> Result<Option<Vec<Mapping, A>>, AllocError>
-        ensures { IfOk result (λ mapped. option_map (λ m. m.items) mapped
+        ensures { IfOk result (λ left. option_map (λ m. m.items) left
             ≡ remaps.unmapped_to (node_of self.now).mapped keeps (page_at (node_of self.now).site at (mapped.byte_place index 0))) }
     {
         let Some(page) = self.site.reached(at, byte_place(index, 0)) else {

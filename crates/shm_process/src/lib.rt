@@ -2,6 +2,9 @@
 //!
 //! All sites and callers share one stream. A line for another site, or that is no line of the stream (`shm_wire`), is passed over. A load
 //! or a store waits for its right, and is made again when it may be there. A block is loaded or stored byte by byte.
+//!
+//! The site's machine may map pages. While a page is mapped, a line that would take its right away, or pass its memory by, is kept back, and the
+//! machine is asked to give the page up.
 #![tactic(auto)]
 
 mod answer_lines;
