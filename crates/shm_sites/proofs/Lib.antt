@@ -1,2 +1,4 @@
 pub mod Carried
 pub mod Posts
+pub mod HandedOn
+pub mod Turning

@@ -5,3 +5,6 @@ pub mod Carried
 pub mod Client
 pub mod Posts
 pub mod Sites
+pub mod HandedOn
+pub mod Heard
+pub mod Turns

@@ -1,4 +1,4 @@
-//! A client's access to the box of its site.
+//! A client's access to the box of its site, and what is handed on of it.
 ghost use Rattle.std.specs.Prelude.{◌≡◌, length, IfErr, IfOk, OnErr, OnOk};
 ghost use Rattle.shm_model.specs.Receipt.{access_of};
 ghost use Rattle.shm_logs.specs.Boxes.Box.{after, receipt};
@@ -7,14 +7,17 @@ ghost use Rattle.shm_logs.specs.Boxes.Receipt.{receipt_of};
 ghost use Rattle.shm_logs.specs.Boxes.SiteBox.{box_of};
 ghost use Rattle.shm_sites.specs.Cluster.Client.{TellsOf};
 ghost use Rattle.shm_sites.specs.Cluster.Faults.{no_access};
+ghost use Rattle.shm_sites.specs.Cluster.HandedOn.{GrowsBy, to_their_sites};
 ghost use Rattle.shm_sites.specs.Cluster.Posted.{all_sent, sent_at};
 
 use crate::cluster::client_error::ClientFault;
 use crate::cluster::copy_sent_envelopes::copies_of;
+use crate::cluster::hand_on::{Channels, hand_on};
 use crate::cluster::posted_envelope::Posted;
 use shm_logs::{Asked, BoxFault, Input, Receipt, SiteBox, Stamp};
 use shm_place::SiteId;
 use std::alloc::{AllocError, Allocator, Global};
+use std::sync::Wait;
 
 /// The outcome of a client's access.
 #[derive(Drop)]
@@ -51,5 +54,25 @@ pub(crate) fn access<A: Allocator + Copy>(
         Err(BoxFault::OutOfMemory) => Err(ClientFault::OutOfMemory),
         // An access is no envelope.
         Err(BoxFault::Foreign) => unreachable!(),
+    }
+}
+
+/// Hands on all that the access sent; nothing, where there was no memory for the copies.
+pub(crate) fn hand_on_access<R: Wait, A: Allocator + Copy, C: Channels<A>>(
+    rt: &R,
+    channels: &mut C,
+    done: Accessed<A>,
+) -> Receipt
+    ensures told { result ≡ done.receipt }
+    ensures handed { IfOk done.posted (λ posted. GrowsBy (C.handed channels.old) (C.handed channels.new) (to_their_sites (all_sent posted.items))) }
+    ensures refused { OnErr done.posted (channels.new ≡ channels.old) }
+{
+    let Accessed { receipt, posted } = done;
+    match posted {
+        Ok(posted) => {
+            hand_on(rt, channels, posted);
+            receipt
+        }
+        Err(_) => receipt,
     }
 }

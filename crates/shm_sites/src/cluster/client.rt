@@ -3,10 +3,14 @@ ghost use Rattle.std.specs.Prelude.{◌≡◌, IfOk};
 ghost use Rattle.shm_model.specs.Message.{Load, Store};
 ghost use Rattle.shm_model.specs.Receipt.{access_of};
 ghost use Rattle.shm_sites.specs.Cluster.Client.{waits as is_waiting, IsServed, TellsOf};
+ghost use Rattle.shm_sites.specs.Cluster.Heard.{no_source};
+ghost use Rattle.shm_sites.specs.Cluster.Posted.{all_sent};
+ghost use Rattle.shm_sites.specs.Cluster.Turns.{IsSentOf};
 
-use crate::cluster::box_access::{Accessed, access};
+use crate::cluster::box_access::{Accessed, access, hand_on_access};
 use crate::cluster::client_error::ClientFault;
 use crate::cluster::shared_state::{Post, Shared};
+use crate::cluster::site_channels::SiteChannels;
 use shm_logs::{Asked, Receipt};
 use shm_model::Answer;
 use shm_place::SiteId;
@@ -141,16 +145,18 @@ impl<'a, A: Allocator + Copy> Client<'a, A> {
     fn step<R: Wait>(&self, rt: &R, asked: Asked) -> Result<Receipt, ClientFault>
         ensures { IfOk result (TellsOf self.now.post.now.number (access_of asked)) }
     {
-        let Accessed { receipt, posted } = self.access(rt, asked)?;
-        if let Ok(posted) = posted {
-            self.shared.send_all(rt, posted);
-        }
-        Ok(receipt)
+        let done = self.access(rt, asked)?;
+        let mut channels = SiteChannels {
+            shared: self.shared,
+        };
+        Ok(hand_on_access(rt, &mut channels, done))
     }
 
     /// Makes one step under the site's lock, and releases the lock before it sends anything.
     fn access<R: Wait>(&self, rt: &R, asked: Asked) -> Result<Accessed<A>, ClientFault>
-        ensures { IfOk result (λ done. TellsOf self.now.post.now.number (access_of asked) done.receipt) }
+        ensures tells { IfOk result (λ done. TellsOf self.now.post.now.number (access_of asked) done.receipt) }
+        ensures sent { IfOk result (λ done. IfOk done.posted (λ posted. IsSentOf self.now.post.now.number
+            (record { input = access_of asked; source = no_source }) (all_sent posted.items))) }
     {
         let mut held = self.post.site.lock(rt);
         access(&mut held, self.shared.alloc, self.post.number, asked)

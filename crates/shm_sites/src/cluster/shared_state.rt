@@ -5,7 +5,6 @@ ghost use Rattle.shm_sites.specs.Cluster.Posts.{AtTheirNumbers};
 
 use crate::cluster::channel_message::Mail;
 use crate::cluster::client::Client;
-use crate::cluster::posted_envelope::Posted;
 use crossbeam_channel::Sender;
 use shm_logs::SiteBox;
 use shm_place::{NoSuchSite, SiteId};
@@ -49,21 +48,6 @@ impl<A: Allocator + Copy> Shared<A> {
         ensures number { IfSome result (λ post. post.now.number ≡ site) }
     {
         self.posts.get(site.0 as usize)
-    }
-
-    /// Puts each envelope into the channel of the site that it is for.
-    pub(crate) fn send_all<R: Wait>(&self, rt: &R, all: Vec<Posted<A>, A>) {
-        'envelopes: for posted in all {
-            self.send(rt, posted);
-        }
-    }
-
-    /// An envelope for no site, or for which there is no memory, is lost.
-    fn send<R: Wait>(&self, rt: &R, posted: Posted<A>) {
-        let Some(post) = self.post_of(posted.to()) else {
-            return;
-        };
-        let _ = post.mail.send(rt, Mail::Envelope(posted));
     }
 
     /// Puts a tick into each site's channel, and waits for none of them. It fails where a channel had no memory; the other sites have

@@ -2,11 +2,15 @@
 //!
 //! Whoever holds a cluster gives it to `stop` by name.
 use crate::{Cluster, OpenGate};
-use shm_model::Answer;
-use shm_place::{SiteId, Sites};
+use shm_logs::Envelope;
+use shm_model::{Answer, Kind};
+use shm_parts::{BookNote, Message, Note};
+use shm_place::{PageId, SegId, SiteId, Sites};
+use std::alloc::Allocator;
 use std::sync::Wait;
 use std::test::Fail;
 
+mod hand_on;
 mod out_of_memory;
 
 /// An offset in page 1, which site 1 manages.
@@ -41,4 +45,22 @@ fn passed_on<R: Wait>(rt: &R, cluster: &Cluster) -> Result<[Answer; 3], Fail> {
     let loaded = last.load(rt, 0, THERE)?.answer();
     let outside = last.load(rt, 0, 16 * THERE)?.answer();
     Ok([stored, loaded, outside])
+}
+
+/// Site 1 asks for page 0, which site 0 has.
+fn asking<A: Allocator + Copy>() -> Envelope<A> {
+    Envelope {
+        from: SiteId(1),
+        to: SiteId(0),
+        message: Message::Of {
+            page: PageId {
+                seg: SegId(0),
+                index: 0,
+            },
+            note: Note::ToBook(BookNote::Ask {
+                request: 1,
+                kind: Kind::Read,
+            }),
+        },
+    }
 }

@@ -1,12 +1,11 @@
 //! Steps of a site's thread for which memory is refused.
 use super::{HEAP, HOLES, PAGES, fill_heap_but};
 use crate::cluster::site_thread::give_input;
+use crate::cluster::tests::asking;
 use linked_list_allocator::LocalHeap;
-use shm_logs::{Envelope, Input, SiteBox, Stamp};
-use shm_model::Kind;
-use shm_parts::{BookNote, Message, Note};
-use shm_place::{PageId, SegId, SiteId, Sites};
-use std::alloc::{AllocError, Allocator, Global};
+use shm_logs::{Input, SiteBox, Stamp};
+use shm_place::{SiteId, Sites};
+use std::alloc::{AllocError, Global};
 use std::test::Fail;
 
 /// What a site that is handed an envelope comes to: how many steps its log has, and how many envelopes are to be sent.
@@ -47,25 +46,8 @@ fn takes<'a>(
     bytes: usize,
 ) -> Result<Outcome, AllocError> {
     let blocks = fill_heap_but(alloc, heap, bytes)?;
-    let posted = give_input(site, heap, asking(), Stamp::NONE);
+    let posted = give_input(site, heap, SiteId(0), Input::Deliver(asking()), Stamp::NONE);
     drop(blocks);
     let sent = posted.map_or(0, |posted| posted.len());
     Ok((site.log().len(), sent))
-}
-
-fn asking<A: Allocator + Copy>() -> Input<A> {
-    Input::Deliver(Envelope {
-        from: SiteId(1),
-        to: SiteId(0),
-        message: Message::Of {
-            page: PageId {
-                seg: SegId(0),
-                index: 0,
-            },
-            note: Note::ToBook(BookNote::Ask {
-                request: 1,
-                kind: Kind::Read,
-            }),
-        },
-    })
 }
