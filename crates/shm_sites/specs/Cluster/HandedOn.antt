@@ -1,5 +1,5 @@
 -- Envelopes that are handed to the channels of sites.
-use Rattle.std.specs.Prelude.{⊤, ◌≡◌, ℕ, Bool, true, false, List, ◌++◌, map, Option, Some, None}
+use Rattle.std.specs.Prelude.{⊤, ◌≡◌, ℕ, Bool, true, false, List, ◌++◌, map, Option, Some, None, option_map}
 use Rattle.shm_sites.specs.Cluster.Posted.{Sent, sent_of}
 use Rattle.shm_sites.specs.declared.cluster.posted_envelope.Posted.{Posted}
 
@@ -21,9 +21,12 @@ GrowsBy old None more = ⊤
 GrowsBy None (Some now) more = ⊥
 GrowsBy (Some before) (Some now) more = now ≡ before ++ more
 
--- of a list that keeps what was handed on, each with the site
+-- what was handed on, and to which site
 abbrev pub handed_of : {A : Type 0} → ℕ × Posted A → Handed
 handed_of handed = record { site = handed.0; sent = sent_of handed.1 }
+
+abbrev pub handed_as : {A : Type 0} → Option (List (ℕ × Posted A)) → Option (List Handed)
+handed_as known = option_map (map handed_of) known
 
 -- what is known of a list, if it is whole
 abbrev pub known_if : {X : Type 0} → Bool → List X → Option (List X)

@@ -1,5 +1,5 @@
 -- What a site's thread hears.
-use Rattle.std.specs.Prelude.{Option, Some, None}
+use Rattle.std.specs.Prelude.{List, map, Option, Some, None, option_map}
 use Rattle.shm_model.specs.Log.{Stamp}
 use Rattle.shm_model.specs.Message.{Deliver, Tick}
 use Rattle.shm_model.specs.Message as model
@@ -25,6 +25,10 @@ abbrev pub heard_of : {A : Type 0} → Mail A → Option Given
 heard_of (mail.Envelope posted) = Some (record { input = Deliver (envelope_of posted.envelope); source = stamp_of posted.source })
 heard_of mail.Tick = Some (record { input = Tick; source = no_source })
 heard_of mail.Stop = None
+
+-- what all these messages are, if they are known
+abbrev pub heard_as : {A : Type 0} → Option (List (Mail A)) → Option (List (Option Given))
+heard_as known = option_map (map heard_of) known
 
 -- the same of what the site is given
 abbrev pub given_if : {A : Type 0} → Option (Input A × code.Stamp) → Option Given

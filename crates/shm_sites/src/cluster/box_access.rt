@@ -7,7 +7,7 @@ ghost use Rattle.shm_logs.specs.Boxes.Receipt.{receipt_of};
 ghost use Rattle.shm_logs.specs.Boxes.SiteBox.{box_of};
 ghost use Rattle.shm_sites.specs.Cluster.Client.{TellsOf};
 ghost use Rattle.shm_sites.specs.Cluster.Faults.{no_access};
-ghost use Rattle.shm_sites.specs.Cluster.HandedOn.{GrowsBy, to_their_sites};
+ghost use Rattle.shm_sites.specs.Cluster.HandedOn.{GrowsBy, handed_as, to_their_sites};
 ghost use Rattle.shm_sites.specs.Cluster.Posted.{all_sent, sent_at};
 
 use crate::cluster::client_error::ClientFault;
@@ -58,13 +58,13 @@ pub(crate) fn access<A: Allocator + Copy>(
 }
 
 /// Hands on all that the access sent; nothing, where there was no memory for the copies.
-pub(crate) fn hand_on_access<R: Wait, A: Allocator + Copy, C: Channels<A>>(
+pub(crate) fn hand_on_access<R: Wait, A: Allocator + Copy, C: Channels<Posted<A>>>(
     rt: &R,
     channels: &mut C,
     done: Accessed<A>,
 ) -> Receipt
     ensures told { result ≡ done.receipt }
-    ensures handed { IfOk done.posted (λ posted. GrowsBy (C.handed channels.old) (C.handed channels.new) (to_their_sites (all_sent posted.items))) }
+    ensures handed { IfOk done.posted (λ posted. GrowsBy (handed_as (C.handed channels.old)) (handed_as (C.handed channels.new)) (to_their_sites (all_sent posted.items))) }
     ensures refused { OnErr done.posted (channels.new ≡ channels.old) }
 {
     let Accessed { receipt, posted } = done;

@@ -15,16 +15,12 @@ pub(crate) struct SiteChannels<'a, A: Allocator + Copy = Global> {
     pub(crate) shared: &'a Shared<A>,
 }
 
-impl<A: Allocator + Copy> Channels<A> for SiteChannels<'_, A> {
-    ghost use Rattle.std.specs.Prelude.{[], ◌∷◌, None};
-    ghost use Rattle.shm_sites.specs.Cluster.HandedOn.{GrowsBy};
-    ghost use Rattle.shm_sites.specs.Cluster.Posted.{sent_of};
+impl<A: Allocator + Copy> Channels<Posted<A>> for SiteChannels<'_, A> {
+    ghost use Rattle.std.specs.Prelude.{None};
 
     ghost handed = { λ _. None };
 
-    fn hand<R: Wait>(&mut self, rt: &R, site: SiteId, posted: Posted<A>)
-        ensures { GrowsBy None None (record { site = site; sent = sent_of posted } ∷ []) }
-    {
+    fn hand<R: Wait>(&mut self, rt: &R, site: SiteId, posted: Posted<A>) {
         let Some(post) = self.shared.post_of(site) else {
             return;
         };
@@ -33,7 +29,7 @@ impl<A: Allocator + Copy> Channels<A> for SiteChannels<'_, A> {
 }
 
 /// What was heard at a channel isn't known either.
-impl<A: Allocator + Copy> Hears<A> for Receiver<Mail<A>, A> {
+impl<A: Allocator + Copy> Hears<Mail<A>> for Receiver<Mail<A>, A> {
     ghost use Rattle.std.specs.Prelude.{None};
 
     ghost heard = { λ _. None };

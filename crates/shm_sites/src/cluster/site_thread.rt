@@ -5,7 +5,8 @@ ghost use Rattle.shm_logs.specs.Boxes.Logged.{stamp_of};
 ghost use Rattle.shm_logs.specs.Boxes.SiteBox.{box_of};
 ghost use Rattle.shm_site.specs.Step.{input_of as input_in};
 ghost use Rattle.shm_sites.specs.Cluster.Carried.{generator_of};
-ghost use Rattle.shm_sites.specs.Cluster.Heard.{given_if, heard_of};
+ghost use Rattle.shm_sites.specs.Cluster.HandedOn.{handed_as};
+ghost use Rattle.shm_sites.specs.Cluster.Heard.{given_if, heard_as, heard_of};
 ghost use Rattle.shm_sites.specs.Cluster.Posted.{all_sent, sent_at};
 ghost use Rattle.shm_sites.specs.Cluster.Turns.{IsMissed, IsSentOf, IsTurn, IsWork};
 
@@ -63,7 +64,13 @@ pub(crate) struct Seat<'a, G, A: Allocator + Copy = Global> {
 }
 
 /// Makes a turn of each message that it hears, until one says stop. It fails where memory was refused for what a step sent.
-pub(crate) fn listen<R: Wait, A: Allocator + Copy, G: Gate, H: Hears<A>, C: Channels<A>>(
+pub(crate) fn listen<
+    R: Wait,
+    A: Allocator + Copy,
+    G: Gate,
+    H: Hears<Mail<A>>,
+    C: Channels<Posted<A>>,
+>(
     rt: &R,
     seat: &Seat<'_, G, A>,
     mail: &mut H,
@@ -71,7 +78,7 @@ pub(crate) fn listen<R: Wait, A: Allocator + Copy, G: Gate, H: Hears<A>, C: Chan
     seed: u64,
 ) -> Result<(), AllocError>
     ensures { IsWork seat.now.post.now.number (is_err result) (generator_of seed seat.now.post.now.number)
-        (H.heard mail.old) (H.heard mail.new) (C.handed channels.old) (C.handed channels.new) }
+        (heard_as (H.heard mail.old)) (heard_as (H.heard mail.new)) (handed_as (C.handed channels.old)) (handed_as (C.handed channels.new)) }
 {
     let mut draws = draws_of(seed, seat.post.number);
     let mut missed = false;
@@ -97,7 +104,7 @@ fn given<A: Allocator + Copy>(mail: Mail<A>) -> Option<(Input<A>, Stamp)>
 
 /// One step of the site, and what it sent goes on by the numbers that are drawn for it. It fails where memory was refused for what the
 /// step sent; then nothing of that goes on.
-fn turn<R: Wait, A: Allocator + Copy, G: Gate, C: Channels<A>>(
+fn turn<R: Wait, A: Allocator + Copy, G: Gate, C: Channels<Posted<A>>>(
     rt: &R,
     seat: &Seat<'_, G, A>,
     input: Input<A>,
@@ -106,8 +113,8 @@ fn turn<R: Wait, A: Allocator + Copy, G: Gate, C: Channels<A>>(
     channels: &mut C,
 ) -> Result<(), AllocError>
     ensures made { OnOk result (IsTurn seat.now.post.now.number (record { input = input_in input; source = stamp_of source })
-        draws.old draws.new (C.handed channels.old) (C.handed channels.new)) }
-    ensures missed { OnErr result (IsMissed draws.old draws.new (C.handed channels.old) (C.handed channels.new)) }
+        draws.old draws.new (handed_as (C.handed channels.old)) (handed_as (C.handed channels.new))) }
+    ensures missed { OnErr result (IsMissed draws.old draws.new (handed_as (C.handed channels.old)) (handed_as (C.handed channels.new))) }
 {
     match step(rt, seat, input, source) {
         Ok(posted) => hand_on_by_draws(rt, seat.alloc, posted, draws, channels),

@@ -19,11 +19,10 @@ struct Listed {
     whole: bool,
 }
 
-impl Channels<Global> for Listed {
-    ghost use Rattle.std.specs.Prelude.{map};
-    ghost use Rattle.shm_sites.specs.Cluster.HandedOn.{handed_of, known_if};
+impl Channels<Posted> for Listed {
+    ghost use Rattle.shm_sites.specs.Cluster.HandedOn.{known_if};
 
-    ghost handed = { λ listed. known_if listed.whole (map handed_of listed.handed.items) };
+    ghost handed = { λ listed. known_if listed.whole listed.handed.items };
 
     #[tactic(auto, using(crate::proofs::HandedOn::listed_more, crate::proofs::HandedOn::listed_less))]
     fn hand<R: Wait>(&mut self, _rt: &R, site: SiteId, posted: Posted) {
