@@ -350,7 +350,7 @@ def try_counters(options, folder):
         killer.start()
     for process in processes:
         lines = process.communicate(timeout=COUNTER_SECONDS)[1].decode().splitlines()
-        told = [line for line in lines if not line.startswith('shmdbg: journal: ')]
+        told = [line for line in lines if not line.startswith(('shmdbg: journal: ', 'shmdbg: health '))]
         ended.set()
         expect(told == [f'counter {3 * TIMES}'] and process.returncode == 0, f'three times {TIMES} is: {told}')
     stream.stop()

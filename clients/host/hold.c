@@ -2,8 +2,8 @@
 
    While a page is mapped, processors load and store it without a step of the site. What keeps this coherent is one rule: an envelope whose
    step would leave the site with less than the mapped right waits until the page is unmapped that far. A carrier may be late, so nothing of
-   the protocol changes. It is `verdict_on` of crates/shm_mapping/src/verdict.rt, of which it is proved that what is mapped is kept; try/hold.c
-   compares the two.
+   the protocol changes. It is `verdict_on` of crates/shm_mapping/src/envelope_verdict.rt, of which it is proved that what is mapped is kept;
+   try/hold.c compares the two.
 
    A page mapped to read may be its owner's: a clear is then ignored, and unmapping costs a fault there, and nothing else. A page that comes
    over a mapped one has the same bytes: those that may be read, or installed, are those stored last. */

@@ -4,7 +4,8 @@
    `try-store`, which then can't be made, asks for it; `read` gives bytes that no envelope brought; and `write` stores those that changed.
 
    A site that is killed is started again from its journal. What it was told and hadn't made durable is said again: calls, where that does no
-   harm, and the stores that had no answer, before any envelope may pass. */
+   harm, and stores that had no answer, before any envelope may pass. A store was made where the site has the right no more: an envelope that
+   takes it is passed behind the store. Said again it would ask for the right, and bring old bytes. */
 #include "host.h"
 
 #include <signal.h>
@@ -15,7 +16,8 @@ enum { LINE = 5700, NO_ATTACHMENT = 64 };
 
 static struct channel to_site = {.descriptor = -1}, from_site = {.descriptor = -1};
 static struct channel stores; /* the lines of those whose answers aren't here: so many, from `answered` on */
-static size_t answered, unanswered, said_again;
+static size_t answered, unanswered;
+static size_t looked_at, unseen, said_again; /* while the site recovers: those from there on, so many, may have been made; then all are said */
 static pid_t process;
 static struct call *calls;
 static uint64_t calls_made, asks;
@@ -88,11 +90,15 @@ bool decode(const char *text, uint8_t bytes[PAGE]) {
 
 /* Stores. */
 
+/* While the site recovers it is said with those before it. */
 void store_run(const struct page *page, size_t start, size_t end) {
-    char text[(PAGE + 2) / 3 * 4 + 1];
+    char text[(PAGE + 2) / 3 * 4 + 1], line[LINE];
     encode(page->segment->bytes + page->offset + start, end - start, text);
-    push_line(&stores, say("s write %d %zu %s", page->segment->writing, page->offset + start, text));
+    snprintf(line, sizeof line, "ask %d s.%d.%zu write %d %zu %s", options.me, page->segment->id, page->offset / PAGE, page->segment->writing,
+             page->offset + start, text);
+    push_line(&stores, line);
     unanswered++;
+    if (!site_recovers()) push_sealed(&to_site, line);
 }
 
 static char *line_behind(char *line) {
@@ -117,8 +123,35 @@ static void say_stores_again(void) {
     }
 }
 
+/* Asks what the site has of the page of each store. */
+static void look_at_stores(void) {
+    looked_at = answered;
+    unseen = unanswered;
+    said_again = 0;
+    for (char *line = stores.bytes + answered; line < stores.bytes + stores.length; line = line_behind(line)) {
+        int id = 0;
+        size_t index = 0;
+        sscanf(line, "ask %*d s.%d.%zu", &id, &index);
+        say("w show %d %zu", id, index);
+    }
+}
+
+/* What the site has of the page of the next one. */
+static void store_shown(const char *text) {
+    if (unseen == 0) return;
+    char *line = stores.bytes + looked_at, *behind = line_behind(line);
+    if (strncmp(text, "page OwnWrite/", 14) == 0) {
+        looked_at += (size_t)(behind - line);
+    } else {
+        stores.length -= (size_t)(behind - line);
+        memmove(line, behind, stores.length - looked_at);
+        unanswered--;
+    }
+    if (--unseen == 0) say_stores_again();
+}
+
 bool site_recovers(void) {
-    return said_again > 0;
+    return unseen > 0 || said_again > 0;
 }
 
 /* Segment calls. */
@@ -216,6 +249,7 @@ static void take_answer(char *line) {
     switch (*++tag) {
     case 'p': page_answered(tag, text); break;
     case 's': store_answered(text); break;
+    case 'w': store_shown(text); break;
     case 'c': call_answered(tag, text); break;
     case 'q': probe_answered(text); break;
     case 't': ticking = false; break;
@@ -257,10 +291,10 @@ static void start_again(void) {
     to_site.length = from_site.length = 0;
     if (WIFEXITED(status)) FAIL("the site's process has ended, status %d", WEXITSTATUS(status));
     if (options.journal == NULL) FAIL("the site's process was killed, and has no journal: stop all hosts, and begin anew");
-    complain("the site's process was killed: it goes on from its journal, and %zu stores are said again", unanswered);
+    complain("the site's process was killed: it goes on from its journal; %zu stores have no answer", unanswered);
     if (is_begun()) options.begins = false;
     site_start();
-    say_stores_again();
+    look_at_stores();
     each_page(page_begins_again);
     if (calls != NULL) calls->doubtful = calls->said;
     ticking = false;

@@ -123,6 +123,11 @@ def kill_sites(cluster, ended, seed):
             cluster.kills += 1
 
 
+def odd_lines(complaints):
+    """What is said beside deaths of sites, and how they go on."""
+    return [line for line in complaints.splitlines() if 'was killed' not in line and not line.startswith('shmdbg: journal: steps taken again: ')]
+
+
 @contextlib.contextmanager
 def rough_cluster(options, seed):
     """Three hosts, a carrier that loses, repeats and delays, and sites that are killed and go on from their journals."""
@@ -136,7 +141,7 @@ def rough_cluster(options, seed):
         ended.set()
         killer.join()
         complaints = cluster.stop()
-    odd = [line for line in complaints.splitlines() if 'was killed' not in line and not line.startswith('shmdbg: journal: steps taken again: ')]
+    odd = odd_lines(complaints)
     expect(not odd, '\n'.join(odd))
 
 
@@ -150,6 +155,19 @@ def try_kills(options):
         yield try_litmus(cluster, 'sb', times // 5)
         yield try_litmus(cluster, 'iriw', times // 5)
     yield f'{cluster.kills} sites killed; {cluster.audit()}'
+
+
+def try_untold(options):
+    """Sites that are killed when they have made durable that they gave a page away, and nobody was told yet."""
+    os.environ['SHMDBG'] = options.program
+    cluster = Cluster(options, 3, journals=True, program=os.path.join(HERE, 'try', 'untold.py'))
+    try:
+        told = [try_counts(cluster, options.times // 5), try_words(cluster, options.times // 5)]
+    finally:
+        complaints = cluster.stop()
+    odd, kills = odd_lines(complaints), complaints.count('was killed')
+    expect(not odd and kills > 0, f'{kills} kills, {odd}')
+    yield f'{", ".join(told)}; {kills} sites killed before they told; {cluster.audit()}'
 
 
 def try_repeats(options):
@@ -385,8 +403,8 @@ def try_rule(options):
 
 
 TRIES = {'rule': try_rule, 'smooth': try_smooth, 'carriers': try_carriers, 'postgres': try_database, 'nobody': try_nobody, 'checked': try_checked,
-         'many': try_many, 'refusals': try_refusals, 'death': try_daemon_death, 'kills': try_kills, 'seals': try_seals,
-         'repeats': try_repeats, 'broken': try_broken}
+         'many': try_many, 'refusals': try_refusals, 'death': try_daemon_death, 'kills': try_kills, 'untold': try_untold,
+         'seals': try_seals, 'repeats': try_repeats, 'broken': try_broken}
 
 
 def run_tries(options):

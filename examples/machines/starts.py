@@ -15,6 +15,7 @@ import stat
 import subprocess
 import sys
 import tempfile
+import time
 
 HERE = os.path.dirname(os.path.abspath(__file__))
 HEADER = b'journal 2 0 1\n'
@@ -29,6 +30,12 @@ NO_FILE = 'journal: it is no plain file'
 NO_NAME = 'cluster: a name has 1 to 32 bytes of printable ASCII, and no blank'
 FAILED = 'journal: write fault'
 TOOK = re.compile(rb', in \d+ ms$', re.M)
+GREETING = b'env 0 1 0 0 0 hello 2 1\n'
+GREETINGS = re.compile(rb'\A(env \d+ \d+ 0 0 0 hello \d+ \d+( @\w+)?\n)+')
+HEALTH = re.compile(rb'^shmdbg: health steps \d+ .*\n', re.M)
+COUNTS = (b'shmdbg: health steps 1 clock 1 taken 1 passed 0 waiting 0 received 0 sent 0 journal %d since %d '
+          b'other-cluster 0 no-digest 0 wrong-digest 0\n')
+DISAGREES = b'shmdbg: site 1 was begun with --sites %d --preset %d, this one with --sites 2 --preset 1\n'
 AGAIN = 'journal: steps taken again: 0, clock: 0, torn bytes cut off: 0'
 tried = [0]
 
@@ -39,11 +46,12 @@ def words(program, journal, new=False, sites=2, me=0, preset=1):
 
 
 def start(name, command, status, fault, told=b'', **options):
-    """Runs the site until its input ends, and compares what it came to."""
+    """Runs the site until its input ends, and compares what it came to, but for what each site says: a greeting first, and its counts last."""
     done = subprocess.run(command, input=options.pop('given', STORE), stdout=subprocess.PIPE, stderr=subprocess.PIPE, timeout=60, check=False,
                           **options)
     errors = f'shmdbg: {fault}\n'.encode() if fault else b''
-    if (done.returncode, done.stdout, TOOK.sub(b'', done.stderr)) != (status, told, errors):
+    said = HEALTH.sub(b'', TOOK.sub(b'', done.stderr))
+    if (done.returncode, GREETINGS.sub(b'', done.stdout, 1), said) != (status, told, errors):
         sys.exit(f'{name}: status {done.returncode}, told {done.stdout}, on standard error {done.stderr}')
     tried[0] += 1
 
@@ -103,6 +111,37 @@ def try_files(program, folder):
         stays('a journal that a crash left', journal, STORED)
 
 
+def hear(program, said, given, **options):
+    """What a site of two, with one page, tells where another says how it was begun, and what it says of that."""
+    done = subprocess.run([program, 'site', '--sites', '2', '--me', '0', '--preset', '1'], input=given, stdout=subprocess.PIPE,
+                          stderr=subprocess.PIPE, timeout=60, check=True, **options)
+    if done.stderr != said:
+        sys.exit(f'another opening: on standard error {done.stderr}')
+    tried[0] += 1
+    return done.stdout
+
+
+def try_openings(program, folder):
+    """Other `--sites` or `--preset` at one site: both tell it, once."""
+    del folder
+    same = hear(program, b'', b'env 1 0 0 0 0 hello 2 1\n' + STORE)
+    sites = hear(program, DISAGREES % (3, 1), b'env 1 0 0 0 0 hello 3 1\nenv 1 0 0 0 0 hello 3 1\n' + STORE)
+    pages = hear(program, DISAGREES % (2, 4), b'env 1 0 0 0 0 hello 2 4\n' + STORE)
+    if same != GREETING + TOLD or sites != 2 * GREETING + TOLD or pages != sites:
+        sys.exit(f'another opening: told {same}, {sites}, {pages}')
+
+
+def try_health(program, folder):
+    """What a site with a journal has counted, on standard error when it ends; and when it was started."""
+    before = int(time.time())
+    done = subprocess.run(words(program, os.path.join(folder, 'counted'), new=True), input=STORE, capture_output=True, timeout=60, check=True)
+    since = re.search(rb' since (\d+) ', done.stderr)
+    counts = COUNTS % (len(STORED), int(since[1]) if since else 0)
+    if done.stderr != counts or not before <= int(since[1]) <= time.time():
+        sys.exit(f'counts at the end: on standard error {done.stderr}, not {counts}')
+    tried[0] += 1
+
+
 def try_no_files(program, folder):
     fifo = os.path.join(folder, 'fifo')
     os.mkfifo(fifo)
@@ -118,7 +157,7 @@ def try_two(program, folder):
     first = subprocess.Popen(words(program, journal, new=True), stdin=subprocess.PIPE, stdout=subprocess.PIPE)
     first.stdin.write(STORE)
     first.stdin.flush()
-    if first.stdout.readline() != TOLD:
+    if first.stdout.readline() != GREETING or first.stdout.readline() != TOLD:
         sys.exit('two processes: the first tells nothing')
     start('two processes', words(program, journal), 3, 'journal: another process has it')
     first.communicate()
@@ -243,7 +282,7 @@ def try_calls(program, folder):
 def main():
     program = os.path.abspath(sys.argv[1] if len(sys.argv) > 1 else os.path.join(HERE, '..', '..', 'crates', 'shmdbg', 'out', 'shmdbg'))
     with tempfile.TemporaryDirectory() as folder:
-        for trial in (try_files, try_no_files, try_two, try_closed, try_full, try_streams, try_audits, try_saves, try_calls):
+        for trial in (try_files, try_openings, try_health, try_no_files, try_two, try_closed, try_full, try_streams, try_audits, try_saves, try_calls):
             trial(program, folder)
     print(f'starts: {tried[0]}, each told as it has to be')
 

@@ -38,10 +38,11 @@ def answer_of(process):
 
 class Cluster:
     """So many hosts. `words` are the daemons' own; `before` stands before their command; `rough` says how much the carrier loses, repeats
-    and delays. Without `hub` nothing is started: `begin` does it, with carriers that the daemons start."""
+    and delays. Without `hub` nothing is started: `begin` does it, with carriers that the daemons start. `program` is the sites'."""
 
-    def __init__(self, options, hosts, rough=('0', '0', '0'), journals=False, words=(), before=(), seed=1, hub=True):
+    def __init__(self, options, hosts, rough=('0', '0', '0'), journals=False, words=(), before=(), seed=1, hub=True, program=None):
         self.options, self.hosts = options, hosts
+        self.program = program or options.program
         self.words, self.before = words, before
         self.folder = tempfile.mkdtemp(prefix='cluster-', dir=options.build)
         os.chmod(self.folder, 0o1777)
@@ -70,7 +71,7 @@ class Cluster:
 
     def command(self, me):
         command = [*self.before, os.path.join(self.options.build, 'leddwyfan-host'), '--sites', str(self.hosts), '--me', str(me)]
-        command += ['--socket', self.socket(me), '--program', self.options.program, *self.words]
+        command += ['--socket', self.socket(me), '--program', self.program, *self.words]
         return command + self.journal_words(me)
 
     def journal_words(self, me):
@@ -134,9 +135,9 @@ class Cluster:
             daemon.wait(60)
         self.carrier.terminate()
         self.carrier.wait()
-        complaints = self.complaints()
+        complaints = [line for line in self.complaints().splitlines(True) if not line.startswith('shmdbg: health ')]
         self.log.close()
-        return complaints
+        return ''.join(complaints)
 
     def audit(self):
         words = [self.options.program, 'audit', '--sites', str(self.hosts), *self.journals]

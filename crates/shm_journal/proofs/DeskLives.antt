@@ -1,7 +1,8 @@
 -- What a desk takes of bytes: lines without a line feed, none of them too long; and the entries of all that its node did are recorded.
 use Rattle.std.proofs.Common.{◌≡◌, ◌≤◌, ℕ, zero, suc, ◌==◌, Bool, true, false, List, [], ◌∷◌, ◌++◌, cond, length, nat_lt, take, refl, ap, subst, sym, ◌∙◌, append-nil, arith}
 use Rattle.std.specs.List.{All}
-use Rattle.std.specs.Prelude.{Some, None, Result, Ok, Err, is_some}
+use Rattle.std.specs.Option.{option_map_or}
+use Rattle.std.specs.Prelude.{Option, Some, None, Result, Ok, Err, is_some}
 use Rattle.std.proofs.lemmas.Bool.Decides.{nat_tests}
 use Rattle.std.proofs.lemmas.List.{append_assoc, length-append}
 use Rattle.std.proofs.Math.Seq.{take-append_seam}
@@ -11,12 +12,18 @@ use Rattle.shm_seal.specs.Seal.{Seal, opened, sealed, tail_of}
 use Rattle.shm_seal.specs.declared.open_line_error.Unsealed.{Unsealed}
 use Rattle.shm_wire.specs.Line.{read_line}
 use Rattle.shm_process.proofs.DeskEvents.{after-both, entries-both, text-both}
-use Rattle.shm_process.specs.Desk.{Desk, after_line, after_opened, desk_at, grown, left_sealed, made_again, max_line_bytes, on_byte, on_bytes, restarted, settled, step_entry, taken}
+use Rattle.shm_process.specs.Desk.{Desk, after_line, after_opened, grown, left_sealed, made_again, max_line_bytes, noted, on_byte, on_bytes, restarted, settled, step_entry, taken, with_other}
+use Rattle.shm_process.specs.Hello.{first_other, read_hello}
 use Rattle.shm_process.specs.Node.{Node, is_late}
 use Rattle.shm_process.specs.Recorded.{Again, Event, Line, TooLong, Restarted, after_event, after_events, entries_of, entries_text, said_at}
 use Rattle.shm_process.specs.Waiting.{after_restart, most_steps, passed_over, said_again, said_restart}
+use Rattle.shm_process.specs.declared.hello_line.Hello.{Hello}
+use Rattle.shm_process.specs.declared.process_counts.Start.{Start}
+use Rattle.shm_process.specs.declared.site_opening.Disagreement.{Disagreement}
 use Rattle.shm_journal.proofs.Fits.{IsNoFeed}
 use Rattle.shm_journal.proofs.Lives.{text_of}
+use Rattle.shm_journal.specs.DeskFrom.{greeting_from}
+use Rattle.shm_journal.specs.Lines.{Header}
 use Rattle.shm_journal.specs.LinesOf.{Unended}
 use Rattle.shm_journal.specs.Lives.{IsTaken}
 
@@ -90,10 +97,23 @@ inner-taken seal line inner is unended short =
 took-left : (d : Desk) (why : Unsealed) → Took d (left_sealed d why)
 took-left d why = record { events = TooLong ∷ []; are = All-cons IsTaken TooLong [] tt (All-nil IsTaken); node = refl; recorded = sym (append-nil d.recorded) }
 
+-- a hello is noted, and nothing recorded
+took-other : (d : Desk) (o : Option Disagreement) → Took d (option_map_or (with_other d) o d)
+took-other d None = took-nothing d d refl refl
+took-other d (Some x) = took-nothing d (with_other d x) refl refl
+
+took-noted : (d : Desk) (read : Option Hello) → Took d (noted d read)
+took-noted d read = took-other d (first_other d.opening d.other read)
+
 took-opened : (d : Desk) (line : List ℕ) (inner : Result (List ℕ) Unsealed) → opened d.seal line ≡ inner → Unended line → length line ≤ max_line_bytes → Took d (after_opened d inner)
 took-opened d line (Ok inner) is unended short =
-    let next = taken d (read_line inner) in
-    took-both d next (settled most_steps next) (took-read d inner (inner-taken d.seal line inner is unended short)) (took-settled most_steps next)
+    let heard = noted d (read_hello inner) in
+    let next = taken heard (read_line inner) in
+    took-both d heard (settled most_steps next) (took-noted d (read_hello inner))
+    (
+    took-both heard next (settled most_steps next) (took-read heard inner (inner-taken d.seal line inner is unended short))
+    (took-settled most_steps next)
+    )
 took-opened d line (Err why) is unended short =
     let next = left_sealed d why in
     took-both d next (settled most_steps next) (took-left d why) (took-settled most_steps next)
@@ -151,11 +171,13 @@ restart-said : (node : Node) (late : Bool) → late ≡ false → [] ++ step_ent
 restart-said node true e = absurd (cc)
 restart-said node false e = refl
 
-pub took_restart : (seal : Seal) (node : Node) → is_late node 0 ≡ false → Took (desk_at seal node) (restarted (desk_at seal node))
+pub took_restart : (header : Header) (seal : Seal) (node : Node) (start : Start) → is_late node 0 ≡ false
+    → Took (greeting_from header seal node start) (restarted (greeting_from header seal node start))
 unfolding restarted
-took_restart seal node early =
-    took-one (desk_at seal node) (restarted (desk_at seal node)) Restarted tt (restart-node node (is_late node 0) early) (restart-said node (is_late node 0) early)
+took_restart header seal node start early =
+    let first = greeting_from header seal node start in
+    took-one first (restarted first) Restarted tt (restart-node node (is_late node 0) early) (restart-said node (is_late node 0) early)
 
-pub line_restart : (seal : Seal) (node : Node) → Unended (restarted (desk_at seal node)).line
+pub line_restart : (header : Header) (seal : Seal) (node : Node) (start : Start) → Unended (restarted (greeting_from header seal node start)).line
 unfolding restarted
-line_restart seal node = All-nil IsNoFeed
+line_restart header seal node start = All-nil IsNoFeed

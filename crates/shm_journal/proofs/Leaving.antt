@@ -9,7 +9,8 @@ use Rattle.std.proofs.lemmas.List.Elements.{All-append, All-nil, All-push, All-t
 use Rattle.std.proofs.lemmas.Slice.Eq.{bytes_eq-Decides}
 use Rattle.shm_process.proofs.DeskEvents.{after-both}
 use Rattle.shm_process.proofs.Proper as proper
-use Rattle.shm_process.specs.Desk.{Desk, cleared, desk_at, on_bytes, restarted}
+use Rattle.shm_process.specs.Desk.{Desk, cleared, on_bytes, restarted}
+use Rattle.shm_process.specs.declared.process_counts.Start.{Start}
 use Rattle.shm_process.specs.Node.{Node, is_late}
 use Rattle.shm_process.specs.Recorded.{Event, after_events, kept}
 use Rattle.shm_seal.specs.Seal.{Seal}
@@ -21,7 +22,7 @@ use Rattle.shm_journal.proofs.Leading.{alone-says, line_is_torn}
 use Rattle.shm_journal.proofs.Lives.{Cut, cut_life, finds_lives, finds_whole, text_of}
 use Rattle.shm_journal.specs.Acts.{Act, Append, IsRun, Read, Tell, keeping, publishing, run, serving, telling}
 use Rattle.shm_journal.specs.Crash.{Disk, MayLeave, after_act, after_acts, disk_of}
-use Rattle.shm_journal.specs.DeskFrom.{with_header}
+use Rattle.shm_journal.specs.DeskFrom.{greeting_from, with_header}
 use Rattle.shm_journal.specs.Found.{Bad, Lines, Sound, bytes_of_lines, found, max_journal_line, opened, own}
 use Rattle.shm_journal.specs.Lines.{Header, IsHeader, header_line}
 use Rattle.shm_journal.specs.LinesOf.{Unended}
@@ -187,9 +188,10 @@ at-serving (bytes ∷ reads) node file life desk taken same none unended =
           ),
     )
 
-at-run : (reads : List (List ℕ)) (seal : Seal) (node : Node) (file : List ℕ) (first : Desk) → Took (desk_at seal node) first → Unended first.line
+at-run : (reads : List (List ℕ)) (header : Header) (seal : Seal) (node : Node) (start : Start) (file : List ℕ) (first : Desk)
+    → Took (greeting_from header seal node start) first → Unended first.line
     → AtAll (OnDisk node file) (disk_of file) (run first reads)
-at-run reads seal node file first t unended =
+at-run reads header seal node start file first t unended =
     let whole : file ++ [] ≡ file = append-nil file in
     subst (λ f. AtAll (OnDisk node file) (disk_of f) (run first reads)) whole
     (
@@ -244,16 +246,17 @@ left-life header lives disk left is taken on may =
     }
 
 pub leaves_sound : (header : Header) (lives : List (List Event)) → IsHeader header → AreTaken lives → is_late (after_lives (opened header) lives) 0 ≡ false → LeavesSound header lives
-leaves_sound header lives is taken early seal result acts before after left ran e may =
+leaves_sound header lives is taken early seal start result acts before after left ran e may =
     let node = after_lives (opened header) lives in
     let journal = journal_text header lives in
     let P = Leaves (LeavesLife header lives) in
     at-front P before (disk_of journal) acts after e
     (
-    at-acts (LeavesLife header lives) (restarted (desk_at seal node)) (disk_of journal)
+    at-acts (LeavesLife header lives) (restarted (greeting_from header seal node start)) (disk_of journal)
     (λ reads.
-    at-weaker (OnDisk node journal) P (run (restarted (desk_at seal node)) reads) (disk_of journal) (λ disk on left may. left-life header lives disk left is taken on may)
-    (at-run reads seal node journal (restarted (desk_at seal node)) (took_restart seal node early) (line_restart seal node)))
+    at-weaker (OnDisk node journal) P (run (restarted (greeting_from header seal node start)) reads) (disk_of journal) (λ disk on left may. left-life header lives disk left is taken on may)
+    (at-run reads header seal node start journal (restarted (greeting_from header seal node start)) (took_restart header seal node start early)
+    (line_restart header seal node start)))
     result acts ran
     )
     left may
@@ -271,11 +274,12 @@ record IsBlank (header : Header) (disk : Disk) : Type 0 where
 abbrev NewDisk : Header → Disk → Type 0
 NewDisk header disk = IsBlank header disk ⊎ OnDisk (opened header) (first_line header) disk
 
-at-new : (reads : List (List ℕ)) (seal : Seal) (header : Header) → AtAll (NewDisk header) (disk_of []) (run (with_header header (desk_at seal (opened header))) reads)
-at-new reads seal header =
+at-new : (reads : List (List ℕ)) (seal : Seal) (header : Header) (start : Start)
+    → AtAll (NewDisk header) (disk_of []) (run (with_header header (greeting_from header seal (opened header) start)) reads)
+at-new reads seal header start =
     let node = opened header in
     let line = first_line header in
-    let first = with_header header (desk_at seal node) in
+    let first = with_header header (greeting_from header seal node start) in
     let whole : line ++ [] ≡ line = append-nil line in
     let all : AtAll (OnDisk node line) (disk_of line) (serving (cleared first) reads) =
     subst (λ t. AtAll (OnDisk node line) (disk_of t) (serving (cleared first) reads)) whole
@@ -352,14 +356,14 @@ left-new header disk left is (inr on) may =
     )
 
 pub leaves_new_sound : (header : Header) → IsHeader header → LeavesNewSound header
-leaves_new_sound header is seal result acts before after left ran e may =
+leaves_new_sound header is seal start result acts before after left ran e may =
     let R = LeavesNew header in
     at-front (Leaves R) before (disk_of []) acts after e
     (
-    at-acts R (with_header header (desk_at seal (opened header))) (disk_of [])
+    at-acts R (with_header header (greeting_from header seal (opened header) start)) (disk_of [])
     (λ reads.
-    at-weaker (NewDisk header) (Leaves R) (run (with_header header (desk_at seal (opened header))) reads) (disk_of []) (λ disk on left may. left-new header disk left is on may)
-    (at-new reads seal header))
+    at-weaker (NewDisk header) (Leaves R) (run (with_header header (greeting_from header seal (opened header) start)) reads) (disk_of []) (λ disk on left may. left-new header disk left is on may)
+    (at-new reads seal header start))
     result acts ran
     )
     left may

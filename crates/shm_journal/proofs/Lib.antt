@@ -6,6 +6,7 @@ pub mod Fronts
 pub mod RecoveryLemmas
 pub mod ActLemmas
 pub mod ServingLemmas
+pub mod WarningLemmas
 pub mod CrashLemmas
 pub mod SummaryLemmas
 pub mod Fits

@@ -11,6 +11,7 @@ pub mod Replaying
 pub mod Recovers
 pub mod Acts
 pub mod Publishing
+pub mod Warning
 pub mod DeskFrom
 pub mod Crash
 pub mod Summed

@@ -4,6 +4,7 @@ use Rattle.std.specs.Prelude.{⊤, ◌≡◌, ◌≤◌, ◌⊎◌, ℕ, List, [
 use Rattle.std.specs.List.{All}
 use Rattle.shm_process.specs.Desk.{max_line_bytes}
 use Rattle.shm_process.specs.Node.{Node}
+use Rattle.shm_process.specs.declared.process_counts.Start.{Start}
 use Rattle.shm_process.specs.Recorded.{Event, Line, TooLong, Again, Restarted, after_events, entries_of, entries_text, kept}
 use Rattle.shm_journal.specs.Acts.{Act, IsRun}
 use Rattle.shm_journal.specs.Crash.{MayLeave, after_acts, disk_of}
@@ -67,15 +68,15 @@ pub record LeavesFront (header : Header) (durable file : List ℕ) : Type 0 wher
 -- whatever a process does in this life, at each moment of it, and whatever a crash leaves then
 abbrev pub LeavesSound : Header → List (List Event) → Type 0
 LeavesSound header lives =
-    (seal : Seal) (result : Result (Unit {0}) ProcessFault) (acts before after : List Act) (left : List ℕ)
-    → IsRun (desk_from header seal false (after_lives (opened header) lives)) result acts → acts ≡ before ++ after
+    (seal : Seal) (start : Start) (result : Result (Unit {0}) ProcessFault) (acts before after : List Act) (left : List ℕ)
+    → IsRun (desk_from header seal false (after_lives (opened header) lives) start) result acts → acts ≡ before ++ after
     → MayLeave (after_acts (disk_of (journal_text header lives)) before) left
     → LeavesLife header lives (after_acts (disk_of (journal_text header lives)) before).durable left
 
 abbrev pub LeavesNewSound : Header → Type 0
 LeavesNewSound header =
-    (seal : Seal) (result : Result (Unit {0}) ProcessFault) (acts before after : List Act) (left : List ℕ)
-    → IsRun (desk_from header seal true (opened header)) result acts → acts ≡ before ++ after
+    (seal : Seal) (start : Start) (result : Result (Unit {0}) ProcessFault) (acts before after : List Act) (left : List ℕ)
+    → IsRun (desk_from header seal true (opened header) start) result acts → acts ≡ before ++ after
     → MayLeave (after_acts (disk_of []) before) left
     → LeavesFront header (after_acts (disk_of []) before).durable left
     ⊎ LeavesLife header [] (after_acts (disk_of []) before).durable left

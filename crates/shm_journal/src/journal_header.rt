@@ -1,4 +1,9 @@
 //! The first line of a journal.
+ghost use Rattle.std.specs.Prelude.{◌≡◌};
+ghost use Rattle.shm_journal.specs.DeskFrom.{opening_of};
+ghost use Rattle.shm_journal.specs.HeaderOf.{header_of};
+
+use shm_process::Opening;
 use shm_seal::ClusterName;
 use std::fmt;
 
@@ -13,6 +18,19 @@ pub struct Header {
     pub pages: u32,
     /// The cluster's name, if it has one.
     pub cluster: Option<ClusterName>,
+}
+
+impl Header {
+    /// How the site was begun.
+    pub fn opening(&self) -> Opening
+        ensures { result ≡ opening_of (header_of self.now) }
+    {
+        Opening {
+            site: self.me,
+            sites: self.sites,
+            pages: self.pages,
+        }
+    }
 }
 
 impl fmt::Display for Header {

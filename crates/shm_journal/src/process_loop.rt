@@ -1,14 +1,16 @@
 //! A process: it takes what comes, makes what it recorded durable, and only then writes its answers.
-ghost use Rattle.std.specs.Prelude.{◌≡◌, ◌≢◌, [], ◌∷◌, ℕ, List, Option, take, IfErr, OnErr, OnOk};
+ghost use Rattle.std.specs.Prelude.{◌≡◌, ◌≢◌, ◌||◌, [], ◌∷◌, ℕ, List, Option, Some, is_some, take, IfErr, OnErr, OnOk};
 ghost use Rattle.std.specs.Io.KnownBytes.{Appends, IsAtEnd};
 ghost use Rattle.shm_journal.specs.Acts.{Append, Did, GoesOn, Served, Tell, around, keeping, publishing, telling};
 ghost use Rattle.shm_journal.specs.Publishing.{FailsToPublish};
-ghost use Rattle.shm_process.specs.Desk.{cleared};
+ghost use Rattle.shm_journal.specs.Warning.{Warns, WarnsOnce, warned_if};
+ghost use Rattle.shm_process.specs.Desk.{cleared, disagreement_in};
 ghost use Rattle.shm_process.specs.DeskOf.{desk_of};
 
 use crate::journal_trait::{Failed, Journal};
 use crate::process_error::ProcessFault;
-use shm_process::Desk;
+use shm_process::{Desk, Disagreement};
+use shm_text::write_whole;
 use std::alloc::Allocator;
 use std::io::{Read, Write};
 
@@ -17,16 +19,21 @@ const CHUNK: usize = 8192;
 
 /// Takes lines until the input ends. First, and after each read, it appends what the desk has recorded to the journal, makes that durable,
 /// and then writes the desk's output. It doesn't take a last line without its line feed. The desk then has its counts of lines.
-pub fn serve<A: Allocator + Copy, R: Read, W: Write, J: Journal>(
+///
+/// Where another site was begun with other numbers it warns once, on `errors`. A failure to write that is passed over.
+pub fn serve<A: Allocator + Copy, R: Read, W: Write, E: Write, J: Journal>(
     desk: &mut Desk<A>,
     reader: &mut R,
     writer: &mut W,
+    errors: &mut E,
     journal: &mut J,
 ) -> Result<(), ProcessFault>
     ensures end { OnOk result (IsAtEnd (R.remaining reader.new)) }
     ensures served { Served (desk_of desk.old) (around (R.remaining reader.old) (W.contents writer.old) (J.acts journal.old))
         (around (R.remaining reader.new) (W.contents writer.new) (J.acts journal.new)) result }
+    ensures warned { WarnsOnce (E.contents errors.old) (E.contents errors.new) (desk_of desk.new) result }
 {
+    let mut warned = warn(desk, false, errors);
     match publish(desk, writer, journal) {
         Ok(()) => {}
         Err(fault) => return Err(fault),
@@ -43,6 +50,7 @@ pub fn serve<A: Allocator + Copy, R: Read, W: Write, J: Journal>(
             Ok(()) => {}
             Err(_) => return Err(ProcessFault::OutOfMemory),
         }
+        warned = warn(desk, warned, errors);
         match publish(desk, writer, journal) {
             Ok(()) => {}
             Err(fault) => return Err(fault),
@@ -50,6 +58,35 @@ pub fn serve<A: Allocator + Copy, R: Read, W: Write, J: Journal>(
     }
     // No run reads so often.
     Err(ProcessFault::ReadFault)
+}
+
+/// Warns of another opening, if the desk has noted one, unless that was done. Whether it was done then.
+fn warn<A: Allocator + Copy, E: Write>(desk: &Desk<A>, warned: bool, errors: &mut E) -> bool
+    ensures warns { Warns (E.contents errors.old) (E.contents errors.new) (warned_if warned (disagreement_in (desk_of desk.now))) }
+    ensures done { result ≡ (warned || is_some (disagreement_in (desk_of desk.now))) }
+{
+    if warned {
+        return true;
+    }
+    let Some(disagreement) = desk.disagreement() else {
+        return false;
+    };
+    write_warning(desk.allocator(), disagreement, errors);
+    true
+}
+
+/// Writes the line that warns of another opening.
+fn write_warning<A: Allocator + Copy, E: Write>(
+    alloc: A,
+    disagreement: Disagreement,
+    errors: &mut E,
+)
+    ensures { Warns (E.contents errors.old) (E.contents errors.new) (Some disagreement) }
+{
+    let Ok(line) = format!(in alloc; "shmdbg: {disagreement}\n") else {
+        return;
+    };
+    let _ = write_whole(errors, line.as_bytes());
 }
 
 /// Makes the desk's entries durable, and then writes its output.

@@ -1,7 +1,8 @@
 -- A desk line by line: bytes without a line feed are gathered, and the line feed behind them ends a line.
 use Rattle.std.proofs.Common.{◌≡◌, ℕ, zero, suc, ◌+◌, ◌-◌, ◌≤◌, ◌==◌, Bool, true, false, List, [], ◌∷◌, ◌++◌, length, take, min, cond, nat_lt, refl, ap, sym, ◌∙◌, append-nil, arith}
 use Rattle.std.specs.List.{All}
-use Rattle.std.specs.Prelude.{Result, Ok, Err, is_some}
+use Rattle.std.specs.Option.{option_map_or}
+use Rattle.std.specs.Prelude.{Option, None, Some, Result, Ok, Err, is_some}
 use Rattle.std.proofs.lemmas.Bool.Decides.{nat_tests}
 use Rattle.std.proofs.Math.Seq.{take-nil}
 use Rattle.std.proofs.lemmas.List.{append_assoc, length-append, length-take, take_all, take_min}
@@ -9,7 +10,10 @@ use Rattle.std.proofs.lemmas.List.Elements.{All-head, All-tail}
 use Rattle.shm_seal.specs.Seal.{opened}
 use Rattle.shm_seal.specs.declared.open_line_error.Unsealed.{Unsealed}
 use Rattle.shm_wire.specs.Line.{read_line}
-use Rattle.shm_process.specs.Desk.{Desk, after_line, after_opened, grown, left_sealed, made_again, max_line_bytes, on_byte, on_bytes, settled, taken}
+use Rattle.shm_process.specs.Desk.{Desk, after_line, after_opened, grown, left_sealed, made_again, max_line_bytes, noted, on_byte, on_bytes, settled, taken, with_other}
+use Rattle.shm_process.specs.Hello.{first_other, read_hello}
+use Rattle.shm_process.specs.declared.hello_line.Hello.{Hello}
+use Rattle.shm_process.specs.declared.site_opening.Disagreement.{Disagreement}
 use Rattle.shm_process.specs.Waiting.{most_steps, passed_over, said_again}
 use Rattle.shm_process.proofs.DeskLemmas.{on_bytes-append}
 
@@ -78,9 +82,19 @@ settled-line (suc n) l d =
     cond-line (is_some (said_again d.node)) l (settled n (made_again d)) (settled n (made_again (with_line l d))) d (with_line l d)
     (settled-line n l (made_again d)) refl
 
+other-line : (l : List ℕ) (d : Desk) (o : Option Disagreement)
+    → option_map_or (with_other (with_line l d)) o (with_line l d) ≡ with_line l (option_map_or (with_other d) o d)
+other-line l d None = refl
+other-line l d (Some x) = refl
+
+noted-line : (l : List ℕ) (d : Desk) (read : Option Hello) → noted (with_line l d) read ≡ with_line l (noted d read)
+noted-line l d read = other-line l d (first_other d.opening d.other read)
+
 opened-line : (l : List ℕ) (d : Desk) (inner : Result (List ℕ) Unsealed) → after_opened (with_line l d) inner ≡ with_line l (after_opened d inner)
 unfolding taken
-opened-line l d (Ok line) = settled-line most_steps l (taken d (read_line line))
+opened-line l d (Ok line) =
+    ap (λ x. settled most_steps (taken x (read_line line))) (noted-line l d (read_hello line))
+    ∙ settled-line most_steps l (taken (noted d (read_hello line)) (read_line line))
 opened-line l d (Err why) = settled-line most_steps l (left_sealed d why)
 
 -- what a line does has nothing to do with what is gathered of the next

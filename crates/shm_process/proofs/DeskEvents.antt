@@ -1,15 +1,19 @@
 -- What a desk records of bytes is the entries of what its node did.
 use Rattle.std.proofs.Common.{◌≡◌, ℕ, zero, suc, Bool, true, false, List, [], ◌∷◌, ◌++◌, cond, length, refl, ap, sym, ◌∙◌, append-nil}
+use Rattle.std.specs.Option.{option_map_or}
 use Rattle.std.specs.Prelude.{Option, Some, None, Result, Ok, Err, is_some, nat_lt, ◌==◌}
 use Rattle.std.proofs.lemmas.List.{append_assoc}
 use Rattle.shm_seal.specs.Seal.{opened}
 use Rattle.shm_seal.specs.declared.open_line_error.Unsealed.{Unsealed}
 use Rattle.shm_wire.specs.Line.{read_line}
-use Rattle.shm_process.specs.Desk.{Desk, after_line, after_opened, grown, left_sealed, made_again, max_line_bytes, on_byte, on_bytes, settled, step_entry, taken}
+use Rattle.shm_process.specs.Desk.{Desk, after_line, after_opened, grown, left_sealed, made_again, max_line_bytes, noted, on_byte, on_bytes, settled, step_entry, taken, with_other}
 use Rattle.shm_process.specs.DeskEvents.{DidEvents}
+use Rattle.shm_process.specs.Hello.{first_other, read_hello}
 use Rattle.shm_process.specs.Node.{Node, Said}
 use Rattle.shm_process.specs.Recorded.{Again, Entry, Event, Line, TooLong, after_event, after_events, entries_of, entries_text, entry_line, recorded, said_at}
 use Rattle.shm_process.specs.Waiting.{most_steps, passed_over, said_again}
+use Rattle.shm_process.specs.declared.hello_line.Hello.{Hello}
+use Rattle.shm_process.specs.declared.site_opening.Disagreement.{Disagreement}
 
 more-recorded : (said : Option Said) (xs ys : List Entry) → recorded said (xs ++ ys) ≡ recorded said xs ++ ys
 more-recorded None xs ys = refl
@@ -71,10 +75,19 @@ did-too-long d = record { events = TooLong ∷ []; node = refl; recorded = sym (
 did-left : (d : Desk) (why : Unsealed) → DidEvents d (left_sealed d why)
 did-left d why = record { events = TooLong ∷ []; node = refl; recorded = sym (append-nil d.recorded) }
 
+did-other : (d : Desk) (o : Option Disagreement) → DidEvents d (option_map_or (with_other d) o d)
+did-other d None = did-nothing d d refl refl
+did-other d (Some x) = did-nothing d (with_other d x) refl refl
+
+did-noted : (d : Desk) (read : Option Hello) → DidEvents d (noted d read)
+did-noted d read = did-other d (first_other d.opening d.other read)
+
 did-opened : (d : Desk) (inner : Result (List ℕ) Unsealed) → DidEvents d (after_opened d inner)
 did-opened d (Ok line) =
-    let next = taken d (read_line line) in
-    did-both d next (settled most_steps next) (did-taken d line) (did-settled most_steps next)
+    let heard = noted d (read_hello line) in
+    let next = taken heard (read_line line) in
+    did-both d heard (settled most_steps next) (did-noted d (read_hello line))
+    (did-both heard next (settled most_steps next) (did-taken heard line) (did-settled most_steps next))
 did-opened d (Err why) = did-both d (left_sealed d why) (settled most_steps (left_sealed d why)) (did-left d why) (did-settled most_steps (left_sealed d why))
 
 did-line : (d : Desk) (line : List ℕ) → DidEvents d (after_line d line)

@@ -6,10 +6,13 @@ use Rattle.std.proofs.lemmas.List.{append_assoc}
 use Rattle.shm_seal.specs.Seal.{opened}
 use Rattle.shm_seal.specs.declared.open_line_error.Unsealed.{Unsealed}
 use Rattle.shm_wire.specs.Line.{Line, read_line}
-use Rattle.shm_process.specs.Desk.{Desk, after_line, after_opened, cleared, left_sealed, grown, made_again, max_line_bytes, line_text, on_byte, on_bytes, settled, step_entry, step_text, taken, tell, with_step}
+use Rattle.shm_process.specs.Desk.{Desk, after_line, after_opened, cleared, left_sealed, grown, made_again, max_line_bytes, line_text, noted, on_byte, on_bytes, settled, step_entry, step_text, taken, tell, with_other, counts_after, with_step}
+use Rattle.shm_process.specs.Hello.{first_other, hello_line, hello_to, read_hello}
 use Rattle.shm_process.specs.Node.{Node, Said}
 use Rattle.shm_process.specs.Telling.{shown_line}
 use Rattle.shm_process.specs.Waiting.{after_again, after_read, again_at, most_steps, passed_over, ready, said_again, said_read, says_at}
+use Rattle.shm_process.specs.declared.hello_line.Hello.{Hello}
+use Rattle.shm_process.specs.declared.site_opening.Disagreement.{Disagreement}
 
 -- ---- loops
 
@@ -57,7 +60,7 @@ cond-behind false r t x after_x y after_y p q = q
 
 with_step-behind : (r t : List ℕ) (d : Desk) (said : Option Said) → with_step (behind r t d) said ≡ behind r t (with_step d said)
 with_step-behind r t d said =
-    ap₂ (λ recorded told. record d { recorded = recorded; told = told })
+    ap₂ (λ recorded told. record d { recorded = recorded; told = told; counts = counts_after said d.counts })
     (append_assoc r d.recorded (step_entry said)) (append_assoc t d.told (step_text d.seal said))
 
 made_again-behind : (r t : List ℕ) (d : Desk) → made_again (behind r t d) ≡ behind r t (made_again d)
@@ -73,13 +76,26 @@ settled-behind (suc n) r t d =
 taken-behind : (r t : List ℕ) (d : Desk) (read : Option Line) → taken (behind r t d) read ≡ behind r t (taken d read)
 unfolding taken
 taken-behind r t d read =
-    let shown = line_text d.seal (option_and_then (shown_line d.unopened d.node) read) in
+    let shown = line_text d.seal (option_and_then (shown_line d.counts d.node) read) in
     let node = after_read d.node read in
     ap (λ told. with_step (record d { node = node; recorded = r ++ d.recorded; told = told }) (said_read d.node read)) (append_assoc t d.told shown)
     ∙ with_step-behind r t (record (tell d shown) { node = node }) (said_read d.node read)
 
+other-behind : (r t : List ℕ) (d : Desk) (o : Option Disagreement)
+    → option_map_or (with_other (behind r t d)) o (behind r t d) ≡ behind r t (option_map_or (with_other d) o d)
+other-behind r t d None = refl
+other-behind r t d (Some x) =
+    ap (λ told. record d { recorded = r ++ d.recorded; told = told; other = Some x.other })
+    (append_assoc t d.told (hello_line d.seal (hello_to x.own x.other.site)))
+
+noted-behind : (r t : List ℕ) (d : Desk) (read : Option Hello) → noted (behind r t d) read ≡ behind r t (noted d read)
+noted-behind r t d read = other-behind r t d (first_other d.opening d.other read)
+
 opened-behind : (r t : List ℕ) (d : Desk) (inner : Result (List ℕ) Unsealed) → after_opened (behind r t d) inner ≡ behind r t (after_opened d inner)
-opened-behind r t d (Ok line) = ap (settled most_steps) (taken-behind r t d (read_line line)) ∙ settled-behind most_steps r t (taken d (read_line line))
+opened-behind r t d (Ok line) =
+    let heard = noted d (read_hello line) in
+    ap (λ x. settled most_steps (taken x (read_line line))) (noted-behind r t d (read_hello line))
+    ∙ ap (settled most_steps) (taken-behind r t heard (read_line line)) ∙ settled-behind most_steps r t (taken heard (read_line line))
 opened-behind r t d (Err why) = settled-behind most_steps r t (left_sealed d why)
 
 after_line-behind : (r t : List ℕ) (d : Desk) (line : List ℕ) → after_line (behind r t d) line ≡ behind r t (after_line d line)

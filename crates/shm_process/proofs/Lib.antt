@@ -20,3 +20,6 @@ pub mod DeskEvents
 pub mod NumberedRows
 pub mod NumberedSteps
 pub mod Clocks
+pub mod HelloWords
+pub mod Greeting
+pub mod Noting

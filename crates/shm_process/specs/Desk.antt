@@ -1,26 +1,49 @@
 -- What a process records and tells: its node, what was read of a line, the entries of the steps that it made, and what callers and other
--- sites are told of them. Each line that comes is opened first, and each that is told is sealed; what is recorded isn't.
-use Rattle.std.specs.Prelude.{ℕ, zero, suc, ◌==◌, List, [], ◌∷◌, ◌++◌, Option, Some, None, Result, Ok, Err, if◌then◌else◌, is_some, length, nat_lt, option_and_then}
+-- sites are told of them. Each line that comes is opened first, and each that is told is sealed; what is recorded isn't. Where its site says
+-- how it was begun, it has the first that another says otherwise.
+use Rattle.std.specs.Prelude.{ℕ, zero, suc, ◌==◌, List, [], ◌∷◌, ◌++◌, Option, Some, None, Result, Ok, Err, if◌then◌else◌, is_some, length, nat_lt, option_and_then, option_map}
+use Rattle.std.specs.Option.{option_map_or}
 use Rattle.shm_seal.specs.Seal.{Seal, opened, sealed}
 use Rattle.shm_seal.specs.declared.open_line_error.Unsealed.{Unsealed}
 use Rattle.shm_wire.specs.Line.{Line, read_line}
+use Rattle.shm_process.specs.Counts.{Counts, counts_from, with_said, with_text, with_unopened}
+use Rattle.shm_process.specs.Hello.{first_other, greeting, hello_line, hello_to, read_hello}
 use Rattle.shm_process.specs.Lines.{sent_lines}
 use Rattle.shm_process.specs.Node.{Node, Said}
 use Rattle.shm_process.specs.Recorded.{entries_text, recorded}
 use Rattle.shm_process.specs.Telling.{answer_line_of, shown_line}
-use Rattle.shm_process.specs.Unopened.{Unopened, none_unopened, one_unopened}
 use Rattle.shm_process.specs.Waiting.{after_again, after_read, after_restart, most_steps, passed_over, said_again, said_read, said_restart}
+use Rattle.shm_process.specs.declared.hello_line.Hello.{Hello}
+use Rattle.shm_process.specs.declared.process_counts.Start.{Start}
+use Rattle.shm_process.specs.declared.site_opening.Disagreement.{Disagreement}
+use Rattle.shm_process.specs.declared.site_opening.Opening.{Opening}
 
 pub record Desk : Type 0 where
   pub node : Node
   pub seal : Seal
-  pub unopened : Unopened
+  pub opening : Option Opening
+  pub other : Option Opening
+  pub counts : Counts
   pub line : List ℕ
   pub recorded : List ℕ
   pub told : List ℕ
 
 abbrev pub desk_at : Seal → Node → Desk
-desk_at seal node = record { node = node; seal = seal; unopened = none_unopened; line = []; recorded = []; told = [] }
+desk_at seal node = record {
+  node = node;
+  seal = seal;
+  opening = None;
+  other = None;
+  counts = counts_from (record { journal = 0; since = 0 });
+  line = [];
+  recorded = [];
+  told = [];
+}
+
+-- one that has said to the others how its site was begun
+abbrev pub greeting_at : Seal → Node → Opening → Start → Desk
+greeting_at seal node own start =
+    record (desk_at seal node) { opening = Some own; counts = counts_from start; told = greeting seal own }
 
 -- a line, sealed, and its line feed, if there is one
 abbrev pub line_text : Seal → Option (List ℕ) → List ℕ
@@ -39,9 +62,22 @@ step_entry said = entries_text (recorded said [])
 abbrev pub tell : Desk → List ℕ → Desk
 tell desk text = record desk { told = desk.told ++ text }
 
+-- a step is counted, if one was made, and what is recorded of it
+abbrev pub counts_after : Option Said → Counts → Counts
+counts_after None counts = counts
+counts_after (Some said) counts = with_text (step_entry (Some said)) (with_said said counts)
+
 -- a step is recorded, if one was made, and told of
 abbrev pub with_step : Desk → Option Said → Desk
-with_step desk said = record desk { recorded = desk.recorded ++ step_entry said; told = desk.told ++ step_text desk.seal said }
+with_step desk said = record desk {
+  recorded = desk.recorded ++ step_entry said;
+  told = desk.told ++ step_text desk.seal said;
+  counts = counts_after said desk.counts;
+}
+
+-- a text is recorded
+abbrev pub with_record : List ℕ → Desk → Desk
+with_record text desk = record desk { recorded = desk.recorded ++ text; counts = with_text text desk.counts }
 
 abbrev pub made_again : Desk → Desk
 made_again desk = with_step (record desk { node = after_again desk.node }) (said_again desk.node)
@@ -54,7 +90,7 @@ settled (suc n) desk = if is_some (said_again desk.node) then settled n (made_ag
 -- a line is taken, as what was read of it
 unfoldable pub taken : Desk → Option Line → Desk
 taken desk read =
-    let shown = tell desk (line_text desk.seal (option_and_then (shown_line desk.unopened desk.node) read)) in
+    let shown = tell desk (line_text desk.seal (option_and_then (shown_line desk.counts desk.node) read)) in
     with_step (record shown { node = after_read desk.node read }) (said_read desk.node read)
 
 -- the bytes that a line has at most, less its line feed; a longer one is passed over
@@ -63,11 +99,27 @@ max_line_bytes = 8192
 
 -- a line that isn't opened is passed over, and counted by its cause
 abbrev pub left_sealed : Desk → Unsealed → Desk
-left_sealed desk why = record desk { node = passed_over desk.node; unopened = one_unopened why desk.unopened }
+left_sealed desk why = record desk { node = passed_over desk.node; counts = with_unopened why desk.counts }
 
--- what was opened is taken
+-- ---- how other sites were begun
+
+-- the disagreement that was noted
+abbrev pub disagreement_in : Desk → Option Disagreement
+disagreement_in desk = option_and_then (λ own. option_map (λ other. record { own = own; other = other }) desk.other) desk.opening
+
+-- it is noted, and the other is told how this site was begun
+abbrev pub with_other : Desk → Disagreement → Desk
+with_other desk d = record (tell desk (hello_line desk.seal (hello_to d.own d.other.site))) { other = Some d.other }
+
+-- the first that says another opening is noted
+abbrev pub noted : Desk → Option Hello → Desk
+noted desk read = option_map_or (with_other desk) (first_other desk.opening desk.other read) desk
+
+-- ---- a line
+
+-- what was opened is taken, and noted where it is another site's hello, which is no line for a site
 abbrev pub after_opened : Desk → Result (List ℕ) Unsealed → Desk
-after_opened desk (Ok line) = settled most_steps (taken desk (read_line line))
+after_opened desk (Ok line) = settled most_steps (taken (noted desk (read_hello line)) (read_line line))
 after_opened desk (Err why) = settled most_steps (left_sealed desk why)
 
 unfoldable pub after_line : Desk → List ℕ → Desk

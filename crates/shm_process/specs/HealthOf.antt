@@ -10,5 +10,9 @@ health_in health = record {
   taken = health.taken;
   passed = health.passed;
   waiting = health.waiting;
+  received = health.received;
+  sent = health.sent;
+  journal = health.journal;
+  since = health.since;
   unopened = unopened_of health.unopened;
 }

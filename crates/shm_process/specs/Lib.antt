@@ -13,6 +13,9 @@ pub mod Waiting
 pub mod Showing
 pub mod Unopened
 pub mod UnopenedOf
+pub mod Counts
+pub mod CountsOf
+pub mod Hello
 pub mod Health
 pub mod HealthOf
 pub mod Telling

@@ -12,11 +12,11 @@ use Rattle.shm_wire.specs.Asks.{Ask}
 use Rattle.shm_wire.specs.Line as stream
 use Rattle.shm_wire.specs.declared.caller_ask.Question.{Question}
 use Rattle.shm_wire.specs.declared.caller_ask.Question.TheVariants as question
+use Rattle.shm_process.specs.Counts.{Counts}
 use Rattle.shm_process.specs.Health.{Health, health_text}
 use Rattle.shm_wire.specs.Writes.{WriteAsk}
 use Rattle.shm_process.specs.Node.{Node, Said, is_late}
 use Rattle.shm_process.specs.Showing.{shown_text}
-use Rattle.shm_process.specs.Unopened.{Unopened}
 use Rattle.shm_process.specs.Waiting.{has_room}
 
 -- an answer in the script's words; where a block is whole, its bytes
@@ -38,14 +38,18 @@ crowded_out node tag =
     if has_room node || is_late node 0 then None else Some (tell_line (record { site = node.me; tag = tag; text = answer_text Waiting }))
 
 -- the counts of a site's process as it stands
-abbrev pub health_of : Unopened → Node → Health
-health_of unopened node = record {
+abbrev pub health_of : Counts → Node → Health
+health_of counts node = record {
   steps = node.steps;
   clock = node.clock;
   taken = node.taken;
   passed = node.passed;
   waiting = length node.waiting;
-  unopened = unopened;
+  received = counts.received;
+  sent = counts.sent;
+  journal = counts.journal;
+  since = counts.since;
+  unopened = counts.unopened;
 }
 
 -- what is told of a page
@@ -60,17 +64,17 @@ health_line node tag health = tell_line (record { site = node.me; tag = tag; tex
 abbrev pub shown_write : Node → WriteAsk → Option (List ℕ)
 shown_write node write = if (write.site == node.me) then crowded_out node write.tag else None
 
-abbrev pub shown_for : Unopened → Node → List ℕ → Question → Option (List ℕ)
-shown_for unopened node tag question.Health = Some (health_line node tag (health_of unopened node))
-shown_for unopened node tag (question.Show page) = Some (page_line node tag page)
-shown_for unopened node tag (question.Read at offset count) = crowded_out node tag
-shown_for unopened node tag _ = None
+abbrev pub shown_for : Counts → Node → List ℕ → Question → Option (List ℕ)
+shown_for counts node tag question.Health = Some (health_line node tag (health_of counts node))
+shown_for counts node tag (question.Show page) = Some (page_line node tag page)
+shown_for counts node tag (question.Read at offset count) = crowded_out node tag
+shown_for counts node tag _ = None
 
-abbrev pub shown_here : Unopened → Node → Ask → Option (List ℕ)
-shown_here unopened node ask = if (ask.site == node.me) then shown_for unopened node ask.tag ask.asked else None
+abbrev pub shown_here : Counts → Node → Ask → Option (List ℕ)
+shown_here counts node ask = if (ask.site == node.me) then shown_for counts node ask.tag ask.asked else None
 
 -- what is told at once of a line
-abbrev pub shown_line : Unopened → Node → stream.Line → Option (List ℕ)
-shown_line unopened node (stream.Envelope sent) = None
-shown_line unopened node (stream.Ask ask) = shown_here unopened node ask
-shown_line unopened node (stream.Write write) = shown_write node write
+abbrev pub shown_line : Counts → Node → stream.Line → Option (List ℕ)
+shown_line counts node (stream.Envelope sent) = None
+shown_line counts node (stream.Ask ask) = shown_here counts node ask
+shown_line counts node (stream.Write write) = shown_write node write

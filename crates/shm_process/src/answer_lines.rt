@@ -1,10 +1,10 @@
 //! The lines that callers get: answers, blocks, a page's state, and the site's counts.
 ghost use Rattle.std.specs.Prelude.{◌≡◌, option_map, string_bytes, IfOk, Some};
 ghost use Rattle.shm_process.specs.Cause.{OfRestart};
+ghost use Rattle.shm_process.specs.CountsOf.{counts_of};
 ghost use Rattle.shm_process.specs.NodeOf.{node_of, said_of};
 ghost use Rattle.shm_process.specs.Telling.{answer_line_of, crowded_out, health_line, page_line, shown_for, shown_here, shown_line, shown_write};
 ghost use Rattle.shm_process.specs.HealthOf.{health_in};
-ghost use Rattle.shm_process.specs.UnopenedOf.{unopened_of};
 ghost use Rattle.shm_wire.specs.Asks.{ask_of};
 ghost use Rattle.shm_wire.specs.LineOf.{line_of};
 ghost use Rattle.shm_wire.specs.TagOf.{tag_text};
@@ -12,8 +12,8 @@ ghost use Rattle.shm_wire.specs.WriteOf.{write_of};
 
 use crate::health::Health;
 use crate::node::Node;
+use crate::process_counts::Counts;
 use crate::step_output::Said;
-use crate::unopened_line_counts::Unopened;
 use shm_model::refusal::FOREIGN;
 use shm_model::{Answer, Shown, State};
 use shm_place::PageId;
@@ -73,42 +73,42 @@ impl<'a> fmt::Display for ToldText<'a> {
 
 impl<A: Allocator + Copy> Node<A> {
     /// The line that answers this one at once, without a line feed: the site's state of a page, or its counts, where that is asked for, or
-    /// that a block finds no room to wait. It makes no step. `unopened` is how many lines weren't opened. Ask for it before the line is taken: a block that has joined may have taken the last room.
+    /// that a block finds no room to wait. It makes no step. `counts` are those of its desk. Ask for it before the line is taken: a block that has joined may have taken the last room.
     pub fn line_at_once(
         &self,
-        unopened: Unopened,
+        counts: Counts,
         line: &Line<A>,
     ) -> Result<Option<String<A>>, AllocError>
-        ensures { IfOk result (λ told. option_map string_bytes told ≡ shown_line (unopened_of unopened) (node_of self.now) (line_of line.now)) }
+        ensures { IfOk result (λ told. option_map string_bytes told ≡ shown_line (counts_of counts) (node_of self.now) (line_of line.now)) }
     {
         match line {
             Line::Envelope(_) => Ok(None),
-            Line::Ask(ask) => self.ask_at_once(unopened, ask),
+            Line::Ask(ask) => self.ask_at_once(counts, ask),
             Line::Write(write) => self.write_at_once(write),
         }
     }
 
-    fn ask_at_once(&self, unopened: Unopened, ask: &Ask) -> Result<Option<String<A>>, AllocError>
-        ensures { IfOk result (λ told. option_map string_bytes told ≡ shown_here (unopened_of unopened) (node_of self.now) (ask_of ask.now)) }
+    fn ask_at_once(&self, counts: Counts, ask: &Ask) -> Result<Option<String<A>>, AllocError>
+        ensures { IfOk result (λ told. option_map string_bytes told ≡ shown_here (counts_of counts) (node_of self.now) (ask_of ask.now)) }
     {
         let Ask { site, tag, asked } = *ask;
         if site != self.me {
             return Ok(None);
         }
-        self.question_at_once(unopened, tag, asked)
+        self.question_at_once(counts, tag, asked)
     }
 
     fn question_at_once(
         &self,
-        unopened: Unopened,
+        counts: Counts,
         tag: Tag,
         asked: Question,
     ) -> Result<Option<String<A>>, AllocError>
-        ensures { IfOk result (λ told. option_map string_bytes told ≡ shown_for (unopened_of unopened) (node_of self.now) (tag_text tag) asked) }
+        ensures { IfOk result (λ told. option_map string_bytes told ≡ shown_for (counts_of counts) (node_of self.now) (tag_text tag) asked) }
     {
         match asked {
             Question::Show(page) => self.show_page(tag, page),
-            Question::Health => self.tell_health(tag, self.health(unopened)),
+            Question::Health => self.tell_health(tag, self.health(counts)),
             Question::Read { .. } => self.crowd_out(tag),
             _ => Ok(None),
         }

@@ -1,13 +1,14 @@
 //! Takes bytes, opens the lines that they end, and gathers the entries and the sealed output of those lines.
-ghost use Rattle.std.specs.Prelude.{◌≡◌, ◌<◌, ◌==◌, ◌++◌, ◌∷◌, [], All, codes, false, if◌then◌else◌, is_some, string_bytes, IfNone, IfOk, IfSome, Ok, OnOk};
+ghost use Rattle.std.specs.Prelude.{◌≡◌, ◌<◌, ◌==◌, ◌++◌, ◌∷◌, [], All, codes, false, length, if◌then◌else◌, is_some, string_bytes, IfNone, IfOk, IfSome, Ok, OnOk};
 ghost use Rattle.std.specs.Fmt.{decimal};
 ghost use Rattle.shm_model.specs.Basics.{greatest};
 ghost use Rattle.shm_process.specs.Cause.{Cause, OfRestart, cause_text};
-ghost use Rattle.shm_process.specs.Desk.{after_line, after_opened, cleared, desk_at, left_sealed, made_again, on_bytes, restarted, settled, step_text, taken, tell, line_text, with_step};
+ghost use Rattle.shm_process.specs.Counts.{is_envelope, was_received};
+ghost use Rattle.shm_process.specs.CountsOf.{counts_of};
+ghost use Rattle.shm_process.specs.Desk.{after_line, after_opened, cleared, desk_at, left_sealed, made_again, on_bytes, restarted, settled, step_text, taken, tell, line_text, with_record, with_step};
 ghost use Rattle.shm_process.specs.DeskOf.{desk_of};
 ghost use Rattle.shm_process.specs.NodeOf.{again_of, node_of, said_of};
 ghost use Rattle.shm_process.specs.Telling.{shown_line};
-ghost use Rattle.shm_process.specs.UnopenedOf.{unopened_of};
 ghost use Rattle.shm_process.specs.Waiting.{most_steps, passed_over, said_again};
 ghost use Rattle.shm_seal.specs.Seal.{Bare};
 ghost use Rattle.shm_seal.specs.SealOf.{seal_of};
@@ -18,9 +19,10 @@ ghost use Rattle.shm_wire.specs.LineOf.{line_of};
 use crate::envelope_lines::push_sealed;
 use crate::node::Node;
 use crate::node_takes_line::MOST_STEPS;
+use crate::process_counts::{Counts, Start};
 use crate::retried_step::Again;
+use crate::site_opening::Opening;
 use crate::step_output::Said;
-use crate::unopened_line_counts::Unopened;
 use memchr::memchr;
 use shm_seal::{Seal, Unsealed};
 use shm_wire::{Line, parse_line};
@@ -31,12 +33,15 @@ use std::mem;
 const MAX_LINE_BYTES: usize = 8192;
 
 /// A node whose lines come as bytes. It gathers entries, one for each step, and output: answers, and what its site sent. It takes a line as
-/// its seal opens it, passes over one that it doesn't open, and seals its output.
+/// its seal opens it, passes over one that it doesn't open, and seals its output. It may say to other sites how its own was begun, and note
+/// where another says otherwise.
 #[derive(Drop)]
 pub struct Desk<A: Allocator + Copy = Global> {
     pub(crate) node: Node<A>,
     pub(crate) seal: Seal,
-    pub(crate) unopened: Unopened,
+    pub(crate) opening: Option<Opening>,
+    pub(crate) other: Option<Opening>,
+    pub(crate) counts: Counts,
     pub(crate) line: Vec<u8, A>,
     pub(crate) recorded: Vec<u8, A>,
     pub(crate) told: String<A>,
@@ -44,21 +49,26 @@ pub struct Desk<A: Allocator + Copy = Global> {
 }
 
 impl<A: Allocator + Copy> Desk<A> {
-    /// A desk that has read nothing yet, of lines without a seal.
+    /// A desk that has read nothing yet, of lines without a seal. It says no hello.
     pub fn new(alloc: A, node: Node<A>) -> Desk<A>
         ensures { desk_of result ≡ desk_at Bare (node_of node) }
     {
         Desk::sealed(alloc, Seal::Bare, node)
     }
 
-    /// A desk that has read nothing yet, of lines under this seal.
+    /// A desk that has read nothing yet, of lines under this seal. It says no hello.
     pub fn sealed(alloc: A, seal: Seal, node: Node<A>) -> Desk<A>
         ensures { desk_of result ≡ desk_at (seal_of seal) (node_of node) }
     {
         Desk {
             node,
             seal,
-            unopened: Unopened::none(),
+            opening: None,
+            other: None,
+            counts: Counts::new(Start {
+                journal: 0,
+                since: 0,
+            }),
             line: Vec::new(alloc),
             recorded: Vec::new(alloc),
             told: String::new(alloc),
@@ -73,11 +83,18 @@ impl<A: Allocator + Copy> Desk<A> {
         &self.node
     }
 
-    /// How many lines weren't opened, by their causes. The node counts them too, as lines that it passed over.
-    pub fn unopened(&self) -> Unopened
-        ensures { unopened_of result ≡ (desk_of self.now).unopened }
+    /// What it counted. Lines that weren't opened the node counts too, as lines that it passed over.
+    pub fn counts(&self) -> Counts
+        ensures { counts_of result ≡ (desk_of self.now).counts }
     {
-        self.unopened
+        self.counts
+    }
+
+    /// The allocator of what it gathers.
+    pub fn allocator(&self) -> A
+        ensures { result ≡ self.now.alloc }
+    {
+        self.alloc
     }
 
     /// The entries of the steps that were made, each `step CLOCK LINE` and a line feed. They have to be durable before any output is
@@ -105,9 +122,11 @@ impl<A: Allocator + Copy> Desk<A> {
 
     /// Has this text recorded, behind what is.
     pub fn record(&mut self, text: &[u8]) -> Result<(), AllocError>
-        ensures { OnOk result (desk_of self.new ≡ record (desk_of self.old) { recorded = (desk_of self.old).recorded ++ text.now }) }
+        ensures { OnOk result (desk_of self.new ≡ with_record text.now (desk_of self.old)) }
     {
-        self.recorded.extend_from_slice(text)
+        self.recorded.extend_from_slice(text)?;
+        self.counts = self.counts.with_recorded(text.len());
+        Ok(())
     }
 
     /// Restarts the site, one step. It forgets the asks that wait: their callers ask again. Where memory is refused the desk is useless.
@@ -117,7 +136,7 @@ impl<A: Allocator + Copy> Desk<A> {
         ensures { OnOk result (desk_of self.new ≡ restarted (desk_of self.old)) }
     {
         let said = self.node.restart()?;
-        self.push_step(b"restart".as_slice(), &said)
+        self.push_step(b"restart".as_slice(), &said, false)
     }
 
     /// Takes these bytes: each line that they end, and after each line the waiting asks, as far as they can be made. Where memory is
@@ -186,7 +205,7 @@ impl<A: Allocator + Copy> Desk<A> {
     fn leave_sealed(&mut self, why: Unsealed) -> Result<(), AllocError>
         ensures { OnOk result (desk_of self.new ≡ settled most_steps (left_sealed (desk_of self.old) why)) }
     {
-        self.unopened = self.unopened.with_one(why);
+        self.counts = self.counts.with_unopened(why);
         self.pass_line()
     }
 
@@ -199,7 +218,10 @@ impl<A: Allocator + Copy> Desk<A> {
                 self.take_read(line, read)?;
                 self.settle()
             }
-            None => self.pass_line(),
+            None => {
+                self.hear(line)?;
+                self.pass_line()
+            }
         }
     }
 
@@ -219,17 +241,18 @@ impl<A: Allocator + Copy> Desk<A> {
         ensures { OnOk result (desk_of self.new ≡ taken (desk_of self.old) (Some (line_of read))) }
     {
         self.show(&read)?;
+        let received = is_envelope(&read);
         match self.node.take(read)? {
-            Some(said) => self.push_step(line, &said),
+            Some(said) => self.push_step(line, &said, received),
             None => Ok(()),
         }
     }
 
     /// Answers the line at once: with a page's state, with the site's counts, or that a block finds no room.
     fn show(&mut self, read: &Line<A>) -> Result<(), AllocError>
-        ensures { OnOk result (desk_of self.new ≡ tell (desk_of self.old) (line_text (desk_of self.old).seal (shown_line (desk_of self.old).unopened (desk_of self.old).node (line_of read.now)))) }
+        ensures { OnOk result (desk_of self.new ≡ tell (desk_of self.old) (line_text (desk_of self.old).seal (shown_line (desk_of self.old).counts (desk_of self.old).node (line_of read.now)))) }
     {
-        match self.node.line_at_once(self.unopened, read)? {
+        match self.node.line_at_once(self.counts, read)? {
             Some(shown) => push_sealed(self.alloc, &self.seal, &mut self.told, shown.as_str()),
             None => Ok(()),
         }
@@ -268,32 +291,53 @@ impl<A: Allocator + Copy> Desk<A> {
     {
         let ask = again.ask;
         let line = format!(in self.alloc; "{ask}")?;
-        self.push_step(line.as_bytes(), &again.said)
+        self.push_step(line.as_bytes(), &again.said, false)
     }
 
-    /// Records the step that this line made, and gathers its output.
-    fn push_step(&mut self, line: &[u8], said: &Said<A>) -> Result<(), AllocError>
-        ensures { (cause : Cause) → cause_text cause ≡ line.now → OnOk result (desk_of self.new ≡ with_step (desk_of self.old) (Some (said_of cause said.now))) }
+    /// Records the step that this line made, an envelope's or another, counts it, and gathers its output.
+    fn push_step(&mut self, line: &[u8], said: &Said<A>, received: bool) -> Result<(), AllocError>
+        ensures { (cause : Cause) → cause_text cause ≡ line.now → was_received cause ≡ received
+            → OnOk result (desk_of self.new ≡ with_step (desk_of self.old) (Some (said_of cause said.now))) }
     {
-        push_entry(self.alloc, &mut self.recorded, said.clock, line)?;
-        push_text(self.alloc, &self.seal, &mut self.told, said)
+        let bytes = push_entry(self.alloc, &mut self.recorded, said.clock, line)?;
+        push_text(self.alloc, &self.seal, &mut self.told, said)?;
+        let counts = self.counts.with_step(received, count_sent(said));
+        self.counts = counts.with_recorded(bytes);
+        Ok(())
     }
 }
 
-/// Appends the entry of a step: `step CLOCK LINE`, and a line feed.
+/// How many envelopes a step sent.
+#[tactic(auto, using(crate::proofs::Asks::length_map))]
+fn count_sent<A: Allocator + Copy>(said: &Said<A>) -> usize
+    ensures { result ≡ length (said_of OfRestart said.now).sent }
+{
+    said.sent.len()
+}
+
+/// Checks that a line is an envelope.
+fn is_envelope<A: Allocator + Copy>(line: &Line<A>) -> bool
+    ensures { result ≡ is_envelope (line_of line.now) }
+{
+    matches!(line, Line::Envelope(_))
+}
+
+/// Appends the entry of a step: `step CLOCK LINE`, and a line feed. How many bytes it has.
 fn push_entry<A: Allocator + Copy>(
     alloc: A,
     recorded: &mut Vec<u8, A>,
     clock: u64,
     line: &[u8],
-) -> Result<(), AllocError>
-    ensures { OnOk result (recorded.new.items ≡ recorded.old.items ++ ((codes "step " ++ (decimal clock ++ 32 ∷ line.now)) ++ 10 ∷ [])) }
+) -> Result<usize, AllocError>
+    ensures entry { OnOk result (recorded.new.items ≡ recorded.old.items ++ ((codes "step " ++ (decimal clock ++ 32 ∷ line.now)) ++ 10 ∷ [])) }
+    ensures bytes { IfOk result (λ bytes. bytes ≡ length ((codes "step " ++ (decimal clock ++ 32 ∷ line.now)) ++ 10 ∷ [])) }
 {
+    let before = recorded.len();
     let head = format!(in alloc; "step {clock} ")?;
     recorded.extend_from_slice(head.as_bytes())?;
     recorded.extend_from_slice(line)?;
     recorded.push(b'\n')?;
-    Ok(())
+    Ok(recorded.len() - before)
 }
 
 /// Appends the output of a step, sealed: the answer, if it has a caller, and what the site sent.

@@ -1,14 +1,18 @@
 //! Laws of the definitions, for every run of a node.
 ghost use Rattle.std.specs.Prelude.{◌≡◌, ◌≤◌, ◌+◌, ◌*◌, All, List, ℕ, None, Some, length, true};
 ghost use Rattle.shm_process.specs.Cause.{Cause};
-ghost use Rattle.shm_process.specs.Desk.{Desk, on_bytes, settled};
+ghost use Rattle.shm_process.specs.Desk.{Desk, disagreement_in, on_bytes, settled};
 ghost use Rattle.shm_process.specs.DeskEvents.{DidEvents};
+ghost use Rattle.shm_process.specs.Hello.{IsHello, hello_text, read_hello};
 ghost use Rattle.shm_process.specs.Node as spec;
 ghost use Rattle.shm_process.specs.Node.{most_ahead};
 ghost use Rattle.shm_process.specs.Numbers.{NumbersWithin, numbers_fit};
 ghost use Rattle.shm_process.specs.Recorded.{Event, IsEntry, after_event, after_events, entries_of, kept, replayed_all, said_at};
 ghost use Rattle.shm_process.specs.Waiting.{after, most_steps, most_waiting, replayed, said_again};
+ghost use Rattle.shm_process.specs.declared.hello_line.Hello.{Hello};
+ghost use Rattle.shm_process.specs.declared.site_opening.Disagreement.{Disagreement};
 ghost use Rattle.shm_wire.specs.Line as stream;
+ghost use Rattle.shm_wire.specs.Line.{read_line};
 
 /// The recorded steps, replayed one by one, lead to the same site, clock, count of steps and outstanding caller; only the asks that wait
 /// are forgotten, and no line is counted.
@@ -69,4 +73,21 @@ pub fn no_number_is_above_the_clock()
 pub fn what_is_sent_names_no_number_above_its_clock()
     ensures { (node : spec.Node) (event : Event) (said : spec.Said) → said_at node event ≡ Some said → NumbersWithin node.clock node.site
         → All (λ e. numbers_fit said.clock e.message ≡ true) said.sent }
+{}
+
+/// Each hello has one spelling: what is read is spelled so, and what is spelled so is read.
+pub fn hellos_have_one_spelling()
+    ensures read { (line : List ℕ) (hello : Hello) → read_hello line ≡ Some hello → IsHello hello × (line ≡ hello_text hello) }
+    ensures spelled { (hello : Hello) → IsHello hello → read_hello (hello_text hello) ≡ Some hello }
+{}
+
+/// A hello is no line that a site takes, though it stands in the stream as an envelope does.
+pub fn a_hello_is_no_line_of_the_stream()
+    ensures { (line : List ℕ) (hello : Hello) → read_hello line ≡ Some hello → read_line line ≡ None }
+{}
+
+/// Whatever comes after the first site that was begun otherwise, that one stays the one that is noted.
+#[tactic(auto, using(crate::proofs::Noting::stays_noted))]
+pub fn the_first_other_opening_stays()
+    ensures { (desk : Desk) (bytes : List ℕ) (first : Disagreement) → disagreement_in desk ≡ Some first → disagreement_in (on_bytes desk bytes) ≡ Some first }
 {}

@@ -1,7 +1,9 @@
 mod block_loads;
 mod block_stores;
+mod desk_counts;
 mod exchanges;
 mod fill_heap;
+mod hellos;
 mod impossible_envelopes;
 mod seal_digests;
 mod two_nodes;

@@ -1,17 +1,19 @@
 //! Processes that keep a journal, of which a test holds everything around.
 use shm_journal::{Failed, Journal, ProcessFault, serve};
 use shm_place::{SiteId, Sites};
-use shm_process::{Desk, Node};
+use shm_process::{Desk, Node, Opening, Start};
+use shm_seal::Seal;
 use shm_text::{read_up_to, write_whole};
 use std::alloc::{AllocError, Global};
 use std::io::{Read, Write};
 use std::test::Fail;
 
 /// A journal that notes all that is done through it, in order: `+` and what is appended, `!` where that is made durable, and `>` and what is
-/// told. After so many calls the next one fails.
+/// told. It reads at most so many bytes at once. After so many calls the next one fails.
 #[derive(Drop)]
 struct Rehearsal {
     done: Vec<u8>,
+    at_once: usize,
     calls: usize,
 }
 
@@ -38,7 +40,7 @@ impl Journal for Rehearsal {
             Ok(()) => {}
             Err(failed) => return Err(failed),
         }
-        let most = chunk.len();
+        let most = self.at_once.max(1);
         match read_up_to(reader, chunk, most) {
             Ok(count) => Ok(count),
             Err(_) => Err(Failed),
@@ -65,16 +67,34 @@ impl Journal for Rehearsal {
     }
 }
 
-/// A desk of a site alone, where segment 0 has a page.
-fn new_desk(alloc: Global) -> Result<Desk, AllocError> {
+/// A site alone, where segment 0 has a page.
+fn new_node(alloc: Global) -> Result<Node, AllocError> {
     let Ok(sites) = Sites::new(1) else {
         return Err(AllocError);
     };
     if sites.count() == 0 {
         return Err(AllocError);
     }
-    let node = Node::new(alloc, sites, SiteId(0), 1)?;
-    Ok(Desk::new(alloc, node))
+    Node::new(alloc, sites, SiteId(0), 1)
+}
+
+/// Its desk.
+fn new_desk(alloc: Global) -> Result<Desk, AllocError> {
+    Ok(Desk::new(alloc, new_node(alloc)?))
+}
+
+/// One that compares how it was begun.
+fn comparing_desk(alloc: Global) -> Result<Desk, AllocError> {
+    let opening = Opening {
+        site: 0,
+        sites: 1,
+        pages: 1,
+    };
+    let start = Start {
+        journal: 0,
+        since: 0,
+    };
+    Desk::greeting(alloc, Seal::Bare, new_node(alloc)?, opening, start)
 }
 
 const LINES: &[u8] = b"ask 0 a store 0 5 7\nnot a line of ours\nask 0 b load 0 5\nask 0 c load 0 5";
@@ -87,12 +107,14 @@ fn steps_are_kept_and_then_told(rt: HostRuntime) -> Result<(), Fail> {
     let alloc = rt.alloc();
     let mut journal = Rehearsal {
         done: Vec::new(alloc),
+        at_once: 8192,
         calls: 100,
     };
     let mut lines = LINES;
     let mut told = Vec::new(alloc);
+    let mut errors = Vec::new(alloc);
     let mut desk = new_desk(alloc)?;
-    assert!(rt; serve(&mut desk, &mut lines, &mut told, &mut journal).is_ok());
+    assert!(rt; serve(&mut desk, &mut lines, &mut told, &mut errors, &mut journal).is_ok());
     drop(desk);
     assert_eq!(rt; journal.done.as_slice(), DONE);
     assert_eq!(rt; told.as_slice(), &DONE[54..]);
@@ -119,12 +141,14 @@ fn each_call_fails_in_turn(rt: HostRuntime) -> Result<(), Fail> {
     for (calls, (fault, done)) in faults.iter().enumerate() {
         let mut journal = Rehearsal {
             done: Vec::new(alloc),
+            at_once: 8192,
             calls,
         };
         let mut lines = LINES;
         let mut told = Vec::new(alloc);
+        let mut errors = Vec::new(alloc);
         let mut desk = new_desk(alloc)?;
-        let served = serve(&mut desk, &mut lines, &mut told, &mut journal);
+        let served = serve(&mut desk, &mut lines, &mut told, &mut errors, &mut journal);
         drop(desk);
         match served {
             Ok(()) => return Err(Fail::new("a call failed")),
@@ -132,5 +156,31 @@ fn each_call_fails_in_turn(rt: HostRuntime) -> Result<(), Fail> {
         }
         assert_eq!(rt; journal.done.as_slice(), *done);
     }
+    Ok(())
+}
+
+const OTHERS: &[u8] =
+    b"env 1 0 0 0 0 hello 2 1\nenv 2 0 0 0 0 hello 3 1\nenv 1 0 0 0 0 hello 2 1\n";
+
+/// Two other sites were begun with other numbers. The first of them is warned of and answered, once; each read gives a part of a line.
+#[test]
+fn another_opening_is_warned_of_once(rt: HostRuntime) -> Result<(), Fail> {
+    let alloc = rt.alloc();
+    let mut journal = Rehearsal {
+        done: Vec::new(alloc),
+        at_once: 13,
+        calls: 100,
+    };
+    let mut lines = OTHERS;
+    let mut told = Vec::new(alloc);
+    let mut errors = Vec::new(alloc);
+    let mut desk = comparing_desk(alloc)?;
+    assert!(rt; serve(&mut desk, &mut lines, &mut told, &mut errors, &mut journal).is_ok());
+    drop(desk);
+    assert_eq!(rt; told.as_slice(), b"env 0 1 0 0 0 hello 1 1\n".as_slice());
+    assert_eq!(rt;
+        errors.as_slice(),
+        b"shmdbg: site 1 was begun with --sites 2 --preset 1, this one with --sites 1 --preset 1\n".as_slice()
+    );
     Ok(())
 }

@@ -4,17 +4,23 @@ use crate::tests::fill_heap::{Filling, TRIES, fill_heap};
 use crate::tests::{new_node, said_again, take_line, tells};
 use linked_list_allocator::LocalHeap;
 use shm_model::Answer;
-use shm_process::{Node, Unopened};
+use shm_process::{Counts, Node, Unopened};
 use shm_wire::parse_line;
 use std::alloc::{AllocError, Global};
 use std::process::Abort;
 use std::test::Fail;
 
-/// Each line was opened.
-const ALL_OPENED: Unopened = Unopened {
-    other_cluster: 0,
-    no_digest: 0,
-    wrong_digest: 0,
+/// Nothing was counted.
+const NOTHING: Counts = Counts {
+    unopened: Unopened {
+        other_cluster: 0,
+        no_digest: 0,
+        wrong_digest: 0,
+    },
+    received: 0,
+    sent: 0,
+    journal: 0,
+    since: 0,
 };
 
 /// The bytes are 7, 255, 0 and 16.
@@ -152,7 +158,7 @@ fn a_block_that_finds_no_room_is_told_so_and_passed_over(rt: HostRuntime) -> Res
     let Some(line) = parse_line(alloc, b"ask 1 b read 0 2 1")? else {
         return Err(Fail::new("an ask's line"));
     };
-    let told = node.line_at_once(ALL_OPENED, &line)?;
+    let told = node.line_at_once(NOTHING, &line)?;
     assert!(rt; is_line(&told, "tell 1 b waiting"));
     assert!(rt; node.take(line)?.is_none());
     assert_eq!(rt;

@@ -1,7 +1,10 @@
-use Rattle.std.proofs.Common.{◌<◌, [], ◌∷◌, length, take, refl, subst, arith}
+use Rattle.std.proofs.Common.{◌<◌, [], ◌∷◌, is_some, length, take, refl, ap, subst, ◌∙◌, arith}
 use Rattle.shm_process.specs.DeskOf.{desk_of}
+use Rattle.shm_process.specs.Desk.{disagreement_in}
 use Rattle.shm_journal.proofs.ServingLemmas.{begun, did_not_read, did_read, ended, never_published, not_published, out_of_memory, read_failed, went_on}
+use Rattle.shm_journal.proofs.WarningLemmas.{still_noted, warned_done, warned_on}
 use Rattle.shm_journal.specs.Acts.{Did, Read, around}
+use Rattle.shm_journal.specs.Warning.{Warns}
 use Rattle.shm_journal.proofs.process_loop.serve.Goals as goal
 
 pub returns-in-Err-clause-served : goal.returns-in-Err-clause-served
@@ -22,6 +25,9 @@ reads-init g c =
           (around (remaining c.args.reader.now) (contents c.publish.new.writer) (acts c.publish.new.journal)) (c.in-Ok.ensures.done (remaining c.args.reader.now))
           c.in-Ok.ensures.cleared;
       room = refl;
+      warns = subst (Warns (g.E.Write.contents c.args.errors.now) (g.E.Write.contents c.warn-warned.new.errors))
+          (still_noted (desk_of c.args.desk.now) (desk_of c.publish.new.desk) c.in-Ok.ensures.cleared) c.warn-warned.ensures.warns;
+      warned = c.warn-warned.ensures.done ∙ ap is_some (still_noted (desk_of c.args.desk.now) (desk_of c.publish.new.desk) c.in-Ok.ensures.cleared);
     }
 
 pub returns-in_default-clause-served : goal.returns-in_default-clause-served
@@ -103,4 +109,40 @@ reads-preserved g c =
           )
           c.in-Ok-take.ensures (c.in-Ok-publish.ensures.done (remaining c.read.new.reader)) c.in-Ok-publish.ensures.cleared;
       room = omega (arith, c.reads.invariant.room);
+      warns = subst (Warns (g.E.Write.contents c.args.errors.now) (g.E.Write.contents c.warn-warned-in-reads.new.errors))
+          (still_noted (desk_of c.take.new.self) (desk_of c.publish-in-reads.new.desk) c.in-Ok-publish.ensures.cleared)
+          (
+          warned_on (g.E.Write.contents c.args.errors.now) (g.E.Write.contents c.reads.errors) (g.E.Write.contents c.warn-warned-in-reads.new.errors)
+          (desk_of c.reads.desk) (desk_of c.take.new.self) (take c.in-Ok-read.count c.read.new.chunk) c.reads.warned c.in-Ok-take.ensures
+          c.reads.invariant.warned c.reads.invariant.warns c.warn-warned-in-reads.ensures.warns
+          );
+      warned = warned_done (desk_of c.reads.desk) (desk_of c.take.new.self) (take c.in-Ok-read.count c.read.new.chunk) c.reads.warned
+          c.warn-warned-in-reads.result c.in-Ok-take.ensures c.reads.invariant.warned c.warn-warned-in-reads.ensures.done
+          ∙ ap is_some (still_noted (desk_of c.take.new.self) (desk_of c.publish-in-reads.new.desk) c.in-Ok-publish.ensures.cleared);
     }
+
+-- ---- what it warned of
+
+pub returns-in-Err-clause-warned : goal.returns-in-Err-clause-warned
+returns-in-Err-clause-warned g c = (disagreement_in (desk_of c.args.desk.now), c.warn-warned.ensures.warns, tt)
+
+pub returns-in_default-clause-warned : goal.returns-in_default-clause-warned
+returns-in_default-clause-warned g c = (disagreement_in (desk_of c.reads.desk), c.reads.invariant.warns, tt)
+
+pub returns-then-count-eq0-clause-warned : goal.returns-then-count-eq0-clause-warned
+returns-then-count-eq0-clause-warned g c = (disagreement_in (desk_of c.reads.desk), c.reads.invariant.warns, refl)
+
+pub returns-in-Err-take-clause-warned : goal.returns-in-Err-take-clause-warned
+returns-in-Err-take-clause-warned g c = (disagreement_in (desk_of c.reads.desk), c.reads.invariant.warns, tt)
+
+pub returns-in-Err-publish-clause-warned : goal.returns-in-Err-publish-clause-warned
+returns-in-Err-publish-clause-warned g c = (
+  disagreement_in (desk_of c.take.new.self),
+  warned_on (g.E.Write.contents c.args.errors.now) (g.E.Write.contents c.reads.errors) (g.E.Write.contents c.warn-warned-in-reads.new.errors)
+      (desk_of c.reads.desk) (desk_of c.take.new.self) (take c.in-Ok-read.count c.read.new.chunk) c.reads.warned c.in-Ok-take.ensures
+      c.reads.invariant.warned c.reads.invariant.warns c.warn-warned-in-reads.ensures.warns,
+  tt,
+)
+
+pub returns-clause-warned : goal.returns-clause-warned
+returns-clause-warned g c = (disagreement_in (desk_of c.reads.desk), c.reads.invariant.warns, tt)

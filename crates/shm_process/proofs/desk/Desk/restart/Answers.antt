@@ -1,4 +1,4 @@
-use Rattle.std.proofs.Common.{rules, ◌≡◌, Some}
+use Rattle.std.proofs.Common.{rules, ◌≡◌, Some, refl}
 use Rattle.std.proofs.lemmas.Result.{IfOk-weaker}
 use Rattle.shm_process.specs.Cause.{OfRestart, cause_text}
 use Rattle.shm_process.specs.Desk.{restarted, with_step}
@@ -15,4 +15,4 @@ returns g c =
     let text : cause_text OfRestart ≡ c.as_slice.result.now = search rules in
     let next = desk_of c.push_step.new.self in
     IfOk-weaker c.push_step.result (λ _. next ≡ with_step (record desk { node = node }) (Some said)) (λ _. next ≡ restarted desk)
-    (λ _ e. restarted_so desk next node said c.in_ok-said.ensures.after c.in_ok-said.ensures.said e) (c.push_step.ensures OfRestart text)
+    (λ _ e. restarted_so desk next node said c.in_ok-said.ensures.after c.in_ok-said.ensures.said e) (c.push_step.ensures OfRestart text refl)

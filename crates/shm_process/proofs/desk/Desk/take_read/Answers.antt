@@ -25,7 +25,7 @@ returns-in-Some g c =
     sym (ap (option_map (said_of cause)) c.in-Some.is) ∙ c.in_ok-said.ensures.said ∙ ap (λ (n : Node). said n line) same in
     IfOk-weaker c.push_step.result (λ _. next ≡ with_step (record shown { node = node }) (Some says)) (λ _. next ≡ taken desk (Some line))
     (λ _ e. taken_so desk next shown (Some line) node (Some says) c.in_ok-show.ensures (c.in_ok-said.ensures.after ∙ ap (λ (n : Node). after n line) same) says_so e)
-    (c.push_step.ensures cause (sym c.requires.spelled))
+    (c.push_step.ensures cause (sym c.requires.spelled) (sym c.is_envelope-received.ensures))
 
 pub returns-in-None : goal.returns-in-None
 returns-in-None g c =

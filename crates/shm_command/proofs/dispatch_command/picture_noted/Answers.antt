@@ -1,0 +1,7 @@
+use Rattle.shm_command.proofs.dispatch_command.picture_noted.Goals as goal
+
+pub returns-in-Some-clause-drawn : goal.returns-in-Some-clause-drawn
+returns-in-Some-clause-drawn g c = rw c.in-Some.is c.picture_captioned.ensures.drawn
+
+pub returns-in-None-clause-drawn : goal.returns-in-None-clause-drawn
+returns-in-None-clause-drawn g c = rw c.in-None.is c.picture_from.ensures.drawn

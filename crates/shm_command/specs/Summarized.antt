@@ -1,0 +1,35 @@
+-- What is told of a journal, and the cause and the status where it isn't.
+use Rattle.std.specs.Prelude.{⊤, ◌≡◌, ◌≢◌, ℕ, List, Option}
+use Rattle.std.specs.Io.KnownBytes.{Appends}
+use Rattle.shm_journal.specs.Found.{Bad}
+use Rattle.shm_journal.specs.Summed.{IsSummary, found_any, summary_text}
+use Rattle.shm_journal.specs.declared.journal_error.JournalFault.TheVariants as journal
+use Rattle.shm_journal.specs.declared.journal_summary.Summary.{Summary}
+use Rattle.shm_command.specs.Audited.{unaudited_status}
+use Rattle.shm_command.specs.declared.audit_failure.Unaudited.{Unaudited}
+use Rattle.shm_command.specs.declared.audit_failure.Unaudited.TheVariants as cause
+
+-- a file is that of a journal, and what it has was written
+pub record TellsSummary (old new : Option (List ℕ)) : Type 0 where
+  pub file : List ℕ
+  pub summary : Summary
+  pub is : IsSummary file summary
+  pub told : Appends old new (summary_text summary)
+
+-- a file has a bad line there; or something else failed
+abbrev pub IsUntold : Unaudited → Type 0
+IsUntold (cause.Unread at (journal.BadLine number)) = (file : List ℕ) × (found_any file ≡ Bad number)
+IsUntold (cause.Unaccepted fault) = ⊥
+IsUntold _ = ⊤
+
+-- nothing is told, by a fault of this status
+pub record FailsSummary (status : ℕ) : Type 0 where
+  pub fault : Unaudited
+  pub told : status ≡ unaudited_status fault
+  pub why : IsUntold fault
+
+-- a journal was told of, to an end of this status
+pub record Summarizes (status : ℕ) (old new : Option (List ℕ)) : Type 0 where
+  pub told : status ≡ 0 → TellsSummary old new
+  pub failed : status ≢ 0 → FailsSummary status
+  pub quiet : status ≡ 1 → new ≡ old

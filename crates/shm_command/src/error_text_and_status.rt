@@ -1,0 +1,283 @@
+ghost use Rattle.std.specs.Prelude.{◌≡◌, ◌≢◌, ◌⊎◌, Err};
+ghost use Rattle.std.specs.IoError.{error_kind};
+ghost use Rattle.std.specs.declared.io.ErrorKind.TheVariants as io_kind;
+ghost use Rattle.clap.specs.Words.{kind_of};
+ghost use Rattle.clap.specs.declared.error.kind.ErrorKind.TheVariants as kind;
+ghost use Rattle.shm_command.specs.Audited.{unaudited_status};
+ghost use Rattle.shm_command.specs.Sealed.{seal_status};
+ghost use Rattle.shm_command.specs.Served.{site_status};
+ghost use Rattle.shm_command.specs.Status.{caption_status, fault_status, run_status};
+
+use crate::audit_failure::Unaudited;
+use crate::closed_standard_streams::Stream;
+use crate::replayed_steps_notice::TakenAgain;
+use crate::save_run_logs::Unlogged;
+use crate::script_file_error::ScriptFileFault;
+use crate::seal_error::SealFault;
+use crate::site_error::SiteFault;
+use clap::error::ErrorKind;
+use shm_audit::{JournalFault, JournalsFault};
+use shm_debug::DebugFault;
+use shm_draw::CaptionFault;
+use shm_journal::RecoveryFault;
+use shm_place::SiteId;
+use shm_process::{Health, Unopened};
+use shm_prompt::PromptFault;
+use shm_report::ReportFault;
+use shm_sites::AuditFault;
+use std::io::{self, Write};
+
+/// The exit status where a replay ended by this fault. Its one line goes to `errors`; a failure to write it is passed over.
+pub fn fault<E: Write>(fault: DebugFault, errors: &mut E) -> u8
+    ensures status { result ≡ fault_status fault }
+{
+    let _ = writeln!(errors, "shmdbg: {fault}");
+    match fault {
+        DebugFault::BadLine(_) | DebugFault::LineTooLong(_) | DebugFault::TooManyLines => 1,
+        DebugFault::OutOfMemory | DebugFault::ReadFault | DebugFault::WriteFault => 3,
+    }
+}
+
+/// The exit status where the file of this name gives no script. Its one line goes to `errors`.
+pub fn script_file_fault<E: Write>(fault: ScriptFileFault, name: &str, errors: &mut E) -> u8
+    ensures { result ≡ 3 }
+{
+    let _ = match fault {
+        ScriptFileFault::OutOfMemory => writeln!(errors, "shmdbg: out of memory"),
+        _ => writeln!(errors, "shmdbg: {name}: {fault}"),
+    };
+    3
+}
+
+/// The exit status where the notes in the file of this name have no captions. Its one line goes to `errors`.
+pub fn caption_fault<E: Write>(fault: CaptionFault, name: &str, errors: &mut E) -> u8
+    ensures { result ≡ caption_status fault }
+{
+    match fault {
+        CaptionFault::OutOfMemory => {
+            let _ = writeln!(errors, "shmdbg: out of memory");
+            3
+        }
+        CaptionFault::BadNote(_) => {
+            let _ = writeln!(errors, "shmdbg: {name}: {fault}");
+            1
+        }
+    }
+}
+
+/// The exit status where a dialog ended by this fault. Its one line goes to `errors`.
+pub fn prompt_fault<E: Write>(fault: PromptFault, errors: &mut E) -> u8
+    ensures { result ≡ 3 }
+{
+    let _ = writeln!(errors, "shmdbg: {fault}");
+    3
+}
+
+/// The exit status where a stream is closed that the program needs. Its one line goes to `errors`.
+pub fn closed_stream<E: Write>(stream: Stream, errors: &mut E) -> u8
+    ensures { result ≡ 3 }
+{
+    let _ = match stream {
+        Stream::Input => writeln!(errors, "shmdbg: standard input is closed"),
+        Stream::Output => writeln!(errors, "shmdbg: standard output is closed"),
+    };
+    3
+}
+
+/// The exit status where `/dev/null` can't be opened. Its one line goes to `errors`.
+pub fn no_null<E: Write>(errors: &mut E) -> u8
+    ensures { result ≡ 3 }
+{
+    let _ = writeln!(errors, "shmdbg: /dev/null: it can't be opened");
+    3
+}
+
+/// The exit status where a site's process ended by this fault. Its one line goes to `errors`.
+pub fn site_fault<E: Write>(fault: SiteFault, errors: &mut E) -> u8
+    ensures { result ≡ site_status (Err fault) }
+{
+    let _ = writeln!(errors, "shmdbg: {fault}");
+    match fault {
+        SiteFault::Missing | SiteFault::NoFile | SiteFault::Existing | SiteFault::Blank => 1,
+        SiteFault::Unrecovered(RecoveryFault::Foreign | RecoveryFault::BadLine(_)) => 1,
+        _ => 3,
+    }
+}
+
+/// The exit status where there is no seal as a site's words say. Its one line goes to `errors`.
+pub fn seal_error<E: Write>(fault: SealFault, errors: &mut E) -> u8
+    ensures { result ≡ seal_status fault }
+{
+    let _ = writeln!(errors, "shmdbg: {fault}");
+    match fault {
+        SealFault::BadName | SealFault::NoName | SealFault::NoKey => 1,
+        SealFault::Unread(_) => 3,
+    }
+}
+
+/// Tells what a site took again of its journal, and in how many milliseconds, if the clock could be read. A failure to write it is passed
+/// over.
+pub fn taken_again<E: Write>(again: TakenAgain, took: Option<u64>, errors: &mut E) {
+    let _ = match took {
+        Some(took) => writeln!(errors, "shmdbg: {again}, in {took} ms"),
+        None => writeln!(errors, "shmdbg: {again}"),
+    };
+}
+
+/// Tells how many lines a site didn't open, by their causes, if there was one. A failure to write it is passed over.
+pub fn unopened<E: Write>(counts: Unopened, errors: &mut E) {
+    let Unopened {
+        other_cluster,
+        no_digest,
+        wrong_digest,
+    } = counts;
+    if other_cluster == 0 && no_digest == 0 && wrong_digest == 0 {
+        return;
+    }
+    let _ = writeln!(
+        errors,
+        "shmdbg: lines passed over: {other_cluster} of another cluster, {no_digest} without a digest, {wrong_digest} with a wrong digest"
+    );
+}
+
+/// Tells what a site counted. A failure to write it is passed over.
+pub fn health<E: Write>(health: Health, errors: &mut E) {
+    let _ = writeln!(errors, "shmdbg: {health}");
+}
+
+/// The exit status where journals of these names weren't accepted. Its one line goes to `errors`: with the journal and the line, where there
+/// is one.
+pub fn audit_fault<E: Write>(fault: Unaudited, journals: &[&str], errors: &mut E) -> u8
+    ensures { result ≡ unaudited_status fault }
+{
+    let status = status_of(&fault);
+    let _ = write_unaudited(fault, journals, errors);
+    status
+}
+
+fn status_of(fault: &Unaudited) -> u8
+    ensures { result ≡ unaudited_status fault.now }
+{
+    match fault {
+        Unaudited::OutOfMemory | Unaudited::WriteFault | Unaudited::Unopened { .. } => 3,
+        Unaudited::Unread { at: _, fault } => match fault {
+            JournalFault::BadLine(_) => 1,
+            JournalFault::OutOfMemory | JournalFault::ReadFault => 3,
+        },
+        Unaudited::OtherCluster { .. } => 1,
+        Unaudited::Unaccepted(fault) => match fault {
+            JournalsFault::NotOneSet => 1,
+            JournalsFault::Audit(_) => 4,
+            JournalsFault::OutOfMemory => 3,
+        },
+    }
+}
+
+fn write_unaudited<E: Write>(
+    fault: Unaudited,
+    journals: &[&str],
+    errors: &mut E,
+) -> io::Result<()> {
+    match fault {
+        Unaudited::OutOfMemory => writeln!(errors, "shmdbg: out of memory"),
+        Unaudited::WriteFault => writeln!(errors, "shmdbg: write fault"),
+        Unaudited::Unopened { at } => {
+            let name = name_of(journals, at);
+            writeln!(errors, "shmdbg: {name}: it can't be opened")
+        }
+        Unaudited::Unread { at, fault } => {
+            let name = name_of(journals, at);
+            writeln!(errors, "shmdbg: {name}: {fault}")
+        }
+        Unaudited::OtherCluster { at } => {
+            let name = name_of(journals, at);
+            writeln!(
+                errors,
+                "shmdbg: {name}: of another cluster than the first journal"
+            )
+        }
+        Unaudited::Unaccepted(JournalsFault::Audit(cause)) => {
+            write_cause(cause, journals, errors)
+        }
+        Unaudited::Unaccepted(fault) => writeln!(errors, "shmdbg: {fault}"),
+    }
+}
+
+/// The cause, and the line of the journal where it stands: the first line is the header.
+fn write_cause<E: Write>(cause: AuditFault, journals: &[&str], errors: &mut E) -> io::Result<()> {
+    let Some((site, index)) = step_of(cause) else {
+        return writeln!(errors, "shmdbg: audit no: {cause}");
+    };
+    let name = name_of(journals, site.0 as usize);
+    let line = index.saturating_add(2);
+    writeln!(errors, "shmdbg: audit no: {cause}: {name}: line {line}")
+}
+
+/// The site and the index of the step with which a cause was found.
+fn step_of(cause: AuditFault) -> Option<(SiteId, usize)> {
+    match cause {
+        AuditFault::Unsent { site, index }
+        | AuditFault::StampOrder { site, index }
+        | AuditFault::Forged { site, index }
+        | AuditFault::Untold { site, index } => Some((site, index)),
+        AuditFault::OutOfMemory => None,
+    }
+}
+
+fn name_of<'a>(journals: &[&'a str], at: usize) -> &'a str {
+    match journals.get(at) {
+        Some(name) => name,
+        None => "journal",
+    }
+}
+
+/// The exit status where the words were not taken, which may be for want of memory.
+pub fn refused_words<E: Write>(error: &clap::Error, errors: &mut E) -> u8
+    ensures status { ((kind_of error.now ≡ kind.OutOfMemory) × (result ≡ 3))
+        ⊎ ((kind_of error.now ≢ kind.OutOfMemory) × (result ≡ 2)) }
+{
+    if error.kind() == ErrorKind::OutOfMemory {
+        return fault(DebugFault::OutOfMemory, errors);
+    }
+    let _ = write!(errors, "{error}");
+    2
+}
+
+/// The exit status where a run ended by this fault. Its one line goes to `errors`.
+pub fn run_fault<E: Write>(fault: ReportFault, errors: &mut E) -> u8
+    ensures status { result ≡ run_status fault }
+{
+    let _ = writeln!(errors, "shmdbg: {fault}");
+    match fault {
+        ReportFault::BadLine(_) | ReportFault::LineTooLong(_) | ReportFault::TooManyLines => 1,
+        ReportFault::GaveUp(_) | ReportFault::Logs | ReportFault::Audit(_) => 4,
+        ReportFault::OutOfMemory
+        | ReportFault::ReadFault
+        | ReportFault::WriteFault
+        | ReportFault::NoThread
+        | ReportFault::ClockEnd => 3,
+    }
+}
+
+/// The exit status where a run's logs couldn't be made ready. Its one line goes to `errors`.
+pub fn logs_fault<E: Write>(unlogged: &Unlogged, errors: &mut E) -> u8
+    ensures { result ≡ 3 }
+{
+    let _ = match unlogged {
+        Unlogged::OutOfMemory => writeln!(errors, "shmdbg: out of memory"),
+        Unlogged::Unopened(name) => writeln!(errors, "shmdbg: {name}: it can't be opened"),
+    };
+    3
+}
+
+/// The exit status where the process's words could not be read: memory was refused, or a word is no UTF-8.
+pub fn unread_words<E: Write>(error: &io::Error, errors: &mut E) -> u8
+    ensures status { ((error_kind error.now ≡ io_kind.OutOfMemory) × (result ≡ 3))
+        ⊎ ((error_kind error.now ≢ io_kind.OutOfMemory) × (result ≡ 2)) }
+{
+    if error.kind() == io::ErrorKind::OutOfMemory {
+        return fault(DebugFault::OutOfMemory, errors);
+    }
+    let _ = errors.write_all(b"error: a word is not UTF-8\n");
+    2
+}

@@ -1,0 +1,195 @@
+//! The file of a site's journal: it is as it was asked for, one process alone has it, and what is torn at its end is cut off.
+ghost use Rattle.std.specs.Prelude.{◌≡◌, ◌≤◌, ◌<◌, ℕ, List, if◌then◌else◌, not, IfErr, IfOk, IfSome, OnOk};
+ghost use Rattle.shm_journal.specs.Found.{bytes_of_lines, lines_of};
+ghost use Rattle.shm_journal.specs.Recovers.{ReadsAll};
+ghost use Rattle.shm_command.specs.Begun.{BeginsKept, ReadsUnbegun, header_at};
+ghost use Rattle.shm_command.specs.Served.{IsUnbegun};
+ghost use Rattle.shm_command.specs.TakenAgain.{IsTakenAgain};
+ghost use Rattle.shm_process.specs.DeskOf.{desk_of};
+ghost use Rattle.shm_seal.specs.Seal.{cluster_of};
+ghost use Rattle.shm_seal.specs.SealOf.{seal_of};
+
+use crate::replayed_steps_notice::TakenAgain;
+use crate::site_error::SiteFault;
+use shm_journal::{Header, Recovered, open_desk, recover};
+use shm_place::{PAGES, SiteId, Sites};
+use shm_process::{Desk, Start};
+use shm_seal::Seal;
+use std::fs::{self, File, OpenFile, OpenOptions, TryLockError};
+use std::io::{self, ErrorKind, Read};
+use std::rt::Files;
+
+/// A file that one process alone may take.
+pub trait Lock {
+    /// Takes it, until it is closed, if no other process has.
+    fn lock_alone(&self) -> Result<(), TryLockError>;
+}
+
+impl Lock for File {
+    fn lock_alone(&self) -> Result<(), TryLockError> {
+        self.try_lock()
+    }
+}
+
+/// A journal that is asked for.
+#[derive(Clone, Copy)]
+pub(crate) struct Kept<'a> {
+    /// Its file.
+    pub(crate) name: &'a str,
+    /// Whether the site begins the journal, or goes on with it.
+    pub(crate) begins: bool,
+}
+
+/// A site that can begin with its journal.
+#[derive(Drop)]
+pub(crate) struct Begun {
+    /// Its desk.
+    pub(crate) desk: Desk,
+    /// How many bytes the journal has. They are durable.
+    pub(crate) durable: u64,
+    /// The count of what the site took again.
+    pub(crate) again: TakenAgain,
+}
+
+/// Looks at the journal's name: it has to name a plain file or, if the journal is to be begun, may name nothing. A pipe or a device isn't
+/// even opened.
+fn look_at<R: Files>(rt: &R, kept: Kept<'_>) -> Result<(), SiteFault>
+    ensures { IfErr result IsUnbegun }
+{
+    match fs::metadata(rt, kept.name) {
+        Ok(found) if found.is_file() => Ok(()),
+        Ok(_) => Err(SiteFault::NoFile),
+        Err(error) if error.kind() != ErrorKind::NotFound => Err(SiteFault::Unopened),
+        Err(_) if kept.begins => Ok(()),
+        Err(_) => Err(SiteFault::Missing),
+    }
+}
+
+/// Opens the journal's file. Makes it, if the journal is to be begun and there is none.
+pub(crate) fn open_journal<R: Files>(rt: &R, kept: Kept<'_>) -> Result<R::File, SiteFault>
+where
+    R::File: Lock,
+    ensures { IfErr result IsUnbegun }
+{
+    match look_at(rt, kept) {
+        Ok(()) => {}
+        Err(fault) => return Err(fault),
+    }
+    let opened = OpenOptions::new()
+        .read(true)
+        .append(true)
+        .create(kept.begins)
+        .open(rt, kept.name);
+    let Ok(file) = opened else {
+        return Err(SiteFault::Unopened);
+    };
+    match file.lock_alone() {
+        Ok(()) => Ok(file),
+        Err(TryLockError::WouldBlock) => Err(SiteFault::Taken),
+        Err(TryLockError::Error(_)) => Err(SiteFault::Unopened),
+    }
+}
+
+/// Begins a site with what it finds in its journal. There has to be no whole line exactly where the journal is to be begun. Cuts off what
+/// is torn, and makes that durable; for a new journal it makes the file's name durable too. `since` is when the process started, in seconds
+/// since 1970.
+pub(crate) fn begin_kept<R: AllocGlobal + Files, F: Read + OpenFile>(
+    rt: &R,
+    sites: Sites,
+    me: SiteId,
+    pages: u32,
+    seal: Seal,
+    kept: Kept<'_>,
+    since: u64,
+    file: &mut F,
+) -> Result<Begun, SiteFault>
+    requires below { me < sites }
+    requires from { 1 ≤ pages }
+    requires to { pages ≤ PAGES }
+    ensures begun { IfOk result (λ begun. (journal : List ℕ) × IfSome (F.remaining file.old) (λ known. journal ≡ known)
+        × (begun.durable ≡ bytes_of_lines (lines_of journal).whole)
+        × BeginsKept kept.entry.begins (seal_of seal) (header_at sites me pages (cluster_of (seal_of seal))) since journal (desk_of begun.desk)) }
+    ensures again { IfOk result (λ begun. IsTakenAgain (header_at sites me pages (cluster_of (seal_of seal))) (F.remaining file.old) begun.again) }
+    ensures all { OnOk result (ReadsAll (F.remaining file.old) (F.remaining file.new)) }
+    ensures left { IfErr result (ReadsUnbegun (header_at sites me pages (cluster_of (seal_of seal))) (F.remaining file.old) (F.remaining file.new)) }
+    ensures unbegun { IfErr result IsUnbegun }
+{
+    let cluster = seal.name();
+    let found = match recover(rt.alloc(), sites, me, pages, cluster, file) {
+        Ok(found) => found,
+        Err(fault) => return Err(SiteFault::Unrecovered(fault)),
+    };
+    let Recovered {
+        node,
+        whole,
+        is_new,
+    } = found;
+    if !is_as_asked(kept.begins, is_new) {
+        if kept.begins {
+            return Err(SiteFault::Existing);
+        }
+        return Err(SiteFault::Blank);
+    }
+    let again = TakenAgain {
+        steps: node.steps(),
+        clock: node.clock(),
+        torn: bytes_behind(file, whole),
+    };
+    if cut(file, whole).is_err() {
+        return Err(SiteFault::Uncut);
+    }
+    if list_new(rt, kept.name, is_new).is_err() {
+        return Err(SiteFault::Unlisted);
+    }
+    let header = Header {
+        sites: sites.count(),
+        me: me.0,
+        pages,
+        cluster,
+    };
+    let start = Start {
+        journal: whole,
+        since,
+    };
+    match open_desk(rt.alloc(), header, seal, is_new, node, start) {
+        Ok(desk) => Ok(Begun {
+            desk,
+            durable: whole,
+            again,
+        }),
+        Err(fault) => Err(SiteFault::Unopenable(fault)),
+    }
+}
+
+/// Checks that a journal is new exactly where it is to be begun.
+fn is_as_asked(begins: bool, is_new: bool) -> bool
+    ensures { result ≡ (if begins then is_new else not is_new) }
+{
+    if begins { is_new } else { !is_new }
+}
+
+/// Makes durable, of a new file, that its folder has it.
+fn list_new<R: AllocGlobal + Files>(rt: &R, name: &str, is_new: bool) -> io::Result<()> {
+    if !is_new {
+        return Ok(());
+    }
+    let file = fs::canonicalize(rt, name)?;
+    match file.parent() {
+        Some(folder) => File::open(rt, folder)?.sync_all(),
+        None => Ok(()),
+    }
+}
+
+/// The number of bytes behind this many; 0 where the file doesn't tell its length.
+fn bytes_behind<F: OpenFile>(file: &F, bytes: u64) -> u64 {
+    match file.metadata() {
+        Ok(found) => found.len().saturating_sub(bytes),
+        Err(_) => 0,
+    }
+}
+
+/// Cuts the file to this many bytes, and makes that durable.
+pub(crate) fn cut<F: OpenFile>(file: &F, bytes: u64) -> io::Result<()> {
+    file.set_len(bytes)?;
+    file.sync_all()
+}

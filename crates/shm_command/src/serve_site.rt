@@ -1,0 +1,155 @@
+//! A site as a process, with a journal or without.
+ghost use Rattle.std.specs.Prelude.{◌≡◌, ◌≤◌, ◌<◌, None, Some, IfOk};
+ghost use Rattle.shm_journal.specs.DeskFrom.{opening_of};
+ghost use Rattle.shm_process.specs.Desk.{greeting_at};
+ghost use Rattle.shm_process.specs.DeskOf.{desk_of};
+ghost use Rattle.shm_process.specs.Node.{new_node};
+ghost use Rattle.shm_seal.specs.Seal.{cluster_of};
+ghost use Rattle.shm_seal.specs.SealOf.{seal_of};
+ghost use Rattle.shm_command.specs.Around.{streams};
+ghost use Rattle.shm_command.specs.Begun.{header_at, start_at};
+ghost use Rattle.shm_command.specs.Served.{IsServed, ServesFrom};
+
+use crate::elapsed_time::{milliseconds_since, seconds_since_1970};
+use crate::error_text_and_status;
+use crate::journal_backends::{JournalFile, NoJournal};
+use crate::journal_startup::{Begun, Kept, Lock, begin_kept, open_journal};
+use crate::site_error::SiteFault;
+use shm_journal::{Header, ProcessFault, serve};
+use shm_place::{PAGES, SiteId, Sites};
+use shm_process::{Desk, Node, Start};
+use shm_seal::Seal;
+use std::alloc::{AllocError, Global};
+use std::fs::OpenFile;
+use std::io::{Read, Write};
+use std::rt::{Clock, Files};
+use std::time::Instant;
+
+/// Runs this site until its input ends. Without a journal, all that the site holds ends with it. Writes to `errors` if another site was begun
+/// with other numbers, and how many lines weren't opened.
+pub(crate) fn be_site<R: AllocGlobal + Clock, I: Read, O: Write, E: Write>(
+    rt: &R,
+    sites: Sites,
+    me: SiteId,
+    pages: u32,
+    seal: Seal,
+    reader: &mut I,
+    out: &mut O,
+    errors: &mut E,
+) -> Result<(), SiteFault>
+    requires below { me < sites }
+    requires from { 1 ≤ pages }
+    requires to { pages ≤ PAGES }
+    ensures { IsServed None (seal_of seal) (header_at sites me pages (cluster_of (seal_of seal))) result (streams (I.remaining reader.old) (O.contents out.old))
+        (streams (I.remaining reader.new) (O.contents out.new)) }
+{
+    let since = seconds_since_1970(rt);
+    let Ok(desk) = begin(rt.alloc(), sites, me, pages, seal, since) else {
+        return Err(SiteFault::OutOfMemory);
+    };
+    let mut desk = desk;
+    let ended = serve(&mut desk, reader, out, errors, &mut NoJournal);
+    error_text_and_status::unopened(desk.counts().unopened, errors);
+    drop(desk);
+    match ended {
+        Ok(()) => Ok(()),
+        Err(fault) => Err(SiteFault::Ended(fault)),
+    }
+}
+
+/// Runs this site until its input ends, and keeps its steps in this journal. Writes to `errors` what it takes again of a journal that it
+/// goes on with and how long that took, if another site was begun with other numbers, how many lines weren't opened, and its counts at the
+/// end.
+pub(crate) fn be_kept_site<R: AllocGlobal + Clock + Files, I: Read, O: Write, E: Write>(
+    rt: &R,
+    sites: Sites,
+    me: SiteId,
+    pages: u32,
+    seal: Seal,
+    kept: Kept<'_>,
+    reader: &mut I,
+    out: &mut O,
+    errors: &mut E,
+) -> Result<(), SiteFault>
+where
+    R::File: Lock,
+    requires below { me < sites }
+    requires from { 1 ≤ pages }
+    requires to { pages ≤ PAGES }
+    ensures { IsServed (Some kept.entry.begins) (seal_of seal) (header_at sites me pages (cluster_of (seal_of seal))) result (streams (I.remaining reader.old) (O.contents out.old))
+        (streams (I.remaining reader.new) (O.contents out.new)) }
+{
+    let mut file = match open_journal(rt, kept) {
+        Ok(file) => file,
+        Err(fault) => return Err(fault),
+    };
+    let started = Instant::now(rt).ok();
+    let since = seconds_since_1970(rt);
+    match begin_kept(rt, sites, me, pages, seal, kept, since, &mut file) {
+        Ok(begun) => {
+            let Begun {
+                desk,
+                durable,
+                again,
+            } = begun;
+            if !kept.begins {
+                error_text_and_status::taken_again(again, milliseconds_since(rt, started), errors);
+            }
+            serve_kept(desk, reader, out, JournalFile::new(file, durable), errors)
+        }
+        Err(fault) => Err(fault),
+    }
+}
+
+/// The desk of a site at which nothing has happened, in a process that started at this time, in seconds since 1970.
+fn begin(
+    alloc: Global,
+    sites: Sites,
+    me: SiteId,
+    pages: u32,
+    seal: Seal,
+    since: u64,
+) -> Result<Desk, AllocError>
+    requires below { me < sites }
+    requires from { 1 ≤ pages }
+    requires to { pages ≤ PAGES }
+    ensures { IfOk result (λ desk. desk_of desk ≡ greeting_at (seal_of seal) (new_node sites me pages)
+        (opening_of (header_at sites me pages (cluster_of (seal_of seal)))) (start_at since 0)) }
+{
+    let node = Node::new(alloc, sites, me, pages)?;
+    let header = Header {
+        sites: sites.count(),
+        me: me.0,
+        pages,
+        cluster: seal.name(),
+    };
+    let start = Start { journal: 0, since };
+    Desk::greeting(alloc, seal, node, header.opening(), start)
+}
+
+/// Serves the input and the output, and keeps what is recorded in a file. Where that fails, what isn't durable is cut off again.
+fn serve_kept<I: Read, O: Write, F: Write + OpenFile + Drop, E: Write>(
+    desk: Desk,
+    reader: &mut I,
+    out: &mut O,
+    journal: JournalFile<F>,
+    errors: &mut E,
+) -> Result<(), SiteFault>
+    ensures { ServesFrom (desk_of desk) result (streams (I.remaining reader.old) (O.contents out.old))
+        (streams (I.remaining reader.new) (O.contents out.new)) }
+{
+    let mut journal = journal;
+    let mut desk = desk;
+    let ended = serve(&mut desk, reader, out, errors, &mut journal);
+    error_text_and_status::unopened(desk.counts().unopened, errors);
+    error_text_and_status::health(desk.node().health(desk.counts()), errors);
+    drop(desk);
+    match ended {
+        Ok(()) => Ok(()),
+        Err(ProcessFault::JournalFault) => match journal.cut_back() {
+            Ok(()) => Err(SiteFault::Ended(ProcessFault::JournalFault)),
+            Err(_) => Err(SiteFault::Loose(journal.durable())),
+        },
+        Err(fault) => Err(SiteFault::Ended(fault)),
+    }
+}

@@ -1,0 +1,116 @@
+//! Files of which no contract speaks: the journals of two sites, a journal that another process has, and the logs of a run.
+use super::{expect, run_over};
+use shm_command::Lock;
+use std::fs::{self, OpenOptions};
+use std::test::Fail;
+
+/// The journals of two sites, which share a page: site 0 stores to it, site 1 ticks.
+const BEGUN: [(&str, &str); 2] = [
+    (
+        "first.journal",
+        "journal 2 0 1\nstep 1 ask 0 a store 0 5 7\n",
+    ),
+    ("second.journal", "journal 2 1 1\nstep 1 ask 1 b tick\n"),
+];
+
+/// Each journal is read, in its turn, and stays as it was. A cause is told with the file and the line in which it stands.
+#[test]
+fn two_journals_are_audited(rt: HostRuntime) -> Result<(), Fail> {
+    for (name, text) in BEGUN {
+        fs::write(&rt, name, text.as_bytes())?;
+    }
+    let yes = "audit yes\nsteps 2\naccesses 1\nenvelopes 0\n";
+    let no = "shmdbg: audit no: unsent 1 1: second.journal: line 3\n";
+    let cases: [(&str, &str, &str, u8, &str, &str); 3] = [
+        ("", "first.journal", "second.journal", 0, yes, ""),
+        (
+            "",
+            "second.journal",
+            "first.journal",
+            1,
+            "",
+            "shmdbg: not one set of journals\n",
+        ),
+        (
+            "step 2 env 0 1 1 0 0 clear 0 0 1\n",
+            "first.journal",
+            "second.journal",
+            4,
+            "",
+            no,
+        ),
+    ];
+    for (more, one, other, status, told, errors) in cases {
+        let (name, text) = BEGUN[1];
+        let second = format!(in rt.alloc(); "{text}{more}")?;
+        fs::write(&rt, name, second.as_bytes())?;
+        let mut reader = b"".as_slice();
+        let ran = run_over(
+            &rt,
+            &["shmdbg", "audit", "--sites", "2", one, other],
+            &mut reader,
+        );
+        expect(&rt, &ran, status, told.as_bytes(), errors.as_bytes());
+        let left = fs::read(&rt, name)?;
+        assert_eq!(rt; left.as_slice(), second.as_bytes());
+    }
+    for (name, _text) in BEGUN {
+        fs::remove_file(&rt, name)?;
+    }
+    Ok(())
+}
+
+/// While a journal is taken no process has it: nothing is told, and the file stays as it was.
+#[test]
+fn a_journal_that_is_taken(rt: HostRuntime) -> Result<(), Fail> {
+    let (name, text) = ("taken.journal", "journal 1 0 1\n");
+    fs::write(&rt, name, text.as_bytes())?;
+    let held = OpenOptions::new().read(true).append(true).open(&rt, name)?;
+    assert!(rt; held.lock_alone().is_ok());
+    let mut reader = b"ask 0 a store 0 5 7\n".as_slice();
+    let words = [
+        "shmdbg",
+        "site",
+        "--sites=1",
+        "--me=0",
+        "--preset=1",
+        "--journal",
+        name,
+    ];
+    let ran = run_over(&rt, &words, &mut reader);
+    drop(held);
+    expect(
+        &rt,
+        &ran,
+        3,
+        b"",
+        b"shmdbg: journal: another process has it\n",
+    );
+    let left = fs::read(&rt, name)?;
+    assert_eq!(rt; left.as_slice(), text.as_bytes());
+    fs::remove_file(&rt, name)?;
+    Ok(())
+}
+
+/// Each site's log is saved under the site's name, in the place of what was there.
+#[test]
+fn the_logs_of_a_run_are_saved(rt: HostRuntime) -> Result<(), Fail> {
+    let logs = [
+        ("./site-0.log", " store 0 0 0 7 > stored"),
+        ("./site-1.log", " load 1 0 0 > "),
+    ];
+    for (name, _step) in logs {
+        fs::write(&rt, name, b"old\n".as_slice())?;
+    }
+    let mut reader = b"preset 1\nstore 0 0 7\nload 1 0\n".as_slice();
+    let words = ["shmdbg", "run", "--sites", "2", "--seed", "1", "--log", "."];
+    let ran = run_over(&rt, &words, &mut reader);
+    assert_eq!(rt; (ran.status, ran.errors.as_slice()), (0, b"".as_slice()));
+    for (name, step) in logs {
+        let saved = fs::read(&rt, name)?;
+        let text = std::str::from_utf8(saved.as_slice()).unwrap_or("");
+        assert!(rt; text.contains(step) && !text.contains("old"), "{name}");
+        fs::remove_file(&rt, name)?;
+    }
+    Ok(())
+}

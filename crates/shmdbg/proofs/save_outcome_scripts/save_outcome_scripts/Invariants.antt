@@ -1,8 +1,0 @@
-use Rattle.std.proofs.Common.{take}
-use Rattle.shmdbg.specs.Kept.{kept, AddsAll}
-use Rattle.shmdbg.proofs.save_outcome_scripts.save_outcome_scripts.Given as goal
-
--- the outcomes so far were saved
-abbrev pub invariant-outcomes : goal.invariant-outcomes
-invariant-outcomes g l =
-    AddsAll (g.F.SaveFile.saves l.initial.files) (g.F.SaveFile.saves l.files) (kept l.fn.folder l.fn.sites l.fn.pages 1 (take l.place l.outcomes))

@@ -1,5 +1,0 @@
-use Rattle.shmdbg.proofs.Streaming.{did_nothing}
-use Rattle.shmdbg.proofs.serve_site.be_site.Goals as goal
-
-pub returns-in_default : goal.returns-in_default
-returns-in_default g c = did_nothing (g.I.Read.remaining c.args.reader.now) (g.O.Write.contents c.args.out.now)
