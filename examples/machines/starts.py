@@ -187,6 +187,15 @@ def try_full(program, folder):
     start('a full disk', words(program, journal, new=True), 3, FAILED, preexec_fn=limit)
     stays('a full disk', journal, HEADER)
     start('a full disk, later', words(program, journal), 0, AGAIN, b'tell 0 b byte 0\n', given=b'ask 0 b load 0 5\n')
+    restarted = STORED + b'step 2 restart\n'
+
+    def limit_later():
+        signal.signal(signal.SIGXFSZ, signal.SIG_IGN)
+        resource.setrlimit(resource.RLIMIT_FSIZE, (len(restarted) + 5, len(restarted) + 5))
+    write(journal, STORED)
+    again = AGAIN.replace('again: 0, clock: 0', 'again: 1, clock: 1')
+    start('a full disk after a restart', words(program, journal), 3, f'{again}\nshmdbg: {FAILED}', preexec_fn=limit_later)
+    stays('a full disk after a restart', journal, restarted)
 
 
 def try_streams(program, folder):
@@ -227,6 +236,11 @@ def try_audits(program, folder):
         start(name, audit(program, 2, *journals), status, fault, told)
         stays(name, first, STORED)
         stays(name, second, text)
+    named = STORED.replace(b'\n', b' @north\n', 1)
+    for name, one, other in (('an audit of a named cluster', STORED, ticked.replace(b'\n', b' @north\n', 1)), ('an audit of no cluster', named, ticked)):
+        write(first, one)
+        write(second, other)
+        start(name, audit(program, 2, first, second), 1, f'{second}: of another cluster than the first journal', b'')
 
 
 def try_saves(program, folder):

@@ -219,7 +219,7 @@ pub(super) fn type_at_once(
 }
 
 /// What is typed, and what is told.
-const DIALOGS: [(&str, &str); 11] = [
+const DIALOGS: [(&str, &str); 13] = [
     (
         "sites 2 preset 1\nstore 0 0 0 7\n  load 0 0 0\nload 0 0 0\nload 0 5 0\nundo\nundo\nexit\nload 0 0 0\n",
         "1 ready\n2 stored\n3 byte 7\n4 byte 7\n5 refused 9: site 0 has no such attachment\n\
@@ -289,6 +289,20 @@ not opened: the file's name is no text\n3 took\n",
 not noted: a note has at most 200 bytes, in UTF-8 without control characters\n1 noted\nnot saved: full can't be written\n\
 expected: notes FILE, where FILE is one word\nsaved to n\n",
     ),
+    (
+        "sites 1 preset 1\nget 0 0 0 7 1 600 c\nflight\ndeliver 0\ndeliver 1\nsegments\n",
+        "1 ready\n2 began 1 m0>0:Call\nm0 0>0 Call number 1\n3 took m1>0:Reply\n4 replied 1 id 1\n\
+key        shmid      owner      perms      bytes      nattch     status\n\
+0x00000000 0          0          666        4096       1          \n\
+0x00000007 1          0          600        1          0          \n",
+    ),
+    (
+        "sites 2 preset 3\nload 1 0 0\nload 1 0 8192\nbook 0 0\n",
+        "1 ready\n2 fault m0>0:Ask\n3 fault m1>0:Ask\n\
+page        site 0        site 1        manager\n\
+0 0         OwnWrite/0    Nil/0         0: owner 0 copies - t 0 idle\n\
+site 1 waits for page 0 0 to read, request 1\n",
+    ),
     ("quit\n? \n", ""),
 ];
 
@@ -326,12 +340,16 @@ const GREETING: &str = "shmdbg prompt: `help` lists what you may type, `exit` or
 ";
 
 /// What is typed at a terminal, read by read, and what is told behind the greeting.
-const AT_TERMINAL: [(&[&str], &str); 7] = [
+const AT_TERMINAL: [(&[&str], &str); 8] = [
     (&[""], "> \n"),
     (&["exit\n"], "> "),
     (
         &["sites 1\n", "", ""],
         "> 1 ready\n> \nwhat stands is not saved: `save FILE` first, or Ctrl-D again\n> \n",
+    ),
+    (
+        &["sites 1\ntick 0\nsave a\nundo\n", "", ""],
+        "> 1 ready\n2 took\nsaved to a\n1 back 0: tick 0\n> \nwhat stands is not saved: `save FILE` first, or Ctrl-D again\n> \n",
     ),
     (
         &["sites 1\n", "save full\n", "", "save a\n", "help x\n", ""],
