@@ -22,7 +22,7 @@ broker() { mosquitto -c broker.conf & broker=$!; }
 hear() { mosquitto_sub -h localhost -p $port --cafile ca.crt -t cluster "$@"; }
 say() { mosquitto_pub -h localhost -p $port --cafile ca.crt -t cluster -l; }
 site() {
-    "$PROGRAM" site --sites 3 --me $1 --preset 1 --new --journal site-$1.journal < /dev/null
+    "$PROGRAM" site --sites 3 --me $1 --preset 1 --new --journal site-$1.journal < /dev/null > /dev/null
     while sleep 1; do hear | "$PROGRAM" site --sites 3 --me $1 --preset 1 --journal site-$1.journal | say; done
 }
 ask() {  # ask SITE TAG ..: again and again, until there is an answer
