@@ -1,8 +1,8 @@
 /* leddwyfan-host: one machine's daemon. It starts the site `shmdbg site`, carries lines between it and the other machines' sites, ticks it, and
    serves the programs that leddwyfan-run starts here.
 
-       leddwyfan-host --sites N --me K [--journal FILE [--new]] [--cluster NAME [--key FILE]] [--socket PATH] [--stay MICROSECONDS]
-                      [--program shmdbg] [-- CARRIER..]
+       leddwyfan-host --sites N --me K [--journal FILE [--new] [--relaxed]] [--cluster NAME [--key FILE]] [--socket PATH]
+                      [--stay MICROSECONDS] [--program shmdbg] [-- CARRIER.. [-- CARRIER..]]
 
    CARRIER is a command whose standard output has the lines of all sites, and whose standard input takes this site's: `-- ssh other ..`. Or it
    is two, the first of which gives the lines and the second takes them: `-- mosquitto_sub .. -- mosquitto_pub .. -l`. With none it is the
@@ -12,7 +12,6 @@
 #include <getopt.h>
 #include <poll.h>
 #include <signal.h>
-#include <stdarg.h>
 #include <sys/epoll.h>
 #include <sys/resource.h>
 #include <sys/wait.h>
@@ -31,32 +30,17 @@ static int poller;
 static bool heard, carried = true; /* something came since the last tick, and since the carrier was started again */
 static volatile sig_atomic_t ending;
 
-int64_t now(void) {
-    struct timespec time;
-    clock_gettime(CLOCK_MONOTONIC, &time);
-    return time.tv_sec * SECOND + time.tv_nsec;
-}
-
 void *room(void *old, size_t size) {
     void *memory = realloc(old, size);
-    if (memory == NULL) FAIL("no memory");
+    if (memory == NULL) errx(1, "no memory");
     return memory;
-}
-
-void complain(const char *format, ...) {
-    va_list values;
-    va_start(values, format);
-    fprintf(stderr, "leddwyfan-host %d: ", options.me);
-    vfprintf(stderr, format, values);
-    fputc('\n', stderr);
-    va_end(values);
 }
 
 void watch(int descriptor, struct source *source) {
     struct epoll_event event = {.events = EPOLLIN, .data.ptr = source};
     if (epoll_ctl(poller, EPOLL_CTL_ADD, descriptor, &event) == 0) return;
-    if (errno == EPERM) FAIL("nothing can be awaited from standard input: give a carrier behind --");
-    FAIL("nothing more can be awaited: %s", strerror(errno));
+    if (errno == EPERM) errx(1, "nothing can be awaited from standard input: give a carrier behind --");
+    err(1, "nothing more can be awaited");
 }
 
 /* Lines. */
@@ -67,36 +51,30 @@ static void reserve(struct channel *channel, size_t more) {
     channel->bytes = room(channel->bytes, channel->capacity);
 }
 
-void push_line(struct channel *channel, const char *line) {
-    size_t length = strlen(line);
-    reserve(channel, length + 1);
-    memcpy(channel->bytes + channel->length, line, length);
-    channel->length += length + 1;
-    channel->bytes[channel->length - 1] = '\n';
+void push_bytes(struct channel *channel, const char *bytes, size_t length) {
+    reserve(channel, length);
+    if (length > 0) memcpy(channel->bytes + channel->length, bytes, length);
+    channel->length += length;
 }
 
-/* The same of a line that has no seal yet. */
-void push_sealed(struct channel *channel, const char *line) {
+/* A line that has no seal yet gets it. */
+void push_line(struct channel *channel, const char *line, bool seals) {
     size_t length = strlen(line);
     reserve(channel, length + SEAL_BYTES + 1);
-    char *copy = channel->bytes + channel->length;
-    memcpy(copy, line, length);
-    length += seal_append(&options.seal, copy, length);
+    char *copy = memcpy(channel->bytes + channel->length, line, length);
+    if (seals) length += seal_append(&options.seal, copy, length);
     copy[length] = '\n';
     channel->length += length + 1;
 }
 
-static void take_off(struct channel *channel, size_t count) {
+void take_off(struct channel *channel, size_t count) {
     channel->length -= count;
     memmove(channel->bytes, channel->bytes + count, channel->length);
 }
 
 void write_lines(struct channel *channel) {
-    ssize_t count = 1;
-    while (channel->length > 0 && count > 0) {
-        count = write(channel->descriptor, channel->bytes, channel->length);
-        if (count > 0) take_off(channel, (size_t)count);
-    }
+    ssize_t count;
+    while (channel->length > 0 && (count = write(channel->descriptor, channel->bytes, channel->length)) > 0) take_off(channel, (size_t)count);
 }
 
 bool read_lines(struct channel *channel, void (*take)(char *)) {
@@ -115,7 +93,7 @@ bool read_lines(struct channel *channel, void (*take)(char *)) {
 
 /* Where too much is on its way already this line is lost: a tick sends it again. */
 void carry(const char *line) {
-    if (to_carrier.length < MOST_UNWRITTEN) push_line(&to_carrier, line);
+    if (to_carrier.length < MOST_UNWRITTEN) push_line(&to_carrier, line, false);
 }
 
 /* Processes. */
@@ -125,10 +103,10 @@ static void set_up(int descriptor) {
     fcntl(descriptor, F_SETFL, fcntl(descriptor, F_GETFL) | O_NONBLOCK);
 }
 
-/* Starts a command whose input and output are the channels', where there are any. */
+/* Starts a command whose input and output are the channels'; without a channel, the daemon's own. */
 pid_t start_process(char *const *words, struct channel *input, struct channel *output) {
-    int into[2], out_of[2];
-    if (pipe2(into, O_CLOEXEC) < 0 || pipe2(out_of, O_CLOEXEC) < 0) FAIL("no pipe: %s", strerror(errno));
+    int into[2] = {0, -1}, out_of[2] = {-1, 1};
+    if ((input != NULL && pipe2(into, O_CLOEXEC) < 0) || (output != NULL && pipe2(out_of, O_CLOEXEC) < 0)) err(1, "no pipe");
     pid_t process = fork();
     if (process == 0) {
         setpgid(0, 0); /* what a terminal interrupts is the daemon, which ends the others in order */
@@ -136,25 +114,19 @@ pid_t start_process(char *const *words, struct channel *input, struct channel *o
         dup2(into[0], 0);
         dup2(out_of[1], 1);
         execvp(words[0], words);
-        complain("%s can't be started: %s", words[0], strerror(errno));
+        warn("%s can't be started", words[0]);
         _exit(127);
     }
-    close(into[0]);
-    close(out_of[1]);
-    set_up(input->descriptor = into[1]);
-    set_up(output->descriptor = out_of[0]);
+    if (input != NULL) close(into[0]), set_up(input->descriptor = into[1]);
+    if (output != NULL) close(out_of[1]), set_up(output->descriptor = out_of[0]);
     return process;
 }
 
 /* The carrier. */
 
-/* A line that isn't the cluster's says nothing. */
 static void hear_line(char *line) {
-    size_t length = strlen(line);
     heard = carried = true;
-    if (!seal_is_behind(&options.seal, line, length)) return;
-    line[length - seal_length(&options.seal)] = '\0';
-    take_stream_line(line);
+    pass_line(line);
 }
 
 static void stop_carrier(void) {
@@ -172,25 +144,19 @@ static void carrier_ready(struct source *source) {
     (void)source;
     if (carrier_due != 0 || read_lines(&from_carrier, hear_line)) return;
     stop_carrier();
-    if (carried) complain("%s", carriers[0] == NULL ? "the stream has ended" : "the carrier has ended, and is started again each second");
+    if (carried) warnx("%s", carriers[0] == NULL ? "the stream has ended" : "the carrier has ended, and is started again each second");
     carried = false;
     carrier_due = carriers[0] == NULL ? INT64_MAX : now() + SECOND;
 }
 
 static void start_carrier(void) {
     static struct source source = {carrier_ready};
-    static struct channel unused[2] = {{.descriptor = -1}, {.descriptor = -1}};
+    bool two = carriers[1] != NULL;
     carrier_due = 0;
     if (options.sites == 1 && carriers[0] == NULL) return;
-    if (carriers[0] == NULL) {
-        set_up(0);
-        set_up(1);
-    } else {
-        bool two = carriers[1] != NULL;
-        for (int index = 0; index < 2; index++) close(unused[index].descriptor);
-        processes[0] = start_process(carriers[0], two ? &unused[0] : &to_carrier, &from_carrier);
-        if (two) processes[1] = start_process(carriers[1], &to_carrier, &unused[1]);
-    }
+    if (carriers[0] == NULL) set_up(0), set_up(1);
+    else processes[0] = start_process(carriers[0], two ? NULL : &to_carrier, &from_carrier);
+    if (two) processes[1] = start_process(carriers[1], &to_carrier, NULL);
     watch(from_carrier.descriptor, &source);
 }
 
@@ -198,19 +164,19 @@ static void start_carrier(void) {
 
 static void tick(void) {
     if (carrier_due != 0 && now() > carrier_due) start_carrier();
-    bool waits = heard || site_waits() || pages_wait();
+    bool waits = heard || site_waits();
+    EACH_SEGMENT(segment) waits |= segment->busy;
     if (now() < last_tick + (waits ? TICK : IDLE_TICK)) return;
     last_tick = now();
     heard = false;
     site_tick();
-    pages_tick();
+    EACH_PAGE(page) page->later = false;
     programs_reap();
 }
 
 static void turn(void) {
-    static bool idle;
     struct epoll_event events[EVENTS];
-    int64_t due = pages_turn(idle), wait = due == INT64_MAX ? TICK : due - now();
+    int64_t due = pages_turn(), wait = due == INT64_MAX ? TICK : due - now();
     if (!segments_turn() && carrier_due == INT64_MAX) ending = 1;
     bool unwritten = !site_flush();
     if (carrier_due == 0) write_lines(&to_carrier);
@@ -222,18 +188,16 @@ static void turn(void) {
         struct source *source = events[index].data.ptr;
         source->ready(source);
     }
-    idle = count == 0;
     tick();
 }
 
 static void end(int signal) {
-    (void)signal;
-    ending = 1;
+    ending = signal;
 }
 
 /* All that programs stored goes to the site, and its journal. Programs that go on wait at their next fault. */
 static void finish(void) {
-    each_page(page_leaves);
+    EACH_PAGE(page) page_leaves(page);
     site_end();
     write_lines(&to_carrier);
     stop_carrier();
@@ -242,21 +206,17 @@ static void finish(void) {
 
 /* The start. */
 
-static void usage(void) {
-    fputs("leddwyfan-host --sites N --me K [--journal FILE [--new]] [--cluster NAME [--key FILE]] [--socket PATH] [--stay MICROSECONDS]\n"
-          "               [--program shmdbg] [-- CARRIER.. [-- CARRIER..]]\n",
-          stderr);
-    exit(2);
-}
+static const char usage[] = "--sites N --me K [--journal FILE [--new] [--relaxed]] [--cluster NAME [--key FILE]] [--socket PATH]\n"
+                            "    [--stay MICROSECONDS] [--program shmdbg] [-- CARRIER.. [-- CARRIER..]]";
 
 static void take_options(int argc, char **argv) {
-    const char *sites = "", *me = "-1", *stay = "200", *broken = "", *begins = NULL;
-    const char **values[] = {&sites, &me, &options.journal, &begins, &options.socket, &stay, &options.program, &broken, &options.cluster, &options.key};
-    static const struct option names[] = {{"sites", 1, NULL, 0},  {"me", 1, NULL, 1},   {"journal", 1, NULL, 2}, {"new", 0, NULL, 3},  {"socket", 1, NULL, 4},
-                                          {"stay", 1, NULL, 5}, {"program", 1, NULL, 6}, {"break", 1, NULL, 7},
-                                          {"cluster", 1, NULL, 8}, {"key", 1, NULL, 9},  {NULL, 0, NULL, 0}};
+    const char *sites = "", *me = "-1", *stay = "200", *broken = "", *begins = NULL, *relaxed = NULL;
+    const struct option names[] = {{"sites", 1, NULL, 0}, {"me", 1, NULL, 1},      {"journal", 1, NULL, 2}, {"socket", 1, NULL, 3}, {"stay", 1, NULL, 4},
+                                   {"break", 1, NULL, 5}, {"program", 1, NULL, 6}, {"cluster", 1, NULL, 7}, {"key", 1, NULL, 8},    {"new", 0, NULL, 9},
+                                   {"relaxed", 0, NULL, 10}, {NULL, 0, NULL, 0}};
+    const char **values[] = {&sites, &me, &options.journal, &options.socket, &stay, &broken, &options.program, &options.cluster, &options.key, &begins, &relaxed};
     for (int option; (option = getopt_long(argc, argv, "+", names, NULL)) >= 0;) {
-        if (option == '?') usage();
+        if (option == '?') errx(2, "%s", usage);
         *values[option] = optarg == NULL ? "" : optarg;
     }
     options.sites = atoi(sites);
@@ -264,24 +224,23 @@ static void take_options(int argc, char **argv) {
     options.stay = 1000 * (int64_t)atoi(stay);
     options.broken = atoi(broken);
     options.begins = begins != NULL;
-    options.fresh = options.journal == NULL || options.begins;
-    if (options.sites < 1 || options.sites > 16 || options.me < 0 || options.me >= options.sites || (options.begins && options.journal == NULL)) usage();
-    if (options.key != NULL && options.cluster == NULL) usage();
-    if (seal_make(&options.seal, options.cluster, options.key) < 0) FAIL("the cluster's name or key can't be used: %s", strerror(errno));
-}
-
-static void take_carriers(char **words) {
-    if (*words != NULL) carriers[0] = words;
-    while (*words != NULL && strcmp(*words, "--") != 0) words++;
-    if (*words == NULL) return;
-    *words = NULL;
-    carriers[1] = words + 1;
+    options.relaxed = relaxed != NULL || options.journal == NULL;
+    options.fresh = options.begins || options.journal == NULL;
+    bool good = options.sites >= 1 && options.sites <= 16 && options.me >= 0 && options.me < options.sites;
+    if (!good || (options.journal == NULL && (begins != NULL || relaxed != NULL)) || (options.key != NULL && options.cluster == NULL)) errx(2, "%s", usage);
+    if (seal_make(&options.seal, options.cluster, options.key) < 0) err(1, "the cluster's name or key can't be used");
+    if (argv[optind] != NULL) carriers[0] = argv + optind;
+    for (char **word = argv + optind; *word != NULL && carriers[1] == NULL; word++) {
+        if (strcmp(*word, "--") == 0) *word = NULL, carriers[1] = word + 1;
+    }
 }
 
 int main(int argc, char **argv) {
+    static char name[32];
     struct rlimit limit;
     take_options(argc, argv);
-    take_carriers(argv + optind);
+    snprintf(name, sizeof name, "leddwyfan-host %d", options.me);
+    program_invocation_short_name = name;
     getrlimit(RLIMIT_NOFILE, &limit); /* each program here costs two descriptors */
     limit.rlim_cur = limit.rlim_max;
     setrlimit(RLIMIT_NOFILE, &limit);

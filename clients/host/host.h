@@ -5,50 +5,30 @@
 #include "../c/seal.h"
 #include "wire.h"
 
+#include <err.h>
+
 enum right { NONE, READ, WRITE };
 
-enum asked { NOTHING, STATE, BYTES }; /* what of a page the site is asked and hasn't told yet */
+enum { MOST_SEGMENTS = 64 };
 
-enum { MOST_SEGMENTS = 64, HELD = 8 };
+/* What a test leaves out of what the daemon does with pages (`--break`). */
+enum { LEAVES_READ = 1, LEAVES_WRITTEN, LENDS_OPEN, BRINGS_NOTHING, OPENS_TO_WRITE, PROTECTS_NOT };
 
-static const int64_t SECOND = 1000000000;
-
-/* The parts of the rule that a test leaves out (`--break`): a row of hold.c by its number, or one of these. */
-enum { PASSES_WHILE_ASKING = 5, DOES_NOT_PROTECT };
-
-struct options {
+/* `stay` are nanoseconds for which a page stays at least once it is here. The journal is begun; the site began with this daemon, and had no
+   journal before; and there is no journal, or a page may leave before it has what was stored to others. */
+extern struct options {
     int sites, me, broken;
     const char *journal, *socket, *program, *cluster, *key;
-    struct seal seal; /* of the lines to and from the site, and of those on the stream */
-    int64_t stay; /* nanoseconds for which a page stays at least once it is here */
-    bool begins;  /* the journal is begun */
-    bool fresh;   /* the site began with this daemon: no earlier journal */
-};
-
-extern struct options options;
+    struct seal seal;
+    int64_t stay;
+    bool begins, fresh, relaxed;
+} options;
 
 /* A descriptor that is awaited. Programs and connections begin with theirs. */
-struct source {
-    void (*ready)(struct source *);
-};
+struct source { void (*ready)(struct source *); };
 
 /* Lines to a descriptor, or from one. */
-struct channel {
-    int descriptor;
-    char *bytes;
-    size_t length, capacity;
-};
-
-/* A line `env`. What its words behind NUMBER are differs by its kind. */
-struct envelope {
-    char *line, *said; /* the whole, and what is behind its stamp */
-    int to, segment, page, site;
-    char kind[12], access[8];
-    uint64_t number;
-};
-
-struct program;
-struct connection;
+struct channel { int descriptor; char *bytes; size_t length, capacity; };
 
 /* A load or store that waits. A program's place may have another program meanwhile: its generation tells. */
 struct fault {
@@ -61,46 +41,44 @@ struct fault {
 
 struct page {
     struct segment *segment;
-    struct page *next_busy;
-    size_t offset;                         /* in its segment */
-    enum right mapped;                     /* in some program here */
-    enum right wanted;                     /* by a fault that waits */
-    enum asked asked;
-    bool requested;                        /* the site was asked for the right that is wanted */
-    bool opened;                           /* to write, in some program, since it was last brought back */
-    bool busy;                             /* it is in the list of pages with work */
-    enum right shown;                      /* what the site has of it, and the transaction that brought it, as it told last */
-    uint64_t number;
-    uint64_t ask;         /* the number of the ask whose answer counts */
-    uint8_t *twin;        /* its bytes as the site has them, if that transaction is the last */
-    uint64_t transaction; /* the greatest number where it isn't known */
-    int64_t since, left;  /* when it came, and when it was taken away */
-    pid_t thread;         /* for which it came, and how often that one had run before */
+    size_t offset;
+    /* In some program here; by a fault that waits; of the site, which hasn't answered; and what the site lets stay at most. */
+    enum right mapped, wanted, asked, keeps;
+    /* The site is asked at a tick again; and some program may have stored since the bytes were last brought. */
+    bool later, opened;
+    /* The attachment that it is mapped through, and the number of its last unmap or sync. */
+    int at;
+    uint64_t unmap;
+    /* Its bytes as the site has them, while it is mapped. */
+    uint8_t *twin;
+    /* When it came, for which thread, and how often that had run before. */
+    int64_t since;
+    pid_t thread;
     uint64_t runs;
-    size_t sleepers; /* in so many bytes from its start on, sleepers of futexes are to be woken */
-    struct envelope held[HELD];
-    int held_count;
+    /* In so many bytes from its start on, sleepers of futexes are to be woken. */
+    size_t sleepers;
     struct fault *faults;
 };
 
-/* A segment that programs here have attached. The site's attachments of it are -1 where it has none. */
+/* A segment that programs here have attached so many times. The site's attachments of it are -1 where it has none. It is busy where there is work
+   for one of its pages. */
 struct segment {
-    bool used, removed;
-    int id, memory, reading, writing;
+    bool used, removed, busy;
+    int id, memory, reading, writing, attached;
     size_t length;
     uint8_t *bytes, *twins;
-    int attached;                     /* how often, by programs here */
-    time_t attach_time, detach_time;
-    int64_t left; /* when its attachments last changed */
-    pid_t last;
     struct page *pages;
+    int64_t changed;
+    time_t attach_time, detach_time;
+    pid_t last;
 };
 
-/* A segment call, which a site has one of at a time. `done` gets an errno or 0, and the reply, and ends the call or makes it go on. */
+/* A segment call, which a site has one of at a time. `done` gets an errno or 0, and the reply, and ends the call or makes it go on; without it the call ends. Where it makes
+   a segment that nobody finds again, it isn't made twice. */
 struct call {
     struct call *next;
     uint64_t number;
-    bool said, doubtful, makes; /* it makes a segment that nobody finds again */
+    bool said, makes;
     char text[160];
     void (*done)(struct call *, int error, const char *reply);
     struct connection *connection;
@@ -108,14 +86,12 @@ struct call {
     struct answer answer;
 };
 
-/* host.c: lines, the carrier, the loop. */
-int64_t now(void);
-void *room(void *old, size_t size); /* ends the daemon where there is none */
-__attribute__((format(printf, 1, 2))) void complain(const char *format, ...);
-#define FAIL(...) (complain(__VA_ARGS__), exit(1))
+/* host.c: lines, the carrier, the loop. No memory ends the daemon. */
+void *room(void *old, size_t size);
 void watch(int descriptor, struct source *source);
-void push_line(struct channel *channel, const char *line);
-void push_sealed(struct channel *channel, const char *line);
+void push_bytes(struct channel *channel, const char *bytes, size_t length);
+void push_line(struct channel *channel, const char *line, bool seals);
+void take_off(struct channel *channel, size_t count);
 void write_lines(struct channel *channel);
 bool read_lines(struct channel *channel, void (*take)(char *)); /* false at the end */
 pid_t start_process(char *const *words, struct channel *input, struct channel *output);
@@ -126,39 +102,27 @@ void site_start(void);
 void site_end(void);
 bool site_flush(void); /* whether all is written */
 void site_tick(void);
-bool site_waits(void);    /* a call is outstanding */
-bool site_recovers(void); /* it was started again, and not all stores were answered yet: no envelope may pass */
-void take_stream_line(char *line);
-void pass_line(const char *line);
-void ask_page(struct page *page, enum asked asked);
-void ask_right(const struct page *page);
-void store_run(const struct page *page, size_t start, size_t end);
-bool decode(const char *text, uint8_t bytes[PAGE]); /* of a page in base64: false where it isn't one */
-typedef void call_done(struct call *call, int error, const char *reply);
-__attribute__((format(printf, 3, 4))) void make_call(struct call *call, call_done *done, const char *format, ...);
-
-/* hold.c: the rule. */
-enum brought { CLEAR, HAND_TO_READ, HAND_TO_WRITE, OTHER };
-enum verdict { TAKE, UNMAP_TO_READ, UNMAP };
-bool meets_entry(const struct envelope *envelope);
-enum brought brought_by(const struct envelope *envelope);
-enum verdict verdict_on(enum brought brought, enum right mapped);
+bool site_waits(void); /* a call is outstanding */
+bool pass_line(const char *line);
+void ask_map(struct page *page);
+void add_run(struct page *page, size_t start, size_t end);
+void say_unmap(struct page *page, enum right keeps);
+bool is_unmapping(const struct page *page); /* an unmap or sync of it has no answer */
+bool decode(const char *text, uint8_t bytes[PAGE]);
+__attribute__((format(printf, 3, 4))) void make_call(struct call *call, void (*done)(struct call *, int, const char *), const char *format, ...);
 
 /* pages.c: the way of a page at this machine. */
 void page_fault(struct page *page, const struct fault *fault);
-void page_envelope(struct page *page, const struct envelope *envelope);
-void page_told(struct page *page, uint64_t ask, const char *text);
-void page_begins_again(struct page *page);
+void page_told(struct page *page, const char *text);
+void page_revoked(struct page *page, enum right keeps);
 void page_leaves(struct page *page);
-void drop_page(struct page *page);
-int64_t pages_turn(bool idle); /* when to turn again */
-bool pages_wait(void);         /* for a right, or until an envelope may pass */
-void pages_tick(void);         /* asks again for what is waited for */
+int64_t pages_turn(void); /* when to turn again */
 
-/* programs.c: the programs' memory. */
+/* programs.c: the programs' memory. `device` is /dev/userfaultfd, or -1. */
+extern int device;
 void check_kernel(void);
 int program_new(int faults, uint64_t names, struct program **program); /* an errno, or 0 */
-struct program *program_named(uint64_t name, int *faults);
+int program_named(uint64_t name, struct program **program); /* its userfaultfd, or -1 */
 bool program_maps(struct program *program, uint64_t address, struct segment *segment);
 void programs_reap(void);
 void open_page(const struct fault *fault, enum right right);
@@ -166,15 +130,12 @@ void protect_page(const struct page *page);
 
 /* segments.c: the programs' calls. */
 extern struct segment segments[MOST_SEGMENTS];
-#define EACH_SEGMENT(segment)                                                               \
-    for (struct segment *segment = segments; segment < segments + MOST_SEGMENTS; segment++) \
-        if (segment->used)
+#define EACH_SEGMENT(one) for (struct segment *one = segments; one < segments + MOST_SEGMENTS; one++) if (one->used)
+#define EACH_PAGE(one) EACH_SEGMENT(its) for (struct page *one = its->pages; one < its->pages + its->length / PAGE; one++)
 void listen_to_programs(void);
-struct segment *segment_of(int id);
-struct page *page_of(int id, int page); /* of a segment that is attached here, or NULL */
+struct page *page_of(int id, int attachment, int page); /* of a segment with this identifier or this attachment, or NULL */
 void segment_attached(struct segment *segment, int by);
 bool segments_turn(void); /* whether there is one */
-void each_page(void (*change)(struct page *));
 void detach_leftovers(void);
 
 #endif

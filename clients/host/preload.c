@@ -20,10 +20,7 @@ static ino_t host_file;
 static volatile uint64_t *names;
 static struct answer answer; /* the last one, and the descriptor that came with it, or -1 */
 static int handed;
-static struct attached {
-    char *address;
-    size_t length;
-} attached[MOST_ATTACHED];
+static struct attached { char *address; size_t length; } attached[MOST_ATTACHED];
 static int attached_count, listed_count;
 static struct answer listed[MOST_LISTED];
 
@@ -73,13 +70,10 @@ static bool connect_host(void) {
 
 /* A userfaultfd, which the daemon gets, and the lock, which it gives. */
 static bool make_faults(void) {
-    int made = -1;
     if (names != NULL) return true;
     if (talk((struct ask){.kind = ASK_DEVICE}, -1) < 0) return false;
-    if (handed >= 0) {
-        made = ioctl(handed, USERFAULTFD_IOC_NEW, O_CLOEXEC | O_NONBLOCK);
-        close(handed);
-    }
+    int made = ioctl(handed, USERFAULTFD_IOC_NEW, O_CLOEXEC | O_NONBLOCK);
+    close(handed);
     if (made < 0) made = (int)syscall(SYS_userfaultfd, O_CLOEXEC | O_NONBLOCK);
     void *page = mmap(NULL, PAGE, PROT_READ, MAP_PRIVATE | MAP_ANONYMOUS, -1, 0);
     if (made < 0 || page == MAP_FAILED) return false;
@@ -101,7 +95,7 @@ static void in_parent(void) {
 /* The child has attached what its parent has, and is heard of by a userfaultfd of its own. */
 static void in_child(void) {
     if (connected()) close(host);
-    if (faults >= 0) close(faults);
+    close(faults);
     host = faults = -1;
     if (names != NULL) connect_host();
     pthread_mutex_init(&mutex, NULL);
@@ -232,11 +226,8 @@ EXPORTED key_t ftok(const char *path, int project) {
 
 /* ipcs reads this machine's own segments here, and asks shmctl where the file isn't there. */
 EXPORTED FILE *fopen(const char *name, const char *mode) {
-    static union {
-        void *symbol;
-        FILE *(*call)(const char *, const char *);
-    } real;
-    if (strcmp(name, "/proc/sysvipc/shm") == 0) return failed(ENOENT), NULL;
-    if (real.symbol == NULL) real.symbol = dlsym(RTLD_NEXT, "fopen");
-    return real.call(name, mode);
+    FILE *(*real)(const char *, const char *);
+    void *symbol = dlsym(RTLD_NEXT, "fopen");
+    memcpy(&real, &symbol, sizeof real);
+    return strcmp(name, "/proc/sysvipc/shm") == 0 ? (failed(ENOENT), NULL) : real(name, mode);
 }

@@ -19,10 +19,7 @@ static const uint64_t FEATURES = UFFD_FEATURE_EVENT_FORK | UFFD_FEATURE_EVENT_UN
                                  UFFD_FEATURE_MINOR_SHMEM | UFFD_FEATURE_PAGEFAULT_FLAG_WP | UFFD_FEATURE_WP_HUGETLBFS_SHMEM | UFFD_FEATURE_THREAD_ID;
 
 /* Part of a program's address space: `length` bytes of a segment, from `offset` on. */
-struct range {
-    uint64_t address, length, offset;
-    struct segment *segment;
-};
+struct range { uint64_t address, length, offset; struct segment *segment; };
 
 /* There are as many as there ever were at a time: each keeps its place until it has ended, and then another may have it. */
 struct program {
@@ -34,12 +31,12 @@ struct program {
     struct range ranges[MOST_RANGES];
 };
 
+int device;
+
 static struct program *programs;
 static uint64_t generations, changes; /* programs ever made; events that changed ranges */
 
-#define EACH_PROGRAM(program)                                                               \
-    for (struct program *program = programs; program != NULL; program = program->next) \
-        if (program->used)
+#define EACH_PROGRAM(one) for (struct program *one = programs; one != NULL; one = one->next) if (one->used)
 
 static void program_ready(struct source *source);
 
@@ -49,15 +46,14 @@ static int begin_faults(int faults, uint64_t features) {
 
 /* Says what to set where something is lacking. */
 void check_kernel(void) {
-    int device = open("/dev/userfaultfd", O_RDWR | O_CLOEXEC);
+    device = open("/dev/userfaultfd", O_RDWR | O_CLOEXEC);
     int faults = (int)(device >= 0 ? ioctl(device, USERFAULTFD_IOC_NEW, O_CLOEXEC) : syscall(SYS_userfaultfd, O_CLOEXEC));
-    if (faults < 0) FAIL("page faults can't be served: run the daemon as root, or let it read and write /dev/userfaultfd (CONFIG_USERFAULTFD)");
-    if (device < 0) complain("/dev/userfaultfd can't be opened: programs that aren't root's need `sysctl vm.unprivileged_userfaultfd=1`");
+    if (faults < 0) errx(1, "page faults can't be served: run the daemon as root, or let it read and write /dev/userfaultfd (CONFIG_USERFAULTFD)");
+    if (device < 0) warnx("/dev/userfaultfd can't be opened: programs that aren't root's need `sysctl vm.unprivileged_userfaultfd=1`");
     int error = begin_faults(faults, FEATURES | FROM_LINUX_6_4);
-    if (error == EPERM) FAIL("forks can't be followed: run the daemon as root, or `setcap cap_sys_ptrace+ep` it");
-    if (error != 0) FAIL("Linux 6.4 or later is needed");
+    if (error == EPERM) errx(1, "forks can't be followed: run the daemon as root, or `setcap cap_sys_ptrace+ep` it");
+    if (error != 0) errx(1, "Linux 6.4 or later is needed");
     close(faults);
-    close(device);
 }
 
 static struct program *new_program(int faults, uint64_t names) {
@@ -87,13 +83,11 @@ int program_new(int faults, uint64_t names, struct program **program) {
     return serves(*program, names, PAGE, UFFDIO_REGISTER_MODE_MISSING) ? 0 : EINVAL;
 }
 
-struct program *program_named(uint64_t name, int *faults) {
-    EACH_PROGRAM(program) {
-        if (program->generation != name) continue;
-        *faults = program->faults;
-        return program;
+int program_named(uint64_t name, struct program **program) {
+    EACH_PROGRAM(one) {
+        if (one->generation == name) return (*program = one)->faults;
     }
-    return NULL;
+    return -1;
 }
 
 static bool add_range(struct program *program, struct range range) {
@@ -133,20 +127,18 @@ void open_page(const struct fault *fault, enum right right) {
     ioctl(program->faults, UFFDIO_WAKE, &range.range);
 }
 
-static void protect_in(struct program *program, const struct page *page) {
-    for (int index = 0; index < program->count; index++) {
-        const struct range *range = &program->ranges[index];
-        if (range->segment != page->segment || page->offset < range->offset || page->offset >= range->offset + range->length) continue;
-        set_protected(program, range->address + page->offset - range->offset, UFFDIO_WRITEPROTECT_MODE_WP);
-    }
-}
-
 /* In every program. What they fork and unmap meanwhile is heard on the way, and then it is done again. */
 void protect_page(const struct page *page) {
     uint64_t before;
     do {
         before = changes;
-        EACH_PROGRAM(program) protect_in(program, page);
+        EACH_PROGRAM(program) {
+            for (const struct range *range = program->ranges; range < program->ranges + program->count; range++) {
+                uint64_t place = page->offset - range->offset;
+                if (range->segment != page->segment || place >= range->length) continue;
+                set_protected(program, range->address + place, UFFDIO_WRITEPROTECT_MODE_WP);
+            }
+        }
     } while (changes != before);
 }
 
@@ -181,22 +173,19 @@ static void moved(struct program *program, uint64_t from, uint64_t to) {
     }
 }
 
-static void give_name(struct program *program) {
-    static uint64_t page[PAGE / sizeof(uint64_t)];
-    page[0] = program->generation;
-    change(program, UFFDIO_COPY, &(struct uffdio_copy){.dst = program->names, .src = (uintptr_t)page, .len = PAGE});
-}
-
+/* A fault elsewhere is in the page of names, or in what was unmapped meanwhile. */
 static void faulted(struct program *program, uint64_t address, uint64_t flags, pid_t thread) {
     enum right needed = flags & (UFFD_PAGEFAULT_FLAG_WRITE | UFFD_PAGEFAULT_FLAG_WP) ? WRITE : READ;
     struct fault fault = {NULL, program, program->generation, address & ~(uint64_t)(PAGE - 1), needed, thread};
-    for (int index = 0; index < program->count; index++) {
-        const struct range *range = &program->ranges[index];
-        if (address < range->address || address >= range->address + range->length) continue;
-        page_fault(&range->segment->pages[(address - range->address + range->offset) / PAGE], &fault);
+    for (const struct range *range = program->ranges; range < program->ranges + program->count; range++) {
+        uint64_t place = address - range->address;
+        if (place >= range->length) continue;
+        page_fault(&range->segment->pages[(place + range->offset) / PAGE], &fault);
         return;
     }
-    if (fault.address == program->names) give_name(program);
+    uint64_t page[PAGE / sizeof(uint64_t)] = {program->generation};
+    struct uffdio_copy name = {.dst = program->names, .src = (uintptr_t)page, .len = PAGE};
+    if (fault.address == program->names) change(program, UFFDIO_COPY, &name);
     ioctl(program->faults, UFFDIO_WAKE, &(struct uffdio_range){fault.address, PAGE});
 }
 

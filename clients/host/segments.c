@@ -9,7 +9,7 @@
 #include <sys/stat.h>
 #include <sys/un.h>
 
-enum { MADE = 1024, MOST_IDS = 1 << 16 };
+enum { MADE = 1024 };
 
 struct segment segments[MOST_SEGMENTS];
 
@@ -23,42 +23,33 @@ struct connection {
 };
 
 /* Who made a segment here, and when: of the last ones that were made. */
-static struct made {
-    int id;
-    pid_t creator;
-    time_t time;
-} made[MADE];
+static struct made { int id; pid_t creator; time_t time; } made[MADE];
 
-static bool attached_before[MOST_IDS]; /* by a hash of their identifiers */
 static int listener, lock;
 
 /* Segments. */
 
-struct segment *segment_of(int id) {
+static struct segment *segment_of(int id) {
     EACH_SEGMENT(segment) {
         if (segment->id == id) return segment;
     }
     return NULL;
 }
 
-struct page *page_of(int id, int page) {
-    const struct segment *segment = segment_of(id);
-    return segment != NULL && page >= 0 && (size_t)page < segment->length / PAGE ? &segment->pages[page] : NULL;
+struct page *page_of(int id, int attachment, int page) {
+    EACH_SEGMENT(segment) {
+        if (segment->id != id && (attachment < 0 || (segment->reading != attachment && segment->writing != attachment))) continue;
+        return page >= 0 && (size_t)page < segment->length / PAGE ? &segment->pages[page] : NULL;
+    }
+    return NULL;
 }
 
 void segment_attached(struct segment *segment, int by) {
     segment->attached += by;
-    segment->left = now();
+    segment->changed = now();
     *(by > 0 ? &segment->attach_time : &segment->detach_time) = time(NULL);
 }
 
-void each_page(void (*change)(struct page *)) {
-    EACH_SEGMENT(segment) {
-        for (size_t index = 0; index < segment->length / PAGE; index++) change(&segment->pages[index]);
-    }
-}
-
-/* The twin of a page that nobody had is right as it is: zeros, and no transaction. */
 static struct segment *new_segment(int id, size_t size) {
     struct segment *segment = segments;
     while (segment < segments + MOST_SEGMENTS && segment->used) segment++;
@@ -68,13 +59,11 @@ static struct segment *new_segment(int id, size_t size) {
     segment->memory = memfd_create("leddwyfan", MFD_CLOEXEC);
     segment->pages = calloc(length / PAGE, sizeof *segment->pages);
     segment->twins = calloc(length, 1);
-    if (segment->memory < 0 || ftruncate(segment->memory, (off_t)length) < 0) FAIL("no memory for a segment");
+    if (segment->memory < 0 || ftruncate(segment->memory, (off_t)length) < 0) errx(1, "no memory for a segment");
     segment->bytes = mmap(NULL, length, PROT_READ | PROT_WRITE, MAP_SHARED, segment->memory, 0);
-    if (segment->bytes == MAP_FAILED || segment->pages == NULL || segment->twins == NULL) FAIL("no memory for a segment");
-    uint64_t transaction = options.fresh && !attached_before[id % MOST_IDS] ? 0 : UINT64_MAX;
-    attached_before[id % MOST_IDS] = true;
+    if (segment->bytes == MAP_FAILED || segment->pages == NULL || segment->twins == NULL) errx(1, "no memory for a segment");
     for (size_t offset = 0; offset < length; offset += PAGE) {
-        segment->pages[offset / PAGE] = (struct page){.segment = segment, .offset = offset, .twin = segment->twins + offset, .transaction = transaction};
+        segment->pages[offset / PAGE] = (struct page){.segment = segment, .offset = offset, .twin = segment->twins + offset, .keeps = WRITE};
     }
     return segment;
 }
@@ -85,19 +74,25 @@ static struct call *new_call(struct connection *connection, const struct ask *as
     return call;
 }
 
-static void forget(struct call *call, int error, const char *reply) {
-    (void)error, (void)reply;
+/* `descriptor` is handed over, or -1. */
+static void finish(struct call *call, int error, int descriptor) {
+    struct connection *connection = call->connection;
+    call->answer.error = error;
+    call->answer.sites = options.sites;
+    if (connection->socket >= 0) send_message(connection->socket, &call->answer, sizeof call->answer, descriptor);
+    if (--connection->calls == 0 && connection->socket < 0) free(connection);
     free(call);
 }
 
 static void detach(int attachment) {
-    if (attachment >= 0) make_call(new_call(NULL, &(struct ask){0}), forget, "detach %d", attachment);
+    if (attachment >= 0) make_call(new_call(NULL, &(struct ask){0}), NULL, "detach %d", attachment);
 }
 
 static void give_back(struct segment *segment) {
     for (size_t index = 0; index < segment->length / PAGE; index++) {
-        page_leaves(&segment->pages[index]);
-        drop_page(&segment->pages[index]);
+        struct page *page = &segment->pages[index];
+        page_leaves(page);
+        for (struct fault *fault; (fault = page->faults) != NULL; free(fault)) page->faults = fault->next;
     }
     detach(segment->reading);
     detach(segment->writing);
@@ -113,7 +108,7 @@ bool segments_turn(void) {
     bool here = false;
     EACH_SEGMENT(segment) {
         here = true;
-        if (segment->attached == 0 && (segment->removed || now() > segment->left + SECOND)) give_back(segment);
+        if (segment->attached == 0 && (segment->removed || now() > segment->changed + SECOND)) give_back(segment);
     }
     return here;
 }
@@ -124,17 +119,6 @@ void detach_leftovers(void) {
 }
 
 /* Answers. */
-
-/* `descriptor` is handed over, or -1. */
-static void finish(struct call *call, int error, int descriptor) {
-    struct connection *connection = call->connection;
-    call->answer.error = error;
-    call->answer.sites = options.sites;
-    connection->calls--;
-    if (connection->socket >= 0) send_message(connection->socket, &call->answer, sizeof call->answer, descriptor);
-    else if (connection->calls == 0) free(connection);
-    free(call);
-}
 
 /* The segment's record, to which comes what its home doesn't know: the programs here, each of which counts, and what they did when. */
 static int take_status(const char *reply, int id, struct shmid_ds *status) {
@@ -156,22 +140,22 @@ static int take_status(const char *reply, int id, struct shmid_ds *status) {
     return 0;
 }
 
-static void note_made(const struct call *call, int id) {
+static int take_made(struct call *call, const char *reply) {
+    const struct ask *ask = &call->ask;
+    int id;
+    if (sscanf(reply, "id %d", &id) != 1) return EIO;
     struct made *place = &made[id % MADE];
-    bool makes = call->ask.flags & IPC_CREAT || call->ask.key == IPC_PRIVATE;
-    if (makes && place->id != id) *place = (struct made){id, call->connection->peer.pid, time(NULL)};
+    if ((ask->flags & IPC_CREAT || ask->key == IPC_PRIVATE) && place->id != id) *place = (struct made){id, call->connection->peer.pid, time(NULL)};
+    call->answer.id = id;
+    return 0;
 }
 
 static void answered(struct call *call, int error, const char *reply) {
-    struct answer *answer = &call->answer;
-    struct segment *segment = segment_of(call->ask.id);
-    bool asks = error == 0;
-    if (asks && call->ask.kind == ASK_GET) {
-        if (sscanf(reply, "id %d", &answer->id) == 1) note_made(call, answer->id);
-        else error = EIO;
-    }
-    if (asks && call->ask.kind == ASK_STATUS) error = take_status(reply, call->ask.id, &answer->status);
-    if (asks && call->ask.kind == ASK_REMOVE && segment != NULL) segment->removed = true;
+    const struct ask *ask = &call->ask;
+    struct segment *segment = segment_of(ask->id);
+    if (error == 0 && ask->kind == ASK_GET) error = take_made(call, reply);
+    if (error == 0 && ask->kind == ASK_STATUS) error = take_status(reply, ask->id, &call->answer.status);
+    if (error == 0 && ask->kind == ASK_REMOVE && segment != NULL) segment->removed = true;
     finish(call, error, -1);
 }
 
@@ -184,15 +168,15 @@ static bool allows(const struct ipc_perm *owner, const struct connection *connec
     return (bits & needed) == needed;
 }
 
-static void hand_over(struct call *call, struct segment *segment) {
+static void hand_over(struct call *call, int error, struct segment *segment) {
     struct connection *connection = call->connection;
-    if (connection->socket >= 0) {
+    if (error == 0 && connection->socket >= 0) {
         segment_attached(segment, 1);
         connection->promised = segment;
         segment->last = connection->peer.pid;
     }
-    call->answer.status.shm_segsz = segment->length;
-    finish(call, 0, segment->memory);
+    if (error == 0) call->answer.status.shm_segsz = segment->length;
+    finish(call, error, error == 0 ? segment->memory : -1);
 }
 
 static void attached(struct call *call, int error, const char *reply) {
@@ -203,23 +187,17 @@ static void attached(struct call *call, int error, const char *reply) {
     int *place = error != 0 ? NULL : call->ask.flags & SHM_RDONLY ? &segment->reading : &segment->writing;
     if (place != NULL && *place < 0) *place = attachment;
     else detach(attachment);
-    if (error == 0) hand_over(call, segment);
-    else finish(call, error, -1);
+    hand_over(call, error, segment);
 }
 
 static void attach(struct call *call, int error, const char *reply) {
     const struct connection *connection = call->connection;
     struct segment *segment = segment_of(call->ask.id);
-    bool reads = call->ask.flags & SHM_RDONLY;
+    bool reads = call->ask.flags & SHM_RDONLY, here = segment != NULL && (segment->writing >= 0 || (reads && segment->reading >= 0));
     if (error == 0) error = take_status(reply, call->ask.id, &call->answer.status);
     if (error == 0 && !allows(&call->answer.status.shm_perm, connection, reads ? 04 : 06)) error = EACCES;
-    if (error != 0) {
-        finish(call, error, -1);
-    } else if (segment != NULL && (segment->writing >= 0 || (reads && segment->reading >= 0))) {
-        hand_over(call, segment);
-    } else {
-        make_call(call, attached, "attach %u %u %d %s", connection->peer.uid, connection->peer.gid, call->ask.id, reads ? "ro" : "rw");
-    }
+    if (error != 0 || here) hand_over(call, error, segment);
+    else make_call(call, attached, "attach %u %u %d %s", connection->peer.uid, connection->peer.gid, call->ask.id, reads ? "ro" : "rw");
 }
 
 static int take_mapping(struct connection *connection, uint64_t address) {
@@ -233,52 +211,28 @@ static int take_mapping(struct connection *connection, uint64_t address) {
 
 /* Asks. */
 
-static void give_device(struct call *call) {
-    int device = open("/dev/userfaultfd", O_RDWR | O_CLOEXEC);
-    finish(call, 0, device);
-    close(device);
-}
-
-static void name(struct call *call) {
-    int faults = -1;
-    call->connection->program = program_named(call->ask.size, &faults);
-    finish(call, 0, faults);
-}
-
-static void get(struct call *call) {
-    const struct ask *ask = &call->ask;
-    const char *flags = ask->flags & IPC_CREAT ? ask->flags & IPC_EXCL ? "cx" : "c" : ask->flags & IPC_EXCL ? "x" : "-";
-    call->makes = ask->key == IPC_PRIVATE || ask->flags & IPC_EXCL;
-    make_call(call, answered, "get %u %u %u %lu %03o %s", call->connection->peer.uid, call->connection->peer.gid, (unsigned)ask->key, ask->size,
-              (unsigned)ask->flags & 0777, flags);
-}
-
 static void take_ask(struct call *call, int handed) {
     struct connection *connection = call->connection;
     const struct ask *ask = &call->ask;
     const struct ipc_perm *owner = &ask->owner;
     uid_t uid = connection->peer.uid;
     gid_t gid = connection->peer.gid;
+    unsigned key = (unsigned)ask->key, mode = (unsigned)ask->flags & 0777;
+    const char *flags = ask->flags & IPC_CREAT ? ask->flags & IPC_EXCL ? "cx" : "c" : ask->flags & IPC_EXCL ? "x" : "-";
+    call->makes = ask->kind == ASK_GET && (ask->key == IPC_PRIVATE || ask->flags & IPC_EXCL);
     if (handed >= 0 && ask->kind != ASK_FAULTS) close(handed);
     switch (ask->kind) {
-    case ASK_DEVICE: give_device(call); break;
+    case ASK_DEVICE: finish(call, 0, device); break;
     case ASK_FAULTS: finish(call, program_new(handed, ask->address, &connection->program), lock); break;
-    case ASK_NAMED: name(call); break;
+    case ASK_NAMED: finish(call, 0, program_named(ask->size, &connection->program)); break;
     case ASK_MAPPED: finish(call, take_mapping(connection, ask->address), -1); break;
     case ASK_ATTACH: make_call(call, attach, "stat %u %u %d", uid, gid, ask->id); break;
-    case ASK_GET: get(call); break;
+    case ASK_GET: make_call(call, answered, "get %u %u %u %lu %03o %s", uid, gid, key, ask->size, mode, flags); break;
     case ASK_STATUS: make_call(call, answered, "stat %u %u %d", uid, gid, ask->id); break;
     case ASK_SET: make_call(call, answered, "set %u %u %d %u %u %03o", uid, gid, ask->id, owner->uid, owner->gid, owner->mode & 0777u); break;
     case ASK_REMOVE: make_call(call, answered, "remove %u %u %d", uid, gid, ask->id); break;
     default: finish(call, EINVAL, -1);
     }
-}
-
-static void end_connection(struct connection *connection) {
-    if (connection->promised != NULL) segment_attached(connection->promised, -1);
-    close(connection->socket);
-    connection->socket = -1;
-    if (connection->calls == 0) free(connection);
 }
 
 static void connection_ready(struct source *source) {
@@ -288,12 +242,15 @@ static void connection_ready(struct source *source) {
     ssize_t length = receive_message(connection->socket, &ask, sizeof ask, &handed);
     if (length < 0 && (errno == EAGAIN || errno == EINTR)) return;
     programs_reap();
-    if (length != sizeof ask || ask.id < 0 || ask.size > UINT32_MAX) {
-        end_connection(connection);
+    if (length == sizeof ask && ask.id >= 0 && ask.size <= UINT32_MAX) {
+        connection->calls++;
+        take_ask(new_call(connection, &ask), handed);
         return;
     }
-    connection->calls++;
-    take_ask(new_call(connection, &ask), handed);
+    if (connection->promised != NULL) segment_attached(connection->promised, -1);
+    close(connection->socket);
+    connection->socket = -1;
+    if (connection->calls == 0) free(connection);
 }
 
 static void accept_program(struct source *source) {
@@ -313,16 +270,16 @@ void listen_to_programs(void) {
     static struct source source = {accept_program};
     struct sockaddr_un address = {.sun_family = AF_UNIX};
     char name[sizeof address.sun_path + 8];
-    if (strlen(options.socket) >= sizeof address.sun_path) FAIL("%s is too long for a socket's name", options.socket);
+    if (strlen(options.socket) >= sizeof address.sun_path) errx(1, "%s is too long for a socket's name", options.socket);
     strcpy(address.sun_path, options.socket);
     snprintf(name, sizeof name, "%s.lock", address.sun_path);
     lock = open(name, O_RDWR | O_CREAT | O_CLOEXEC, 0600);
-    if (lock < 0) FAIL("%s can't be made: %s", name, strerror(errno));
-    if (flock(lock, LOCK_EX | LOCK_NB) < 0) FAIL("another daemon has %s, or programs of an earlier one still run: end them first", options.socket);
+    if (lock < 0) err(1, "%s can't be made", name);
+    if (flock(lock, LOCK_EX | LOCK_NB) < 0) errx(1, "another daemon has %s, or programs of an earlier one still run: end them first", options.socket);
     unlink(options.socket);
     listener = socket(AF_UNIX, SOCK_SEQPACKET | SOCK_CLOEXEC | SOCK_NONBLOCK, 0);
     mode_t mask = umask(0);
-    if (bind(listener, (struct sockaddr *)&address, sizeof address) < 0 || listen(listener, 128) < 0) FAIL("no socket %s: %s", options.socket, strerror(errno));
+    if (bind(listener, (struct sockaddr *)&address, sizeof address) < 0 || listen(listener, 128) < 0) err(1, "no socket %s", options.socket);
     umask(mask);
     watch(listener, &source);
 }

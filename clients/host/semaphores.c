@@ -19,11 +19,7 @@ struct set {
     int values[MOST], last[MOST]; /* who operated last */
 };
 
-static struct known {
-    int id;
-    struct set *set;
-    short undo[MOST];
-} known[MOST_SETS], *known_end = known;
+static struct known { int id; struct set *set; short undo[MOST]; } known[MOST_SETS], *known_end = known;
 static pthread_mutex_t mutex = PTHREAD_MUTEX_INITIALIZER;
 
 static void lock_set(struct set *set) {
@@ -126,16 +122,9 @@ static int operate(struct known *one, const struct sembuf *operations, size_t co
     return 0;
 }
 
-static bool is_past(const struct timespec *limit, const struct timespec *begun) {
-    struct timespec time;
-    clock_gettime(CLOCK_MONOTONIC, &time);
-    return limit != NULL && (time.tv_sec - begun->tv_sec - limit->tv_sec) * 1000000000 + time.tv_nsec - begun->tv_nsec > limit->tv_nsec;
-}
-
 EXPORTED int semtimedop(int id, struct sembuf *operations, size_t count, const struct timespec *limit) {
-    struct timespec begun;
+    int64_t until = limit == NULL ? INT64_MAX : now() + limit->tv_sec * SECOND + limit->tv_nsec;
     struct known *one = find(id);
-    clock_gettime(CLOCK_MONOTONIC, &begun);
     if (one == NULL || count == 0 || count > MOST) return one == NULL ? -1 : failed(count == 0 ? EINVAL : E2BIG);
     for (size_t index = 0; index < count; index++) {
         if (operations[index].sem_num >= one->set->count) return failed(EFBIG);
@@ -146,7 +135,7 @@ EXPORTED int semtimedop(int id, struct sembuf *operations, size_t count, const s
         int result = operate(one, operations, count);
         unlock_set(one->set, result == 0);
         if (result != 1) return result;
-        if (is_past(limit, &begun)) return failed(EAGAIN);
+        if (now() > until) return failed(EAGAIN);
         if (syscall(SYS_futex, &one->set->changes, FUTEX_WAIT, seen, &(struct timespec){0, NAP}, NULL, 0) < 0 && errno == EINTR) return -1;
     }
 }
@@ -165,18 +154,13 @@ static int control_record(const struct known *one, int command, struct semid_ds 
     return 0;
 }
 
-union argument {
-    int value;
-    struct semid_ds *status;
-    unsigned short *array;
-};
+union argument { int value; struct semid_ds *status; unsigned short *array; };
 
 static int control_values(struct set *set, int number, int command, union argument argument) {
     switch (command) {
     case GETVAL: return set->values[number];
     case GETPID: return set->last[number];
-    case GETNCNT:
-    case GETZCNT: return 0;
+    case GETNCNT: case GETZCNT: return 0;
     case IPC_RMID: set->removed = 1; return 0;
     case GETALL:
         for (uint32_t index = 0; index < set->count; index++) argument.array[index] = (unsigned short)set->values[index];

@@ -1,29 +1,31 @@
 /* The site's process: what it is asked, and what it tells (docs/lines.md). All that asks it stands here.
 
-   It has no ask yet that maps a page, so a page is mapped by four: `show` tells whether the right is here; where it isn't, a `try-load` or
-   `try-store`, which then can't be made, asks for it; `read` gives bytes that no envelope brought; and `write` stores those that changed.
+   A page is mapped by `map`, which the site answers once it has the right, and given up by `unmap`, which says what programs changed; `sync`
+   says that alone. While a page is mapped the site takes nothing that would leave it with less, and says `revoke` where something would.
 
-   A site that is killed is started again from its journal. What it was told and hadn't made durable is said again: calls, where that does no
-   harm, and stores that had no answer, before any envelope may pass. A store was made where the site has the right no more: an envelope that
-   takes it is passed behind the store. Said again it would ask for the right, and bring old bytes. */
+   A site that is killed is started again from its journal, which has what is mapped. Unmaps and syncs without an answer are said again, in
+   order. That does no harm: while the page is mapped nobody else has it, and once it is given up the site refuses. A map isn't said while an
+   unmap of its page has no answer, or that, said again, would bring old bytes to a page that came later. */
 #include "host.h"
 
 #include <signal.h>
 #include <stdarg.h>
+#include <sys/stat.h>
 #include <sys/wait.h>
 
-enum { LINE = 5700, NO_ATTACHMENT = 64 };
+/* A line has at most so many bytes, with its seal; and so many of runs, each of which has so many beside its base64. */
+enum { LINE = 8192, RUNS = 8000, BESIDE = 16 };
 
 static struct channel to_site = {.descriptor = -1}, from_site = {.descriptor = -1};
-static struct channel stores; /* the lines of those whose answers aren't here: so many, from `answered` on */
-static size_t answered, unanswered;
-static size_t looked_at, unseen, said_again; /* while the site recovers: those from there on, so many, may have been made; then all are said */
+static struct channel unmaps; /* and syncs: their lines; those from `unanswered` on have no answer */
+static size_t unanswered;
+static uint64_t unmaps_said, unmaps_answered, unmaps_said_again; /* how many; and how many had been said when the site was killed last */
+static char runs[LINE];                                          /* what changed of a page and isn't said yet */
+static size_t runs_length;
 static pid_t process;
 static struct call *calls;
-static uint64_t calls_made, asks;
-static bool ticking; /* a tick has no answer yet */
-
-static const char letters[] = "ABCDEFGHIJKLMNOPQRSTUVWXYZabcdefghijklmnopqrstuvwxyz0123456789+/";
+static uint64_t calls_made;
+static bool ticking, recovering; /* a tick has no answer yet; what is mapped hasn't been told since the site was started */
 
 /* Says an ask, and gives its line, without its seal. */
 __attribute__((format(printf, 1, 2))) static const char *say(const char *format, ...) {
@@ -33,47 +35,23 @@ __attribute__((format(printf, 1, 2))) static const char *say(const char *format,
     va_start(values, format);
     vsnprintf(line + length, sizeof line - (size_t)length, format, values);
     va_end(values);
-    push_sealed(&to_site, line);
+    push_line(&to_site, line, true);
     return line;
-}
-
-/* Pages. */
-
-static int attachment_of(const struct page *page) {
-    return page->segment->writing >= 0 ? page->segment->writing : page->segment->reading;
-}
-
-void ask_page(struct page *page, enum asked asked) {
-    int id = page->segment->id;
-    size_t index = page->offset / PAGE;
-    page->asked = asked;
-    page->ask = ++asks;
-    if (asked == STATE) say("p.%d.%zu.%lu show %d %zu", id, index, asks, id, index);
-    else say("p.%d.%zu.%lu read %d %zu %d", id, index, asks, attachment_of(page), page->offset, PAGE);
-}
-
-/* Only where the right isn't here, and no envelope may pass before: then it neither loads nor stores. */
-void ask_right(const struct page *page) {
-    if (page->wanted == WRITE) say("r try-store %d %zu 0", page->segment->writing, page->offset);
-    else say("r try-load %d %zu", attachment_of(page), page->offset);
-}
-
-static void page_answered(const char *tag, const char *text) {
-    int id, index;
-    uint64_t ask;
-    struct page *page = sscanf(tag, "p.%d.%d.%lu", &id, &index, &ask) == 3 ? page_of(id, index) : NULL;
-    if (page != NULL) page_told(page, ask, text);
 }
 
 /* Bytes in base64. */
 
-static void encode(const uint8_t *bytes, size_t count, char *text) {
+static const char letters[] = "ABCDEFGHIJKLMNOPQRSTUVWXYZabcdefghijklmnopqrstuvwxyz0123456789+/";
+
+static size_t encode(const uint8_t *bytes, size_t count, char *text) {
+    const char *begin = text;
     for (size_t place = 0; place < count; place += 3) {
         uint32_t bits = 0;
         for (size_t byte = place; byte < place + 3; byte++) bits = bits << 8 | (byte < count ? bytes[byte] : 0);
         for (size_t letter = 0; letter < 4; letter++) *text++ = place + letter > count ? '=' : letters[bits >> (18 - 6 * letter) & 63];
     }
     *text = '\0';
+    return (size_t)(text - begin);
 }
 
 bool decode(const char *text, uint8_t bytes[PAGE]) {
@@ -88,70 +66,70 @@ bool decode(const char *text, uint8_t bytes[PAGE]) {
     return true;
 }
 
-/* Stores. */
+/* Pages. */
 
-/* While the site recovers it is said with those before it. */
-void store_run(const struct page *page, size_t start, size_t end) {
-    char text[(PAGE + 2) / 3 * 4 + 1], line[LINE];
-    encode(page->segment->bytes + page->offset + start, end - start, text);
-    snprintf(line, sizeof line, "ask %d s.%d.%zu write %d %zu %s", options.me, page->segment->id, page->offset / PAGE, page->segment->writing,
-             page->offset + start, text);
-    push_line(&stores, line);
-    unanswered++;
-    if (!site_recovers()) push_sealed(&to_site, line);
+/* A map waits for earlier unmaps, and asks through one attachment at a time. Its tag says what is mapped: where nobody waits for the answer, as
+   the segment has gone, the page is given up again. */
+void ask_map(struct page *page) {
+    const struct segment *segment = page->segment;
+    int at = segment->writing >= 0 ? segment->writing : segment->reading;
+    size_t index = page->offset / PAGE;
+    if (page->at != at) page_leaves(page);
+    if (recovering || is_unmapping(page)) return;
+    page->asked = page->wanted;
+    page->at = at;
+    say("m.%d.%zu map %d %zu %s", at, index, at, index, page->wanted == WRITE ? "write" : "read");
 }
 
-static char *line_behind(char *line) {
-    return (char *)memchr(line, '\n', (size_t)(stores.bytes + stores.length - line)) + 1;
+static void map_answered(const char *tag, const char *text) {
+    int at = 0, index = 0;
+    sscanf(tag, "m.%d.%d", &at, &index);
+    struct page *page = page_of(-1, at, index);
+    if (page != NULL && page->asked != NONE) page_told(page, text);
+    else if (strncmp(text, "mapped", 6) == 0) say("x unmap %d %d none", at, index);
 }
 
-static void store_answered(const char *text) {
-    if (strcmp(text, "stored") != 0 && said_again == 0) complain("bytes weren't stored: %s", text);
-    if (said_again > 0) said_again--;
-    if (unanswered == 0) return;
-    answered = (size_t)(line_behind(stores.bytes + answered) - stores.bytes);
-    if (--unanswered == 0) answered = stores.length = 0;
+/* Bytes of a page that changed, to be said with the next unmap. What is too much for one line is said by syncs before it. */
+void add_run(struct page *page, size_t start, size_t end) {
+    if (runs_length + BESIDE + (end - start) / 3 * 4 > RUNS) say_unmap(page, WRITE);
+    runs_length += (size_t)sprintf(runs + runs_length, " %zu ", page->offset + start);
+    runs_length += encode(page->segment->bytes + page->offset + start, end - start, runs + runs_length);
 }
 
-static void say_stores_again(void) {
-    said_again = unanswered;
-    for (char *behind, *line = stores.bytes + answered; line < stores.bytes + stores.length; line = behind) {
-        behind = line_behind(line);
-        behind[-1] = '\0';
-        push_sealed(&to_site, line);
-        behind[-1] = '\n';
+/* Where all stays mapped, it is a sync. */
+void say_unmap(struct page *page, enum right keeps) {
+    static const char *const verbs[] = {"unmap", "unmap", "sync"}, *const kept[] = {" none", " read", ""};
+    push_line(&unmaps, say("u %s %d %zu%s%s", verbs[keeps], page->at, page->offset / PAGE, kept[keeps], runs), true);
+    page->unmap = ++unmaps_said;
+    runs[runs_length = 0] = '\0';
+}
+
+bool is_unmapping(const struct page *page) {
+    return page->unmap > unmaps_answered;
+}
+
+static void unmap_answered(const char *text) {
+    if (++unmaps_answered > unmaps_said_again && strncmp(text, "refused", 7) == 0) warnx("a page wasn't given up: %s", text);
+    unanswered = (size_t)((char *)memchr(unmaps.bytes + unanswered, '\n', unmaps.length - unanswered) + 1 - unmaps.bytes);
+    if (2 * unanswered >= unmaps.length) take_off(&unmaps, unanswered), unanswered = 0;
+}
+
+static void revoke_told(const char *text) {
+    int id = -1, index = -1;
+    char keeps[8] = "";
+    sscanf(text, "revoke %d %d %7s", &id, &index, keeps);
+    struct page *page = page_of(id, -1, index);
+    if (page != NULL) page_revoked(page, strcmp(keeps, "read") == 0 ? READ : NONE);
+}
+
+/* What the site has mapped and isn't here is given up: its answer was lost, or it is of an earlier daemon. */
+static void mappings_told(const char *text) {
+    int at, index, length;
+    recovering = false;
+    for (text += strlen("mappings"); sscanf(text, " %d %d %*s%n", &at, &index, &length) == 2; text += length) {
+        const struct page *page = page_of(-1, at, index);
+        if (page == NULL || (page->mapped == NONE && !is_unmapping(page))) say("x unmap %d %d none", at, index);
     }
-}
-
-/* Asks what the site has of the page of each store. */
-static void look_at_stores(void) {
-    looked_at = answered;
-    unseen = unanswered;
-    said_again = 0;
-    for (char *line = stores.bytes + answered; line < stores.bytes + stores.length; line = line_behind(line)) {
-        int id = 0;
-        size_t index = 0;
-        sscanf(line, "ask %*d s.%d.%zu", &id, &index);
-        say("w show %d %zu", id, index);
-    }
-}
-
-/* What the site has of the page of the next one. */
-static void store_shown(const char *text) {
-    if (unseen == 0) return;
-    char *line = stores.bytes + looked_at, *behind = line_behind(line);
-    if (strncmp(text, "page OwnWrite/", 14) == 0) {
-        looked_at += (size_t)(behind - line);
-    } else {
-        stores.length -= (size_t)(behind - line);
-        memmove(line, behind, stores.length - looked_at);
-        unanswered--;
-    }
-    if (--unseen == 0) say_stores_again();
-}
-
-bool site_recovers(void) {
-    return unseen > 0 || said_again > 0;
 }
 
 /* Segment calls. */
@@ -162,14 +140,14 @@ static void say_call(void) {
     say("c.%lu %s", calls->number, calls->text);
 }
 
-void make_call(struct call *call, call_done *done, const char *format, ...) {
+void make_call(struct call *call, void (*done)(struct call *, int, const char *), const char *format, ...) {
     struct call **last = &calls;
     va_list values;
     va_start(values, format);
     vsnprintf(call->text, sizeof call->text, format, values);
     va_end(values);
     call->done = done;
-    call->said = call->doubtful = false;
+    call->said = false;
     call->number = ++calls_made;
     call->next = NULL;
     while (*last != NULL) last = &(*last)->next;
@@ -180,7 +158,8 @@ void make_call(struct call *call, call_done *done, const char *format, ...) {
 static void end_call(int error, const char *reply) {
     struct call *call = calls;
     calls = call->next;
-    call->done(call, error, reply);
+    if (call->done != NULL) call->done(call, error, reply);
+    else free(call);
     say_call();
 }
 
@@ -193,22 +172,13 @@ static int error_of(const char *reply) {
     return number < sizeof errors / sizeof *errors ? errors[number] : EIO;
 }
 
-/* `refused 8`: one of before is still under way, and a tick says this one again. */
+/* `refused 8`: one of before is still under way, or a page isn't given up yet; a tick says this one again. */
 static void call_answered(const char *tag, const char *text) {
     int skipped = 0;
     if (calls == NULL || calls->number != strtoull(tag + 2, NULL, 10)) return;
     sscanf(text, "replied %*s %n", &skipped);
     if (strcmp(text, "refused 8") == 0) calls->said = false;
     else end_call(error_of(text + skipped), text + skipped);
-}
-
-/* A detach that no site can make: refused with 8 while a call is outstanding, else with 9. Then nobody knows whether the doubtful one was
-   executed: what made a segment has failed, and all else may be made again. */
-static void probe_answered(const char *text) {
-    if (strcmp(text, "refused 9") != 0 || calls == NULL || !calls->doubtful) return;
-    calls->doubtful = calls->said = false;
-    if (calls->makes) end_call(EIO, text);
-    else say_call();
 }
 
 bool site_waits(void) {
@@ -219,85 +189,59 @@ bool site_waits(void) {
 void site_tick(void) {
     if (!ticking) say("t tick");
     ticking = true;
-    if (calls != NULL && calls->doubtful) say("q detach %d", NO_ATTACHMENT);
     say_call();
 }
 
 /* Lines. */
 
-void pass_line(const char *line) {
-    push_sealed(&to_site, line);
-}
-
-/* What others say to this site. Asks of others don't pass: they would go past what is mapped. */
-void take_stream_line(char *line) {
-    struct envelope envelope = {.line = line, .segment = -1, .page = -1, .site = -1};
-    int said = 0;
-    if (sscanf(line, "env %*s %d %*s %*s %*s %n", &envelope.to, &said) != 1 || said == 0 || envelope.to != options.me) return;
-    envelope.said = line + said;
-    sscanf(envelope.said, "%11s %d %d %lu %7s %d", envelope.kind, &envelope.segment, &envelope.page, &envelope.number, envelope.access, &envelope.site);
-    bool meets = meets_entry(&envelope);
-    struct page *page = meets ? page_of(envelope.segment, envelope.page) : NULL;
-    if (page != NULL) page_envelope(page, &envelope);
-    else if (!meets || !site_recovers()) pass_line(line);
-}
-
 static void take_answer(char *line) {
+    size_t length = strlen(line), seal = seal_length(&options.seal);
+    line[length < seal ? 0 : length - seal] = '\0';
     char *tag = strchr(line + 5, ' '), *text = tag == NULL ? NULL : strchr(tag + 1, ' ');
     if (text == NULL) return;
     *text++ = '\0';
     switch (*++tag) {
-    case 'p': page_answered(tag, text); break;
-    case 's': store_answered(text); break;
-    case 'w': store_shown(text); break;
+    case 'm': map_answered(tag, text); break;
+    case 'u': unmap_answered(text); break;
+    case '*': revoke_told(text); break;
+    case 'l': mappings_told(text); break;
     case 'c': call_answered(tag, text); break;
-    case 'q': probe_answered(text); break;
-    case 't': ticking = false; break;
-    case 'r':
-        if (strcmp(text, "stored") == 0 && options.broken != PASSES_WHILE_ASKING) FAIL("the site stored where it should have asked for a right");
+    case 't': ticking = false;
     }
 }
 
-/* What the site tells has its seal: a line that goes on keeps it. */
+/* Envelopes for this site pass as they are, with their seal. Asks of others don't: they could give up what is mapped here. */
+bool pass_line(const char *line) {
+    int to;
+    bool passes = sscanf(line, "env %*s %d", &to) == 1 && to == options.me;
+    if (passes) push_line(&to_site, line, false);
+    return passes;
+}
+
 static void take_site_line(char *line) {
-    int to = -1;
-    size_t length = strlen(line), seal = seal_length(&options.seal);
-    bool tells = strncmp(line, "tell ", 5) == 0;
-    if (!tells && (sscanf(line, "env %*s %d", &to) != 1 || to != options.me)) {
-        carry(line);
-        return;
-    }
-    line[length < seal ? 0 : length - seal] = '\0';
-    if (tells) take_answer(line);
-    else take_stream_line(line);
+    if (strncmp(line, "tell ", 5) == 0) take_answer(line);
+    else if (!pass_line(line)) carry(line);
 }
 
 /* The process. */
 
-/* A site that was killed before it had written the first line of its journal begins it again. */
-static bool is_begun(void) {
-    char line[128];
-    FILE *journal = fopen(options.journal, "re");
-    bool begun = journal != NULL && fgets(line, sizeof line, journal) != NULL && strchr(line, '\n') != NULL;
-    if (journal != NULL) fclose(journal);
-    return begun;
-}
-
+/* Nobody knows whether the call that was outstanding is executed: what made a segment has failed, and all else may be made again. */
 static void start_again(void) {
     int status = 0;
+    struct stat journal;
     close(to_site.descriptor);
     close(from_site.descriptor);
     waitpid(process, &status, 0);
     to_site.length = from_site.length = 0;
-    if (WIFEXITED(status)) FAIL("the site's process has ended, status %d", WEXITSTATUS(status));
-    if (options.journal == NULL) FAIL("the site's process was killed, and has no journal: stop all hosts, and begin anew");
-    complain("the site's process was killed: it goes on from its journal; %zu stores have no answer", unanswered);
-    if (is_begun()) options.begins = false;
+    if (WIFEXITED(status)) errx(1, "the site's process has ended, status %d", WEXITSTATUS(status));
+    if (options.journal == NULL) errx(1, "the site's process was killed, and has no journal: stop all hosts, and begin anew");
+    warnx("the site's process was killed: it goes on from its journal; %lu unmaps have no answer", unmaps_said - unmaps_answered);
+    if (stat(options.journal, &journal) == 0 && journal.st_size > 0) options.begins = false;
     site_start();
-    look_at_stores();
-    each_page(page_begins_again);
-    if (calls != NULL) calls->doubtful = calls->said;
+    EACH_PAGE(page) page->asked = NONE, page->later = false;
     ticking = false;
+    if (calls != NULL && calls->said && calls->makes) end_call(EIO, "");
+    else if (calls != NULL) calls->said = false;
     site_tick();
 }
 
@@ -319,6 +263,10 @@ void site_start(void) {
     if (options.key != NULL) words[count++] = "--key", words[count++] = options.key;
     process = start_process((char *const *)(uintptr_t)words, &to_site, &from_site);
     watch(from_site.descriptor, &source);
+    push_bytes(&to_site, unmaps.bytes + unanswered, unmaps.length - unanswered);
+    unmaps_said_again = unmaps_said;
+    recovering = true;
+    say("l mappings");
 }
 
 bool site_flush(void) {

@@ -30,8 +30,9 @@ from cluster import Cluster, Words, answer_of, expect, has, keys, patience
 from others import try_others, try_postgres
 
 ROUGH = ('5', '10', '30')
-BROKEN = {1: 'passes a clear of what is read', 2: 'passes a hand to read of what is written', 3: 'passes a hand to write of what is written',
-          4: 'passes a hand to write of what is read', 5: 'passes envelopes while the site is asked', 6: "doesn't protect before it writes back"}
+BROKEN = {1: 'leaves a page in memory that was read and is given up', 2: 'leaves a page in memory that was written and is given up',
+          3: 'leaves a page open to write that it lends', 4: "doesn't say what changed", 5: 'opens pages to write that are mapped to read',
+          6: "doesn't protect before it says what changed"}
 
 
 def try_counts(cluster, times=500):
@@ -158,7 +159,7 @@ def try_kills(options):
 
 
 def try_untold(options):
-    """Sites that are killed when they have made durable that they gave a page away, and nobody was told yet."""
+    """Sites that are killed when they have made durable that they gave, mapped or took back a page, and nobody was told yet."""
     os.environ['SHMDBG'] = options.program
     cluster = Cluster(options, 3, journals=True, program=os.path.join(HERE, 'try', 'untold.py'))
     try:
@@ -235,6 +236,33 @@ b[0] = b"a"; print("here", flush=True); sys.stdin.readline(); b[1] = b"b"; print
         program.wait()
         cluster.stop()
     yield 'a new fault waits where the daemon died, and no zeros are seen'
+    yield from try_daemon_again(options)
+
+
+def try_daemon_again(options):
+    """A daemon that was killed begins again, with its journal, and gives up what stands there as mapped."""
+    cluster = Cluster(options, 2, journals=True)
+    words = Words(cluster)
+    try:
+        for ask in ((0, 0, 5), (1, 0, 1), (0, 0, 1), (1, 0, 0), (0, 1024, 0)):
+            words.ask(ask)
+        site = cluster.site_of(0)
+        for process in (words.programs[0], cluster.daemons[0]):
+            process.kill()
+            process.wait()
+        while os.path.exists(f'/proc/{site}/exe'):  # it ends with its input, and has the journal until then
+            time.sleep(0.02)
+        cluster.daemons[0] = cluster.start(0, cluster.streams[0])
+        words.ask((1, 0, 1), (1, 1024, 1))
+        words.programs[0] = words.program(0)
+        words.ask((0, 0, 1), (0, 1024, 1))
+        told = try_counts(cluster, 20)
+    finally:
+        words.end()
+        complaints = cluster.stop()
+    odd = [line for line in odd_lines(complaints) if line != 'shmdbg: write fault']  # of the site whose daemon was killed
+    expect(not odd, '\n'.join(odd))
+    yield f'a daemon that begins again: {told}; {cluster.audit()}'
 
 
 def try_carriers(options):
@@ -397,12 +425,7 @@ def try_seals(options):
     yield cluster.audit()
 
 
-def try_rule(options):
-    """The daemon's rule is the one that is proved."""
-    yield subprocess.run([os.path.join(options.build, 'try', 'hold')], stdout=subprocess.PIPE, text=True, check=True).stdout.strip()
-
-
-TRIES = {'rule': try_rule, 'smooth': try_smooth, 'carriers': try_carriers, 'postgres': try_database, 'nobody': try_nobody, 'checked': try_checked,
+TRIES = {'smooth': try_smooth, 'carriers': try_carriers, 'postgres': try_database, 'nobody': try_nobody, 'checked': try_checked,
          'many': try_many, 'refusals': try_refusals, 'death': try_daemon_death, 'kills': try_kills, 'untold': try_untold,
          'seals': try_seals, 'repeats': try_repeats, 'broken': try_broken}
 

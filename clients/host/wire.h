@@ -19,16 +19,15 @@
 
 enum { PAGE = 4096 };
 
+static const int64_t SECOND = 1000000000;
+
 enum {
     ASK_DEVICE, /* answered with the descriptor of /dev/userfaultfd, or with none where the daemon has none */
     ASK_FAULTS, /* hands over the program's userfaultfd, and `address`, its page of names; answered with the daemon's lock */
     ASK_NAMED,  /* this is the program that reads `size` in its page of names; answered with its userfaultfd */
     ASK_ATTACH, /* answered with the segment's memory and length: the program maps it, and says so: */
     ASK_MAPPED, /* at `address`, or 0 where that failed */
-    ASK_GET,    /* and the other three: what the calls have as arguments */
-    ASK_STATUS,
-    ASK_SET,
-    ASK_REMOVE,
+    ASK_GET, ASK_STATUS, ASK_SET, ASK_REMOVE, /* what the calls have as arguments */
 };
 
 struct ask {
@@ -42,6 +41,13 @@ struct answer {
     int32_t error, id, sites; /* an errno, or 0; how many machines there are, each of which names every so manieth segment */
     struct shmid_ds status;
 };
+
+/* Nanoseconds. */
+static inline int64_t now(void) {
+    struct timespec time;
+    clock_gettime(CLOCK_MONOTONIC, &time);
+    return time.tv_sec * SECOND + time.tv_nsec;
+}
 
 /* `descriptor` is -1 for none. Both give what sendmsg(2) and recvmsg(2) give. */
 static inline ssize_t send_message(int socket, const void *message, size_t size, int descriptor) {

@@ -43,7 +43,7 @@ class Cluster:
     def __init__(self, options, hosts, rough=('0', '0', '0'), journals=False, words=(), before=(), seed=1, hub=True, program=None):
         self.options, self.hosts = options, hosts
         self.program = program or options.program
-        self.words, self.before = words, before
+        self.words, self.before, self.streams = words, before, []
         self.folder = tempfile.mkdtemp(prefix='cluster-', dir=options.build)
         os.chmod(self.folder, 0o1777)
         self.journals = [os.path.join(self.folder, f'journal-{me}') for me in range(hosts)] if journals else []
@@ -56,9 +56,10 @@ class Cluster:
         ends = [pair[1].fileno() for pair in pairs]
         hub = [os.path.join(self.options.build, 'try', 'hub'), *rough, str(seed)]
         self.carrier = subprocess.Popen(hub + [str(end) for end in ends], pass_fds=ends)
-        self.daemons = [self.start(me, pairs[me][0]) for me in range(self.hosts)]
-        for end in itertools.chain(*pairs):
-            end.close()
+        self.streams = [pair[0] for pair in pairs]
+        self.daemons = [self.start(me, self.streams[me]) for me in range(self.hosts)]
+        for pair in pairs:
+            pair[1].close()
         self.wait_for_sockets()
 
     def begin(self, carrier, *carried):
@@ -135,7 +136,9 @@ class Cluster:
             daemon.wait(60)
         self.carrier.terminate()
         self.carrier.wait()
-        complaints = [line for line in self.complaints().splitlines(True) if not line.startswith('shmdbg: health ')]
+        for stream in self.streams:
+            stream.close()
+        complaints = [line for line in self.complaints().splitlines(True) if not is_health(line)]
         self.log.close()
         return ''.join(complaints)
 
@@ -144,6 +147,11 @@ class Cluster:
         told = subprocess.run(words, stdout=subprocess.PIPE, stderr=subprocess.STDOUT, text=True).stdout
         expect(told.startswith('audit yes'), told)
         return ', '.join(told.splitlines())
+
+
+def is_health(line):
+    """A site's counts, or an end of them where others wrote in between."""
+    return line.startswith('shmdbg: health ') or line.endswith(' wrong-digest 0\n')
 
 
 def resident(process):
@@ -159,9 +167,11 @@ class Words:
     """A program on each host that adds to words where it is told to, so that each answer is known before."""
 
     def __init__(self, cluster):
-        key = next(keys)
-        self.programs = [cluster.on(me, './words', key, stdin=subprocess.PIPE, stderr=None) for me in range(cluster.hosts)]
-        self.values = {}
+        self.cluster, self.key, self.values = cluster, next(keys), {}
+        self.programs = [self.program(me) for me in range(cluster.hosts)]
+
+    def program(self, me):
+        return self.cluster.on(me, './words', self.key, stdin=subprocess.PIPE, stderr=None)
 
     def ask(self, *asks):
         """Each is a host, a word and how often: all at once, each of a word of its own. Fails where one isn't told what the word must be."""

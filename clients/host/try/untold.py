@@ -1,5 +1,6 @@
 #!/usr/bin/env python3
-"""shmdbg, as $SHMDBG names it, whose site is killed now and then when it is durable that it gave a page away, and before anybody is told."""
+"""shmdbg, as $SHMDBG names it, whose site is killed now and then when it is durable that it gave a page away to another site, mapped one for its
+machine or took one back from it, and before anybody is told."""
 import os
 import random
 import re
@@ -7,7 +8,7 @@ import signal
 import subprocess
 import sys
 
-GIVES = re.compile(rb'^env \d+ \d+ \d+ \d+ \d+ page ', re.M)
+GIVES = re.compile(rb'^(?:env (?:\d+ ){5}page |tell \d+ \S+ (?:un)?mapped\b)', re.M)
 SHARE = 0.03
 
 site = subprocess.Popen([os.environ['SHMDBG'], *sys.argv[1:]], stdout=subprocess.PIPE)

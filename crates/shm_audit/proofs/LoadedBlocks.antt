@@ -10,7 +10,7 @@ use Rattle.std.proofs.lemmas.List.Elements.{All-nil, All-append, All-drop, All-g
 use Rattle.shm_model.specs.declared.answer.Answer.{Answer}
 use Rattle.shm_model.specs.declared.answer.Answer.TheVariants.{Byte, Stored, Fault, Waiting, Began, Replied, Took, Dropped, Refused}
 use Rattle.shm_model.specs.declared.asked_access.Asked.TheVariants.{Load}
-use Rattle.shm_model.specs.Message.{Begin, Deliver, Tick}
+use Rattle.shm_model.specs.Message.{Input, Begin, Deliver, Tick}
 use Rattle.shm_model.specs.Receipt.{access_of}
 use Rattle.shm_model.specs.Step.{foreign}
 use Rattle.shm_lines.proofs.StepLemmas.{lt-true}
@@ -20,13 +20,16 @@ use Rattle.shm_wire.specs.Line as stream
 use Rattle.shm_wire.specs.Line.{read_line}
 use Rattle.shm_wire.specs.declared.caller_ask.Question.{Question}
 use Rattle.shm_wire.specs.declared.caller_ask.Question.TheVariants as question
+use Rattle.shm_wire.specs.declared.mapping_text.Mapping.{Mapping}
 use Rattle.shm_wire.specs.Writes.{WriteAsk, IsWrite}
 use Rattle.shm_process.specs.Blocks.{Block}
 use Rattle.shm_process.specs.Cause.{OfLine}
 use Rattle.shm_process.specs.Writes.{Write}
 use Rattle.shm_process.proofs.WriteLemmas.{GoesOn, goes-on}
 use Rattle.shm_process.specs.WaitingAsks.{Access, Reads, Writes, WaitingAsk, after_answer, ask_in, goes_on, waiting_after}
-use Rattle.shm_process.specs.Node.{Node, Heard, Said, answer_to, heard, input_asked, is_beyond, is_late, under_tag, waits_for}
+use Rattle.shm_process.specs.Mapped.{byte_place, page_at}
+use Rattle.shm_process.specs.Node.{Node, Heard, Said, answer_to, asked_under, heard, input_asked, is_beyond, is_late, remapped_by, waits_for}
+use Rattle.shm_process.specs.Remaps.{first_load, is_empty, unmapped_to}
 use Rattle.shm_process.specs.Recorded.{Event, Line, TooLong, Again, Restarted, after_event, after_events, said_at}
 use Rattle.shm_process.specs.Waiting.{after_heard, after_read, after_restart, after_unheard, again_at, block_here, block_in, has_room, joining, joins, next_heard, next_line, ready, says_at, unstored, with_ask, write_here}
 use Rattle.shm_audit.proofs.Among.{loads-push}
@@ -210,6 +213,8 @@ block-in me first events node line true false site tag (question.Begin request) 
 block-in me first events node line true false site tag question.Tick h own is = goes-same me first events (Line line) node (after_unheard node None) refl refl h
 block-in me first events node line true false site tag (question.Show page) h own is = goes-same me first events (Line line) node (after_unheard node None) refl refl h
 block-in me first events node line true false site tag question.Health h own is = goes-same me first events (Line line) node (after_unheard node None) refl refl h
+block-in me first events node line true false site tag (question.Map at index kind) h own is = goes-same me first events (Line line) node (after_unheard node None) refl refl h
+block-in me first events node line true false site tag question.Mappings h own is = goes-same me first events (Line line) node (after_unheard node None) refl refl h
 
 site-is : (a b me : ℕ) → b ≡ me → (a == b) ≡ true → a ≡ me
 site-is a b me own same = grind (arith, nat_tests)
@@ -261,6 +266,7 @@ unheard-goes : (me : ℕ) (first : Node) (events : List Event) (node : Node) (li
 unheard-goes me first events node line (stream.Envelope sent) h read = goes-same me first events (Line line) node (after_unheard node None) refl refl h
 unheard-goes me first events node line (stream.Write write) h read =
     write-goes me first events node line (has_room node) write h refl read
+unheard-goes me first events node line (stream.Unmap unmap) h read = goes-same me first events (Line line) node (after_unheard node None) refl refl h
 unheard-goes me first events node line (stream.Ask ask) h read = ask-goes me first events node line (has_room node) ask h refl read
 
 -- what joins is an access
@@ -285,24 +291,37 @@ made-access : (lost : Bool) (made x : Heard) → IsAccess made.waits → cond lo
 made-access true made x is e = absurd (cc)
 made-access false made x is e = subst (λ (h : Heard). IsAccess h.waits) (some-is made x e) is
 
-asked-access : (tag : List ℕ) (q : Question) (x : Heard) (here late : Bool)
-    → cond here (cond late None (option_map (under_tag tag (waits_for tag q)) (input_asked q))) None ≡ Some x → IsAccess x.waits
-asked-access tag q x false late e = absurd (cc)
-asked-access tag q x true true e = absurd (cc)
-asked-access tag (question.Access asked) x true false e = made-access false (under_tag tag (Some (Access tag asked)) (access_of asked)) x tt e
-asked-access tag (question.Try asked) x true false e = made-access false (under_tag tag None (access_of asked)) x tt e
-asked-access tag (question.Read at offset count) x true false e = absurd (cc)
-asked-access tag (question.Begin request) x true false e = made-access false (under_tag tag None (Begin request)) x tt e
-asked-access tag question.Tick x true false e = made-access false (under_tag tag None Tick) x tt e
-asked-access tag (question.Show page) x true false e = absurd (cc)
-asked-access tag question.Health x true false e = absurd (cc)
+asked-access : (tag : List ℕ) (q : Question) (mapped : Option (List Mapping)) (x : Heard) (here late : Bool)
+    → cond here (cond late None (option_map (asked_under tag (waits_for tag q) mapped) (input_asked q))) None ≡ Some x → IsAccess x.waits
+asked-access tag q mapped x false late e = absurd (cc)
+asked-access tag q mapped x true true e = absurd (cc)
+asked-access tag (question.Access asked) mapped x true false e = made-access false (asked_under tag (Some (Access tag asked)) mapped (access_of asked)) x tt e
+asked-access tag (question.Try asked) mapped x true false e = made-access false (asked_under tag None mapped (access_of asked)) x tt e
+asked-access tag (question.Read at offset count) mapped x true false e = absurd (cc)
+asked-access tag (question.Begin request) mapped x true false e = made-access false (asked_under tag None mapped (Begin request)) x tt e
+asked-access tag question.Tick mapped x true false e = made-access false (asked_under tag None mapped Tick) x tt e
+asked-access tag (question.Show page) mapped x true false e = absurd (cc)
+asked-access tag question.Health mapped x true false e = absurd (cc)
+asked-access tag (question.Map at index kind) mapped x true false e = made-access false (asked_under tag None mapped (first_load at index)) x tt e
+asked-access tag question.Mappings mapped x true false e = absurd (cc)
+
+-- nor does a page that is given up join
+unmap-access : (tag : List ℕ) (input : Input) (mapped : Option (List Mapping)) (x : Heard) (here late empty : Bool)
+    → cond here (cond late None (option_map (asked_under tag None mapped) (cond empty (Some input) None))) None ≡ Some x → IsAccess x.waits
+unmap-access tag input mapped x false late empty e = absurd (cc)
+unmap-access tag input mapped x true true empty e = absurd (cc)
+unmap-access tag input mapped x true false false e = absurd (cc)
+unmap-access tag input mapped x true false true e = made-access false (asked_under tag None mapped input) x tt e
 
 heard-access : (node : Node) (is : stream.Line) (x : Heard) → heard node is ≡ Some x → IsAccess x.waits
 heard-access node (stream.Envelope sent) x e =
     made-access (foreign node.sites node.me sent.envelope || (is_late node sent.source.at || is_beyond node sent))
-    (record { input = Deliver sent.envelope; source = sent.source.at; tag = None; waits = None }) x tt e
+    (record { input = Deliver sent.envelope; source = sent.source.at; tag = None; waits = None; mapped = None }) x tt e
 heard-access node (stream.Write write) x e = absurd (cc)
-heard-access node (stream.Ask ask) x e = asked-access ask.tag ask.asked x (ask.site == node.me) (is_late node 0) e
+heard-access node (stream.Ask ask) x e = asked-access ask.tag ask.asked (remapped_by node ask.asked) x (ask.site == node.me) (is_late node 0) e
+heard-access node (stream.Unmap unmap) x e =
+    unmap-access unmap.tag (first_load unmap.at unmap.index) (unmapped_to node.mapped unmap.keeps (page_at node.site unmap.at (byte_place unmap.index 0))) x
+    (unmap.site == node.me) (is_late node 0) (is_empty unmap.runs) e
 
 line-goes : (me : ℕ) (first : Node) (events : List Event) (node : Node) (line : List ℕ) (is : stream.Line) (o : Option Heard) → Holds me first events node
     → read_line line ≡ Some is → heard node is ≡ o → Goes me first events (Line line) (after_heard node (joining node is) o)

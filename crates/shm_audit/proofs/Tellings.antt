@@ -9,7 +9,9 @@ use Rattle.shm_model.specs.declared.asked_access.Asked.TheVariants as asked
 use Rattle.shm_model.specs.Message.{Input, Deliver, Restart}
 use Rattle.shm_model.specs.Step.{foreign}
 use Rattle.shm_process.specs.Cause.{Cause, OfLine, OfRestart}
-use Rattle.shm_process.specs.Node.{Node, Heard, Said, heard, input_asked, is_beyond, is_late, new_node, next_clock, says, stepped, under_tag, waits_for}
+use Rattle.shm_process.specs.Mapped.{byte_place, page_at}
+use Rattle.shm_process.specs.Node.{Node, Heard, Said, asked_under, heard, input_asked, is_beyond, is_late, new_node, next_clock, remapped_by, says, stepped, unmap_input, waits_for}
+use Rattle.shm_process.specs.Remaps.{first_load, is_empty, unmapped_to}
 use Rattle.shm_process.specs.Recorded.{Entry, Event, Line, TooLong, Again, Restarted, after_event, entries_of, recorded, said_at}
 use Rattle.shm_process.specs.Waiting.{after_heard, after_read, after_unheard, again_at, can_be_made, joining, joins, next_heard, next_line, ready, restarting, said_read, said_restart, after_restart, says_at}
 use Rattle.shm_process.specs.WaitingAsks.{WaitingAsk, ask_in}
@@ -23,6 +25,7 @@ use Rattle.shm_wire.specs.Line.{read_line}
 use Rattle.shm_wire.specs.Sent.{Sent}
 use Rattle.shm_wire.specs.declared.caller_ask.Question.{Question}
 use Rattle.shm_wire.specs.declared.caller_ask.Question.TheVariants as question
+use Rattle.shm_wire.specs.declared.mapping_text.Mapping.{Mapping}
 use Rattle.shm_audit.specs.Entered.{Handed, at_clock, box_handed, delivered, handed, unless_refused, unsent}
 use Rattle.shm_audit.specs.Told.{ToldStep, box_after_all, told_at, told_by_log, told_by_said, told_by_step, all_said, said_first}
 
@@ -45,9 +48,9 @@ same-is : (n : ℕ) → (n == n) ≡ true
 same-is n = grind (arith, nat_tests)
 
 takes : (node : Node) (pages : ℕ) (log : List Logged) (cause : Cause) (input : Input) (stamp : Stamp) (tag : Option (List ℕ)) (waits : Option WaitingAsk)
-    → is_foreign node.sites node.me input ≡ false → is_late node stamp.at ≡ false
-    → Takes node pages log cause (record { input = input; source = stamp.at; tag = tag; waits = waits }) (Some (record { input = input; source = stamp }))
-takes node pages log cause input stamp tag waits own early =
+    (mapped : Option (List Mapping)) → is_foreign node.sites node.me input ≡ false → is_late node stamp.at ≡ false
+    → Takes node pages log cause (record { input = input; source = stamp.at; tag = tag; waits = waits; mapped = mapped }) (Some (record { input = input; source = stamp }))
+takes node pages log cause input stamp tag waits mapped own early =
     record {
       logged = taken (box_at node pages log) input stamp;
       goes =
@@ -63,15 +66,15 @@ or_cases false b h = (refl, h)
 
 sent_by : (node : Node) (pages : ℕ) (log : List Logged) (cause : Cause) (sent : Sent) (h : Heard) (other : Bool)
     → (foreign node.sites node.me sent.envelope || (is_late node sent.source.at || is_beyond node sent)) ≡ other
-    → cond other None (Some (record { input = Deliver sent.envelope; source = sent.source.at; tag = None; waits = None })) ≡ Some h
+    → cond other None (Some (record { input = Deliver sent.envelope; source = sent.source.at; tag = None; waits = None; mapped = None })) ≡ Some h
     → Takes node pages log cause h (Some (delivered sent))
 sent_by node pages log cause sent h true o e = absurd (cc)
 sent_by node pages log cause sent h false o e =
     let own = or_cases (foreign node.sites node.me sent.envelope) (is_late node sent.source.at || is_beyond node sent) o in
     let early = or_cases (is_late node sent.source.at) (is_beyond node sent) own.1 in
-    let made : Heard = record { input = Deliver sent.envelope; source = sent.source.at; tag = None; waits = None } in
+    let made : Heard = record { input = Deliver sent.envelope; source = sent.source.at; tag = None; waits = None; mapped = None } in
     subst (λ x. Takes node pages log cause x (Some (delivered sent))) (same made h e)
-    (takes node pages log cause (Deliver sent.envelope) sent.source None None own.0 early.0)
+    (takes node pages log cause (Deliver sent.envelope) sent.source None None None own.0 early.0)
 
 -- a caller asks for no delivery
 asked_own : (sites me : ℕ) (q : Question) → IfSome (input_asked q) (λ input. is_foreign sites me input ≡ false)
@@ -84,20 +87,27 @@ asked_own sites me (question.Begin request) = refl
 asked_own sites me question.Tick = refl
 asked_own sites me (question.Show page) = tt
 asked_own sites me question.Health = tt
+asked_own sites me (question.Map at index kind) = refl
+asked_own sites me question.Mappings = tt
+
+-- nor does one who gives a page up
+unmap_own : (sites me at index : ℕ) (empty : Bool) → IfSome (cond empty (Some (first_load at index)) None) (λ input. is_foreign sites me input ≡ false)
+unmap_own sites me at index true = refl
+unmap_own sites me at index false = tt
 
 abbrev no_stamp : Stamp
 no_stamp = record { at = 0; index = 0; place = 0 }
 
-asked_by : (node : Node) (pages : ℕ) (log : List Logged) (cause : Cause) (tag : List ℕ) (waits : Option WaitingAsk) (h : Heard) (o : Option Input) (here late : Bool)
-    → IfSome o (λ input. is_foreign node.sites node.me input ≡ false) → is_late node 0 ≡ late
-    → cond here (cond late None (option_map (under_tag tag waits) o)) None ≡ Some h
+asked_by : (node : Node) (pages : ℕ) (log : List Logged) (cause : Cause) (tag : List ℕ) (waits : Option WaitingAsk) (mapped : Option (List Mapping)) (h : Heard)
+    (o : Option Input) (here late : Bool) → IfSome o (λ input. is_foreign node.sites node.me input ≡ false) → is_late node 0 ≡ late
+    → cond here (cond late None (option_map (asked_under tag waits mapped) o)) None ≡ Some h
     → Takes node pages log cause h (cond here (option_map unsent o) None)
-asked_by node pages log cause tag waits h o false late own l e = absurd (cc)
-asked_by node pages log cause tag waits h o true true own l e = absurd (cc)
-asked_by node pages log cause tag waits h None true false own l e = absurd (cc)
-asked_by node pages log cause tag waits h (Some input) true false own l e =
-    subst (λ x. Takes node pages log cause x (Some (unsent input))) (same (under_tag tag waits input) h e)
-    (takes node pages log cause input no_stamp (Some tag) waits own l)
+asked_by node pages log cause tag waits mapped h o false late own l e = absurd (cc)
+asked_by node pages log cause tag waits mapped h o true true own l e = absurd (cc)
+asked_by node pages log cause tag waits mapped h None true false own l e = absurd (cc)
+asked_by node pages log cause tag waits mapped h (Some input) true false own l e =
+    subst (λ x. Takes node pages log cause x (Some (unsent input))) (same (asked_under tag waits mapped input) h e)
+    (takes node pages log cause input no_stamp (Some tag) waits mapped own l)
 
 line_taken : (node : Node) (pages : ℕ) (log : List Logged) (line : stream.Line) (h : Heard) → heard node line ≡ Some h
     → Takes node pages log (OfLine line) h (handed node.me (OfLine line))
@@ -105,8 +115,12 @@ line_taken node pages log (stream.Envelope sent) h e =
     sent_by node pages log (OfLine (stream.Envelope sent)) sent h (foreign node.sites node.me sent.envelope || (is_late node sent.source.at || is_beyond node sent)) refl e
 line_taken node pages log (stream.Write write) h e = absurd (cc)
 line_taken node pages log (stream.Ask ask) h e =
-    asked_by node pages log (OfLine (stream.Ask ask)) ask.tag (waits_for ask.tag ask.asked) h (input_asked ask.asked) (ask.site == node.me) (is_late node 0)
-    (asked_own node.sites node.me ask.asked) refl e
+    asked_by node pages log (OfLine (stream.Ask ask)) ask.tag (waits_for ask.tag ask.asked) (remapped_by node ask.asked) h (input_asked ask.asked)
+    (ask.site == node.me) (is_late node 0) (asked_own node.sites node.me ask.asked) refl e
+line_taken node pages log (stream.Unmap unmap) h e =
+    asked_by node pages log (OfLine (stream.Unmap unmap)) unmap.tag None
+    (unmapped_to node.mapped unmap.keeps (page_at node.site unmap.at (byte_place unmap.index 0))) h (unmap_input unmap) (unmap.site == node.me) (is_late node 0)
+    (unmap_own node.sites node.me unmap.at unmap.index (is_empty unmap.runs)) refl e
 
 -- ---- one step after another
 
@@ -169,7 +183,7 @@ restart_law : (node : Node) (pages : ℕ) (log : List Logged) (entries : List En
     (told_first (cond late None (Some (said_restart node))) told)
 restart_law node pages log entries told true e rest = rest log
 restart_law node pages log entries told false e rest =
-    let t : Takes node pages log OfRestart restarting (handed node.me OfRestart) = takes node pages log OfRestart Restart no_stamp None None refl e in
+    let t : Takes node pages log OfRestart restarting (handed node.me OfRestart) = takes node pages log OfRestart Restart no_stamp None None None refl e in
     one_step node pages log OfRestart restarting entries told t (rest (log ++ t.logged ∷ []))
 
 follows : (node : Node) (pages : ℕ) (log : List Logged) (events : List Event) → Follows (box_at node pages log) (entries_of node events) log (told_at node events)

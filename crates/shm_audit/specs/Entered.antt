@@ -3,13 +3,14 @@ use Rattle.std.specs.Prelude.{ℕ, Option, Some, None, ◌==◌, if◌then◌els
 use Rattle.shm_model.specs.Log.{Stamp}
 use Rattle.shm_model.specs.Message.{Input, Deliver, Restart}
 use Rattle.shm_process.specs.Cause.{Cause, OfLine, OfRestart}
-use Rattle.shm_process.specs.Node.{input_asked}
+use Rattle.shm_process.specs.Node.{input_asked, unmap_input}
 use Rattle.shm_process.specs.Recorded.{Entry}
 use Rattle.shm_logs.specs.Boxes.Box.{Box, after, refusal}
 use Rattle.shm_logs.specs.declared.site_boxes.box_error.BoxFault.{BoxFault}
 use Rattle.shm_wire.specs.Asks.{Ask}
 use Rattle.shm_wire.specs.Line as stream
 use Rattle.shm_wire.specs.Sent.{Sent}
+use Rattle.shm_wire.specs.Unmaps.{UnmapAsk}
 
 -- ---- what is handed over
 
@@ -29,11 +30,16 @@ delivered sent = record { input = Deliver sent.envelope; source = sent.source }
 abbrev pub asked_here : ℕ → Ask → Option Handed
 asked_here me ask = if (ask.site == me) then option_map unsent (input_asked ask.asked) else None
 
+-- a page that is given up
+abbrev pub unmapped_here : ℕ → UnmapAsk → Option Handed
+unmapped_here me ask = if (ask.site == me) then option_map unsent (unmap_input ask) else None
+
 -- what made the step of an entry hands to this site; a block that is to be stored makes none itself
 abbrev pub handed : ℕ → Cause → Option Handed
 handed me (OfLine (stream.Envelope sent)) = Some (delivered sent)
 handed me (OfLine (stream.Ask ask)) = asked_here me ask
 handed me (OfLine (stream.Write write)) = None
+handed me (OfLine (stream.Unmap unmap)) = unmapped_here me unmap
 handed me OfRestart = Some (unsent Restart)
 
 -- ---- the box

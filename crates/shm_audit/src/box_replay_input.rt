@@ -4,13 +4,14 @@ ghost use Rattle.shm_site.specs.Step.{input_of};
 ghost use Rattle.shm_process.specs.CauseOf.{cause_of};
 ghost use Rattle.shm_wire.specs.Asks.{ask_of};
 ghost use Rattle.shm_wire.specs.SentOf.{sent_of};
+ghost use Rattle.shm_wire.specs.UnmapOf.{unmap_in};
 ghost use Rattle.shm_audit.specs.Entered as spec;
 ghost use Rattle.shm_audit.specs.HandedOf.{handed_of};
 
 use shm_logs::{Input, Stamp};
 use shm_place::SiteId;
-use shm_process::{Cause, input_asked};
-use shm_wire::{Ask, Line, Sent};
+use shm_process::{Cause, input_asked, input_unmapped};
+use shm_wire::{Ask, Line, Sent, UnmapAsk};
 use std::alloc::{Allocator, Global};
 
 /// An input, and where it was sent.
@@ -28,6 +29,7 @@ pub(crate) fn handed_input<A: Allocator + Copy>(me: SiteId, cause: Cause<A>) -> 
         Cause::Line(Line::Envelope(sent)) => Some(delivered_input(sent)),
         Cause::Line(Line::Ask(ask)) => asked_input(me, ask),
         Cause::Line(Line::Write(_)) => None,
+        Cause::Line(Line::Unmap(unmap)) => unmapped_input(me, &unmap),
         Cause::Restart => Some(unsent_input(Input::Restart)),
     }
 }
@@ -54,6 +56,17 @@ fn asked_input<A: Allocator + Copy>(me: SiteId, ask: Ask) -> Option<Handed<A>>
         return None;
     }
     let input = input_asked(ask.asked)?;
+    Some(unsent_input(input))
+}
+
+/// The input with which this site gave a page up.
+fn unmapped_input<A: Allocator + Copy>(me: SiteId, unmap: &UnmapAsk<A>) -> Option<Handed<A>>
+    ensures { option_map handed_of result ≡ spec.unmapped_here me (unmap_in unmap.now) }
+{
+    if unmap.site != me {
+        return None;
+    }
+    let input = input_unmapped(unmap)?;
     Some(unsent_input(input))
 }
 

@@ -37,6 +37,7 @@ envelope_in None = None
 envelope_in (Some (wire.Envelope sent)) = Some sent.envelope
 envelope_in (Some (wire.Ask _)) = None
 envelope_in (Some (wire.Write _)) = None
+envelope_in (Some (wire.Unmap _)) = None
 
 -- The step was made that hands the envelope over, or refused as foreign. Or nothing changed: the line spells no envelope, or memory was
 -- refused, which a page's bytes take already as they are read.

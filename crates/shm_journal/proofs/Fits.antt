@@ -17,13 +17,17 @@ use Rattle.shm_lines.proofs.NumberLemmas.{digit_at}
 use Rattle.shm_lines.specs.Words.{IsNumber, IsWide}
 use Rattle.shm_model.specs.declared.asked_access.Asked.{Asked}
 use Rattle.shm_model.specs.declared.asked_access.Asked.TheVariants.{Load, Store}
-use Rattle.shm_wire.specs.Asks.{IsAsk}
+use Rattle.shm_model.specs.declared.request_kind.Kind.{Kind}
+use Rattle.shm_model.specs.declared.request_kind.Kind.TheVariants.{Read, Write}
+use Rattle.shm_wire.specs.Asks.{Ask, IsAsk}
 use Rattle.shm_wire.specs.Line as stream
 use Rattle.shm_wire.specs.Tag.{IsTag}
+use Rattle.shm_wire.specs.Unmaps.{IsUnmap, UnmapAsk}
 use Rattle.shm_process.specs.Access.{access_ask}
 use Rattle.shm_process.specs.Cause.{cause_text}
 use Rattle.shm_process.specs.Desk.{max_line_bytes}
 use Rattle.shm_process.specs.Recorded.{Entry, entry_line}
+use Rattle.shm_process.proofs.DeskEvents.{bare, trying}
 use Rattle.shm_journal.specs.Found.{max_journal_line}
 use Rattle.shm_journal.specs.Lines.{Header, IsHeader, cluster_words, header_line}
 use Rattle.shm_seal.specs.Name.{IsName}
@@ -148,6 +152,56 @@ fits-access me tag (Store at offset byte) h =
     (fits-word 20 42 (decimal at) _ (fits-number at h.2.0)
     (fits-word 20 21 (decimal offset) _ (fits-number offset h.2.1) (fits-more 20 21 (decimal byte) (omega arith) (fits-number byte small)))))))
     )
+
+-- what is asked, behind a site and a tag
+fits-asked : (site : ℕ) (tag rest : List ℕ) → IsNumber site → IsTag tag → Fits 73 rest → Fits max_line_bytes (codes "ask" ++ 32 ∷ (decimal site ++ 32 ∷ (tag ++ 32 ∷ rest)))
+fits-asked site tag rest s t f =
+    fits-more 131 max_line_bytes _ (omega arith)
+    (
+    fits-word 3 127 (codes "ask") _ (fits-text (codes "ask") refl)
+    (fits-word 20 106 (decimal site) _ (fits-number site s) (fits-word 32 73 tag rest (fits-tag tag t) f))
+    )
+
+-- an access that is tried
+pub fits-try : (ask : Ask) (asked : Asked) → IsAsk (trying ask asked) → Fits max_line_bytes (stream.line_text (stream.Ask (trying ask asked)))
+fits-try ask (Load at offset) h =
+    fits-asked ask.site ask.tag _ h.0 h.1
+    (
+    fits-more 51 73 _ (omega arith)
+    (fits-word 8 42 (codes "try-load") _ (fits-text (codes "try-load") refl)
+    (fits-word 20 21 (decimal at) _ (fits-number at h.2.0) (fits-more 20 21 (decimal offset) (omega arith) (fits-number offset h.2.1))))
+    )
+fits-try ask (Store at offset byte) h =
+    let small : IsNumber byte = omega (arith, h.2.2) in
+    fits-asked ask.site ask.tag _ h.0 h.1
+    (
+    fits-word 9 63 (codes "try-store") _ (fits-text (codes "try-store") refl)
+    (fits-word 20 42 (decimal at) _ (fits-number at h.2.0)
+    (fits-word 20 21 (decimal offset) _ (fits-number offset h.2.1) (fits-more 20 21 (decimal byte) (omega arith) (fits-number byte small))))
+    )
+
+-- a mapping that is given up, and brings no bytes
+fits-words : (at index : ℕ) (verb : List ℕ) (keeps : List ℕ) → IsNumber at → IsNumber index → Fits 5 verb → Fits 4 keeps
+    → Fits 73 (verb ++ 32 ∷ (decimal at ++ 32 ∷ (decimal index ++ 32 ∷ keeps)))
+fits-words at index verb keeps a i v k =
+    fits-more 52 73 _ (omega arith)
+    (fits-word 5 46 verb _ v (fits-word 20 25 (decimal at) _ (fits-number at a) (fits-word 20 4 (decimal index) keeps (fits-number index i) k)))
+
+fits-kept : (site : ℕ) (tag : List ℕ) (at index : ℕ) (keeps : Option Kind) → IsNumber site → IsTag tag → IsNumber at → IsNumber index
+    → Fits max_line_bytes (stream.line_text (stream.Unmap (record { site = site; tag = tag; at = at; index = index; keeps = keeps; runs = [] })))
+fits-kept site tag at index None s t a i =
+    fits-asked site tag _ s t (fits-words at index (codes "unmap") (codes "none") a i (fits-text (codes "unmap") refl) (fits-text (codes "none") refl))
+fits-kept site tag at index (Some Read) s t a i =
+    fits-asked site tag _ s t (fits-words at index (codes "unmap") (codes "read") a i (fits-text (codes "unmap") refl) (fits-text (codes "read") refl))
+fits-kept site tag at index (Some Write) s t a i =
+    fits-asked site tag _ s t
+    (
+    fits-more 46 73 _ (omega arith)
+    (fits-word 4 41 (codes "sync") _ (fits-text (codes "sync") refl) (fits-word 20 20 (decimal at) _ (fits-number at a) (fits-number index i)))
+    )
+
+pub fits-unmap : (ask : UnmapAsk) → IsUnmap (bare ask) → Fits max_line_bytes (stream.line_text (stream.Unmap (bare ask)))
+fits-unmap ask h = fits-kept ask.site ask.tag ask.at ask.index ask.keeps h.0 h.1 h.2 h.3
 
 pub fits-restart : Fits max_line_bytes (codes "restart")
 fits-restart = fits-more 7 max_line_bytes (codes "restart") (omega arith) (fits-text (codes "restart") refl)

@@ -7,7 +7,7 @@ use Rattle.std.proofs.lemmas.List.{length-append, length-take-le, take-append-le
 use Rattle.std.proofs.Math.Seq.{take-nil}
 use Rattle.std.proofs.lemmas.List.Elements.{All-append, All-nil, All-push, All-take}
 use Rattle.std.proofs.lemmas.Slice.Eq.{bytes_eq-Decides}
-use Rattle.shm_process.proofs.DeskEvents.{after-both}
+use Rattle.shm_process.proofs.Events.{after-both, text_both}
 use Rattle.shm_process.proofs.Proper as proper
 use Rattle.shm_process.specs.Desk.{Desk, cleared, on_bytes, restarted}
 use Rattle.shm_process.specs.declared.process_counts.Start.{Start}
@@ -15,7 +15,7 @@ use Rattle.shm_process.specs.Node.{Node, is_late}
 use Rattle.shm_process.specs.Recorded.{Event, after_events, kept}
 use Rattle.shm_seal.specs.Seal.{Seal}
 use Rattle.shm_journal.proofs.CrashLemmas.{head-of, kept-disk, published-disk, tail-of}
-use Rattle.shm_journal.proofs.DeskLives.{Took, line_bytes, line_restart, text_both, took_bytes, took_restart}
+use Rattle.shm_journal.proofs.DeskLives.{KeepsTaken, Took, keeps_none, line_bytes, line_restart, took_bytes, took_restart}
 use Rattle.shm_journal.proofs.EntriesFit.{events_fit, lives_sound, opened_sound}
 use Rattle.shm_journal.proofs.Fits.{Fits, IsNoFeed, fits-header}
 use Rattle.shm_journal.proofs.Leading.{alone-says, line_is_torn}
@@ -170,12 +170,12 @@ published-text node file life next desk e =
     ∙ ap disk_of (ap (λ r. (file ++ text_of node life) ++ r) e ∙ grown-text node file life next)
 
 at-serving : (reads : List (List ℕ)) (node : Node) (file : List ℕ) (life : List Event) (desk : Desk) → All IsTaken life → desk.node ≡ after_events node life
-    → desk.recorded ≡ [] → Unended desk.line → AtAll (OnDisk node file) (disk_of (file ++ text_of node life)) (serving desk reads)
+    → desk.recorded ≡ [] → Unended desk.line → KeepsTaken desk.kept → AtAll (OnDisk node file) (disk_of (file ++ text_of node life)) (serving desk reads)
 unfolding AtAll serving
-at-serving [] node file life desk taken same none unended = on-disk node file life taken
-at-serving (bytes ∷ reads) node file life desk taken same none unended =
+at-serving [] node file life desk taken same none unended held = on-disk node file life taken
+at-serving (bytes ∷ reads) node file life desk taken same none unended held =
     let next = on_bytes desk bytes in
-    let t = took_bytes bytes desk unended in
+    let t = took_bytes bytes desk unended held in
     let recorded : next.recorded ≡ text_of (after_events node life) t.events = t.recorded ∙ ap (λ r. r ++ text_of desk.node t.events) none ∙ ap (λ n. text_of n t.events) same in
     let on : next.node ≡ after_events node (life ++ t.events) = t.node ∙ ap (λ n. after_events n t.events) same ∙ sym (after-both life t.events node) in
     let both = All-append IsTaken life t.events taken t.are in (
@@ -184,7 +184,7 @@ at-serving (bytes ∷ reads) node file life desk taken same none unended =
           (at-published node file life t.events next taken t.are recorded)
           (
           subst (λ d. AtAll (OnDisk node file) d (serving (cleared next) reads)) (sym (published-text node file life t.events next recorded))
-          (at-serving reads node file (life ++ t.events) (cleared next) both on refl (line_bytes bytes desk unended))
+          (at-serving reads node file (life ++ t.events) (cleared next) both on refl (line_bytes bytes desk unended) t.kept)
           ),
     )
 
@@ -199,7 +199,7 @@ at-run reads header seal node start file first t unended =
     (at-published node file [] t.events first (All-nil IsTaken) t.are t.recorded)
     (
     subst (λ d. AtAll (OnDisk node file) d (serving (cleared first) reads)) (sym (published-text node file [] t.events first t.recorded))
-    (at-serving reads node file t.events (cleared first) t.are t.node refl unended)
+    (at-serving reads node file t.events (cleared first) t.are t.node refl unended t.kept)
     )
     )
 
@@ -283,7 +283,7 @@ at-new reads seal header start =
     let whole : line ++ [] ≡ line = append-nil line in
     let all : AtAll (OnDisk node line) (disk_of line) (serving (cleared first) reads) =
     subst (λ t. AtAll (OnDisk node line) (disk_of t) (serving (cleared first) reads)) whole
-    (at-serving reads node line [] (cleared first) (All-nil IsTaken) refl refl (All-nil IsNoFeed)) in
+    (at-serving reads node line [] (cleared first) (All-nil IsTaken) refl refl (All-nil IsNoFeed) keeps_none) in
     at-both (NewDisk header) (publishing first) (serving (cleared first) reads) (disk_of [])
     (
     at-publishing (NewDisk header) first [] (inl (record { durable = refl; loose = inl refl })) (inl (record { durable = refl; loose = inr refl }))

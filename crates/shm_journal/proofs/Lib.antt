@@ -14,3 +14,4 @@ pub mod EntriesFit
 pub mod Lives
 pub mod DeskLives
 pub mod Leaving
+pub mod MappedLives

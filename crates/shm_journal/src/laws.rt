@@ -1,12 +1,15 @@
 //! Laws of the definitions: of every line, and of every run of a process.
-ghost use Rattle.std.specs.Prelude.{◌≡◌, ℕ, List, Some, false};
+ghost use Rattle.std.specs.Prelude.{◌≡◌, ◌∷◌, ◌++◌, [], ℕ, List, Some, false};
 ghost use Rattle.shm_journal.specs.Crash.{KeepsBeforeTelling};
+ghost use Rattle.shm_journal.specs.DeskFrom.{desk_from};
 ghost use Rattle.shm_journal.specs.Found.{opened};
 ghost use Rattle.shm_journal.specs.Lines.{Header, IsHeader, header_line, read_entry, read_header};
 ghost use Rattle.shm_journal.specs.Lives.{AreTaken, FindsLives, LeavesNewSound, LeavesSound, after_lives, journal_text};
 ghost use Rattle.shm_process.specs.Desk.{Desk};
 ghost use Rattle.shm_process.specs.Node.{is_late};
-ghost use Rattle.shm_process.specs.Recorded.{Entry, Event, IsEntry, entry_line};
+ghost use Rattle.shm_process.specs.Recorded.{Entry, Event, IsEntry, after_events, entry_line};
+ghost use Rattle.shm_process.specs.declared.process_counts.Start.{Start};
+ghost use Rattle.shm_seal.specs.Seal.{Seal};
 
 /// Each header has one spelling: what is read is spelled so, and what is spelled so is read.
 pub fn headers_have_one_spelling()
@@ -39,4 +42,12 @@ pub fn a_crash_leaves_a_sound_journal()
     ensures begun { (header : Header) → IsHeader header → LeavesNewSound header }
     ensures goes_on { (header : Header) (lives : List (List Event)) → IsHeader header → AreTaken lives → is_late (after_lives (opened header) lives) 0 ≡ false
         → LeavesSound header lives }
+{}
+
+/// In its next life a site maps the pages that it mapped when the last one ended: its journal leads there, and a restart changes none.
+#[tactic(auto, using(crate::proofs::MappedLives::mapped_again))]
+pub fn a_restart_maps_what_was_mapped()
+    ensures { (header : Header) (seal : Seal) (start : Start) (lives : List (List Event)) (life : List Event)
+        → (desk_from header seal false (after_lives (opened header) (lives ++ life ∷ [])) start).node.mapped
+        ≡ (after_events (after_lives (opened header) lives) life).mapped }
 {}

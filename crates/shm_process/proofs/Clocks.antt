@@ -13,10 +13,13 @@ use Rattle.shm_wire.specs.Line as stream
 use Rattle.shm_wire.specs.Line.{read_line}
 use Rattle.shm_wire.specs.Sent.{Sent}
 use Rattle.shm_wire.specs.declared.caller_ask.Question.{Question}
+use Rattle.shm_wire.specs.declared.mapping_text.Mapping.{Mapping}
 use Rattle.shm_wire.specs.declared.caller_ask.Question.TheVariants as question
 use Rattle.shm_process.specs.Cause.{Cause, OfLine, OfRestart}
-use Rattle.shm_process.specs.Node.{Node, Heard, Said, handed, heard, input_asked, is_ahead, is_beyond, is_late, most_ahead, new_node, next_clock, says, stepped, under_tag, waits_for}
+use Rattle.shm_process.specs.Node.{Node, Heard, Said, handed, heard, input_asked, is_ahead, is_beyond, asked_under, is_late, most_ahead, new_node, next_clock, remapped_by, says, stepped, unmap_input, waits_for}
 use Rattle.shm_process.specs.Numbers.{NumbersWithin, number_named, numbers_fit}
+use Rattle.shm_process.specs.Mapped.{byte_place, page_at}
+use Rattle.shm_process.specs.Remaps.{first_load, is_empty, unmapped_to}
 use Rattle.shm_process.specs.Recorded.{Event, Line, TooLong, Again, Restarted, after_event, after_events, said_at}
 use Rattle.shm_process.specs.Waiting.{after, after_heard, after_read, after_restart, again_at, heard_again, joining, joins, next_heard, ready, replayed, replayed_heard, restarting, said_read, said_restart, says_at}
 use Rattle.shm_process.specs.WaitingAsks.{WaitingAsk, ask_in, next_access}
@@ -50,7 +53,7 @@ zero-near clock = omega arith
 envelope-heeds : (node : Node) (sent : Sent) (x : Heard) → handed node sent ≡ Some x → Heeds node x
 envelope-heeds node sent x e =
     let lost = foreign node.sites node.me sent.envelope || (is_late node sent.source.at || is_beyond node sent) in
-    let made : Heard = record { input = Deliver sent.envelope; source = sent.source.at; tag = None; waits = None } in
+    let made : Heard = record { input = Deliver sent.envelope; source = sent.source.at; tag = None; waits = None; mapped = None } in
     let is = unless-some lost (Some made) x e in
     let own = neither (foreign node.sites node.me sent.envelope) (is_late node sent.source.at || is_beyond node sent) is.0 in
     let early = neither (is_late node sent.source.at) (is_beyond node sent) own.1 in
@@ -73,20 +76,30 @@ asked-number (question.Begin request) = tt
 asked-number question.Tick = tt
 asked-number (question.Show page) = tt
 asked-number question.Health = tt
+asked-number (question.Map at index kind) = tt
+asked-number question.Mappings = tt
 
-ask-heeds : (node : Node) (tag : List ℕ) (waits : Option WaitingAsk) (x : Heard) (o : Option Input) (here late : Bool) → IfSome o (InputWithin 0)
-    → cond here (cond late None (option_map (under_tag tag waits) o)) None ≡ Some x → Heeds node x
-ask-heeds node tag waits x o false late number e = absurd (cc)
-ask-heeds node tag waits x o true true number e = absurd (cc)
-ask-heeds node tag waits x None true false number e = absurd (cc)
-ask-heeds node tag waits x (Some input) true false number e =
-    subst (Heeds node) (some-is (under_tag tag waits input) x e) (record { near = zero-near node.clock; number = number })
+ask-heeds : (node : Node) (tag : List ℕ) (waits : Option WaitingAsk) (mapped : Option (List Mapping)) (x : Heard) (o : Option Input) (here late : Bool)
+    → IfSome o (InputWithin 0) → cond here (cond late None (option_map (asked_under tag waits mapped) o)) None ≡ Some x → Heeds node x
+ask-heeds node tag waits mapped x o false late number e = absurd (cc)
+ask-heeds node tag waits mapped x o true true number e = absurd (cc)
+ask-heeds node tag waits mapped x None true false number e = absurd (cc)
+ask-heeds node tag waits mapped x (Some input) true false number e =
+    subst (Heeds node) (some-is (asked_under tag waits mapped input) x e) (record { near = zero-near node.clock; number = number })
+
+unmap-number : (empty : Bool) (at index : ℕ) → IfSome (cond empty (Some (first_load at index)) None) (InputWithin 0)
+unmap-number true at index = tt
+unmap-number false at index = tt
 
 line-heeds : (node : Node) (line : stream.Line) (x : Heard) → heard node line ≡ Some x → Heeds node x
 line-heeds node (stream.Envelope sent) x e = envelope-heeds node sent x e
 line-heeds node (stream.Write write) x e = absurd (cc)
 line-heeds node (stream.Ask ask) x e =
-    ask-heeds node ask.tag (waits_for ask.tag ask.asked) x (input_asked ask.asked) (ask.site == node.me) (is_late node 0) (asked-number ask.asked) e
+    ask-heeds node ask.tag (waits_for ask.tag ask.asked) (remapped_by node ask.asked) x (input_asked ask.asked) (ask.site == node.me) (is_late node 0)
+    (asked-number ask.asked) e
+line-heeds node (stream.Unmap unmap) x e =
+    ask-heeds node unmap.tag None (unmapped_to node.mapped unmap.keeps (page_at node.site unmap.at (byte_place unmap.index 0))) x (unmap_input unmap)
+    (unmap.site == node.me) (is_late node 0) (unmap-number (is_empty unmap.runs) unmap.at unmap.index) e
 
 next-heeds : (node : Node) (ask : WaitingAsk) → Heeds node (next_heard ask)
 next-heeds node ask = record { near = zero-near node.clock; number = access-number 0 (next_access ask) }

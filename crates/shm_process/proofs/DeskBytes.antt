@@ -7,14 +7,25 @@ use Rattle.std.proofs.lemmas.Bool.Decides.{nat_tests}
 use Rattle.std.proofs.Math.Seq.{take-nil}
 use Rattle.std.proofs.lemmas.List.{append_assoc, length-append, length-take, take_all, take_min}
 use Rattle.std.proofs.lemmas.List.Elements.{All-head, All-tail}
+use Rattle.shm_place.specs.declared.page_id.PageId.{PageId}
+use Rattle.shm_model.specs.declared.answer.Answer.TheVariants.{Waiting}
+use Rattle.shm_model.specs.declared.asked_access.Asked.{Asked}
 use Rattle.shm_seal.specs.Seal.{opened}
 use Rattle.shm_seal.specs.declared.open_line_error.Unsealed.{Unsealed}
-use Rattle.shm_wire.specs.Line.{read_line}
-use Rattle.shm_process.specs.Desk.{Desk, after_line, after_opened, grown, left_sealed, made_again, max_line_bytes, noted, on_byte, on_bytes, settled, taken, with_other}
+use Rattle.shm_wire.specs.Line.{Line, read_line}
+use Rattle.shm_wire.specs.Line as stream
+use Rattle.shm_wire.specs.Unmaps.{Run, UnmapAsk}
+use Rattle.shm_wire.specs.declared.mapping_text.RevokeText.{RevokeText}
+use Rattle.shm_process.specs.Access.{is_open}
+use Rattle.shm_process.specs.Desk.{Desk, KeptLine, after_line, after_opened, after_read_line, all_met, answered, brought, by_meeting, finished, given_up_by, grown, keep, left_sealed, made_again, made_and_told, map_reply, max_line_bytes, may_keep, met, met_again, met_read, noted, on_byte, on_bytes, passed, quietly, reminded, reminded_if, revoked, settled, store_line, stored_run, tag_in, taken, tell_caller, ticks, tried, tried_by, try_of, unmap_reply, untagged, with_other, with_step}
 use Rattle.shm_process.specs.Hello.{first_other, read_hello}
+use Rattle.shm_process.specs.Meetings.{meeting}
+use Rattle.shm_process.specs.Node.{Said}
 use Rattle.shm_process.specs.declared.hello_line.Hello.{Hello}
+use Rattle.shm_process.specs.declared.line_meeting.Meeting.{Meeting}
+use Rattle.shm_process.specs.declared.line_meeting.Meeting.TheVariants.{Answered, Free, Kept, Maps, Tries, Unmaps}
 use Rattle.shm_process.specs.declared.site_opening.Disagreement.{Disagreement}
-use Rattle.shm_process.specs.Waiting.{most_steps, passed_over, said_again}
+use Rattle.shm_process.specs.Waiting.{after, most_steps, passed_over, said, said_again}
 use Rattle.shm_process.proofs.DeskLemmas.{on_bytes-append}
 
 abbrev NoFeed : List ℕ → Type 0
@@ -90,11 +101,105 @@ other-line l d (Some x) = refl
 noted-line : (l : List ℕ) (d : Desk) (read : Option Hello) → noted (with_line l d) read ≡ with_line l (noted d read)
 noted-line l d read = other-line l d (first_other d.opening d.other read)
 
+-- ---- a line while pages are mapped
+
+quietly-line : (l : List ℕ) (d : Desk) (line : Line) → quietly (with_line l d) line ≡ with_line l (quietly d line)
+unfolding quietly
+quietly-line l d line = refl
+
+revoked-line : (l : List ℕ) (d : Desk) (fresh : Bool) (wants : Option RevokeText) → revoked fresh wants (with_line l d) ≡ with_line l (revoked fresh wants d)
+revoked-line l d false wants = refl
+revoked-line l d true wants = refl
+
+keep-line : (l : List ℕ) (d : Desk) (page : Option PageId) (line : List ℕ) (tag : Option (List ℕ))
+    → keep (with_line l d) page line tag ≡ with_line l (keep d page line tag)
+keep-line l d page line tag =
+    let kept = d.kept ++ record { line = line; page = page } ∷ [] in
+    cond-line (may_keep d.kept page) l (record d { kept = kept }) (record (with_line l d) { kept = kept })
+    (answered d tag Waiting) (answered (with_line l d) tag Waiting) refl refl
+
+made-line : (l : List ℕ) (d : Desk) (line : Line) (text : List ℕ) → made_and_told (with_line l d) line text ≡ with_line l (made_and_told d line text)
+made-line l d line text = ap (λ x. tell_caller x (tag_in line) text) (quietly-line l d line)
+
+tried_by-line : (l : List ℕ) (d : Desk) (line : List ℕ) (tag : Option (List ℕ)) (said : Option Said)
+    → tried_by (with_line l d) line tag said ≡ with_line l (tried_by d line tag said)
+tried_by-line l d line tag None = refl
+tried_by-line l d line tag (Some said) =
+    let quiet = with_step d (Some (untagged said)) in
+    cond-line (is_open said.answer) l (keep quiet None line tag) (keep (with_line l quiet) None line tag) (with_step d (Some said)) (with_step (with_line l d) (Some said))
+    (keep-line l quiet None line tag) refl
+
+tried-line : (l : List ℕ) (d : Desk) (line : List ℕ) (read : Line) (asked : Asked) → tried (with_line l d) line read asked ≡ with_line l (tried d line read asked)
+unfolding tried
+tried-line l d line read asked =
+    let step = try_of read asked in
+    tried_by-line l (record d { node = after d.node step }) line (tag_in step) (said d.node step)
+
+run-line : (bytes l : List ℕ) (d : Desk) (ask : UnmapAsk) (offset : ℕ) → stored_run (with_line l d) ask offset bytes ≡ with_line l (stored_run d ask offset bytes)
+unfolding stored_run
+run-line [] l d ask offset = refl
+run-line (b ∷ bs) l d ask offset =
+    ap (λ x. stored_run x ask (offset + 1) bs) (quietly-line l d (store_line ask offset b))
+    ∙ run-line bs l (quietly d (store_line ask offset b)) ask (offset + 1)
+
+brought-line : (runs : List Run) (l : List ℕ) (d : Desk) (ask : UnmapAsk) → brought (with_line l d) ask runs ≡ with_line l (brought d ask runs)
+unfolding brought
+brought-line [] l d ask = refl
+brought-line (run ∷ runs) l d ask =
+    ap (λ x. brought x ask runs) (run-line run.bytes l d ask run.offset) ∙ brought-line runs l (stored_run d ask run.offset run.bytes) ask
+
+given_up-line : (l : List ℕ) (d : Desk) (read : Line) → given_up_by (with_line l d) read ≡ with_line l (given_up_by d read)
+given_up-line l d (stream.Envelope sent) = refl
+given_up-line l d (stream.Ask ask) = refl
+given_up-line l d (stream.Write write) = refl
+given_up-line l d (stream.Unmap ask) =
+    let last = stream.Unmap (record ask { runs = [] }) in
+    ap (λ x. made_and_told x last (unmap_reply ask.keeps)) (brought-line ask.runs l d ask) ∙ made-line l (brought d ask ask.runs) last (unmap_reply ask.keeps)
+
+meeting-line : (l : List ℕ) (d : Desk) (fresh : Bool) (line : List ℕ) (read : Line) (m : Meeting)
+    → by_meeting fresh (with_line l d) line read m ≡ with_line l (by_meeting fresh d line read m)
+unfolding by_meeting taken
+meeting-line l d fresh line read Free = refl
+meeting-line l d fresh line read (Kept page wants) =
+    ap (λ x. keep x page line (tag_in read)) (revoked-line l d fresh wants) ∙ keep-line l (revoked fresh wants d) page line (tag_in read)
+meeting-line l d fresh line read (Answered answer) = refl
+meeting-line l d fresh line read (Maps at index) = made-line l d read (map_reply d.node at index)
+meeting-line l d fresh line read (Tries asked) = tried-line l d line read asked
+meeting-line l d fresh line read Unmaps = given_up-line l d read
+
+met_read-line : (l : List ℕ) (d : Desk) (fresh : Bool) (line : List ℕ) (read : Option Line)
+    → met_read fresh (with_line l d) line read ≡ with_line l (met_read fresh d line read)
+met_read-line l d fresh line None = refl
+met_read-line l d fresh line (Some read) = meeting-line l d fresh line read (meeting d.node read)
+
+all_met-line : (kept : List KeptLine) (l : List ℕ) (d : Desk) (fresh : Bool) → all_met fresh (with_line l d) kept ≡ with_line l (all_met fresh d kept)
+unfolding all_met
+all_met-line [] l d fresh = refl
+all_met-line (k ∷ kept) l d fresh =
+    ap (λ x. all_met fresh x kept) (met_read-line l d fresh k.line (read_line k.line)) ∙ all_met-line kept l (met fresh d k.line) fresh
+
+reminded-line : (l : List ℕ) (d : Desk) (tick : Bool) → reminded_if tick (with_line l d) ≡ with_line l (reminded_if tick d)
+unfolding reminded
+reminded-line l d false = refl
+reminded-line l d true = refl
+
+finished-line : (l : List ℕ) (d : Desk) (tick : Bool) → finished tick (with_line l d) ≡ with_line l (finished tick d)
+finished-line l d tick =
+    let now = reminded_if tick d in
+    ap (λ x. settled most_steps (met_again tick x)) (reminded-line l d tick)
+    ∙ ap (settled most_steps) (all_met-line now.kept l (record now { kept = [] }) tick)
+    ∙ settled-line most_steps l (met_again tick now)
+
+read_line-line : (l : List ℕ) (d : Desk) (line : List ℕ) (read : Option Line) → after_read_line (with_line l d) line read ≡ with_line l (after_read_line d line read)
+read_line-line l d line None = settled-line most_steps l (passed d)
+read_line-line l d line (Some read) =
+    let tick = ticks d.node read in
+    ap (finished tick) (meeting-line l d true line read (meeting d.node read)) ∙ finished-line l (by_meeting true d line read (meeting d.node read)) tick
+
 opened-line : (l : List ℕ) (d : Desk) (inner : Result (List ℕ) Unsealed) → after_opened (with_line l d) inner ≡ with_line l (after_opened d inner)
-unfolding taken
 opened-line l d (Ok line) =
-    ap (λ x. settled most_steps (taken x (read_line line))) (noted-line l d (read_hello line))
-    ∙ settled-line most_steps l (taken (noted d (read_hello line)) (read_line line))
+    ap (λ x. after_read_line x line (read_line line)) (noted-line l d (read_hello line))
+    ∙ read_line-line l (noted d (read_hello line)) line (read_line line)
 opened-line l d (Err why) = settled-line most_steps l (left_sealed d why)
 
 -- what a line does has nothing to do with what is gathered of the next

@@ -1,17 +1,31 @@
 -- A desk step by step: an ask after the others. What a desk told before stands before all that it tells after.
-use Rattle.std.proofs.Common.{◌≡◌, ℕ, zero, suc, ◌==◌, Bool, true, false, List, [], ◌∷◌, ◌++◌, length, cond, refl, ap, ap₂, sym, ◌∙◌, append-nil}
+use Rattle.std.proofs.Common.{◌≡◌, ℕ, zero, suc, ◌+◌, ◌==◌, Bool, true, false, List, [], ◌∷◌, ◌++◌, length, cond, refl, ap, ap₂, sym, ◌∙◌, append-nil}
 use Rattle.std.specs.Prelude.{Option, Some, None, Result, Ok, Err, is_some, nat_lt, option_and_then, option_map}
+use Rattle.std.specs.List.{flat_map}
 use Rattle.std.specs.Option.{option_map_or}
 use Rattle.std.proofs.lemmas.List.{append_assoc}
+use Rattle.shm_place.specs.declared.page_id.PageId.{PageId}
+use Rattle.shm_model.specs.declared.answer.Answer.{Answer}
+use Rattle.shm_model.specs.declared.answer.Answer.TheVariants.{Waiting}
+use Rattle.shm_model.specs.declared.asked_access.Asked.{Asked}
 use Rattle.shm_seal.specs.Seal.{opened}
 use Rattle.shm_seal.specs.declared.open_line_error.Unsealed.{Unsealed}
+use Rattle.shm_text.specs.Text.{answer_text}
 use Rattle.shm_wire.specs.Line.{Line, read_line}
-use Rattle.shm_process.specs.Desk.{Desk, after_line, after_opened, cleared, left_sealed, grown, made_again, max_line_bytes, line_text, noted, on_byte, on_bytes, settled, step_entry, step_text, taken, tell, with_other, counts_after, with_step}
+use Rattle.shm_wire.specs.Line as stream
+use Rattle.shm_wire.specs.Unmaps.{Run, UnmapAsk}
+use Rattle.shm_wire.specs.declared.mapping_text.RevokeText.{RevokeText}
+use Rattle.shm_process.specs.Access.{is_open}
+use Rattle.shm_process.specs.Desk.{Desk, KeptLine, after_line, after_opened, after_read_line, all_met, answered, brought, by_meeting, cleared, counts_after, finished, given_up_by, grown, keep, left_sealed, line_text, made_again, made_and_told, map_reply, max_line_bytes, may_keep, met, met_again, met_read, noted, on_byte, on_bytes, passed, quietly, reminded, reminded_if, reminder, revoke_line, revoked, settled, step_entry, step_text, store_line, stored_run, tag_in, taken, tell, tell_caller, ticks, told_to, tried, tried_by, try_of, unmap_reply, untagged, with_other, with_step}
 use Rattle.shm_process.specs.Hello.{first_other, hello_line, hello_to, read_hello}
+use Rattle.shm_process.specs.Meetings.{meeting}
 use Rattle.shm_process.specs.Node.{Node, Said}
 use Rattle.shm_process.specs.Telling.{shown_line}
-use Rattle.shm_process.specs.Waiting.{after_again, after_read, again_at, most_steps, passed_over, ready, said_again, said_read, says_at}
+use Rattle.shm_process.specs.Waiting.{after, after_again, after_read, again_at, most_steps, passed_over, ready, said, said_again, said_read, says_at}
+use Rattle.shm_process.specs.WaitingAsks.{next_access}
 use Rattle.shm_process.specs.declared.hello_line.Hello.{Hello}
+use Rattle.shm_process.specs.declared.line_meeting.Meeting.{Meeting}
+use Rattle.shm_process.specs.declared.line_meeting.Meeting.TheVariants.{Answered, Free, Kept, Maps, Tries, Unmaps}
 use Rattle.shm_process.specs.declared.site_opening.Disagreement.{Disagreement}
 
 -- ---- loops
@@ -91,11 +105,118 @@ other-behind r t d (Some x) =
 noted-behind : (r t : List ℕ) (d : Desk) (read : Option Hello) → noted (behind r t d) read ≡ behind r t (noted d read)
 noted-behind r t d read = other-behind r t d (first_other d.opening d.other read)
 
+-- ---- a line while pages are mapped
+
+tell-behind : (r t : List ℕ) (d : Desk) (text : List ℕ) → tell (behind r t d) text ≡ behind r t (tell d text)
+tell-behind r t d text = ap (λ told. record d { recorded = r ++ d.recorded; told = told }) (append_assoc t d.told text)
+
+tell_caller-behind : (r t : List ℕ) (d : Desk) (tag : Option (List ℕ)) (text : List ℕ) → tell_caller (behind r t d) tag text ≡ behind r t (tell_caller d tag text)
+tell_caller-behind r t d tag text = tell-behind r t d (line_text d.seal (option_map (told_to d.node text) tag))
+
+quietly-behind : (r t : List ℕ) (d : Desk) (line : Line) → quietly (behind r t d) line ≡ behind r t (quietly d line)
+unfolding quietly
+quietly-behind r t d line = with_step-behind r t (record d { node = after d.node line }) (option_map untagged (said d.node line))
+
+revoked-behind : (r t : List ℕ) (d : Desk) (fresh : Bool) (wants : Option RevokeText) → revoked fresh wants (behind r t d) ≡ behind r t (revoked fresh wants d)
+revoked-behind r t d false wants = refl
+revoked-behind r t d true wants = tell-behind r t d (line_text d.seal (option_map (revoke_line d.node) wants))
+
+answered-behind : (r t : List ℕ) (d : Desk) (tag : Option (List ℕ)) (answer : Answer) → answered (behind r t d) tag answer ≡ behind r t (answered d tag answer)
+answered-behind r t d tag answer = tell_caller-behind r t (passed d) tag (answer_text answer)
+
+keep-behind : (r t : List ℕ) (d : Desk) (page : Option PageId) (line : List ℕ) (tag : Option (List ℕ))
+    → keep (behind r t d) page line tag ≡ behind r t (keep d page line tag)
+keep-behind r t d page line tag =
+    let kept = d.kept ++ record { line = line; page = page } ∷ [] in
+    cond-behind (may_keep d.kept page) r t (record d { kept = kept }) (record (behind r t d) { kept = kept })
+    (answered d tag Waiting) (answered (behind r t d) tag Waiting) refl (answered-behind r t d tag Waiting)
+
+made-behind : (r t : List ℕ) (d : Desk) (line : Line) (text : List ℕ) → made_and_told (behind r t d) line text ≡ behind r t (made_and_told d line text)
+made-behind r t d line text =
+    ap (λ x. tell_caller x (tag_in line) text) (quietly-behind r t d line) ∙ tell_caller-behind r t (quietly d line) (tag_in line) text
+
+tried_by-behind : (r t : List ℕ) (d : Desk) (line : List ℕ) (tag : Option (List ℕ)) (said : Option Said)
+    → tried_by (behind r t d) line tag said ≡ behind r t (tried_by d line tag said)
+tried_by-behind r t d line tag None = refl
+tried_by-behind r t d line tag (Some said) =
+    let quiet = with_step d (Some (untagged said)) in
+    let quiet_then = with_step (behind r t d) (Some (untagged said)) in
+    cond-behind (is_open said.answer) r t (keep quiet None line tag) (keep quiet_then None line tag) (with_step d (Some said)) (with_step (behind r t d) (Some said))
+    (ap (λ x. keep x None line tag) (with_step-behind r t d (Some (untagged said))) ∙ keep-behind r t quiet None line tag) (with_step-behind r t d (Some said))
+
+tried-behind : (r t : List ℕ) (d : Desk) (line : List ℕ) (read : Line) (asked : Asked) → tried (behind r t d) line read asked ≡ behind r t (tried d line read asked)
+unfolding tried
+tried-behind r t d line read asked =
+    let step = try_of read asked in
+    tried_by-behind r t (record d { node = after d.node step }) line (tag_in step) (said d.node step)
+
+run-behind : (bytes r t : List ℕ) (d : Desk) (ask : UnmapAsk) (offset : ℕ) → stored_run (behind r t d) ask offset bytes ≡ behind r t (stored_run d ask offset bytes)
+unfolding stored_run
+run-behind [] r t d ask offset = refl
+run-behind (b ∷ bs) r t d ask offset =
+    ap (λ x. stored_run x ask (offset + 1) bs) (quietly-behind r t d (store_line ask offset b))
+    ∙ run-behind bs r t (quietly d (store_line ask offset b)) ask (offset + 1)
+
+brought-behind : (runs : List Run) (r t : List ℕ) (d : Desk) (ask : UnmapAsk) → brought (behind r t d) ask runs ≡ behind r t (brought d ask runs)
+unfolding brought
+brought-behind [] r t d ask = refl
+brought-behind (run ∷ runs) r t d ask =
+    ap (λ x. brought x ask runs) (run-behind run.bytes r t d ask run.offset) ∙ brought-behind runs r t (stored_run d ask run.offset run.bytes) ask
+
+given_up-behind : (r t : List ℕ) (d : Desk) (read : Line) → given_up_by (behind r t d) read ≡ behind r t (given_up_by d read)
+given_up-behind r t d (stream.Envelope sent) = refl
+given_up-behind r t d (stream.Ask ask) = refl
+given_up-behind r t d (stream.Write write) = refl
+given_up-behind r t d (stream.Unmap ask) =
+    let last = stream.Unmap (record ask { runs = [] }) in
+    ap (λ x. made_and_told x last (unmap_reply ask.keeps)) (brought-behind ask.runs r t d ask)
+    ∙ made-behind r t (brought d ask ask.runs) last (unmap_reply ask.keeps)
+
+meeting-behind : (r t : List ℕ) (d : Desk) (fresh : Bool) (line : List ℕ) (read : Line) (m : Meeting)
+    → by_meeting fresh (behind r t d) line read m ≡ behind r t (by_meeting fresh d line read m)
+unfolding by_meeting
+meeting-behind r t d fresh line read Free = taken-behind r t d (Some read)
+meeting-behind r t d fresh line read (Kept page wants) =
+    ap (λ x. keep x page line (tag_in read)) (revoked-behind r t d fresh wants) ∙ keep-behind r t (revoked fresh wants d) page line (tag_in read)
+meeting-behind r t d fresh line read (Answered answer) = answered-behind r t d (tag_in read) answer
+meeting-behind r t d fresh line read (Maps at index) = made-behind r t d read (map_reply d.node at index)
+meeting-behind r t d fresh line read (Tries asked) = tried-behind r t d line read asked
+meeting-behind r t d fresh line read Unmaps = given_up-behind r t d read
+
+met_read-behind : (r t : List ℕ) (d : Desk) (fresh : Bool) (line : List ℕ) (read : Option Line)
+    → met_read fresh (behind r t d) line read ≡ behind r t (met_read fresh d line read)
+met_read-behind r t d fresh line None = refl
+met_read-behind r t d fresh line (Some read) = meeting-behind r t d fresh line read (meeting d.node read)
+
+all_met-behind : (kept : List KeptLine) (r t : List ℕ) (d : Desk) (fresh : Bool) → all_met fresh (behind r t d) kept ≡ behind r t (all_met fresh d kept)
+unfolding all_met
+all_met-behind [] r t d fresh = refl
+all_met-behind (k ∷ kept) r t d fresh =
+    ap (λ x. all_met fresh x kept) (met_read-behind r t d fresh k.line (read_line k.line)) ∙ all_met-behind kept r t (met fresh d k.line) fresh
+
+reminded-behind : (r t : List ℕ) (d : Desk) (tick : Bool) → reminded_if tick (behind r t d) ≡ behind r t (reminded_if tick d)
+unfolding reminded
+reminded-behind r t d false = refl
+reminded-behind r t d true = tell-behind r t d (flat_map (λ ask. reminder d.seal d.node (next_access ask)) d.node.waiting)
+
+finished-behind : (r t : List ℕ) (d : Desk) (tick : Bool) → finished tick (behind r t d) ≡ behind r t (finished tick d)
+finished-behind r t d tick =
+    let now = reminded_if tick d in
+    ap (λ x. settled most_steps (met_again tick x)) (reminded-behind r t d tick)
+    ∙ ap (settled most_steps) (all_met-behind now.kept r t (record now { kept = [] }) tick)
+    ∙ settled-behind most_steps r t (met_again tick now)
+
+read_line-behind : (r t : List ℕ) (d : Desk) (line : List ℕ) (read : Option Line)
+    → after_read_line (behind r t d) line read ≡ behind r t (after_read_line d line read)
+read_line-behind r t d line None = settled-behind most_steps r t (passed d)
+read_line-behind r t d line (Some read) =
+    let tick = ticks d.node read in
+    ap (finished tick) (meeting-behind r t d true line read (meeting d.node read)) ∙ finished-behind r t (by_meeting true d line read (meeting d.node read)) tick
+
 opened-behind : (r t : List ℕ) (d : Desk) (inner : Result (List ℕ) Unsealed) → after_opened (behind r t d) inner ≡ behind r t (after_opened d inner)
 opened-behind r t d (Ok line) =
-    let heard = noted d (read_hello line) in
-    ap (λ x. settled most_steps (taken x (read_line line))) (noted-behind r t d (read_hello line))
-    ∙ ap (settled most_steps) (taken-behind r t heard (read_line line)) ∙ settled-behind most_steps r t (taken heard (read_line line))
+    ap (λ x. after_read_line x line (read_line line)) (noted-behind r t d (read_hello line))
+    ∙ read_line-behind r t (noted d (read_hello line)) line (read_line line)
 opened-behind r t d (Err why) = settled-behind most_steps r t (left_sealed d why)
 
 after_line-behind : (r t : List ℕ) (d : Desk) (line : List ℕ) → after_line (behind r t d) line ≡ behind r t (after_line d line)

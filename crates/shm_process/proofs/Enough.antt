@@ -1,7 +1,7 @@
 -- After a line so many steps are enough: each that an ask makes leaves it fewer, and no other ask more.
-use Rattle.std.proofs.Common.{◌≡◌, ℕ, zero, suc, ◌+◌, ◌-◌, ◌*◌, ◌<◌, ◌≤◌, not, Bool, true, false, List, [], ◌∷◌, ◌++◌, Option, Some, None, length, set, get_or, cond, nat_lt, refl, ap, sym, subst, ◌∙◌, arith}
+use Rattle.std.proofs.Common.{◌≡◌, ℕ, zero, suc, ◌+◌, ◌-◌, ◌*◌, ◌<◌, ◌≤◌, ◌||◌, not, Bool, true, false, List, [], ◌∷◌, ◌++◌, Option, Some, None, length, set, get_or, cond, nat_lt, refl, ap, sym, subst, ◌∙◌, arith}
 use Rattle.std.specs.List.{position_from, remove}
-use Rattle.std.specs.Prelude.{is_some, option_map}
+use Rattle.std.specs.Prelude.{is_some, option_and_then, option_map}
 use Rattle.std.specs.Option.{option_map_or}
 use Rattle.std.proofs.lemmas.List.{length-append}
 use Rattle.shm_place.specs.Limits.{page_bytes}
@@ -9,17 +9,23 @@ use Rattle.shm_model.specs.declared.answer.Answer.{Answer}
 use Rattle.shm_model.specs.declared.answer.Answer.TheVariants.{Byte, Stored, Fault, Waiting, Began, Replied, Took, Dropped, Refused}
 use Rattle.shm_model.specs.declared.asked_access.Asked.{Asked}
 use Rattle.shm_model.specs.declared.asked_access.Asked.TheVariants.{Load, Store}
+use Rattle.shm_model.specs.Access.{right}
 use Rattle.shm_model.specs.Receipt.{access_of}
+use Rattle.shm_model.specs.Site.{Site}
+use Rattle.shm_model.specs.Step.{step}
+use Rattle.shm_parts.specs.Reached.{page_reached}
+use Rattle.shm_wire.specs.declared.mapping_text.Mapping.{Mapping}
 use Rattle.shm_process.specs.Access.{is_access, is_waiting}
 use Rattle.shm_process.specs.Blocks.{Block}
 use Rattle.shm_process.specs.Desk.{Desk, made_again as desk_made_again, settled}
 use Rattle.shm_process.specs.WaitingAsks.{Access, Reads, Writes, WaitingAsk, after_answer, ask_in, goes_on, next_access}
 use Rattle.shm_process.specs.Node.{Node, Heard, Said, answer_to, is_late, new_node}
+use Rattle.shm_process.specs.Mapped.{mapped_at, passed_by, passing}
 use Rattle.shm_process.specs.Recorded.{Event, after_events}
 use Rattle.shm_process.specs.Writes.{Write}
-use Rattle.shm_process.specs.Waiting.{after_again, again_at, can_be_made, most_steps, most_waiting, next_heard, ready, said_again, says_at}
+use Rattle.shm_process.specs.Waiting.{after_again, again_at, can_be_made, is_held, most_steps, most_waiting, next_heard, ready, said_again, says_at}
 use Rattle.shm_process.proofs.Few.{few_wait}
-use Rattle.shm_process.proofs.Lasting.{is_fault, lasts, waits_next}
+use Rattle.shm_process.proofs.Lasting.{access_keeps, is_fault, lasts, waits_next}
 use Rattle.shm_process.proofs.Proper.{IsProper, block-size, proper_asks}
 use Rattle.shm_process.proofs.Tests.{below, unless-some}
 use Rattle.shm_process.proofs.Totals.{Found, found_at, total, total-most, total-remove, total-set}
@@ -66,6 +72,7 @@ left-less false false w h = omega arith
 -- what waits there waits on
 pub record Later (old new : Node) : Type 0 where
   pub waits : (x : Heard) → is_access x.input ≡ true → is_waiting (answer_to old x) ≡ true → is_waiting (answer_to new x) ≡ true
+  pub held : (asked : Asked) → passing new.mapped new.site asked ≡ passing old.mapped old.site asked
 
 access-of : (asked : Asked) → is_access (access_of asked) ≡ true
 access-of (Load at offset) = refl
@@ -75,11 +82,29 @@ not-yes : (a b : Bool) → (b ≡ true → a ≡ true) → not a ≡ true → no
 not-yes a true more h = absurd (let e = more refl in cc)
 not-yes a false more h = refl
 
+either-yes : (h k a b : Bool) → k ≡ h → (b ≡ true → a ≡ true) → not (k || a) ≡ true → not (h || b) ≡ true
+either-yes h true a b same more e = absurd (cc)
+either-yes true false a b same more e = absurd (cc)
+either-yes false false a b same more e = not-yes a b more e
+
 left-later : (old new : Node) → Later old new → (ask : WaitingAsk) → left new ask ≤ left old ask
 left-later old new later ask =
     left-less (can_be_made old ask) (can_be_made new ask) (weight ask)
-    (not-yes (is_waiting (answer_to new (next_heard ask))) (is_waiting (answer_to old (next_heard ask)))
-    (later.waits (next_heard ask) (access-of (next_access ask))))
+    (either-yes (is_held old ask) (is_held new ask) (is_waiting (answer_to new (next_heard ask))) (is_waiting (answer_to old (next_heard ask)))
+    (ap is_some (later.held (next_access ask))) (later.waits (next_heard ask) (access-of (next_access ask))))
+
+-- what is passed by hangs on the attachments alone
+held-same : (mapped : List Mapping) (old new : Site) (asked : Asked) → new.attachments ≡ old.attachments → passing mapped new asked ≡ passing mapped old asked
+held-same mapped old new (Load at offset) e = ap (λ a. passed_by false (option_and_then (λ p. mapped_at p mapped) (page_reached (right a at offset false)))) e
+held-same mapped old new (Store at offset byte) e = ap (λ a. passed_by true (option_and_then (λ p. mapped_at p mapped) (page_reached (right a at offset false)))) e
+
+or-waits : (h w : Bool) → w ≡ true → not (h || w) ≡ false
+or-waits true w e = refl
+or-waits false w e = ap not e
+
+or-not : (h w : Bool) → not (h || w) ≡ true → not w ≡ true
+or-not true w e = absurd (cc)
+or-not false w e = e
 
 -- ---- one step
 
@@ -92,20 +117,24 @@ module _ (node : Node) (at : ℕ) (can : can_be_made node (ask_in node.waiting a
   access-is = access-of (next_access (ask_in node.waiting at))
 
   step-later : Later node (again_at node at)
-  step-later = record { waits = λ y is h. lasts node.sites node.me node.site x.input y.input access-is is h }
+  step-later = record {
+    waits = λ y is h. lasts node.sites node.me node.site x.input y.input access-is is h;
+    held = λ asked. held-same node.mapped node.site (step node.sites node.me node.site x.input).site asked
+        (access_keeps node.sites node.me node.site x.input access-is).attachments;
+  }
 
   -- who faults waits
   fault-left : (ask : WaitingAsk) → next_heard ask ≡ x → is_fault (answer_to node x) ≡ true → left (again_at node at) ask ≡ 0
   fault-left ask same fault =
       left-none (can_be_made (again_at node at) ask) (weight ask)
-      (ap (λ h. not (is_waiting (answer_to (again_at node at) h))) same
-      ∙ ap not (waits_next node.sites node.me node.site x.input access-is fault))
+      (or-waits (is_held (again_at node at) ask) (is_waiting (answer_to (again_at node at) (next_heard ask)))
+      (ap (λ h. is_waiting (answer_to (again_at node at) h)) same ∙ waits_next node.sites node.me node.site x.input access-is fault))
 
   fault-less : (ask : WaitingAsk) → next_heard ask ≡ x → is_fault (answer_to node x) ≡ true → left (again_at node at) ask < weight ask
   fault-less ask same fault = subst (λ n. n < weight ask) (sym (fault-left ask same fault)) (some-weight ask)
 
   waits-not : (answer : Answer) → answer_to node x ≡ answer → not (is_waiting answer) ≡ true
-  waits-not answer is = ap (λ a. not (is_waiting a)) (sym is) ∙ can
+  waits-not answer is = ap (λ a. not (is_waiting a)) (sym is) ∙ or-not (is_held node (ask_in node.waiting at)) (is_waiting (answer_to node x)) can
 
   -- a byte more is loaded
   byte-less : (block : Block) (byte : ℕ) → nat_lt (length block.bytes + 1) block.count ≡ true

@@ -56,6 +56,8 @@ block-few node true false tag (question.Begin request) room few = few
 block-few node true false tag question.Tick room few = few
 block-few node true false tag (question.Show page) room few = few
 block-few node true false tag question.Health room few = few
+block-few node true false tag (question.Map at index kind) room few = few
+block-few node true false tag question.Mappings room few = few
 
 ask-few : (node : Node) (room here late : Bool) (tag : List ℕ) (q : Question) → has_room node ≡ room → Few node
     → Few (after_unheard node (cond room (cond here (cond late None (block_in tag q)) None) None))
@@ -71,6 +73,7 @@ write-few node write true true false room few = room-for-one node.waiting (unsto
 
 unheard-few : (node : Node) (line : stream.Line) → Few node → Few (after_unheard node (joining node line))
 unheard-few node (stream.Envelope sent) few = few
+unheard-few node (stream.Unmap unmap) few = few
 unheard-few node (stream.Write write) few = write-few node write (has_room node) (write.site == node.me) (is_late node 0) refl few
 unheard-few node (stream.Ask ask) few = ask-few node (has_room node) (ask.site == node.me) (is_late node 0) ask.tag ask.asked refl few
 

@@ -16,10 +16,16 @@ pub mod Enough
 pub mod Pushed
 pub mod DeskLemmas
 pub mod DeskBytes
+pub mod Events
 pub mod DeskEvents
+pub mod Recording
 pub mod NumberedRows
 pub mod NumberedSteps
 pub mod Clocks
 pub mod HelloWords
 pub mod Greeting
 pub mod Noting
+pub mod Finds
+pub mod MappedBytes
+pub mod MetLines
+pub mod Tries

@@ -1,6 +1,6 @@
 -- A step by what the site answered: of an ask that waits, and of what a line handed over.
-use Rattle.std.proofs.Common.{◌≡◌, ℕ, ◌+◌, ◌&&◌, Bool, not, List, Option, Some, None, cond, ap, sym, ◌∙◌}
-use Rattle.std.specs.Prelude.{is_some}
+use Rattle.std.proofs.Common.{◌≡◌, ℕ, ◌+◌, ◌&&◌, ◌||◌, Bool, true, false, not, List, Option, Some, None, cond, ap, sym, ◌∙◌}
+use Rattle.std.specs.Prelude.{is_some, unwrap_or}
 use Rattle.shm_model.specs.declared.answer.Answer.{Answer}
 use Rattle.shm_model.specs.declared.asked_access.Asked.{Asked}
 use Rattle.shm_model.specs.Message.{Envelope, Input}
@@ -8,12 +8,22 @@ use Rattle.shm_model.specs.Receipt.{access_of}
 use Rattle.shm_model.specs.Site.{Site, Step}
 use Rattle.shm_model.specs.Step.{step}
 use Rattle.shm_wire.specs.Line as stream
+use Rattle.shm_wire.specs.declared.mapping_text.Mapping.{Mapping}
 use Rattle.shm_process.specs.Access.{access_ask, is_open, is_waiting}
 use Rattle.shm_process.specs.Cause.{Cause, OfLine}
+use Rattle.shm_process.specs.Mapped.{passing}
 use Rattle.shm_process.specs.Node.{Node, Heard, Said, answer_to, caller_after, next_clock, says, tag_told}
-use Rattle.shm_process.specs.Waiting.{again_at, can_be_made, counted, has_room, joins, next_heard, next_line, says_at, taken, with_ask}
+use Rattle.shm_process.specs.Waiting.{again_at, can_be_made, counted, has_room, is_held, joins, next_heard, next_line, says_at, taken, with_ask}
 use Rattle.shm_process.specs.WaitingAsks.{WaitingAsk, all_bytes, ask_in, goes_on, next_access, tag_of, waiting_after}
 use Rattle.shm_process.proofs.Callers.{goes_on_caller, joins_caller, stays_told}
+
+-- its next access would pass by what is mapped, or not
+pub held_is : (node : Node) (ask : WaitingAsk) (asked : Asked) (passed : Option Mapping) (held : Bool) → asked ≡ next_access ask
+    → passed ≡ passing node.mapped node.site asked → is_some passed ≡ held → is_held node ask ≡ held
+held_is node ask asked passed held same is e = ap (λ a. is_some (passing node.mapped node.site a)) (sym same) ∙ ap is_some (sym is) ∙ e
+
+pub held_not : (node : Node) (ask : WaitingAsk) → is_held node ask ≡ true → can_be_made node ask ≡ false
+held_not node ask held = ap (λ h. not (h || is_waiting (answer_to node (next_heard ask)))) held
 
 -- the ask at this place made its next access, and the site answered so
 pub record IsMade (node : Node) (at : ℕ) (asked : Asked) (input : Input) (site : Site) (answer : Answer) (sent : List Envelope) : Type 0 where
@@ -31,8 +41,9 @@ module _ (node : Node) (at : ℕ) (asked : Asked) (input : Input) (site : Site) 
   answer-is : answer_to node (next_heard ask) ≡ answer
   answer-is = ap (λ (s : Step). s.answer) done-is
 
-  pub can_be : (waits : Bool) → is_waiting answer ≡ waits → can_be_made node ask ≡ not waits
-  can_be waits is = ap (λ a. not (is_waiting a)) answer-is ∙ ap not is
+  pub can_be : (waits : Bool) → is_held node ask ≡ false → is_waiting answer ≡ waits → can_be_made node ask ≡ not waits
+  can_be waits free is =
+      ap (λ h. not (h || is_waiting (answer_to node (next_heard ask)))) free ∙ ap (λ a. not (is_waiting a)) answer-is ∙ ap not is
 
   says-made : says_at node at ≡ record {
     site = node.me;
@@ -207,6 +218,7 @@ module _ (node : Node) (h : Heard) (site : Site) (answer : Answer) (sent : List 
     taken = counted node.taken;
     caller = caller_after h.tag node.caller answer;
     waiting = with_ask node.waiting h.waits stays_so;
+    mapped = unwrap_or h.mapped node.mapped;
   }
   taken-made = ap (λ (s : Step). record node {
     site = s.site;
@@ -215,18 +227,31 @@ module _ (node : Node) (h : Heard) (site : Site) (answer : Answer) (sent : List 
     taken = counted node.taken;
     caller = caller_after h.tag node.caller s.answer;
     waiting = with_ask node.waiting h.waits ((is_some h.waits && has_room node) && is_open s.answer);
+    mapped = unwrap_or h.mapped node.mapped;
   }) made
 
-  pub node_taken : (next : Node) (stays : Bool) (told : Option (List ℕ)) (waiting : List WaitingAsk) (clock lines : ℕ) → stays ≡ stays_so
+  pub node_taken : (next : Node) (stays : Bool) (told : Option (List ℕ)) (waiting : List WaitingAsk) (clock lines : ℕ) (mapped : List Mapping) → stays ≡ stays_so
       → told ≡ cond stays None h.tag → waiting ≡ with_ask node.waiting h.waits stays → clock ≡ next_clock node h.source → lines ≡ counted node.taken
-      → next ≡ record node { site = site; clock = clock; steps = node.steps + 1; taken = lines; caller = caller_after told node.caller answer; waiting = waiting }
+      → mapped ≡ unwrap_or h.mapped node.mapped
+      → next ≡ record node {
+        site = site;
+        clock = clock;
+        steps = node.steps + 1;
+        taken = lines;
+        caller = caller_after told node.caller answer;
+        waiting = waiting;
+        mapped = mapped;
+      }
       → next ≡ taken node h
-  node_taken next stays told waiting clock lines es eo ew ec el e =
-      let shape : ℕ → ℕ → Option (List ℕ) → List WaitingAsk → Node = λ c l t w.
-      record node { site = site; clock = c; steps = node.steps + 1; taken = l; caller = t; waiting = w } in
+  node_taken next stays told waiting clock lines mapped es eo ew ec el em e =
+      let shape : ℕ → ℕ → Option (List ℕ) → List WaitingAsk → List Mapping → Node = λ c l t w m.
+      record node { site = site; clock = c; steps = node.steps + 1; taken = l; caller = t; waiting = w; mapped = m } in
+      let now = unwrap_or h.mapped node.mapped in
       e
-      ∙ ap (λ c. shape c lines (caller_after told node.caller answer) waiting) ec
-      ∙ ap (λ l. shape (next_clock node h.source) l (caller_after told node.caller answer) waiting) el
-      ∙ ap (λ t. shape (next_clock node h.source) (counted node.taken) t waiting) (joins_caller (is_some h.waits) (has_room node) stays told h.tag node.caller answer eo es)
-      ∙ ap (shape (next_clock node h.source) (counted node.taken) (caller_after h.tag node.caller answer)) (ew ∙ ap (with_ask node.waiting h.waits) es)
+      ∙ ap (λ c. shape c lines (caller_after told node.caller answer) waiting mapped) ec
+      ∙ ap (λ l. shape (next_clock node h.source) l (caller_after told node.caller answer) waiting mapped) el
+      ∙ ap (λ t. shape (next_clock node h.source) (counted node.taken) t waiting mapped)
+      (joins_caller (is_some h.waits) (has_room node) stays told h.tag node.caller answer eo es)
+      ∙ ap (λ w. shape (next_clock node h.source) (counted node.taken) (caller_after h.tag node.caller answer) w mapped) (ew ∙ ap (with_ask node.waiting h.waits) es)
+      ∙ ap (shape (next_clock node h.source) (counted node.taken) (caller_after h.tag node.caller answer) (with_ask node.waiting h.waits stays_so)) em
       ∙ sym taken-made

@@ -1,14 +1,25 @@
 -- The first site that is noted as begun otherwise stays the one that is noted.
-use Rattle.std.proofs.Common.{◌≡◌, ℕ, zero, suc, ◌==◌, Bool, true, false, List, [], ◌∷◌, Option, None, Some, cond, length, nat_lt, refl, ap, ap₂, ◌∙◌}
+use Rattle.std.proofs.Common.{◌≡◌, ℕ, zero, suc, ◌+◌, ◌==◌, Bool, true, false, List, [], ◌∷◌, ◌++◌, Option, None, Some, cond, length, nat_lt, refl, ap, ap₂, ◌∙◌}
 use Rattle.std.specs.Option.{option_map_or}
 use Rattle.std.specs.Prelude.{Result, Ok, Err, is_some, option_and_then, option_map}
+use Rattle.shm_place.specs.declared.page_id.PageId.{PageId}
+use Rattle.shm_model.specs.declared.answer.Answer.TheVariants.{Waiting}
+use Rattle.shm_model.specs.declared.asked_access.Asked.{Asked}
 use Rattle.shm_seal.specs.Seal.{opened}
 use Rattle.shm_seal.specs.declared.open_line_error.Unsealed.{Unsealed}
 use Rattle.shm_wire.specs.Line.{Line, read_line}
-use Rattle.shm_process.specs.Desk.{Desk, after_line, after_opened, disagreement_in, grown, left_sealed, made_again, max_line_bytes, noted, on_byte, on_bytes, settled, taken, with_other}
+use Rattle.shm_wire.specs.Line as stream
+use Rattle.shm_wire.specs.Unmaps.{Run, UnmapAsk}
+use Rattle.shm_wire.specs.declared.mapping_text.RevokeText.{RevokeText}
+use Rattle.shm_process.specs.Access.{is_open}
+use Rattle.shm_process.specs.Desk.{Desk, KeptLine, after_line, after_opened, after_read_line, all_met, answered, brought, by_meeting, disagreement_in, finished, given_up_by, grown, keep, left_sealed, made_again, made_and_told, map_reply, max_line_bytes, may_keep, met, met_read, noted, on_byte, on_bytes, passed, quietly, reminded, reminded_if, revoked, settled, store_line, stored_run, tag_in, taken, ticks, tried, tried_by, try_of, unmap_reply, untagged, with_other, with_step}
 use Rattle.shm_process.specs.Hello.{compared, first_other, read_hello}
-use Rattle.shm_process.specs.Waiting.{most_steps, passed_over, said_again}
+use Rattle.shm_process.specs.Meetings.{meeting}
+use Rattle.shm_process.specs.Node.{Said}
+use Rattle.shm_process.specs.Waiting.{after, most_steps, passed_over, said, said_again}
 use Rattle.shm_process.specs.declared.hello_line.Hello.{Hello}
+use Rattle.shm_process.specs.declared.line_meeting.Meeting.{Meeting}
+use Rattle.shm_process.specs.declared.line_meeting.Meeting.TheVariants.{Answered, Free, Kept, Maps, Tries, Unmaps}
 use Rattle.shm_process.specs.declared.site_opening.Disagreement.{Disagreement}
 use Rattle.shm_process.specs.declared.site_opening.Opening.{Opening}
 
@@ -42,6 +53,105 @@ stays-taken : (d : Desk) (read : Option Line) → Stays d (taken d read)
 unfolding taken
 stays-taken d read = same d (taken d read) refl refl
 
+-- ---- a line while pages are mapped
+
+stays-quietly : (d : Desk) (line : Line) → Stays d (quietly d line)
+unfolding quietly
+stays-quietly d line = same d (quietly d line) refl refl
+
+stays-revoked : (d : Desk) (fresh : Bool) (wants : Option RevokeText) → Stays d (revoked fresh wants d)
+stays-revoked d false wants = same d d refl refl
+stays-revoked d true wants = same d (revoked true wants d) refl refl
+
+stays-keep : (d : Desk) (page : Option PageId) (line : List ℕ) (tag : Option (List ℕ)) → Stays d (keep d page line tag)
+stays-keep d page line tag =
+    let longer = record d { kept = d.kept ++ record { line = line; page = page } ∷ [] } in
+    stays-cond (may_keep d.kept page) d longer (answered d tag Waiting) (same d longer refl refl) (same d (answered d tag Waiting) refl refl)
+
+stays-made : (d : Desk) (line : Line) (text : List ℕ) → Stays d (made_and_told d line text)
+unfolding quietly
+stays-made d line text = same d (made_and_told d line text) refl refl
+
+stays-tried_by : (d : Desk) (line : List ℕ) (tag : Option (List ℕ)) (says : Option Said) → Stays d (tried_by d line tag says)
+stays-tried_by d line tag None = same d d refl refl
+stays-tried_by d line tag (Some says) =
+    let quiet = with_step d (Some (untagged says)) in
+    stays-cond (is_open says.answer) d (keep quiet None line tag) (with_step d (Some says))
+    (both d quiet (keep quiet None line tag) (same d quiet refl refl) (stays-keep quiet None line tag)) (same d (with_step d (Some says)) refl refl)
+
+stays-tried : (d : Desk) (line : List ℕ) (read : Line) (asked : Asked) → Stays d (tried d line read asked)
+unfolding tried
+stays-tried d line read asked =
+    let step = try_of read asked in
+    let now = record d { node = after d.node step } in
+    both d now (tried_by now line (tag_in step) (said d.node step)) (same d now refl refl) (stays-tried_by now line (tag_in step) (said d.node step))
+
+stays-run : (bytes : List ℕ) (d : Desk) (ask : UnmapAsk) (offset : ℕ) → Stays d (stored_run d ask offset bytes)
+unfolding stored_run
+stays-run [] d ask offset = same d d refl refl
+stays-run (byte ∷ bytes) d ask offset =
+    let next = quietly d (store_line ask offset byte) in
+    both d next (stored_run next ask (offset + 1) bytes) (stays-quietly d (store_line ask offset byte)) (stays-run bytes next ask (offset + 1))
+
+stays-brought : (runs : List Run) (d : Desk) (ask : UnmapAsk) → Stays d (brought d ask runs)
+unfolding brought
+stays-brought [] d ask = same d d refl refl
+stays-brought (run ∷ runs) d ask =
+    let next = stored_run d ask run.offset run.bytes in
+    both d next (brought next ask runs) (stays-run run.bytes d ask run.offset) (stays-brought runs next ask)
+
+stays-given_up : (d : Desk) (read : Line) → Stays d (given_up_by d read)
+stays-given_up d (stream.Envelope sent) = same d d refl refl
+stays-given_up d (stream.Ask ask) = same d d refl refl
+stays-given_up d (stream.Write write) = same d d refl refl
+stays-given_up d (stream.Unmap ask) =
+    let next = brought d ask ask.runs in
+    let last = stream.Unmap (record ask { runs = [] }) in
+    both d next (made_and_told next last (unmap_reply ask.keeps)) (stays-brought ask.runs d ask) (stays-made next last (unmap_reply ask.keeps))
+
+stays-meeting : (d : Desk) (fresh : Bool) (line : List ℕ) (read : Line) (m : Meeting) → Stays d (by_meeting fresh d line read m)
+unfolding by_meeting
+stays-meeting d fresh line read Free = stays-taken d (Some read)
+stays-meeting d fresh line read (Kept page wants) =
+    let now = revoked fresh wants d in
+    both d now (keep now page line (tag_in read)) (stays-revoked d fresh wants) (stays-keep now page line (tag_in read))
+stays-meeting d fresh line read (Answered answer) = same d (answered d (tag_in read) answer) refl refl
+stays-meeting d fresh line read (Maps at index) = stays-made d read (map_reply d.node at index)
+stays-meeting d fresh line read (Tries asked) = stays-tried d line read asked
+stays-meeting d fresh line read Unmaps = stays-given_up d read
+
+stays-met_read : (d : Desk) (fresh : Bool) (line : List ℕ) (read : Option Line) → Stays d (met_read fresh d line read)
+stays-met_read d fresh line None = same d (passed d) refl refl
+stays-met_read d fresh line (Some read) = stays-meeting d fresh line read (meeting d.node read)
+
+stays-all_met : (kept : List KeptLine) (d : Desk) (fresh : Bool) → Stays d (all_met fresh d kept)
+unfolding all_met
+stays-all_met [] d fresh = same d d refl refl
+stays-all_met (k ∷ kept) d fresh =
+    let next = met fresh d k.line in
+    both d next (all_met fresh next kept) (stays-met_read d fresh k.line (read_line k.line)) (stays-all_met kept next fresh)
+
+stays-reminded : (d : Desk) (tick : Bool) → Stays d (reminded_if tick d)
+unfolding reminded
+stays-reminded d false = same d d refl refl
+stays-reminded d true = same d (reminded d) refl refl
+
+stays-finished : (d : Desk) (tick : Bool) → Stays d (finished tick d)
+stays-finished d tick =
+    let now = reminded_if tick d in
+    let free = record now { kept = [] } in
+    let last = all_met tick free now.kept in
+    both d now (settled most_steps last) (stays-reminded d tick)
+    (both now free (settled most_steps last) (same now free refl refl) (both free last (settled most_steps last) (stays-all_met now.kept free tick) (stays-settled most_steps last)))
+
+stays-read_line : (d : Desk) (line : List ℕ) (read : Option Line) → Stays d (after_read_line d line read)
+stays-read_line d line None = both d (passed d) (settled most_steps (passed d)) (same d (passed d) refl refl) (stays-settled most_steps (passed d))
+stays-read_line d line (Some read) =
+    let next = by_meeting true d line read (meeting d.node read) in
+    both d next (finished (ticks d.node read) next) (stays-meeting d true line read (meeting d.node read)) (stays-finished next (ticks d.node read))
+
+-- ---- who was noted
+
 opening-kept : (d : Desk) (o : Option Disagreement) → (option_map_or (with_other d) o d).opening ≡ d.opening
 opening-kept d None = refl
 opening-kept d (Some x) = refl
@@ -55,9 +165,7 @@ stays-noted d read = record {
 stays-opened : (d : Desk) (inner : Result (List ℕ) Unsealed) → Stays d (after_opened d inner)
 stays-opened d (Ok line) =
     let heard = noted d (read_hello line) in
-    let next = taken heard (read_line line) in
-    both d heard (settled most_steps next) (stays-noted d (read_hello line))
-    (both heard next (settled most_steps next) (stays-taken heard (read_line line)) (stays-settled most_steps next))
+    both d heard (after_read_line heard line (read_line line)) (stays-noted d (read_hello line)) (stays-read_line heard line (read_line line))
 stays-opened d (Err why) =
     both d (left_sealed d why) (settled most_steps (left_sealed d why)) (same d (left_sealed d why) refl refl) (stays-settled most_steps (left_sealed d why))
 

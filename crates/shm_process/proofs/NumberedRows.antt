@@ -17,7 +17,6 @@ use Rattle.shm_model.specs.Book.{Book, Order, ClearTo, HandTo, Outcome, Ignored,
 use Rattle.shm_model.specs.Entry.{Entry, Nil, Copy, OwnRead, OwnWrite, Handed, Cleared, Page, Confirm, Out, Nothing, ToManager, ToSite, bytes, forget, hand_read, hand_write, handed_to, installed, meet, on_clear, on_hand, on_page, owned, readable, seen, writable}
 use Rattle.shm_model.specs.Message.{Envelope}
 use Rattle.shm_model.specs.Site.{Site, Frames, Pending, Step, still}
-use Rattle.shm_model.specs.Step.{step}
 use Rattle.shm_model.specs.Transfer.{arranged, drop_first, is_nothing, is_settled, limited, order_envelope, order_envelopes, sent_by, settle, to_book, to_entry}
 use Rattle.shm_process.specs.Numbers.{BookWithin, NumbersWithin, number_noted, numbers_fit}
 

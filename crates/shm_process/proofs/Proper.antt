@@ -21,11 +21,15 @@ use Rattle.shm_wire.specs.Line as stream
 use Rattle.shm_wire.specs.Line.{IsLine, read_line}
 use Rattle.shm_wire.specs.declared.caller_ask.Question.{Question}
 use Rattle.shm_wire.specs.declared.caller_ask.Question.TheVariants as question
+use Rattle.shm_wire.specs.Unmaps.{UnmapAsk}
+use Rattle.shm_wire.specs.declared.mapping_text.Mapping.{Mapping}
 use Rattle.shm_wire.specs.Writes.{WriteAsk, IsWrite}
 use Rattle.shm_process.specs.Access.{access_ask}
 use Rattle.shm_process.specs.Cause.{OfLine}
 use Rattle.shm_process.specs.WaitingAsks.{Access, Reads, Writes, WaitingAsk, after_answer, ask_in, goes_on, waiting_after}
-use Rattle.shm_process.specs.Node.{Node, Heard, Said, answer_to, heard, input_asked, is_beyond, is_late, new_node, says, under_tag, waits_for}
+use Rattle.shm_process.specs.Node.{Node, Heard, Said, answer_to, asked_under, heard, input_asked, is_beyond, is_late, new_node, remapped_by, says, under_tag, waits_for}
+use Rattle.shm_process.specs.Mapped.{byte_place, page_at}
+use Rattle.shm_process.specs.Remaps.{first_load, is_empty, unmapped_to}
 use Rattle.shm_process.specs.Recorded.{Entry, Event, Line, TooLong, Again, Restarted, IsEntry, entry_of, after_event, after_events, entries_of, recorded, said_at}
 use Rattle.shm_process.specs.Waiting.{after_heard, after_read, after_restart, after_unheard, again_at, block_in, can_be_made, has_room, joining, joins, next_heard, next_line, ready, said_read, said_restart, says_at, unstored, with_ask}
 use Rattle.shm_process.proofs.Tests.{below, unless-some}
@@ -121,7 +125,7 @@ wide-zero = omega arith
 
 asks-here : (node : Node) (site : ℕ) (tag : List ℕ) (q : Question) (x : Heard) (here late : Bool) → (here ≡ true → site ≡ node.me) → is_late node 0 ≡ late
     → IsAsk (record { site = site; tag = tag; asked = q })
-    → cond here (cond late None (option_map (under_tag tag (waits_for tag q)) (input_asked q))) None ≡ Some x → IsHeard node x
+    → cond here (cond late None (option_map (asked_under tag (waits_for tag q) (remapped_by node q)) (input_asked q))) None ≡ Some x → IsHeard node x
 asks-here node site tag q x false late own is h e = absurd (cc)
 asks-here node site tag q x true true own is h e = absurd (cc)
 asks-here node site tag (question.Access asked) x true false own is h e =
@@ -137,6 +141,18 @@ asks-here node site tag question.Tick x true false own is h e = idle false false
 asks-here node site tag (question.Read at offset count) x true false own is h e = absurd (cc)
 asks-here node site tag (question.Show page) x true false own is h e = absurd (cc)
 asks-here node site tag question.Health x true false own is h e = absurd (cc)
+asks-here node site tag question.Mappings x true false own is h e = absurd (cc)
+asks-here node site tag (question.Map at index kind) x true false own is h e =
+    idle false false false node (asked_under tag None (remapped_by node (question.Map at index kind)) (first_load at index)) x wide-zero is refl e
+
+unmaps-here : (node : Node) (unmap : UnmapAsk) (x : Heard) (mapped : Option (List Mapping)) (here late empty : Bool) → is_late node 0 ≡ late
+    → cond here (cond late None (option_map (asked_under unmap.tag None mapped) (cond empty (Some (first_load unmap.at unmap.index)) None))) None ≡ Some x
+    → IsHeard node x
+unmaps-here node unmap x mapped false late empty is e = absurd (cc)
+unmaps-here node unmap x mapped true true empty is e = absurd (cc)
+unmaps-here node unmap x mapped true false false is e = absurd (cc)
+unmaps-here node unmap x mapped true false true is e =
+    idle false false false node (asked_under unmap.tag None mapped (first_load unmap.at unmap.index)) x wide-zero is refl e
 
 same-site : (a b : ℕ) → (a == b) ≡ true → a ≡ b
 same-site a b h = grind (arith, nat_tests)
@@ -144,8 +160,11 @@ same-site a b h = grind (arith, nat_tests)
 line-heard : (node : Node) (line : stream.Line) (x : Heard) → IsLine line → heard node line ≡ Some x → IsHeard node x
 line-heard node (stream.Envelope sent) x is e =
     idle (foreign node.sites node.me sent.envelope) (is_late node sent.source.at) (is_beyond node sent) node
-    (record { input = Deliver sent.envelope; source = sent.source.at; tag = None; waits = None }) x is.2.0 refl refl e
+    (record { input = Deliver sent.envelope; source = sent.source.at; tag = None; waits = None; mapped = None }) x is.2.0 refl refl e
 line-heard node (stream.Write write) x is e = absurd (cc)
+line-heard node (stream.Unmap unmap) x is e =
+    unmaps-here node unmap x (unmapped_to node.mapped unmap.keeps (page_at node.site unmap.at (byte_place unmap.index 0))) (unmap.site == node.me)
+    (is_late node 0) (is_empty unmap.runs) refl e
 line-heard node (stream.Ask ask) x is e = asks-here node ask.site ask.tag ask.asked x (ask.site == node.me) (is_late node 0) (same-site ask.site node.me) refl is e
 
 with-proper : (me : ℕ) (waiting : List WaitingAsk) (ask : Option WaitingAsk) (joins : Bool) → ((a : WaitingAsk) → ask ≡ Some a → IsProper me a)
@@ -171,6 +190,8 @@ blocks-here node site tag (question.Begin request) true true false own is sound 
 blocks-here node site tag question.Tick true true false own is sound = record { clock = sound.clock; asks = sound.asks }
 blocks-here node site tag (question.Show page) true true false own is sound = record { clock = sound.clock; asks = sound.asks }
 blocks-here node site tag question.Health true true false own is sound = record { clock = sound.clock; asks = sound.asks }
+blocks-here node site tag question.Mappings true true false own is sound = record { clock = sound.clock; asks = sound.asks }
+blocks-here node site tag (question.Map at index kind) true true false own is sound = record { clock = sound.clock; asks = sound.asks }
 
 writes-here : (node : Node) (write : WriteAsk) (room here late : Bool) → (here ≡ true → write.site ≡ node.me) → IsWrite write → Sound node
     → Sound (after_unheard node (cond room (cond here (cond late None (Some (unstored write))) None) None))
@@ -185,6 +206,7 @@ writes-here node write true true false own is sound = record {
 
 unheard-sound : (node : Node) (line : stream.Line) → IsLine line → Sound node → Sound (after_unheard node (joining node line))
 unheard-sound node (stream.Envelope sent) is sound = record { clock = sound.clock; asks = sound.asks }
+unheard-sound node (stream.Unmap unmap) is sound = record { clock = sound.clock; asks = sound.asks }
 unheard-sound node (stream.Write write) is sound =
     writes-here node write (has_room node) (write.site == node.me) (is_late node 0) (same-site write.site node.me) is sound
 unheard-sound node (stream.Ask ask) is sound =

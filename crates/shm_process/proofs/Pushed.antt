@@ -1,18 +1,20 @@
 -- A step is recorded and told.
 use Rattle.std.proofs.Common.{◌≡◌, ℕ, ◌≤◌, Bool, false, List, [], ◌∷◌, ◌++◌, length, cond, nat_lt, ap, ap₂, sym, ◌∙◌, append-nil, arith}
 use Rattle.std.proofs.lemmas.Bool.Decides.{nat_tests}
-use Rattle.std.specs.Prelude.{codes, Option, Some, None, Result, Ok, option_and_then}
+use Rattle.std.specs.Prelude.{codes, Option, Some, None, Result, Ok, option_and_then, option_map}
 use Rattle.std.specs.Fmt.{decimal}
+use Rattle.shm_model.specs.declared.asked_access.Asked.{Asked}
 use Rattle.shm_seal.specs.Seal.{opened}
 use Rattle.shm_seal.specs.declared.open_line_error.Unsealed.{Unsealed}
 use Rattle.shm_wire.specs.Line.{Line, read_line}
 use Rattle.shm_process.specs.Cause.{Cause, cause_text}
 use Rattle.shm_process.specs.Counts.{Counts, counted_on, was_received}
-use Rattle.shm_process.specs.Desk.{Desk, after_line, after_opened, counts_after, line_text, max_line_bytes, noted, restarted, settled, step_entry, step_text, taken, tell, with_step}
+use Rattle.shm_process.specs.Desk.{Desk, after_line, after_opened, after_read_line, counts_after, line_text, max_line_bytes, noted, passed, quietly, restarted, settled, step_entry, step_text, tag_in, taken, tell, tried, tried_by, tried_so, try_of, untagged, with_step}
 use Rattle.shm_process.specs.Hello.{read_hello}
 use Rattle.shm_process.specs.Node.{Node, Said}
 use Rattle.shm_process.specs.Telling.{shown_line}
-use Rattle.shm_process.specs.Waiting.{after_read, after_restart, counted, most_steps, passed_over, said_read, said_restart}
+use Rattle.shm_process.specs.Waiting.{after, after_read, after_restart, counted, most_steps, passed_over, said_read, said_restart}
+use Rattle.shm_process.specs.Waiting.{said as said_of_line}
 
 -- it is counted
 pub step_counted : (old now last : Counts) (said : Said) (line : List ℕ) (received : Bool) (sent bytes : ℕ) → cause_text said.cause ≡ line
@@ -54,24 +56,34 @@ taken_so d next shown read node said es en ed e =
     ∙ ap (with_step (record (tell d (line_text d.seal (option_and_then (shown_line d.counts d.node) read))) { node = after_read d.node read })) ed
 
 pub restarted_so : (d next : Desk) (node : Node) (said : Said) → node ≡ after_restart d.node → said ≡ said_restart d.node
-    → next ≡ with_step (record d { node = node }) (Some said) → next ≡ restarted d
+    → next ≡ with_step (record d { node = node; kept = [] }) (Some said) → next ≡ restarted d
 unfolding restarted
 restarted_so d next node said en es e =
-    e ∙ ap (λ n. with_step (record d { node = n }) (Some said)) en ∙ ap (λ s. with_step (record d { node = after_restart d.node }) (Some s)) es
-
--- one that is none of the stream's
-pub none_taken : (d : Desk) → record d { node = passed_over d.node } ≡ taken d None
-unfolding taken step_entry step_text
-none_taken d = ap₂ (λ r t. record d { node = passed_over d.node; recorded = r; told = t }) (sym (append-nil d.recorded))
-    (sym (append-nil (d.told ++ []) ∙ append-nil d.told))
+    e ∙ ap (λ n. with_step (record d { node = n; kept = [] }) (Some said)) en
+    ∙ ap (λ s. with_step (record d { node = after_restart d.node; kept = [] }) (Some s)) es
 
 within-most : (n : ℕ) → n ≤ 8192 → nat_lt max_line_bytes n ≡ false
 within-most n h = grind (arith, nat_tests)
 
--- the asks that wait are made again after it
-pub line_taken : (d heard now next : Desk) (line : List ℕ) → heard ≡ noted d (read_hello line) → now ≡ taken heard (read_line line)
-    → next ≡ settled most_steps now → next ≡ after_opened d (Ok line)
-line_taken d heard now next line noted is e = e ∙ ap (settled most_steps) (is ∙ ap (λ x. taken x (read_line line)) noted)
+-- what was read of a line is met
+pub line_met : (d next : Desk) (line : List ℕ) (read : Line) → Some read ≡ read_line line → d ≡ noted d (read_hello line)
+    → next ≡ after_read_line d line (Some read) → next ≡ after_opened d (Ok line)
+line_met d next line read is noted e = e ∙ ap (after_read_line d line) is ∙ ap (λ x. after_read_line x line (read_line line)) noted
+
+-- and what is no line of the stream is passed over
+pub line_passed : (d heard next : Desk) (line : List ℕ) → None ≡ read_line line → heard ≡ noted d (read_hello line)
+    → next ≡ settled most_steps (passed heard) → next ≡ after_opened d (Ok line)
+line_passed d heard next line is noted e = e ∙ ap (after_read_line heard line) is ∙ ap (λ x. after_read_line x line (read_line line)) noted
+
+-- ---- steps whose answer isn't told
+
+-- a step of a line
+pub quietly_so : (d next : Desk) (line : Line) (node : Node) (said now : Option Said) → node ≡ after d.node line → said ≡ said_of_line d.node line
+    → now ≡ option_map untagged said → next ≡ with_step (record d { node = node }) now → next ≡ quietly d line
+unfolding quietly
+quietly_so d next line node said now en es eu e =
+    e ∙ ap (λ n. with_step (record d { node = n }) now) en
+    ∙ ap (with_step (record d { node = after d.node line })) (eu ∙ ap (option_map untagged) es)
 
 -- a line that isn't too long is opened
 pub line_opened : (d next : Desk) (line : List ℕ) (inner : Result (List ℕ) Unsealed) → length line ≤ 8192 → opened d.seal line ≡ inner → next ≡ after_opened d inner
@@ -80,3 +92,23 @@ unfolding after_line
 line_opened d next line inner short is e =
     e ∙ ap (after_opened d) (sym is)
     ∙ sym (ap (λ b. cond b (record d { node = passed_over d.node }) (after_opened d (opened d.seal line))) (within-most (length line) short))
+
+-- ---- a step that asked for a right
+
+pub tried_made : (d next : Desk) (line : List ℕ) (read : Line) (asked : Asked) (step : Line) (node : Node) (says : Said) (tag : Option (List ℕ)) → step ≡ try_of read asked
+    → node ≡ after d.node step → Some says ≡ said_of_line d.node step → tag ≡ tag_in step → next ≡ tried_so (record d { node = node }) line tag says
+    → next ≡ tried d line read asked
+unfolding tried
+tried_made d next line read asked step node says tag is en es et e =
+    e ∙ ap (λ n. tried_so (record d { node = n }) line tag says) en
+    ∙ ap (λ t. tried_so (record d { node = after d.node step }) line t says) et
+    ∙ ap (tried_by (record d { node = after d.node step }) line (tag_in step)) es
+    ∙ ap (λ (x : Line). tried_by (record d { node = after d.node x }) line (tag_in x) (said_of_line d.node x)) is
+
+pub tried_none : (d : Desk) (line : List ℕ) (read : Line) (asked : Asked) (step : Line) (node : Node) → step ≡ try_of read asked
+    → node ≡ after d.node step → None ≡ said_of_line d.node step → record d { node = node } ≡ tried d line read asked
+unfolding tried
+tried_none d line read asked step node is en es =
+    ap (λ n. record d { node = n }) en
+    ∙ ap (tried_by (record d { node = after d.node step }) line (tag_in step)) es
+    ∙ ap (λ (x : Line). tried_by (record d { node = after d.node x }) line (tag_in x) (said_of_line d.node x)) is

@@ -6,18 +6,34 @@ use Rattle.std.specs.List.{position_from}
 use Rattle.std.proofs.lemmas.Bool.Decides.{nat_tests}
 use Rattle.shm_wire.specs.Line as stream
 use Rattle.shm_wire.specs.Line.{read_line}
+use Rattle.shm_wire.specs.declared.caller_ask.Question.{Question}
+use Rattle.shm_wire.specs.declared.caller_ask.Question.TheVariants as question
 use Rattle.shm_process.specs.Cause.{Cause, OfLine, OfRestart}
-use Rattle.shm_process.specs.Node.{Node, Heard, heard, is_late, next_clock, says, stepped}
+use Rattle.shm_process.specs.Node.{Node, Heard, asked_under, heard, input_asked, is_late, next_clock, remapped_by, says, stepped, waits_for}
 use Rattle.shm_process.specs.Waiting.{after_heard, after_read, after_unheard, again_at, can_be_made, heard_again, joining, joins, next_heard, next_line, ready, replayed, replayed_heard, restarting, said_read, said_restart, after_restart, says_at}
 use Rattle.shm_process.specs.WaitingAsks.{WaitingAsk, ask_in}
 use Rattle.shm_process.specs.Recorded.{Event, Line, TooLong, Again, Restarted, Entry, after_event, after_events, entries_of, kept, recorded, replayed_all}
 use Rattle.shm_process.proofs.Tests.{unless-some}
 
 -- what a line is doesn't hang on the asks that wait, nor on what was counted
+kept-mapped : (node : Node) (q : Question) → remapped_by (kept node) q ≡ remapped_by node q
+kept-mapped node (question.Access asked) = refl
+kept-mapped node (question.Try asked) = refl
+kept-mapped node (question.Read at offset count) = refl
+kept-mapped node (question.Begin request) = refl
+kept-mapped node question.Tick = refl
+kept-mapped node (question.Show page) = refl
+kept-mapped node question.Health = refl
+kept-mapped node (question.Map at index kind) = refl
+kept-mapped node question.Mappings = refl
+
 kept-heard : (node : Node) (line : stream.Line) → heard (kept node) line ≡ heard node line
 kept-heard node (stream.Envelope sent) = refl
-kept-heard node (stream.Ask ask) = refl
+kept-heard node (stream.Ask ask) =
+    ap (λ m. cond (ask.site == node.me) (cond (is_late node 0) None (option_map (asked_under ask.tag (waits_for ask.tag ask.asked) m) (input_asked ask.asked))) None)
+    (kept-mapped node ask.asked)
 kept-heard node (stream.Write write) = refl
+kept-heard node (stream.Unmap unmap) = refl
 
 same-is : (n : ℕ) → (n == n) ≡ true
 same-is n = grind (arith, nat_tests)

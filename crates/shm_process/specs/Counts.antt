@@ -37,6 +37,7 @@ abbrev pub is_envelope : stream.Line → Bool
 is_envelope (stream.Envelope sent) = true
 is_envelope (stream.Ask ask) = false
 is_envelope (stream.Write write) = false
+is_envelope (stream.Unmap unmap) = false
 
 -- what made a step came from a site
 abbrev pub was_received : Cause → Bool

@@ -1,10 +1,14 @@
 -- A desk of the code, as the definitions speak of it.
-use Rattle.std.specs.Prelude.{string_bytes}
+use Rattle.std.specs.Prelude.{map, string_bytes}
 use Rattle.shm_process.specs.CountsOf.{counts_of}
 use Rattle.shm_process.specs.Desk as spec
 use Rattle.shm_process.specs.NodeOf.{node_of}
 use Rattle.shm_process.specs.declared.desk.Desk.{Desk}
+use Rattle.shm_process.specs.declared.kept_line.KeptLine.{KeptLine}
 use Rattle.shm_seal.specs.SealOf.{seal_of}
+
+abbrev pub kept_of : {A : Type 0} → KeptLine A → spec.KeptLine
+kept_of kept = record { line = kept.line.items; page = kept.page }
 
 abbrev pub desk_of : {A : Type 0} → Desk A → spec.Desk
 desk_of desk = record {
@@ -14,6 +18,7 @@ desk_of desk = record {
   other = desk.other;
   counts = counts_of desk.counts;
   line = desk.line.items;
+  kept = map kept_of desk.kept.items;
   recorded = desk.recorded.items;
   told = string_bytes desk.told;
 }

@@ -3,6 +3,8 @@ pub mod Cause
 pub mod CauseOf
 pub mod Blocks
 pub mod Writes
+pub mod Mapped
+pub mod Remaps
 pub mod WaitingAsks
 pub mod AskOf
 pub mod Numbers
@@ -10,6 +12,7 @@ pub mod Node
 pub mod NodeOf
 pub mod Lines
 pub mod Waiting
+pub mod Meetings
 pub mod Showing
 pub mod Unopened
 pub mod UnopenedOf

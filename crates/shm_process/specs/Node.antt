@@ -1,7 +1,7 @@
 -- A site as a process. Lines come on one stream, which all sites and callers share; each that is for this site makes one step of it, and
 -- the others are passed over. A step's clock is above those of the steps before it, and above that of the step which sent what it is
 -- handed.
-use Rattle.std.specs.Prelude.{ℕ, ◌+◌, Bool, true, false, ◌||◌, not, List, [], Option, Some, None, ◌==◌, if◌then◌else◌, max, nat_lt, option_map}
+use Rattle.std.specs.Prelude.{ℕ, ◌+◌, Bool, true, false, ◌||◌, not, List, [], Option, Some, None, ◌==◌, if◌then◌else◌, max, nat_lt, option_map, unwrap_or}
 use Rattle.shm_model.specs.declared.answer.Answer.{Answer}
 use Rattle.shm_model.specs.declared.answer.Answer.TheVariants.{Began, Replied}
 use Rattle.shm_model.specs.Basics.{greatest}
@@ -15,13 +15,17 @@ use Rattle.shm_wire.specs.Line as stream
 use Rattle.shm_wire.specs.Sent.{Sent}
 use Rattle.shm_wire.specs.declared.caller_ask.Question.{Question}
 use Rattle.shm_wire.specs.declared.caller_ask.Question.TheVariants as question
+use Rattle.shm_wire.specs.Unmaps.{UnmapAsk}
+use Rattle.shm_wire.specs.declared.mapping_text.Mapping.{Mapping}
 use Rattle.shm_process.specs.Cause.{Cause}
+use Rattle.shm_process.specs.Mapped.{byte_place, page_at}
 use Rattle.shm_process.specs.Numbers.{numbers_fit}
+use Rattle.shm_process.specs.Remaps.{first_load, has_right, is_empty, mapped_if, unmapped_to}
 use Rattle.shm_process.specs.WaitingAsks.{Access, WaitingAsk}
 
 -- how many sites there are, and which one this is; the site as it stands, its clock, and how many steps it made; how many lines made
 -- a step or brought a block that found room, and how many were passed over; the tag of the caller whose segment call is outstanding;
--- and the asks that wait, the oldest first
+-- the asks that wait, the oldest first; and the pages that the site's machine maps
 pub record Node : Type 0 where
   pub sites : ℕ
   pub me : ℕ
@@ -32,6 +36,7 @@ pub record Node : Type 0 where
   pub passed : ℕ
   pub caller : Option (List ℕ)
   pub waiting : List WaitingAsk
+  pub mapped : List Mapping
 
 -- a node at which nothing has happened
 abbrev pub new_node : ℕ → ℕ → ℕ → Node
@@ -45,17 +50,19 @@ new_node sites me pages = record {
   passed = 0;
   caller = None;
   waiting = [];
+  mapped = [];
 }
 
 -- ---- what a line is to a node
 
--- what a line hands to the site: an input, the clock of the step which sent it, or 0, the tag of the caller who asks, and the ask, if it is
--- one that waits
+-- what a line hands to the site: an input, the clock of the step which sent it, or 0, the tag of the caller who asks, the ask, if it is
+-- one that waits, and what is mapped after the step, where that changes
 pub record Heard : Type 0 where
   pub input : Input
   pub source : ℕ
   pub tag : Option (List ℕ)
   pub waits : Option WaitingAsk
+  pub mapped : Option (List Mapping)
 
 -- no stamp is above this clock, or above the sender's
 abbrev pub is_late : Node → ℕ → Bool
@@ -72,13 +79,18 @@ is_ahead node source = nat_lt (node.clock + most_ahead) source
 abbrev pub is_beyond : Node → Sent → Bool
 is_beyond node sent = is_ahead node sent.source.at || not (numbers_fit sent.source.at sent.envelope.message)
 
--- an envelope, unless it can't be for this site
+-- it can't be for this site, or no site that keeps up can have sent it
+abbrev pub is_lost : Node → Sent → Bool
+is_lost node sent = foreign node.sites node.me sent.envelope || (is_late node sent.source.at || is_beyond node sent)
+
+-- an envelope, unless it is lost
 abbrev pub handed : Node → Sent → Option Heard
 handed node sent =
-    if foreign node.sites node.me sent.envelope || (is_late node sent.source.at || is_beyond node sent) then None
-    else Some (record { input = Deliver sent.envelope; source = sent.source.at; tag = None; waits = None })
+    if is_lost node sent then None
+    else Some (record { input = Deliver sent.envelope; source = sent.source.at; tag = None; waits = None; mapped = None })
 
--- what a site is made to do; a page and counts are only shown, and a block is loaded byte by byte
+-- what a site is made to do; a page, counts and mappings are only shown, a block is loaded byte by byte, and a page is mapped with a load of
+-- its first byte
 abbrev pub input_asked : Question → Option Input
 input_asked (question.Access asked) = Some (access_of asked)
 input_asked (question.Try asked) = Some (access_of asked)
@@ -87,6 +99,8 @@ input_asked (question.Begin request) = Some (Begin request)
 input_asked question.Tick = Some Tick
 input_asked (question.Show page) = None
 input_asked question.Health = None
+input_asked (question.Map at index kind) = Some (first_load at index)
+input_asked question.Mappings = None
 
 -- a load and a store wait for their right, unless they are only tried
 abbrev pub waits_for : List ℕ → Question → Option WaitingAsk
@@ -94,13 +108,40 @@ waits_for tag (question.Access asked) = Some (Access tag asked)
 waits_for tag _ = None
 
 abbrev pub under_tag : List ℕ → Option WaitingAsk → Input → Heard
-under_tag tag waits input = record { input = input; source = 0; tag = Some tag; waits = waits }
+under_tag tag waits input = record { input = input; source = 0; tag = Some tag; waits = waits; mapped = None }
+
+-- what is mapped after it, where that changes: a page whose right is there
+abbrev pub remapped_by : Node → Question → Option (List Mapping)
+remapped_by node (question.Map at index kind) = mapped_if (has_right node.sites node.me node.site at index kind) node.mapped node.site at index kind
+remapped_by node (question.Access asked) = None
+remapped_by node (question.Try asked) = None
+remapped_by node (question.Read at offset count) = None
+remapped_by node (question.Begin request) = None
+remapped_by node question.Tick = None
+remapped_by node (question.Show page) = None
+remapped_by node question.Health = None
+remapped_by node question.Mappings = None
+
+abbrev pub asked_under : List ℕ → Option WaitingAsk → Option (List Mapping) → Input → Heard
+asked_under tag waits mapped input = record (under_tag tag waits input) { mapped = mapped }
 
 -- what a caller asks of this site
 abbrev pub asked_here : Node → Ask → Option Heard
 asked_here node ask =
     if (ask.site == node.me)
-    then (if is_late node 0 then None else option_map (under_tag ask.tag (waits_for ask.tag ask.asked)) (input_asked ask.asked))
+    then (if is_late node 0 then None
+    else option_map (asked_under ask.tag (waits_for ask.tag ask.asked) (remapped_by node ask.asked)) (input_asked ask.asked))
+    else None
+
+-- a page is given up with such a load too, once the bytes that are brought were stored
+abbrev pub unmap_input : UnmapAsk → Option Input
+unmap_input ask = if is_empty ask.runs then Some (first_load ask.at ask.index) else None
+
+abbrev pub unmapped_here : Node → UnmapAsk → Option Heard
+unmapped_here node ask =
+    if (ask.site == node.me)
+    then (if is_late node 0 then None
+    else option_map (asked_under ask.tag None (unmapped_to node.mapped ask.keeps (page_at node.site ask.at (byte_place ask.index 0)))) (unmap_input ask))
     else None
 
 -- a block that is to be stored hands over nothing yet
@@ -108,6 +149,7 @@ abbrev pub heard : Node → stream.Line → Option Heard
 heard node (stream.Envelope sent) = handed node sent
 heard node (stream.Ask ask) = asked_here node ask
 heard node (stream.Write write) = None
+heard node (stream.Unmap unmap) = unmapped_here node unmap
 
 -- ---- one step
 
@@ -132,6 +174,7 @@ stepped node heard =
       clock = next_clock node heard.source;
       steps = node.steps + 1;
       caller = caller_after heard.tag node.caller done.answer;
+      mapped = unwrap_or heard.mapped node.mapped;
     }
 
 -- ---- what it says

@@ -27,6 +27,7 @@ node_of node = record {
   passed = node.passed;
   caller = option_map tag_text node.caller;
   waiting = map ask_of node.waiting.items;
+  mapped = node.mapped.items;
 }
 
 -- an access under the tag of its caller
@@ -41,6 +42,7 @@ heard_of heard = record {
   source = heard.source;
   tag = option_map tag_text heard.tag;
   waits = access_under (option_map tag_text heard.tag) heard.waits;
+  mapped = option_map (λ m. m.items) heard.mapped;
 }
 
 -- of a step that this made

@@ -10,6 +10,7 @@ use Rattle.shm_text.specs.Text.{answer_text}
 use Rattle.shm_wire.specs.Answers.{tell_line, block_text}
 use Rattle.shm_wire.specs.Asks.{Ask}
 use Rattle.shm_wire.specs.Line as stream
+use Rattle.shm_wire.specs.MappingTexts.{mappings_text}
 use Rattle.shm_wire.specs.declared.caller_ask.Question.{Question}
 use Rattle.shm_wire.specs.declared.caller_ask.Question.TheVariants as question
 use Rattle.shm_process.specs.Counts.{Counts}
@@ -60,6 +61,10 @@ page_line node tag page = tell_line (record { site = node.me; tag = tag; text = 
 abbrev pub health_line : Node → List ℕ → Health → List ℕ
 health_line node tag health = tell_line (record { site = node.me; tag = tag; text = health_text health })
 
+-- what is told of pages that are mapped
+abbrev pub mappings_line : Node → List ℕ → List ℕ
+mappings_line node tag = tell_line (record { site = node.me; tag = tag; text = mappings_text node.mapped })
+
 -- a block to store that finds no room
 abbrev pub shown_write : Node → WriteAsk → Option (List ℕ)
 shown_write node write = if (write.site == node.me) then crowded_out node write.tag else None
@@ -68,6 +73,7 @@ abbrev pub shown_for : Counts → Node → List ℕ → Question → Option (Lis
 shown_for counts node tag question.Health = Some (health_line node tag (health_of counts node))
 shown_for counts node tag (question.Show page) = Some (page_line node tag page)
 shown_for counts node tag (question.Read at offset count) = crowded_out node tag
+shown_for counts node tag question.Mappings = Some (mappings_line node tag)
 shown_for counts node tag _ = None
 
 abbrev pub shown_here : Counts → Node → Ask → Option (List ℕ)
@@ -78,3 +84,4 @@ abbrev pub shown_line : Counts → Node → stream.Line → Option (List ℕ)
 shown_line counts node (stream.Envelope sent) = None
 shown_line counts node (stream.Ask ask) = shown_here counts node ask
 shown_line counts node (stream.Write write) = shown_write node write
+shown_line counts node (stream.Unmap unmap) = None

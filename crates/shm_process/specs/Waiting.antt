@@ -1,6 +1,6 @@
 -- The asks of a node that wait for their right, and the steps that it makes: of a line, of an ask that waits, at a restart, and again from
 -- the lines that were recorded. What such an ask is, and becomes, stands in WaitingAsks.antt.
-use Rattle.std.specs.Prelude.{ℕ, ◌+◌, ◌*◌, Bool, false, ◌&&◌, not, List, [], ◌∷◌, ◌++◌, Option, Some, None, ◌==◌, if◌then◌else◌, is_some, length, nat_lt, option_map, option_and_then}
+use Rattle.std.specs.Prelude.{ℕ, ◌+◌, ◌*◌, Bool, false, ◌&&◌, ◌||◌, not, List, [], ◌∷◌, ◌++◌, Option, Some, None, ◌==◌, if◌then◌else◌, is_some, length, nat_lt, option_map, option_and_then}
 use Rattle.std.specs.Option.{option_map_or}
 use Rattle.std.specs.List.{position_from}
 use Rattle.shm_place.specs.Limits.{page_bytes}
@@ -15,6 +15,7 @@ use Rattle.shm_wire.specs.declared.caller_ask.Question.TheVariants as question
 use Rattle.shm_wire.specs.Writes.{WriteAsk}
 use Rattle.shm_process.specs.Access.{access_ask, is_open, is_waiting}
 use Rattle.shm_process.specs.Cause.{Cause, OfLine, OfRestart}
+use Rattle.shm_process.specs.Mapped.{passing}
 use Rattle.shm_process.specs.WaitingAsks.{Access, Reads, Writes, WaitingAsk, all_bytes, ask_in, goes_on, next_access, tag_of, waiting_after}
 use Rattle.shm_process.specs.Node.{Node, Heard, Said, answer_to, heard, is_late, next_clock, says, stepped, under_tag}
 
@@ -66,6 +67,7 @@ abbrev pub joining : Node → stream.Line → Option WaitingAsk
 joining node (stream.Envelope sent) = None
 joining node (stream.Ask ask) = if has_room node then block_here node ask else None
 joining node (stream.Write write) = if has_room node then write_here node write else None
+joining node (stream.Unmap unmap) = None
 
 abbrev pub joined : Node → WaitingAsk → Node
 joined node block = record node { taken = counted node.taken; waiting = node.waiting ++ block ∷ [] }
@@ -115,9 +117,13 @@ next_heard ask = access_heard (tag_of ask) (next_access ask)
 abbrev pub next_line : ℕ → WaitingAsk → stream.Line
 next_line me ask = stream.Ask (access_ask me (tag_of ask) (next_access ask))
 
--- it doesn't only wait for what was asked already
+-- its next access would pass by what is mapped
+abbrev pub is_held : Node → WaitingAsk → Bool
+is_held node ask = is_some (passing node.mapped node.site (next_access ask))
+
+-- it doesn't only wait for what was asked already, nor for what is mapped to be given up
 abbrev pub can_be_made : Node → WaitingAsk → Bool
-can_be_made node ask = not (is_waiting (answer_to node (next_heard ask)))
+can_be_made node ask = not (is_held node ask || is_waiting (answer_to node (next_heard ask)))
 
 -- the oldest ask that can be made, while there is a clock for a step
 abbrev pub ready : Node → Option ℕ
@@ -144,7 +150,7 @@ said_again node = option_map (says_at node) (ready node)
 -- ---- a restart
 
 abbrev pub restarting : Heard
-restarting = record { input = Restart; source = 0; tag = None; waits = None }
+restarting = record { input = Restart; source = 0; tag = None; waits = None; mapped = None }
 
 -- callers whose asks waited ask again
 abbrev pub after_restart : Node → Node

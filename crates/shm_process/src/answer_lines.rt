@@ -3,7 +3,7 @@ ghost use Rattle.std.specs.Prelude.{◌≡◌, option_map, string_bytes, IfOk, S
 ghost use Rattle.shm_process.specs.Cause.{OfRestart};
 ghost use Rattle.shm_process.specs.CountsOf.{counts_of};
 ghost use Rattle.shm_process.specs.NodeOf.{node_of, said_of};
-ghost use Rattle.shm_process.specs.Telling.{answer_line_of, crowded_out, health_line, page_line, shown_for, shown_here, shown_line, shown_write};
+ghost use Rattle.shm_process.specs.Telling.{answer_line_of, crowded_out, health_line, mappings_line, page_line, shown_for, shown_here, shown_line, shown_write};
 ghost use Rattle.shm_process.specs.HealthOf.{health_in};
 ghost use Rattle.shm_wire.specs.Asks.{ask_of};
 ghost use Rattle.shm_wire.specs.LineOf.{line_of};
@@ -18,7 +18,7 @@ use shm_model::refusal::FOREIGN;
 use shm_model::{Answer, Shown, State};
 use shm_place::PageId;
 use shm_text::AnswerText;
-use shm_wire::{Ask, BlockText, Line, Question, Tag, WriteAsk};
+use shm_wire::{Ask, BlockText, Line, MappingsText, Question, Tag, WriteAsk};
 use std::alloc::{AllocError, Allocator};
 use std::fmt;
 
@@ -82,7 +82,7 @@ impl<A: Allocator + Copy> Node<A> {
         ensures { IfOk result (λ told. option_map string_bytes told ≡ shown_line (counts_of counts) (node_of self.now) (line_of line.now)) }
     {
         match line {
-            Line::Envelope(_) => Ok(None),
+            Line::Envelope(_) | Line::Unmap(_) => Ok(None),
             Line::Ask(ask) => self.ask_at_once(counts, ask),
             Line::Write(write) => self.write_at_once(write),
         }
@@ -110,6 +110,7 @@ impl<A: Allocator + Copy> Node<A> {
             Question::Show(page) => self.show_page(tag, page),
             Question::Health => self.tell_health(tag, self.health(counts)),
             Question::Read { .. } => self.crowd_out(tag),
+            Question::Mappings => self.tell_mappings(tag),
             _ => Ok(None),
         }
     }
@@ -138,6 +139,15 @@ impl<A: Allocator + Copy> Node<A> {
     {
         let site = self.me.0;
         let line = format!(in self.alloc; "tell {site} {tag} {health}")?;
+        Ok(Some(line))
+    }
+
+    fn tell_mappings(&self, tag: Tag) -> Result<Option<String<A>>, AllocError>
+        ensures { IfOk result (λ told. option_map string_bytes told ≡ Some (mappings_line (node_of self.now) (tag_text tag))) }
+    {
+        let site = self.me.0;
+        let mappings = MappingsText(self.mapped.as_slice());
+        let line = format!(in self.alloc; "tell {site} {tag} {mappings}")?;
         Ok(Some(line))
     }
 

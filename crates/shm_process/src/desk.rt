@@ -1,11 +1,11 @@
 //! Takes bytes, opens the lines that they end, and gathers the entries and the sealed output of those lines.
-ghost use Rattle.std.specs.Prelude.{◌≡◌, ◌<◌, ◌==◌, ◌++◌, ◌∷◌, [], All, codes, false, length, if◌then◌else◌, is_some, string_bytes, IfNone, IfOk, IfSome, Ok, OnOk};
+ghost use Rattle.std.specs.Prelude.{◌≡◌, ◌<◌, ◌==◌, ◌++◌, ◌∷◌, [], All, codes, false, length, if◌then◌else◌, is_some, string_bytes, IfNone, IfOk, IfSome, Ok, OnOk, Some};
 ghost use Rattle.std.specs.Fmt.{decimal};
 ghost use Rattle.shm_model.specs.Basics.{greatest};
 ghost use Rattle.shm_process.specs.Cause.{Cause, OfRestart, cause_text};
 ghost use Rattle.shm_process.specs.Counts.{is_envelope, was_received};
 ghost use Rattle.shm_process.specs.CountsOf.{counts_of};
-ghost use Rattle.shm_process.specs.Desk.{after_line, after_opened, cleared, desk_at, left_sealed, made_again, on_bytes, restarted, settled, step_text, taken, tell, line_text, with_record, with_step};
+ghost use Rattle.shm_process.specs.Desk.{after_line, after_opened, after_read_line, cleared, desk_at, left_sealed, made_again, on_bytes, restarted, settled, step_text, taken, tell, line_text, with_record, with_step};
 ghost use Rattle.shm_process.specs.DeskOf.{desk_of};
 ghost use Rattle.shm_process.specs.NodeOf.{again_of, node_of, said_of};
 ghost use Rattle.shm_process.specs.Telling.{shown_line};
@@ -17,6 +17,7 @@ ghost use Rattle.shm_wire.specs.Line.{IsLine};
 ghost use Rattle.shm_wire.specs.LineOf.{line_of};
 
 use crate::envelope_lines::push_sealed;
+use crate::kept_line::KeptLine;
 use crate::node::Node;
 use crate::node_takes_line::MOST_STEPS;
 use crate::process_counts::{Counts, Start};
@@ -43,6 +44,7 @@ pub struct Desk<A: Allocator + Copy = Global> {
     pub(crate) other: Option<Opening>,
     pub(crate) counts: Counts,
     pub(crate) line: Vec<u8, A>,
+    pub(crate) kept: Vec<KeptLine<A>, A>,
     pub(crate) recorded: Vec<u8, A>,
     pub(crate) told: String<A>,
     pub(crate) alloc: A,
@@ -70,6 +72,7 @@ impl<A: Allocator + Copy> Desk<A> {
                 since: 0,
             }),
             line: Vec::new(alloc),
+            kept: Vec::new(alloc),
             recorded: Vec::new(alloc),
             told: String::new(alloc),
             alloc,
@@ -136,6 +139,7 @@ impl<A: Allocator + Copy> Desk<A> {
         ensures { OnOk result (desk_of self.new ≡ restarted (desk_of self.old)) }
     {
         let said = self.node.restart()?;
+        self.kept.clear();
         self.push_step(b"restart".as_slice(), &said, false)
     }
 
@@ -214,15 +218,23 @@ impl<A: Allocator + Copy> Desk<A> {
         ensures { OnOk result (desk_of self.new ≡ after_opened (desk_of self.old) (Ok line.now)) }
     {
         match parse_line(self.alloc, line)? {
-            Some(read) => {
-                self.take_read(line, read)?;
-                self.settle()
-            }
+            Some(read) => self.take_parsed(line, read),
             None => {
                 self.hear(line)?;
                 self.pass_line()
             }
         }
+    }
+
+    /// Takes what a line is, then what was kept back, and then the asks that wait.
+    fn take_parsed(&mut self, line: &[u8], read: Line<A>) -> Result<(), AllocError>
+        requires is_line { IsLine (line_of read) }
+        requires spelled { line.now ≡ stream.line_text (line_of read) }
+        ensures { OnOk result (desk_of self.new ≡ after_read_line (desk_of self.old) line.now (Some (line_of read))) }
+    {
+        let tick = self.node.ticks(&read);
+        self.meet_read(true, line, read)?;
+        self.finish(tick)
     }
 
     /// Passes over a line that isn't for a site.
@@ -235,7 +247,7 @@ impl<A: Allocator + Copy> Desk<A> {
 
     /// Takes the line, and gathers its output. The entry of a step has the line itself: each has one spelling.
     #[tactic(auto, unfolding(crate::specs::Desk::taken))]
-    fn take_read(&mut self, line: &[u8], read: Line<A>) -> Result<(), AllocError>
+    pub(crate) fn take_read(&mut self, line: &[u8], read: Line<A>) -> Result<(), AllocError>
         requires is_line { IsLine (line_of read) }
         requires spelled { line.now ≡ stream.line_text (line_of read) }
         ensures { OnOk result (desk_of self.new ≡ taken (desk_of self.old) (Some (line_of read))) }
@@ -259,7 +271,7 @@ impl<A: Allocator + Copy> Desk<A> {
     }
 
     /// Makes steps of the waiting asks, as long as one can be made, and at most `MOST_STEPS`.
-    fn settle(&mut self) -> Result<(), AllocError>
+    pub(crate) fn settle(&mut self) -> Result<(), AllocError>
         ensures { OnOk result (desk_of self.new ≡ settled most_steps (desk_of self.old)) }
     {
         'asks: for _round in 0..MOST_STEPS {
@@ -295,7 +307,12 @@ impl<A: Allocator + Copy> Desk<A> {
     }
 
     /// Records the step that this line made, an envelope's or another, counts it, and gathers its output.
-    fn push_step(&mut self, line: &[u8], said: &Said<A>, received: bool) -> Result<(), AllocError>
+    pub(crate) fn push_step(
+        &mut self,
+        line: &[u8],
+        said: &Said<A>,
+        received: bool,
+    ) -> Result<(), AllocError>
         ensures { (cause : Cause) → cause_text cause ≡ line.now → was_received cause ≡ received
             → OnOk result (desk_of self.new ≡ with_step (desk_of self.old) (Some (said_of cause said.now))) }
     {
@@ -316,7 +333,7 @@ fn count_sent<A: Allocator + Copy>(said: &Said<A>) -> usize
 }
 
 /// Checks that a line is an envelope.
-fn is_envelope<A: Allocator + Copy>(line: &Line<A>) -> bool
+pub(crate) fn is_envelope<A: Allocator + Copy>(line: &Line<A>) -> bool
     ensures { result ≡ is_envelope (line_of line.now) }
 {
     matches!(line, Line::Envelope(_))

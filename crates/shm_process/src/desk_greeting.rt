@@ -34,6 +34,7 @@ impl<A: Allocator + Copy> Desk<A> {
             other: None,
             counts: Counts::new(start),
             line: Vec::new(alloc),
+            kept: Vec::new(alloc),
             recorded: Vec::new(alloc),
             told,
             alloc,

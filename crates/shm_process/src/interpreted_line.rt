@@ -1,6 +1,6 @@
 use shm_model::Asked;
 use shm_site::Input;
-use shm_wire::Tag;
+use shm_wire::{Mapping, Tag};
 use std::alloc::{Allocator, Global};
 
 /// The input that a line brings to a site.
@@ -13,4 +13,6 @@ pub(crate) struct Heard<A: Allocator + Copy = Global> {
     pub(crate) tag: Option<Tag>,
     /// The access, if it is one that waits for its right.
     pub(crate) waits: Option<Asked>,
+    /// What is mapped after the step, where that changes.
+    pub(crate) mapped: Option<Vec<Mapping, A>>,
 }

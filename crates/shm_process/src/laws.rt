@@ -27,7 +27,7 @@ pub fn each_entry_has_a_line()
 {}
 
 /// From bytes a desk records exactly the entries of the events that its node had, in order.
-#[tactic(auto, using(crate::proofs::DeskEvents::did_events))]
+#[tactic(auto, using(crate::proofs::Recording::did_events))]
 pub fn a_desk_records_each_step()
     ensures { (desk : Desk) (bytes : List ℕ) → DidEvents desk (on_bytes desk bytes) }
 {}

@@ -3,10 +3,10 @@ ghost use Rattle.std.specs.Prelude.{◌≡◌, ◌≤◌};
 use crate::waiting_ask::WaitingAsk;
 use shm_place::{PAGES, SiteId, Sites};
 use shm_site::Site;
-use shm_wire::Tag;
+use shm_wire::{Mapping, Tag};
 use std::alloc::{AllocError, Allocator, Global};
 
-/// A site as a process: it takes line after line, and holds the site, and the asks that wait: at most 64.
+/// A site as a process: it takes line after line, and holds the site, the asks that wait, at most 64, and the pages that its machine maps.
 #[derive(Drop)]
 pub struct Node<A: Allocator + Copy = Global> {
     pub(crate) site: Site<A>,
@@ -18,6 +18,7 @@ pub struct Node<A: Allocator + Copy = Global> {
     pub(crate) passed: u64,
     pub(crate) caller: Option<Tag>,
     pub(crate) waiting: Vec<WaitingAsk<A>, A>,
+    pub(crate) mapped: Vec<Mapping, A>,
     pub(crate) alloc: A,
     ghost all_sites: { site.sites ≡ sites },
     ghost own_number: { site.me ≡ me },
@@ -49,6 +50,7 @@ impl<A: Allocator + Copy> Node<A> {
             passed: 0,
             caller: None,
             waiting: Vec::new(alloc),
+            mapped: Vec::new(alloc),
             alloc,
         })
     }

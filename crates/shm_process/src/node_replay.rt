@@ -10,6 +10,7 @@ ghost use Rattle.shm_site.specs.Step.{input_of, is_foreign};
 
 use crate::build_step_output::take_tag;
 use crate::interpreted_line::Heard;
+use crate::mapping_list::change_mapped;
 use crate::node::Node;
 use crate::step_cause::Cause;
 use crate::step_output::Said;
@@ -38,7 +39,7 @@ impl<A: Allocator + Copy> Node<A> {
         ensures after { OnOk result (node_of self.new ≡ unwrap_or (replayed (node_of self.old) clock (cause_of cause)) (node_of self.old)) }
         ensures refused { OnErr result (node_of self.new ≡ node_of self.old) }
     {
-        let Some(heard) = self.hear_again(cause) else {
+        let Some(heard) = self.hear_again(cause)? else {
             return Ok(false);
         };
         if self.next_clock(heard.source) != clock {
@@ -49,14 +50,14 @@ impl<A: Allocator + Copy> Node<A> {
     }
 
     /// The input that the cause of a recorded step brought to the site.
-    fn hear_again(&self, cause: Cause<A>) -> Option<Heard<A>>
-        ensures heard { option_map heard_of result ≡ heard_again (node_of self.now) (cause_of cause) }
-        ensures proper { IfSome result (λ h. is_foreign self.now.sites self.now.me (input_of h.input) ≡ false) }
-        ensures early { IfSome result (λ h. max self.now.clock h.source < greatest) }
+    fn hear_again(&self, cause: Cause<A>) -> Result<Option<Heard<A>>, AllocError>
+        ensures heard { IfOk result (λ heard. option_map heard_of heard ≡ heard_again (node_of self.now) (cause_of cause)) }
+        ensures proper { IfOk result (λ heard. IfSome heard (λ h. is_foreign self.now.sites self.now.me (input_of h.input) ≡ false)) }
+        ensures early { IfOk result (λ heard. IfSome heard (λ h. max self.now.clock h.source < greatest)) }
     {
         match cause {
             Cause::Line(line) => self.hear(line),
-            Cause::Restart => self.hear_restart(),
+            Cause::Restart => Ok(self.hear_restart()),
         }
     }
 
@@ -73,6 +74,7 @@ impl<A: Allocator + Copy> Node<A> {
             source: 0,
             tag: None,
             waits: None,
+            mapped: None,
         })
     }
 
@@ -88,12 +90,14 @@ impl<A: Allocator + Copy> Node<A> {
             source,
             tag,
             waits: _,
+            mapped,
         } = heard;
         let clock = self.next_clock(source);
         let Made { answer, sent: _ } = self.site.step_spending(input)?;
         self.clock = clock;
         self.steps += 1;
         take_tag(false, tag, &mut self.caller, &answer);
+        change_mapped(&mut self.mapped, mapped);
         Ok(())
     }
 }

@@ -7,7 +7,7 @@ ghost use Rattle.shm_process.specs.Access.{is_access, is_waiting};
 ghost use Rattle.shm_process.specs.AskOf.{ask_of};
 ghost use Rattle.shm_process.specs.WaitingAsks.{all_bytes, ask_in, goes_on, next_access, tag_of, waiting_after};
 ghost use Rattle.shm_process.specs.NodeOf.{again_of, node_of};
-ghost use Rattle.shm_process.specs.Waiting.{after_again, again_at, can_be_made, said_again, says_at};
+ghost use Rattle.shm_process.specs.Waiting.{after_again, again_at, can_be_made, is_held, said_again, says_at};
 ghost use Rattle.shm_site.specs.Site.{SameSeat, site_of, stepped};
 ghost use Rattle.shm_site.specs.Step.{input_of};
 ghost use Rattle.shm_wire.specs.TagOf.{tag_text};
@@ -43,7 +43,7 @@ impl<A: Allocator + Copy> Node<A> {
     }
 
     /// Makes the next access of the ask at this place, its own or a block's next load, unless it only waits for a right that was asked for
-    /// before.
+    /// before, or would pass by what is mapped.
     fn make_at(&mut self, at: usize) -> Result<Option<Again<A>>, AllocError>
         requires at { at < vec_len self.old.waiting }
         requires early { max self.old.clock 0 < greatest }
@@ -56,6 +56,9 @@ impl<A: Allocator + Copy> Node<A> {
         ensures refused { OnErr result (node_of self.new ≡ node_of self.old) }
     {
         let (tag, asked) = next_at(self.waiting.as_slice(), at);
+        if self.passing(asked).is_some() {
+            return Ok(None);
+        }
         self.try_at(at, tag, asked)
     }
 
@@ -64,6 +67,7 @@ impl<A: Allocator + Copy> Node<A> {
         requires early { max self.old.clock 0 < greatest }
         requires tag { tag_text tag ≡ tag_of (ask_in (node_of self.old).waiting at) }
         requires asked { asked ≡ next_access (ask_in (node_of self.old).waiting at) }
+        requires free { is_held (node_of self.old) (ask_in (node_of self.old).waiting at) ≡ false }
         ensures none { IfOk result (λ again. IfNone again ((can_be_made (node_of self.old) (ask_in (node_of self.old).waiting at) ≡ false)
             × (node_of self.new ≡ node_of self.old))) }
         ensures count { IfOk result (λ again. IfNone again (vec_len self.new.waiting ≡ vec_len self.old.waiting)) }

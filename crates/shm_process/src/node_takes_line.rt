@@ -15,6 +15,7 @@ ghost use Rattle.shm_wire.specs.Line.{IsLine};
 ghost use Rattle.shm_wire.specs.LineOf.{line_of};
 ghost use Rattle.shm_wire.specs.SentOf.{sent_of};
 ghost use Rattle.shm_wire.specs.TagOf.{tag_text};
+ghost use Rattle.shm_wire.specs.UnmapOf.{unmap_in};
 ghost use Rattle.shm_wire.specs.WriteOf.{write_of};
 ghost use Rattle.shm_wire.specs.Writes.{IsWrite};
 
@@ -22,13 +23,14 @@ use crate::block_load::Block;
 use crate::block_store::Write;
 use crate::build_step_output::is_open;
 use crate::interpreted_line::Heard;
+use crate::mapping_list::change_mapped;
 use crate::node::Node;
 use crate::step_output::Said;
 use crate::waiting_ask::WaitingAsk;
 use shm_model::Asked;
 use shm_place::PAGE_BYTES;
 use shm_site::Answer;
-use shm_wire::{Ask, Line, Question, Sent, Tag, WriteAsk};
+use shm_wire::{Ask, Line, Question, Sent, Tag, UnmapAsk, WriteAsk};
 use std::alloc::{AllocError, Allocator};
 
 /// The most asks that wait. A further access is answered at once, as one that is only tried; a further block is answered `waiting`, and
@@ -52,6 +54,7 @@ impl<A: Allocator + Copy> Node<A> {
             Line::Envelope(sent) => self.take_envelope(sent),
             Line::Ask(ask) => self.take_ask(&ask),
             Line::Write(write) => self.take_write(write),
+            Line::Unmap(unmap) => self.take_unmap(&unmap),
         }
     }
 
@@ -80,13 +83,32 @@ impl<A: Allocator + Copy> Node<A> {
         ensures after { OnOk result (node_of self.new ≡ after (node_of self.old) (stream.Ask (asks.ask_of ask.now))) }
         ensures refused { OnErr result (node_of self.new ≡ node_of self.old) }
     {
-        match self.hear_ask(ask) {
+        match self.hear_ask(ask)? {
             Some(heard) => {
                 let said = self.make(heard)?;
                 Ok(Some(said))
             }
             None => {
                 self.take_unheard(ask)?;
+                Ok(None)
+            }
+        }
+    }
+
+    /// Takes an unmap that brings no bytes any more; others are passed over.
+    fn take_unmap(&mut self, unmap: &UnmapAsk<A>) -> Result<Option<Said<A>>, AllocError>
+        ensures said { IfOk result (λ said_now. option_map (said_of (OfLine (stream.Unmap (unmap_in unmap.now)))) said_now
+            ≡ said (node_of self.old) (stream.Unmap (unmap_in unmap.now))) }
+        ensures after { OnOk result (node_of self.new ≡ after (node_of self.old) (stream.Unmap (unmap_in unmap.now))) }
+        ensures refused { OnErr result (node_of self.new ≡ node_of self.old) }
+    {
+        match self.hear_unmap(unmap)? {
+            Some(heard) => {
+                let said = self.make(heard)?;
+                Ok(Some(said))
+            }
+            None => {
+                self.pass_over();
                 Ok(None)
             }
         }
@@ -170,6 +192,7 @@ impl<A: Allocator + Copy> Node<A> {
             source,
             tag,
             waits,
+            mapped,
         } = heard;
         let room = self.has_room();
         self.waiting.reserve(1)?;
@@ -177,6 +200,7 @@ impl<A: Allocator + Copy> Node<A> {
         let made = self.site.step_spending(input)?;
         self.taken = one_more(self.taken);
         let (tag, stays) = join(&mut self.waiting, room, waits, tag, &made.answer);
+        change_mapped(&mut self.mapped, mapped);
         Ok(self.say(clock, tag, stays, made, None))
     }
 

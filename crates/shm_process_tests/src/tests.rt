@@ -1,13 +1,9 @@
 mod block_loads;
 mod block_stores;
-mod desk_counts;
 mod exchanges;
 mod fill_heap;
-mod hellos;
-mod impossible_envelopes;
-mod seal_digests;
+mod mappings;
 mod two_nodes;
-mod wire;
 
 use shm_model::Answer;
 use shm_place::{SiteId, Sites};

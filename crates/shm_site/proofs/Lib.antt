@@ -1,3 +1,4 @@
+pub mod AtOnce
 pub mod CallSteps
 pub mod Orders
 pub mod Seats

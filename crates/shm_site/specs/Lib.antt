@@ -1,3 +1,4 @@
+pub mod AtOnce
 pub mod Showing
 pub mod Site
 pub mod Step

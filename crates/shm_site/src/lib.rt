@@ -9,6 +9,7 @@ mod deliver_envelope;
 mod first_site;
 mod foreign_envelopes;
 mod home_of_segment_call;
+mod inspect_access;
 mod inspect_page;
 mod inspect_pending_requests;
 mod loads_and_stores;

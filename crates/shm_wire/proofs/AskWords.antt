@@ -9,11 +9,12 @@ use Rattle.shm_lines.proofs.ReadLemmas.{onto, onto2}
 use Rattle.shm_lines.proofs.StepLemmas.{step, some-is}
 use Rattle.shm_lines.specs.Calls.{request_of}
 use Rattle.shm_wire.proofs.MessageWords.{took_page}
+use Rattle.shm_wire.proofs.NameWords.{kind}
 use Rattle.shm_wire.proofs.Reading.{took, ended-is, cond-of, Reads, Sound, SoundReader, by_verb-is}
-use Rattle.shm_wire.specs.Asks.{IsAsked, asked_by, asked_words, begun_of, is_block, load_of, own, read_of, show_of, store_of, try_load_of, try_store_of}
+use Rattle.shm_wire.specs.Asks.{IsAsked, asked_by, asked_words, begun_of, is_block, load_of, map_of, own, read_of, show_of, store_of, try_load_of, try_store_of}
 use Rattle.shm_wire.specs.Words.{ended}
 use Rattle.shm_wire.specs.declared.caller_ask.Question.{Question}
-use Rattle.shm_wire.specs.declared.caller_ask.Question.TheVariants.{Access, Try, Read, Begin, Tick, Show, Health}
+use Rattle.shm_wire.specs.declared.caller_ask.Question.TheVariants.{Access, Try, Read, Begin, Tick, Show, Health, Map, Mappings}
 
 -- ---- what is read is spelled so
 
@@ -76,6 +77,19 @@ module _ (words : List (List ℕ)) (asked : Question) where
       let e = ended-is Health asked words h in
       subst (ReadsAsked (codes "health" ∷ words)) e.1 (tt, ap (λ l. codes "health" ∷ l) e.0)
 
+  map-is : map_of words ≡ Some asked → ReadsAsked (codes "map" ∷ words) asked
+  map-is h =
+      let a = took number words _ asked h in
+      let i = took number a.others _ asked a.gives in
+      let k = took kind i.others _ asked i.gives in
+      let e = ended-is (Map a.value i.value k.value) asked k.others k.gives in
+      subst (ReadsAsked (codes "map" ∷ words)) e.1 ((a.is, i.is), ap (λ l. codes "map" ∷ l) (onto a.are (onto i.are (onto k.are e.0))))
+
+  mappings-is : ended Mappings words ≡ Some asked → ReadsAsked (codes "mappings" ∷ words) asked
+  mappings-is h =
+      let e = ended-is Mappings asked words h in
+      subst (ReadsAsked (codes "mappings" ∷ words)) e.1 (tt, ap (λ l. codes "mappings" ∷ l) e.0)
+
 begun-is : SoundReader IsAsked asked_words begun_of
 begun-is word words asked h =
     let s = step (request_of word words) _ asked h in
@@ -83,7 +97,7 @@ begun-is word words asked h =
     subst (ReadsAsked (word ∷ words)) (some-is (Begin s.value) asked s.gives) r
 
 sound : Sound IsAsked asked_words own
-sound = (load-is, (store-is, (try_load-is, (try_store-is, (read-is, (tick-is, (show-is, (health-is, tt))))))))
+sound = (load-is, (store-is, (try_load-is, (try_store-is, (read-is, (tick-is, (show-is, (health-is, (map-is, (mappings-is, tt))))))))))
 
 -- what is asked under a verb
 pub asked-is : SoundReader IsAsked asked_words asked_by

@@ -9,5 +9,7 @@ pub mod SentWords
 pub mod TagWords
 pub mod AskWords
 pub mod SpelledAsks
+pub mod UnmapWords
+pub mod UnmapTexts
 pub mod AnswerWords
 pub mod LineWords

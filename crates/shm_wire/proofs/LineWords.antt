@@ -17,13 +17,15 @@ use Rattle.shm_wire.proofs.Reading.{Reads, Sound, SoundWords, by_verb-is, cond-o
 use Rattle.shm_wire.proofs.SentWords.{sent-is, sent-spelled, sent_words}
 use Rattle.shm_wire.proofs.SpelledAsks.{asked-spelled, behind}
 use Rattle.shm_wire.proofs.TagWords.{tag}
+use Rattle.shm_wire.proofs.UnmapWords.{mapping-spelled, sync-is, unmap-is}
 use Rattle.shm_wire.specs.Answers.{TellLine, tell_line_after, tell_line_of_words, read_tell_line}
 use Rattle.shm_wire.specs.Asks as asks
 use Rattle.shm_wire.specs.Asks.{ask_under, asked_by, asked_words, is_block}
 use Rattle.shm_wire.specs.BytesWord.{bytes_word}
-use Rattle.shm_wire.specs.Line.{Line, Envelope, Ask, Write, IsLine, asked_of, line_of_words, line_text, line_words, lines, read_line}
+use Rattle.shm_wire.specs.Line.{Line, Envelope, Ask, Write, Unmap, IsLine, asked_of, line_of_words, line_text, line_words, lines, read_line}
 use Rattle.shm_wire.specs.Sent.{sent_of}
 use Rattle.shm_wire.specs.Tag.{IsTag}
+use Rattle.shm_wire.specs.Unmaps.{mapping_words, run_words, sync_of, unmap_of}
 use Rattle.shm_wire.specs.Words.{by_verb, ended, nothing}
 use Rattle.shm_wire.specs.Writes.{WriteAsk, stores_of}
 
@@ -62,6 +64,16 @@ module _ (site : ℕ) (name : List ℕ) (is_site : IsNumber site) (is_name : IsT
       subst (Behind (codes "write" ∷ words)) (ap Write e.1 ∙ m.gives)
       ((is_site, is_name, a.is, o.is, c.0, b.is), under (ap (λ l. codes "write" ∷ l) (onto a.are (onto o.are (onto b.are e.0)))))
 
+  given-is : (words : List (List ℕ)) (line : Line) → option_map Unmap (unmap_of site name words) ≡ Some line → Behind (codes "unmap" ∷ words) line
+  given-is words line h =
+      let m = mapped Unmap (unmap_of site name words) line h in
+      subst (Behind (codes "unmap" ∷ words)) m.gives (unmap-is site name is_site is_name words m.value m.gave)
+
+  brought-is : (words : List (List ℕ)) (line : Line) → option_map Unmap (sync_of site name words) ≡ Some line → Behind (codes "sync" ∷ words) line
+  brought-is words line h =
+      let m = mapped Unmap (sync_of site name words) line h in
+      subst (Behind (codes "sync" ∷ words)) m.gives (sync-is site name is_site is_name words m.value m.gave)
+
   other-is : (verb : List ℕ) (words : List (List ℕ)) (line : Line) → option_map Ask (ask_under site name verb words) ≡ Some line → Behind (verb ∷ words) line
   other-is verb words line h =
       let m = mapped Ask (ask_under site name verb words) line h in
@@ -70,14 +82,25 @@ module _ (site : ℕ) (name : List ℕ) (is_site : IsNumber site) (is_name : IsT
       let made : asks.Ask = record { site = site; tag = name; asked = s.value } in
       subst (Behind (verb ∷ words)) (ap Ask (some-is made m.value s.gives) ∙ m.gives) ((is_site, is_name, r.0), under r.1)
 
-  verb-cases : (b : Bool) (verb : List ℕ) (words : List (List ℕ)) (line : Line) → bytes_eq verb (codes "write") ≡ b
-      → cond b (option_map Write (stores_of site name words)) (option_map Ask (ask_under site name verb words)) ≡ Some line → Behind (verb ∷ words) line
-  verb-cases true verb words line e h = subst (λ v. Behind (v ∷ words) line) (sym ((bytes_eq-Decides verb (codes "write")).0 e)) (write-is words line h)
-  verb-cases false verb words line e h = other-is verb words line h
+  -- a word that isn't one of these verbs is looked for among the others
+  verb-cases : (b : Bool) (name : List ℕ) (mine rest : Option Line) (verb : List ℕ) (words : List (List ℕ)) (line : Line) → bytes_eq verb name ≡ b
+      → (mine ≡ Some line → Behind (name ∷ words) line) → (rest ≡ Some line → Behind (verb ∷ words) line) → cond b mine rest ≡ Some line
+      → Behind (verb ∷ words) line
+  verb-cases true name mine rest verb words line e is others h = subst (λ v. Behind (v ∷ words) line) (sym ((bytes_eq-Decides verb name).0 e)) (is h)
+  verb-cases false name mine rest verb words line e is others h = others h
 
   behind-is : (words : List (List ℕ)) (line : Line) → behind site name words ≡ Some line → Behind words line
   behind-is [] line h = absurd (cc)
-  behind-is (verb ∷ words) line h = verb-cases (bytes_eq verb (codes "write")) verb words line refl h
+  behind-is (verb ∷ words) line h =
+      let others : Option Line = option_map Ask (ask_under site name verb words) in
+      let syncs : Option Line = option_map Unmap (sync_of site name words) in
+      let unmaps : Option Line = option_map Unmap (unmap_of site name words) in
+      let writes : Option Line = option_map Write (stores_of site name words) in
+      let after_sync : Option Line = cond (bytes_eq verb (codes "sync")) syncs others in
+      let after_unmap : Option Line = cond (bytes_eq verb (codes "unmap")) unmaps after_sync in
+      verb-cases (bytes_eq verb (codes "write")) (codes "write") writes after_unmap verb words line refl (write-is words line)
+      (verb-cases (bytes_eq verb (codes "unmap")) (codes "unmap") unmaps after_sync verb words line refl (given-is words line)
+      (verb-cases (bytes_eq verb (codes "sync")) (codes "sync") syncs others verb words line refl (brought-is words line) (other-is verb words line))) h
 
 asked-are : SoundWords IsLine line_words (codes "ask") asked_of
 asked-are words line h =
@@ -134,6 +157,12 @@ line-is_read (Write w) h =
       prints base64 w.bytes [] h.5,
       h.4,
     ) refl
+line-is_read (Unmap u) h =
+    let given = mapping_words u.at u.index u.keeps (run_words u.runs) in
+    let s = mapping-spelled u.site u.tag u.at u.index u.keeps u.runs h.2 h.3 h.4 in
+    let words = decimal u.site ∷ u.tag ∷ given in
+    ap line_of_words (words_of-join (codes "ask") words (NoBlank-test (codes "ask") refl) (number.unparted u.site h.0, (tag.unparted u.tag h.1, s.unparted)))
+    ∙ rw (prints number u.site (u.tag ∷ given) h.0, prints tag u.tag given h.1, s.back) refl
 
 -- ---- apart from answers
 
@@ -141,6 +170,7 @@ pub line-alone : (bytes : List ℕ) (line : Line) → read_line bytes ≡ Some l
 line-alone bytes (Envelope e) h = ap tell_line_of_words (words-are (words_of bytes) (Envelope e) h).1
 line-alone bytes (Ask ask) h = ap tell_line_of_words (words-are (words_of bytes) (Ask ask) h).1
 line-alone bytes (Write w) h = ap tell_line_of_words (words-are (words_of bytes) (Write w) h).1
+line-alone bytes (Unmap u) h = ap tell_line_of_words (words-are (words_of bytes) (Unmap u) h).1
 
 pub answer-alone : (bytes : List ℕ) (answer : TellLine) → read_tell_line bytes ≡ Some answer → read_line bytes ≡ None
 answer-alone bytes answer h = ap line_of_words (took_verb (codes "tell") tell_line_after (words_of bytes) answer h).are

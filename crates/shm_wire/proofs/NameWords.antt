@@ -12,11 +12,11 @@ use Rattle.shm_lines.proofs.StepLemmas.{some-is, NoBlank, NoBlank-test}
 use Rattle.shm_wire.specs.Words.{Names, by_name, kinds, kind_of, kind_word, standings, standing_of, standing_word, errnos, errno_of, errno_word}
 
 -- each name of the table is that of what it stands for
-abbrev Tells : {A : Type 0} → (A → List ℕ) → Names A → Type 0
+abbrev pub Tells : {A : Type 0} → (A → List ℕ) → Names A → Type 0
 Tells name [] = ⊤
 Tells name ((word, x) ∷ rest) = (word ≡ name x) × Tells name rest
 
-named-is : {A : Type 0} (name : A → List ℕ) (table : Names A) → Tells name table → (word : List ℕ) (x : A) → by_name table word ≡ Some x → word ≡ name x
+pub named-is : {A : Type 0} (name : A → List ℕ) (table : Names A) → Tells name table → (word : List ℕ) (x : A) → by_name table word ≡ Some x → word ≡ name x
 named-is name [] tells word x h = absurd (cc)
 named-is name ((first, y) ∷ rest) tells word x h = go (bytes_eq word first) refl (named-is name rest tells.1 word x) h
   where

@@ -12,12 +12,14 @@ use Rattle.shm_lines.proofs.OneWord.{byte}
 use Rattle.shm_lines.proofs.StepLemmas.{NoBlank-test}
 use Rattle.shm_lines.specs.Calls.{IsRequest, request_words}
 use Rattle.shm_lines.specs.Words.{◌>>=◌, next_word}
+use Rattle.shm_wire.proofs.NameWords.{kind}
 use Rattle.shm_wire.proofs.Reading.{prints, Spelled}
 use Rattle.shm_wire.proofs.SpelledMessages.{prints_page}
 use Rattle.shm_wire.specs.Asks.{IsAsked, asked_words}
 use Rattle.shm_wire.specs.Line.{Line, Ask, asked_under}
+use Rattle.shm_wire.specs.Words.{kind_word}
 use Rattle.shm_wire.specs.declared.caller_ask.Question.{Question}
-use Rattle.shm_wire.specs.declared.caller_ask.Question.TheVariants.{Access, Try, Read, Begin, Tick, Show, Health}
+use Rattle.shm_wire.specs.declared.caller_ask.Question.TheVariants.{Access, Try, Read, Begin, Tick, Show, Health, Map, Mappings}
 
 -- the words behind a site and a tag
 abbrev pub behind : ℕ → List ℕ → List (List ℕ) → Option Line
@@ -69,3 +71,8 @@ asked-spelled site tag (Show page) h = record {
   unparted = (NoBlank-test (codes "show") refl, (number.unparted page.seg h.0, (number.unparted page.index h.1, tt)));
   back = rw (prints_page page [] h) refl;
 }
+asked-spelled site tag (Map at index k) h = record {
+  unparted = (NoBlank-test (codes "map") refl, (number.unparted at h.0, (number.unparted index h.1, (kind.unparted k tt, tt))));
+  back = rw (prints number at (decimal index ∷ kind_word k ∷ []) h.0, prints number index (kind_word k ∷ []) h.1, prints kind k [] tt) refl;
+}
+asked-spelled site tag Mappings h = record { unparted = (NoBlank-test (codes "mappings") refl, tt); back = refl }

@@ -1,6 +1,6 @@
 -- What a caller asks of a site, under a tag of its own: `ask SITE TAG`, and what a script's line says, less the site; or, in words that no
--- script has, an access that is tried once (`try-load`, `try-store`), a block that is read, or the site's counts (`health`). What it asks to
--- be stored at once stands in Writes.antt.
+-- script has, an access that is tried once (`try-load`, `try-store`), a block that is read, the site's counts (`health`), or a page that is
+-- mapped (`map`, `mappings`). What it asks to be stored at once stands in Writes.antt, and mappings that it gives up in Unmaps.antt.
 use Rattle.std.specs.Prelude.{⊤, ◌≡◌, ℕ, ◌+◌, ◌^◌, ◌<◌, ◌&&◌, Bool, true, if◌then◌else◌, List, [], ◌∷◌, codes, nat_lt, Option, None, Some}
 use Rattle.std.specs.Fmt.{decimal}
 use Rattle.std.specs.List.{join_with_byte}
@@ -14,10 +14,10 @@ use Rattle.shm_lines.specs.Spelling.{IsNumber}
 use Rattle.shm_wire.specs.Messages.{IsPageId, next_page}
 use Rattle.shm_wire.specs.Tag.{IsTag}
 use Rattle.shm_wire.specs.TagOf.{tag_text}
-use Rattle.shm_wire.specs.Words.{Verbs, by_verb, ended}
+use Rattle.shm_wire.specs.Words.{Verbs, by_verb, ended, kind_of, kind_word}
 use Rattle.shm_wire.specs.declared.caller_ask.Ask.{Ask as CodeAsk}
 use Rattle.shm_wire.specs.declared.caller_ask.Question.{Question}
-use Rattle.shm_wire.specs.declared.caller_ask.Question.TheVariants.{Access, Try, Read, Begin, Tick, Show, Health}
+use Rattle.shm_wire.specs.declared.caller_ask.Question.TheVariants.{Access, Try, Read, Begin, Tick, Show, Health, Map, Mappings}
 
 -- ---- what is asked
 
@@ -38,6 +38,8 @@ IsAsked (Begin request) = IsRequest request
 IsAsked Tick = ⊤
 IsAsked (Show page) = IsPageId page
 IsAsked Health = ⊤
+IsAsked (Map at index kind) = IsNumber at × IsNumber index
+IsAsked Mappings = ⊤
 
 -- a script's words without the site, which is their second
 abbrev pub less_site : List (List ℕ) → List (List ℕ)
@@ -54,6 +56,8 @@ asked_words (Begin request) = request_words request
 asked_words Tick = less_site (script.event_words (event.Tick 0))
 asked_words (Show page) = codes "show" ∷ decimal page.seg ∷ decimal page.index ∷ []
 asked_words Health = codes "health" ∷ []
+asked_words (Map at index kind) = codes "map" ∷ decimal at ∷ decimal index ∷ kind_word kind ∷ []
+asked_words Mappings = codes "mappings" ∷ []
 
 -- `load attachment offset`
 abbrev pub load_of : List (List ℕ) → Option Question
@@ -99,6 +103,14 @@ show_of words = do
   (page, words) ← next_page words
   ended (Show page) words
 
+-- `map attachment page read` or `write`
+abbrev pub map_of : List (List ℕ) → Option Question
+map_of words = do
+  (at, words) ← next_number words
+  (index, words) ← next_number words
+  (kind, words) ← next_of kind_of words
+  ended (Map at index kind) words
+
 -- segment calls
 abbrev pub begun_of : List ℕ → List (List ℕ) → Option Question
 begun_of verb words = do
@@ -108,7 +120,8 @@ begun_of verb words = do
 abbrev pub own : Verbs Question
 own =
     (codes "load", load_of) ∷ (codes "store", store_of) ∷ (codes "try-load", try_load_of) ∷ (codes "try-store", try_store_of)
-    ∷ (codes "read", read_of) ∷ (codes "tick", ended Tick) ∷ (codes "show", show_of) ∷ (codes "health", ended Health) ∷ []
+    ∷ (codes "read", read_of) ∷ (codes "tick", ended Tick) ∷ (codes "show", show_of) ∷ (codes "health", ended Health)
+    ∷ (codes "map", map_of) ∷ (codes "mappings", ended Mappings) ∷ []
 
 abbrev pub asked_by : List ℕ → List (List ℕ) → Option Question
 asked_by = by_verb own begun_of

@@ -10,6 +10,9 @@ pub mod SentOf
 pub mod Asks
 pub mod Writes
 pub mod WriteOf
+pub mod Unmaps
+pub mod UnmapOf
 pub mod Line
 pub mod LineOf
 pub mod Answers
+pub mod MappingTexts

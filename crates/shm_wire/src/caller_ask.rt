@@ -1,11 +1,13 @@
 //! A caller's ask of a site, under a tag of its own.
 use crate::caller_tag::Tag;
+use crate::display_envelope::KindWord;
 use shm_lines::RequestWords;
-use shm_model::{Asked, Request};
+use shm_model::{Asked, Kind, Request};
 use shm_place::{PageId, SiteId};
 use std::fmt;
 
-/// A caller's question to a site: each event that a site can be made to have, a block of loads, the state of a page, and the site's counts.
+/// A caller's question to a site: each event that a site can be made to have, a block of loads, a mapping, the state of a page or of what
+/// is mapped, and the site's counts.
 #[derive(Clone, Copy, Debug, PartialEq, Eq)]
 pub enum Question {
     /// It waits for its right.
@@ -20,6 +22,10 @@ pub enum Question {
     Show(PageId),
     /// How much the site did, what waits, and what it passed over.
     Health,
+    /// The page with this index in the attachment's segment is to be mapped into the memory of the site's machine. It waits for its right.
+    Map { at: u32, index: u32, kind: Kind },
+    /// What is mapped.
+    Mappings,
 }
 
 /// A caller's ask of a site.
@@ -67,6 +73,8 @@ impl fmt::Display for Question {
             Question::Tick => write!(f, "tick"),
             Question::Show(page) => write!(f, "show {} {}", page.seg.0, page.index),
             Question::Health => write!(f, "health"),
+            Question::Map { at, index, kind } => write!(f, "map {at} {index} {}", KindWord(*kind)),
+            Question::Mappings => write!(f, "mappings"),
         }
     }
 }

@@ -128,7 +128,7 @@ impl<'a, A: Allocator + Copy> fmt::Display for ToldNote<'a, A> {
 
 /// The word for a transaction's kind.
 #[derive(Clone, Copy)]
-struct KindWord(Kind);
+pub struct KindWord(pub Kind);
 
 impl fmt::Display for KindWord {
     ghost use Rattle.std.specs.Prelude.{Some};

@@ -3,11 +3,12 @@ ghost use Rattle.std.specs.Prelude.{◌≡◌, option_map};
 ghost use Rattle.shm_wire.specs.Words.{ended};
 ghost use Rattle.shm_wire.specs.Asks as said;
 ghost use Rattle.shm_wire.specs.TagOf.{tag_text};
-ghost use Rattle.shm_wire.specs.Asks.{ask_of, asked_by, begun_of, load_of, read_of, show_of, store_of, try_load_of, try_store_of};
+ghost use Rattle.shm_wire.specs.Asks.{ask_of, asked_by, begun_of, load_of, map_of, read_of, show_of, store_of, try_load_of, try_store_of};
 
 use crate::caller_ask::{Ask, Question};
 use crate::caller_tag::Tag;
 use crate::parse_message::page_id;
+use crate::parse_wire_words::kind;
 use shm_lines::{Words, parse_request};
 use shm_model::Asked;
 use shm_place::{PAGE_BYTES, SiteId};
@@ -46,6 +47,12 @@ fn question(verb: &[u8], words: Words<'_>) -> Option<Question>
     }
     if verb == b"health".as_slice() {
         return health(words);
+    }
+    if verb == b"map".as_slice() {
+        return map(words);
+    }
+    if verb == b"mappings".as_slice() {
+        return mappings(words);
     }
     begin_of_words(verb, words)
 }
@@ -141,6 +148,27 @@ fn health(words: Words<'_>) -> Option<Question>
         return None;
     }
     Some(Question::Health)
+}
+
+fn map(words: Words<'_>) -> Option<Question>
+    ensures { result ≡ map_of words.entry }
+{
+    let (at, words) = words.number()?;
+    let (index, words) = words.number()?;
+    let (kind, words) = kind(words)?;
+    if !words.is_empty() {
+        return None;
+    }
+    Some(Question::Map { at, index, kind })
+}
+
+fn mappings(words: Words<'_>) -> Option<Question>
+    ensures { result ≡ ended Question.Mappings words.entry }
+{
+    if !words.is_empty() {
+        return None;
+    }
+    Some(Question::Mappings)
 }
 
 fn begin_of_words(verb: &[u8], words: Words<'_>) -> Option<Question>

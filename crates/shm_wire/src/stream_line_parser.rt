@@ -10,6 +10,7 @@ ghost use Rattle.shm_wire.specs.LineOf.{line_of};
 ghost use Rattle.shm_wire.specs.SentOf.{sent_of, source_of};
 ghost use Rattle.shm_wire.specs.TagOf.{tag_text};
 ghost use Rattle.shm_wire.specs.Writes.{stores_of};
+ghost use Rattle.shm_wire.specs.Unmaps.{sync_of, unmap_of};
 ghost use Rattle.shm_wire.specs.Messages.{message_of};
 
 use crate::caller_tag::Tag;
@@ -17,6 +18,7 @@ use crate::parse_ask::ask;
 use crate::parse_block_write::stores;
 use crate::parse_message::plain;
 use crate::parse_page::page;
+use crate::parse_unmap::{sync, unmap};
 use crate::parse_wire_words::wide;
 use crate::sent_envelope::{Sent, Source};
 use crate::stream_line::Line;
@@ -26,7 +28,7 @@ use shm_place::SiteId;
 use std::alloc::{AllocError, Allocator};
 
 /// Reads a line without its line feed: an envelope or an ask; `None` where it is neither. Only a page's bytes, and those that are to be
-/// stored, take memory.
+/// stored or brought, take memory.
 pub fn parse_line<A: Allocator + Copy>(alloc: A, line: &[u8]) -> Result<Option<Line<A>>, AllocError>
     ensures read { IfOk result (λ read. option_map line_of read ≡ read_line line.now) }
     ensures spelled { IfOk result (λ read. IfSome read (λ is. IsLine (line_of is) × (line.now ≡ line_text (line_of is)))) }
@@ -68,6 +70,12 @@ fn asked<A: Allocator + Copy>(alloc: A, words: Words<'_>) -> Result<Option<Line<
     if verb == b"write".as_slice() {
         return write_of_words(alloc, site, tag, words);
     }
+    if verb == b"unmap".as_slice() {
+        return unmap_of_words(alloc, site, tag, words);
+    }
+    if verb == b"sync".as_slice() {
+        return sync_of_words(alloc, site, tag, words);
+    }
     Ok(ask_of_words(site, tag, verb, words))
 }
 
@@ -81,6 +89,34 @@ fn write_of_words<A: Allocator + Copy>(
 {
     match stores(alloc, site, tag, words)? {
         Some(write) => Ok(Some(Line::Write(write))),
+        None => Ok(None),
+    }
+}
+
+fn unmap_of_words<A: Allocator + Copy>(
+    alloc: A,
+    site: SiteId,
+    tag: Tag,
+    words: Words<'_>,
+) -> Result<Option<Line<A>>, AllocError>
+    ensures { IfOk result (λ read. option_map line_of read ≡ option_map stream.Unmap (unmap_of site (tag_text tag) words.entry)) }
+{
+    match unmap(alloc, site, tag, words)? {
+        Some(unmap) => Ok(Some(Line::Unmap(unmap))),
+        None => Ok(None),
+    }
+}
+
+fn sync_of_words<A: Allocator + Copy>(
+    alloc: A,
+    site: SiteId,
+    tag: Tag,
+    words: Words<'_>,
+) -> Result<Option<Line<A>>, AllocError>
+    ensures { IfOk result (λ read. option_map line_of read ≡ option_map stream.Unmap (sync_of site (tag_text tag) words.entry)) }
+{
+    match sync(alloc, site, tag, words)? {
+        Some(sync) => Ok(Some(Line::Unmap(sync))),
         None => Ok(None),
     }
 }

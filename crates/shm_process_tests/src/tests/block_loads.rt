@@ -1,7 +1,7 @@
 //! Blocks: many loads that one caller asks for at once, and is told of once.
 use crate::tests::exchanges::{Exchange, Records, counts, first_astray, new_desks, page_line};
 use crate::tests::fill_heap::{Filling, TRIES, fill_heap};
-use crate::tests::{new_node, said_again, take_line, tells};
+use crate::tests::{new_node, new_nodes, said_again, take_line, tells};
 use linked_list_allocator::LocalHeap;
 use shm_model::Answer;
 use shm_process::{Counts, Node, Unopened};
@@ -127,12 +127,20 @@ fn over_two_pages<'a>(first: &'a str, second: &'a str) -> [Exchange<'a>; 7] {
 #[test]
 fn a_block_that_is_refused_is_told_so_once(rt: HostRuntime) -> Result<(), Fail> {
     let alloc = rt.alloc();
-    let mut node = new_node(alloc, 1, 0)?;
-    assert!(rt; take_line(alloc, &mut node, b"ask 0 b read 1 0 4")?.is_none());
-    let said = said_again(node.again()?);
-    assert!(rt; tells(&said, "b", Answer::Refused(9)));
-    assert_eq!(rt; (node.steps(), node.asks_waiting()), (1, 0));
+    let mut nodes = new_nodes(alloc, 1)?;
+    let Some(node) = nodes.first_mut() else {
+        return Err(Fail::new("no node"));
+    };
+    assert!(rt; is_refused_once(alloc, node)?);
     Ok(())
+}
+
+/// Whether its caller is told so, of one step.
+fn is_refused_once(alloc: Global, node: &mut Node) -> Result<bool, AllocError> {
+    let joins = take_line(alloc, node, b"ask 0 b read 1 0 4")?.is_none();
+    let said = said_again(node.again()?);
+    let is_told = tells(&said, "b", Answer::Refused(9));
+    Ok(joins && is_told && node.steps() == 1 && node.asks_waiting() == 0)
 }
 
 /// 64 loads wait for one page.
@@ -150,17 +158,24 @@ fn is_line(told: &Option<String>, line: &str) -> bool {
     }
 }
 
+/// Whether such an ask is told that it finds no room, and passed over.
+fn finds_no_room(alloc: Global, node: &mut Node) -> Result<bool, AllocError> {
+    let Some(line) = parse_line(alloc, b"ask 1 b read 0 2 1")? else {
+        return Ok(false);
+    };
+    let is_told = is_line(&node.line_at_once(NOTHING, &line)?, "tell 1 b waiting");
+    Ok(is_told && node.take(line)?.is_none())
+}
+
 #[test]
 fn a_block_that_finds_no_room_is_told_so_and_passed_over(rt: HostRuntime) -> Result<(), Fail> {
     let alloc = rt.alloc();
-    let mut node = new_node(alloc, 2, 1)?;
-    crowd(alloc, &mut node)?;
-    let Some(line) = parse_line(alloc, b"ask 1 b read 0 2 1")? else {
-        return Err(Fail::new("an ask's line"));
+    let mut nodes = new_nodes(alloc, 2)?;
+    let Some(node) = nodes.last_mut() else {
+        return Err(Fail::new("no node"));
     };
-    let told = node.line_at_once(NOTHING, &line)?;
-    assert!(rt; is_line(&told, "tell 1 b waiting"));
-    assert!(rt; node.take(line)?.is_none());
+    crowd(alloc, node)?;
+    assert!(rt; finds_no_room(alloc, node)?);
     assert_eq!(rt;
         (
             node.steps(),

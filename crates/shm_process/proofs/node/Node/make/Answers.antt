@@ -39,5 +39,5 @@ returns-clause-after g c =
     let waiting : map ask_of c.join-tag.new.waiting.items ≡ with_ask node.waiting h.waits c.join-tag.result.1 =
     c.join-tag.ensures.after ∙ ap (λ asks. with_ask (map ask_of asks) h.waits c.join-tag.result.1) c.in_ok-reserve.ensures.items in
     node_taken node h (site_of c.step_spending.new.self) answer (map envelope_of done.sent.items) made _ c.join-tag.result.1
-    (option_map tag_text c.join-tag.result.0) (map ask_of c.join-tag.new.waiting.items) c.next_clock-clock.result c.one_more-self.result
-    stays c.join-tag.ensures.tag waiting c.next_clock-clock.ensures c.one_more-self.ensures c.say.ensures.after
+    (option_map tag_text c.join-tag.result.0) (map ask_of c.join-tag.new.waiting.items) c.next_clock-clock.result c.one_more-self.result c.change_mapped.new.mapped.items
+    stays c.join-tag.ensures.tag waiting c.next_clock-clock.ensures c.one_more-self.ensures c.change_mapped.ensures c.say.ensures.after

@@ -13,5 +13,5 @@ returns-in_ok-said-in-Some-clause-said g c =
     let node = node_of c.args.self.now in
     let line = stream.Ask (ask_of c.args.ask.now) in
     let cause : Cause = OfLine line in
-    let hears : Some (heard_of c.in-Some.heard) ≡ heard node line = sym (ap (option_map heard_of) c.in-Some.is) ∙ c.hear_ask.ensures.heard in
+    let hears : Some (heard_of c.in-Some.heard) ≡ heard node line = sym (ap (option_map heard_of) c.in-Some.is) ∙ c.in_ok-heard.ensures.heard in
     ap Some (c.in_ok-said-in-Some.ensures.said cause) ∙ ap (option_map (λ h. says node cause h (joins node h))) hears

@@ -25,7 +25,7 @@ returns-then-is_waiting-clause-none g c =
     let waits = sym c.is_waiting.ensures ∙ c.if-is_waiting.true in
     let m : IsMade node c.args.at c.args.asked input (site_of c.step_access.new.site) done.answer (map envelope_of done.sent.items) =
     record { asks = c.requires.asked; hands = c.of.ensures.input; made = made } in (
-      can_be node c.args.at c.args.asked input (site_of c.step_access.new.site) done.answer (map envelope_of done.sent.items) m true waits,
+      can_be node c.args.at c.args.asked input (site_of c.step_access.new.site) done.answer (map envelope_of done.sent.items) m true c.requires.free waits,
       ap (λ site. record node { site = site }) (c.in_ok-made.ensures.still waits),
     )
 

@@ -1,0 +1,9 @@
+pub mod Attachments
+pub mod Rights
+pub mod Steps
+pub mod Nodes
+pub mod Keeping
+pub mod Desks
+pub mod Alone
+pub mod Bytes
+pub mod Brought

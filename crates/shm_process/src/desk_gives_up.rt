@@ -1,0 +1,93 @@
+//! A page that is given up, or whose bytes are brought: each byte is stored by a step, and then the page is given up with one.
+ghost use Rattle.std.specs.Prelude.{◌≡◌, ◌+◌, ◌^◌, ◌≤◌, All, OnOk, length, map};
+ghost use Rattle.shm_process.specs.Desk.{brought, given_up, given_up_by, quietly, store_line, stored_run, unmap_reply};
+ghost use Rattle.shm_process.specs.DeskOf.{desk_of};
+ghost use Rattle.shm_wire.specs.Line.{IsLine};
+ghost use Rattle.shm_wire.specs.LineOf.{line_of};
+ghost use Rattle.shm_wire.specs.UnmapOf.{run_in, unmap_in};
+ghost use Rattle.shm_wire.specs.Unmaps.{IsRun, IsUnmap};
+
+use crate::desk::Desk;
+use shm_model::{Asked, Kind};
+use shm_wire::{Ask, Line, Question, Run, UnmapAsk};
+use std::alloc::{AllocError, Allocator};
+
+impl<A: Allocator + Copy> Desk<A> {
+    /// Gives up what a line gives up.
+    pub(crate) fn give_up_by(&mut self, read: Line<A>) -> Result<(), AllocError>
+        requires { IsLine (line_of read) }
+        ensures { OnOk result (desk_of self.new ≡ given_up_by (desk_of self.old) (line_of read)) }
+    {
+        match read {
+            Line::Unmap(ask) => self.give_up(&ask),
+            Line::Envelope(_) | Line::Ask(_) | Line::Write(_) => Ok(()),
+        }
+    }
+
+    /// Stores all bytes that are brought, and then gives the page up.
+    fn give_up(&mut self, ask: &UnmapAsk<A>) -> Result<(), AllocError>
+        requires { IsUnmap (unmap_in ask.now) }
+        ensures { OnOk result (desk_of self.new ≡ given_up (desk_of self.old) (unmap_in ask.now)) }
+    {
+        self.bring(ask, ask.runs.as_slice())?;
+        let last = UnmapAsk {
+            site: ask.site,
+            tag: ask.tag,
+            at: ask.at,
+            index: ask.index,
+            keeps: ask.keeps,
+            runs: Vec::new(self.alloc),
+        };
+        let line = format!(in self.alloc; "{last}")?;
+        self.make_and_tell(line.as_bytes(), Line::Unmap(last), unmap_reply(ask.keeps))
+    }
+
+    /// Stores the bytes of all runs.
+    fn bring(&mut self, ask: &UnmapAsk<A>, runs: &[Run<A>]) -> Result<(), AllocError>
+        requires ask { IsUnmap (unmap_in ask.now) }
+        requires runs { All IsRun (map run_in runs.now) }
+        ensures { OnOk result (desk_of self.new ≡ brought (desk_of self.old) (unmap_in ask.now) (map run_in runs.now)) }
+    {
+        'runs: for run in runs {
+            self.store_run(ask, run.offset, run.bytes.as_slice())?;
+        }
+        Ok(())
+    }
+
+    /// Stores bytes one after another, from this offset on.
+    fn store_run(&mut self, ask: &UnmapAsk<A>, offset: u32, bytes: &[u8]) -> Result<(), AllocError>
+        requires ask { IsUnmap (unmap_in ask.now) }
+        requires within { offset + length bytes.now ≤ 2 ^ 32 }
+        ensures { OnOk result (desk_of self.new ≡ stored_run (desk_of self.old) (unmap_in ask.now) offset bytes.now) }
+    {
+        'bytes: for place in 0..bytes.len() {
+            self.store_byte(ask, offset + place as u32, bytes[place])?;
+        }
+        Ok(())
+    }
+
+    /// Stores a byte that is brought, one step.
+    fn store_byte(&mut self, ask: &UnmapAsk<A>, offset: u32, byte: u8) -> Result<(), AllocError>
+        requires { IsUnmap (unmap_in ask.now) }
+        ensures { OnOk result (desk_of self.new ≡ quietly (desk_of self.old) (store_line (unmap_in ask.now) offset byte)) }
+    {
+        let at = ask.at;
+        let store = Ask {
+            site: ask.site,
+            tag: ask.tag,
+            asked: Question::Try(Asked::Store { at, offset, byte }),
+        };
+        let line = format!(in self.alloc; "{store}")?;
+        self.make_quietly(line.as_bytes(), Line::Ask(store))
+    }
+}
+
+/// What is told at the end, by what stays mapped.
+fn unmap_reply(keeps: Option<Kind>) -> &'static str
+    ensures { result.now ≡ unmap_reply keeps }
+{
+    match keeps {
+        None | Some(Kind::Read) => "unmapped",
+        Some(Kind::Write) => "synced",
+    }
+}

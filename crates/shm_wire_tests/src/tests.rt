@@ -1,0 +1,3 @@
+mod mapped_lines;
+mod seal_digests;
+mod wire;

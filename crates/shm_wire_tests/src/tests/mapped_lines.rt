@@ -1,0 +1,109 @@
+//! Lines that give a mapped page up or bring its bytes, and the texts that tell of mapped pages.
+use shm_model::Kind;
+use shm_place::{PageId, SegId};
+use shm_wire::{Line, MappedText, Mapping, MappingsText, RevokeText, parse_line, parse_tell_line};
+use std::test::Fail;
+
+/// A line of each form, and as a journal has it, without runs.
+const UNMAPS: [&str; 6] = [
+    "ask 0 a unmap 0 255 none",
+    "ask 15 a unmap 63 0 read",
+    "ask 0 a sync 0 255",
+    "ask 0 a unmap 0 1 none 4096 AA==",
+    "ask 0 a unmap 0 1 read 4097 AQID 8191 /w==",
+    "ask 0 a sync 63 4294967295 4294967295 AA== 0 AQI=",
+];
+
+/// None of these: a mapping to write isn't what stays of one, a word too few and one too many, a run of no bytes and one past the last
+/// offset, and a byte in another spelling.
+const NO_UNMAPS: [&str; 9] = [
+    "ask 0 a unmap 0 0 write",
+    "ask 0 a unmap 0 0",
+    "ask 0 a sync 0",
+    "ask 0 a sync 0 0 none",
+    "ask 0 a unmap 0 0 none 5",
+    "ask 0 a unmap 0 0 none 5 AA== ",
+    "ask 0 a sync 0 0 5 ",
+    "ask 0 a sync 0 0 4294967295 AQI=",
+    "ask 0 a sync 0 0 5 AB==",
+];
+
+#[test]
+fn mappings_that_are_given_up_are_printed_as_they_were_read(rt: HostRuntime) -> Result<(), Fail> {
+    let alloc = rt.alloc();
+    'good: for line in UNMAPS {
+        let read = parse_line(alloc, line.as_bytes())?;
+        let Some(Line::Unmap(unmap)) = &read else {
+            return Err(Fail::new("an unmap's line"));
+        };
+        let printed = format!(in alloc; "{unmap}")?;
+        assert_eq!(rt; printed.as_str(), line);
+        assert!(rt; parse_tell_line(line.as_bytes()).is_none(), "at {line}");
+    }
+    'bad: for line in NO_UNMAPS {
+        let read = parse_line(alloc, line.as_bytes())?;
+        assert!(rt; read.is_none(), "at {line}");
+    }
+    Ok(())
+}
+
+#[test]
+fn what_an_unmap_brings_is_read_run_by_run(rt: HostRuntime) -> Result<(), Fail> {
+    let alloc = rt.alloc();
+    let read = parse_line(alloc, b"ask 3 a unmap 7 1 read 4097 AQID 8191 /w==")?;
+    let Some(Line::Unmap(unmap)) = &read else {
+        return Err(Fail::new("an unmap's line"));
+    };
+    assert_eq!(rt; (unmap.site.0, unmap.at, unmap.index), (3, 7, 1));
+    assert!(rt; unmap.keeps == Some(Kind::Read));
+    let [first, last] = unmap.runs.as_slice() else {
+        return Err(Fail::new("two runs"));
+    };
+    let one: [u8; 3] = [1, 2, 3];
+    let two: [u8; 1] = [255];
+    assert!(rt; first.offset == 4097 && first.bytes.as_slice() == one.as_slice());
+    assert!(rt; last.offset == 8191 && last.bytes.as_slice() == two.as_slice());
+    Ok(())
+}
+
+#[test]
+fn mapped_pages_are_told_in_words(rt: HostRuntime) -> Result<(), Fail> {
+    let alloc = rt.alloc();
+    let bytes: [u8; 4] = [0xfb, 0xff, 0xbf, 0xff];
+    let mapped = format!(in alloc; "{}", MappedText(bytes.as_slice()))?;
+    assert_eq!(rt; mapped.as_str(), "mapped +/+//w==");
+    let page = PageId {
+        seg: SegId(3),
+        index: 255,
+    };
+    let mappings = vec![in alloc;
+        Mapping {
+            at: 63,
+            page,
+            kind: Kind::Read
+        },
+        Mapping {
+            at: 0,
+            page,
+            kind: Kind::Write
+        },
+    ]?;
+    let told = format!(in alloc; "{}", MappingsText(mappings.as_slice()))?;
+    assert_eq!(rt; told.as_str(), "mappings 63 255 read 0 255 write");
+    let none = format!(in alloc; "{}", MappingsText(&mappings[..0]))?;
+    assert_eq!(rt; none.as_str(), "mappings");
+    let revoke = RevokeText {
+        page,
+        keeps: Some(Kind::Read),
+    };
+    let line = format!(in alloc; "tell 1 * {revoke}")?;
+    assert_eq!(rt; line.as_str(), "tell 1 * revoke 3 255 read");
+    let Some(tell) = parse_tell_line(line.as_bytes()) else {
+        return Err(Fail::new("a tell's line"));
+    };
+    assert_eq!(rt; (tell.tag.as_str(), tell.text), ("*", "revoke 3 255 read"));
+    let all = RevokeText { page, keeps: None };
+    let line = format!(in alloc; "{all}")?;
+    assert_eq!(rt; line.as_str(), "revoke 3 255 none");
+    Ok(())
+}
