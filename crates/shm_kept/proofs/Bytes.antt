@@ -1,50 +1,23 @@
--- The bytes that a map gives are the entry's.
-use Rattle.std.proofs.Common.{◌≡◌, ℕ, zero, suc, ◌+◌, ◌*◌, ◌-◌, ◌<◌, Bool, true, false, [], ◌∷◌, ◌++◌, Option, Some, None, Result, Ok, Err, cond, get_or, length, refl, sym, ap, ◌∙◌, subst, arith, nat_lt, slice_index, ⊎_elim}
-use Rattle.std.proofs.lemmas.Bool.{cases_eq}
+-- The bytes that a map gives are the entry's, and what loads give.
+use Rattle.std.proofs.Common.{◌≡◌, ℕ, ◌+◌, ◌*◌, ◌<◌, Bool, true, false, Option, Some, None, Result, Ok, Err, cond, refl, sym, ap, ◌∙◌, arith, nat_lt, slice_index}
 use Rattle.std.proofs.lemmas.Bool.Decides.{nat_tests}
-use Rattle.std.proofs.lemmas.List.{get_or-append_right, get_or_append_left, length-append}
 use Rattle.shm_place.specs.Limits.{page_bytes, pages}
 use Rattle.shm_place.specs.Offset.{index_of, rounded, within_of}
 use Rattle.shm_model.specs.declared.answer.Answer.TheVariants.{Byte}
 use Rattle.shm_model.specs.declared.request_kind.Kind.{Kind}
 use Rattle.shm_model.specs.declared.request_kind.Kind.TheVariants.{Read}
-use Rattle.shm_model.specs.Access.{Place, ask_for, load_if, place_in, right, right_through}
+use Rattle.shm_model.specs.Access.{Place, ask_for, load, load_if, place_in, right, right_through}
 use Rattle.shm_model.specs.Calls.{Attachment}
 use Rattle.shm_model.specs.Entry.{bytes, readable}
 use Rattle.shm_model.specs.Refusal.{out_of_segment}
 use Rattle.shm_model.specs.Site.{Site, still}
+use Rattle.shm_parts.specs.Reached.{page_reached}
 use Rattle.shm_site.specs.AtOnce.{byte_given}
 use Rattle.shm_process.specs.Mapped.{byte_place}
 use Rattle.shm_process.specs.Node.{Node}
-use Rattle.shm_process.specs.Remaps.{byte_or_0, byte_there, bytes_there}
+use Rattle.shm_process.specs.Remaps.{bytes_reached, bytes_there}
 use Rattle.shm_kept.specs.Bytes.{GivesBytes, IsMappable}
 use Rattle.shm_kept.proofs.Nodes.{has-reads}
-
--- ---- so many bytes
-
-module _ (sites me : ℕ) (site : Site) (at index : ℕ) where
-  there-length : (n : ℕ) → length (bytes_there sites me site at index n) ≡ n
-  unfolding bytes_there
-  there-length zero = refl
-  there-length (suc n) = length-append (bytes_there sites me site at index n) (byte_there sites me site at index n ∷ []) ∙ one-more (there-length n)
-    where
-      one-more : length (bytes_there sites me site at index n) ≡ n → length (bytes_there sites me site at index n) + 1 ≡ suc n
-      one-more h = omega (arith, h)
-
-  there-last : (n : ℕ) → get_or (bytes_there sites me site at index n ++ byte_there sites me site at index n ∷ []) n 0 ≡ byte_there sites me site at index n
-  there-last n = get_or-append_right (bytes_there sites me site at index n) (byte_there sites me site at index n ∷ []) n n 0 (there-length n) (omega arith) ∙ none-over n
-    where
-      none-over : (n : ℕ) → get_or (byte_there sites me site at index n ∷ []) (n - n) 0 ≡ byte_there sites me site at index n
-      none-over n = let same : n - n ≡ 0 = omega arith in ap (λ k. get_or (byte_there sites me site at index n ∷ []) k 0) same
-
-  there-byte : (n k : ℕ) → k < n → get_or (bytes_there sites me site at index n) k 0 ≡ byte_there sites me site at index k
-  unfolding bytes_there
-  there-byte zero k below = absurd (omega (arith, below))
-  there-byte (suc n) k below =
-      ⊎_elim (λ same. ap (λ j. get_or (bytes_there sites me site at index n ++ byte_there sites me site at index n ∷ []) j 0) same ∙ there-last n ∙ ap (byte_there sites me site at index) (sym same))
-      (λ other. let low : k < n = omega (arith, below, other) in
-      get_or_append_left (bytes_there sites me site at index n) (byte_there sites me site at index n ∷ []) 0 k (subst (λ m. k < m) (sym (there-length n)) low)
-      ∙ there-byte n k low) (cases_eq k n)
 
 -- ---- one byte
 
@@ -94,23 +67,30 @@ leads-to None index k place small e = absurd (cc)
 leads-to (Some x) index k place small e = leads-inside x index k place small e
 
 byte-is : (sites me : ℕ) (site : Site) (there : Place) → readable (site.entries there.page) ≡ true
-    → byte_or_0 (byte_given (load_if sites me (Ok there) site).answer) ≡ slice_index (bytes (site.entries there.page)) there.within
+    → byte_given (load_if sites me (Ok there) site).answer ≡ Some (slice_index (bytes (site.entries there.page)) there.within)
 byte-is sites me site there reads =
-    ap (λ b. byte_or_0 (byte_given (cond b (still (Byte (slice_index (bytes (site.entries there.page)) there.within)) site) (ask_for sites me Read there.page site)).answer)) reads
+    ap (λ b. byte_given (cond b (still (Byte (slice_index (bytes (site.entries there.page)) there.within)) site) (ask_for sites me Read there.page site)).answer) reads
 
 module _ (node : Node) (at index : ℕ) (kind : Kind) (place : Place) (m : IsMappable node at index kind place) where
-  one-byte : (k : ℕ) → k < page_bytes → byte_there node.sites node.me node.site at index k ≡ slice_index (bytes (node.site.entries place.page)) k
+  entry-is : bytes_there node.site at index ≡ bytes (node.site.entries place.page)
+  entry-is = ap (λ r. bytes_reached (page_reached r) node.site) m.leads
+
+  one-byte : (k : ℕ) → k < page_bytes → byte_given (load node.sites node.me at (byte_place index k) node.site).answer
+      ≡ Some (slice_index (bytes (node.site.entries place.page)) k)
   one-byte k small =
       let zero_small : 0 < page_bytes = omega arith in
       let first : right_through (node.site.attachments at) (index * page_bytes + 0) false ≡ Ok place =
       ap (λ o. right_through (node.site.attachments at) o false) (sym (place-of index 0 m.within zero_small)) ∙ m.leads in
       let l = leads-to (node.site.attachments at) index k place small first in
       let reads = has-reads node.sites node.me node.site at index kind place m.has m.leads in
-      ap (λ o. byte_or_0 (byte_given (load_if node.sites node.me (right node.site.attachments at o false) node.site).answer)) (place-of index k m.within small)
-      ∙ ap (λ r. byte_or_0 (byte_given (load_if node.sites node.me r node.site).answer)) l.is
+      ap (λ o. byte_given (load_if node.sites node.me (right node.site.attachments at o false) node.site).answer) (place-of index k m.within small)
+      ∙ ap (λ r. byte_given (load_if node.sites node.me r node.site).answer) l.is
       ∙ byte-is node.sites node.me node.site l.there (ap (λ p. readable (node.site.entries p)) l.page ∙ reads)
-      ∙ ap (λ p. slice_index (bytes (node.site.entries p)) l.there.within) l.page
-      ∙ ap (slice_index (bytes (node.site.entries place.page))) l.within
+      ∙ ap (λ p. Some (slice_index (bytes (node.site.entries p)) l.there.within)) l.page
+      ∙ ap (λ w. Some (slice_index (bytes (node.site.entries place.page)) w)) l.within
 
   pub gives-bytes : GivesBytes node at index place
-  gives-bytes k small = there-byte node.sites node.me node.site at index page_bytes k small ∙ one-byte k small
+  gives-bytes = record {
+    entry = entry-is;
+    loaded = λ k small. one-byte k small ∙ ap (λ b. Some (slice_index b k)) (sym entry-is);
+  }

@@ -39,7 +39,7 @@ pub fn a_page_that_is_mapped_to_write_is_mapped_once()
         → mapped_at page a.mapped ≡ Some m → m.kind ≡ Write → mapped_at page b.mapped ≡ None }
 {}
 
-/// The bytes that a map is answered with are those that the site has of the page, all of them.
+/// The bytes that a map is answered with are those that the site has of the page, and each is what a load of it would give.
 pub fn a_map_gives_the_sites_bytes()
     ensures { (node : Node) (at index : ℕ) (kind : Kind) (place : Place) → IsMappable node at index kind place → GivesBytes node at index place }
 {}

@@ -56,6 +56,13 @@ impl<A: Allocator + Copy> CopyPage<A> {
         self.bytes.as_slice()[at]
     }
 
+    /// The page's bytes.
+    pub fn bytes(&self) -> &[u8]
+        ensures { result.now ≡ self.now.bytes }
+    {
+        self.bytes.as_slice()
+    }
+
     /// Takes the copy away: another site is to write.
     pub fn clear(self, number: u64) -> NilPage
         requires { self.seen < number }

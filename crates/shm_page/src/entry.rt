@@ -49,6 +49,19 @@ impl<A: Allocator + Copy> Entry<A> {
         }
     }
 
+    /// The bytes that the site has of the page, copied; none where it has none.
+    pub fn bytes(&self, alloc: A) -> Result<Vec<u8, A>, AllocError>
+        ensures { IfOk result (λ bytes. bytes.items ≡ model.bytes (entry_of self.now)) }
+    {
+        match self {
+            Entry::Nil(_) => Ok(Vec::new(alloc)),
+            Entry::Copy(page) => Vec::from_slice(alloc, page.bytes()),
+            Entry::OwnRead(page) => Vec::from_slice(alloc, page.bytes()),
+            Entry::OwnWrite(page) => page.bytes(alloc),
+            Entry::Handed(page) => Vec::from_slice(alloc, page.bytes()),
+        }
+    }
+
     /// An equal entry.
     pub fn copy(&self) -> Result<Entry<A>, AllocError>
         ensures { IfOk result (λ entry. entry ≡ self.now) }

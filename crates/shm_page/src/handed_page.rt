@@ -106,6 +106,13 @@ impl<A: Allocator + Copy> HandedPage<A> {
         })
     }
 
+    /// The kept bytes.
+    pub fn bytes(&self) -> &[u8]
+        ensures { result.now ≡ self.now.bytes }
+    {
+        self.bytes.as_slice()
+    }
+
     /// Takes the kept bytes away.
     pub fn clear(self, number: u64) -> NilPage
         requires { self.seen < number }

@@ -58,6 +58,13 @@ impl<A: Allocator + Copy> OwnReadPage<A> {
         self.shared.as_slice()[at]
     }
 
+    /// The page's bytes.
+    pub fn bytes(&self) -> &[u8]
+        ensures { result.now ≡ self.now.bytes }
+    {
+        self.shared.as_slice()
+    }
+
     /// Lends one more copy.
     pub fn lend(&mut self, number: u64) -> Result<ReadGrant<A>, AllocError>
         requires { self.old.seen ≤ number }

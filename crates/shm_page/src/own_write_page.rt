@@ -68,6 +68,16 @@ impl<A: Allocator + Copy> OwnWritePage<A> {
         self.own.as_slice()[at]
     }
 
+    /// The page's bytes, copied.
+    pub fn bytes(&self, alloc: A) -> Result<Vec<u8, A>, AllocError>
+        ensures { IfOk result (λ bytes. bytes.items ≡ self.now.bytes) }
+    {
+        if !self.own.is_empty() {
+            return Vec::from_slice(alloc, self.own.as_slice());
+        }
+        given_bytes(alloc, &self.given)
+    }
+
     /// Changes the byte at this offset in the page.
     pub fn store(&mut self, at: usize, byte: u8)
         requires { at < PAGE_BYTES }
@@ -190,6 +200,22 @@ fn given_byte<A: Allocator + Copy>(given: &Option<Bytes<A>>, at: usize) -> u8
         Some(given) => given.as_slice()[at],
         None => 0,
     }
+}
+
+/// The bytes of a page that has none of its own, copied.
+fn given_bytes<A: Allocator + Copy>(
+    alloc: A,
+    given: &Option<Bytes<A>>,
+) -> Result<Vec<u8, A>, AllocError>
+    requires { length (owned_bytes given.now []) ≡ page_bytes }
+    ensures { IfOk result (λ bytes. bytes.items ≡ owned_bytes given.now []) }
+{
+    if let Some(given) = given {
+        return Vec::from_slice(alloc, given.as_slice());
+    }
+    let mut zeros = Vec::with_capacity(alloc, PAGE_BYTES)?;
+    fill(&mut zeros, None);
+    Ok(zeros)
 }
 
 /// Gives a page bytes of its own, in the room that it has for them: those that it came with, or zeros.

@@ -1,5 +1,6 @@
 //! Shows a site's holdings.
 ghost use Rattle.std.specs.Prelude.{◌≡◌, ℕ, false, if◌then◌else◌, IfOk};
+ghost use Rattle.shm_model.specs.Entry as model;
 ghost use Rattle.shm_model.specs.Entry.{Nil, OwnWrite};
 ghost use Rattle.shm_model.specs.Site.{Site, blank};
 ghost use Rattle.shm_page.specs.Entry.{entry_of};
@@ -47,6 +48,21 @@ impl<A: Allocator + Copy> Holdings<A> {
             },
             None => untouched_page(manager_of(self.sites, *place) == self.me),
         }
+    }
+
+    /// The bytes that the site has of the page, copied; none where it has none.
+    pub fn bytes(&self, page: PageId) -> Result<Vec<u8, A>, AllocError>
+        ensures { IfOk result (λ bytes. bytes.items ≡ model.bytes (held_entries self.now.sites self.now.me self.now page)) }
+    {
+        let place = &page;
+        if self.purged.contains(place.seg) {
+            return Ok(Vec::new(self.alloc));
+        }
+        if let Some(entry) = self.entries.get(*place) {
+            return entry.bytes(self.alloc);
+        }
+        let untouched = Entry::opening(self.alloc, manager_of(self.sites, *place) == self.me)?;
+        untouched.bytes(self.alloc)
     }
 
     /// Equal holdings.

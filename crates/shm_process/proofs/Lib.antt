@@ -26,6 +26,5 @@ pub mod HelloWords
 pub mod Greeting
 pub mod Noting
 pub mod Finds
-pub mod MappedBytes
 pub mod MetLines
 pub mod Tries

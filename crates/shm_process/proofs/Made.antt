@@ -11,19 +11,10 @@ use Rattle.shm_wire.specs.Line as stream
 use Rattle.shm_wire.specs.declared.mapping_text.Mapping.{Mapping}
 use Rattle.shm_process.specs.Access.{access_ask, is_open, is_waiting}
 use Rattle.shm_process.specs.Cause.{Cause, OfLine}
-use Rattle.shm_process.specs.Mapped.{passing}
 use Rattle.shm_process.specs.Node.{Node, Heard, Said, answer_to, caller_after, next_clock, says, tag_told}
 use Rattle.shm_process.specs.Waiting.{again_at, can_be_made, counted, has_room, is_held, joins, next_heard, next_line, says_at, taken, with_ask}
 use Rattle.shm_process.specs.WaitingAsks.{WaitingAsk, all_bytes, ask_in, goes_on, next_access, tag_of, waiting_after}
 use Rattle.shm_process.proofs.Callers.{goes_on_caller, joins_caller, stays_told}
-
--- its next access would pass by what is mapped, or not
-pub held_is : (node : Node) (ask : WaitingAsk) (asked : Asked) (passed : Option Mapping) (held : Bool) → asked ≡ next_access ask
-    → passed ≡ passing node.mapped node.site asked → is_some passed ≡ held → is_held node ask ≡ held
-held_is node ask asked passed held same is e = ap (λ a. is_some (passing node.mapped node.site a)) (sym same) ∙ ap is_some (sym is) ∙ e
-
-pub held_not : (node : Node) (ask : WaitingAsk) → is_held node ask ≡ true → can_be_made node ask ≡ false
-held_not node ask held = ap (λ h. not (h || is_waiting (answer_to node (next_heard ask)))) held
 
 -- the ask at this place made its next access, and the site answered so
 pub record IsMade (node : Node) (at : ℕ) (asked : Asked) (input : Input) (site : Site) (answer : Answer) (sent : List Envelope) : Type 0 where

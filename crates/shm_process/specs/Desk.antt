@@ -5,7 +5,6 @@ use Rattle.std.specs.Prelude.{ℕ, zero, suc, ◌+◌, ◌==◌, ◌&&◌, Bool,
 use Rattle.std.specs.List.{flat_map, list_any}
 use Rattle.std.specs.Option.{option_map_or}
 use Rattle.shm_place.specs.declared.page_id.PageId.{PageId}
-use Rattle.shm_place.specs.Limits.{page_bytes}
 use Rattle.shm_place.specs.Page.{same_page}
 use Rattle.shm_model.specs.declared.answer.Answer.{Answer}
 use Rattle.shm_model.specs.declared.answer.Answer.TheVariants.{Waiting}
@@ -202,7 +201,7 @@ map_text (Some m) bytes = raised_text
 
 abbrev pub map_reply : Node → ℕ → ℕ → List ℕ
 map_reply node at index =
-    map_text (mapped_there node.mapped node.site at (byte_place index 0)) (bytes_there node.sites node.me node.site at index page_bytes)
+    map_text (mapped_there node.mapped node.site at (byte_place index 0)) (bytes_there node.site at index)
 
 -- a step, and this told of it
 abbrev pub made_and_told : Desk → Line → List ℕ → Desk

@@ -1,7 +1,7 @@
 -- Asks for a page to be mapped into the memory of the site's machine, and to be given up. Each is a step that loads the page's first byte,
 -- and with it what is mapped changes. Where the right to map isn't there, an access is tried that asks for it: it never stores, as a store
 -- isn't made without its right. An unmap brings bytes; each is stored by a step of its own before.
-use Rattle.std.specs.Prelude.{ℕ, zero, suc, ◌+◌, ◌*◌, ◌&&◌, ◌||◌, ◌==◌, Bool, true, false, List, [], ◌∷◌, ◌++◌, Option, None, Some, is_some, length, nat_le, option_map}
+use Rattle.std.specs.Prelude.{ℕ, ◌+◌, ◌*◌, ◌&&◌, ◌||◌, ◌==◌, Bool, true, false, List, [], ◌∷◌, Option, None, Some, is_some, length, nat_le, option_map}
 use Rattle.std.specs.List.{list_all}
 use Rattle.shm_place.specs.declared.page_id.PageId.{PageId}
 use Rattle.shm_place.specs.Limits.{page_bytes}
@@ -11,6 +11,7 @@ use Rattle.shm_model.specs.declared.request_kind.Kind.{Kind}
 use Rattle.shm_model.specs.declared.request_kind.Kind.TheVariants.{Read, Write}
 use Rattle.shm_model.specs.Access.{load, store}
 use Rattle.shm_model.specs.Book.{is_write}
+use Rattle.shm_model.specs.Entry.{bytes}
 use Rattle.shm_model.specs.Message.{Input, Load}
 use Rattle.shm_model.specs.Site.{Site}
 use Rattle.shm_site.specs.AtOnce.{byte_given, is_stored, waits}
@@ -71,14 +72,10 @@ may_unmap mapped site ask = may_give_up ask.at ask.runs (mapped_there mapped sit
 
 -- ---- the bytes of a page
 
-abbrev pub byte_or_0 : Option ℕ → ℕ
-byte_or_0 (Some byte) = byte
-byte_or_0 None = 0
+abbrev pub bytes_reached : Option PageId → Site → List ℕ
+bytes_reached None site = []
+bytes_reached (Some page) site = bytes (site.entries page)
 
-abbrev pub byte_there : ℕ → ℕ → Site → ℕ → ℕ → ℕ → ℕ
-byte_there sites me site at index place = byte_or_0 (byte_given (load sites me at (byte_place index place) site).answer)
-
--- so many bytes of the page, as loads of it give them
-unfoldable pub bytes_there : ℕ → ℕ → Site → ℕ → ℕ → ℕ → List ℕ
-bytes_there sites me site at index zero = []
-bytes_there sites me site at index (suc n) = bytes_there sites me site at index n ++ byte_there sites me site at index n ∷ []
+-- the bytes of the page at this place of the attachment's segment
+abbrev pub bytes_there : Site → ℕ → ℕ → List ℕ
+bytes_there site at index = bytes_reached (page_at site at (byte_place index 0)) site

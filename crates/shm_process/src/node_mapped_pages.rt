@@ -77,24 +77,13 @@ impl<A: Allocator + Copy> Node<A> {
         may_give_up(ask.at, runs, mapping) && are_of_page(ask.index, runs)
     }
 
-    /// The bytes of a page, as loads through the attachment give them.
+    /// The bytes of the page at this place of the attachment's segment.
     pub(crate) fn bytes_there(&self, at: u32, index: u32) -> Result<Vec<u8, A>, AllocError>
-        ensures { IfOk result (λ bytes. bytes.items ≡ bytes_there (node_of self.now).sites (node_of self.now).me (node_of self.now).site at index 4096) }
+        ensures { IfOk result (λ bytes. bytes.items ≡ bytes_there (node_of self.now).site at index) }
     {
-        let mut bytes = Vec::new(self.alloc);
-        'bytes: for place in 0..PAGE_BYTES {
-            let byte = self.byte_there(at, index, place as u32);
-            bytes.push(byte)?;
-        }
-        Ok(bytes)
-    }
-
-    fn byte_there(&self, at: u32, index: u32, place: u32) -> u8
-        ensures { result ≡ remaps.byte_there (node_of self.now).sites (node_of self.now).me (node_of self.now).site at index place }
-    {
-        match self.site.byte_at(at, byte_place(index, place)) {
-            Some(byte) => byte,
-            None => 0,
+        match self.site.reached(at, byte_place(index, 0)) {
+            Some(page) => self.site.bytes(page),
+            None => Ok(Vec::new(self.alloc)),
         }
     }
 }

@@ -1,8 +1,9 @@
 //! Shows a site's segments, and its view of a page. A page outside the limits has nothing to show.
-ghost use Rattle.std.specs.Prelude.{◌≡◌, ◌==◌, ◌&&◌, false, Some, None, if◌then◌else◌, is_some, not, IfSome};
+ghost use Rattle.std.specs.Prelude.{◌≡◌, ◌==◌, ◌&&◌, false, Some, None, if◌then◌else◌, is_some, not, IfOk, IfSome};
 ghost use Rattle.shm_place.specs.Page.{in_limits, manager_of};
 ghost use Rattle.shm_model.specs.Access.{right};
 ghost use Rattle.shm_model.specs.Book.{untouched_book};
+ghost use Rattle.shm_model.specs.Entry as model;
 ghost use Rattle.shm_manager.specs.Book.{book_of};
 ghost use Rattle.shm_parts.specs.Holdings.{access_of, shown_of};
 ghost use Rattle.shm_parts.specs.Reached.{page_reached};
@@ -15,7 +16,7 @@ use shm_keys::Segment;
 use shm_manager::Book;
 use shm_model::{Access, Shown};
 use shm_place::{PageId, SiteId, SiteSet, in_limits, manager_of};
-use std::alloc::Allocator;
+use std::alloc::{AllocError, Allocator};
 
 impl<A: Allocator + Copy> Site<A> {
     /// All segments whose home is this site, the destroyed ones too, in the order of making.
@@ -46,6 +47,13 @@ impl<A: Allocator + Copy> Site<A> {
             return None;
         }
         Some(self.holdings.shown(*page))
+    }
+
+    /// The bytes that the site has of the page, copied, whatever its access to it; none where it has none.
+    pub fn bytes(&self, page: PageId) -> Result<Vec<u8, A>, AllocError>
+        ensures { IfOk result (λ bytes. bytes.items ≡ model.bytes ((site_of self.now).entries page)) }
+    {
+        self.holdings.bytes(page)
     }
 
     /// The page that a load through this attachment at this offset goes to. None: it is refused (`shmop(2)`).
