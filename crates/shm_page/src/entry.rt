@@ -55,10 +55,10 @@ impl<A: Allocator + Copy> Entry<A> {
     {
         match self {
             Entry::Nil(_) => Ok(Vec::new(alloc)),
-            Entry::Copy(page) => Vec::from_slice(alloc, page.bytes()),
-            Entry::OwnRead(page) => Vec::from_slice(alloc, page.bytes()),
+            Entry::Copy(page) => page.bytes(alloc),
+            Entry::OwnRead(page) => page.bytes(alloc),
             Entry::OwnWrite(page) => page.bytes(alloc),
-            Entry::Handed(page) => Vec::from_slice(alloc, page.bytes()),
+            Entry::Handed(page) => page.bytes(alloc),
         }
     }
 

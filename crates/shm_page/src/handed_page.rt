@@ -106,11 +106,11 @@ impl<A: Allocator + Copy> HandedPage<A> {
         })
     }
 
-    /// The kept bytes.
-    pub fn bytes(&self) -> &[u8]
-        ensures { result.now ≡ self.now.bytes }
+    /// The kept bytes, copied.
+    pub fn bytes(&self, alloc: A) -> Result<Vec<u8, A>, AllocError>
+        ensures { IfOk result (λ bytes. bytes.items ≡ self.now.bytes) }
     {
-        self.bytes.as_slice()
+        Vec::from_slice(alloc, self.bytes.as_slice())
     }
 
     /// Takes the kept bytes away.

@@ -58,11 +58,11 @@ impl<A: Allocator + Copy> OwnReadPage<A> {
         self.shared.as_slice()[at]
     }
 
-    /// The page's bytes.
-    pub fn bytes(&self) -> &[u8]
-        ensures { result.now ≡ self.now.bytes }
+    /// The page's bytes, copied.
+    pub fn bytes(&self, alloc: A) -> Result<Vec<u8, A>, AllocError>
+        ensures { IfOk result (λ bytes. bytes.items ≡ self.now.bytes) }
     {
-        self.shared.as_slice()
+        Vec::from_slice(alloc, self.shared.as_slice())
     }
 
     /// Lends one more copy.
