@@ -1,5 +1,7 @@
 /* speed KEY loads: how many million loads, stores and atomic adds a second there are of pages that are here.
-   speed KEY read|write PAGES [SECONDS]: the median of the first touches of so many pages, in microseconds; then it stays so long. */
+   speed KEY read|write PAGES [SECONDS]: the median of the first touches of so many pages, in microseconds; then it stays so long.
+   speed KEY fill PAGES: stores to all bytes of so many pages, and tells how many milliseconds it took.
+   speed KEY scan PAGES: how many milliseconds the first reads of so many pages take together. */
 #include <stdio.h>
 #include <stdlib.h>
 #include <string.h>
@@ -45,12 +47,22 @@ static void time_touches(volatile char *bytes, int stores, int pages) {
     printf("%.1f\n", times[pages / 2]);
 }
 
+static void time_all(volatile char *bytes, int stores, int pages) {
+    double begun = microseconds();
+    for (int at = 0; at < 4096 * pages; at += stores ? 1 : 4096) {
+        if (stores) bytes[at] = (char)(at % 251 + 1);
+        else (void)bytes[at];
+    }
+    printf("%.1f\n", (microseconds() - begun) / 1e3);
+}
+
 int main(int argc, char **argv) {
     if (argc < 3) return 2;
     int pages = argc > 3 ? atoi(argv[3]) : 16;
     void *memory = shmat(shmget((key_t)atoi(argv[1]), (size_t)pages * 4096, IPC_CREAT | 0666), NULL, 0);
     if (memory == (void *)-1) return perror("shmat"), 1;
     if (strcmp(argv[2], "loads") == 0) time_loads(memory);
+    else if (strcmp(argv[2], "fill") == 0 || strcmp(argv[2], "scan") == 0) time_all(memory, strcmp(argv[2], "fill") == 0, pages);
     else time_touches(memory, strcmp(argv[2], "write") == 0, pages);
     fflush(stdout);
     if (argc > 4) sleep((unsigned)atoi(argv[4]));

@@ -72,38 +72,48 @@ fn mapped_pages_are_told_in_words(rt: HostRuntime) -> Result<(), Fail> {
     let bytes: [u8; 4] = [0xfb, 0xff, 0xbf, 0xff];
     let mapped = format!(in alloc; "{}", MappedText(bytes.as_slice()))?;
     assert_eq!(rt; mapped.as_str(), "mapped +/+//w==");
-    let page = PageId {
-        seg: SegId(3),
-        index: 255,
-    };
-    let mappings = vec![in alloc;
-        Mapping {
-            at: 63,
-            page,
-            kind: Kind::Read
-        },
-        Mapping {
-            at: 0,
-            page,
-            kind: Kind::Write
-        },
-    ]?;
+    let mappings = vec![in alloc; mapping(63, Kind::Read), mapping(0, Kind::Write)]?;
     let told = format!(in alloc; "{}", MappingsText(mappings.as_slice()))?;
     assert_eq!(rt; told.as_str(), "mappings 63 255 read 0 255 write");
     let none = format!(in alloc; "{}", MappingsText(&mappings[..0]))?;
     assert_eq!(rt; none.as_str(), "mappings");
-    let revoke = RevokeText {
-        page,
-        keeps: Some(Kind::Read),
-    };
-    let line = format!(in alloc; "tell 1 * {revoke}")?;
+    Ok(())
+}
+
+#[test]
+fn a_machine_is_told_what_to_give_up(rt: HostRuntime) -> Result<(), Fail> {
+    let alloc = rt.alloc();
+    let some = revoke(Some(Kind::Read));
+    let line = format!(in alloc; "tell 1 * {some}")?;
     assert_eq!(rt; line.as_str(), "tell 1 * revoke 3 255 read");
     let Some(tell) = parse_tell_line(line.as_bytes()) else {
         return Err(Fail::new("a tell's line"));
     };
     assert_eq!(rt; (tell.tag.as_str(), tell.text), ("*", "revoke 3 255 read"));
-    let all = RevokeText { page, keeps: None };
+    let all = revoke(None);
     let line = format!(in alloc; "{all}")?;
     assert_eq!(rt; line.as_str(), "revoke 3 255 none");
     Ok(())
+}
+
+fn page() -> PageId {
+    PageId {
+        seg: SegId(3),
+        index: 255,
+    }
+}
+
+fn mapping(at: u32, kind: Kind) -> Mapping {
+    Mapping {
+        at,
+        page: page(),
+        kind,
+    }
+}
+
+fn revoke(keeps: Option<Kind>) -> RevokeText {
+    RevokeText {
+        page: page(),
+        keeps,
+    }
 }
