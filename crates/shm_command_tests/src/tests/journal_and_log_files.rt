@@ -92,7 +92,7 @@ fn a_journal_that_is_taken(rt: HostRuntime) -> Result<(), Fail> {
     Ok(())
 }
 
-/// Each site's log is saved under the site's name, in the place of what was there.
+/// Each site's log is saved under the site's name, in the place of what was there. A run that fails leaves that as it was.
 #[test]
 fn the_logs_of_a_run_are_saved(rt: HostRuntime) -> Result<(), Fail> {
     let logs = [
@@ -102,8 +102,15 @@ fn the_logs_of_a_run_are_saved(rt: HostRuntime) -> Result<(), Fail> {
     for (name, _step) in logs {
         fs::write(&rt, name, b"old\n".as_slice())?;
     }
-    let mut reader = b"preset 1\nstore 0 0 7\nload 1 0\n".as_slice();
     let words = ["shmdbg", "run", "--sites", "2", "--seed", "1", "--log", "."];
+    let mut wrong = b"preset 257\n".as_slice();
+    let failed = run_over(&rt, &words, &mut wrong);
+    assert_eq!(rt; failed.status, 1);
+    for (name, _step) in logs {
+        let left = fs::read(&rt, name)?;
+        assert_eq!(rt; left.as_slice(), b"old\n".as_slice(), "{name}");
+    }
+    let mut reader = b"preset 1\nstore 0 0 7\nload 1 0\n".as_slice();
     let ran = run_over(&rt, &words, &mut reader);
     assert_eq!(rt; (ran.status, ran.errors.as_slice()), (0, b"".as_slice()));
     for (name, step) in logs {
