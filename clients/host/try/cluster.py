@@ -47,7 +47,7 @@ class Cluster:
         self.folder = tempfile.mkdtemp(prefix='cluster-', dir=options.build)
         os.chmod(self.folder, 0o1777)
         self.journals = [os.path.join(self.folder, f'journal-{me}') for me in range(hosts)] if journals else []
-        self.log = open(os.path.join(self.folder, 'log'), 'w+')
+        self.logs = [open(os.path.join(self.folder, f'log-{me}'), 'a+') for me in range(hosts)]
         if hub:
             self.begin_with_hub(rough, seed)
 
@@ -83,7 +83,7 @@ class Cluster:
         return ['--journal', journal] + ([] if is_begun else ['--new'])
 
     def start(self, me, stream, *words):
-        return subprocess.Popen(self.command(me) + list(words), stdin=stream, stdout=stream, stderr=self.log)
+        return subprocess.Popen(self.command(me) + list(words), stdin=stream, stdout=stream, stderr=self.logs[me])
 
     def wait_for_sockets(self):
         until = time.monotonic() + 20
@@ -95,8 +95,9 @@ class Cluster:
         return os.path.join(self.folder, f'socket-{me}')
 
     def complaints(self):
-        self.log.seek(0)
-        return self.log.read()
+        for log in self.logs:
+            log.seek(0)
+        return ''.join(log.read() for log in self.logs)
 
     def run(self, me):
         return [os.path.join(self.options.build, 'leddwyfan-run'), '--socket', self.socket(me)]
@@ -139,7 +140,8 @@ class Cluster:
         for stream in self.streams:
             stream.close()
         complaints = [line for line in self.complaints().splitlines(True) if not is_health(line)]
-        self.log.close()
+        for log in self.logs:
+            log.close()
         return ''.join(complaints)
 
     def audit(self):
@@ -150,8 +152,8 @@ class Cluster:
 
 
 def is_health(line):
-    """A site's counts, or an end of them where others wrote in between."""
-    return line.startswith('shmdbg: health ') or line.endswith(' wrong-digest 0\n')
+    """A site's counts."""
+    return line.startswith('shmdbg: health ')
 
 
 def resident(process):
