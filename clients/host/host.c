@@ -14,6 +14,7 @@
 #include <signal.h>
 #include <sys/epoll.h>
 #include <sys/resource.h>
+#include <sys/stat.h>
 #include <sys/wait.h>
 
 enum { READ_BYTES = 1 << 16, MOST_UNWRITTEN = 1 << 22, PIPE_BYTES = 1 << 20, EVENTS = 64 };
@@ -245,6 +246,7 @@ int main(int argc, char **argv) {
     limit.rlim_cur = limit.rlim_max;
     setrlimit(RLIMIT_NOFILE, &limit);
     check_kernel();
+    umask(077); /* a journal has the bytes of segments */
     signal(SIGPIPE, SIG_IGN);
     sigaction(SIGTERM, &(struct sigaction){.sa_handler = end}, NULL);
     sigaction(SIGINT, &(struct sigaction){.sa_handler = end}, NULL);

@@ -103,6 +103,7 @@ void site_end(void);
 bool site_flush(void); /* whether all is written */
 void site_tick(void);
 bool site_waits(void); /* a call is outstanding */
+bool is_to_call(const char *text); /* such a call has no answer yet */
 bool pass_line(const char *line);
 void ask_map(struct page *page);
 void add_run(struct page *page, size_t start, size_t end);

@@ -67,9 +67,9 @@ void page_leaves(struct page *page) {
     if (page->mapped != NONE) unmap_to(page, NONE);
 }
 
-/* What the site says again while it is made says nothing new. */
+/* What the site says again says nothing new, nor does it where no more is mapped here. */
 void page_revoked(struct page *page, enum right keeps) {
-    if ((is_unmapping(page) && page->mapped <= keeps) || page->keeps <= keeps) return;
+    if (page->mapped <= keeps || page->keeps <= keeps) return;
     page->keeps = keeps;
     page->segment->busy = true;
 }

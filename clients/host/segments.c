@@ -168,6 +168,16 @@ static bool allows(const struct ipc_perm *owner, const struct connection *connec
     return (bits & needed) == needed;
 }
 
+/* A site gives the least number that is free. So a lower one that no segment here has is of an attach whose answer was lost when the site was
+   killed: it would keep its segment for good. */
+static void detach_lost(int below) {
+    char text[24];
+    for (int attachment = 1; attachment < below; attachment++) {
+        snprintf(text, sizeof text, "detach %d", attachment);
+        if (page_of(-1, attachment, 0) == NULL && !is_to_call(text)) detach(attachment);
+    }
+}
+
 static void hand_over(struct call *call, int error, struct segment *segment) {
     struct connection *connection = call->connection;
     if (error == 0 && connection->socket >= 0) {
@@ -187,6 +197,7 @@ static void attached(struct call *call, int error, const char *reply) {
     int *place = error != 0 ? NULL : call->ask.flags & SHM_RDONLY ? &segment->reading : &segment->writing;
     if (place != NULL && *place < 0) *place = attachment;
     else detach(attachment);
+    detach_lost(attachment);
     hand_over(call, error, segment);
 }
 

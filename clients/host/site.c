@@ -122,13 +122,15 @@ static void revoke_told(const char *text) {
     if (page != NULL) page_revoked(page, strcmp(keeps, "read") == 0 ? READ : NONE);
 }
 
-/* What the site has mapped and isn't here is given up: its answer was lost, or it is of an earlier daemon. */
+/* What the site has mapped beyond what is here is given up: its answer was lost, or it is of an earlier daemon. */
 static void mappings_told(const char *text) {
     int at, index, length;
+    char kind[8];
     recovering = false;
-    for (text += strlen("mappings"); sscanf(text, " %d %d %*s%n", &at, &index, &length) == 2; text += length) {
+    for (text += strlen("mappings"); sscanf(text, " %d %d %7s%n", &at, &index, kind, &length) == 3; text += length) {
         const struct page *page = page_of(-1, at, index);
-        if (page == NULL || (page->mapped == NONE && !is_unmapping(page))) say("x unmap %d %d none", at, index);
+        enum right here = page == NULL ? NONE : page->mapped;
+        if (here < (strcmp(kind, "write") == 0 ? WRITE : READ)) say("x unmap %d %d %s", at, index, here == READ ? "read" : "none");
     }
 }
 
@@ -179,6 +181,13 @@ static void call_answered(const char *tag, const char *text) {
     sscanf(text, "replied %*s %n", &skipped);
     if (strcmp(text, "refused 8") == 0) calls->said = false;
     else end_call(error_of(text + skipped), text + skipped);
+}
+
+bool is_to_call(const char *text) {
+    for (const struct call *call = calls; call != NULL; call = call->next) {
+        if (strcmp(call->text, text) == 0) return true;
+    }
+    return false;
 }
 
 bool site_waits(void) {

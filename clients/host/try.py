@@ -26,7 +26,7 @@ import time
 
 HERE = os.path.dirname(os.path.abspath(__file__))
 sys.path.insert(0, os.path.join(HERE, 'try'))
-from cluster import Cluster, Words, answer_of, expect, has, keys, patience
+from cluster import Cluster, Words, answer_of, expect, has, has_ended, keys, patience
 from others import try_others, try_postgres
 
 ROUGH = ('5', '10', '30')
@@ -250,7 +250,7 @@ def try_daemon_again(options):
         for process in (words.programs[0], cluster.daemons[0]):
             process.kill()
             process.wait()
-        while os.path.exists(f'/proc/{site}/exe'):  # it ends with its input, and has the journal until then
+        while not has_ended(site):  # it ends with its input, and has the journal until then
             time.sleep(0.02)
         cluster.daemons[0] = cluster.start(0, cluster.streams[0])
         words.ask((1, 0, 1), (1, 1024, 1))

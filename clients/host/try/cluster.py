@@ -156,6 +156,15 @@ def is_health(line):
     return line.startswith('shmdbg: health ')
 
 
+def has_ended(process):
+    """Its files are closed then, even where nobody has waited for it."""
+    try:
+        with open(f'/proc/{process}/stat') as stat:
+            return stat.read().rsplit(')', 1)[1].split()[0] in 'ZX'
+    except OSError:
+        return True
+
+
 def resident(process):
     """Without what it maps of files and segments."""
     try:
@@ -182,7 +191,7 @@ class Words:
             self.programs[me].stdin.write(f'{word} {times}\n')
             self.programs[me].stdin.flush()
         for me, word, times in asks:
-            expect(select.select([self.programs[me].stdout], [], [], patience[0])[0], 'words goes on and on')
+            expect(select.select([self.programs[me].stdout], [], [], patience[0])[0], f'words goes on and on; {self.cluster.complaints()}')
             told = self.programs[me].stdout.readline().strip()
             expect(told == str(self.values[word]), f'host {me} has {told} in place of {self.values[word]}')
 
