@@ -480,7 +480,8 @@ def time_all(options):
             seen.setdefault('a page moves to be written, microseconds', []).append([cluster.told(1, './speed', own, 'write', 32)])
             filled = next(keys)
             cluster.told(0, './speed', filled, 'fill', 64)
-            seen.setdefault('256 KiB that the other host has filled, read for the first time, milliseconds', []).append([cluster.told(1, './speed', filled, 'scan', 64)])
+            says = '256 KiB that the other host has filled, read for the first time, milliseconds'
+            seen.setdefault(says, []).append([cluster.told(1, './speed', filled, 'scan', 64)])
             word = next(keys)
             rounds = cluster.together(*[(me, './ring', word, one, options.times) for me, one in enumerate(('ping', 'pong'))])
             seen.setdefault('ping-pong, rounds a second', []).append([rounds[0].split()[1]])
