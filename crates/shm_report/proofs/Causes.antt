@@ -1,5 +1,5 @@
 -- A report's fault tells what is wrong with the reader's bytes.
-use Rattle.std.proofs.Common.{◌≡◌, ◌≢◌, ◌⊎◌, ◌≤◌, ◌<◌, ◌+◌, inl, inr, ℕ, List, Option, None, Some, Err, Ok, IfSome, false, true, length, min, take, arith, refl, subst, sym, ◌∙◌}
+use Rattle.std.proofs.Common.{◌≡◌, ◌≢◌, ◌⊎◌, ◌<◌, ◌+◌, inl, inr, ℕ, List, Option, None, Some, Err, Ok, IfSome, false, true, length, min, take, arith, refl, subst, sym, ◌∙◌}
 use Rattle.shm_lines.specs.Limits.{max_bytes}
 use Rattle.shm_lines.specs.Workload.{workload_of, Whole}
 use Rattle.shm_lines.specs.declared.workload_error.WorkloadFault.{WorkloadFault}

@@ -1,5 +1,5 @@
 -- What was written is a report, or a front of one.
-use Rattle.std.proofs.Common.{◌≡◌, ◌∙◌, ℕ, Bool, true, false, List, [], ◌++◌, Option, None, Some, Result, Ok, Err, IfErr, IfOk, IfSome, OnOk, OnErr, append_assoc, append-nil, ap, drop, length, refl, subst, sym, take}
+use Rattle.std.proofs.Common.{◌≡◌, ◌∙◌, ℕ, Bool, true, false, List, [], ◌++◌, Option, None, Some, Result, Ok, Err, IfErr, IfSome, OnOk, OnErr, append_assoc, append-nil, ap, drop, length, refl, subst, sym, take}
 use Rattle.std.specs.Prelude.{Vec}
 use Rattle.std.specs.Io.KnownBytes.{Appends, Keeps}
 use Rattle.std.proofs.KnownBytes.{Appends-kept, Appends-trans}
@@ -27,10 +27,6 @@ on_err (Err e) f p = f p
 pub if_err : {X E : Type 0} {P Q : E → Type 0} (r : Result X E) → ((e : E) → P e → Q e) → IfErr r P → IfErr r Q
 if_err (Ok x) f p = tt
 if_err (Err e) f p = f e p
-
-pub if_ok : {X E : Type 0} {P Q : X → Type 0} (r : Result X E) → ((x : X) → P x → Q x) → IfOk r P → IfOk r Q
-if_ok (Ok x) f p = f x p
-if_ok (Err e) f p = tt
 
 pub if_on_err : {X E P : Type 0} {Q : E → Type 0} (r : Result X E) → ((e : E) → P → Q e) → OnErr r P → IfErr r Q
 if_on_err (Ok x) f p = tt

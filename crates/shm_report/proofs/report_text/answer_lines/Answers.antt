@@ -18,8 +18,8 @@ pub returns-clause-lines : goal.returns-clause-lines
 returns-clause-lines c served =
     all_told c.args.accesses.now c.args.callers.now c.accesses.told_of c.accesses.text c.accesses.place (omega arith) (c.accesses.invariant served)
 
-pub returns-in-Err-tell-2-clause-served : goal.returns-in-Err-tell-2-clause-served
-returns-in-Err-tell-2-clause-served c served among few =
+pub returns-in-Err-tell-clause-served : goal.returns-in-Err-tell-clause-served
+returns-in-Err-tell-clause-served c served among few =
     only_memory
-    c.args.accesses.now c.args.callers.now c.accesses.told_of c.accesses.text c.accesses.place c.index-accesses-place.result c.in-Err-tell-2.fault
-    served among few c.accesses-test.true c.index-accesses-place.is (c.accesses.invariant served) c.in-Err-tell-2.ensures.why
+    c.args.accesses.now c.args.callers.now c.accesses.told_of c.accesses.text c.accesses.place c.index-accesses-place.result c.in-Err-tell.fault
+    served among few c.accesses-test.true c.index-accesses-place.is (c.accesses.invariant served) c.in-Err-tell.ensures.why
