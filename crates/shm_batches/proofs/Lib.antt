@@ -1,0 +1,5 @@
+pub mod ChainLemmas
+pub mod JournalLemmas
+pub mod UnmarkedLemmas
+pub mod SectionLemmas
+pub mod FrontLemmas

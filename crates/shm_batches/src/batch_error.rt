@@ -1,0 +1,15 @@
+use thiserror::Error;
+
+/// Why a batch gets no mark, or can't be looked at.
+#[derive(Clone, Copy, Debug, PartialEq, Eq, Error)]
+pub enum BatchFault {
+    /// An allocation was refused.
+    #[error("out of memory")]
+    OutOfMemory,
+    /// The reader answered an error.
+    #[error("read fault")]
+    ReadFault,
+    /// There are as many batches as there are numbers.
+    #[error("the numbers of batches have ended")]
+    NumberEnd,
+}
