@@ -9,6 +9,9 @@ pub enum BatchFault {
     /// The reader answered an error.
     #[error("read fault")]
     ReadFault,
+    /// The writer answered an error, or took nothing.
+    #[error("write fault")]
+    WriteFault,
     /// There are as many batches as there are numbers.
     #[error("the numbers of batches have ended")]
     NumberEnd,

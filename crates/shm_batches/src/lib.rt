@@ -2,6 +2,7 @@
 #![tactic(auto)]
 
 mod batch_error;
+mod batch_writer;
 mod chain;
 mod extent;
 mod front;
@@ -10,6 +11,7 @@ mod section;
 mod unmarked_reader;
 
 pub use batch_error::BatchFault;
+pub use batch_writer::write_batch;
 pub use chain::{Chain, Mark};
 pub use extent::Extent;
 pub use front::measure;
