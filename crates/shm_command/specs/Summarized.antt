@@ -2,19 +2,20 @@
 use Rattle.std.specs.Prelude.{⊤, ◌≡◌, ◌≢◌, ℕ, List, Option}
 use Rattle.std.specs.Io.KnownBytes.{Appends}
 use Rattle.shm_journal.specs.Found.{Bad}
-use Rattle.shm_journal.specs.Summed.{IsSummary, found_any, summary_text}
+use Rattle.shm_journal.specs.Summed.{IsSummary, found_any}
 use Rattle.shm_journal.specs.declared.journal_error.JournalFault.TheVariants as journal
-use Rattle.shm_journal.specs.declared.journal_summary.Summary.{Summary}
 use Rattle.shm_command.specs.Audited.{unaudited_status}
+use Rattle.shm_command.specs.FileSummary.{file_summary_text}
 use Rattle.shm_command.specs.declared.audit_failure.Unaudited.{Unaudited}
 use Rattle.shm_command.specs.declared.audit_failure.Unaudited.TheVariants as cause
+use Rattle.shm_command.specs.declared.file_summary.FileSummary.{FileSummary}
 
--- a file is that of a journal, and what it has was written
+-- the lines of a file are those of a journal, and what it has was written
 pub record TellsSummary (old new : Option (List ℕ)) : Type 0 where
-  pub file : List ℕ
-  pub summary : Summary
-  pub is : IsSummary file summary
-  pub told : Appends old new (summary_text summary)
+  pub journal : List ℕ
+  pub summary : FileSummary
+  pub is : IsSummary journal summary.lines
+  pub told : Appends old new (file_summary_text summary)
 
 -- a file has a bad line there; or something else failed
 abbrev pub IsUntold : Unaudited → Type 0

@@ -9,9 +9,9 @@ use Rattle.shm_command.specs.declared.replayed_steps_notice.TakenAgain.{TakenAga
 abbrev pub again_text : TakenAgain → List ℕ
 again_text again =
     codes "journal: steps taken again: " ++ (decimal again.steps ++ (codes ", clock: " ++ (decimal again.clock
-    ++ (codes ", torn bytes cut off: " ++ decimal again.torn))))
+    ++ (codes ", batches: " ++ (decimal again.batches ++ (codes ", cut off " ++ (decimal again.torn ++ codes " bytes that were never durable")))))))
 
--- the steps that this journal led through, and the clock to which they led; what was torn is known of the file alone
+-- the steps that this journal led through, and the clock to which they led; what was cut off is known of the file alone
 pub record IsTakenAgain (header : Header) (remaining : Option (List ℕ)) (again : TakenAgain) : Type 0 where
   pub journal : List ℕ
   pub known : IfSome remaining (λ known. journal ≡ known)

@@ -11,6 +11,10 @@ pub enum Unaudited {
     Unopened { at: usize },
     /// Memory or reading failed at this journal, or it is none.
     Unread { at: usize, fault: JournalFault },
+    /// A whole batch stands behind a broken one in this journal. Its first so many bytes are whole.
+    Damaged { at: usize, bytes: u64 },
+    /// This journal has lines, and no mark behind them: an earlier version kept it.
+    Unmarked { at: usize },
     /// This journal is of another cluster than the first.
     OtherCluster { at: usize },
     /// They aren't those of one set of sites, or an audit found a cause.

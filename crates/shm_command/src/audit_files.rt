@@ -6,6 +6,7 @@ ghost use Rattle.shm_command.specs.declared.audit_failure.Unaudited.TheVariants 
 
 use crate::audit_failure::Unaudited;
 use crate::error_text_and_status;
+use crate::whole_journal::open_whole;
 use shm_audit::{JournalsFault, Totals, audit_journals, read_log};
 use shm_journal::{Lines, Taken, parse_header};
 use shm_place::Sites;
@@ -118,11 +119,12 @@ fn read_logs<R: AllocGlobal + Files>(rt: &R, journals: &[&str]) -> Result<Vec<Si
 fn read_journal<R: AllocGlobal + Files>(rt: &R, at: usize, name: &str) -> Result<SiteLog, Unaudited>
     ensures { IfErr result IsUnread }
 {
-    let Ok(file) = File::open(rt, name) else {
-        return Err(Unaudited::Unopened { at });
+    let whole = match open_whole(rt, name) {
+        Ok(whole) => whole,
+        Err(unwhole) => return Err(unwhole.of_audit(at)),
     };
-    let mut file = file;
-    match read_log(rt.alloc(), &mut file) {
+    let mut lines = whole.lines;
+    match read_log(rt.alloc(), &mut lines) {
         Ok(log) => Ok(log),
         Err(fault) => Err(Unaudited::Unread { at, fault }),
     }

@@ -99,6 +99,7 @@ pub fn site_fault<E: Write>(fault: SiteFault, errors: &mut E) -> u8
     let _ = writeln!(errors, "shmdbg: {fault}");
     match fault {
         SiteFault::Missing | SiteFault::NoFile | SiteFault::Existing | SiteFault::Blank => 1,
+        SiteFault::Damaged(_) | SiteFault::Unmarked => 1,
         SiteFault::Unrecovered(RecoveryFault::Foreign | RecoveryFault::BadLine(_)) => 1,
         _ => 3,
     }
@@ -164,6 +165,7 @@ fn status_of(fault: &Unaudited) -> u8
             JournalFault::BadLine(_) => 1,
             JournalFault::OutOfMemory | JournalFault::ReadFault => 3,
         },
+        Unaudited::Damaged { .. } | Unaudited::Unmarked { .. } => 1,
         Unaudited::OtherCluster { .. } => 1,
         Unaudited::Unaccepted(fault) => match fault {
             JournalsFault::NotOneSet => 1,
@@ -188,6 +190,20 @@ fn write_unaudited<E: Write>(
         Unaudited::Unread { at, fault } => {
             let name = name_of(journals, at);
             writeln!(errors, "shmdbg: {name}: {fault}")
+        }
+        Unaudited::Damaged { at, bytes } => {
+            let name = name_of(journals, at);
+            writeln!(
+                errors,
+                "shmdbg: {name}: damaged behind its first {bytes} bytes: a whole batch stands behind a broken one"
+            )
+        }
+        Unaudited::Unmarked { at } => {
+            let name = name_of(journals, at);
+            writeln!(
+                errors,
+                "shmdbg: {name}: its batches have no marks: an earlier version kept it"
+            )
         }
         Unaudited::OtherCluster { at } => {
             let name = name_of(journals, at);

@@ -3,8 +3,10 @@ ghost use Rattle.std.specs.Io.KnownBytes.{Appends};
 ghost use Rattle.std.specs.Prelude.{ℕ, OnErr, OnOk, take};
 
 use crate::journal_startup::cut;
+use shm_batches::{Chain, write_batch};
 use shm_journal::{Failed, Journal};
 use shm_text::{read_up_to, write_whole};
+use std::alloc::Global;
 use std::fs::OpenFile;
 use std::io::{self, Read, Write};
 
@@ -38,19 +40,23 @@ impl Journal for NoJournal {
     }
 }
 
-/// A file, at whose end is written.
+/// A file, at whose end batches are written.
 #[derive(Drop)]
 pub(crate) struct JournalFile<F> {
+    alloc: Global,
     file: F,
+    chain: Chain,
     durable: u64,
     loose: u64,
 }
 
 impl<F: OpenFile> JournalFile<F> {
-    /// A file of this many bytes, all of them durable.
-    pub(crate) fn new(file: F, durable: u64) -> JournalFile<F> {
+    /// A file of these batches in this many bytes, all of them durable.
+    pub(crate) fn new(alloc: Global, file: F, chain: Chain, durable: u64) -> JournalFile<F> {
         JournalFile {
+            alloc,
             file,
+            chain,
             durable,
             loose: 0,
         }
@@ -81,9 +87,9 @@ impl<F: Write + OpenFile> Journal for JournalFile<F> {
     }
 
     fn append(&mut self, text: &[u8]) -> Result<(), Failed> {
-        match write_whole(&mut self.file, text) {
-            Ok(()) => {
-                self.loose = self.loose.saturating_add(text.len() as u64);
+        match write_batch(self.alloc, &mut self.file, &mut self.chain, text) {
+            Ok(count) => {
+                self.loose = self.loose.saturating_add(count);
                 Ok(())
             }
             Err(_) => Err(Failed),

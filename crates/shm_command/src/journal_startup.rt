@@ -1,6 +1,5 @@
-//! The file of a site's journal: it is as it was asked for, one process alone has it, and what is torn at its end is cut off.
+//! The file of a site's journal: it is as it was asked for, one process alone has it, and what was never durable at its end is cut off.
 ghost use Rattle.std.specs.Prelude.{◌≡◌, ◌≤◌, ◌<◌, ℕ, List, if◌then◌else◌, not, IfErr, IfOk, IfSome, OnOk};
-ghost use Rattle.shm_journal.specs.Found.{bytes_of_lines, lines_of};
 ghost use Rattle.shm_journal.specs.Recovers.{ReadsAll};
 ghost use Rattle.shm_command.specs.Begun.{BeginsKept, ReadsUnbegun, header_at};
 ghost use Rattle.shm_command.specs.Served.{IsUnbegun};
@@ -11,6 +10,7 @@ ghost use Rattle.shm_seal.specs.SealOf.{seal_of};
 
 use crate::replayed_steps_notice::TakenAgain;
 use crate::site_error::SiteFault;
+use shm_batches::{Chain, Extent};
 use shm_journal::{Header, Recovered, open_desk, recover};
 use shm_place::{PAGES, SiteId, Sites};
 use shm_process::{Desk, Start};
@@ -47,6 +47,8 @@ pub(crate) struct Begun {
     pub(crate) desk: Desk,
     /// How many bytes the journal has. They are durable.
     pub(crate) durable: u64,
+    /// Its batches.
+    pub(crate) chain: Chain,
     /// The count of what the site took again.
     pub(crate) again: TakenAgain,
 }
@@ -90,10 +92,10 @@ where
     }
 }
 
-/// Begins a site with what it finds in its journal. There has to be no whole line exactly where the journal is to be begun. Cuts off what
-/// is torn, and makes that durable; for a new journal it makes the file's name durable too. `since` is when the process started, in seconds
-/// since 1970.
-pub(crate) fn begin_kept<R: AllocGlobal + Files, F: Read + OpenFile>(
+/// Begins a site with what it finds in the lines of its journal, whose file is whole so far. There has to be no whole line exactly where the
+/// journal is to be begun. Cuts off what stands behind what is whole, and makes that durable; for a new journal it makes the file's name
+/// durable too. `since` is when the process started, in seconds since 1970.
+pub(crate) fn begin_kept<R: AllocGlobal + Files, J: Read, F: OpenFile>(
     rt: &R,
     sites: Sites,
     me: SiteId,
@@ -101,21 +103,23 @@ pub(crate) fn begin_kept<R: AllocGlobal + Files, F: Read + OpenFile>(
     seal: Seal,
     kept: Kept<'_>,
     since: u64,
-    file: &mut F,
+    extent: Extent,
+    lines: &mut J,
+    file: &F,
 ) -> Result<Begun, SiteFault>
     requires below { me < sites }
     requires from { 1 ≤ pages }
     requires to { pages ≤ PAGES }
-    ensures begun { IfOk result (λ begun. (journal : List ℕ) × IfSome (F.remaining file.old) (λ known. journal ≡ known)
-        × (begun.durable ≡ bytes_of_lines (lines_of journal).whole)
+    ensures whole { IfOk result (λ begun. (begun.durable ≡ extent.bytes) × (begun.chain ≡ extent.chain)) }
+    ensures begun { IfOk result (λ begun. (journal : List ℕ) × IfSome (J.remaining lines.old) (λ known. journal ≡ known)
         × BeginsKept kept.entry.begins (seal_of seal) (header_at sites me pages (cluster_of (seal_of seal))) since journal (desk_of begun.desk)) }
-    ensures again { IfOk result (λ begun. IsTakenAgain (header_at sites me pages (cluster_of (seal_of seal))) (F.remaining file.old) begun.again) }
-    ensures all { OnOk result (ReadsAll (F.remaining file.old) (F.remaining file.new)) }
-    ensures left { IfErr result (ReadsUnbegun (header_at sites me pages (cluster_of (seal_of seal))) (F.remaining file.old) (F.remaining file.new)) }
+    ensures again { IfOk result (λ begun. IsTakenAgain (header_at sites me pages (cluster_of (seal_of seal))) (J.remaining lines.old) begun.again) }
+    ensures all { OnOk result (ReadsAll (J.remaining lines.old) (J.remaining lines.new)) }
+    ensures left { IfErr result (ReadsUnbegun (header_at sites me pages (cluster_of (seal_of seal))) (J.remaining lines.old) (J.remaining lines.new)) }
     ensures unbegun { IfErr result IsUnbegun }
 {
     let cluster = seal.name();
-    let found = match recover(rt.alloc(), sites, me, pages, cluster, file) {
+    let found = match recover(rt.alloc(), sites, me, pages, cluster, lines) {
         Ok(found) => found,
         Err(fault) => return Err(SiteFault::Unrecovered(fault)),
     };
@@ -133,9 +137,10 @@ pub(crate) fn begin_kept<R: AllocGlobal + Files, F: Read + OpenFile>(
     let again = TakenAgain {
         steps: node.steps(),
         clock: node.clock(),
-        torn: bytes_behind(file, whole),
+        batches: extent.chain.number(),
+        torn: bytes_behind(file, extent.bytes),
     };
-    if cut(file, whole).is_err() {
+    if cut(file, extent.bytes).is_err() {
         return Err(SiteFault::Uncut);
     }
     if list_new(rt, kept.name, is_new).is_err() {
@@ -154,7 +159,8 @@ pub(crate) fn begin_kept<R: AllocGlobal + Files, F: Read + OpenFile>(
     match open_desk(rt.alloc(), header, seal, is_new, node, start) {
         Ok(desk) => Ok(Begun {
             desk,
-            durable: whole,
+            durable: extent.bytes,
+            chain: extent.chain,
             again,
         }),
         Err(fault) => Err(SiteFault::Unopenable(fault)),

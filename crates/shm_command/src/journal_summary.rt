@@ -1,16 +1,19 @@
 //! The summary of a journal in a file.
 ghost use Rattle.std.specs.Prelude.{◌≡◌, ◌≢◌, ◌<◌, ◌⊎◌, ℕ, List, IfErr, IfOk, OnOk};
 ghost use Rattle.std.specs.Io.KnownBytes.{Appends};
-ghost use Rattle.shm_journal.specs.Summed.{IsSummary, summary_text};
+ghost use Rattle.shm_journal.specs.Summed.{IsSummary};
+ghost use Rattle.shm_command.specs.FileSummary.{file_summary_text};
 ghost use Rattle.shm_command.specs.Summarized.{FailsSummary, IsUntold, TellsSummary};
 ghost use Rattle.shm_command.specs.declared.audit_failure.Unaudited.TheVariants as cause;
 
 use crate::audit_failure::Unaudited;
 use crate::error_text_and_status;
-use shm_journal::{Summary, read_summary};
+use crate::file_summary::FileSummary;
+use crate::whole_journal::{WholeJournal, open_whole};
+use shm_journal::read_summary;
 use shm_text::write_whole;
 use std::alloc::Global;
-use std::fs::File;
+use std::fs;
 use std::io::Write;
 use std::rt::Files;
 
@@ -50,22 +53,36 @@ fn tell_summary<R: AllocGlobal + Files, O: Write>(
 }
 
 /// The summary of the journal of this name.
-fn read_file<R: AllocGlobal + Files>(rt: &R, name: &str) -> Result<Summary, Unaudited>
-    ensures ok { IfOk result (λ summary. (file : List ℕ) × IsSummary file summary) }
+fn read_file<R: AllocGlobal + Files>(rt: &R, name: &str) -> Result<FileSummary, Unaudited>
+    ensures ok { IfOk result (λ summary. (journal : List ℕ) × IsSummary journal summary.lines) }
     ensures err { IfErr result IsUntold }
 {
-    let Ok(file) = File::open(rt, name) else {
+    let whole = match open_whole(rt, name) {
+        Ok(whole) => whole,
+        Err(unwhole) => return Err(unwhole.of_audit(0)),
+    };
+    let WholeJournal { extent, mut lines } = whole;
+    let lines = match read_summary(rt.alloc(), &mut lines) {
+        Ok(lines) => lines,
+        Err(fault) => return Err(Unaudited::Unread { at: 0, fault }),
+    };
+    let Ok(found) = fs::metadata(rt, name) else {
         return Err(Unaudited::Unopened { at: 0 });
     };
-    let mut file = file;
-    match read_summary(rt.alloc(), &mut file) {
-        Ok(summary) => Ok(summary),
-        Err(fault) => Err(Unaudited::Unread { at: 0, fault }),
-    }
+    Ok(FileSummary {
+        lines,
+        batches: extent.chain.number(),
+        bytes: found.len(),
+        behind: found.len().saturating_sub(extent.bytes),
+    })
 }
 
-fn write_summary<O: Write>(alloc: Global, summary: Summary, out: &mut O) -> Result<(), Unaudited>
-    ensures told { OnOk result (Appends (O.contents out.old) (O.contents out.new) (summary_text summary)) }
+fn write_summary<O: Write>(
+    alloc: Global,
+    summary: FileSummary,
+    out: &mut O,
+) -> Result<(), Unaudited>
+    ensures told { OnOk result (Appends (O.contents out.old) (O.contents out.new) (file_summary_text summary)) }
     ensures untold { IfErr result IsUntold }
     ensures quiet { IfErr result (λ fault. (fault ≡ cause.WriteFault) ⊎ (out.new ≡ out.old)) }
 {

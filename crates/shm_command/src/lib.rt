@@ -10,6 +10,7 @@ mod disk_save_file;
 mod dispatch_command;
 mod elapsed_time;
 mod error_text_and_status;
+mod file_summary;
 mod journal_backends;
 mod journal_startup;
 mod journal_summary;
@@ -27,6 +28,7 @@ mod serve_site;
 mod show_wrong_line;
 mod simulation_report;
 mod site_error;
+mod whole_journal;
 
 pub use args::{SealWords, Simulation, Task, parse_words};
 pub use dispatch_command::run_words;

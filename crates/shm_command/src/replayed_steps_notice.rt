@@ -7,7 +7,9 @@ pub struct TakenAgain {
     pub steps: u64,
     /// The clock of the last, or 0.
     pub clock: u64,
-    /// How many torn bytes were cut off.
+    /// In how many batches they were kept.
+    pub batches: u64,
+    /// How many bytes were cut off behind them. They were never durable.
     pub torn: u64,
 }
 
@@ -19,10 +21,15 @@ impl fmt::Display for TakenAgain {
 
     /// The line, without a line feed.
     fn fmt<W: fmt::Write>(&self, f: &mut fmt::Formatter<W>) -> fmt::Result {
-        let TakenAgain { steps, clock, torn } = *self;
+        let TakenAgain {
+            steps,
+            clock,
+            batches,
+            torn,
+        } = *self;
         write!(
             f,
-            "journal: steps taken again: {steps}, clock: {clock}, torn bytes cut off: {torn}"
+            "journal: steps taken again: {steps}, clock: {clock}, batches: {batches}, cut off {torn} bytes that were never durable"
         )
     }
 }

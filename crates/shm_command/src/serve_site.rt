@@ -15,6 +15,7 @@ use crate::error_text_and_status;
 use crate::journal_backends::{JournalFile, NoJournal};
 use crate::journal_startup::{Begun, Kept, Lock, begin_kept, open_journal};
 use crate::site_error::SiteFault;
+use crate::whole_journal::{WholeJournal, open_whole};
 use shm_journal::{Header, ProcessFault, serve};
 use shm_place::{PAGES, SiteId, Sites};
 use shm_process::{Desk, Node, Start};
@@ -79,23 +80,37 @@ where
     ensures { IsServed (Some kept.entry.begins) (seal_of seal) (header_at sites me pages (cluster_of (seal_of seal))) result (streams (I.remaining reader.old) (O.contents out.old))
         (streams (I.remaining reader.new) (O.contents out.new)) }
 {
-    let mut file = match open_journal(rt, kept) {
+    let file = match open_journal(rt, kept) {
         Ok(file) => file,
         Err(fault) => return Err(fault),
     };
     let started = Instant::now(rt).ok();
     let since = seconds_since_1970(rt);
-    match begin_kept(rt, sites, me, pages, seal, kept, since, &mut file) {
+    let whole = match open_whole(rt, kept.name) {
+        Ok(whole) => whole,
+        Err(unwhole) => return Err(unwhole.of_site()),
+    };
+    let WholeJournal { extent, mut lines } = whole;
+    match begin_kept(
+        rt, sites, me, pages, seal, kept, since, extent, &mut lines, &file,
+    ) {
         Ok(begun) => {
             let Begun {
                 desk,
                 durable,
+                chain,
                 again,
             } = begun;
             if !kept.begins {
                 error_text_and_status::taken_again(again, milliseconds_since(rt, started), errors);
             }
-            serve_kept(desk, reader, out, JournalFile::new(file, durable), errors)
+            serve_kept(
+                desk,
+                reader,
+                out,
+                JournalFile::new(rt.alloc(), file, chain, durable),
+                errors,
+            )
         }
         Err(fault) => Err(fault),
     }

@@ -19,13 +19,19 @@ pub enum SiteFault {
     /// The journal was to be begun, and is already.
     #[error("journal: it is begun already: start the site without --new")]
     Existing,
-    /// The journal was to be gone on with, and has no whole line: it is empty, or has a front of its header.
+    /// The journal was to be gone on with, and has no whole batch.
     #[error("journal: nothing is begun in it: --new begins it")]
     Blank,
+    /// A whole batch stands behind a broken one: durable bytes of the journal have changed. The first so many bytes are whole.
+    #[error("journal: damaged behind its first {0} bytes: a whole batch stands behind a broken one")]
+    Damaged(u64),
+    /// The journal has lines, and no mark behind them: an earlier version kept it.
+    #[error("journal: its batches have no marks: an earlier version kept it")]
+    Unmarked,
     /// Another process has the journal.
     #[error("journal: another process has it")]
     Taken,
-    /// The torn end of the journal couldn't be cut off, or what stands before it not be made durable.
+    /// What was never durable couldn't be cut off the journal, or what stands before it not be made durable.
     #[error("journal: it can't be made durable")]
     Uncut,
     /// The folder of a new journal couldn't be made durable.
