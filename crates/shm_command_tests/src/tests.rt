@@ -5,6 +5,7 @@ mod failing_streams;
 mod journal_and_log_files;
 mod journal_summaries;
 mod journals;
+mod marked_journals;
 mod prompts;
 mod replay_limits;
 mod runs;

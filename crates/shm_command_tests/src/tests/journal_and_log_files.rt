@@ -1,49 +1,42 @@
 //! Files of which no contract speaks: the journals of two sites, a journal that another process has, and the logs of a run.
+use super::marked_journals::marked;
 use super::{expect, run_over};
 use shm_command::Lock;
 use std::fs::{self, OpenOptions};
 use std::test::Fail;
 
-/// The journals of two sites, which share a page: site 0 stores to it, site 1 ticks.
-const BEGUN: [(&str, &str); 2] = [
-    (
-        "first.journal",
-        "journal 2 0 1\nstep 1 ask 0 a store 0 5 7\n",
-    ),
-    ("second.journal", "journal 2 1 1\nstep 1 ask 1 b tick\n"),
+/// The batches in the journals of two sites, which share a page: site 0 stores to it, site 1 ticks.
+const FIRST: [&[u8]; 2] = [b"journal 2 0 1\n", b"step 1 ask 0 a store 0 5 7\n"];
+
+const SECOND: [&[u8]; 3] = [
+    b"journal 2 1 1\n",
+    b"step 1 ask 1 b tick\n",
+    b"step 2 env 0 1 1 0 0 clear 0 0 1\n",
 ];
 
 /// Each journal is read, in its turn, and stays as it was. A cause is told with the file and the line in which it stands.
 #[test]
 fn two_journals_are_audited(rt: HostRuntime) -> Result<(), Fail> {
-    for (name, text) in BEGUN {
-        fs::write(&rt, name, text.as_bytes())?;
-    }
+    let first = marked(rt.alloc(), &FIRST)?;
+    fs::write(&rt, "first.journal", first.as_slice())?;
     let yes = "audit yes\nsteps 2\naccesses 1\nenvelopes 0\n";
     let no = "shmdbg: audit no: unsent 1 1: second.journal: line 3\n";
-    let cases: [(&str, &str, &str, u8, &str, &str); 3] = [
-        ("", "first.journal", "second.journal", 0, yes, ""),
+    let order = "shmdbg: not one set of journals\n";
+    let cases: [(&[&[u8]], &str, &str, u8, &str, &str); 3] = [
+        (&SECOND[..2], "first.journal", "second.journal", 0, yes, ""),
         (
-            "",
+            &SECOND[..2],
             "second.journal",
             "first.journal",
             1,
             "",
-            "shmdbg: not one set of journals\n",
+            order,
         ),
-        (
-            "step 2 env 0 1 1 0 0 clear 0 0 1\n",
-            "first.journal",
-            "second.journal",
-            4,
-            "",
-            no,
-        ),
+        (&SECOND, "first.journal", "second.journal", 4, "", no),
     ];
-    for (more, one, other, status, told, errors) in cases {
-        let (name, text) = BEGUN[1];
-        let second = format!(in rt.alloc(); "{text}{more}")?;
-        fs::write(&rt, name, second.as_bytes())?;
+    for (batches, one, other, status, told, errors) in cases {
+        let second = marked(rt.alloc(), batches)?;
+        fs::write(&rt, "second.journal", second.as_slice())?;
         let mut reader = b"".as_slice();
         let ran = run_over(
             &rt,
@@ -51,20 +44,20 @@ fn two_journals_are_audited(rt: HostRuntime) -> Result<(), Fail> {
             &mut reader,
         );
         expect(&rt, &ran, status, told.as_bytes(), errors.as_bytes());
-        let left = fs::read(&rt, name)?;
-        assert_eq!(rt; left.as_slice(), second.as_bytes());
+        let left = fs::read(&rt, "second.journal")?;
+        assert_eq!(rt; left.as_slice(), second.as_slice());
     }
-    for (name, _text) in BEGUN {
-        fs::remove_file(&rt, name)?;
-    }
+    fs::remove_file(&rt, "first.journal")?;
+    fs::remove_file(&rt, "second.journal")?;
     Ok(())
 }
 
 /// While a journal is taken no process has it: nothing is told, and the file stays as it was.
 #[test]
 fn a_journal_that_is_taken(rt: HostRuntime) -> Result<(), Fail> {
-    let (name, text) = ("taken.journal", "journal 1 0 1\n");
-    fs::write(&rt, name, text.as_bytes())?;
+    let name = "taken.journal";
+    let bytes = marked(rt.alloc(), &[b"journal 1 0 1\n"])?;
+    fs::write(&rt, name, bytes.as_slice())?;
     let held = OpenOptions::new().read(true).append(true).open(&rt, name)?;
     assert!(rt; held.lock_alone().is_ok());
     let mut reader = b"ask 0 a store 0 5 7\n".as_slice();
@@ -87,7 +80,7 @@ fn a_journal_that_is_taken(rt: HostRuntime) -> Result<(), Fail> {
         b"shmdbg: journal: another process has it\n",
     );
     let left = fs::read(&rt, name)?;
-    assert_eq!(rt; left.as_slice(), text.as_bytes());
+    assert_eq!(rt; left.as_slice(), bytes.as_slice());
     fs::remove_file(&rt, name)?;
     Ok(())
 }
