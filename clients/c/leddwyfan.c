@@ -322,14 +322,15 @@ static void ask_again(struct leddwyfan *site) {
     probe(site);
 }
 
-/* The journal is begun by now, unless the site was killed before it had written the first line. */
+/* The journal is begun by now, unless the site was killed before it had written the first batch: a line and its mark. */
 static void begin_no_more(struct leddwyfan *site) {
-    char line[64];
+    char lines[256];
     if (site->begin == NULL) return;
     int journal = open(site->begin[-1], O_RDONLY | O_CLOEXEC);
-    ssize_t length = journal < 0 ? 0 : read(journal, line, sizeof line);
+    ssize_t length = journal < 0 ? 0 : read(journal, lines, sizeof lines);
     if (journal >= 0) close(journal);
-    if (length <= 0 || memchr(line, '\n', (size_t)length) == NULL) return;
+    const char *end = length <= 0 ? NULL : memchr(lines, '\n', (size_t)length);
+    if (end == NULL || memchr(end + 1, '\n', (size_t)(lines + length - end - 1)) == NULL) return;
     free(*site->begin);
     *site->begin = NULL;
     site->begin = NULL;

@@ -651,7 +651,7 @@ class Site:
             self._fail(errno.EIO)
             return
         self._restarts -= 1
-        self._begin = self._begin and not has_line(self._journal)
+        self._begin = self._begin and not has_batch(self._journal)
         try:
             self._start_process()
         except OSError:
@@ -672,11 +672,11 @@ class Site:
         self._changed.notify_all()
 
 
-def has_line(journal):
-    """A site that was killed before it had written its journal's first line has to begin it once more."""
+def has_batch(journal):
+    """A site that was killed before it had written its journal's first batch, a line and its mark, has to begin it once more."""
     try:
         with open(journal, 'rb') as file:
-            return file.readline().endswith(b'\n')
+            return file.readline().endswith(b'\n') and file.readline().endswith(b'\n')
     except FileNotFoundError:
         return False
 

@@ -4,9 +4,10 @@
     crashes.py [--program PROGRAM] [--sites N] [--seconds T] [--seed K] [--kills R] [--no-journal]
 
 Makes rounds of some 20 seconds until the time is over. In each, N sites (0: 2 to 5 in turn) are processes `PROGRAM site .. --journal FILE`,
-and R times a second one of them is killed by signal 9; half of the times a piece of a line is left at its journal's end, as a write that was
-torn would leave it. A moment later the site is started again from its journal. What a killed process had written and nobody had read yet is
-lost half of the times. Envelopes are lost, repeated and reordered, and some asks and answers are lost.
+and R times a second one of them is killed by signal 9. Half of the times something is left behind the last whole batch of its journal, as a
+machine that crashed may leave there what was never durable: a front of a batch, a batch with a hole, zeros, garbage, or old blocks. A moment
+later the site is started again from its journal. What a killed process had written and nobody had read yet is lost half of the times.
+Envelopes are lost, repeated and reordered, and some asks and answers are lost.
 
 Each site has callers, which load bytes that all share and store there; no value is stored twice at a byte. Now and then they read a block, of
 which each byte counts as a load between the block's ask and its answer. At the end of a round each byte's history needs one order of its
@@ -19,12 +20,14 @@ import base64
 import os
 import random
 import selectors
+import shutil
 import subprocess
 import sys
 import tempfile
 import time
 from dataclasses import dataclass
 
+from batches import is_damaged, whole_batches
 from histories import Access, loads_of, violations
 from router import PAGE_BYTES, PAGES, TICK_SECONDS, Site
 
@@ -38,7 +41,9 @@ DOWN_SECONDS = 0.2
 GIVE_UP_SECONDS = 1
 AGAIN_SECONDS = 0.02
 END_SECONDS = 20
-COUNTS = ('kills', 'torn', 'loads', 'stores', 'blocks', 'lost', 'repeated', 'violations', 'audits')
+MOST_BEHIND = 20000
+TORN = ('front', 'hole', 'zeros', 'garbage', 'stale')
+COUNTS = ('kills', *TORN, 'damaged', 'loads', 'stores', 'blocks', 'lost', 'repeated', 'violations', 'audits')
 
 
 class Places:
@@ -152,12 +157,41 @@ class Caller:
         return True
 
 
-def has_line(journal):
+def read(journal):
     try:
         with open(journal, 'rb') as file:
-            return file.readline().endswith(b'\n')
+            return file.read()
     except FileNotFoundError:
-        return False
+        return b''
+
+
+def write(journal, data):
+    with open(journal, 'wb') as file:
+        file.write(data)
+
+
+def behind(kind, data, draw):
+    """What a crash may leave behind a journal's whole batches. No mark in it is whole by itself."""
+    chain, ends = whole_batches(data)
+    length = draw.randrange(1, draw.choice((200, MOST_BEHIND)))
+    if kind == 'zeros':
+        return bytes(length)
+    if kind == 'garbage':
+        return draw.randbytes(length)
+    if kind == 'stale':  # from within a batch on, and to within the one behind it
+        begins = [0] + ends
+        at = draw.randrange(len(ends))
+        end = begins[min(at + 2, len(ends))] - 1
+        first = draw.randrange(begins[at] + 1, min(end, begins[at + 1]))
+        return data[first:draw.randrange(first + 1, end + 1)]
+    # the next batch, with lines of an earlier one
+    begin, end = draw.choice(list(zip([0] + ends, ends)))
+    batch = chain.batch(data[begin:data.rindex(b'durable ', begin, end)])
+    if kind == 'front':
+        return batch[:draw.randrange(1, len(batch))]
+    first = draw.randrange(len(batch))
+    last = draw.randrange(first + 1, len(batch) + 1)
+    return (batch[:first] + bytes(last - first) + batch[last:])[:draw.randrange(first + 1, len(batch) + 1)]
 
 
 class Seat:
@@ -169,11 +203,12 @@ class Seat:
         self.start_at = 0
 
     def start(self):
-        """A journal that has no whole line yet is to be begun."""
-        words = self.words
-        if self.journal in words and not has_line(self.journal):
-            words = words + ['--new']
-        self.site = Site(words)
+        self.site = Site(self.start_words())
+
+    def start_words(self):
+        """A journal that has no whole batch yet is to be begun."""
+        begins = self.journal in self.words and not whole_batches(read(self.journal))[1]
+        return self.words + ['--new'] * begins
 
     def send(self, line):
         """What is said to a site that is down is lost."""
@@ -200,12 +235,43 @@ class Seat:
         site.process.stdout.close()
         return lines
 
-    def tear(self, draw):
-        """Leaves a piece of a line at the journal's end."""
-        with open(self.journal, 'ab+') as file:
-            file.seek(max(0, file.tell() - 2 * PAGE_BYTES))
-            line = (file.read().splitlines() or [b'journal'])[-1]
-            file.write(line[:draw.randrange(1, len(line) + 1)])
+    def tear(self, kind, draw):
+        """Leaves something behind the journal's whole batches. False: it has none yet."""
+        data = read(self.journal)
+        _, ends = whole_batches(data)
+        if not ends:
+            return False
+        left = data[:ends[-1]] + behind(kind, data[:ends[-1]], draw)
+        if is_damaged(left):
+            sys.exit(f'{kind}: a mark is whole by itself')
+        write(self.journal, left)
+        return True
+
+    def damage(self, kind, draw):
+        """Damages the journal, looks that the site doesn't start, and takes that back. False: it has too few batches."""
+        data = read(self.journal)
+        _, ends = whole_batches(data)
+        if len(ends) < 3:
+            return False
+        begins = [0] + ends
+        if kind == 'old':
+            at, whole = draw.randrange(len(ends)), ends[-1]
+            batch = data[begins[at]:ends[at]]
+            damaged = data[:whole] + draw.choice((batch, behind('garbage', data, draw) + b'\ndurable 9\n' + batch))
+        else:  # one bit of a batch behind which at least two stand: its mark may be none any more, or join the next one
+            at = draw.randrange(len(ends) - 2)
+            whole, place = begins[at], draw.randrange(begins[at], ends[at])
+            damaged = data[:place] + bytes([data[place] ^ 1 << draw.randrange(8)]) + data[place + 1:]
+        write(self.journal, damaged)
+        told = f'damaged behind its first {whole} bytes: a whole batch stands behind a broken one\n'
+        journal = [self.words[0], 'journal', self.journal]
+        for words, name in ((self.words, 'journal'), (self.words + ['--new'], 'journal'), (journal, self.journal)):
+            done = subprocess.run(words, stdin=subprocess.DEVNULL, capture_output=True, check=False)
+            if (done.returncode, done.stdout, done.stderr.decode()) != (1, b'', f'shmdbg: {name}: {told}') or read(self.journal) != damaged:
+                shutil.copy(self.journal, self.journal + '.damaged')
+                sys.exit(f'{kind} at {at} of {len(ends)}: status {done.returncode}, {done.stdout}, {done.stderr}; {self.journal}.damaged')
+        write(self.journal, data)
+        return True
 
     def stop(self):
         """Ends the input, passes over what the process still writes, and answers its status."""
@@ -285,8 +351,11 @@ class Round:
         if self.happens(0.5, None):
             for line in lines:
                 self.take(line)
-        if not self.options.no_journal and self.happens(0.5, 'torn'):
-            seat.tear(self.draw)
+        if not self.options.no_journal and self.happens(0.5, None):
+            kind = self.draw.choice(TORN)
+            self.counts[kind] += seat.tear(kind, self.draw)
+        if self.options.damage is not None:
+            self.counts['damaged'] += seat.damage(self.options.damage, self.draw)
         for caller in self.callers.values():
             if caller.site == site:
                 caller.begin(now)
@@ -386,6 +455,7 @@ def main():
     parser.add_argument('--lose', type=float, default=0.1)
     parser.add_argument('--repeat', type=float, default=0.1)
     parser.add_argument('--no-journal', action='store_true')
+    parser.add_argument('--damage', choices=('old', 'flip'), help=argparse.SUPPRESS)
     options = parser.parse_args()
     folder = tempfile.mkdtemp(prefix='crashes-')
     well = run_rounds(options, folder)

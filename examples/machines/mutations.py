@@ -130,7 +130,7 @@ class Cluster:
         """The first step in a journal that no line under the key has made."""
         for journal in self.journals:
             with open(journal, 'rb') as file:
-                for entry in list(file)[1:]:
+                for entry in [line for line in file if not line.startswith(b'durable ')][1:]:
                     words = entry[:-1].split(b' ', 5)
                     line = entry[:-1].split(b' ', 2)[2]
                     own = words[2] == b'ask' and (words[4].startswith(b'own.') or words[4] == b'tick')

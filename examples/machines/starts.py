@@ -17,9 +17,14 @@ import sys
 import tempfile
 import time
 
+from batches import marked
+
 HERE = os.path.dirname(os.path.abspath(__file__))
 HEADER = b'journal 2 0 1\n'
-STORED = HEADER + b'step 1 ask 0 a store 0 5 7\n'
+STEP = b'step 1 ask 0 a store 0 5 7\n'
+RESTART = b'step 2 restart\n'
+BEGUN_ALONE = marked(HEADER)
+STORED = marked(HEADER, STEP)
 STORE = b'ask 0 a store 0 5 7\n'
 TOLD = b'tell 0 a stored\n'
 LOST = 'journal: there is none of this name: --new begins one'
@@ -29,6 +34,10 @@ OTHER = 'journal: of another site, number of sites, opening or cluster'
 NO_FILE = 'journal: it is no plain file'
 NO_NAME = 'cluster: a name has 1 to 32 bytes of printable ASCII, and no blank'
 FAILED = 'journal: write fault'
+DAMAGED = 'damaged behind its first %d bytes: a whole batch stands behind a broken one'
+UNMARKED = 'its batches have no marks: an earlier version kept it'
+# What docs/machines.md shows for such a journal.
+MARK = '''printf 'durable 1 %064d' 0 >> "$1"; printf ' %s\\n' "$(sha256sum < "$1" | cut -d' ' -f1)" >> "$1" '''
 TOOK = re.compile(rb', in \d+ ms$', re.M)
 GREETING = b'env 0 1 0 0 0 hello 2 1\n'
 GREETINGS = re.compile(rb'\A(env \d+ \d+ 0 0 0 hello \d+ \d+( @\w+)?\n)+')
@@ -36,8 +45,11 @@ HEALTH = re.compile(rb'^shmdbg: health steps \d+ .*\n', re.M)
 COUNTS = (b'shmdbg: health steps 1 clock 1 taken 1 passed 0 waiting 0 received 0 sent 0 journal %d since %d '
           b'other-cluster 0 no-digest 0 wrong-digest 0\n')
 DISAGREES = b'shmdbg: site 1 was begun with --sites %d --preset %d, this one with --sites 2 --preset 1\n'
-AGAIN = 'journal: steps taken again: 0, clock: 0, torn bytes cut off: 0'
 tried = [0]
+
+
+def again(steps, batches, behind=0):
+    return f'journal: steps taken again: {steps}, clock: {steps}, batches: {batches}, cut off {behind} bytes that were never durable'
 
 
 def words(program, journal, new=False, sites=2, me=0, preset=1):
@@ -83,7 +95,7 @@ def try_seals(program, folder, journal):
     stays('a journal without a name', journal, STORED)
     north = words(program, named, new=True) + ['--cluster', 'north']
     start('a line without a seal', north, 0, 'lines passed over: 1 of another cluster, 0 without a digest, 0 with a wrong digest')
-    stays('a line without a seal', named, b'journal 2 0 1 @north\n')
+    stays('a line without a seal', named, marked(b'journal 2 0 1 @north\n'))
     start("another cluster's journal", words(program, named) + ['--cluster', 'south'], 1, OTHER)
     start('no name for a named journal', words(program, named), 1, OTHER)
 
@@ -103,7 +115,7 @@ def try_files(program, folder):
         start(name, words(program, journal, **options), 1, fault)
         stays(name, journal, STORED)
     try_seals(program, folder, journal)
-    for front in (b'', HEADER[:7], HEADER[:-1]):
+    for front in (b'', HEADER[:7], HEADER[:-1], HEADER, BEGUN_ALONE[:-1], bytes(len(BEGUN_ALONE)), bytes(20) + BEGUN_ALONE[20:]):
         write(journal, front)
         start('a journal that was not begun', words(program, journal), 1, BLANK)
         stays('a journal that was not begun', journal, front)
@@ -136,7 +148,7 @@ def try_health(program, folder):
     before = int(time.time())
     done = subprocess.run(words(program, os.path.join(folder, 'counted'), new=True), input=STORE, capture_output=True, timeout=60, check=True)
     since = re.search(rb' since (\d+) ', done.stderr)
-    counts = COUNTS % (len(STORED), int(since[1]) if since else 0)
+    counts = COUNTS % (len(HEADER + STEP), int(since[1]) if since else 0)
     if done.stderr != counts or not before <= int(since[1]) <= time.time():
         sys.exit(f'counts at the end: on standard error {done.stderr}, not {counts}')
     tried[0] += 1
@@ -178,23 +190,22 @@ def try_closed(program, folder):
 
 
 def try_full(program, folder):
-    """A disk that is full: no file may have more than 30 bytes."""
+    """A disk that is full: no file may have more bytes than its first batch, and some."""
     journal = os.path.join(folder, 'full')
 
-    def limit():
-        signal.signal(signal.SIGXFSZ, signal.SIG_IGN)
-        resource.setrlimit(resource.RLIMIT_FSIZE, (30, 30))
-    start('a full disk', words(program, journal, new=True), 3, FAILED, preexec_fn=limit)
-    stays('a full disk', journal, HEADER)
-    start('a full disk, later', words(program, journal), 0, AGAIN, b'tell 0 b byte 0\n', given=b'ask 0 b load 0 5\n')
-    restarted = STORED + b'step 2 restart\n'
-
-    def limit_later():
-        signal.signal(signal.SIGXFSZ, signal.SIG_IGN)
-        resource.setrlimit(resource.RLIMIT_FSIZE, (len(restarted) + 5, len(restarted) + 5))
+    def limit_to(count):
+        def limit():
+            signal.signal(signal.SIGXFSZ, signal.SIG_IGN)
+            resource.setrlimit(resource.RLIMIT_FSIZE, (count, count))
+        return limit
+    start('a full disk at once', words(program, journal, new=True), 3, FAILED, preexec_fn=limit_to(len(BEGUN_ALONE) - 9))
+    stays('a full disk at once', journal, b'')
+    start('a full disk', words(program, journal, new=True), 3, FAILED, preexec_fn=limit_to(len(BEGUN_ALONE) + 16))
+    stays('a full disk', journal, BEGUN_ALONE)
+    start('a full disk, later', words(program, journal), 0, again(0, 1), b'tell 0 b byte 0\n', given=b'ask 0 b load 0 5\n')
+    restarted = marked(HEADER, STEP, RESTART)
     write(journal, STORED)
-    again = AGAIN.replace('again: 0, clock: 0', 'again: 1, clock: 1')
-    start('a full disk after a restart', words(program, journal), 3, f'{again}\nshmdbg: {FAILED}', preexec_fn=limit_later)
+    start('a full disk after a restart', words(program, journal), 3, f'{again(1, 2)}\nshmdbg: {FAILED}', preexec_fn=limit_to(len(restarted) + 5))
     stays('a full disk after a restart', journal, restarted)
 
 
@@ -205,13 +216,50 @@ def try_streams(program, folder):
     def over(streams, new=False):
         return ['sh', '-c', f'exec "$@" {streams}', 'sh'] + words(program, journal, new, sites=1)
     start('an input that is a folder', over(f'< {folder}', new=True), 3, 'read fault')
-    stays('an input that is a folder', journal, header)
-    start('an output that is full', over('> /dev/full'), 3, AGAIN + '\nshmdbg: write fault')
-    stays('an output that is full', journal, header + b'step 1 restart\nstep 2 ask 0 a store 0 5 7\n')
-    start('after both', words(program, journal, sites=1), 0, AGAIN.replace('again: 0, clock: 0', 'again: 2, clock: 2'), b'tell 0 b byte 7\n',
-          given=b'ask 0 b load 0 5\n')
+    stays('an input that is a folder', journal, marked(header))
+    start('an output that is full', over('> /dev/full'), 3, again(0, 1) + '\nshmdbg: write fault')
+    stays('an output that is full', journal, marked(header, b'step 1 restart\n', b'step 2 ask 0 a store 0 5 7\n'))
+    start('after both', words(program, journal, sites=1), 0, again(2, 3), b'tell 0 b byte 7\n', given=b'ask 0 b load 0 5\n')
     for streams, fault in ((f'< {folder}', 'read fault'), ('> /dev/full', 'write fault')):
         start(f'a prompt {streams}', ['sh', '-c', f'exec "$@" {streams}', 'sh', program, 'prompt'], 3, fault, given=b'sites 1\n')
+
+
+def try_behind(program, folder):
+    """What may stand behind the last whole batch is cut off. The same of a last batch that was changed: nobody can tell."""
+    journal, load = os.path.join(folder, 'behind'), b'step 3 ask 0 b load 0 5\n'
+    restarted = marked(HEADER, STEP, RESTART)
+    batch, changed = restarted[len(STORED):], restarted[:-9] + b'x' + restarted[-8:]
+    for name, text in [('a front of a batch', STORED + batch[:-1]), ('zeros', STORED + bytes(8192)), ('more zeros than a line has', STORED + bytes(9000)),
+                       ('a hole', STORED + bytes(8) + batch[8:]), ('garbage', STORED + bytes(range(256))), ('an old block', STORED + STORED[9:-9]),
+                       ('a mark of other lines', STORED + STEP + batch), ('a last batch that was changed', changed)]:
+        write(journal, text)
+        asked = dict(told=b'tell 0 b byte 7\n', given=b'ask 0 b load 0 5\n')
+        start(name, words(program, journal), 0, again(1, 2, len(text) - len(STORED)), **asked)
+        stays(name, journal, marked(HEADER, STEP, RESTART, load))
+
+
+def try_damaged(program, folder):
+    """A whole batch behind a broken one, and a journal of an earlier version: no start, no audit, no summary, and nothing is changed."""
+    journal, restarted = os.path.join(folder, 'damaged'), marked(HEADER, STEP, RESTART)
+    for name, text, fault in [('a changed byte', restarted.replace(b'store 0 5 7', b'store 0 5 8'), DAMAGED % len(BEGUN_ALONE)),
+                              ('a changed first line', b'J' + restarted[1:], DAMAGED % 0), ('a lost batch', BEGUN_ALONE + restarted[len(STORED):],
+                                                                                           DAMAGED % len(BEGUN_ALONE)),
+                              ('a batch twice', STORED + STORED[len(BEGUN_ALONE):], DAMAGED % len(STORED)),
+                              ('behind zeros', STORED + bytes(9000) + b'\ndurable 3\n' + BEGUN_ALONE, DAMAGED % len(STORED)),
+                              ('no marks', HEADER + STEP, UNMARKED), ('no marks and a torn line', HEADER + STEP + b'step 2', UNMARKED)]:
+        write(journal, text)
+        for new in (False, True):
+            start(name, words(program, journal, new), 1, f'journal: {fault}')
+        start(f'{name}: a summary', [program, 'journal', journal], 1, f'{journal}: {fault}')
+        start(f'{name}: an audit', audit(program, 2, journal, journal), 1, f'{journal}: {fault}')
+        stays(name, journal, text)
+    write(journal, HEADER + STEP)
+    start('a mark by hand', ['sh', '-c', MARK, 'sh', journal], 0, '')
+    stays('a mark by hand', journal, marked(HEADER + STEP))
+    start('a mark by hand: a summary', [program, 'journal', journal], 0, '',
+          b'site 0\nsites 2\npages 1\nsteps 1\nclock 1\nbytes %d\ntorn 0\nbatches 1\n' % len(marked(HEADER + STEP)))
+    start('a mark by hand: a start', words(program, journal), 0, again(1, 1), b'tell 0 b byte 7\n', given=b'ask 0 b load 0 5\n')
+    stays('a mark by hand: a start', journal, marked(HEADER + STEP, RESTART, b'step 3 ask 0 b load 0 5\n'))
 
 
 def audit(program, sites, *journals):
@@ -221,8 +269,8 @@ def audit(program, sites, *journals):
 def try_audits(program, folder):
     """Each journal is read in its turn, and stays as it was; a cause has its file and its line."""
     first, second = os.path.join(folder, 'first'), os.path.join(folder, 'second')
-    ticked = b'journal 2 1 1\nstep 1 ask 1 b tick\n'
-    invented = ticked + b'step 2 env 0 1 1 0 0 clear 0 0 1\n'
+    ticked = marked(b'journal 2 1 1\n', b'step 1 ask 1 b tick\n')
+    invented = marked(b'journal 2 1 1\n', b'step 1 ask 1 b tick\n', b'step 2 env 0 1 1 0 0 clear 0 0 1\n')
     yes = b'audit yes\nsteps 2\naccesses 1\nenvelopes 0\n'
     one_set = 'not one set of journals'
     for name, text, journals, status, fault, told in [
@@ -230,14 +278,15 @@ def try_audits(program, folder):
             ('an audit of another order', ticked, (second, first), 1, one_set, b''),
             ('an audit of one file twice', ticked, (first, first), 1, one_set, b''),
             ('an audit of too few', ticked, (first,), 1, one_set, b''),
+            ('an audit of a torn journal', ticked + bytes(99), (first, second), 0, '', yes),
             ('an audit of what nobody sent', invented, (first, second), 4, f'audit no: unsent 1 1: {second}: line 3', b'')]:
         write(first, STORED)
         write(second, text)
         start(name, audit(program, 2, *journals), status, fault, told)
         stays(name, first, STORED)
         stays(name, second, text)
-    named = STORED.replace(b'\n', b' @north\n', 1)
-    for name, one, other in (('an audit of a named cluster', STORED, ticked.replace(b'\n', b' @north\n', 1)), ('an audit of no cluster', named, ticked)):
+    named, other_named = marked(b'journal 2 0 1 @north\n', STEP), marked(b'journal 2 1 1 @north\n', b'step 1 ask 1 b tick\n')
+    for name, one, other in (('an audit of a named cluster', STORED, other_named), ('an audit of no cluster', named, ticked)):
         write(first, one)
         write(second, other)
         start(name, audit(program, 2, first, second), 1, f'{second}: of another cluster than the first journal', b'')
@@ -277,16 +326,16 @@ def try_calls(program, folder):
     start('fsync of the folder fails', failing('fsync:error=EIO:when=2'), 3, "journal: its folder can't be made durable")
     stays('fsync of the folder fails', journal, b'')
     start('fdatasync fails', failing('fdatasync:error=EIO:when=2'), 3, FAILED)
-    stays('fdatasync fails', journal, HEADER)
-    write(journal, HEADER + b'step 1 ask 0')
+    stays('fdatasync fails', journal, BEGUN_ALONE)
+    write(journal, BEGUN_ALONE + b'step 1 ask 0')
     start('ftruncate fails at the start', failing('ftruncate:error=EIO:when=1', new=False), 3, "journal: it can't be made durable")
-    write(journal, HEADER)
+    write(journal, BEGUN_ALONE)
     start('fsync fails at the start', failing('fsync:error=EIO:when=1', new=False), 3, "journal: it can't be made durable")
     os.remove(journal)
-    loose = f'{FAILED}: cut it to its first {len(HEADER)} bytes before the site starts again'
+    loose = f'{FAILED}: cut it to its first {len(BEGUN_ALONE)} bytes before the site starts again'
     start('fdatasync and ftruncate fail', failing('fdatasync:error=EIO:when=2', 'ftruncate:error=EIO:when=2'), 3, loose)
-    os.truncate(journal, len(HEADER))
-    start('after both', words(program, journal), 0, AGAIN, TOLD)
+    os.truncate(journal, len(BEGUN_ALONE))
+    start('after both', words(program, journal), 0, again(0, 1), TOLD)
     os.remove(journal)
     start('the first fdatasync fails', failing('fdatasync:error=EIO:when=1'), 3, FAILED)
     stays('the first fdatasync fails', journal, b'')
@@ -296,7 +345,8 @@ def try_calls(program, folder):
 def main():
     program = os.path.abspath(sys.argv[1] if len(sys.argv) > 1 else os.path.join(HERE, '..', '..', 'crates', 'shmdbg', 'out', 'shmdbg'))
     with tempfile.TemporaryDirectory() as folder:
-        for trial in (try_files, try_openings, try_health, try_no_files, try_two, try_closed, try_full, try_streams, try_audits, try_saves, try_calls):
+        for trial in (try_files, try_openings, try_health, try_no_files, try_two, try_closed, try_full, try_streams, try_behind,
+                      try_damaged, try_audits, try_saves, try_calls):
             trial(program, folder)
     print(f'starts: {tried[0]}, each told as it has to be')
 
