@@ -157,9 +157,9 @@ at all sites, and callers seal their lines too.
     shmdbg site --sites 1 --me 0 --preset 1 --cluster north
   tell 0 a stored @north
 Exit status: 0 its input ended, 1 FILE isn't as these words say: it isn't there,
-is begun already, is another's journal or none, or NAME or the key can't be one,
-2 these words were refused, 3 memory, reading or writing failed, a file can't be
-opened, another process has FILE, or its site's clock ended.";
+is begun already, is damaged, is another's journal or none, or NAME or the key
+can't be one, 2 these words were refused, 3 memory, reading or writing failed, a
+file can't be opened, another process has FILE, or its site's clock ended.";
 
 /// Of an audit of journals.
 pub const AUDIT: &str = "\
@@ -186,19 +186,21 @@ isn't read. A file whose name begins with a hyphen comes after --.
 Output: the site, of how many, and how many pages segment 0 has; the cluster's
 name, if it has one; how many steps are recorded, and the clock of the last; how
 many bytes the file has, and how many of them are torn: they stand behind the
-last whole line, as a crash may leave them, and the site's next start cuts them
-off.
+last whole batch, as a crash may leave them, and the site's next start cuts them
+off; and how many whole batches there are. A batch has the steps of one read of
+input, and a line behind them with their digest.
   $ shmdbg journal site-0.journal
   site 0
   sites 2
   pages 1
   steps 12
   clock 17
-  bytes 5902
+  bytes 6912
   torn 0
-Exit status: 0 done, 1 the file is no journal (standard error tells the line), 2
-these words were refused, 3 memory, reading or writing failed, or the file can't
-be opened.";
+  batches 7
+Exit status: 0 done, 1 the file is no journal (standard error tells the line),
+is damaged, or has no marks, 2 these words were refused, 3 memory, reading or
+writing failed, or the file can't be opened.";
 
 /// Of the prompt.
 pub const PROMPT: &str = "\
