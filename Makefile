@@ -49,6 +49,11 @@ examples:
 pages:
 	@pages/check
 
+# Looks whether each edit of must-fail/ and wrong-bodies/ still has its texts in its files. Needs Python 3; proves nothing.
+.PHONY: edits
+edits:
+	@gate/edits
+
 # Compares the shells' completions and the manual page with what the program's help names. Needs the program that `make build` leaves.
 manners:
 	@completions/check
