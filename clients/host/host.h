@@ -55,8 +55,10 @@ struct page {
     int64_t since;
     pid_t thread;
     uint64_t runs;
-    /* In so many bytes from its start on, sleepers of futexes are to be woken. */
-    size_t sleepers;
+    /* Since it left: how many of its bytes weren't searched for sleepers of futexes, from which place on, and when to begin. And how long that
+       waits when it leaves. */
+    size_t unsearched, place;
+    int64_t search_at, wait;
     struct fault *faults;
 };
 
