@@ -51,7 +51,7 @@ struct page {
     uint64_t unmap;
     /* Its bytes as the site has them, while it is mapped. */
     uint8_t *twin;
-    /* When it came, for which thread, and how often that had run before. */
+    /* When it came, for which thread (-1: one that was woken, and hasn't faulted yet), and how often that had run before. */
     int64_t since;
     pid_t thread;
     uint64_t runs;

@@ -18,7 +18,7 @@
 #include <linux/futex.h>
 #include <sys/syscall.h>
 
-enum { FUTEXES_AT_ONCE = 16 };
+enum { FUTEXES_AT_ONCE = 16, WOKEN = -1 };
 
 /* Nanoseconds for which a page stays at most, and until it is looked at again; and until one that left is fetched for those who sleep in it. */
 static const int64_t LONGEST_STAY = 20000000, LOOK_AGAIN = 50000, FIRST_WAIT = 1000000, LONGEST_WAIT = 64000000;
@@ -106,8 +106,8 @@ static bool is_missed(struct page *page, int64_t *due) {
     return false;
 }
 
-/* A page that had left comes back with these bytes, for a fault or for who sleeps in it. */
-static void wake_sleepers(struct page *page, const uint8_t *bytes) {
+/* A page that had left comes back with these bytes, for a fault or for who sleeps in it. Whether somebody is woken. */
+static bool wake_sleepers(struct page *page, const uint8_t *bytes) {
     long woken = 0;
     for (size_t place = 0; place < PAGE; place += sizeof(int)) {
         if (memcmp(bytes + place, page->twin + place, sizeof(int)) != 0) woken += call_futex(page, place, FUTEX_WAKE, INT32_MAX) > 0;
@@ -115,6 +115,7 @@ static void wake_sleepers(struct page *page, const uint8_t *bytes) {
     if (woken > 0) page->wait = 0;
     else if (page->faults == NULL && page->wait < LONGEST_WAIT) page->wait = page->wait == 0 ? FIRST_WAIT : 2 * page->wait;
     page->unsearched = 0;
+    return woken > 0;
 }
 
 /* Opening. */
@@ -131,11 +132,17 @@ static uint64_t runs_of(pid_t thread) {
     return runs;
 }
 
+static void stays_for(struct page *page, pid_t thread) {
+    page->thread = thread;
+    page->runs = runs_of(thread);
+}
+
 /* Until when a page stays: for a while, and longer where the thread that it came for hasn't run yet, or on busy machines two hosts would take it
    from one another before either's instruction is repeated. */
 static int64_t stays_until(struct page *page) {
     if (page->thread == 0 || now() < page->since + options.stay) return page->since + options.stay;
-    if (now() < page->since + LONGEST_STAY && page->runs > 0 && runs_of(page->thread) == page->runs) return now() + LOOK_AGAIN;
+    bool waits = page->thread == WOKEN || (page->runs > 0 && runs_of(page->thread) == page->runs);
+    if (now() < page->since + LONGEST_STAY && waits) return now() + LOOK_AGAIN;
     page->thread = 0;
     return 0;
 }
@@ -153,12 +160,11 @@ void page_told(struct page *page, const char *text) {
         page->later = true;
         return;
     }
-    if (page->unsearched > 0) wake_sleepers(page, bytes);
+    bool wakes = page->unsearched > 0 && wake_sleepers(page, bytes);
     if (brings) memcpy(page->twin, bytes, PAGE), memcpy(bytes_of(page), bytes, PAGE);
     page->mapped = right;
     page->since = now();
-    page->thread = page->faults == NULL ? 0 : page->faults->thread;
-    page->runs = runs_of(page->thread);
+    stays_for(page, page->faults != NULL ? page->faults->thread : wakes ? WOKEN : 0);
 }
 
 /* Opens the page for those who need no more than what is mapped. */
@@ -172,6 +178,7 @@ static void open_for_all(struct page *page) {
         }
         *place = fault->next;
         page->opened |= page->mapped == WRITE;
+        if (page->thread == WOKEN) stays_for(page, fault->thread);
         open_page(fault, options.broken == OPENS_TO_WRITE ? WRITE : page->mapped);
         free(fault);
     }
