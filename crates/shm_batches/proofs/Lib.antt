@@ -3,3 +3,5 @@ pub mod JournalLemmas
 pub mod UnmarkedLemmas
 pub mod SectionLemmas
 pub mod FrontLemmas
+pub mod WrittenLemmas
+pub mod WholeLemmas

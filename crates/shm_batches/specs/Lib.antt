@@ -2,6 +2,7 @@ pub mod JournalLines
 pub mod Chain
 pub mod ChainOf
 pub mod Whole
+pub mod Written
 pub mod UnmarkedLine
 pub mod UnmarkedOf
 pub mod Section
