@@ -5,3 +5,4 @@ pub mod SectionLemmas
 pub mod FrontLemmas
 pub mod WrittenLemmas
 pub mod WholeLemmas
+pub mod CrashLemmas

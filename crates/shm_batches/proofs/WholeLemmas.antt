@@ -55,15 +55,15 @@ pub record Begins (found : List (List ℕ)) (chain : Chain) (bytes : List ℕ) :
   pub rest : List ℕ
   pub all : bytes ≡ file_text chain found ++ rest
 
-lines-more : (lines : List (List ℕ)) (line : List ℕ) → lines_text (lines ++ line ∷ []) ≡ lines_text lines ++ with_feed line
-lines-more [] line = append-nil (with_feed line)
-lines-more (first ∷ lines) line = ap (λ t. with_feed first ++ t) (lines-more lines line) ∙ sym (append_assoc (with_feed first) (lines_text lines) (with_feed line))
+pub lines_both : (xs ys : List (List ℕ)) → lines_text (xs ++ ys) ≡ lines_text xs ++ lines_text ys
+lines_both [] ys = refl
+lines_both (line ∷ xs) ys = ap (λ t. with_feed line ++ t) (lines_both xs ys) ∙ sym (append_assoc (with_feed line) (lines_text xs) (lines_text ys))
 
 batch-more : (text line : List ℕ) → IsBatch text → Unended line → begins_as_mark line ≡ false → IsBatch (text ++ with_feed line)
 batch-more text line is h plain = record {
   lines = is.lines ++ line ∷ [];
   are_plain = All-push IsPlain is.lines line is.are_plain (record { unended = h; plain = plain });
-  whole = ap (λ t. t ++ with_feed line) is.whole ∙ sym (lines-more is.lines line);
+  whole = ap₂ (λ a b. a ++ b) is.whole (sym (append-nil (with_feed line))) ∙ sym (lines_both is.lines (line ∷ []));
 }
 
 pub none_batch : IsBatch []

@@ -1,6 +1,7 @@
 //! Laws of the definitions: each is the contract of a function that does nothing.
 ghost use Rattle.std.specs.List.{All};
 ghost use Rattle.std.specs.Prelude.{◌≡◌, ◌⊎◌, ◌++◌, [], ℕ, List, take, true};
+ghost use Rattle.shm_batches.specs.BatchCrash.{Disk, LeavesBatches, MayLeaveFile};
 ghost use Rattle.shm_batches.specs.Chain.{Chain, Collision, chain_after, file_text, is_marked, mark_line, unmarked};
 ghost use Rattle.shm_batches.specs.Whole.{unmarked_text, whole_batches, whole_bytes, whole_on, whole_text};
 ghost use Rattle.shm_batches.specs.Written.{IsBatch};
@@ -31,4 +32,11 @@ pub fn what_is_written_reads_back()
 #[tactic(auto, using(crate::proofs::WholeLemmas::front_reads))]
 pub fn a_front_reads_back()
     ensures { (file : List ℕ) → unmarked_text (take (whole_bytes file) file) ≡ whole_text file }
+{}
+
+/// Whatever bytes a crash leaves behind the batches that are durable, a reader finds those, and of the batches that were appended since the first
+/// ones: unless bytes that nobody wrote there form a batch with its digest. Their lines are what a crash may leave of a journal without marks.
+#[tactic(auto, using(crate::proofs::CrashLemmas::leaves_batches))]
+pub fn a_crash_leaves_batches()
+    ensures { (disk : Disk) (file : List ℕ) → All IsBatch disk.durable → MayLeaveFile disk file → LeavesBatches disk file }
 {}
