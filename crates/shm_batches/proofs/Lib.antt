@@ -6,3 +6,4 @@ pub mod FrontLemmas
 pub mod WrittenLemmas
 pub mod WholeLemmas
 pub mod CrashLemmas
+pub mod CutLemmas

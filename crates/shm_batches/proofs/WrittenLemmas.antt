@@ -99,7 +99,7 @@ lines-read (line ∷ lines) chain text more are =
     ∙ lines-read lines chain (text ++ with_feed line) more (All-tail IsPlain line lines are)
     ∙ ap (λ t. whole_on chain t more) (append_assoc text (with_feed line) (lines_text lines))
 
-batch-read : (chain : Chain) (text more : List ℕ) → IsBatch text → whole_on chain [] (batch_text chain text ++ more) ≡ text ∷ whole_on (with_batch chain text) [] more
+pub batch-read : (chain : Chain) (text more : List ℕ) → IsBatch text → whole_on chain [] (batch_text chain text ++ more) ≡ text ∷ whole_on (with_batch chain text) [] more
 unfolding batch_text
 batch-read chain text more is =
     let mark = mark_line chain text in

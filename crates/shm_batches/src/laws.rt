@@ -1,7 +1,7 @@
 //! Laws of the definitions: each is the contract of a function that does nothing.
 ghost use Rattle.std.specs.List.{All};
 ghost use Rattle.std.specs.Prelude.{◌≡◌, ◌⊎◌, ◌++◌, [], ℕ, List, take, true};
-ghost use Rattle.shm_batches.specs.BatchCrash.{Disk, LeavesBatches, MayLeaveFile};
+ghost use Rattle.shm_batches.specs.BatchCrash.{Disk, LeavesBatches, MayLeaveFile, Unforged};
 ghost use Rattle.shm_batches.specs.Chain.{Chain, Collision, chain_after, file_text, is_marked, mark_line, unmarked};
 ghost use Rattle.shm_batches.specs.Whole.{unmarked_text, whole_batches, whole_bytes, whole_on, whole_text};
 ghost use Rattle.shm_batches.specs.Written.{IsBatch};
@@ -39,4 +39,11 @@ pub fn a_front_reads_back()
 #[tactic(auto, using(crate::proofs::CrashLemmas::leaves_batches))]
 pub fn a_crash_leaves_batches()
     ensures { (disk : Disk) (file : List ℕ) → All IsBatch disk.durable → MayLeaveFile disk file → LeavesBatches disk file }
+{}
+
+/// Where a crash cuts what was appended, wherever it does, nothing is forged: only other bytes could be.
+#[tactic(auto, using(crate::proofs::CutLemmas::cut_unforged))]
+pub fn a_cut_is_not_forged()
+    ensures { (disk : Disk) (n : ℕ) → All IsBatch disk.loose
+        → Unforged disk (take n (file_text (chain_after unmarked disk.durable) disk.loose)) }
 {}
