@@ -1,6 +1,6 @@
 -- (stands in for the journal's own definitions until its library is built)
 use Rattle.std.specs.List.{All}
-use Rattle.std.specs.Prelude.{◌≡◌, ℕ, ◌+◌, ◌==◌, Bool, false, List, [], ◌∷◌, ◌++◌, if◌then◌else◌, length, nat_lt}
+use Rattle.std.specs.Prelude.{◌≡◌, ℕ, ◌==◌, Bool, false, List, [], ◌∷◌, ◌++◌, if◌then◌else◌, length, nat_lt}
 
 pub record Lines : Type 0 where
   pub whole : List (List ℕ)

@@ -2,6 +2,10 @@ pub mod JournalLines
 pub mod Chain
 pub mod ChainOf
 pub mod Whole
+pub mod Written
+pub mod JournalActs
+pub mod JournalCrash
+pub mod BatchCrash
 pub mod UnmarkedLine
 pub mod UnmarkedOf
 pub mod Section

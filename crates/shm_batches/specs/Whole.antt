@@ -15,8 +15,12 @@ whole_in chain text (line ∷ lines) =
     (if bytes_eq line (mark_line chain text) then text ∷ whole_in (with_batch chain text) [] lines else [])
     else whole_in chain (text ++ (line ++ 10 ∷ [])) lines
 
+-- those of these bytes, behind this chain and these lines
+abbrev pub whole_on : Chain → List ℕ → List ℕ → List (List ℕ)
+whole_on chain text bytes = whole_in chain text (lines_of bytes).whole
+
 abbrev pub whole_batches : List ℕ → List (List ℕ)
-whole_batches file = whole_in unmarked [] (lines_of file).whole
+whole_batches file = whole_on unmarked [] file
 
 -- the lines of all of them: the journal
 abbrev pub whole_text : List ℕ → List ℕ

@@ -1,6 +1,10 @@
 //! Laws of the definitions: each is the contract of a function that does nothing.
-ghost use Rattle.std.specs.Prelude.{◌≡◌, ◌⊎◌, ℕ, List, true};
-ghost use Rattle.shm_batches.specs.Chain.{Chain, Collision, chain_after, is_marked, mark_line, unmarked};
+ghost use Rattle.std.specs.List.{All};
+ghost use Rattle.std.specs.Prelude.{◌≡◌, ◌⊎◌, ◌++◌, [], ℕ, List, take, true};
+ghost use Rattle.shm_batches.specs.BatchCrash.{Disk, LeavesBatches, MayLeaveFile, Unforged};
+ghost use Rattle.shm_batches.specs.Chain.{Chain, Collision, chain_after, file_text, is_marked, mark_line, unmarked};
+ghost use Rattle.shm_batches.specs.Whole.{unmarked_text, whole_batches, whole_bytes, whole_on, whole_text};
+ghost use Rattle.shm_batches.specs.Written.{IsBatch};
 
 /// The last mark names all batches before it: journals of the same number of batches and the same last digest are the same, unless somebody
 /// found two texts of one digest.
@@ -13,4 +17,33 @@ pub fn a_mark_names_all_before_it()
 #[tactic(auto, using(crate::proofs::ChainLemmas::mark_is_marked))]
 pub fn each_mark_is_found_alone()
     ensures { (chain : Chain) (text : List ℕ) → is_marked text (mark_line chain text) ≡ true }
+{}
+
+/// Batches that are written are read back, whatever stands behind them: they come first, and behind them what a reader that has taken them finds
+/// in the rest.
+#[tactic(auto, using(crate::proofs::WrittenLemmas::written_reads))]
+pub fn what_is_written_reads_back()
+    ensures { (texts : List (List ℕ)) (tail : List ℕ) → All IsBatch texts
+        → whole_batches (file_text unmarked texts ++ tail) ≡ texts ++ whole_on (chain_after unmarked texts) [] tail }
+{}
+
+/// What a reader without marks gives of a file, up to the end of its last whole batch, is the lines of its whole batches: what is measured is
+/// what is read, whatever the file holds.
+#[tactic(auto, using(crate::proofs::WholeLemmas::front_reads))]
+pub fn a_front_reads_back()
+    ensures { (file : List ℕ) → unmarked_text (take (whole_bytes file) file) ≡ whole_text file }
+{}
+
+/// Whatever bytes a crash leaves behind the batches that are durable, a reader finds those, and of the batches that were appended since the first
+/// ones: unless bytes that nobody wrote there form a batch with its digest. Their lines are what a crash may leave of a journal without marks.
+#[tactic(auto, using(crate::proofs::CrashLemmas::leaves_batches))]
+pub fn a_crash_leaves_batches()
+    ensures { (disk : Disk) (file : List ℕ) → All IsBatch disk.durable → MayLeaveFile disk file → LeavesBatches disk file }
+{}
+
+/// Where a crash cuts what was appended, wherever it does, nothing is forged: only other bytes could be.
+#[tactic(auto, using(crate::proofs::CutLemmas::cut_unforged))]
+pub fn a_cut_is_not_forged()
+    ensures { (disk : Disk) (n : ℕ) → All IsBatch disk.loose
+        → Unforged disk (take n (file_text (chain_after unmarked disk.durable) disk.loose)) }
 {}
