@@ -7,3 +7,4 @@ pub mod WrittenLemmas
 pub mod WholeLemmas
 pub mod CrashLemmas
 pub mod CutLemmas
+pub mod EntryLemmas
