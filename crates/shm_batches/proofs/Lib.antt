@@ -7,3 +7,5 @@ pub mod WrittenLemmas
 pub mod WholeLemmas
 pub mod CrashLemmas
 pub mod CutLemmas
+pub mod RunLemmas
+pub mod NextLemmas
