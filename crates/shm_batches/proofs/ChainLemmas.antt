@@ -13,7 +13,7 @@ use Rattle.hex.proofs.HexLemmas.{decode_of-encode_lower, decode_of-same, length-
 use Rattle.hex.specs.Hex.{IsBytes, decode_of, encode_lower, lower_digits}
 use Rattle.sha2.proofs.Facts256.{length-sha256}
 use Rattle.sha2.specs.Sha256.{digest_bytes, sha256}
-use Rattle.shm_batches.specs.Chain.{Chain, Collision, chain_after, digest_end, digest_of, is_marked, mark_front, mark_line, unmarked, with_batch}
+use Rattle.shm_batches.specs.Chain.{Chain, Collision, chain_after, digest_end, digest_of, entries_at_end, is_marked, mark_front, mark_line, unmarked, with_batch}
 
 -- ---- bytes
 
@@ -91,16 +91,17 @@ unfolding mark_front
 verb chain end = refl
 
 -- each mark is one by itself
-pub mark_is_marked : (chain : Chain) (text : List ℕ) → is_marked text (mark_line chain text) ≡ true
+pub mark_is_marked : (chain : Chain) (before text : List ℕ) → entries_at_end (before ++ text) ≡ text → is_marked (before ++ text) (mark_line chain text) ≡ true
 unfolding mark_line digest_end digest_of
-mark_is_marked chain text =
+mark_is_marked chain before text entries =
     let front = mark_front chain in
     let end : List ℕ = 32 ∷ encode_lower (sha256 (text ++ front)) in
     let long : length end ≡ 65 = let h = length-hex (sha256 (text ++ front)) (length-sha256 (text ++ front)) in omega (arith, h) in
     let at : length (front ++ end) - 65 ≡ length front = let len = length-append front end in omega (arith, len, long) in
     ap₂ (λ a b. a && b) (verb chain end)
     (
-    ap (λ n. bytes_eq (drop n (front ++ end)) (digest_end text (take n (front ++ end)))) at
+    ap (λ n. bytes_eq (drop n (front ++ end)) (digest_end (entries_at_end (before ++ text)) (take n (front ++ end)))) at
+    ∙ ap (λ t. bytes_eq (drop (length front) (front ++ end)) (digest_end t (take (length front) (front ++ end)))) entries
     ∙ ap₂ (λ d t. bytes_eq d (digest_end text t)) (drop-append_seam front end) (take-append_seam front end)
     ∙ eq-self end
     )

@@ -8,8 +8,8 @@ use Rattle.shm_batches.proofs.WrittenLemmas.{written_reads}
 use Rattle.shm_batches.specs.BatchCrash.{Disk, LeavesBatches, MayLeaveFile, after_act, after_acts, in_lines}
 use Rattle.shm_batches.specs.Whole.{whole_batches}
 use Rattle.shm_batches.specs.Written.{IsBatch}
-use Rattle.shm_batches.specs.JournalActs.{Act, Append, Read, Sync, Tell}
-use Rattle.shm_batches.specs.JournalCrash as journal
+use Rattle.shm_journal.specs.Acts.{Act, Append, Read, Sync, Tell}
+use Rattle.shm_journal.specs.Crash as journal
 
 -- the first batches are a front of the lines
 fronts-lines : (n : ℕ) (texts : List (List ℕ)) → (k : ℕ) × (concat (take n texts) ≡ take k (concat texts))

@@ -1,5 +1,5 @@
 -- A front of the batches that were appended: whole batches, and behind them no further one.
-use Rattle.std.proofs.Common.{◌≡◌, ◌⊎◌, ◌≤◌, ◌<◌, ℕ, suc, ◌+◌, ◌-◌, ◌==◌, false, List, [], ◌∷◌, ◌++◌, inl, inr, length, take, ap, subst, ◌∙◌, append_assoc, arith}
+use Rattle.std.proofs.Common.{◌≡◌, ◌⊎◌, ◌≤◌, ◌<◌, ℕ, suc, ◌+◌, ◌-◌, List, [], ◌∷◌, ◌++◌, inl, inr, length, take, ap, subst, ◌∙◌, append_assoc, arith}
 use Rattle.std.specs.List.{All}
 use Rattle.std.proofs.lemmas.Bool.{cases_lt}
 use Rattle.std.proofs.lemmas.List.{length-append, take-append-le}
@@ -8,13 +8,12 @@ use Rattle.std.proofs.Math.Seq.{take-append-add, take-nil}
 use Rattle.shm_batches.proofs.FrontLemmas.{none-step, plain-step}
 use Rattle.shm_batches.proofs.WrittenLemmas.{batch-read, unended-mark, with_feed}
 use Rattle.shm_batches.specs.BatchCrash.{Disk, Unforged}
+use Rattle.shm_batches.proofs.JournalLemmas.{IsNoFeed}
 use Rattle.shm_batches.specs.Chain.{Chain, batch_text, chain_after, file_text, mark_line, unmarked, with_batch}
-use Rattle.shm_batches.specs.JournalLines.{Unended, lines_behind}
+use Rattle.shm_journal.specs.Found.{lines_behind}
+use Rattle.shm_journal.specs.LinesOf.{Unended}
 use Rattle.shm_batches.specs.Whole.{whole_in, whole_on}
 use Rattle.shm_batches.specs.Written.{IsBatch, IsPlain, lines_text}
-
-abbrev IsNoFeed : ℕ → Type 0
-IsNoFeed byte = (byte == 10) ≡ false
 
 -- a front of one line
 front-none : (chain : Chain) (seen line rest : List ℕ) (n : ℕ) → Unended line → n ≤ length line → whole_on chain seen (take n (line ++ rest)) ≡ []

@@ -6,7 +6,8 @@ use Rattle.std.proofs.Math.Seq.{take-append-add, take-append_seam}
 use Rattle.std.proofs.Math.ListN.{drop_of_length-le}
 use Rattle.shm_batches.proofs.JournalLemmas.{line-first, none-ends}
 use Rattle.shm_batches.specs.Chain.{begins_as_entry, entries_at_end, entries_from}
-use Rattle.shm_batches.specs.JournalLines.{Lines, Unended, lines_of, with_line}
+use Rattle.shm_journal.specs.Found.{Lines, lines_of, with_line}
+use Rattle.shm_journal.specs.LinesOf.{Unended}
 
 abbrev pub kept : List ℕ → ℕ → ℕ → List ℕ
 kept text from at = take (at - from) (drop from text)

@@ -8,21 +8,19 @@ use Rattle.std.proofs.lemmas.List.{length-append, take-append-drop}
 use Rattle.std.proofs.lemmas.List.Elements.{All-head, All-nil, All-tail}
 use Rattle.std.proofs.lemmas.Slice.Eq.{bytes_eq-Decides}
 use Rattle.std.proofs.Math.Seq.{drop-append_seam, take-append_seam}
-use Rattle.shm_batches.proofs.JournalLemmas.{line-first, none-ends}
+use Rattle.shm_batches.proofs.JournalLemmas.{IsNoFeed, line-first, none-ends}
 use Rattle.shm_batches.proofs.UnmarkedLemmas.{ended-line, front_of}
 use Rattle.shm_batches.specs.Chain.{Chain, batch_text, begins_as_mark, chain_after, file_text, is_marked, mark_line, unmarked, with_batch}
 use Rattle.shm_batches.specs.ChainOf.{chain_of}
 use Rattle.shm_batches.specs.Extent.{Breaks, IsExtent, IsExtentKnown, IsFound, Marks, Measured, Seeks, extent_of, marked_on}
-use Rattle.shm_batches.specs.JournalLines.{Lines, Unended, lines_of}
+use Rattle.shm_journal.specs.Found.{Lines, lines_of}
+use Rattle.shm_journal.specs.LinesOf.{Unended}
 use Rattle.shm_batches.specs.Section.{ReadsLine, ReadsMark, ReadsPart, lines_in, open_in}
 use Rattle.shm_batches.specs.UnmarkedLine.{is_ended}
 use Rattle.shm_batches.specs.Whole.{marked_in, whole_batches, whole_in, whole_on}
 use Rattle.shm_batches.specs.declared.chain.Chain.{Chain as CodeChain}
 use Rattle.shm_batches.specs.declared.front.Front.{Front}
 use Rattle.shm_batches.specs.declared.section.Section.{Section}
-
-abbrev IsNoFeed : ℕ → Type 0
-IsNoFeed byte = (byte == 10) ≡ false
 
 -- ---- one line
 

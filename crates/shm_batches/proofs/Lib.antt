@@ -7,4 +7,6 @@ pub mod WrittenLemmas
 pub mod WholeLemmas
 pub mod CrashLemmas
 pub mod CutLemmas
+pub mod RunLemmas
+pub mod NextLemmas
 pub mod EntryLemmas

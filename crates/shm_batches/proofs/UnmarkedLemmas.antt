@@ -10,15 +10,13 @@ use Rattle.std.proofs.lemmas.List.{drop-drop, length-append, length-drop, length
 use Rattle.std.proofs.Math.Seq.{take-append-add}
 use Rattle.std.proofs.lemmas.List.Elements.{All-append, All-cons, All-nil, All-weaker}
 use Rattle.std.proofs.lemmas.Slice.Eq.{bytes_eq-Decides}
-use Rattle.shm_batches.proofs.JournalLemmas.{line-first, none-ends}
-use Rattle.shm_batches.specs.JournalLines.{Lines, Unended}
+use Rattle.shm_batches.proofs.JournalLemmas.{IsNoFeed, line-first, none-ends}
+use Rattle.shm_journal.specs.Found.{Lines}
+use Rattle.shm_journal.specs.LinesOf.{Unended}
 use Rattle.shm_batches.specs.UnmarkedLine.{IsOneLine, is_ended, left_of_line}
 use Rattle.shm_batches.specs.UnmarkedOf.{left_if}
 use Rattle.shm_batches.specs.Chain.{begins_as_mark}
 use Rattle.shm_batches.specs.Whole.{unmarked_in, unmarked_text}
-
-abbrev IsNoFeed : ℕ → Type 0
-IsNoFeed byte = (byte == 10) ≡ false
 
 eq-true : (xs ys : List ℕ) → bytes_eq xs ys ≡ true → xs ≡ ys
 eq-true xs ys h = grind (arith, bytes_eq-Decides)

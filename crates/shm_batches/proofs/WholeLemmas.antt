@@ -8,13 +8,12 @@ use Rattle.std.proofs.Math.Seq.{take-append_seam}
 use Rattle.shm_batches.proofs.ChainLemmas.{eq-true}
 use Rattle.shm_batches.proofs.FrontLemmas.{first-line, whole_by}
 use Rattle.shm_batches.proofs.WrittenLemmas.{mark-begins, unended-mark, with_feed}
+use Rattle.shm_batches.proofs.JournalLemmas.{IsNoFeed}
 use Rattle.shm_batches.specs.Chain.{Chain, batch_text, begins_as_mark, file_text, mark_line, unmarked, with_batch}
-use Rattle.shm_batches.specs.JournalLines.{Lines, Unended, lines_behind, lines_of, with_line}
+use Rattle.shm_journal.specs.Found.{Lines, lines_behind, lines_of, with_line}
+use Rattle.shm_journal.specs.LinesOf.{Unended}
 use Rattle.shm_batches.specs.Whole.{unmarked_in, unmarked_text, whole_batches, whole_bytes, whole_in, whole_text}
 use Rattle.shm_batches.specs.Written.{IsBatch, IsPlain, lines_text}
-
-abbrev IsNoFeed : ℕ → Type 0
-IsNoFeed byte = (byte == 10) ≡ false
 
 -- ---- bytes are lines
 

@@ -8,13 +8,11 @@ use Rattle.std.proofs.lemmas.List.Elements.{All-append, All-cons, All-head, All-
 use Rattle.hex.specs.Hex.{encode_lower, encode_with, lower_digits}
 use Rattle.shm_batches.proofs.ChainLemmas.{eq-self, verb}
 use Rattle.shm_batches.proofs.FrontLemmas.{mark-step, plain-step}
+use Rattle.shm_batches.proofs.JournalLemmas.{IsNoFeed}
 use Rattle.shm_batches.specs.Chain.{Chain, batch_text, begins_as_mark, chain_after, digest_of, file_text, mark_front, mark_line, unmarked, with_batch}
-use Rattle.shm_batches.specs.JournalLines.{Unended}
+use Rattle.shm_journal.specs.LinesOf.{Unended}
 use Rattle.shm_batches.specs.Whole.{whole_batches, whole_on}
 use Rattle.shm_batches.specs.Written.{IsBatch, IsPlain, lines_text}
-
-abbrev IsNoFeed : ℕ → Type 0
-IsNoFeed byte = (byte == 10) ≡ false
 
 -- ---- a mark has no line feed
 

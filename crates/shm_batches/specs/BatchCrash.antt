@@ -3,8 +3,8 @@ use Rattle.std.specs.List.{concat}
 use Rattle.std.specs.Prelude.{◌≡◌, ℕ, List, [], ◌∷◌, ◌++◌, take}
 use Rattle.shm_batches.specs.Chain.{chain_after, file_text, unmarked}
 use Rattle.shm_batches.specs.Whole.{whole_batches, whole_on, whole_text}
-use Rattle.shm_batches.specs.JournalActs.{Act, Append, Read, Sync, Tell}
-use Rattle.shm_batches.specs.JournalCrash as journal
+use Rattle.shm_journal.specs.Acts.{Act, Append, Read, Sync, Tell}
+use Rattle.shm_journal.specs.Crash as journal
 
 -- the batches that are durable, and those that were appended since
 pub record Disk : Type 0 where

@@ -6,7 +6,7 @@ use Rattle.std.specs.Fmt.{decimal}
 use Rattle.std.specs.Str.{bytes_eq}
 use Rattle.hex.specs.Hex.{encode_lower}
 use Rattle.sha2.specs.Sha256.{sha256}
-use Rattle.shm_batches.specs.JournalLines.{lines_of}
+use Rattle.shm_journal.specs.Found.{lines_of}
 
 -- how many batches there are, and the digest of the last one
 pub record Chain : Type 0 where

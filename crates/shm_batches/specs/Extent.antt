@@ -4,7 +4,8 @@ use Rattle.std.specs.Io.KnownBytes.{Consumes}
 use Rattle.std.specs.Str.{bytes_eq}
 use Rattle.shm_batches.specs.Chain.{begins_as_mark, chain_after, file_text, mark_line, unmarked}
 use Rattle.shm_batches.specs.ChainOf.{chain_of}
-use Rattle.shm_batches.specs.JournalLines.{Unended, lines_of}
+use Rattle.shm_journal.specs.Found.{lines_of}
+use Rattle.shm_journal.specs.LinesOf.{Unended}
 use Rattle.shm_batches.specs.Section.{lines_in, open_in}
 use Rattle.shm_batches.specs.Whole.{is_damaged, marked_in, whole_bytes, whole_chain, whole_on}
 use Rattle.shm_batches.specs.declared.extent.Extent.{Extent}

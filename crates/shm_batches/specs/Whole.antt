@@ -4,7 +4,7 @@ use Rattle.std.specs.Prelude.{ℕ, ◌||◌, Bool, false, List, [], ◌∷◌, �
 use Rattle.std.specs.List.{concat}
 use Rattle.std.specs.Str.{bytes_eq}
 use Rattle.shm_batches.specs.Chain.{Chain, begins_as_mark, chain_after, file_text, is_marked, mark_line, unmarked, with_batch}
-use Rattle.shm_batches.specs.JournalLines.{lines_of}
+use Rattle.shm_journal.specs.Found.{lines_of}
 
 -- The lines of each whole batch, with their line feeds; of these lines, behind what was read of the first batch. They end where a line begins as a
 -- mark and isn't the next one.

@@ -2,7 +2,7 @@
 use Rattle.std.specs.List.{All}
 use Rattle.std.specs.Prelude.{◌≡◌, ℕ, false, List, [], ◌∷◌, ◌++◌}
 use Rattle.shm_batches.specs.Chain.{begins_as_mark}
-use Rattle.shm_batches.specs.JournalLines.{Unended}
+use Rattle.shm_journal.specs.LinesOf.{Unended}
 
 -- one of a journal's lines
 pub record IsPlain (line : List ℕ) : Type 0 where

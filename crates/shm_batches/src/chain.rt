@@ -1,6 +1,6 @@
 //! The marks of batches, each of which names the digest of the one before.
 ghost use Rattle.std.specs.Prelude.{◌≡◌, ◌+◌, ◌-◌, ◌<◌, ◌∷◌, ◌++◌, ◌^◌, drop, length, take, None, Some, if◌then◌else◌, string_bytes, option_map, IfNone, IfOk, IfSome};
-ghost use Rattle.shm_batches.specs.JournalLines.{Unended};
+ghost use Rattle.shm_journal.specs.LinesOf.{Unended};
 ghost use Rattle.std.specs.Str.{bytes_eq};
 ghost use Rattle.shm_batches.specs.Chain.{digest_end, digest_of, is_marked, mark_front, mark_line, unmarked, with_batch};
 ghost use Rattle.shm_batches.specs.ChainOf.{chain_of};
