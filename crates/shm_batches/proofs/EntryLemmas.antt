@@ -1,12 +1,12 @@
 -- The entries at the end of a text, a line more at a time.
-use Rattle.std.proofs.Common.{◌≡◌, ℕ, ◌+◌, ◌-◌, ◌<◌, ◌≤◌, ◌||◌, ◌==◌, Bool, true, false, List, [], ◌∷◌, ◌++◌, length, take, drop, cond, refl, ap, ap₂, sym, subst, ◌∙◌, append_assoc, arith}
+use Rattle.std.proofs.Common.{◌≡◌, ℕ, ◌+◌, ◌-◌, ◌<◌, ◌≤◌, ◌==◌, Bool, true, false, List, [], ◌∷◌, ◌++◌, length, take, drop, cond, refl, ap, ap₂, sym, subst, ◌∙◌, append_assoc, arith}
 use Rattle.std.proofs.lemmas.List.Elements.{All-nil}
 use Rattle.std.proofs.lemmas.List.{drop-drop, length-append, length-drop, length-take-le, take-append-drop, take_all}
 use Rattle.std.proofs.Math.Seq.{take-append-add, take-append_seam}
 use Rattle.std.proofs.Math.ListN.{drop_of_length-le}
 use Rattle.shm_batches.proofs.JournalLemmas.{line-first, none-ends}
 use Rattle.shm_batches.specs.Chain.{begins_as_entry, entries_at_end, entries_from}
-use Rattle.shm_journal.specs.Found.{Lines, lines_of, with_line}
+use Rattle.shm_journal.specs.Found.{Lines, lines_of}
 use Rattle.shm_journal.specs.LinesOf.{Unended}
 
 abbrev pub kept : List ℕ → ℕ → ℕ → List ℕ
