@@ -51,12 +51,14 @@ struct page {
     uint64_t unmap;
     /* Its bytes as the site has them, while it is mapped. */
     uint8_t *twin;
-    /* When it came, for which thread, and how often that had run before. */
+    /* When it came, for which thread (-1: one that was woken, and hasn't faulted yet), and how often that had run before. */
     int64_t since;
     pid_t thread;
     uint64_t runs;
-    /* In so many bytes from its start on, sleepers of futexes are to be woken. */
-    size_t sleepers;
+    /* Since it left: how many of its bytes weren't searched for sleepers of futexes, from which place on, and when to begin. And how long that
+       waits when it leaves. */
+    size_t unsearched, place;
+    int64_t search_at, wait;
     struct fault *faults;
 };
 

@@ -6,17 +6,22 @@
    While it is mapped, processors load and store it without a step of the site, which keeps back what would take its right away, and tells the
    daemon what may stay. Then the daemon takes the right back, in this order: the page is protected in every program, so that each store is
    either seen here or waits; it is compared with the bytes that the site has; it is punched out of the segment's memory, which unmaps it
-   everywhere; the site is told what changed, and that the page is given up; and who sleeps in futexes of the page is woken, to look again and
-   fault: whoever stores next is elsewhere, and wakes nobody here. */
+   everywhere; and the site is told what changed, and that the page is given up.
+
+   Who sleeps in a futex of a page that has left is woken by nobody, as who stores next is on another machine. So a page that has left, and in
+   which somebody sleeps, is fetched again, and those are woken whose word comes back other than it left. This is done at once, and to write, as
+   who is woken will. Where it woke nobody, it is done 1 ms after the page leaves next, then after twice as long each time, 64 ms at most, and
+   only to read: until it wakes somebody, or the page stays for 64 ms. So where nobody stores, each machine soon has the page to read, and nothing
+   moves. Who isn't woken, as his word changed and changed back, might as well have fallen asleep after that. */
 #include "host.h"
 
 #include <linux/futex.h>
 #include <sys/syscall.h>
 
-enum { FUTEXES_AT_ONCE = 32 };
+enum { FUTEXES_AT_ONCE = 16, WOKEN = -1 };
 
-/* Nanoseconds for which a page stays at most, and until it is looked at again. */
-static const int64_t LONGEST_STAY = 20000000, LOOK_AGAIN = 50000;
+/* Nanoseconds for which a page stays at most, and until it is looked at again; and until one that left is fetched for those who sleep in it. */
+static const int64_t LONGEST_STAY = 20000000, LOOK_AGAIN = 50000, FIRST_WAIT = 1000000, LONGEST_WAIT = 64000000;
 
 static uint8_t *bytes_of(const struct page *page) {
     return page->segment->bytes + page->offset;
@@ -43,7 +48,9 @@ static bool gather(struct page *page, enum right keeps) {
 static void punch(struct page *page) {
     int mode = FALLOC_FL_PUNCH_HOLE | FALLOC_FL_KEEP_SIZE;
     if (fallocate(page->segment->memory, mode, (off_t)page->offset, PAGE) < 0) errx(1, "a page can't be taken out of memory");
-    page->sleepers = PAGE;
+    if (now() > page->since + LONGEST_WAIT) page->wait = 0;
+    page->unsearched = PAGE;
+    page->search_at = now() + page->wait;
     page->segment->busy = true;
 }
 
@@ -74,12 +81,41 @@ void page_revoked(struct page *page, enum right keeps) {
     page->segment->busy = true;
 }
 
-/* Some at a time, as each is a system call, and faults are to be served meanwhile. */
-static void wake_sleepers(struct page *page) {
-    for (int count = 0; count < FUTEXES_AT_ONCE && page->sleepers > 0; count++) {
-        page->sleepers -= sizeof(int);
-        syscall(SYS_futex, bytes_of(page) + page->sleepers, FUTEX_WAKE, INT32_MAX, NULL, NULL, 0);
+/* Sleepers. */
+
+/* How many sleepers of a word FUTEX_WAKE wakes, or FUTEX_REQUEUE, from the word to itself, finds and lets sleep. */
+static long call_futex(const struct page *page, size_t place, int operation, int wakes) {
+    uint8_t *word = bytes_of(page) + place;
+    return syscall(SYS_futex, word, operation, wakes, (long)INT32_MAX, word, 0);
+}
+
+/* Whether a page is to be fetched, as it has left and somebody sleeps in it. Some words at a time are searched, as each is a system call, and
+   faults are to be served meanwhile; `due` is when to go on. A word that has a sleeper is the first one next time. */
+static bool is_missed(struct page *page, int64_t *due) {
+    if (page->unsearched > 0 && now() < page->search_at) {
+        if (page->search_at < *due) *due = page->search_at;
+        return false;
     }
+    for (int count = 0; count < FUTEXES_AT_ONCE && page->unsearched > 0; count++) {
+        if (call_futex(page, page->place, FUTEX_REQUEUE, 0) != 0) return true;
+        page->place = (page->place + sizeof(int)) % PAGE;
+        page->unsearched -= sizeof(int);
+        if (page->unsearched == 0) page->wait = FIRST_WAIT;
+    }
+    if (page->unsearched > 0) *due = 0;
+    return false;
+}
+
+/* A page that had left comes back with these bytes, for a fault or for who sleeps in it. Whether somebody is woken. */
+static bool wake_sleepers(struct page *page, const uint8_t *bytes) {
+    long woken = 0;
+    for (size_t place = 0; place < PAGE; place += sizeof(int)) {
+        if (memcmp(bytes + place, page->twin + place, sizeof(int)) != 0) woken += call_futex(page, place, FUTEX_WAKE, INT32_MAX) > 0;
+    }
+    if (woken > 0) page->wait = 0;
+    else if (page->faults == NULL && page->wait < LONGEST_WAIT) page->wait = page->wait == 0 ? FIRST_WAIT : 2 * page->wait;
+    page->unsearched = 0;
+    return woken > 0;
 }
 
 /* Opening. */
@@ -96,11 +132,17 @@ static uint64_t runs_of(pid_t thread) {
     return runs;
 }
 
+static void stays_for(struct page *page, pid_t thread) {
+    page->thread = thread;
+    page->runs = runs_of(thread);
+}
+
 /* Until when a page stays: for a while, and longer where the thread that it came for hasn't run yet, or on busy machines two hosts would take it
    from one another before either's instruction is repeated. */
 static int64_t stays_until(struct page *page) {
     if (page->thread == 0 || now() < page->since + options.stay) return page->since + options.stay;
-    if (now() < page->since + LONGEST_STAY && page->runs > 0 && runs_of(page->thread) == page->runs) return now() + LOOK_AGAIN;
+    bool waits = page->thread == WOKEN || (page->runs > 0 && runs_of(page->thread) == page->runs);
+    if (now() < page->since + LONGEST_STAY && waits) return now() + LOOK_AGAIN;
     page->thread = 0;
     return 0;
 }
@@ -110,18 +152,19 @@ static int64_t stays_until(struct page *page) {
 void page_told(struct page *page, const char *text) {
     enum right right = page->asked;
     bool brings = strncmp(text, "mapped ", 7) == 0;
+    uint8_t bytes[PAGE];
     page->asked = NONE;
     page->segment->busy = true;
     if (is_unmapping(page)) return;
-    if (brings ? !decode(text + 7, page->twin) : page->mapped == NONE || strcmp(text, "mapped") != 0) {
+    if (brings ? !decode(text + 7, bytes) : page->mapped == NONE || strcmp(text, "mapped") != 0) {
         page->later = true;
         return;
     }
-    if (brings) memcpy(bytes_of(page), page->twin, PAGE);
+    bool wakes = page->unsearched > 0 && wake_sleepers(page, bytes);
+    if (brings) memcpy(page->twin, bytes, PAGE), memcpy(bytes_of(page), bytes, PAGE);
     page->mapped = right;
     page->since = now();
-    page->thread = page->faults == NULL ? 0 : page->faults->thread;
-    page->runs = runs_of(page->thread);
+    stays_for(page, page->faults != NULL ? page->faults->thread : wakes ? WOKEN : 0);
 }
 
 /* Opens the page for those who need no more than what is mapped. */
@@ -135,6 +178,7 @@ static void open_for_all(struct page *page) {
         }
         *place = fault->next;
         page->opened |= page->mapped == WRITE;
+        if (page->thread == WOKEN) stays_for(page, fault->thread);
         open_page(fault, options.broken == OPENS_TO_WRITE ? WRITE : page->mapped);
         free(fault);
     }
@@ -153,13 +197,12 @@ void page_fault(struct page *page, const struct fault *fault) {
 /* Whether there is more to do for the page, and when. */
 static bool turn(struct page *page, int64_t *due) {
     open_for_all(page);
+    if (page->wanted == NONE && is_missed(page, due)) page->wanted = page->wait == 0 && page->segment->writing >= 0 ? WRITE : READ;
     int64_t until = page->keeps < WRITE ? stays_until(page) : INT64_MAX;
     if (until <= now()) unmap_to(page, page->keeps);
     else if (until < *due) *due = until;
     if (page->wanted > page->mapped && page->asked == NONE && !page->later) ask_map(page);
-    wake_sleepers(page);
-    if (page->sleepers > 0) *due = 0;
-    return page->keeps < WRITE || page->sleepers > 0 || page->wanted > page->mapped;
+    return page->keeps < WRITE || page->unsearched > 0 || page->wanted > page->mapped;
 }
 
 int64_t pages_turn(void) {

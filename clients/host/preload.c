@@ -10,7 +10,6 @@
 #include <sys/mman.h>
 #include <sys/stat.h>
 #include <sys/syscall.h>
-#include <sys/un.h>
 
 enum { MOST_ATTACHED = 128, MOST_LISTED = 1024, HIGH = 400, STAT_ANY = 15 };
 
@@ -49,16 +48,10 @@ static bool connected(void) {
 
 /* After a fork the daemon is told which program this is, by what it reads in its page of names, and gives the userfaultfd that is its own. */
 static bool connect_host(void) {
-    const char *path = getenv("LEDDWYFAN_SOCKET");
-    struct sockaddr_un address = {.sun_family = AF_UNIX};
     struct stat file;
     if (connected()) return true;
-    snprintf(address.sun_path, sizeof address.sun_path, "%s", path == NULL ? DEFAULT_SOCKET : path);
-    int made = socket(AF_UNIX, SOCK_SEQPACKET | SOCK_CLOEXEC, 0);
-    if (made < 0 || connect(made, (struct sockaddr *)&address, sizeof address) < 0 || fstat(made, &file) < 0) {
-        close(made);
-        return failed(ENOSYS) == 0;
-    }
+    int made = connect_to(socket_path());
+    if (made < 0 || fstat(made, &file) < 0) return failed(ENOSYS) == 0;
     host_file = file.st_ino;
     host = raised(made);
     if (names == NULL) return true;

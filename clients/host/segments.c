@@ -7,7 +7,6 @@
 #include <sys/file.h>
 #include <sys/mman.h>
 #include <sys/stat.h>
-#include <sys/un.h>
 
 enum { MADE = 1024 };
 
@@ -275,6 +274,16 @@ static void accept_program(struct source *source) {
     watch(socket, &connection->source);
 }
 
+/* What a daemon that was killed left is replaced; what somebody answers at isn't, nor what is no socket. */
+static void clear_socket(void) {
+    struct stat file;
+    int other = connect_to(options.socket);
+    if (other < 0 && errno == ENOENT) return;
+    if (other >= 0 || errno != ECONNREFUSED) errx(1, "another daemon answers at %s, or another program has it", options.socket);
+    if (stat(options.socket, &file) < 0 || !S_ISSOCK(file.st_mode)) errx(1, "%s is no socket", options.socket);
+    unlink(options.socket);
+}
+
 /* The lock is held by the daemon and by each program that it hands it to: while one of them lives, no other daemon begins, as such a program
    may have pages that the new one knew nothing of. */
 void listen_to_programs(void) {
@@ -287,7 +296,7 @@ void listen_to_programs(void) {
     lock = open(name, O_RDWR | O_CREAT | O_CLOEXEC, 0600);
     if (lock < 0) err(1, "%s can't be made", name);
     if (flock(lock, LOCK_EX | LOCK_NB) < 0) errx(1, "another daemon has %s, or programs of an earlier one still run: end them first", options.socket);
-    unlink(options.socket);
+    clear_socket();
     listener = socket(AF_UNIX, SOCK_SEQPACKET | SOCK_CLOEXEC | SOCK_NONBLOCK, 0);
     mode_t mask = umask(0);
     if (bind(listener, (struct sockaddr *)&address, sizeof address) < 0 || listen(listener, 128) < 0) err(1, "no socket %s", options.socket);

@@ -1,5 +1,5 @@
 /* semget, semop, semtimedop and semctl, over a segment of their own for each set: so they work over machines as the memory does. Sleepers wait
-   in a futex of the set's page, which the daemon wakes when another machine takes the page.
+   in a futex of the set's page, a count of changes: the daemon wakes them where another machine changed it.
 
    SEM_UNDO is made where a program ends by exit, and not where it is killed; GETNCNT and GETZCNT tell 0. */
 #include "wire.h"
@@ -12,6 +12,8 @@
 #include <sys/syscall.h>
 
 enum { KEYS = 0x5e3a0000, MADE = 0x53454d31, MOST_SETS = 64, MOST = 200, GREATEST = 32767, SPINS = 50, PAUSE = 200000, NAP = 20000000, NAPS = 100 };
+
+static const int64_t LONGEST_SLEEP = 60 * SECOND; /* one without an end goes on after a signal, where a handler has SA_RESTART; semop(2) doesn't */
 
 struct set {
     uint32_t made, count, lock, changes, removed;
@@ -135,8 +137,10 @@ EXPORTED int semtimedop(int id, struct sembuf *operations, size_t count, const s
         int result = operate(one, operations, count);
         unlock_set(one->set, result == 0);
         if (result != 1) return result;
-        if (now() > until) return failed(EAGAIN);
-        if (syscall(SYS_futex, &one->set->changes, FUTEX_WAIT, seen, &(struct timespec){0, NAP}, NULL, 0) < 0 && errno == EINTR) return -1;
+        int64_t left = until - now(), sleep = left < LONGEST_SLEEP ? left : LONGEST_SLEEP;
+        if (left <= 0) return failed(EAGAIN);
+        const struct timespec most = {sleep / SECOND, sleep % SECOND};
+        if (syscall(SYS_futex, &one->set->changes, FUTEX_WAIT, seen, &most, NULL, 0) < 0 && errno == EINTR) return -1;
     }
 }
 

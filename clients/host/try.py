@@ -17,7 +17,6 @@ import shutil
 import signal
 import socket
 import stat
-import statistics
 import subprocess
 import sys
 import tempfile
@@ -28,6 +27,9 @@ HERE = os.path.dirname(os.path.abspath(__file__))
 sys.path.insert(0, os.path.join(HERE, 'try'))
 from cluster import Cluster, Words, answer_of, expect, has, has_ended, keys, patience
 from others import try_others, try_postgres
+from refusals import try_refusals, try_sockets
+from sleepers import try_sleepers
+from times import time_all
 
 ROUGH = ('5', '10', '30')
 BROKEN = {1: 'leaves a page in memory that was read and is given up', 2: 'leaves a page in memory that was written and is given up',
@@ -377,40 +379,6 @@ def try_many(options):
     expect(complaints == '', complaints)
 
 
-def refusal(options, *words, **how):
-    """What a daemon says that can't begin."""
-    command = [os.path.join(options.build, 'leddwyfan-host'), '--me', '0', '--program', options.program, *words]
-    told = subprocess.run(command, stdin=subprocess.DEVNULL, stdout=subprocess.DEVNULL, stderr=subprocess.PIPE, text=True, timeout=20, **how)
-    return told.stderr
-
-
-def try_refusals(options):
-    """Whatever a daemon lacks it says in a sentence."""
-    cluster = Cluster(options, 2)
-    at = lambda name: ('--socket', os.path.join(cluster.folder, name))
-    one = ('--sites', '1')
-    try:
-        told = {'another daemon has': refusal(options, *one, '--socket', cluster.socket(0)),
-                'too long': refusal(options, *one, *at('x' * 120)),
-                "can't be made": refusal(options, *one, '--socket', '/nowhere/socket'),
-                "can't be started": refusal(options, *one, *at('a'), '--program', '/nowhere/shmdbg'),
-                'journal': refusal(options, *one, *at('b'), '--journal', '/nowhere/journal', '--new'),
-                'give a carrier': refusal(options, '--sites', '2', *at('c')),
-                'run the daemon as root': refusal(options, *one, *at('d'), user='nobody')}
-        for words, said in told.items():
-            expect(words in said, f'not "{words}": {said}')
-        cluster.daemons[0].kill()
-        cluster.daemons[0].wait()
-        again = cluster.start(0, subprocess.DEVNULL, '--', 'sleep', '1000')
-        time.sleep(1)
-        expect(again.poll() is None, 'a socket that is left over is in nobody\'s way')
-        again.terminate()
-        expect(again.wait(20) == 0, 'the daemon ends')
-    finally:
-        cluster.stop()
-    yield f'{len(told)} refusals, and a socket that was left over'
-
-
 def try_seals(options):
     """All lines under a cluster's name and key."""
     key = os.path.join(options.build, 'cluster.key')
@@ -425,8 +393,8 @@ def try_seals(options):
     yield cluster.audit()
 
 
-TRIES = {'smooth': try_smooth, 'carriers': try_carriers, 'postgres': try_database, 'nobody': try_nobody, 'checked': try_checked,
-         'many': try_many, 'refusals': try_refusals, 'death': try_daemon_death, 'kills': try_kills, 'untold': try_untold,
+TRIES = {'smooth': try_smooth, 'sleepers': try_sleepers, 'carriers': try_carriers, 'postgres': try_database, 'nobody': try_nobody, 'checked': try_checked,
+         'many': try_many, 'refusals': try_refusals, 'sockets': try_sockets, 'death': try_daemon_death, 'kills': try_kills, 'untold': try_untold,
          'seals': try_seals, 'repeats': try_repeats, 'broken': try_broken}
 
 
@@ -453,57 +421,11 @@ def soak(options):
     print(f'  {cluster.kills} sites killed; {cluster.audit()}')
 
 
-def medians(rows):
-    return ' '.join(f'{statistics.median(float(row[place]) for row in rows):.1f}' for place in range(len(rows[0])))
-
-
-LOCKS = {'spin': 10000, 'near': 10000, 'mutex': 4000, 'peterson': 1, 'turns': 1}  # so that the hosts meet for a while
-
-
-def time_all(options):
-    """Medians of five turns, one after the other: what a page that is here costs beside the system's segment, and what one that comes costs."""
-    seen = {}
-    cluster = Cluster(options, 2, journals=options.journals)
-    try:
-        for _ in range(5):
-            key, own, other = next(keys), next(keys), next(keys)
-            plain = subprocess.run([os.path.join(options.build, 'try', 'speed'), str(key), 'loads'], stdout=subprocess.PIPE, text=True).stdout
-            subprocess.run(['ipcrm', '-M', str(key)])
-            seen.setdefault("the system's segment: million loads, stores, atomic adds a second", []).append(plain.split())
-            seen.setdefault('a page that is here: the same', []).append(cluster.told(0, './speed', key, 'loads').split())
-            holder = cluster.on(0, './speed', own, 'write', 32, 3)
-            time.sleep(1)
-            seen.setdefault('a fault that the own host serves, microseconds', []).append([cluster.told(0, './speed', own, 'write', 32)])
-            holder.wait()
-            cluster.told(0, './speed', other, 'write', 32)
-            seen.setdefault('a page moves to be read, microseconds', []).append([cluster.told(1, './speed', other, 'read', 32)])
-            seen.setdefault('a page moves to be written, microseconds', []).append([cluster.told(1, './speed', own, 'write', 32)])
-            filled = next(keys)
-            cluster.told(0, './speed', filled, 'fill', 64)
-            says = '256 KiB that the other host has filled, read for the first time, milliseconds'
-            seen.setdefault(says, []).append([cluster.told(1, './speed', filled, 'scan', 64)])
-            word = next(keys)
-            rounds = cluster.together(*[(me, './ring', word, one, options.times) for me, one in enumerate(('ping', 'pong'))])
-            seen.setdefault('ping-pong, rounds a second', []).append([rounds[0].split()[1]])
-            records = next(keys)
-            rounds = cluster.together((0, './ring', records, 'put', 20 * options.times), (1, './ring', records, 'get', 20 * options.times))
-            seen.setdefault('ring, records a second', []).append([rounds[1].split()[1]])
-            for kind, times in LOCKS.items():
-                lock = next(keys)
-                told = cluster.together(*[(me, './lock', lock, kind, me, 2, times * options.times) for me in range(2)])
-                seen.setdefault(f'{kind}, rounds a second of each host', []).append([line.split()[1] for line in told])
-    finally:
-        cluster.stop()
-    for says, rows in seen.items():
-        print(f'  {says}: {medians(rows)}')
-
-
 def build(options, *words):
     """All that is tried, in a folder that every user may read."""
     os.makedirs(options.build, exist_ok=True)
     os.chmod(options.build, 0o755)
     subprocess.run(['make', '-s', '-C', HERE, f'BUILD={options.build}', *words, 'tried'], check=True)
-    shutil.copy(os.path.join(HERE, 'leddwyfan-run'), options.build)
     options.program = shutil.copy(options.program, os.path.join(options.build, 'shmdbg'))
     os.chmod(options.program, 0o755)
 

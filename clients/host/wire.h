@@ -12,6 +12,7 @@
 #include <string.h>
 #include <sys/shm.h>
 #include <sys/socket.h>
+#include <sys/un.h>
 #include <time.h>
 #include <unistd.h>
 
@@ -49,6 +50,30 @@ static inline int64_t now(void) {
     return time.tv_sec * SECOND + time.tv_nsec;
 }
 
+/* What a call that fails gives. */
+static inline int failed(int error) {
+    errno = error;
+    return -1;
+}
+
+/* Where programs find their daemon. */
+static inline const char *socket_path(void) {
+    const char *path = getenv("LEDDWYFAN_SOCKET");
+    return path == NULL ? DEFAULT_SOCKET : path;
+}
+
+/* A connection to the daemon that has this socket, or -1: with ECONNREFUSED where the file is there, but nobody answers. */
+static inline int connect_to(const char *path) {
+    struct sockaddr_un address = {.sun_family = AF_UNIX};
+    int made = strlen(path) < sizeof address.sun_path ? socket(AF_UNIX, SOCK_SEQPACKET | SOCK_CLOEXEC, 0) : failed(ENAMETOOLONG);
+    if (made < 0) return made;
+    strcpy(address.sun_path, path);
+    if (connect(made, (struct sockaddr *)&address, sizeof address) == 0) return made;
+    int error = errno;
+    close(made);
+    return failed(error);
+}
+
 /* `descriptor` is -1 for none. Both give what sendmsg(2) and recvmsg(2) give. */
 static inline ssize_t send_message(int socket, const void *message, size_t size, int descriptor) {
     union { char bytes[CMSG_SPACE(sizeof(int))]; struct cmsghdr header; } beside = {.header = {CMSG_LEN(sizeof(int)), SOL_SOCKET, SCM_RIGHTS}};
@@ -70,12 +95,6 @@ static inline ssize_t receive_message(int socket, void *message, size_t size, in
     *descriptor = -1;
     if (length > 0 && CMSG_FIRSTHDR(&header) != NULL) memcpy(descriptor, CMSG_DATA(&beside.header), sizeof *descriptor);
     return length;
-}
-
-/* Of the library: what a call that fails gives. */
-static inline int failed(int error) {
-    errno = error;
-    return -1;
 }
 
 #define EXPORTED __attribute__((visibility("default")))

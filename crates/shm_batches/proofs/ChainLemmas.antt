@@ -1,11 +1,10 @@
 -- A mark names its batch and the digest of the batch before, and so all before it.
-use Rattle.std.proofs.Common.{◌≡◌, ◌≢◌, ◌⊎◌, ℕ, ◌+◌, ◌-◌, ◌<◌, ◌%◌, ◌/◌, ◌*◌, ◌^◌, ◌&&◌, zero, suc, Bool, true, false, List, [], ◌∷◌, ◌++◌, length, take, drop, replicate, refl, ap, ap₂, sym, subst, ◌∙◌, append_assoc, inl, inr, arith}
-use Rattle.std.specs.Prelude.{codes, Result, Ok, slice_index}
+use Rattle.std.proofs.Common.{◌≡◌, ◌⊎◌, ℕ, ◌+◌, ◌-◌, ◌<◌, ◌&&◌, zero, suc, Bool, true, false, List, [], ◌∷◌, ◌++◌, length, take, drop, replicate, refl, ap, ap₂, sym, ◌∙◌, append_assoc, inl, inr, arith}
+use Rattle.std.specs.Prelude.{codes, slice_index}
 use Rattle.std.specs.Fmt.{decimal}
 use Rattle.std.specs.Int.{byte_at, bytes_high_first, to_be_bytes, w32}
 use Rattle.std.specs.List.{All}
 use Rattle.std.specs.Str.{bytes_eq}
-use Rattle.std.proofs.lemmas.Bool.Decides.{nat_tests}
 use Rattle.std.proofs.lemmas.List.{length-append}
 use Rattle.std.proofs.lemmas.List.Elements.{All-append, All-cons, All-head, All-nil, All-tail}
 use Rattle.std.proofs.Math.Seq.{drop-append_seam, take-append_seam}
@@ -14,14 +13,14 @@ use Rattle.hex.proofs.HexLemmas.{decode_of-encode_lower, decode_of-same, length-
 use Rattle.hex.specs.Hex.{IsBytes, decode_of, encode_lower, lower_digits}
 use Rattle.sha2.proofs.Facts256.{length-sha256}
 use Rattle.sha2.specs.Sha256.{digest_bytes, sha256}
-use Rattle.shm_batches.specs.Chain.{Chain, Collision, batch_text, chain_after, digest_end, digest_of, is_marked, mark_front, mark_line, unmarked, with_batch}
+use Rattle.shm_batches.specs.Chain.{Chain, Collision, chain_after, digest_end, digest_of, entries_at_end, is_marked, mark_front, mark_line, unmarked, with_batch}
 
 -- ---- bytes
 
-eq-true : (xs ys : List ℕ) → bytes_eq xs ys ≡ true → xs ≡ ys
+pub eq-true : (xs ys : List ℕ) → bytes_eq xs ys ≡ true → xs ≡ ys
 eq-true xs ys h = grind (arith, bytes_eq-Decides)
 
-eq-self : (xs : List ℕ) → bytes_eq xs xs ≡ true
+pub eq-self : (xs : List ℕ) → bytes_eq xs xs ≡ true
 eq-self xs = grind (arith, bytes_eq-Decides)
 
 abbrev IsByte : ℕ → Type 0
@@ -87,21 +86,22 @@ other-line chain text line h = go (bytes_eq line (mark_line chain text)) refl
         ap (take (length front)) (eq-true line (mark_line chain text) e) ∙ take-append_seam front (32 ∷ encode_lower (digest_of chain text)) in
         sym (eq-self front) ∙ ap (bytes_eq front) (sym begins) ∙ h
 
-verb : (chain : Chain) (end : List ℕ) → bytes_eq (codes "durable ") (take 8 (mark_front chain ++ end)) ≡ true
+pub verb : (chain : Chain) (end : List ℕ) → bytes_eq (codes "durable ") (take 8 (mark_front chain ++ end)) ≡ true
 unfolding mark_front
 verb chain end = refl
 
 -- each mark is one by itself
-pub mark_is_marked : (chain : Chain) (text : List ℕ) → is_marked text (mark_line chain text) ≡ true
+pub mark_is_marked : (chain : Chain) (before text : List ℕ) → entries_at_end (before ++ text) ≡ text → is_marked (before ++ text) (mark_line chain text) ≡ true
 unfolding mark_line digest_end digest_of
-mark_is_marked chain text =
+mark_is_marked chain before text entries =
     let front = mark_front chain in
     let end : List ℕ = 32 ∷ encode_lower (sha256 (text ++ front)) in
     let long : length end ≡ 65 = let h = length-hex (sha256 (text ++ front)) (length-sha256 (text ++ front)) in omega (arith, h) in
     let at : length (front ++ end) - 65 ≡ length front = let len = length-append front end in omega (arith, len, long) in
     ap₂ (λ a b. a && b) (verb chain end)
     (
-    ap (λ n. bytes_eq (drop n (front ++ end)) (digest_end text (take n (front ++ end)))) at
+    ap (λ n. bytes_eq (drop n (front ++ end)) (digest_end (entries_at_end (before ++ text)) (take n (front ++ end)))) at
+    ∙ ap (λ t. bytes_eq (drop (length front) (front ++ end)) (digest_end t (take (length front) (front ++ end)))) entries
     ∙ ap₂ (λ d t. bytes_eq d (digest_end text t)) (drop-append_seam front end) (take-append_seam front end)
     ∙ eq-self end
     )

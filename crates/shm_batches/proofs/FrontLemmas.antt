@@ -1,41 +1,37 @@
 -- The front of a journal's file, a line more at a time.
-use Rattle.std.proofs.Common.{◌≡◌, ℕ, ◌+◌, ◌-◌, ◌<◌, ◌≤◌, ◌||◌, ◌==◌, Bool, true, false, List, [], ◌∷◌, ◌++◌, length, take, drop, cond, refl, ap, ap₂, sym, subst, ◌∙◌, append_assoc, append-nil, arith}
+use Rattle.std.proofs.Common.{◌≡◌, ℕ, ◌+◌, ◌||◌, ◌==◌, Bool, true, false, List, [], ◌∷◌, ◌++◌, length, take, drop, cond, refl, ap, ap₂, sym, subst, ◌∙◌, append_assoc, append-nil, arith}
 use Rattle.std.specs.Prelude.{Option, None, Some, IfSome}
 use Rattle.std.specs.Io.KnownBytes.{Consumes, IsAtEnd}
-use Rattle.std.specs.List.{All}
 use Rattle.std.specs.Str.{bytes_eq}
 use Rattle.std.proofs.KnownBytes.{Consumes-nil, Consumes-trans}
-use Rattle.std.proofs.lemmas.Bool.Decides.{nat_tests}
 use Rattle.std.proofs.lemmas.List.{length-append, take-append-drop}
 use Rattle.std.proofs.lemmas.List.Elements.{All-head, All-nil, All-tail}
 use Rattle.std.proofs.lemmas.Slice.Eq.{bytes_eq-Decides}
 use Rattle.std.proofs.Math.Seq.{drop-append_seam, take-append_seam}
-use Rattle.shm_batches.proofs.JournalLemmas.{line-first, none-ends}
+use Rattle.shm_batches.proofs.JournalLemmas.{IsNoFeed, line-first, none-ends}
 use Rattle.shm_batches.proofs.UnmarkedLemmas.{ended-line, front_of}
 use Rattle.shm_batches.specs.Chain.{Chain, batch_text, begins_as_mark, chain_after, file_text, is_marked, mark_line, unmarked, with_batch}
 use Rattle.shm_batches.specs.ChainOf.{chain_of}
-use Rattle.shm_batches.specs.Extent.{Breaks, IsExtent, IsExtentKnown, IsFound, Marks, Measured, Seeks, extent_of, marked_on, whole_on}
-use Rattle.shm_batches.specs.JournalLines.{Lines, Unended, lines_of, with_line}
-use Rattle.shm_batches.specs.Section.{ReadsEnd, ReadsLine, ReadsMark, ReadsPart, lines_in, open_in}
+use Rattle.shm_batches.specs.Extent.{Breaks, IsExtent, IsExtentKnown, IsFound, Marks, Measured, Seeks, extent_of, marked_on}
+use Rattle.shm_journal.specs.Found.{Lines, lines_of}
+use Rattle.shm_journal.specs.LinesOf.{Unended}
+use Rattle.shm_batches.specs.Section.{ReadsLine, ReadsMark, ReadsPart, lines_in, open_in}
 use Rattle.shm_batches.specs.UnmarkedLine.{is_ended}
-use Rattle.shm_batches.specs.Whole.{is_damaged, marked_in, whole_batches, whole_bytes, whole_in}
+use Rattle.shm_batches.specs.Whole.{marked_in, whole_batches, whole_in, whole_on}
 use Rattle.shm_batches.specs.declared.chain.Chain.{Chain as CodeChain}
 use Rattle.shm_batches.specs.declared.front.Front.{Front}
 use Rattle.shm_batches.specs.declared.section.Section.{Section}
-
-abbrev IsNoFeed : ℕ → Type 0
-IsNoFeed byte = (byte == 10) ≡ false
 
 -- ---- one line
 
 abbrev with_feed : List ℕ → List ℕ
 with_feed line = line ++ 10 ∷ []
 
-first-line : (line more : List ℕ) → Unended line → (lines_of (with_feed line ++ more)).whole ≡ line ∷ (lines_of more).whole
+pub first-line : (line more : List ℕ) → Unended line → (lines_of (with_feed line ++ more)).whole ≡ line ∷ (lines_of more).whole
 first-line line more h =
     ap (λ b. (lines_of b).whole) (append_assoc line (10 ∷ []) more) ∙ ap (λ (l : Lines). l.whole) (line-first line more h)
 
-abbrev whole_by : Bool → Bool → Chain → List ℕ → List ℕ → List (List ℕ) → List (List ℕ)
+abbrev pub whole_by : Bool → Bool → Chain → List ℕ → List ℕ → List (List ℕ) → List (List ℕ)
 whole_by marks next chain text line lines =
     cond marks (cond next (text ∷ whole_in (with_batch chain text) [] lines) []) (whole_in chain (text ++ with_feed line) lines)
 

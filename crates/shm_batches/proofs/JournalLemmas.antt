@@ -1,9 +1,11 @@
 -- Lines, one after another.
-use Rattle.std.proofs.Common.{◌≡◌, ℕ, ◌+◌, ◌==◌, Bool, true, false, List, [], ◌∷◌, ◌++◌, cond, refl, ap, sym, subst, ◌∙◌, append_assoc, append-nil}
+use Rattle.std.proofs.Common.{◌≡◌, ℕ, ◌==◌, false, List, [], ◌∷◌, ◌++◌, cond, ap, sym, ◌∙◌, append_assoc, append-nil}
 use Rattle.std.proofs.lemmas.List.Elements.{All-head, All-tail}
-use Rattle.shm_batches.specs.JournalLines.{Lines, Unended, lines_behind, lines_of, with_line}
+use Rattle.shm_journal.proofs.Leading.{line_is_torn}
+use Rattle.shm_journal.specs.Found.{Lines, lines_behind, lines_of, with_line}
+use Rattle.shm_journal.specs.LinesOf.{Unended}
 
-abbrev IsNoFeed : ℕ → Type 0
+abbrev pub IsNoFeed : ℕ → Type 0
 IsNoFeed byte = (byte == 10) ≡ false
 
 -- a line that begins with this front
@@ -18,13 +20,5 @@ line-behind front (byte ∷ line) rest h =
 pub line-first : (line rest : List ℕ) → Unended line → lines_of (line ++ 10 ∷ rest) ≡ with_line line (lines_of rest)
 line-first line rest h = line-behind [] line rest h
 
-torn-behind : (front line : List ℕ) → Unended line → lines_behind front line ≡ record { whole = []; torn = front ++ line }
-unfolding lines_behind
-torn-behind front [] h = ap (λ l. record { whole = []; torn = l }) (sym (append-nil front))
-torn-behind front (byte ∷ line) h =
-    ap (λ b. cond b (with_line front (lines_behind [] line)) (lines_behind (front ++ byte ∷ []) line)) (All-head IsNoFeed byte line h)
-    ∙ torn-behind (front ++ byte ∷ []) line (All-tail IsNoFeed byte line h)
-    ∙ ap (λ l. record { whole = []; torn = l }) (append_assoc front (byte ∷ []) line)
-
 pub none-ends : (line : List ℕ) → Unended line → (lines_of line).whole ≡ []
-none-ends line h = ap (λ (l : Lines). l.whole) (torn-behind [] line h)
+none-ends line h = ap (λ (l : Lines). l.whole) (line_is_torn line h)

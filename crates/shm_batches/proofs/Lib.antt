@@ -3,3 +3,10 @@ pub mod JournalLemmas
 pub mod UnmarkedLemmas
 pub mod SectionLemmas
 pub mod FrontLemmas
+pub mod WrittenLemmas
+pub mod WholeLemmas
+pub mod CrashLemmas
+pub mod CutLemmas
+pub mod RunLemmas
+pub mod NextLemmas
+pub mod EntryLemmas

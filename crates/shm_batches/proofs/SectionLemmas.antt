@@ -1,12 +1,10 @@
 -- What is read behind lines.
-use Rattle.std.proofs.Common.{◌≡◌, ℕ, ◌+◌, ◌-◌, ◌<◌, ◌≤◌, Bool, true, false, List, [], ◌∷◌, ◌++◌, length, take, drop, refl, ap, ap₂, sym, subst, ◌∙◌, append_assoc, arith}
-use Rattle.std.specs.Prelude.{Option}
+use Rattle.std.proofs.Common.{◌≡◌, ℕ, ◌≤◌, true, false, List, [], ◌∷◌, ◌++◌, length, take, drop, ap, sym, subst, ◌∙◌, append_assoc, arith}
 use Rattle.std.specs.Io.{StartsWith, StopsAt, appended_bytes}
 use Rattle.std.proofs.KnownBytes.{starts_with_rest}
 use Rattle.std.proofs.lemmas.List.{drop-append-le, length-append, take-append-drop, take-append-le, take_all}
 use Rattle.std.proofs.Math.Seq.{drop-append_seam, take-append_seam}
-use Rattle.shm_batches.proofs.UnmarkedLemmas.{ended-line, front_of, one-more, unended-line}
-use Rattle.shm_batches.specs.JournalLines.{Unended}
+use Rattle.shm_batches.proofs.UnmarkedLemmas.{ended-line, front_of, one-more}
 use Rattle.shm_batches.specs.UnmarkedLine.{IsOneLine, is_ended}
 
 -- ---- a text that has grown

@@ -1,25 +1,22 @@
 -- Lines that are given without marks.
 use Rattle.std.proofs.Common.{◌≡◌, ◌≢◌, ℕ, ◌+◌, ◌-◌, ◌<◌, ◌≤◌, ◌==◌, ◌&&◌, Bool, true, false, List, [], ◌∷◌, ◌++◌, length, take, drop, cond, inl, inr, refl, ap, ap₂, sym, subst, ◌∙◌, append_assoc, append-nil, arith}
-use Rattle.std.specs.Prelude.{Option, None, Some, option_map, ◌⊎◌}
+use Rattle.std.specs.Prelude.{Option, None, Some, ◌⊎◌}
 use Rattle.std.specs.Io.{StartsWith, StopsAt, appended_bytes}
 use Rattle.std.specs.Io.KnownBytes.{Consumes, IsAtEnd, Keeps}
-use Rattle.std.specs.List.{All}
 use Rattle.std.specs.Str.{bytes_eq}
 use Rattle.std.proofs.lemmas.Bool.{cases_lt}
 use Rattle.std.proofs.lemmas.Bool.Decides.{nat_tests}
 use Rattle.std.proofs.lemmas.List.{drop-drop, length-append, length-drop, length-take-le, take-append-drop, take-append-le, take_all}
 use Rattle.std.proofs.Math.Seq.{take-append-add}
-use Rattle.std.proofs.lemmas.List.Elements.{All-append, All-cons, All-head, All-nil, All-tail, All-weaker}
+use Rattle.std.proofs.lemmas.List.Elements.{All-append, All-cons, All-nil, All-weaker}
 use Rattle.std.proofs.lemmas.Slice.Eq.{bytes_eq-Decides}
-use Rattle.shm_batches.proofs.JournalLemmas.{line-first, none-ends}
-use Rattle.shm_batches.specs.JournalLines.{Lines, Unended, lines_of, with_line}
+use Rattle.shm_batches.proofs.JournalLemmas.{IsNoFeed, line-first, none-ends}
+use Rattle.shm_journal.specs.Found.{Lines}
+use Rattle.shm_journal.specs.LinesOf.{Unended}
 use Rattle.shm_batches.specs.UnmarkedLine.{IsOneLine, is_ended, left_of_line}
 use Rattle.shm_batches.specs.UnmarkedOf.{left_if}
 use Rattle.shm_batches.specs.Chain.{begins_as_mark}
 use Rattle.shm_batches.specs.Whole.{unmarked_in, unmarked_text}
-
-abbrev IsNoFeed : ℕ → Type 0
-IsNoFeed byte = (byte == 10) ≡ false
 
 eq-true : (xs ys : List ℕ) → bytes_eq xs ys ≡ true → xs ≡ ys
 eq-true xs ys h = grind (arith, bytes_eq-Decides)

@@ -1,11 +1,12 @@
 -- Batches of lines, each with a mark behind it: `durable NUMBER PREVIOUS DIGEST`. The number counts the batches from 1. The digest is that of all
 -- that stands before it in the batch, its lines and the front of its mark, and PREVIOUS is the digest of the batch before: a chain, as in Merkle,
 -- "A digital signature based on a conventional encryption function" (1987). SHA-256 is that of FIPS 180-4.
-use Rattle.std.specs.Prelude.{◌≡◌, ◌≢◌, ℕ, ◌+◌, ◌-◌, ◌&&◌, Bool, List, [], ◌∷◌, ◌++◌, codes, drop, length, replicate, take}
+use Rattle.std.specs.Prelude.{◌≡◌, ◌≢◌, ℕ, ◌+◌, ◌-◌, ◌&&◌, ◌||◌, Bool, List, [], ◌∷◌, ◌++◌, codes, drop, if◌then◌else◌, length, replicate, take}
 use Rattle.std.specs.Fmt.{decimal}
 use Rattle.std.specs.Str.{bytes_eq}
 use Rattle.hex.specs.Hex.{encode_lower}
 use Rattle.sha2.specs.Sha256.{sha256}
+use Rattle.shm_journal.specs.Found.{lines_of}
 
 -- how many batches there are, and the digest of the last one
 pub record Chain : Type 0 where
@@ -61,7 +62,20 @@ digest_end text front = 32 ∷ encode_lower (sha256 (text ++ front))
 abbrev pub begins_as_mark : List ℕ → Bool
 begins_as_mark line = bytes_eq (codes "durable ") (take 8 line)
 
--- the digest that ends this line is that of these lines and of the line's front, whatever its number is and the digest before it
+-- a line that begins so may be a journal's
+abbrev pub begins_as_entry : List ℕ → Bool
+begins_as_entry line = bytes_eq (codes "step ") (take 5 line) || bytes_eq (codes "journal ") (take 8 line)
+
+unfoldable pub entries_from : List ℕ → List (List ℕ) → List ℕ
+entries_from text [] = text
+entries_from text (line ∷ lines) = if begins_as_entry line then entries_from (text ++ (line ++ 10 ∷ [])) lines else entries_from [] lines
+
+-- the whole lines at the end of a text that may all be a journal's
+abbrev pub entries_at_end : List ℕ → List ℕ
+entries_at_end text = entries_from [] (lines_of text).whole
+
+-- the digest that ends this line is that of the entries that stand before it and of the line's front, whatever its number is and the digest before
+-- it
 abbrev pub is_marked : List ℕ → List ℕ → Bool
 is_marked text line =
-    begins_as_mark line && bytes_eq (drop (length line - 65) line) (digest_end text (take (length line - 65) line))
+    begins_as_mark line && bytes_eq (drop (length line - 65) line) (digest_end (entries_at_end text) (take (length line - 65) line))

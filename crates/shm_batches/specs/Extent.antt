@@ -1,12 +1,13 @@
 -- How far a journal's file is whole, by what was read of it.
-use Rattle.std.specs.Prelude.{◌≡◌, ℕ, ◌||◌, Bool, true, false, List, [], ◌∷◌, ◌++◌, Option, IfSome, length}
+use Rattle.std.specs.Prelude.{◌≡◌, ℕ, Bool, true, false, List, [], ◌∷◌, ◌++◌, Option, IfSome, length}
 use Rattle.std.specs.Io.KnownBytes.{Consumes}
 use Rattle.std.specs.Str.{bytes_eq}
-use Rattle.shm_batches.specs.Chain.{Chain, begins_as_mark, chain_after, file_text, is_marked, mark_line, unmarked}
+use Rattle.shm_batches.specs.Chain.{begins_as_mark, chain_after, file_text, mark_line, unmarked}
 use Rattle.shm_batches.specs.ChainOf.{chain_of}
-use Rattle.shm_batches.specs.JournalLines.{Unended, lines_of}
+use Rattle.shm_journal.specs.Found.{lines_of}
+use Rattle.shm_journal.specs.LinesOf.{Unended}
 use Rattle.shm_batches.specs.Section.{lines_in, open_in}
-use Rattle.shm_batches.specs.Whole.{is_damaged, marked_in, whole_batches, whole_bytes, whole_chain, whole_in}
+use Rattle.shm_batches.specs.Whole.{is_damaged, marked_in, whole_bytes, whole_chain, whole_on}
 use Rattle.shm_batches.specs.declared.extent.Extent.{Extent}
 use Rattle.shm_batches.specs.declared.front.Front.{Front}
 use Rattle.shm_batches.specs.declared.front.Next.{Next}
@@ -25,10 +26,7 @@ IsExtentKnown remaining extent = (file : List ℕ) × IfSome remaining (λ known
 
 -- ---- what was read so far
 
--- the whole batches, and whether a mark is whole by itself, of bytes behind these lines
-abbrev pub whole_on : Chain → List ℕ → List ℕ → List (List ℕ)
-whole_on chain text bytes = whole_in chain text (lines_of bytes).whole
-
+-- whether a mark is whole by itself, of bytes behind these lines
 abbrev pub marked_on : List ℕ → List ℕ → Bool
 marked_on text bytes = marked_in text (lines_of bytes).whole
 

@@ -1,7 +1,9 @@
-pub mod JournalLines
 pub mod Chain
 pub mod ChainOf
 pub mod Whole
+pub mod Written
+pub mod BatchCrash
+pub mod BatchLives
 pub mod UnmarkedLine
 pub mod UnmarkedOf
 pub mod Section

@@ -1,7 +1,7 @@
 -- What was read since the last mark: whole lines, and behind them a line, or the front of one.
 use Rattle.std.specs.Prelude.{◌≡◌, ℕ, true, false, List, [], ◌∷◌, ◌++◌, Option, drop, take}
 use Rattle.std.specs.Io.KnownBytes.{Consumes, IsAtEnd}
-use Rattle.shm_batches.specs.JournalLines.{Unended}
+use Rattle.shm_journal.specs.LinesOf.{Unended}
 use Rattle.shm_batches.specs.Chain.{begins_as_mark}
 use Rattle.shm_batches.specs.declared.section.Section.{Section}
 use Rattle.shm_batches.specs.declared.section.Read.{Read}

@@ -1,7 +1,7 @@
 -- A line that is read, and what it leaves to give.
 use Rattle.std.specs.Prelude.{ℕ, ◌-◌, Bool, List, [], ◌∷◌, ◌++◌, drop, if◌then◌else◌, length, take}
 use Rattle.std.specs.Str.{bytes_eq}
-use Rattle.shm_batches.specs.JournalLines.{Unended}
+use Rattle.shm_journal.specs.LinesOf.{Unended}
 use Rattle.shm_batches.specs.Whole.{unmarked_text}
 
 -- a line with its line feed

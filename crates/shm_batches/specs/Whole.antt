@@ -4,7 +4,7 @@ use Rattle.std.specs.Prelude.{ℕ, ◌||◌, Bool, false, List, [], ◌∷◌, �
 use Rattle.std.specs.List.{concat}
 use Rattle.std.specs.Str.{bytes_eq}
 use Rattle.shm_batches.specs.Chain.{Chain, begins_as_mark, chain_after, file_text, is_marked, mark_line, unmarked, with_batch}
-use Rattle.shm_batches.specs.JournalLines.{lines_of}
+use Rattle.shm_journal.specs.Found.{lines_of}
 
 -- The lines of each whole batch, with their line feeds; of these lines, behind what was read of the first batch. They end where a line begins as a
 -- mark and isn't the next one.
@@ -15,8 +15,12 @@ whole_in chain text (line ∷ lines) =
     (if bytes_eq line (mark_line chain text) then text ∷ whole_in (with_batch chain text) [] lines else [])
     else whole_in chain (text ++ (line ++ 10 ∷ [])) lines
 
+-- those of these bytes, behind this chain and these lines
+abbrev pub whole_on : Chain → List ℕ → List ℕ → List (List ℕ)
+whole_on chain text bytes = whole_in chain text (lines_of bytes).whole
+
 abbrev pub whole_batches : List ℕ → List (List ℕ)
-whole_batches file = whole_in unmarked [] (lines_of file).whole
+whole_batches file = whole_on unmarked [] file
 
 -- the lines of all of them: the journal
 abbrev pub whole_text : List ℕ → List ℕ

@@ -1,11 +1,13 @@
 //! The marks of batches, each of which names the digest of the one before.
-ghost use Rattle.std.specs.Prelude.{◌≡◌, ◌+◌, ◌-◌, ◌<◌, ◌++◌, ◌^◌, None, Some, if◌then◌else◌, string_bytes, option_map, IfOk};
+ghost use Rattle.std.specs.Prelude.{◌≡◌, ◌+◌, ◌-◌, ◌<◌, ◌∷◌, ◌++◌, ◌^◌, drop, length, take, None, Some, if◌then◌else◌, string_bytes, option_map, IfNone, IfOk, IfSome};
+ghost use Rattle.shm_journal.specs.LinesOf.{Unended};
 ghost use Rattle.std.specs.Str.{bytes_eq};
 ghost use Rattle.shm_batches.specs.Chain.{digest_end, digest_of, is_marked, mark_front, mark_line, unmarked, with_batch};
 ghost use Rattle.shm_batches.specs.ChainOf.{chain_of};
 ghost use Rattle.shm_batches.specs.Chain as spec;
 
 use crate::batch_error::BatchFault;
+use memchr::memchr;
 use sha2::{Digest, Sha256};
 use std::alloc::{Allocator, Global};
 
@@ -129,7 +131,8 @@ impl Chain {
     }
 }
 
-/// Checks that this line is a mark whose digest is that of these lines and of itself, whatever its number is and the digest before it.
+/// Checks that this line is a mark whose digest is that of the entries at the end of these lines and of itself, whatever its number is and the
+/// digest before it.
 pub(crate) fn marks(text: &[u8], line: &[u8]) -> bool
     ensures { result ≡ is_marked text.now line.now }
 {
@@ -137,7 +140,48 @@ pub(crate) fn marks(text: &[u8], line: &[u8]) -> bool
         return false;
     }
     let at = line.len().saturating_sub(DIGEST_BYTES);
-    is_digest(text, &line[..at], &line[at..])
+    is_digest(entries_at_end(text), &line[..at], &line[at..])
+}
+
+/// The whole lines at the end of a text that may all be a journal's.
+fn entries_at_end(text: &[u8]) -> &[u8]
+    ensures { result.now ≡ spec.entries_at_end text.now }
+{
+    let mut from = 0;
+    let mut at = 0;
+    'lines: for _ in 0..text.len() {
+        let Some(len) = line_feed(&text[at..]) else {
+            return &text[from..at];
+        };
+        let is_entry = begins_as_entry(&text[at..at + len]);
+        at += len + 1;
+        from = begin(is_entry, from, at);
+    }
+    &text[from..at]
+}
+
+/// Where the entries begin: where they did, or here.
+fn begin(is_entry: bool, from: usize, at: usize) -> usize
+    ensures { result ≡ (if is_entry then from else at) }
+{
+    if is_entry { from } else { at }
+}
+
+/// The number of bytes before the first line feed.
+fn line_feed(text: &[u8]) -> Option<usize>
+    ensures cut { IfSome result (λ len. text.now ≡ take len text.now ++ 10 ∷ drop (len + 1) text.now) }
+    ensures unended { IfSome result (λ len. Unended (take len text.now)) }
+    ensures within { IfSome result (λ len. len < length text.now) }
+    ensures none { IfNone result (Unended text.now) }
+{
+    memchr(b'\n', text)
+}
+
+/// Checks that a line begins as one of a journal's.
+fn begins_as_entry(line: &[u8]) -> bool
+    ensures { result ≡ spec.begins_as_entry line.now }
+{
+    line.starts_with(b"step ".as_slice()) || line.starts_with(b"journal ".as_slice())
 }
 
 #[tactic(auto, unfolding(crate::specs::Chain::digest_end))]

@@ -1,7 +1,7 @@
 //! The front of a journal's file: its whole batches.
 ghost use Rattle.std.specs.Prelude.{◌≡◌, Option, List, ℕ, IfOk};
 ghost use Rattle.shm_batches.specs.Extent.{Breaks, IsExtentKnown, IsFound, Marks, Measured, MeasuredNext, Seeks, SeeksNext, extent_of};
-ghost use Rattle.shm_batches.specs.JournalLines.{Unended};
+ghost use Rattle.shm_journal.specs.LinesOf.{Unended};
 ghost use Rattle.shm_batches.specs.Section.{open_in};
 
 use crate::batch_error::BatchFault;

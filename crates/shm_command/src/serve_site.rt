@@ -15,8 +15,8 @@ use crate::error_text_and_status;
 use crate::journal_backends::{JournalFile, NoJournal};
 use crate::journal_startup::{Begun, Kept, Lock, begin_kept, open_journal};
 use crate::site_error::SiteFault;
-use crate::whole_journal::{WholeJournal, open_whole};
-use shm_journal::{Header, ProcessFault, serve};
+use crate::whole_journal::{WholeJournal, may_begin, open_whole};
+use shm_journal::{Header, ProcessFault, RecoveryFault, serve};
 use shm_place::{PAGES, SiteId, Sites};
 use shm_process::{Desk, Node, Start};
 use shm_seal::Seal;
@@ -91,6 +91,15 @@ where
         Err(unwhole) => return Err(unwhole.of_site()),
     };
     let WholeJournal { extent, mut lines } = whole;
+    let header = Header {
+        sites: sites.count(),
+        me: me.0,
+        pages,
+        cluster: seal.name(),
+    };
+    if kept.begins && extent.chain.number() == 0 && !may_begin(rt, kept.name, header) {
+        return Err(SiteFault::Unrecovered(RecoveryFault::BadLine(1)));
+    }
     match begin_kept(
         rt, sites, me, pages, seal, kept, since, extent, &mut lines, &file,
     ) {

@@ -8,12 +8,15 @@ ghost use Rattle.shm_command.specs.Summarized.{IsUntold};
 use crate::audit_failure::Unaudited;
 use crate::site_error::SiteFault;
 use shm_audit::JournalFault;
-use shm_batches::{BatchFault, Extent, UnmarkedReader, measure};
-use shm_journal::{Lines, RecoveryFault, Taken, parse_header};
+use shm_batches::{BatchFault, Chain, Extent, UnmarkedReader, measure, write_batch};
+use shm_journal::{Header, Lines, RecoveryFault, Taken, parse_header};
 use std::alloc::Global;
 use std::fs::File;
 use std::io::{BufReader, Read, Take};
 use std::rt::Files;
+
+/// More bytes than a first batch may have.
+const FIRST_BATCH_BYTES: u64 = 4096;
 
 /// A journal's whole batches.
 #[derive(Drop)]
@@ -101,6 +104,36 @@ fn has_entry<R: AllocGlobal + Files>(rt: &R, name: &str) -> bool {
         Ok(Taken::Whole) => lines.line().starts_with(b"step ".as_slice()),
         _ => false,
     }
+}
+
+/// Checks that the file of this name has no more than what a crash may leave of its first batch: a front of that, and zeros behind it. So no
+/// other file is taken for a journal that may be begun.
+pub(crate) fn may_begin<R: AllocGlobal + Files>(rt: &R, name: &str, header: Header) -> bool
+where
+    R::File: Drop,
+{
+    let Ok(file) = File::open(rt, name) else {
+        return false;
+    };
+    let mut bytes = Vec::new(rt.alloc());
+    match file.take(FIRST_BATCH_BYTES).read_to_end(&mut bytes) {
+        Ok(_) => is_first_front(rt.alloc(), header, bytes.as_slice()),
+        Err(_) => false,
+    }
+}
+
+/// Checks that these bytes are a front of the first batch of this header's journal, and zeros behind it.
+fn is_first_front(alloc: Global, header: Header, bytes: &[u8]) -> bool {
+    let Ok(text) = format!(in alloc; "{header}\n") else {
+        return false;
+    };
+    let mut batch = Vec::new(alloc);
+    if write_batch(alloc, &mut batch, &mut Chain::new(), text.as_bytes()).is_err() {
+        return false;
+    }
+    let zeros = bytes.iter().rev().take_while(|byte| **byte == 0).count();
+    let end = bytes.len().saturating_sub(zeros);
+    (bytes.len() as u64) < FIRST_BATCH_BYTES && batch.starts_with(&bytes[..end])
 }
 
 impl Unwhole {

@@ -1,11 +1,11 @@
 -- A report's fault tells what is wrong with the reader's bytes.
-use Rattle.std.proofs.Common.{◌≡◌, ◌≢◌, ◌⊎◌, ◌≤◌, ◌<◌, ◌+◌, inl, inr, ℕ, List, Option, None, Some, Err, Ok, IfSome, false, true, length, min, take, arith, refl, subst, sym}
+use Rattle.std.proofs.Common.{◌≡◌, ◌≢◌, ◌⊎◌, ◌<◌, ◌+◌, inl, inr, ℕ, List, Option, None, Some, Err, Ok, IfSome, false, true, length, min, take, arith, refl, subst, sym, ◌∙◌}
 use Rattle.shm_lines.specs.Limits.{max_bytes}
 use Rattle.shm_lines.specs.Workload.{workload_of, Whole}
 use Rattle.shm_lines.specs.declared.workload_error.WorkloadFault.{WorkloadFault}
 use Rattle.shm_lines.specs.declared.workload_error.WorkloadFault.TheVariants as workload
-use Rattle.shm_report.specs.Causes.{ends_writing, fault_of_access, fault_of_run, given_up, input_cause, is_after_reading, IsLineIn, IsLineOf, IsWrongBy}
-use Rattle.shm_report.specs.RunFaults.{NamesAccess}
+use Rattle.shm_report.specs.Causes.{ends_writing, fault_of_access, fault_of_run, given_up, input_cause, is_after_reading, IsLineIn, IsLineOf, IsUnmatchedIn, IsWrongBy}
+use Rattle.shm_report.specs.RunFaults.{IsUnmatched, NamesAccess}
 use Rattle.shm_report.specs.declared.report_error.ReportFault.{ReportFault}
 use Rattle.shm_report.specs.declared.report_error.ReportFault.TheVariants as report
 use Rattle.shm_report.specs.declared.call_and_run_error.RunFault.{RunFault}
@@ -99,3 +99,26 @@ pub run_line_in : (sites : ℕ) (known : Option (List ℕ)) (whole : Whole) (fau
 run_line_in sites known whole fault told read named is =
     line_in sites known whole (given_up told) read
     (subst (λ told. IfSome (given_up told) (IsLineOf (length whole.accesses))) (sym is) (run_line (length whole.accesses) fault named))
+
+-- logs aren't asked for before the workload was read
+pub unread_logs : (fault : ReportFault) (P : Type 0) → is_after_reading fault ≡ false → fault ≡ report.Logs → P
+unread_logs fault P unread is = absurd (let after : is_after_reading report.Logs ≡ false = subst (λ fault. is_after_reading fault ≡ false) is unread in cc)
+
+call_logs : (place : ℕ) (fault : ClientFault) → fault_of_access place fault ≡ report.Logs → ⊥
+call_logs place client.OutOfMemory is = absurd (cc)
+call_logs place client.GaveUp is = absurd (cc)
+call_logs place client.ClockEnd is = absurd (cc)
+
+run_logs : (fault : RunFault) → fault_of_run fault ≡ report.Logs → fault ≡ run.Logs
+run_logs (run.Start start.OutOfMemory) is = absurd (cc)
+run_logs (run.Start start.NoThread) is = absurd (cc)
+run_logs (run.Call call) is = absurd (call_logs call.place call.fault is)
+run_logs run.OutOfMemory is = absurd (cc)
+run_logs run.Logs is = refl
+
+-- logs that don't match are those of a run of the workload that was read
+pub run_unmatched_in : (sites : ℕ) (known : Option (List ℕ)) (whole : Whole) (fault : RunFault) (told : ReportFault)
+    → IfSome known (λ bytes. workload_of sites bytes ≡ Ok whole) → (fault ≡ run.Logs → IsUnmatched sites whole.size) → told ≡ fault_of_run fault
+    → told ≡ report.Logs → IsUnmatchedIn sites known
+run_unmatched_in sites None whole fault told read unmatched same is = tt
+run_unmatched_in sites (Some bytes) whole fault told read unmatched same is = (whole, read, unmatched (run_logs fault (sym same ∙ is)))

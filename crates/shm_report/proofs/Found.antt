@@ -20,7 +20,7 @@ pub record AreFound {A : Type 0} (accesses : List WorkloadAccess) (callers : Lis
   pub each : (k : ℕ) (receipt : Receipt) → slice_get receipts k ≡ Some receipt → IsReceiptOf accesses callers k receipt
   pub of_site : (site : ℕ) → site < 16 → slice_index found site ≡ earlier site accesses place
 
-same_some : {X : Type 0} (x y : X) → Some x ≡ Some y → x ≡ y
+pub same_some : {X : Type 0} (x y : X) → Some x ≡ Some y → x ≡ y
 same_some x y e = cc
 
 -- in a line-up of lines and receipts, the receipt behind so many is that of the line behind so many
@@ -37,7 +37,7 @@ kept test y front all after x true is = ap (λ l. y ∷ l) is
 kept test y front all after x false is = is
 
 -- the lines of a site, cut at one of them
-cut_at : (test : WorkloadAccess → Bool) (xs : List WorkloadAccess) (place : ℕ) (x : WorkloadAccess) → slice_get xs place ≡ Some x → test x ≡ true
+pub cut_at : (test : WorkloadAccess → Bool) (xs : List WorkloadAccess) (place : ℕ) (x : WorkloadAccess) → slice_get xs place ≡ Some x → test x ≡ true
     → (after : List WorkloadAccess) × (filter test xs ≡ filter test (take place xs) ++ x ∷ after)
 cut_at test [] place x at passes = absurd (none-some x at)
 cut_at test (y ∷ ys) zero x at passes =
@@ -47,7 +47,7 @@ cut_at test (y ∷ ys) (suc place) x at passes =
     let rest = cut_at test ys place x at passes in
     (rest.0, kept test y (filter test (take place ys)) (filter test ys) rest.0 x (test y) rest.1)
 
-own_site : (s : ℕ) → (s == s) ≡ true
+pub own_site : (s : ℕ) → (s == s) ≡ true
 own_site s = grind (arith, nat_tests)
 
 -- where all were served, the receipt behind so many tells of the line behind so many

@@ -10,3 +10,5 @@ pub mod FirstFault
 pub mod Served
 pub mod Counted
 mod Pushed
+pub mod InRange
+pub mod Answered

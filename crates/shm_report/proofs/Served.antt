@@ -1,12 +1,14 @@
 -- What callers were told, where none of them ended by a fault.
-use Rattle.std.proofs.Common.{◌≡◌, ◌∙◌, ℕ, zero, suc, ◌<◌, List, [], ◌∷◌, Result, Ok, Err, IfErr, IfOk, Some, length, map, get_or, slice_get, ap, sym, subst}
+use Rattle.std.proofs.Common.{◌≡◌, ◌∙◌, ℕ, zero, suc, ◌<◌, List, [], ◌∷◌, Result, Ok, Err, IfErr, IfOk, Some, length, map, get_or, slice_get, ap, sym, subst, rules, vec_len}
 use Rattle.std.proofs.lemmas.Option.{get_or_from_slice_get, none-some, slice_get_within}
 use Rattle.std.proofs.Math.ListN.{length-map, get_or-map}
 use Rattle.std.specs.Prelude.{Vec}
 use Rattle.shm_logs.specs.declared.site_boxes.receipt.Receipt.{Receipt}
 use Rattle.shm_lines.specs.declared.workload_access.WorkloadAccess.{WorkloadAccess}
 use Rattle.shm_report.specs.Callers.{AllServed, ServedUnlessEnded, ServesAll}
-use Rattle.shm_report.specs.RunFaults.{NamesAccess, NoneFailed, TellsFirst}
+use Rattle.std.specs.declared.alloc.Global.{Global}
+use Rattle.shm_logs.specs.declared.site_boxes.site_log.SiteLog.{SiteLog}
+use Rattle.shm_report.specs.RunFaults.{CameUnmatched, IsUnmatched, NamesAccess, NoneFailed, TellsFirst}
 use Rattle.shm_report.specs.declared.workload_outcome.Ran.{Ran}
 use Rattle.shm_report.specs.declared.call_and_run_error.CallFault.{CallFault}
 use Rattle.shm_report.specs.declared.call_and_run_error.RunFault.{RunFault}
@@ -52,3 +54,10 @@ pub matched_callers : (r : Result Ran RunFault) (ran : Ran) (sites : ℕ) (acces
     → AllServed sites accesses ran.callers.items → IfOk r (λ ran. AllServed sites accesses ran.callers.items)
 matched_callers (Ok matched) ran sites accesses same served = subst (λ (r : Ran). AllServed sites accesses r.callers.items) (sym same) served
 matched_callers (Err found) ran sites accesses same served = tt
+
+-- the logs that came back were as many as there are sites, and don't match
+pub unmatched_logs : {E : Type 0} (sites pages count : ℕ) (logs : Result (Vec (SiteLog Global) Global) E) → IfOk logs (λ logs. vec_len logs ≡ count) → count ≡ sites
+    → CameUnmatched sites pages logs → IsUnmatched sites pages
+unmatched_logs sites pages count (Ok logs) counted same unmatched =
+    let whole : vec_len logs ≡ length logs.items = search rules in (logs.items, sym whole ∙ counted ∙ same, unmatched)
+unmatched_logs sites pages count (Err fault) counted same unmatched = absurd unmatched

@@ -1,5 +1,5 @@
 -- What the caller of a site does of a workload, and what it is told.
-use Rattle.std.specs.Prelude.{◌≡◌, ℕ, ◌<◌, ◌==◌, List, [], ◌∷◌, ◌++◌, Result, Vec, IfErr, IfOk, MatchBool, length, slice_index_or}
+use Rattle.std.specs.Prelude.{◌≡◌, ℕ, ◌<◌, ◌==◌, List, [], ◌∷◌, ◌++◌, Result, Vec, IfErr, IfOk, MatchBool, Some, length, slice_get, slice_index_or}
 use Rattle.std.specs.List.{AllZip, filter}
 use Rattle.shm_model.specs.Receipt.{access_of}
 use Rattle.shm_logs.specs.declared.site_boxes.receipt.Receipt.{Receipt}
@@ -37,6 +37,10 @@ pub record ServedUnlessEnded {A : Type 0} (sites : ℕ) (accesses : List Workloa
       → IfOk (slice_index_or told site default) (λ receipts. ServesAll site accesses receipts.items)
   pub place : (site : ℕ) (default : Result (Vec Receipt A) CallFault) → site < sites
       → IfErr (slice_index_or told site default) (λ fault. fault.place < length accesses)
+
+-- each of these accesses is of one of so many sites
+abbrev pub AreOf : ℕ → List WorkloadAccess → Type 0
+AreOf sites accesses = (place : ℕ) (access : WorkloadAccess) → slice_get accesses place ≡ Some access → access.site < sites
 
 -- one list of receipts for each of so many sites, in the sites' order: those of the site's lines
 pub record AllServed {A : Type 0} (sites : ℕ) (accesses : List WorkloadAccess) (callers : List (Vec Receipt A)) : Type 0 where

@@ -10,6 +10,7 @@ use Rattle.shm_sites.specs.declared.cluster.client_error.ClientFault.TheVariants
 use Rattle.shm_sites.specs.declared.cluster.start_error.StartFault.TheVariants as start
 use Rattle.shm_model.specs.Log.{Logged}
 use Rattle.shm_report.specs.Callers.{AllServed}
+use Rattle.shm_report.specs.RunFaults.{IsUnmatched}
 use Rattle.shm_report.specs.declared.call_and_run_error.RunFault.{RunFault}
 use Rattle.shm_report.specs.declared.call_and_run_error.RunFault.TheVariants as run
 use Rattle.shm_lines.specs.Workload.{Whole, workload_of}
@@ -137,3 +138,8 @@ pub record IsFound (sites : ℕ) (bytes : Option (List ℕ)) (cause : AuditFault
   pub logs : List (List Logged)
   pub callers : List (Vec Receipt Global)
   pub found : IsFoundIn sites workload logs callers cause
+
+-- After a run of the workload that these bytes have, where they are known, as many logs came back as there are sites, and they aren't the
+-- sites'.
+abbrev pub IsUnmatchedIn : ℕ → Option (List ℕ) → Type 0
+IsUnmatchedIn sites known = IfSome known (λ bytes. (whole : Whole) × (workload_of sites bytes ≡ Ok whole) × IsUnmatched sites whole.size)

@@ -1,5 +1,5 @@
 -- The report of a workload that was run and audited: what its lines were answered, and that the audit found nothing.
-use Rattle.std.specs.Prelude.{◌≡◌, ℕ, ◌+◌, Bool, true, false, List, [], ◌∷◌, ◌++◌, codes, length, take, IfSome, Ok, Option, Some, Vec, slice_get}
+use Rattle.std.specs.Prelude.{◌≡◌, ◌≤◌, ◌⊎◌, ℕ, ◌+◌, Bool, true, false, List, [], ◌∷◌, ◌++◌, codes, length, take, IfSome, Ok, Option, Some, Vec, slice_get}
 use Rattle.std.specs.Io.KnownBytes.{Appends}
 use Rattle.std.specs.declared.alloc.Global.{Global}
 use Rattle.shm_logs.specs.Auditing.Audit.{IsAudited}
@@ -7,6 +7,7 @@ use Rattle.shm_logs.specs.Auditing.Callers.{callers_of}
 use Rattle.shm_logs.specs.Auditing.Complete.{AllTold}
 use Rattle.shm_logs.specs.Boxes.Receipt.{receipt_of}
 use Rattle.shm_logs.specs.declared.site_boxes.receipt.Receipt.{Receipt}
+use Rattle.shm_place.specs.Limits.{max_sites}
 use Rattle.shm_model.specs.declared.event.Event.{Event}
 use Rattle.shm_model.specs.Log.{Logged}
 use Rattle.shm_model.specs.World.{Preset}
@@ -39,6 +40,10 @@ pub record IsReceiptOf {A : Type 0} (accesses : List WorkloadAccess) (callers : 
 pub record AreReceiptsOf {A : Type 0} (accesses : List WorkloadAccess) (callers : List (Vec Receipt A)) (receipts : List Receipt) : Type 0 where
   pub count : length receipts ≡ length accesses
   pub each : (place : ℕ) (receipt : Receipt) → slice_get receipts place ≡ Some receipt → IsReceiptOf accesses callers place receipt
+
+-- the caller of this site has no receipt at this place, or there is no such site anywhere
+abbrev pub LacksReceipt : {A : Type 0} → List (Vec Receipt A) → ℕ → ℕ → Type 0
+LacksReceipt callers site place = ((receipt : Receipt) → ¬ HasReceipt callers site place receipt) ⊎ (max_sites ≤ site)
 
 -- what the receipts answer, a line each, from this number on
 abbrev pub answers_text : ℕ → List Receipt → List ℕ

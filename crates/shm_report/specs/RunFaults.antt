@@ -1,5 +1,8 @@
 -- Which fault is told where callers ended before their last lines.
-use Rattle.std.specs.Prelude.{◌≡◌, ℕ, ◌<◌, ◌≤◌, List, Result, Ok, Err, Option, None, Some, if◌then◌else◌, nat_lt, slice_get}
+use Rattle.std.specs.Prelude.{◌≡◌, ℕ, ◌<◌, ◌≤◌, List, Result, Ok, Err, Option, None, Some, Vec, if◌then◌else◌, length, nat_lt, slice_get}
+use Rattle.std.specs.declared.alloc.Global.{Global}
+use Rattle.shm_logs.specs.Auditing.Logs.{AreLogsOf}
+use Rattle.shm_logs.specs.declared.site_boxes.site_log.SiteLog.{SiteLog}
 use Rattle.shm_model.specs.Refusal.{other_logs, out_of_memory}
 use Rattle.shm_sites.specs.Cluster.Faults.{client_fault_number, start_fault_number}
 use Rattle.shm_report.specs.declared.call_and_run_error.CallFault.{CallFault}
@@ -45,6 +48,15 @@ TellsFirst told (run.Call call) = IsFirstFault told call
 TellsFirst told (run.Start fault) = NoneFailed told
 TellsFirst told run.OutOfMemory = NoneFailed told
 TellsFirst told run.Logs = NoneFailed told
+
+-- the logs that came back aren't those of so many sites, where segment 0 began with so many pages
+abbrev pub CameUnmatched : {E : Type 0} → ℕ → ℕ → Result (Vec (SiteLog Global) Global) E → Type 0
+CameUnmatched sites pages (Ok logs) = ¬ AreLogsOf sites pages logs.items
+CameUnmatched sites pages (Err fault) = ⊥
+
+-- so, and there were as many as sites
+abbrev pub IsUnmatched : ℕ → ℕ → Type 0
+IsUnmatched sites pages = (logs : List (SiteLog Global)) × (length logs ≡ sites) × (¬ AreLogsOf sites pages logs)
 
 -- the numbers of the causes
 abbrev pub run_fault_number : RunFault → ℕ

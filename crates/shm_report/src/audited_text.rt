@@ -1,7 +1,8 @@
 //! The text of an audited run.
-ghost use Rattle.std.specs.Prelude.{◌≡◌, ◌⊎◌, ◌++◌, ℕ, List, Some, true, IfErr, IfOk, OnOk, string_bytes};
+ghost use Rattle.std.specs.Prelude.{◌≡◌, ◌≢◌, ◌⊎◌, ◌++◌, ℕ, List, Some, true, IfErr, IfOk, OnOk, string_bytes};
 ghost use Rattle.std.specs.Io.KnownBytes.{Appends};
-ghost use Rattle.shm_report.specs.Audited.{counts_of_run, IsReportOfRun};
+ghost use Rattle.shm_report.specs.Audited.{counts_of_run, IsAccepted, IsReportOfRun};
+ghost use Rattle.shm_report.specs.Callers.{AreOf};
 ghost use Rattle.shm_report.specs.Causes.{ends_writing, IsOther};
 ghost use Rattle.shm_report.specs.Counts.{summary_text, time_text};
 ghost use Rattle.shm_report.specs.Report.{IsCutShort};
@@ -51,12 +52,15 @@ impl Audited {
         ensures quiet { IfErr result (λ fault. (fault ≡ cause.WriteFault) ⊎ (writer.new ≡ writer.old)) }
         ensures other { IfErr result IsOther }
         ensures ending { IfErr result (λ fault. ends_writing fault ≡ true) }
+        ensures served { IfErr result (λ fault. IsAccepted self.now → AreOf self.now.sites self.now.workload.accesses.items → fault ≢ cause.Logs) }
         ensures told { OnOk result ((lines : List ℕ) × Appends (O.contents writer.old) (O.contents writer.new) (lines ++ more.now)
             × IsReportOfRun self.now lines) }
         ensures cut { IfErr result (λ fault. fault ≡ cause.WriteFault → (lines : List ℕ)
             × IsCutShort (O.contents writer.old) (O.contents writer.new) (lines ++ more.now)
             × IsReportOfRun self.now lines) }
     {
+        // Reading it tells the proof its limits.
+        let _count = self.sites.count();
         match answer_lines(
             alloc,
             self.workload.accesses.as_slice(),

@@ -1,5 +1,5 @@
 //! Counts of a run that was audited.
-ghost use Rattle.std.specs.Prelude.{◌≡◌, ◌+◌, ◌<◌, ◌==◌, ◌||◌, ℕ, false, count_by, if◌then◌else◌, length, map, slice_index_or, IfOk, IfSome};
+ghost use Rattle.std.specs.Prelude.{◌≡◌, ◌≤◌, ◌+◌, ◌^◌, ◌<◌, ◌==◌, ◌||◌, ℕ, false, count_by, if◌then◌else◌, length, map, slice_index_or, IfNone, IfOk, IfSome};
 ghost use Rattle.std.specs.List.{sum_by};
 ghost use Rattle.std.specs.Option.{option_map_or};
 ghost use Rattle.shm_logs.specs.Auditing.Logs.{logs_of};
@@ -35,7 +35,8 @@ pub(crate) fn count_all(
 }
 
 fn steps_in(logs: &[SiteLog]) -> Option<u64>
-    ensures { IfSome result (λ steps. steps ≡ sum_by length (logs_of logs.now)) }
+    ensures count { IfSome result (λ steps. steps ≡ sum_by length (logs_of logs.now)) }
+    ensures none { IfNone result (2 ^ 64 ≤ sum_by length (logs_of logs.now)) }
 {
     let mut total = 0u64;
     'logs: for log in logs {
@@ -48,7 +49,8 @@ fn steps_in(logs: &[SiteLog]) -> Option<u64>
 }
 
 fn faults_in(logs: &[SiteLog]) -> Option<u64>
-    ensures { IfSome result (λ faults. faults ≡ sum_by spec.faults_of (logs_of logs.now)) }
+    ensures count { IfSome result (λ faults. faults ≡ sum_by spec.faults_of (logs_of logs.now)) }
+    ensures none { IfNone result (2 ^ 64 ≤ sum_by spec.faults_of (logs_of logs.now)) }
 {
     let mut total = 0u64;
     'logs: for log in logs {
@@ -62,7 +64,8 @@ fn faults_in(logs: &[SiteLog]) -> Option<u64>
 
 /// Adds the accesses among these steps that had to wait for their page.
 fn faults_with(before: u64, steps: &[Step]) -> Option<u64>
-    ensures { IfSome result (λ sum. sum ≡ before + spec.faults_of (map logged_of steps.now)) }
+    ensures count { IfSome result (λ sum. sum ≡ before + spec.faults_of (map logged_of steps.now)) }
+    ensures none { IfNone result (2 ^ 64 ≤ before + spec.faults_of (map logged_of steps.now)) }
 {
     let mut total = before;
     'steps: for step in steps {
@@ -85,7 +88,8 @@ fn faults_at(step: &Step) -> u64
 }
 
 fn envelopes_in(logs: &[SiteLog]) -> Option<u64>
-    ensures { IfSome result (λ envelopes. envelopes ≡ sum_by sent_by (logs_of logs.now)) }
+    ensures count { IfSome result (λ envelopes. envelopes ≡ sum_by sent_by (logs_of logs.now)) }
+    ensures none { IfNone result (2 ^ 64 ≤ sum_by sent_by (logs_of logs.now)) }
 {
     let mut total = 0u64;
     'logs: for log in logs {
@@ -99,7 +103,8 @@ fn envelopes_in(logs: &[SiteLog]) -> Option<u64>
 
 /// Adds what these steps sent.
 fn add_sent(before: u64, steps: &[Step]) -> Option<u64>
-    ensures { IfSome result (λ sum. sum ≡ before + sent_by (map logged_of steps.now)) }
+    ensures count { IfSome result (λ sum. sum ≡ before + sent_by (map logged_of steps.now)) }
+    ensures none { IfNone result (2 ^ 64 ≤ before + sent_by (map logged_of steps.now)) }
 {
     let mut total = before;
     'steps: for step in steps {

@@ -29,6 +29,7 @@ pub(crate) fn order_steps(
     ensures input { IfErr result (λ fault. input_cause fault ≡ None) }
     ensures line { IfErr result (λ fault. given_up fault ≡ None) }
     ensures unwritten { IfErr result (λ fault. fault ≢ cause.WriteFault) }
+    ensures unmatched { IfErr result (λ fault. fault ≢ cause.Logs) }
 {
     match audit_complete(
         alloc,

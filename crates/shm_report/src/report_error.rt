@@ -91,6 +91,7 @@ impl ReportFault {
         ensures input { input_cause result ≡ None }
         ensures line { given_up result ≡ None }
         ensures unwritten { result ≢ cause.WriteFault }
+        ensures logs { result ≢ cause.Logs }
     {
         match fault {
             AuditFault::OutOfMemory => ReportFault::OutOfMemory,

@@ -3,9 +3,9 @@ ghost use Rattle.std.specs.Prelude.{◌≡◌, ◌≢◌, ◌≤◌, ◌⊎◌, 
 ghost use Rattle.std.specs.Io.KnownBytes.{Appends};
 ghost use Rattle.shm_logs.specs.Auditing.Logs.{logs_of, AreLogsOf};
 ghost use Rattle.shm_report.specs.Audited.{IsAccepted};
-ghost use Rattle.shm_report.specs.Callers.{AllServed};
+ghost use Rattle.shm_report.specs.Callers.{AllServed, AreOf};
 ghost use Rattle.shm_lines.specs.Workload.{workload_of};
-ghost use Rattle.shm_report.specs.Causes.{audit_cause, given_up, input_cause, is_after_reading, IsFound, IsFoundIn, IsLineIn, IsRight, IsWrongBy};
+ghost use Rattle.shm_report.specs.Causes.{audit_cause, given_up, input_cause, is_after_reading, IsFound, IsFoundIn, IsLineIn, IsRight, IsUnmatchedIn, IsWrongBy};
 ghost use Rattle.shm_report.specs.Report.{whole_of, IsCutShort, IsReport};
 ghost use Rattle.shm_report.specs.declared.report_error.ReportFault.TheVariants as cause;
 
@@ -42,6 +42,7 @@ pub fn report<R: Threads + Wait + Copy + Send + Sync + 'static, I: Read, O: Writ
     ensures right { IfErr result (λ fault. is_after_reading fault ≡ true → IsRight sites (I.remaining reader.old)) }
     ensures line { IfErr result (λ fault. IfSome (given_up fault) (IsLineIn sites (I.remaining reader.old))) }
     ensures audit { IfErr result (λ fault. IfSome (audit_cause fault) (IsFound sites (I.remaining reader.old))) }
+    ensures unmatched { IfErr result (λ fault. fault ≡ cause.Logs → IsUnmatchedIn sites (I.remaining reader.old)) }
 {
     match run_audited(rt, alloc, sites, seed, reader) {
         Ok(run) => run.write(alloc, "", writer),
@@ -60,11 +61,13 @@ pub fn run_audited<R: Threads + Wait + Copy + Send + Sync + 'static, I: Read>(
     ensures accepted { IfOk result IsAccepted }
     ensures sites { IfOk result (λ run. run.sites ≡ sites) }
     ensures read { IfOk result (λ run. IfSome (I.remaining reader.old) (λ bytes. workload_of sites bytes ≡ Ok (whole_of run.workload))) }
+    ensures among { IfOk result (λ run. AreOf sites run.workload.accesses.items) }
     ensures unwritten { IfErr result (λ fault. fault ≢ cause.WriteFault) }
     ensures input { IfErr result (λ fault. IfSome (input_cause fault) (IsWrongBy sites (I.remaining reader.old))) }
     ensures right { IfErr result (λ fault. is_after_reading fault ≡ true → IsRight sites (I.remaining reader.old)) }
     ensures line { IfErr result (λ fault. IfSome (given_up fault) (IsLineIn sites (I.remaining reader.old))) }
     ensures audit { IfErr result (λ fault. IfSome (audit_cause fault) (IsFound sites (I.remaining reader.old))) }
+    ensures unmatched { IfErr result (λ fault. fault ≡ cause.Logs → IsUnmatchedIn sites (I.remaining reader.old)) }
 {
     let workload = match read_workload(alloc, sites, reader) {
         Ok(workload) => workload,
@@ -85,6 +88,7 @@ pub fn read_workload<I: Read>(
 ) -> Result<Workload, ReportFault>
     ensures read { IfOk result (λ workload. IfSome (I.remaining reader.old) (λ bytes.
         workload_of sites bytes ≡ Ok (whole_of workload))) }
+    ensures among { IfOk result (λ workload. AreOf sites workload.accesses.items) }
     ensures pages { IfOk result (λ workload. (1 ≤ workload.pages) × (workload.pages ≤ PAGES)) }
     ensures input { IfErr result (λ fault. IfSome (input_cause fault) (IsWrongBy sites (I.remaining reader.old))) }
     ensures unread { IfErr result (λ fault. is_after_reading fault ≡ false) }
@@ -115,6 +119,7 @@ fn audit_run(
     ensures unwritten { IfErr result (λ fault. fault ≢ cause.WriteFault) }
     ensures input { IfErr result (λ fault. input_cause fault ≡ None) }
     ensures line { IfErr result (λ fault. given_up fault ≡ None) }
+    ensures unmatched { IfErr result (λ fault. fault ≢ cause.Logs) }
     ensures audit { IfErr result (λ fault. IfSome (audit_cause fault) (IsFoundIn sites (whole_of workload) (logs_of ran.logs.items) ran.callers.items)) }
 {
     match order_steps(alloc, sites, workload.pages, &ran) {

@@ -2,7 +2,7 @@ ghost use Rattle.std.specs.Prelude.{◌≡◌, ◌≢◌, ◌≤◌, ℕ, List, 
 ghost use Rattle.shm_logs.specs.Auditing.Logs.{AreLogsOf};
 ghost use Rattle.shm_report.specs.Callers.{AllServed, ServedUnlessEnded};
 ghost use Rattle.shm_report.specs.RunFaults as said;
-ghost use Rattle.shm_report.specs.RunFaults.{FirstIfAny, NamesAccess, NoneFailed, TellsFirst};
+ghost use Rattle.shm_report.specs.RunFaults.{CameUnmatched, FirstIfAny, IsUnmatched, NamesAccess, NoneFailed, TellsFirst};
 ghost use Rattle.shm_report.specs.declared.call_and_run_error.RunFault.TheVariants as cause;
 ghost use Rattle.shm_lines.specs.declared.workload_access.WorkloadAccess.{WorkloadAccess};
 
@@ -31,6 +31,7 @@ pub fn run_workload<R: Threads + Wait + Copy + Send + Sync + 'static>(
     ensures served { IfOk result (λ ran. AllServed sites workload.now.accesses.items ran.callers.items) }
     ensures logs { IfOk result (λ ran. AreLogsOf sites workload.now.pages ran.logs.items) }
     ensures place { IfErr result (NamesAccess (length workload.now.accesses.items)) }
+    ensures unmatched { IfErr result (λ fault. fault ≡ cause.Logs → IsUnmatched sites workload.now.pages) }
 {
     let cluster = match Cluster::start(rt, alloc, sites, workload.pages, seed, OpenGate) {
         Ok(cluster) => cluster,
@@ -60,7 +61,7 @@ fn run_outcome(
         IfOk result (λ ran. AllServed count accesses ran.callers.items) }
     ensures logs { IfOk result (λ ran. (logs ≡ Ok ran.logs) × AreLogsOf sites pages ran.logs.items) }
     ensures first { IfOk told (λ told. IfErr result (TellsFirst told.items)) }
-    ensures unmatched { IfErr result (λ fault. fault ≡ cause.Logs → IfOk logs (λ logs. ¬ AreLogsOf sites pages logs.items)) }
+    ensures unmatched { IfErr result (λ fault. fault ≡ cause.Logs → CameUnmatched sites pages logs) }
     ensures place { (count : ℕ) (accesses : List WorkloadAccess) → IfOk told (λ told. ServedUnlessEnded count accesses told.items) →
         IfErr result (NamesAccess (length accesses)) }
 {

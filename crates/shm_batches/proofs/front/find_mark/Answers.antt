@@ -1,6 +1,5 @@
 use Rattle.std.proofs.Common.{subst}
-use Rattle.shm_batches.specs.Extent.{IsFound, Seeks, SeeksNext}
-use Rattle.shm_batches.proofs.FrontLemmas.{seeks-new}
+use Rattle.shm_batches.specs.Extent.{SeeksNext}
 use Rattle.shm_batches.proofs.front.find_mark.Goals as goal
 
 pub returns-in-Ok-Ended : goal.returns-in-Ok-Ended

@@ -1,4 +1,4 @@
-use Rattle.std.proofs.Common.{◌≡◌, ◌∙◌, ap₂, subst, sym}
+use Rattle.std.proofs.Common.{◌∙◌, ap₂, subst, sym}
 use Rattle.shm_batches.proofs.FrontLemmas.{broken-behind, broken-here}
 use Rattle.shm_batches.specs.Chain.{is_marked}
 use Rattle.shm_batches.specs.Extent.{IsExtentKnown}

@@ -1,5 +1,5 @@
 use Rattle.std.proofs.Common.{subst, sym}
-use Rattle.shm_batches.specs.Extent.{Breaks, IsExtentKnown, Measured, MeasuredNext}
+use Rattle.shm_batches.specs.Extent.{IsExtentKnown, MeasuredNext}
 use Rattle.shm_batches.proofs.front.measure.Goals as goal
 
 pub returns-in-Ok-Ended : goal.returns-in-Ok-Ended

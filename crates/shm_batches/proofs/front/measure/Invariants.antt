@@ -1,5 +1,5 @@
 use Rattle.shm_batches.specs.Extent.{Measured}
-use Rattle.shm_batches.specs.JournalLines.{Unended}
+use Rattle.shm_journal.specs.LinesOf.{Unended}
 use Rattle.shm_batches.specs.Section.{open_in}
 use Rattle.shm_batches.proofs.front.measure.Given as goal
 

@@ -1,7 +1,7 @@
-use Rattle.std.proofs.Common.{◌≡◌, ◌∙◌, ap, ap₂, subst, sym}
+use Rattle.std.proofs.Common.{◌∙◌, ap₂, subst, sym}
 use Rattle.shm_batches.proofs.FrontLemmas.{line-is, not-ended, seeks-end, seeks-found, seeks-line, seeks-on, seeks-part}
 use Rattle.shm_batches.specs.Chain.{is_marked}
-use Rattle.shm_batches.specs.Section.{ReadsEnd, ReadsLine, ReadsMark, ReadsOn, ReadsPart, lines_in, open_in}
+use Rattle.shm_batches.specs.Section.{ReadsEnd, ReadsMark, ReadsOn, open_in}
 use Rattle.shm_batches.proofs.front.seek.Goals as goal
 
 pub read-requires : goal.read-requires

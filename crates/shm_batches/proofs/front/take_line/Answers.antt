@@ -1,4 +1,4 @@
-use Rattle.std.proofs.Common.{◌≡◌, Option, List, ℕ, refl, subst}
+use Rattle.std.proofs.Common.{subst}
 use Rattle.shm_batches.proofs.FrontLemmas.{marks-of, measured-end, measured-line, measured-part, not-ended}
 use Rattle.shm_batches.specs.Section.{ReadsEnd, ReadsLine, ReadsMark, ReadsOn, ReadsPart}
 use Rattle.shm_batches.proofs.front.take_line.Goals as goal

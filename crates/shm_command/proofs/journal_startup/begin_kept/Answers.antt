@@ -31,7 +31,6 @@ returns-in-Ok-open_desk-clause-begun g c =
     let begun : desk_of c.in-Ok-open_desk.desk ≡ begin (is_empty (lines_of found.0).whole) = cc in (
       found.0,
       found.1,
-      found.2.1,
       record { asked = asked; node = node_of c.in-Ok.found.node; sound = sound; begun = begun ∙ ap begin asked },
     )
 

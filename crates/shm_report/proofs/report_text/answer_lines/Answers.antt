@@ -1,5 +1,6 @@
 -- Each line has the next receipt of its site's caller.
 use Rattle.std.proofs.Common.{◌+◌, arith, refl}
+use Rattle.shm_report.proofs.Answered.{only_memory}
 use Rattle.shm_report.proofs.Found.{all_told, none_told, one_told}
 use Rattle.shm_report.proofs.report_text.answer_lines.Goals as goal
 
@@ -16,3 +17,9 @@ accesses-preserved c served =
 pub returns-clause-lines : goal.returns-clause-lines
 returns-clause-lines c served =
     all_told c.args.accesses.now c.args.callers.now c.accesses.told_of c.accesses.text c.accesses.place (omega arith) (c.accesses.invariant served)
+
+pub returns-in-Err-tell-clause-served : goal.returns-in-Err-tell-clause-served
+returns-in-Err-tell-clause-served c served among few =
+    only_memory
+    c.args.accesses.now c.args.callers.now c.accesses.told_of c.accesses.text c.accesses.place c.index-accesses-place.result c.in-Err-tell.fault
+    served among few c.accesses-test.true c.index-accesses-place.is (c.accesses.invariant served) c.in-Err-tell.ensures.why

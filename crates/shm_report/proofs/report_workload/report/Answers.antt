@@ -1,6 +1,7 @@
 -- What is told of the run is the report.
-use Rattle.std.proofs.Common.{append-nil, subst}
+use Rattle.std.proofs.Common.{append-nil, subst, sym}
 use Rattle.std.specs.Io.KnownBytes.{Appends}
+use Rattle.shm_report.specs.Callers.{AreOf}
 use Rattle.shm_report.specs.Causes.{audit_cause, input_cause}
 use Rattle.shm_report.specs.Report.{IsCutShort}
 use Rattle.shm_report.proofs.Causes.{ending_none}
@@ -43,3 +44,9 @@ returns-in-Ok-clause-audit g c = if_err c.write.result (λ fault other. of_none 
 
 pub returns-in-Ok-clause-line : goal.returns-in-Ok-clause-line
 returns-in-Ok-clause-line g c = if_err c.write.result (λ fault ending. ending_none fault _ ending) c.write.ensures.ending
+
+pub returns-in-Ok-clause-unmatched : goal.returns-in-Ok-clause-unmatched
+returns-in-Ok-clause-unmatched g c =
+    let accesses = c.in-Ok.run'.workload.accesses.items in
+    let among : AreOf c.in-Ok.run'.sites accesses = subst (λ sites. AreOf sites accesses) (sym c.in-Ok.ensures.sites) c.in-Ok.ensures.among in
+    if_err c.write.result (λ fault served is. absurd (served c.in-Ok.ensures.accepted among is)) c.write.ensures.served

@@ -1,7 +1,8 @@
 -- No caller ended by a fault, so each was told all receipts; or the first fault is told.
 use Rattle.std.proofs.Common.{IfErr, IfOk, subst, sym}
 use Rattle.shm_report.specs.Callers.{ServedUnlessEnded}
-use Rattle.shm_report.specs.RunFaults.{NoneFailed, TellsFirst}
+use Rattle.shm_report.specs.RunFaults.{CameUnmatched, NoneFailed, TellsFirst}
+use Rattle.shm_report.proofs.Reports.{if_err}
 use Rattle.shm_report.proofs.Served.{all_served, matched_callers, names_access, none_failed, unmatched_first}
 use Rattle.shm_report.proofs.workload_run.run_outcome.Goals as goal
 
@@ -29,3 +30,7 @@ returns-in-Ok-logs-clause-first c =
     subst (λ told. IfOk told (λ told. IfErr c.if_matching.result (TellsFirst told.items))) (sym c.in-Ok.is)
     (unmatched_first _ c.if_matching.result c.in-Ok.told.items c.if_matching.ensures.fault
     (none_failed c.in-Ok.told.items c.in-Ok-receipts.callers.items c.in-Ok-receipts.ensures.all))
+
+pub returns-in-Ok-logs-clause-unmatched : goal.returns-in-Ok-logs-clause-unmatched
+returns-in-Ok-logs-clause-unmatched c =
+    if_err c.if_matching.result (λ fault found is. subst (CameUnmatched c.args.sites c.args.pages) (sym c.in-Ok-logs.is) found.1) c.if_matching.ensures.fault

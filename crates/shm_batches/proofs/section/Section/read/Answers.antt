@@ -1,4 +1,4 @@
-use Rattle.std.proofs.Common.{◌≡◌, ◌∙◌, ℕ, List, [], ap, length, drop, take, sym, refl, arith}
+use Rattle.std.proofs.Common.{◌∙◌, ap, drop, take, sym}
 use Rattle.std.specs.Io.{appended_bytes}
 use Rattle.std.proofs.Math.Seq.{drop-length}
 use Rattle.shm_batches.proofs.SectionLemmas.{all-lines, lines-grown, longer, one-grown, open-grown, whole-grown}

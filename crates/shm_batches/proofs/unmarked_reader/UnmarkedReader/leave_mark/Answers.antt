@@ -1,4 +1,4 @@
-use Rattle.std.proofs.Common.{◌≡◌, ◌∙◌, List, ap, sym}
+use Rattle.std.proofs.Common.{◌∙◌, ap, sym}
 use Rattle.shm_batches.proofs.UnmarkedLemmas.{gone, stays}
 use Rattle.shm_batches.specs.UnmarkedLine.{left_of_line}
 use Rattle.shm_batches.proofs.unmarked_reader.UnmarkedReader.leave_mark.Goals as goal
