@@ -121,6 +121,10 @@ def try_files(program, folder):
         stays('a journal that was not begun', journal, front)
         start('a journal that a crash left', words(program, journal, new=True), 0, '', TOLD)
         stays('a journal that a crash left', journal, STORED)
+    for other in (b'a file of somebody\n', b'step', BEGUN_ALONE[:-1] + b'x', BEGUN_ALONE[:-1] + bytes(4096)):
+        write(journal, other)
+        start('--new for another file', words(program, journal, new=True), 1, 'journal: line 1: no entry of this site')
+        stays('--new for another file', journal, other)
 
 
 def hear(program, said, given, **options):
@@ -244,6 +248,7 @@ def try_damaged(program, folder):
     for name, text, fault in [('a changed byte', restarted.replace(b'store 0 5 7', b'store 0 5 8'), DAMAGED % len(BEGUN_ALONE)),
                               ('a changed first line', b'J' + restarted[1:], DAMAGED % 0), ('a lost batch', BEGUN_ALONE + restarted[len(STORED):],
                                                                                            DAMAGED % len(BEGUN_ALONE)),
+                              ('a changed mark', BEGUN_ALONE.replace(b'durable', b'Durable') + restarted[len(BEGUN_ALONE):], DAMAGED % 0),
                               ('a batch twice', STORED + STORED[len(BEGUN_ALONE):], DAMAGED % len(STORED)),
                               ('behind zeros', STORED + bytes(9000) + b'\ndurable 3\n' + BEGUN_ALONE, DAMAGED % len(STORED)),
                               ('no marks', HEADER + STEP, UNMARKED), ('no marks and a torn line', HEADER + STEP + b'step 2', UNMARKED)]:

@@ -42,7 +42,8 @@ marked_in text [] = false
 marked_in text (line ∷ lines) =
     if begins_as_mark line then is_marked text line || marked_in [] lines else marked_in (text ++ (line ++ 10 ∷ [])) lines
 
--- Behind what is broken stands a whole batch. No crash leaves that, since each batch is durable before the next is written.
+-- Behind what is broken stands a batch that is whole by itself. Each batch is durable before the next is written: so a crash leaves none there,
+-- unless the disk had one there before.
 abbrev pub is_damaged : List ℕ → Bool
 is_damaged file = marked_in [] (lines_of (drop (whole_bytes file) file)).whole
 

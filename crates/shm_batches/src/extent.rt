@@ -7,6 +7,6 @@ pub struct Extent {
     pub chain: Chain,
     /// How many bytes they take, with their marks.
     pub bytes: u64,
-    /// Whether a mark behind them is whole by itself. No crash leaves one there, so the file is damaged.
+    /// Whether a mark behind them is whole by itself: then the file is damaged, or a crash left there what the disk had before.
     pub is_damaged: bool,
 }

@@ -106,8 +106,8 @@ fn has_entry<R: AllocGlobal + Files>(rt: &R, name: &str) -> bool {
     }
 }
 
-/// Checks that the file of this name has no more than what a crash may leave of its first batch: a front of that, and zeros behind it. So no
-/// other file is taken for a journal that may be begun.
+/// Checks that the file of this name has no more than what a crash may leave of its first batch: each byte is that batch's at its place, or
+/// zero. So no other file is taken for a journal that may be begun.
 pub(crate) fn may_begin<R: AllocGlobal + Files>(rt: &R, name: &str, header: Header) -> bool
 where
     R::File: Drop,
@@ -122,7 +122,7 @@ where
     }
 }
 
-/// Checks that these bytes are a front of the first batch of this header's journal, and zeros behind it.
+/// Checks that each of these bytes is that of the first batch of this header's journal at its place, or zero.
 fn is_first_front(alloc: Global, header: Header, bytes: &[u8]) -> bool {
     let Ok(text) = format!(in alloc; "{header}\n") else {
         return false;
@@ -131,9 +131,11 @@ fn is_first_front(alloc: Global, header: Header, bytes: &[u8]) -> bool {
     if write_batch(alloc, &mut batch, &mut Chain::new(), text.as_bytes()).is_err() {
         return false;
     }
-    let zeros = bytes.iter().rev().take_while(|byte| **byte == 0).count();
-    let end = bytes.len().saturating_sub(zeros);
-    (bytes.len() as u64) < FIRST_BATCH_BYTES && batch.starts_with(&bytes[..end])
+    let is_left = bytes
+        .iter()
+        .enumerate()
+        .all(|(at, byte)| *byte == 0 || batch.get(at) == Some(byte));
+    is_left && (bytes.len() as u64) < FIRST_BATCH_BYTES
 }
 
 impl Unwhole {

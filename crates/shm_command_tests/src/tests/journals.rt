@@ -159,11 +159,11 @@ fn a_site_goes_on_from_its_journal(rt: HostRuntime) -> Result<(), Fail> {
     Ok(())
 }
 
-/// A journal that isn't this site's, and a file that is none: nothing is told, and the file stays as it was.
+/// A journal that isn't this site's, and files that are none: nothing is told, and the file stays as it was.
 #[test]
 fn journals_that_are_refused(rt: HostRuntime) -> Result<(), Fail> {
     let name = "refused.journal";
-    let cases: [(&[&[u8]], &[u8], bool, &[u8]); 7] = [
+    let cases: [(&[&[u8]], &[u8], bool, &[u8]); 8] = [
         (
             &[b"journal 1 0 2\n"],
             b"",
@@ -184,6 +184,12 @@ fn journals_that_are_refused(rt: HostRuntime) -> Result<(), Fail> {
         ),
         (&[HEADER, STORE], b"", true, EXISTING),
         (&[HEADER], b"torn", true, EXISTING),
+        (
+            &[],
+            b"a file of somebody\n",
+            true,
+            b"shmdbg: journal: line 1: no entry of this site\n",
+        ),
         (&[], b"", false, BLANK),
         (&[], b"journal 1 0 1\n", false, BLANK),
     ];
@@ -241,7 +247,7 @@ fn a_journal_is_begun_again(rt: HostRuntime) -> Result<(), Fail> {
         b"jour",
         HEADER,
         b"journal 1 0 1\ndurable 1 000",
-        b"\0\0\0\0\n\0",
+        b"\0\0\0\0nal\0",
     ];
     for front in fronts {
         fs::write(&rt, name, front)?;
