@@ -3,6 +3,7 @@ import hashlib
 
 FIRST = '0' * 64
 MARK = b'durable '
+ENTRIES = (b'step ', b'journal ')
 DIGEST = 65
 
 
@@ -56,8 +57,16 @@ def whole_batches(data):
     return chain, ends
 
 
+def entries(lines):
+    """The lines at the end of these that a journal may have."""
+    found = b''
+    for line in lines.split(b'\n')[:-1]:
+        found = found + line + b'\n' if line.startswith(ENTRIES) else b''
+    return found
+
+
 def is_damaged(data):
-    """Whether a mark behind the whole batches is whole by itself."""
+    """Whether a mark behind the whole batches is whole by itself: with the entries directly before it."""
     _, ends = whole_batches(data)
-    return any(mark[-DIGEST:] == b' ' + digest(lines, mark[:-DIGEST]).encode()
+    return any(mark[-DIGEST:] == b' ' + digest(entries(lines), mark[:-DIGEST]).encode()
                for lines, mark, _ in sections(data[ends[-1] if ends else 0:]))

@@ -251,16 +251,16 @@ class Seat:
         """Damages the journal, looks that the site doesn't start, and takes that back. False: it has too few batches."""
         data = read(self.journal)
         _, ends = whole_batches(data)
-        if len(ends) < 3:
+        if len(ends) < 2:
             return False
         begins = [0] + ends
         if kind == 'old':
             at, whole = draw.randrange(len(ends)), ends[-1]
             batch = data[begins[at]:ends[at]]
-            damaged = data[:whole] + draw.choice((batch, behind('garbage', data, draw) + b'\ndurable 9\n' + batch))
-        else:  # one bit of a batch behind which at least two stand: its mark may be none any more, or join the next one
-            at = draw.randrange(len(ends) - 2)
-            whole, place = begins[at], draw.randrange(begins[at], ends[at])
+            damaged = data[:whole] + draw.choice((batch, bytes(99) + b'\n' + batch, behind('garbage', data, draw) + b'\n' + batch))
+        else:  # one bit of a batch that isn't the last; no line feed, as the next batch may then stand behind further entries
+            at = draw.randrange(len(ends) - 1)
+            whole, place = begins[at], draw.choice([place for place in range(begins[at], ends[at]) if data[place] != 10])
             damaged = data[:place] + bytes([data[place] ^ 1 << draw.randrange(8)]) + data[place + 1:]
         write(self.journal, damaged)
         told = f'damaged behind its first {whole} bytes: a whole batch stands behind a broken one\n'

@@ -115,16 +115,17 @@ def try_files(program, folder):
         start(name, words(program, journal, **options), 1, fault)
         stays(name, journal, STORED)
     try_seals(program, folder, journal)
-    for front in (b'', HEADER[:7], HEADER[:-1], HEADER, BEGUN_ALONE[:-1], bytes(len(BEGUN_ALONE)), bytes(20) + BEGUN_ALONE[20:]):
+    for front in (b'', HEADER[:7], HEADER[:-1], HEADER, BEGUN_ALONE[:-1], bytes(len(BEGUN_ALONE)), BEGUN_ALONE[:20] + bytes(20), bytes(20) + BEGUN_ALONE[20:-1]):
         write(journal, front)
         start('a journal that was not begun', words(program, journal), 1, BLANK)
         stays('a journal that was not begun', journal, front)
         start('a journal that a crash left', words(program, journal, new=True), 0, '', TOLD)
         stays('a journal that a crash left', journal, STORED)
-    for other in (b'a file of somebody\n', b'step', BEGUN_ALONE[:-1] + b'x', BEGUN_ALONE[:-1] + bytes(4096)):
+    for other in (b'a diary\n', b'journal 3', HEADER + b'step', BEGUN_ALONE[:-1] + b'x', BEGUN_ALONE[:-1] + bytes(5000)):
         write(journal, other)
-        start('--new for another file', words(program, journal, new=True), 1, 'journal: line 1: no entry of this site')
-        stays('--new for another file', journal, other)
+        start('a file that no crash left', words(program, journal), 1, BLANK)
+        start('a file that no crash left', words(program, journal, new=True), 1, 'journal: line 1: no entry of this site')
+        stays('a file that no crash left', journal, other)
 
 
 def hear(program, said, given, **options):
@@ -240,6 +241,9 @@ def try_behind(program, folder):
         asked = dict(told=b'tell 0 b byte 7\n', given=b'ask 0 b load 0 5\n')
         start(name, words(program, journal), 0, again(1, 2, len(text) - len(STORED)), **asked)
         stays(name, journal, marked(HEADER, STEP, RESTART, load))
+    text = STORED[:-1] + b' ' + batch
+    write(journal, text)
+    start('a lost line feed between the last two', words(program, journal), 0, again(0, 1, len(text) - len(BEGUN_ALONE)), TOLD)
 
 
 def try_damaged(program, folder):
@@ -248,9 +252,9 @@ def try_damaged(program, folder):
     for name, text, fault in [('a changed byte', restarted.replace(b'store 0 5 7', b'store 0 5 8'), DAMAGED % len(BEGUN_ALONE)),
                               ('a changed first line', b'J' + restarted[1:], DAMAGED % 0), ('a lost batch', BEGUN_ALONE + restarted[len(STORED):],
                                                                                            DAMAGED % len(BEGUN_ALONE)),
-                              ('a changed mark', BEGUN_ALONE.replace(b'durable', b'Durable') + restarted[len(BEGUN_ALONE):], DAMAGED % 0),
+                              ('a changed mark', restarted.replace(b'durable 2', b'Durable 2'), DAMAGED % len(BEGUN_ALONE)),
                               ('a batch twice', STORED + STORED[len(BEGUN_ALONE):], DAMAGED % len(STORED)),
-                              ('behind zeros', STORED + bytes(9000) + b'\ndurable 3\n' + BEGUN_ALONE, DAMAGED % len(STORED)),
+                              ('behind zeros', STORED + bytes(9000) + b'\n' + BEGUN_ALONE, DAMAGED % len(STORED)),
                               ('no marks', HEADER + STEP, UNMARKED), ('no marks and a torn line', HEADER + STEP + b'step 2', UNMARKED)]:
         write(journal, text)
         for new in (False, True):

@@ -163,7 +163,8 @@ fn a_site_goes_on_from_its_journal(rt: HostRuntime) -> Result<(), Fail> {
 #[test]
 fn journals_that_are_refused(rt: HostRuntime) -> Result<(), Fail> {
     let name = "refused.journal";
-    let cases: [(&[&[u8]], &[u8], bool, &[u8]); 8] = [
+    let none = b"shmdbg: journal: line 1: no entry of this site\n".as_slice();
+    let cases: [(&[&[u8]], &[u8], bool, &[u8]); 9] = [
         (
             &[b"journal 1 0 2\n"],
             b"",
@@ -176,20 +177,11 @@ fn journals_that_are_refused(rt: HostRuntime) -> Result<(), Fail> {
             false,
             b"shmdbg: journal: line 2: no entry of this site\n",
         ),
-        (
-            &[b"nonsense\n"],
-            b"torn",
-            true,
-            b"shmdbg: journal: line 1: no entry of this site\n",
-        ),
+        (&[b"nonsense\n"], b"torn", true, none),
+        (&[], b"nonsense\n", true, none),
+        (&[], b"journal 2", true, none),
         (&[HEADER, STORE], b"", true, EXISTING),
         (&[HEADER], b"torn", true, EXISTING),
-        (
-            &[],
-            b"a file of somebody\n",
-            true,
-            b"shmdbg: journal: line 1: no entry of this site\n",
-        ),
         (&[], b"", false, BLANK),
         (&[], b"journal 1 0 1\n", false, BLANK),
     ];
@@ -247,7 +239,7 @@ fn a_journal_is_begun_again(rt: HostRuntime) -> Result<(), Fail> {
         b"jour",
         HEADER,
         b"journal 1 0 1\ndurable 1 000",
-        b"\0\0\0\0nal\0",
+        b"\0\0\0\0nal 1 0\0\0",
     ];
     for front in fronts {
         fs::write(&rt, name, front)?;
