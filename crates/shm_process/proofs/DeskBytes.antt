@@ -2,7 +2,7 @@
 use Rattle.std.proofs.Common.{◌≡◌, ℕ, zero, suc, ◌+◌, ◌-◌, ◌≤◌, ◌==◌, Bool, true, false, List, [], ◌∷◌, ◌++◌, length, take, min, cond, nat_lt, refl, ap, sym, ◌∙◌, append-nil, arith}
 use Rattle.std.specs.List.{All}
 use Rattle.std.specs.Option.{option_map_or}
-use Rattle.std.specs.Prelude.{Option, None, Some, Result, Ok, Err, is_some}
+use Rattle.std.specs.Prelude.{Option, None, Some, Result, Ok, Err, is_some, option_and_then}
 use Rattle.std.proofs.lemmas.Bool.Decides.{nat_tests}
 use Rattle.std.proofs.Math.Seq.{take-nil}
 use Rattle.std.proofs.lemmas.List.{append_assoc, length-append, length-take, take_all, take_min}
@@ -17,7 +17,8 @@ use Rattle.shm_wire.specs.Line as stream
 use Rattle.shm_wire.specs.Unmaps.{Run, UnmapAsk}
 use Rattle.shm_wire.specs.declared.mapping_text.RevokeText.{RevokeText}
 use Rattle.shm_process.specs.Access.{is_open}
-use Rattle.shm_process.specs.Desk.{Desk, KeptLine, after_line, after_opened, after_read_line, all_met, answered, brought, by_meeting, finished, given_up_by, grown, keep, left_sealed, made_again, made_and_told, map_reply, max_line_bytes, may_keep, met, met_again, met_read, noted, on_byte, on_bytes, passed, quietly, reminded, reminded_if, revoked, settled, store_line, stored_run, tag_in, taken, tell_caller, ticks, tried, tried_by, try_of, unmap_reply, untagged, with_other, with_step}
+use Rattle.shm_process.specs.Desk.{Desk, KeptLine, after_line, after_opened, after_read_line, all_made, all_met, answered, brought, by_meeting, closed, closed_by, finished, given_up, given_up_by, grown, grown_by, keep, left_sealed, made_again, made_and_told, made_in_row, map_reply, max_line_bytes, may_keep, met, met_again, met_read, noted, on_byte, on_bytes, passed, quietly, reminded, reminded_if, revoked, settled, stored_run, tag_in, taken, tell_caller, ticks, told_quietly, tried, tried_by, try_of, unmap_entry, unmap_reply, unrecorded, untagged, with_again, with_other, with_record, with_step, with_told}
+use Rattle.shm_process.specs.Causes.{bare, store_line}
 use Rattle.shm_process.specs.Hello.{first_other, read_hello}
 use Rattle.shm_process.specs.Meetings.{meeting}
 use Rattle.shm_process.specs.Node.{Said}
@@ -25,7 +26,9 @@ use Rattle.shm_process.specs.declared.hello_line.Hello.{Hello}
 use Rattle.shm_process.specs.declared.line_meeting.Meeting.{Meeting}
 use Rattle.shm_process.specs.declared.line_meeting.Meeting.TheVariants.{Answered, Free, Kept, Maps, Tries, Unmaps}
 use Rattle.shm_process.specs.declared.site_opening.Disagreement.{Disagreement}
-use Rattle.shm_process.specs.Waiting.{after, most_steps, passed_over, said, said_again}
+use Rattle.shm_process.specs.Recorded.{entries_text}
+use Rattle.shm_process.specs.Rows.{Row, joined, row_in}
+use Rattle.shm_process.specs.Waiting.{after, after_again, most_steps, passed_over, said, said_again}
 use Rattle.shm_process.proofs.DeskLemmas.{on_bytes-append}
 
 abbrev NoFeed : List ℕ → Type 0
@@ -86,12 +89,37 @@ cond-line : (b : Bool) (l : List ℕ) (x after_x y after_y : Desk) → after_x �
 cond-line true l x after_x y after_y p q = p
 cond-line false l x after_x y after_y p q = q
 
+-- ---- rows
+
+closed_by-line : (l : List ℕ) (d : Desk) (row : Option Row) → closed_by (with_line l d) row ≡ with_line l (closed_by d row)
+closed_by-line l d None = refl
+closed_by-line l d (Some row) = refl
+
+grown_by-line : (l : List ℕ) (d : Desk) (next : Row) (o : Option Row) → grown_by (with_line l d) next o ≡ with_line l (grown_by d next o)
+grown_by-line l d next None = ap (λ (x : Desk). record x { row = Some next }) (closed_by-line l d d.row)
+grown_by-line l d next (Some row) = refl
+
+made_in_row-line : (l : List ℕ) (d : Desk) (said : Said) (row : Option Row) → made_in_row (with_line l d) said row ≡ with_line l (made_in_row d said row)
+made_in_row-line l d said None = refl
+made_in_row-line l d said (Some next) = grown_by-line l (with_told d said) next (option_and_then (λ row. joined row next) d.row)
+
+with_again-line : (l : List ℕ) (d : Desk) (said : Option Said) → with_again (with_line l d) said ≡ with_line l (with_again d said)
+with_again-line l d None = refl
+with_again-line l d (Some said) = made_in_row-line l d said (row_in said.clock said.cause)
+
+made_again-line : (l : List ℕ) (d : Desk) → made_again (with_line l d) ≡ with_line l (made_again d)
+made_again-line l d = with_again-line l (record d { node = after_again d.node }) (said_again d.node)
+
+all_made-line : (n : ℕ) (l : List ℕ) (d : Desk) → all_made n (with_line l d) ≡ with_line l (all_made n d)
+unfolding all_made
+all_made-line zero l d = refl
+all_made-line (suc n) l d =
+    cond-line (is_some (said_again d.node)) l (all_made n (made_again d)) (all_made n (made_again (with_line l d))) d (with_line l d)
+    (ap (all_made n) (made_again-line l d) ∙ all_made-line n l (made_again d)) refl
+
 settled-line : (n : ℕ) (l : List ℕ) (d : Desk) → settled n (with_line l d) ≡ with_line l (settled n d)
 unfolding settled
-settled-line zero l d = refl
-settled-line (suc n) l d =
-    cond-line (is_some (said_again d.node)) l (settled n (made_again d)) (settled n (made_again (with_line l d))) d (with_line l d)
-    (settled-line n l (made_again d)) refl
+settled-line n l d = ap closed (all_made-line n l d) ∙ closed_by-line l (all_made n d) (all_made n d).row
 
 other-line : (l : List ℕ) (d : Desk) (o : Option Disagreement)
     → option_map_or (with_other (with_line l d)) o (with_line l d) ≡ with_line l (option_map_or (with_other d) o d)
@@ -135,12 +163,20 @@ tried-line l d line read asked =
     let step = try_of read asked in
     tried_by-line l (record d { node = after d.node step }) line (tag_in step) (said d.node step)
 
+told_quietly-line : (l : List ℕ) (d : Desk) (said : Option Said) → told_quietly (with_line l d) said ≡ with_line l (told_quietly d said)
+told_quietly-line l d None = refl
+told_quietly-line l d (Some said) = refl
+
+unrecorded-line : (l : List ℕ) (d : Desk) (line : Line) → unrecorded (with_line l d) line ≡ with_line l (unrecorded d line)
+unfolding unrecorded
+unrecorded-line l d line = told_quietly-line l (record d { node = after d.node line }) (said d.node line)
+
 run-line : (bytes l : List ℕ) (d : Desk) (ask : UnmapAsk) (offset : ℕ) → stored_run (with_line l d) ask offset bytes ≡ with_line l (stored_run d ask offset bytes)
 unfolding stored_run
 run-line [] l d ask offset = refl
 run-line (b ∷ bs) l d ask offset =
-    ap (λ x. stored_run x ask (offset + 1) bs) (quietly-line l d (store_line ask offset b))
-    ∙ run-line bs l (quietly d (store_line ask offset b)) ask (offset + 1)
+    ap (λ x. stored_run x ask (offset + 1) bs) (unrecorded-line l d (store_line ask offset b))
+    ∙ run-line bs l (unrecorded d (store_line ask offset b)) ask (offset + 1)
 
 brought-line : (runs : List Run) (l : List ℕ) (d : Desk) (ask : UnmapAsk) → brought (with_line l d) ask runs ≡ with_line l (brought d ask runs)
 unfolding brought
@@ -149,12 +185,15 @@ brought-line (run ∷ runs) l d ask =
     ap (λ x. brought x ask runs) (run-line run.bytes l d ask run.offset) ∙ brought-line runs l (stored_run d ask run.offset run.bytes) ask
 
 given_up-line : (l : List ℕ) (d : Desk) (read : Line) → given_up_by (with_line l d) read ≡ with_line l (given_up_by d read)
+unfolding given_up
 given_up-line l d (stream.Envelope sent) = refl
 given_up-line l d (stream.Ask ask) = refl
 given_up-line l d (stream.Write write) = refl
 given_up-line l d (stream.Unmap ask) =
-    let last = stream.Unmap (record ask { runs = [] }) in
-    ap (λ x. made_and_told x last (unmap_reply ask.keeps)) (brought-line ask.runs l d ask) ∙ made-line l (brought d ask ask.runs) last (unmap_reply ask.keeps)
+    let last = stream.Unmap (bare ask) in
+    let begun = with_record (entries_text (unmap_entry d.node ask ∷ [])) d in
+    ap (λ x. tell_caller (unrecorded x last) (Some ask.tag) (unmap_reply ask.keeps)) (brought-line ask.runs l begun ask)
+    ∙ ap (λ x. tell_caller x (Some ask.tag) (unmap_reply ask.keeps)) (unrecorded-line l (brought begun ask ask.runs) last)
 
 meeting-line : (l : List ℕ) (d : Desk) (fresh : Bool) (line : List ℕ) (read : Line) (m : Meeting)
     → by_meeting fresh (with_line l d) line read m ≡ with_line l (by_meeting fresh d line read m)

@@ -16,10 +16,14 @@ use Rattle.shm_wire.specs.Line as stream
 use Rattle.shm_wire.specs.Unmaps.{Run, UnmapAsk}
 use Rattle.shm_wire.specs.declared.mapping_text.RevokeText.{RevokeText}
 use Rattle.shm_process.specs.Access.{is_open}
-use Rattle.shm_process.specs.Desk.{Desk, KeptLine, after_line, after_opened, after_read_line, all_met, answered, brought, by_meeting, cleared, counts_after, finished, given_up_by, grown, keep, left_sealed, line_text, made_again, made_and_told, map_reply, max_line_bytes, may_keep, met, met_again, met_read, noted, on_byte, on_bytes, passed, quietly, reminded, reminded_if, reminder, revoke_line, revoked, settled, step_entry, step_text, store_line, stored_run, tag_in, taken, tell, tell_caller, ticks, told_to, tried, tried_by, try_of, unmap_reply, untagged, with_other, with_step}
+use Rattle.shm_process.specs.Causes.{bare, store_line}
+use Rattle.shm_process.specs.Counts.{with_said, with_text}
+use Rattle.shm_process.specs.Desk.{Desk, KeptLine, after_line, after_opened, after_read_line, all_made, all_met, answered, brought, by_meeting, cleared, closed, closed_by, counts_after, finished, given_up, given_up_by, grown, grown_by, in_row, keep, left_sealed, line_text, made_again, made_and_told, made_in_row, map_reply, max_line_bytes, may_keep, met, met_again, met_read, noted, on_byte, on_bytes, passed, quietly, reminded, reminded_if, reminder, revoke_line, revoked, settled, step_entry, step_text, stored_run, tag_in, taken, tell, tell_caller, ticks, told_quietly, told_to, tried, tried_by, try_of, unmap_entry, unmap_reply, unrecorded, untagged, with_again, with_other, with_record, with_step, with_told}
 use Rattle.shm_process.specs.Hello.{first_other, hello_line, hello_to, read_hello}
 use Rattle.shm_process.specs.Meetings.{meeting}
 use Rattle.shm_process.specs.Node.{Node, Said}
+use Rattle.shm_process.specs.Recorded.{entries_text}
+use Rattle.shm_process.specs.Rows.{Row, joined, row_entry, row_in}
 use Rattle.shm_process.specs.Telling.{shown_line}
 use Rattle.shm_process.specs.Waiting.{after, after_again, after_read, again_at, most_steps, passed_over, ready, said, said_again, said_read, says_at}
 use Rattle.shm_process.specs.WaitingAsks.{next_access}
@@ -35,18 +39,18 @@ abbrev pub after_round : Desk → Desk
 after_round desk = cond (is_some (said_again desk.node)) (made_again desk) desk
 
 -- of `n` rounds one is made
-pub round_made : (n m : ℕ) (d next whole : Desk) → n ≡ suc m → is_some (said_again d.node) ≡ true → next ≡ after_round d → settled n d ≡ whole → settled m next ≡ whole
-unfolding settled
+pub round_made : (n m : ℕ) (d next whole : Desk) → n ≡ suc m → is_some (said_again d.node) ≡ true → next ≡ after_round d → all_made n d ≡ whole → all_made m next ≡ whole
+unfolding all_made
 round_made n m d next whole more made step before =
-    ap (settled m) (step ∙ ap (λ b. cond b (made_again d) d) made)
-    ∙ sym (ap (λ k. settled k d) more ∙ ap (λ b. cond b (settled m (made_again d)) d) made) ∙ before
+    ap (all_made m) (step ∙ ap (λ b. cond b (made_again d) d) made)
+    ∙ sym (ap (λ k. all_made k d) more ∙ ap (λ b. cond b (all_made m (made_again d)) d) made) ∙ before
 
 -- no ask can be made
-pub none_made : (n m : ℕ) (d next whole : Desk) → n ≡ suc m → is_some (said_again d.node) ≡ false → next ≡ after_round d → settled n d ≡ whole → next ≡ whole
-unfolding settled
+pub none_made : (n m : ℕ) (d next whole : Desk) → n ≡ suc m → is_some (said_again d.node) ≡ false → next ≡ after_round d → all_made n d ≡ whole → next ≡ whole
+unfolding all_made
 none_made n m d next whole more none step before =
     step ∙ ap (λ b. cond b (made_again d) d) none
-    ∙ sym (ap (λ k. settled k d) more ∙ ap (λ b. cond b (settled m (made_again d)) d) none) ∙ before
+    ∙ sym (ap (λ k. all_made k d) more ∙ ap (λ b. cond b (all_made m (made_again d)) d) none) ∙ before
 
 -- where no ask can be made, the node stays as it is
 none-ready : (node : Node) (p : Option ℕ) → option_map (says_at node) p ≡ None → option_map_or (again_at node) p node ≡ node
@@ -57,9 +61,9 @@ pub none_again : (node : Node) → said_again node ≡ None → after_again node
 none_again node e = none-ready node (ready node) e
 
 -- all rounds are made
-pub rounds_over : (n : ℕ) (d whole : Desk) → n ≡ 0 → settled n d ≡ whole → d ≡ whole
-unfolding settled
-rounds_over n d whole over before = sym (ap (λ k. settled k d) over) ∙ before
+pub rounds_over : (n : ℕ) (d whole : Desk) → n ≡ 0 → all_made n d ≡ whole → d ≡ whole
+unfolding all_made
+rounds_over n d whole over before = sym (ap (λ k. all_made k d) over) ∙ before
 
 -- ---- what was told before
 
@@ -77,15 +81,47 @@ with_step-behind r t d said =
     ap₂ (λ recorded told. record d { recorded = recorded; told = told; counts = counts_after said d.counts })
     (append_assoc r d.recorded (step_entry said)) (append_assoc t d.told (step_text d.seal said))
 
+with_record-behind : (r t : List ℕ) (d : Desk) (text : List ℕ) → with_record text (behind r t d) ≡ behind r t (with_record text d)
+with_record-behind r t d text =
+    ap (λ recorded. record d { recorded = recorded; told = t ++ d.told; counts = with_text text d.counts }) (append_assoc r d.recorded text)
+
+-- ---- rows
+
+closed_by-behind : (r t : List ℕ) (d : Desk) (row : Option Row) → closed_by (behind r t d) row ≡ behind r t (closed_by d row)
+closed_by-behind r t d None = refl
+closed_by-behind r t d (Some row) = ap (λ (x : Desk). record x { row = None }) (with_record-behind r t d (entries_text (row_entry d.node.me row ∷ [])))
+
+grown_by-behind : (r t : List ℕ) (d : Desk) (next : Row) (o : Option Row) → grown_by (behind r t d) next o ≡ behind r t (grown_by d next o)
+grown_by-behind r t d next None = ap (λ (x : Desk). record x { row = Some next }) (closed_by-behind r t d d.row)
+grown_by-behind r t d next (Some row) = refl
+
+with_told-behind : (r t : List ℕ) (d : Desk) (said : Said) → with_told (behind r t d) said ≡ behind r t (with_told d said)
+with_told-behind r t d said =
+    ap (λ told. record d { recorded = r ++ d.recorded; told = told; counts = with_said said d.counts }) (append_assoc t d.told (step_text d.seal (Some said)))
+
+made_in_row-behind : (r t : List ℕ) (d : Desk) (said : Said) (row : Option Row) → made_in_row (behind r t d) said row ≡ behind r t (made_in_row d said row)
+made_in_row-behind r t d said None = with_step-behind r t d (Some said)
+made_in_row-behind r t d said (Some next) =
+    ap (λ x. in_row x next) (with_told-behind r t d said)
+    ∙ grown_by-behind r t (with_told d said) next (option_and_then (λ row. joined row next) d.row)
+
+with_again-behind : (r t : List ℕ) (d : Desk) (said : Option Said) → with_again (behind r t d) said ≡ behind r t (with_again d said)
+with_again-behind r t d None = refl
+with_again-behind r t d (Some said) = made_in_row-behind r t d said (row_in said.clock said.cause)
+
 made_again-behind : (r t : List ℕ) (d : Desk) → made_again (behind r t d) ≡ behind r t (made_again d)
-made_again-behind r t d = with_step-behind r t (record d { node = after_again d.node }) (said_again d.node)
+made_again-behind r t d = with_again-behind r t (record d { node = after_again d.node }) (said_again d.node)
+
+all_made-behind : (n : ℕ) (r t : List ℕ) (d : Desk) → all_made n (behind r t d) ≡ behind r t (all_made n d)
+unfolding all_made
+all_made-behind zero r t d = refl
+all_made-behind (suc n) r t d =
+    cond-behind (is_some (said_again d.node)) r t (all_made n (made_again d)) (all_made n (made_again (behind r t d))) d (behind r t d)
+    (ap (all_made n) (made_again-behind r t d) ∙ all_made-behind n r t (made_again d)) refl
 
 settled-behind : (n : ℕ) (r t : List ℕ) (d : Desk) → settled n (behind r t d) ≡ behind r t (settled n d)
 unfolding settled
-settled-behind zero r t d = refl
-settled-behind (suc n) r t d =
-    cond-behind (is_some (said_again d.node)) r t (settled n (made_again d)) (settled n (made_again (behind r t d))) d (behind r t d)
-    (ap (settled n) (made_again-behind r t d) ∙ settled-behind n r t (made_again d)) refl
+settled-behind n r t d = ap closed (all_made-behind n r t d) ∙ closed_by-behind r t (all_made n d) (all_made n d).row
 
 taken-behind : (r t : List ℕ) (d : Desk) (read : Option Line) → taken (behind r t d) read ≡ behind r t (taken d read)
 unfolding taken
@@ -150,12 +186,20 @@ tried-behind r t d line read asked =
     let step = try_of read asked in
     tried_by-behind r t (record d { node = after d.node step }) line (tag_in step) (said d.node step)
 
+told_quietly-behind : (r t : List ℕ) (d : Desk) (said : Option Said) → told_quietly (behind r t d) said ≡ behind r t (told_quietly d said)
+told_quietly-behind r t d None = refl
+told_quietly-behind r t d (Some said) = with_told-behind r t d (untagged said)
+
+unrecorded-behind : (r t : List ℕ) (d : Desk) (line : Line) → unrecorded (behind r t d) line ≡ behind r t (unrecorded d line)
+unfolding unrecorded
+unrecorded-behind r t d line = told_quietly-behind r t (record d { node = after d.node line }) (said d.node line)
+
 run-behind : (bytes r t : List ℕ) (d : Desk) (ask : UnmapAsk) (offset : ℕ) → stored_run (behind r t d) ask offset bytes ≡ behind r t (stored_run d ask offset bytes)
 unfolding stored_run
 run-behind [] r t d ask offset = refl
 run-behind (b ∷ bs) r t d ask offset =
-    ap (λ x. stored_run x ask (offset + 1) bs) (quietly-behind r t d (store_line ask offset b))
-    ∙ run-behind bs r t (quietly d (store_line ask offset b)) ask (offset + 1)
+    ap (λ x. stored_run x ask (offset + 1) bs) (unrecorded-behind r t d (store_line ask offset b))
+    ∙ run-behind bs r t (unrecorded d (store_line ask offset b)) ask (offset + 1)
 
 brought-behind : (runs : List Run) (r t : List ℕ) (d : Desk) (ask : UnmapAsk) → brought (behind r t d) ask runs ≡ behind r t (brought d ask runs)
 unfolding brought
@@ -164,13 +208,18 @@ brought-behind (run ∷ runs) r t d ask =
     ap (λ x. brought x ask runs) (run-behind run.bytes r t d ask run.offset) ∙ brought-behind runs r t (stored_run d ask run.offset run.bytes) ask
 
 given_up-behind : (r t : List ℕ) (d : Desk) (read : Line) → given_up_by (behind r t d) read ≡ behind r t (given_up_by d read)
+unfolding given_up
 given_up-behind r t d (stream.Envelope sent) = refl
 given_up-behind r t d (stream.Ask ask) = refl
 given_up-behind r t d (stream.Write write) = refl
 given_up-behind r t d (stream.Unmap ask) =
-    let last = stream.Unmap (record ask { runs = [] }) in
-    ap (λ x. made_and_told x last (unmap_reply ask.keeps)) (brought-behind ask.runs r t d ask)
-    ∙ made-behind r t (brought d ask ask.runs) last (unmap_reply ask.keeps)
+    let last = stream.Unmap (bare ask) in
+    let text = entries_text (unmap_entry d.node ask ∷ []) in
+    let begun = with_record text d in
+    ap (λ x. tell_caller (unrecorded (brought x ask ask.runs) last) (Some ask.tag) (unmap_reply ask.keeps)) (with_record-behind r t d text)
+    ∙ ap (λ x. tell_caller (unrecorded x last) (Some ask.tag) (unmap_reply ask.keeps)) (brought-behind ask.runs r t begun ask)
+    ∙ ap (λ x. tell_caller x (Some ask.tag) (unmap_reply ask.keeps)) (unrecorded-behind r t (brought begun ask ask.runs) last)
+    ∙ tell_caller-behind r t (unrecorded (brought begun ask ask.runs) last) (Some ask.tag) (unmap_reply ask.keeps)
 
 meeting-behind : (r t : List ℕ) (d : Desk) (fresh : Bool) (line : List ℕ) (read : Line) (m : Meeting)
     → by_meeting fresh (behind r t d) line read m ≡ behind r t (by_meeting fresh d line read m)

@@ -17,7 +17,8 @@ use Rattle.shm_parts.specs.Reached.{page_reached}
 use Rattle.shm_wire.specs.declared.mapping_text.Mapping.{Mapping}
 use Rattle.shm_process.specs.Access.{is_access, is_waiting}
 use Rattle.shm_process.specs.Blocks.{Block}
-use Rattle.shm_process.specs.Desk.{Desk, made_again as desk_made_again, settled}
+use Rattle.shm_process.specs.Desk.{Desk, all_made, made_again as desk_made_again, settled}
+use Rattle.shm_process.proofs.RowRuns.{closed-node, made_again-node}
 use Rattle.shm_process.specs.WaitingAsks.{Access, Reads, Writes, WaitingAsk, after_answer, ask_in, goes_on, next_access}
 use Rattle.shm_process.specs.Node.{Node, Heard, Said, answer_to, is_late, new_node}
 use Rattle.shm_process.specs.Mapped.{mapped_at, passed_by, passing}
@@ -225,8 +226,8 @@ none-said None h = refl
 none-said (Some said) h = absurd (cc)
 
 quiet-case : (n : ℕ) (d : Desk) (more : Bool) → is_some (said_again d.node) ≡ more
-    → (is_some (said_again d.node) ≡ true → said_again (settled n (desk_made_again d)).node ≡ None)
-    → said_again (cond more (settled n (desk_made_again d)) d).node ≡ None
+    → (is_some (said_again d.node) ≡ true → said_again (all_made n (desk_made_again d)).node ≡ None)
+    → said_again (cond more (all_made n (desk_made_again d)) d).node ≡ None
 quiet-case n d true is later = later is
 quiet-case n d false is later = none-said (said_again d.node) is
 
@@ -234,12 +235,14 @@ none-left : (node : Node) (more : Bool) → is_some (said_again node) ≡ more �
 none-left node true is few = absurd (let less = again-less node is in omega (arith, less, few))
 none-left node false is few = none-said (said_again node) is
 
-quiet : (n : ℕ) (d : Desk) → all_left d.node ≤ n → said_again (settled n d).node ≡ None
-unfolding settled
+quiet : (n : ℕ) (d : Desk) → all_left d.node ≤ n → said_again (all_made n d).node ≡ None
+unfolding all_made
 quiet zero d few = none-left d.node (is_some (said_again d.node)) refl few
 quiet (suc n) d few =
     quiet-case n d (is_some (said_again d.node)) refl
-    (λ some. quiet n (desk_made_again d) (let less = again-less d.node some in omega (arith, less, few)))
+    (λ some.
+    quiet n (desk_made_again d)
+    (subst (λ node. all_left node ≤ n) (sym (made_again-node d)) (let less = again-less d.node some in omega (arith, less, few))))
 
 small-left : (node : Node) (ask : WaitingAsk) → IsProper node.me ask → left node ask ≤ page_bytes
 small-left node (Access tag asked) proper =
@@ -266,5 +269,8 @@ bounded sites me pages events =
 
 pub enough_steps : (sites me pages : ℕ) (events : List Event) (desk : Desk) → desk.node ≡ after_events (new_node sites me pages) events
     → said_again (settled most_steps desk).node ≡ None
+unfolding settled
 enough_steps sites me pages events desk reached =
-    quiet most_steps desk (subst (λ n. all_left n ≤ most_steps) (sym reached) (bounded sites me pages events))
+    let made = all_made most_steps desk in
+    ap said_again (closed-node made made.row)
+    ∙ quiet most_steps desk (subst (λ n. all_left n ≤ most_steps) (sym reached) (bounded sites me pages events))

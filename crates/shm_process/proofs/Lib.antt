@@ -2,6 +2,8 @@ pub mod SentLines
 pub mod Still
 pub mod Ready
 pub mod Replays
+pub mod ManySteps
+pub mod StepsLeft
 pub mod Asks
 pub mod AskedBlock
 pub mod Few
@@ -14,9 +16,15 @@ pub mod Made
 pub mod Lasting
 pub mod Enough
 pub mod Pushed
+pub mod RowLemmas
+pub mod RowRuns
+pub mod CauseLemmas
 pub mod DeskLemmas
 pub mod DeskBytes
 pub mod Events
+pub mod UnmapClocks
+pub mod UnmapSteps
+pub mod FirstEvents
 pub mod DeskEvents
 pub mod Recording
 pub mod NumberedRows

@@ -1,12 +1,15 @@
 -- Lines that were kept back, and bytes that are brought, one more at a time; and what becomes of a step that asked for a right.
-use Rattle.std.proofs.Common.{◌≡◌, ℕ, ◌+◌, ◌<◌, ◌≤◌, Bool, true, false, List, ◌∷◌, cond, length, drop, get_or, ap, sym, ◌∙◌, arith}
+use Rattle.std.proofs.Common.{◌≡◌, ℕ, ◌+◌, ◌<◌, ◌≤◌, Bool, true, false, List, ◌∷◌, cond, length, drop, get_or, nat_lt, sum_by, ap, sym, ◌∙◌, arith}
 use Rattle.std.specs.Prelude.{Option, None, Some, ◌^◌}
 use Rattle.std.proofs.lemmas.Bool.Decides.{nat_tests}
 use Rattle.std.proofs.lemmas.List.{drop_all, drop_more}
+use Rattle.std.proofs.lemmas.List.Sums.{sum_by-drop_more}
+use Rattle.shm_model.specs.Basics.{greatest}
 use Rattle.shm_wire.specs.Asks.{IsBlock}
 use Rattle.shm_wire.specs.Unmaps.{Run, UnmapAsk}
 use Rattle.shm_process.specs.Access.{is_open}
-use Rattle.shm_process.specs.Desk.{Desk, KeptLine, all_met, brought, keep, met, quietly, store_line, stored_run, tried_so, untagged, with_step}
+use Rattle.shm_process.specs.Causes.{store_line}
+use Rattle.shm_process.specs.Desk.{Desk, KeptLine, all_met, brought, keep, met, stored_run, tried_so, unrecorded, untagged, with_step}
 use Rattle.shm_process.specs.Node.{Said}
 
 -- ---- what was kept back
@@ -38,17 +41,49 @@ pub no_run : (ask : UnmapAsk) (rs : List Run) (i : ℕ) (d whole : Desk) → len
 unfolding brought
 no_run ask rs i d whole h e = sym (ap (brought d ask) (drop_all i rs h)) ∙ e
 
+-- ---- clocks for what runs bring
+
+-- a store for each byte
+abbrev pub stores_in : List Run → ℕ
+stores_in runs = sum_by (λ (run : Run). length run.bytes) runs
+
+pub clocks_on : (rs : List Run) (i : ℕ) (r : Run) (last next whole : ℕ) → i < length rs → get_or rs i r ≡ r → next ≡ last + length r.bytes
+    → last + stores_in (drop i rs) ≡ whole → next + stores_in (drop (i + 1) rs) ≡ whole
+clocks_on rs i r last next whole h is step e =
+    let more : stores_in (drop i rs) ≡ length (get_or rs i r).bytes + stores_in (drop (i + 1) rs) = sum_by-drop_more (λ (run : Run). length run.bytes) rs i r h in
+    let same : length (get_or rs i r).bytes ≡ length r.bytes = ap (λ (x : Run). length x.bytes) is in
+    omega (arith, step, e, more, same)
+
+-- there are none for the next run
+pub no_clocks : (rs : List Run) (i : ℕ) (r : Run) (last whole : ℕ) → i < length rs → get_or rs i r ≡ r → greatest < last + length r.bytes
+    → last + stores_in (drop i rs) ≡ whole → greatest ≤ whole
+no_clocks rs i r last whole h is over e =
+    let more : stores_in (drop i rs) ≡ length (get_or rs i r).bytes + stores_in (drop (i + 1) rs) = sum_by-drop_more (λ (run : Run). length run.bytes) rs i r h in
+    let same : length (get_or rs i r).bytes ≡ length r.bytes = ap (λ (x : Run). length x.bytes) is in
+    omega (arith, over, e, more, same)
+
+pub all_clocks : (rs : List Run) (i last whole : ℕ) → length rs ≤ i → last + stores_in (drop i rs) ≡ whole → last ≡ whole
+all_clocks rs i last whole h e =
+    let none : stores_in (drop i rs) ≡ 0 = ap stores_in (drop_all i rs h) in
+    omega (arith, e, none)
+
+pub past-greatest : (last count more : ℕ) → count ≡ more → (last + count < 18446744073709551616 → ⊥) → greatest < last + more
+past-greatest last count more is h = omega (arith, is, h)
+
+pub not_below : (a b : ℕ) → b ≤ a → false ≡ nat_lt a b
+not_below a b h = grind (arith, nat_tests)
+
 -- ---- bytes
 
 pub one_byte : (ask : UnmapAsk) (offset place : ℕ) (bytes : List ℕ) (byte : ℕ) (d next whole : Desk) → place < length bytes → byte ≡ get_or bytes place 0
-    → next ≡ quietly d (store_line ask (offset + place) byte) → stored_run d ask (offset + place) (drop place bytes) ≡ whole
+    → next ≡ unrecorded d (store_line ask (offset + place) byte) → stored_run d ask (offset + place) (drop place bytes) ≡ whole
     → stored_run next ask (offset + (place + 1)) (drop (place + 1) bytes) ≡ whole
 unfolding stored_run
 one_byte ask offset place bytes byte d next whole h is step e =
     let later : (offset + place) + 1 ≡ offset + (place + 1) = omega arith in
     let rest = drop (place + 1) bytes in
-    ap (λ x. stored_run x ask (offset + (place + 1)) rest) (step ∙ ap (λ b. quietly d (store_line ask (offset + place) b)) is)
-    ∙ sym (ap (λ n. stored_run (quietly d (store_line ask (offset + place) (get_or bytes place 0))) ask n rest) later)
+    ap (λ x. stored_run x ask (offset + (place + 1)) rest) (step ∙ ap (λ b. unrecorded d (store_line ask (offset + place) b)) is)
+    ∙ sym (ap (λ n. stored_run (unrecorded d (store_line ask (offset + place) (get_or bytes place 0))) ask n rest) later)
     ∙ sym (ap (stored_run d ask (offset + place)) (drop_more bytes place 0 h)) ∙ e
 
 pub no_byte : (ask : UnmapAsk) (offset place : ℕ) (bytes : List ℕ) (d whole : Desk) → length bytes ≤ place

@@ -12,11 +12,14 @@ use Rattle.shm_wire.specs.Line as stream
 use Rattle.shm_wire.specs.Unmaps.{Run, UnmapAsk}
 use Rattle.shm_wire.specs.declared.mapping_text.RevokeText.{RevokeText}
 use Rattle.shm_process.specs.Access.{is_open}
-use Rattle.shm_process.specs.Desk.{Desk, KeptLine, after_line, after_opened, after_read_line, all_met, answered, brought, by_meeting, disagreement_in, finished, given_up_by, grown, keep, left_sealed, made_again, made_and_told, map_reply, max_line_bytes, may_keep, met, met_read, noted, on_byte, on_bytes, passed, quietly, reminded, reminded_if, revoked, settled, store_line, stored_run, tag_in, taken, ticks, tried, tried_by, try_of, unmap_reply, untagged, with_other, with_step}
+use Rattle.shm_process.specs.Desk.{Desk, KeptLine, after_line, after_opened, after_read_line, all_made, all_met, answered, brought, by_meeting, closed, closed_by, disagreement_in, finished, given_up, given_up_by, grown, grown_by, in_row, keep, left_sealed, made_again, made_and_told, made_in_row, map_reply, max_line_bytes, may_keep, met, met_read, noted, on_byte, on_bytes, passed, quietly, reminded, reminded_if, revoked, settled, stored_run, tag_in, taken, tell_caller, ticks, told_quietly, tried, tried_by, try_of, unmap_entry, unmap_reply, unrecorded, untagged, with_again, with_other, with_record, with_step, with_told}
+use Rattle.shm_process.specs.Causes.{bare, store_line}
 use Rattle.shm_process.specs.Hello.{compared, first_other, read_hello}
 use Rattle.shm_process.specs.Meetings.{meeting}
 use Rattle.shm_process.specs.Node.{Said}
-use Rattle.shm_process.specs.Waiting.{after, most_steps, passed_over, said, said_again}
+use Rattle.shm_process.specs.Recorded.{entries_text}
+use Rattle.shm_process.specs.Rows.{Row, joined, row_in}
+use Rattle.shm_process.specs.Waiting.{after, after_again, most_steps, passed_over, said, said_again}
 use Rattle.shm_process.specs.declared.hello_line.Hello.{Hello}
 use Rattle.shm_process.specs.declared.line_meeting.Meeting.{Meeting}
 use Rattle.shm_process.specs.declared.line_meeting.Meeting.TheVariants.{Answered, Free, Kept, Maps, Tries, Unmaps}
@@ -41,13 +44,41 @@ stays-cond : (b : Bool) (d x y : Desk) → Stays d x → Stays d y → Stays d (
 stays-cond true d x y p q = p
 stays-cond false d x y p q = q
 
+-- ---- rows
+
+stays-closed : (d : Desk) (row : Option Row) → Stays d (closed_by d row)
+stays-closed d None = same d d refl refl
+stays-closed d (Some row) = same d (closed_by d (Some row)) refl refl
+
+stays-grown : (d : Desk) (next : Row) (o : Option Row) → Stays d (grown_by d next o)
+stays-grown d next None = both d (closed d) (grown_by d next None) (stays-closed d d.row) (same (closed d) (grown_by d next None) refl refl)
+stays-grown d next (Some row) = same d (grown_by d next (Some row)) refl refl
+
+stays-in_row : (d : Desk) (said : Said) (row : Option Row) → Stays d (made_in_row d said row)
+stays-in_row d said None = same d (with_step d (Some said)) refl refl
+stays-in_row d said (Some next) =
+    let told = with_told d said in
+    both d told (in_row told next) (same d told refl refl) (stays-grown told next (option_and_then (λ row. joined row next) told.row))
+
+stays-again : (d : Desk) (said : Option Said) → Stays d (with_again d said)
+stays-again d None = same d d refl refl
+stays-again d (Some said) = stays-in_row d said (row_in said.clock said.cause)
+
+stays-made_again : (d : Desk) → Stays d (made_again d)
+stays-made_again d =
+    let next = record d { node = after_again d.node } in both d next (made_again d) (same d next refl refl) (stays-again next (said_again d.node))
+
+stays-all_made : (n : ℕ) (d : Desk) → Stays d (all_made n d)
+unfolding all_made
+stays-all_made zero d = same d d refl refl
+stays-all_made (suc n) d =
+    stays-cond (is_some (said_again d.node)) d (all_made n (made_again d)) d
+    (both d (made_again d) (all_made n (made_again d)) (stays-made_again d) (stays-all_made n (made_again d)))
+    (same d d refl refl)
+
 stays-settled : (n : ℕ) (d : Desk) → Stays d (settled n d)
 unfolding settled
-stays-settled zero d = same d d refl refl
-stays-settled (suc n) d =
-    stays-cond (is_some (said_again d.node)) d (settled n (made_again d)) d
-    (both d (made_again d) (settled n (made_again d)) (same d (made_again d) refl refl) (stays-settled n (made_again d)))
-    (same d d refl refl)
+stays-settled n d = both d (all_made n d) (closed (all_made n d)) (stays-all_made n d) (stays-closed (all_made n d) (all_made n d).row)
 
 stays-taken : (d : Desk) (read : Option Line) → Stays d (taken d read)
 unfolding taken
@@ -86,12 +117,22 @@ stays-tried d line read asked =
     let now = record d { node = after d.node step } in
     both d now (tried_by now line (tag_in step) (said d.node step)) (same d now refl refl) (stays-tried_by now line (tag_in step) (said d.node step))
 
+stays-told : (d : Desk) (said : Option Said) → Stays d (told_quietly d said)
+stays-told d None = same d d refl refl
+stays-told d (Some said) = same d (told_quietly d (Some said)) refl refl
+
+stays-unrecorded : (d : Desk) (line : Line) → Stays d (unrecorded d line)
+unfolding unrecorded
+stays-unrecorded d line =
+    let next = record d { node = after d.node line } in
+    both d next (told_quietly next (said d.node line)) (same d next refl refl) (stays-told next (said d.node line))
+
 stays-run : (bytes : List ℕ) (d : Desk) (ask : UnmapAsk) (offset : ℕ) → Stays d (stored_run d ask offset bytes)
 unfolding stored_run
 stays-run [] d ask offset = same d d refl refl
 stays-run (byte ∷ bytes) d ask offset =
-    let next = quietly d (store_line ask offset byte) in
-    both d next (stored_run next ask (offset + 1) bytes) (stays-quietly d (store_line ask offset byte)) (stays-run bytes next ask (offset + 1))
+    let next = unrecorded d (store_line ask offset byte) in
+    both d next (stored_run next ask (offset + 1) bytes) (stays-unrecorded d (store_line ask offset byte)) (stays-run bytes next ask (offset + 1))
 
 stays-brought : (runs : List Run) (d : Desk) (ask : UnmapAsk) → Stays d (brought d ask runs)
 unfolding brought
@@ -101,13 +142,18 @@ stays-brought (run ∷ runs) d ask =
     both d next (brought next ask runs) (stays-run run.bytes d ask run.offset) (stays-brought runs next ask)
 
 stays-given_up : (d : Desk) (read : Line) → Stays d (given_up_by d read)
+unfolding given_up
 stays-given_up d (stream.Envelope sent) = same d d refl refl
 stays-given_up d (stream.Ask ask) = same d d refl refl
 stays-given_up d (stream.Write write) = same d d refl refl
 stays-given_up d (stream.Unmap ask) =
-    let next = brought d ask ask.runs in
-    let last = stream.Unmap (record ask { runs = [] }) in
-    both d next (made_and_told next last (unmap_reply ask.keeps)) (stays-brought ask.runs d ask) (stays-made next last (unmap_reply ask.keeps))
+    let begun = with_record (entries_text (unmap_entry d.node ask ∷ [])) d in
+    let next = brought begun ask ask.runs in
+    let last = unrecorded next (stream.Unmap (bare ask)) in
+    let reply = tell_caller last (Some ask.tag) (unmap_reply ask.keeps) in
+    both d begun reply (same d begun refl refl)
+    (both begun next reply (stays-brought ask.runs begun ask)
+    (both next last reply (stays-unrecorded next (stream.Unmap (bare ask))) (same last reply refl refl)))
 
 stays-meeting : (d : Desk) (fresh : Bool) (line : List ℕ) (read : Line) (m : Meeting) → Stays d (by_meeting fresh d line read m)
 unfolding by_meeting

@@ -9,7 +9,7 @@ use Rattle.shm_seal.specs.declared.open_line_error.Unsealed.{Unsealed}
 use Rattle.shm_wire.specs.Line.{Line, read_line}
 use Rattle.shm_process.specs.Cause.{Cause, cause_text}
 use Rattle.shm_process.specs.Counts.{Counts, counted_on, was_received}
-use Rattle.shm_process.specs.Desk.{Desk, after_line, after_opened, after_read_line, counts_after, line_text, max_line_bytes, noted, passed, quietly, restarted, settled, step_entry, step_text, tag_in, taken, tell, tried, tried_by, tried_so, try_of, untagged, with_step}
+use Rattle.shm_process.specs.Desk.{Desk, after_line, after_opened, after_read_line, counts_after, line_text, max_line_bytes, noted, passed, quietly, restarted, settled, step_entry, step_text, tag_in, taken, tell, told_quietly, tried, tried_by, tried_so, try_of, unrecorded, untagged, with_step, with_told}
 use Rattle.shm_process.specs.Hello.{read_hello}
 use Rattle.shm_process.specs.Node.{Node, Said}
 use Rattle.shm_process.specs.Telling.{shown_line}
@@ -41,6 +41,23 @@ pushed d said other line recorded told counts text c r t =
     ap (λ n. record d { recorded = recorded; told = told; counts = n }) c
     ∙ ap₂ (λ r t. record d { recorded = r; told = t; counts = counts_after (Some said) d.counts })
     (r ∙ ap (λ l. d.recorded ++ ((codes "step " ++ (decimal said.clock ++ 32 ∷ l)) ++ 10 ∷ [])) (sym text)) t
+
+-- a step is told of, and counted; its entry is another's
+pub told_so : (d : Desk) (says : Said) (other : Cause) (told : List ℕ) (counts : Counts) (sent : ℕ) → was_received says.cause ≡ false → sent ≡ length says.sent
+    → counts ≡ record d.counts { sent = counted_on d.counts.sent sent } → told ≡ d.told ++ step_text d.seal (Some (record says { cause = other }))
+    → record d { told = told; counts = counts } ≡ with_told d says
+unfolding step_text
+told_so d says other told counts sent from es c t =
+    ap₂ (λ t n. record d { told = t; counts = n }) t (c ∙ ap (λ n. record d.counts { sent = counted_on d.counts.sent n }) es)
+    ∙ sym
+    (
+    ap
+    (λ r. record d {
+      told = d.told ++ step_text d.seal (Some says);
+      counts = record d.counts { received = cond r (counted d.counts.received) d.counts.received; sent = counted_on d.counts.sent (length says.sent) };
+    })
+    from
+    )
 
 pub nothing_pushed : (d : Desk) → d ≡ with_step d None
 unfolding step_entry step_text
@@ -84,6 +101,20 @@ unfolding quietly
 quietly_so d next line node said now en es eu e =
     e ∙ ap (λ n. with_step (record d { node = n }) now) en
     ∙ ap (with_step (record d { node = after d.node line })) (eu ∙ ap (option_map untagged) es)
+
+-- a step of an unmap, which its entry records
+pub unrecorded_so : (d next : Desk) (line : Line) (node : Node) (says now : Said) → node ≡ after d.node line → Some says ≡ said_of_line d.node line
+    → now ≡ untagged says → next ≡ with_told (record d { node = node }) now → next ≡ unrecorded d line
+unfolding unrecorded
+unrecorded_so d next line node says now en es eu e =
+    e ∙ ap (λ n. with_told (record d { node = n }) now) en
+    ∙ ap (with_told (record d { node = after d.node line })) eu
+    ∙ ap (told_quietly (record d { node = after d.node line })) es
+
+pub unrecorded_none : (d : Desk) (line : Line) (node : Node) → node ≡ after d.node line → None ≡ said_of_line d.node line
+    → record d { node = node } ≡ unrecorded d line
+unfolding unrecorded
+unrecorded_none d line node en es = ap (λ n. record d { node = n }) en ∙ ap (told_quietly (record d { node = after d.node line })) es
 
 -- a line that isn't too long is opened
 pub line_opened : (d next : Desk) (line : List ℕ) (inner : Result (List ℕ) Unsealed) → length line ≤ 8192 → opened d.seal line ≡ inner → next ≡ after_opened d inner

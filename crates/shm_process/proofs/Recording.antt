@@ -8,7 +8,7 @@ use Rattle.shm_seal.specs.declared.open_line_error.Unsealed.{Unsealed}
 use Rattle.shm_wire.specs.Line.{read_line}
 use Rattle.shm_process.specs.Desk.{Desk, KeptLine, after_line, after_opened, after_read_line, grown, left_sealed, max_line_bytes, noted, on_byte, on_bytes, settled, with_other}
 use Rattle.shm_process.specs.DeskEvents.{DidEvents}
-use Rattle.shm_process.proofs.DeskEvents.{AreKept, Had, IsKind, had-both, had-cond, had-nothing, had-passed, had-settled, had_read_line}
+use Rattle.shm_process.proofs.DeskEvents.{AreKept, Had, IsKind, Tidy, had-both, had-cond, had-nothing, had-passed, had-settled, had_read_line}
 use Rattle.shm_process.specs.Hello.{first_other, read_hello}
 use Rattle.shm_process.specs.Recorded.{Event}
 use Rattle.shm_process.specs.Waiting.{most_steps, passed_over}
@@ -16,49 +16,59 @@ use Rattle.shm_process.specs.declared.hello_line.Hello.{Hello}
 use Rattle.shm_process.specs.declared.site_opening.Disagreement.{Disagreement}
 
 module _ (P : Event → Type 0) (Q : List ℕ → Type 0) (kind : IsKind P Q) where
-  had-left : (d : Desk) (why : Unsealed) → AreKept P d.kept → Had P d (left_sealed d why)
-  had-left d why kept =
-      let first = had-passed P Q kind d kept in
-      record { events = first.events; are = first.are; node = first.node; recorded = first.recorded; kept = kept }
+  had-left : (d : Desk) (why : Unsealed) → Tidy P d → Had P d (left_sealed d why)
+  had-left d why tidy =
+      let first = had-passed P Q kind d tidy in
+      record {
+        events = first.events;
+        are = first.are;
+        entries = first.entries;
+        node = first.node;
+        recorded = first.recorded;
+        steps = first.steps;
+        lines = first.lines;
+        own = first.own;
+        tidy = tidy;
+      }
 
-  had-too_long : (d : Desk) → AreKept P d.kept → Had P d (record d { node = passed_over d.node })
-  had-too_long d kept = had-passed P Q kind d kept
+  had-too_long : (d : Desk) → Tidy P d → Had P d (record d { node = passed_over d.node })
+  had-too_long d tidy = had-passed P Q kind d tidy
 
   -- a hello is noted, and nothing recorded
-  had-other : (d : Desk) (o : Option Disagreement) → AreKept P d.kept → Had P d (option_map_or (with_other d) o d)
-  had-other d None kept = had-nothing P Q kind d d refl refl kept
-  had-other d (Some x) kept = had-nothing P Q kind d (with_other d x) refl refl kept
+  had-other : (d : Desk) (o : Option Disagreement) → Tidy P d → Had P d (option_map_or (with_other d) o d)
+  had-other d None tidy = had-nothing P Q kind d d refl refl tidy
+  had-other d (Some x) tidy = had-nothing P Q kind d (with_other d x) refl refl tidy
 
-  had-noted : (d : Desk) (read : Option Hello) → AreKept P d.kept → Had P d (noted d read)
-  had-noted d read kept = had-other d (first_other d.opening d.other read) kept
+  had-noted : (d : Desk) (read : Option Hello) → Tidy P d → Had P d (noted d read)
+  had-noted d read tidy = had-other d (first_other d.opening d.other read) tidy
 
   had-opened : (d : Desk) (line : List ℕ) (text : Result (List ℕ) Unsealed) → opened d.seal line ≡ text → nat_lt max_line_bytes (length line) ≡ false
-      → Q line → AreKept P d.kept → Had P d (after_opened d text)
-  had-opened d line (Ok text) is short of kept =
+      → Q line → Tidy P d → Had P d (after_opened d text)
+  had-opened d line (Ok text) is short of tidy =
       let now = noted d (read_hello text) in
-      let first = had-noted d (read_hello text) kept in
+      let first = had-noted d (read_hello text) tidy in
       had-both P Q kind d now (after_read_line now text (read_line text)) first
-      (had_read_line P Q kind now text (read_line text) refl (kind.inner d.seal line text is short of) first.kept)
-  had-opened d line (Err why) is short of kept =
+      (had_read_line P Q kind now text (read_line text) refl (kind.inner d.seal line text is short of) first.tidy)
+  had-opened d line (Err why) is short of tidy =
       let next = left_sealed d why in
-      let first = had-left d why kept in
-      had-both P Q kind d next (settled most_steps next) first (had-settled P Q kind most_steps next first.kept)
+      let first = had-left d why tidy in
+      had-both P Q kind d next (settled most_steps next) first (had-settled P Q kind most_steps next first.tidy)
 
-  had-line : (d : Desk) (line : List ℕ) → Q line → AreKept P d.kept → Had P d (after_line d line)
+  had-line : (d : Desk) (line : List ℕ) → Q line → Tidy P d → Had P d (after_line d line)
   unfolding after_line
-  had-line d line of kept =
+  had-line d line of tidy =
       had-cond P Q kind (nat_lt max_line_bytes (length line)) d (record d { node = passed_over d.node }) (after_opened d (opened d.seal line))
-      (λ e. had-too_long d kept)
-      (λ e. had-opened d line (opened d.seal line) refl e of kept)
+      (λ e. had-too_long d tidy)
+      (λ e. had-opened d line (opened d.seal line) refl e of tidy)
 
-  had-byte : (d : Desk) (byte : ℕ) → Q d.line → AreKept P d.kept → Had P d (on_byte d byte)
+  had-byte : (d : Desk) (byte : ℕ) → Q d.line → Tidy P d → Had P d (on_byte d byte)
   unfolding on_byte
-  had-byte d byte of kept =
+  had-byte d byte of tidy =
       let ended = after_line d d.line in
-      let first = had-line d d.line of kept in
+      let first = had-line d d.line of tidy in
       had-cond P Q kind (byte == 10) d (record ended { line = [] }) (record d { line = grown d.line byte })
-      (λ e. had-both P Q kind d ended (record ended { line = [] }) first (had-nothing P Q kind ended (record ended { line = [] }) refl refl first.kept))
-      (λ e. had-nothing P Q kind d (record d { line = grown d.line byte }) refl refl kept)
+      (λ e. had-both P Q kind d ended (record ended { line = [] }) first (had-nothing P Q kind ended (record ended { line = [] }) refl refl first.tidy))
+      (λ e. had-nothing P Q kind d (record d { line = grown d.line byte }) refl refl tidy)
 
   -- ---- what was read of a line
 
@@ -82,12 +92,12 @@ module _ (P : Event → Type 0) (Q : List ℕ → Type 0) (kind : IsKind P Q) wh
   line_bytes [] d of = of
   line_bytes (byte ∷ bytes) d of = line_bytes bytes (on_byte d byte) (line-byte d byte of)
 
-  pub had_bytes : (bytes : List ℕ) (d : Desk) → Q d.line → AreKept P d.kept → Had P d (on_bytes d bytes)
+  pub had_bytes : (bytes : List ℕ) (d : Desk) → Q d.line → Tidy P d → Had P d (on_bytes d bytes)
   unfolding on_bytes
-  had_bytes [] d of kept = had-nothing P Q kind d d refl refl kept
-  had_bytes (byte ∷ bytes) d of kept =
-      let first = had-byte d byte of kept in
-      had-both P Q kind d (on_byte d byte) (on_bytes (on_byte d byte) bytes) first (had_bytes bytes (on_byte d byte) (line-byte d byte of) first.kept)
+  had_bytes [] d of tidy = had-nothing P Q kind d d refl refl tidy
+  had_bytes (byte ∷ bytes) d of tidy =
+      let first = had-byte d byte of tidy in
+      had-both P Q kind d (on_byte d byte) (on_bytes (on_byte d byte) bytes) first (had_bytes bytes (on_byte d byte) (line-byte d byte of) first.tidy)
 
 -- ---- events of any kind
 
@@ -97,6 +107,7 @@ any_kind = record {
   again = tt;
   tries = λ ask asked is. tt;
   gives_up = λ ask is. tt;
+  row = λ me row is. tt;
   begun = tt;
   longer = λ line byte e of. tt;
   inner = λ seal line text is short of. tt;
@@ -106,7 +117,15 @@ any_kept : (kept : List KeptLine) → AreKept (λ event. ⊤) kept
 any_kept [] = All-nil (λ (k : KeptLine). ⊤)
 any_kept (k ∷ kept) = All-cons (λ (k : KeptLine). ⊤) k kept tt (any_kept kept)
 
-pub did_events : (d : Desk) (bytes : List ℕ) → DidEvents d (on_bytes d bytes)
-did_events d bytes =
-    let had = had_bytes (λ event. ⊤) (λ line. ⊤) any_kind bytes d tt (any_kept d.kept) in
-    record { events = had.events; node = had.node; recorded = had.recorded }
+pub did_events : (d : Desk) (bytes : List ℕ) → d.row ≡ None → DidEvents d (on_bytes d bytes)
+did_events d bytes none =
+    let had = had_bytes (λ event. ⊤) (λ line. ⊤) any_kind bytes d tt (any_kept d.kept, none) in
+    record {
+      events = had.events;
+      entries = had.entries;
+      node = had.node;
+      recorded = had.recorded;
+      steps = had.steps;
+      lines = had.lines;
+      row = had.tidy.1;
+    }

@@ -1,5 +1,5 @@
 -- The access that a map tries has a line.
-use Rattle.std.proofs.Common.{◌≡◌, ℕ, ◌<◌, Bool, true, false, Option, Some, None, cond, subst, arith}
+use Rattle.std.proofs.Common.{◌≡◌, ℕ, ◌<◌, ◌&&◌, Bool, true, false, Option, Some, None, cond, subst, arith}
 use Rattle.std.specs.Prelude.{◌^◌}
 use Rattle.std.proofs.lemmas.Bool.Decides.{nat_tests}
 use Rattle.shm_model.specs.Message.{Message}
@@ -15,7 +15,7 @@ use Rattle.shm_wire.specs.declared.caller_ask.Question.TheVariants as question
 use Rattle.shm_wire.specs.declared.mapping_text.Mapping.{Mapping}
 use Rattle.shm_process.specs.Desk.{try_of}
 use Rattle.shm_process.specs.Mapped.{byte_place, is_detained, passing, wanted}
-use Rattle.shm_process.specs.Meetings.{access_meeting, begin_meeting, given_up_if, is_due, map_meeting, meeting, question_meeting, try_meeting, withheld}
+use Rattle.shm_process.specs.Meetings.{access_meeting, begin_meeting, given_up_if, has_clocks, is_due, map_meeting, meeting, question_meeting, try_meeting, withheld}
 use Rattle.shm_process.specs.Node.{Node, is_lost}
 use Rattle.shm_process.specs.Remaps.{has_right, may_unmap, right_asked, waits_for_right}
 use Rattle.shm_process.specs.declared.line_meeting.Meeting.{Meeting}
@@ -91,7 +91,8 @@ meeting-tries node (stream.Ask ask) a is =
     if-tried (is_due node ask.site) (question_meeting node ask.asked) Free a (question-tried node ask.asked a is.2) (free-tried a)
 meeting-tries node (stream.Write write) a is = free-tried a
 meeting-tries node (stream.Unmap unmap) a is =
-    if-tried (is_due node unmap.site) (given_up_if (may_unmap node.mapped node.site unmap)) Free a (given_up-tried (may_unmap node.mapped node.site unmap) a) (free-tried a)
+    if-tried (is_due node unmap.site && has_clocks node unmap.runs) (given_up_if (may_unmap node.mapped node.site unmap)) Free a
+    (given_up-tried (may_unmap node.mapped node.site unmap) a) (free-tried a)
 
 pub try-is_line : (read : stream.Line) (a : Asked) → IsLine read → IsAsked (question.Try a) → IsLine (try_of read a)
 try-is_line (stream.Envelope sent) a is asked = is

@@ -1,5 +1,5 @@
--- What a process records and tells: its node, what was read of a line, the entries of the steps that it made, and what callers and other
--- sites are told of them. Each line that comes is opened first, and each that is told is sealed; what is recorded isn't. Where its site says
+-- What a process records and tells: its node, what was read of a line, the entries of the steps that it made, a row of accesses that may still
+-- grow, and what callers and other sites are told of them. Each line that comes is opened first, and each that is told is sealed; what is recorded isn't. Where its site says
 -- how it was begun, it has the first that another says otherwise.
 use Rattle.std.specs.Prelude.{ℕ, zero, suc, ◌+◌, ◌==◌, ◌&&◌, Bool, true, false, not, List, [], ◌∷◌, ◌++◌, codes, Option, Some, None, Result, Ok, Err, if◌then◌else◌, is_some, length, nat_lt, option_and_then, option_map}
 use Rattle.std.specs.List.{flat_map, list_any}
@@ -9,7 +9,6 @@ use Rattle.shm_place.specs.Page.{same_page}
 use Rattle.shm_model.specs.declared.answer.Answer.{Answer}
 use Rattle.shm_model.specs.declared.answer.Answer.TheVariants.{Waiting}
 use Rattle.shm_model.specs.declared.asked_access.Asked.{Asked}
-use Rattle.shm_model.specs.declared.asked_access.Asked.TheVariants as asked
 use Rattle.shm_model.specs.declared.request_kind.Kind.{Kind}
 use Rattle.shm_model.specs.declared.request_kind.Kind.TheVariants.{Read, Write}
 use Rattle.shm_seal.specs.Seal.{Seal, opened, sealed}
@@ -25,14 +24,17 @@ use Rattle.shm_wire.specs.declared.caller_ask.Question.TheVariants as question
 use Rattle.shm_wire.specs.declared.mapping_text.Mapping.{Mapping}
 use Rattle.shm_wire.specs.declared.mapping_text.RevokeText.{RevokeText}
 use Rattle.shm_process.specs.Access.{is_open}
+use Rattle.shm_process.specs.Cause.{OfLine}
+use Rattle.shm_process.specs.Causes.{bare, store_line}
 use Rattle.shm_process.specs.Counts.{Counts, counts_from, with_said, with_text, with_unopened}
 use Rattle.shm_process.specs.Hello.{first_other, greeting, hello_line, hello_to, read_hello}
 use Rattle.shm_process.specs.Lines.{sent_lines}
 use Rattle.shm_process.specs.Mapped.{byte_place, keeps_beside, mapped_there, passing}
 use Rattle.shm_process.specs.Meetings.{meeting, revoking}
-use Rattle.shm_process.specs.Node.{Node, Said}
-use Rattle.shm_process.specs.Recorded.{entries_text, recorded}
+use Rattle.shm_process.specs.Node.{Node, Said, next_clock}
+use Rattle.shm_process.specs.Recorded.{Entry, entries_text, recorded}
 use Rattle.shm_process.specs.Remaps.{bytes_there}
+use Rattle.shm_process.specs.Rows.{Row, joined, row_entry, row_in}
 use Rattle.shm_process.specs.Telling.{answer_line_of, shown_line}
 use Rattle.shm_process.specs.Waiting.{after, after_again, after_read, after_restart, most_steps, passed_over, said, said_again, said_read, said_restart}
 use Rattle.shm_process.specs.WaitingAsks.{next_access}
@@ -57,6 +59,7 @@ pub record Desk : Type 0 where
   pub line : List ℕ
   pub kept : List KeptLine
   pub recorded : List ℕ
+  pub row : Option Row
   pub told : List ℕ
 
 abbrev pub desk_at : Seal → Node → Desk
@@ -69,6 +72,7 @@ desk_at seal node = record {
   line = [];
   kept = [];
   recorded = [];
+  row = None;
   told = [];
 }
 
@@ -111,13 +115,46 @@ with_step desk said = record desk {
 abbrev pub with_record : List ℕ → Desk → Desk
 with_record text desk = record desk { recorded = desk.recorded ++ text; counts = with_text text desk.counts }
 
+-- ---- rows
+
+-- the row is recorded, if there is one
+abbrev pub closed_by : Desk → Option Row → Desk
+closed_by desk None = desk
+closed_by desk (Some row) = record (with_record (entries_text (row_entry desk.node.me row ∷ [])) desk) { row = None }
+
+abbrev pub closed : Desk → Desk
+closed desk = closed_by desk desk.row
+
+-- a step joins the row, or begins another
+abbrev pub grown_by : Desk → Row → Option Row → Desk
+grown_by desk next None = record (closed desk) { row = Some next }
+grown_by desk next (Some row) = record desk { row = Some row }
+
+abbrev pub in_row : Desk → Row → Desk
+in_row desk next = grown_by desk next (option_and_then (λ row. joined row next) desk.row)
+
+-- a step is told of and counted; it is recorded elsewhere
+abbrev pub with_told : Desk → Said → Desk
+with_told desk said = record desk { told = desk.told ++ step_text desk.seal (Some said); counts = with_said said desk.counts }
+
+abbrev pub made_in_row : Desk → Said → Option Row → Desk
+made_in_row desk said None = with_step desk (Some said)
+made_in_row desk said (Some next) = in_row (with_told desk said) next
+
+abbrev pub with_again : Desk → Option Said → Desk
+with_again desk None = desk
+with_again desk (Some said) = made_in_row desk said (row_in said.clock said.cause)
+
 abbrev pub made_again : Desk → Desk
-made_again desk = with_step (record desk { node = after_again desk.node }) (said_again desk.node)
+made_again desk = with_again (record desk { node = after_again desk.node }) (said_again desk.node)
 
 -- steps of asks that wait are made, as long as one can be, and at most so many
+unfoldable pub all_made : ℕ → Desk → Desk
+all_made zero desk = desk
+all_made (suc n) desk = if is_some (said_again desk.node) then all_made n (made_again desk) else desk
+
 unfoldable pub settled : ℕ → Desk → Desk
-settled zero desk = desk
-settled (suc n) desk = if is_some (said_again desk.node) then settled n (made_again desk) else desk
+settled n desk = closed (all_made n desk)
 
 -- a line is taken, as what was read of it
 unfoldable pub taken : Desk → Option Line → Desk
@@ -228,13 +265,18 @@ tried desk line read asked =
     let step = try_of read asked in
     tried_by (record desk { node = after desk.node step }) line (tag_in step) (said desk.node step)
 
--- a byte that is brought
-abbrev pub store_line : UnmapAsk → ℕ → ℕ → Line
-store_line ask offset byte = stream.Ask (record { site = ask.site; tag = ask.tag; asked = question.Try (asked.Store ask.at offset byte) })
+-- the steps of an unmap: their entry is the unmap's
+abbrev pub told_quietly : Desk → Option Said → Desk
+told_quietly desk None = desk
+told_quietly desk (Some said) = with_told desk (untagged said)
 
+unfoldable pub unrecorded : Desk → Line → Desk
+unrecorded desk line = told_quietly (record desk { node = after desk.node line }) (said desk.node line)
+
+-- each byte that is brought is stored
 unfoldable pub stored_run : Desk → UnmapAsk → ℕ → List ℕ → Desk
 stored_run desk ask offset [] = desk
-stored_run desk ask offset (byte ∷ bytes) = stored_run (quietly desk (store_line ask offset byte)) ask (offset + 1) bytes
+stored_run desk ask offset (byte ∷ bytes) = stored_run (unrecorded desk (store_line ask offset byte)) ask (offset + 1) bytes
 
 unfoldable pub brought : Desk → UnmapAsk → List Run → Desk
 brought desk ask [] = desk
@@ -245,9 +287,15 @@ unmap_reply None = unmapped_text
 unmap_reply (Some Read) = unmapped_text
 unmap_reply (Some Write) = synced_text
 
+-- one entry has all its steps
+abbrev pub unmap_entry : Node → UnmapAsk → Entry
+unmap_entry node ask = record { clock = next_clock node 0; cause = OfLine (stream.Unmap ask) }
+
 -- all bytes are stored, and then the page is given up
-abbrev pub given_up : Desk → UnmapAsk → Desk
-given_up desk ask = made_and_told (brought desk ask ask.runs) (stream.Unmap (record ask { runs = [] })) (unmap_reply ask.keeps)
+unfoldable pub given_up : Desk → UnmapAsk → Desk
+given_up desk ask =
+    let begun = with_record (entries_text (unmap_entry desk.node ask ∷ [])) desk in
+    tell_caller (unrecorded (brought begun ask ask.runs) (stream.Unmap (bare ask))) (Some ask.tag) (unmap_reply ask.keeps)
 
 abbrev pub given_up_by : Desk → Line → Desk
 given_up_by desk (stream.Unmap ask) = given_up desk ask

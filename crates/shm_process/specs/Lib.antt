@@ -22,7 +22,12 @@ pub mod Hello
 pub mod Health
 pub mod HealthOf
 pub mod Telling
+pub mod Causes
+pub mod RunsLeft
+pub mod StepsOf
 pub mod Recorded
+pub mod Rows
 pub mod Desk
+pub mod RowOf
 pub mod DeskOf
 pub mod DeskEvents

@@ -1,15 +1,17 @@
 -- What a node makes of a line that comes, by what its site's machine maps: whether it is taken, kept back until a page is given up, or answered
 -- at once.
-use Rattle.std.specs.Prelude.{ℕ, Bool, ◌&&◌, not, Option, None, Some, ◌==◌, if◌then◌else◌}
+use Rattle.std.specs.Prelude.{ℕ, ◌+◌, Bool, ◌&&◌, not, List, Option, None, Some, ◌==◌, if◌then◌else◌, length, nat_lt}
+use Rattle.std.specs.List.{sum_by}
 use Rattle.shm_model.specs.declared.answer.Answer.TheVariants.{Refused, Waiting}
 use Rattle.shm_model.specs.declared.asked_access.Asked.{Asked}
 use Rattle.shm_model.specs.declared.request_kind.Kind.{Kind}
+use Rattle.shm_model.specs.Basics.{greatest}
 use Rattle.shm_model.specs.Message.{Message}
 use Rattle.shm_model.specs.Refusal.{busy, foreign_message}
 use Rattle.shm_wire.specs.Asks.{Ask}
 use Rattle.shm_wire.specs.Line as stream
 use Rattle.shm_wire.specs.Sent.{Sent}
-use Rattle.shm_wire.specs.Unmaps.{UnmapAsk}
+use Rattle.shm_wire.specs.Unmaps.{Run, UnmapAsk}
 use Rattle.shm_wire.specs.declared.caller_ask.Question.{Question}
 use Rattle.shm_wire.specs.declared.caller_ask.Question.TheVariants as question
 use Rattle.shm_wire.specs.declared.mapping_text.Mapping.{Mapping}
@@ -75,8 +77,13 @@ ask_meeting node ask = if is_due node ask.site then question_meeting node ask.as
 abbrev pub given_up_if : Bool → Meeting
 given_up_if may = if may then Unmaps else Answered (Refused foreign_message)
 
+-- there are clocks for its steps: a store of each byte, and one step more
+abbrev pub has_clocks : Node → List Run → Bool
+has_clocks node runs = nat_lt (node.clock + sum_by (λ run. length run.bytes) runs) greatest
+
 abbrev pub unmap_meeting : Node → UnmapAsk → Meeting
-unmap_meeting node ask = if is_due node ask.site then given_up_if (may_unmap node.mapped node.site ask) else Free
+unmap_meeting node ask =
+    if is_due node ask.site && has_clocks node ask.runs then given_up_if (may_unmap node.mapped node.site ask) else Free
 
 abbrev pub meeting : Node → stream.Line → Meeting
 meeting node (stream.Envelope sent) = envelope_meeting node sent

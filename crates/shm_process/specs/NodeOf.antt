@@ -4,8 +4,8 @@ use Rattle.shm_model.specs.declared.asked_access.Asked.{Asked}
 use Rattle.shm_parts.specs.Message.{envelope_of}
 use Rattle.shm_site.specs.Site.{site_of}
 use Rattle.shm_site.specs.Step.{input_of}
+use Rattle.shm_process.specs.Access.{access_ask}
 use Rattle.shm_process.specs.AskOf.{ask_of}
-use Rattle.shm_wire.specs.Asks as asked
 use Rattle.shm_wire.specs.Line as stream
 use Rattle.shm_wire.specs.TagOf.{tag_text}
 use Rattle.shm_process.specs.Cause.{Cause, OfLine}
@@ -60,4 +60,4 @@ said_of cause said = record {
 
 -- of a step of an ask that waited: its cause is the line that asks for the access alone
 abbrev pub again_of : {A : Type 0} → Again A → spec.Said
-again_of again = said_of (OfLine (stream.Ask (asked.ask_of again.ask))) again.said
+again_of again = said_of (OfLine (stream.Ask (access_ask again.said.site (tag_text again.tag) again.asked))) again.said

@@ -1,9 +1,12 @@
--- What is recorded of a node's steps, each as its clock and what made it; and the node that they lead to again.
-use Rattle.std.specs.Prelude.{ℕ, List, [], ◌∷◌, ◌++◌, codes, Option, Some, None, if◌then◌else◌, option_and_then}
+-- What is recorded of a node's steps, each as its clock and what made it; and the node that they lead to again. An entry may record many
+-- steps, one after another.
+use Rattle.std.specs.Prelude.{ℕ, ◌+◌, List, [], ◌∷◌, ◌++◌, codes, Option, Some, None, if◌then◌else◌, option_and_then}
 use Rattle.std.specs.Fmt.{decimal}
+use Rattle.std.specs.List.{flat_map}
 use Rattle.shm_lines.specs.Words.{IsWide}
 use Rattle.shm_wire.specs.Line.{read_line}
 use Rattle.shm_process.specs.Cause.{Cause, IsCause, cause_text}
+use Rattle.shm_process.specs.Causes.{causes_of}
 use Rattle.shm_process.specs.Node.{Node, Said, is_late}
 use Rattle.shm_process.specs.Waiting.{after_again, after_read, after_restart, passed_over, replayed, said_again, said_read, said_restart}
 
@@ -41,6 +44,18 @@ entry_line entry = codes "step " ++ (decimal entry.clock ++ 32 ∷ cause_text en
 abbrev pub entry_of : Said → Entry
 entry_of said = record { clock = said.clock; cause = said.cause }
 
+-- these steps, each under the clock after the one before
+unfoldable pub entries_from : ℕ → List Cause → List Entry
+entries_from clock [] = []
+entries_from clock (cause ∷ causes) = record { clock = clock; cause = cause } ∷ entries_from (clock + 1) causes
+
+-- the steps that an entry records, one after another, each as an entry of its own
+abbrev pub steps_of : Entry → List Entry
+steps_of entry = entries_from entry.clock (causes_of entry.cause)
+
+abbrev pub all_steps : List Entry → List Entry
+all_steps entries = flat_map steps_of entries
+
 -- each step is recorded
 abbrev pub recorded : Option Said → List Entry → List Entry
 recorded None entries = entries
@@ -63,6 +78,10 @@ after_events node (event ∷ events) = after_events (after_event node event) eve
 abbrev pub replayed_all : Node → List Entry → Option Node
 replayed_all node [] = Some node
 replayed_all node (entry ∷ entries) = option_and_then (λ next. replayed_all next entries) (replayed node entry.clock entry.cause)
+
+-- the steps that an entry records, made again
+abbrev pub replayed_entry : Node → Entry → Option Node
+replayed_entry node entry = replayed_all node (steps_of entry)
 
 -- the node less the asks that wait, and less its counts of lines
 abbrev pub kept : Node → Node

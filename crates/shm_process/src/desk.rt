@@ -5,7 +5,7 @@ ghost use Rattle.shm_model.specs.Basics.{greatest};
 ghost use Rattle.shm_process.specs.Cause.{Cause, OfRestart, cause_text};
 ghost use Rattle.shm_process.specs.Counts.{is_envelope, was_received};
 ghost use Rattle.shm_process.specs.CountsOf.{counts_of};
-ghost use Rattle.shm_process.specs.Desk.{after_line, after_opened, after_read_line, cleared, desk_at, left_sealed, made_again, on_bytes, restarted, settled, step_text, taken, tell, line_text, with_record, with_step};
+ghost use Rattle.shm_process.specs.Desk.{after_line, after_opened, after_read_line, all_made, cleared, desk_at, left_sealed, made_again, on_bytes, restarted, settled, step_text, taken, tell, line_text, with_record, with_step};
 ghost use Rattle.shm_process.specs.DeskOf.{desk_of};
 ghost use Rattle.shm_process.specs.NodeOf.{again_of, node_of, said_of};
 ghost use Rattle.shm_process.specs.Telling.{shown_line};
@@ -16,6 +16,7 @@ ghost use Rattle.shm_wire.specs.Line as stream;
 ghost use Rattle.shm_wire.specs.Line.{IsLine};
 ghost use Rattle.shm_wire.specs.LineOf.{line_of};
 
+use crate::access_row::Row;
 use crate::envelope_lines::push_sealed;
 use crate::kept_line::KeptLine;
 use crate::node::Node;
@@ -46,6 +47,7 @@ pub struct Desk<A: Allocator + Copy = Global> {
     pub(crate) line: Vec<u8, A>,
     pub(crate) kept: Vec<KeptLine<A>, A>,
     pub(crate) recorded: Vec<u8, A>,
+    pub(crate) row: Option<Row<A>>,
     pub(crate) told: String<A>,
     pub(crate) alloc: A,
 }
@@ -74,6 +76,7 @@ impl<A: Allocator + Copy> Desk<A> {
             line: Vec::new(alloc),
             kept: Vec::new(alloc),
             recorded: Vec::new(alloc),
+            row: None,
             told: String::new(alloc),
             alloc,
         }
@@ -100,8 +103,8 @@ impl<A: Allocator + Copy> Desk<A> {
         self.alloc
     }
 
-    /// The entries of the steps that were made, each `step CLOCK LINE` and a line feed. They have to be durable before any output is
-    /// written.
+    /// The entries of the steps that were made, each `step CLOCK LINE` and a line feed. A block's steps that were made one after another
+    /// have one entry, and so have those of an unmap. They have to be durable before any output is written.
     pub fn entries(&self) -> &[u8]
         ensures { result.now ≡ (desk_of self.now).recorded }
     {
@@ -121,15 +124,6 @@ impl<A: Allocator + Copy> Desk<A> {
     {
         self.recorded.clear();
         self.told.clear();
-    }
-
-    /// Has this text recorded, behind what is.
-    pub fn record(&mut self, text: &[u8]) -> Result<(), AllocError>
-        ensures { OnOk result (desk_of self.new ≡ with_record text.now (desk_of self.old)) }
-    {
-        self.recorded.extend_from_slice(text)?;
-        self.counts = self.counts.with_recorded(text.len());
-        Ok(())
     }
 
     /// Restarts the site, one step. It forgets the asks that wait: their callers ask again. Where memory is refused the desk is useless.
@@ -271,8 +265,16 @@ impl<A: Allocator + Copy> Desk<A> {
     }
 
     /// Makes steps of the waiting asks, as long as one can be made, and at most `MOST_STEPS`.
+    #[tactic(auto, unfolding(crate::specs::Desk::settled))]
     pub(crate) fn settle(&mut self) -> Result<(), AllocError>
         ensures { OnOk result (desk_of self.new ≡ settled most_steps (desk_of self.old)) }
+    {
+        self.make_all()?;
+        self.close_row()
+    }
+
+    fn make_all(&mut self) -> Result<(), AllocError>
+        ensures { OnOk result (desk_of self.new ≡ all_made most_steps (desk_of self.old)) }
     {
         'asks: for _round in 0..MOST_STEPS {
             let more = self.make_waiting()?;
@@ -296,40 +298,6 @@ impl<A: Allocator + Copy> Desk<A> {
         self.push_again(&again)?;
         Ok(true)
     }
-
-    /// Records a step of an ask that waited, and gathers its output.
-    fn push_again(&mut self, again: &Again<A>) -> Result<(), AllocError>
-        ensures { OnOk result (desk_of self.new ≡ with_step (desk_of self.old) (Some (again_of again.now))) }
-    {
-        let ask = again.ask;
-        let line = format!(in self.alloc; "{ask}")?;
-        self.push_step(line.as_bytes(), &again.said, false)
-    }
-
-    /// Records the step that this line made, an envelope's or another, counts it, and gathers its output.
-    pub(crate) fn push_step(
-        &mut self,
-        line: &[u8],
-        said: &Said<A>,
-        received: bool,
-    ) -> Result<(), AllocError>
-        ensures { (cause : Cause) → cause_text cause ≡ line.now → was_received cause ≡ received
-            → OnOk result (desk_of self.new ≡ with_step (desk_of self.old) (Some (said_of cause said.now))) }
-    {
-        let bytes = push_entry(self.alloc, &mut self.recorded, said.clock, line)?;
-        push_text(self.alloc, &self.seal, &mut self.told, said)?;
-        let counts = self.counts.with_step(received, count_sent(said));
-        self.counts = counts.with_recorded(bytes);
-        Ok(())
-    }
-}
-
-/// How many envelopes a step sent.
-#[tactic(auto, using(crate::proofs::Asks::length_map))]
-fn count_sent<A: Allocator + Copy>(said: &Said<A>) -> usize
-    ensures { result ≡ length (said_of OfRestart said.now).sent }
-{
-    said.sent.len()
 }
 
 /// Checks that a line is an envelope.
@@ -337,41 +305,6 @@ pub(crate) fn is_envelope<A: Allocator + Copy>(line: &Line<A>) -> bool
     ensures { result ≡ is_envelope (line_of line.now) }
 {
     matches!(line, Line::Envelope(_))
-}
-
-/// Appends the entry of a step: `step CLOCK LINE`, and a line feed. How many bytes it has.
-fn push_entry<A: Allocator + Copy>(
-    alloc: A,
-    recorded: &mut Vec<u8, A>,
-    clock: u64,
-    line: &[u8],
-) -> Result<usize, AllocError>
-    ensures entry { OnOk result (recorded.new.items ≡ recorded.old.items ++ ((codes "step " ++ (decimal clock ++ 32 ∷ line.now)) ++ 10 ∷ [])) }
-    ensures bytes { IfOk result (λ bytes. bytes ≡ length ((codes "step " ++ (decimal clock ++ 32 ∷ line.now)) ++ 10 ∷ [])) }
-{
-    let before = recorded.len();
-    let head = format!(in alloc; "step {clock} ")?;
-    recorded.extend_from_slice(head.as_bytes())?;
-    recorded.extend_from_slice(line)?;
-    recorded.push(b'\n')?;
-    Ok(recorded.len() - before)
-}
-
-/// Appends the output of a step, sealed: the answer, if it has a caller, and what the site sent.
-#[tactic(auto, unfolding(crate::specs::Desk::step_text))]
-fn push_text<A: Allocator + Copy>(
-    alloc: A,
-    seal: &Seal,
-    told: &mut String<A>,
-    said: &Said<A>,
-) -> Result<(), AllocError>
-    ensures { OnOk result (string_bytes told.new ≡ string_bytes told.old ++ step_text (seal_of seal.now) (Some (said_of OfRestart said.now))) }
-{
-    if let Some(line) = said.answer_line(alloc)? {
-        push_sealed(alloc, seal, told, line.as_str())?;
-    }
-    let sent = said.envelopes(alloc, seal)?;
-    told.push_str(sent.as_str())
 }
 
 /// Splits the bytes at the first line feed.

@@ -36,6 +36,7 @@ impl<A: Allocator + Copy> Desk<A> {
             line: Vec::new(alloc),
             kept: Vec::new(alloc),
             recorded: Vec::new(alloc),
+            row: None,
             told,
             alloc,
         })

@@ -59,7 +59,7 @@ impl<A: Allocator + Copy> Desk<A> {
             Meeting::Answered(answer) => self.answer(tag_in(&read), answer),
             Meeting::Maps { at, index } => self.make_map(line, read, at, index),
             Meeting::Tries(asked) => self.try_access(line, try_of(read, asked)),
-            Meeting::Unmaps => self.give_up_by(read),
+            Meeting::Unmaps => self.give_up_by(line, read),
         }
     }
 
@@ -373,7 +373,7 @@ fn tag_in<A: Allocator + Copy>(line: &Line<A>) -> Option<Tag>
 }
 
 /// A step whose answer isn't told.
-fn untagged<A: Allocator + Copy>(said: Said<A>) -> Said<A>
+pub(crate) fn untagged<A: Allocator + Copy>(said: Said<A>) -> Said<A>
     ensures { (cause : Cause) → said_of cause result ≡ untagged (said_of cause said) }
 {
     let Said {

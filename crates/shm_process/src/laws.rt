@@ -26,10 +26,11 @@ pub fn each_entry_has_a_line()
     ensures { (sites me pages : ℕ) (events : List Event) → All IsEntry (entries_of (spec.new_node sites me pages) events) }
 {}
 
-/// From bytes a desk records exactly the entries of the events that its node had, in order.
+/// From bytes a desk records entries whose steps are exactly those of the events that its node had, in order. No row is left that may still
+/// grow.
 #[tactic(auto, using(crate::proofs::Recording::did_events))]
 pub fn a_desk_records_each_step()
-    ensures { (desk : Desk) (bytes : List ℕ) → DidEvents desk (on_bytes desk bytes) }
+    ensures { (desk : Desk) (bytes : List ℕ) → desk.row ≡ None → DidEvents desk (on_bytes desk bytes) }
 {}
 
 /// At most 64 asks wait at a node, whatever happened to it.

@@ -7,6 +7,7 @@
 //! machine is asked to give the page up.
 #![tactic(auto)]
 
+mod access_row;
 mod answer_lines;
 mod block_load;
 mod block_store;
@@ -17,6 +18,7 @@ mod desk;
 mod desk_gives_up;
 mod desk_greeting;
 mod desk_meets_line;
+mod desk_records;
 mod envelope_lines;
 mod health;
 mod hello_line;
@@ -25,6 +27,7 @@ mod interpreted_line;
 mod kept_line;
 pub mod laws;
 mod line_meeting;
+mod loads_left;
 mod mapping_list;
 mod node;
 mod node_mapped_pages;
@@ -34,10 +37,13 @@ mod node_replay;
 mod node_retries;
 mod node_takes_line;
 mod process_counts;
+mod recorded_steps;
 mod retried_step;
 mod site_opening;
 mod step_cause;
 mod step_output;
+mod stores_left;
+mod unmap_left;
 mod unopened_line_counts;
 mod waiting_ask;
 
@@ -47,6 +53,7 @@ pub use hello_line::{Hello, parse_hello};
 pub use interpret_line::{input_asked, input_unmapped};
 pub use node::Node;
 pub use process_counts::{Counts, Start};
+pub use recorded_steps::Steps;
 pub use retried_step::Again;
 pub use site_opening::{Disagreement, Opening};
 pub use step_cause::Cause;

@@ -1,5 +1,7 @@
 //! What becomes of a line that comes, by what the site's machine maps.
-ghost use Rattle.std.specs.Prelude.{◌≡◌};
+ghost use Rattle.std.specs.Prelude.{◌≡◌, ◌+◌, length, map, nat_lt};
+ghost use Rattle.std.specs.List.{sum_by};
+ghost use Rattle.shm_model.specs.Basics.{greatest};
 ghost use Rattle.shm_parts.specs.Message.{envelope_of};
 ghost use Rattle.shm_process.specs.Mapped as mapped;
 ghost use Rattle.shm_process.specs.Meetings as spec;
@@ -8,7 +10,7 @@ ghost use Rattle.shm_process.specs.Remaps as remaps;
 ghost use Rattle.shm_wire.specs.Asks.{ask_of};
 ghost use Rattle.shm_wire.specs.LineOf.{line_of};
 ghost use Rattle.shm_wire.specs.SentOf.{sent_of};
-ghost use Rattle.shm_wire.specs.UnmapOf.{unmap_in};
+ghost use Rattle.shm_wire.specs.UnmapOf.{run_in, unmap_in};
 
 use crate::byte_place::byte_place;
 use crate::line_meeting::Meeting;
@@ -18,7 +20,7 @@ use shm_model::refusal::{BUSY, FOREIGN};
 use shm_model::{Answer, Asked, Kind};
 use shm_parts::Envelope;
 use shm_place::SiteId;
-use shm_wire::{Ask, Line, Mapping, Question, RevokeText, Sent, UnmapAsk};
+use shm_wire::{Ask, Line, Mapping, Question, RevokeText, Run, Sent, UnmapAsk};
 use std::alloc::Allocator;
 
 impl<A: Allocator + Copy> Node<A> {
@@ -85,7 +87,7 @@ impl<A: Allocator + Copy> Node<A> {
     fn unmap_meeting(&self, ask: &UnmapAsk<A>) -> Meeting
         ensures { result ≡ spec.unmap_meeting (node_of self.now) (unmap_in ask.now) }
     {
-        if !self.is_due(ask.site) {
+        if !self.is_due(ask.site) || !has_clocks(self.clock, ask.runs.as_slice()) {
             return Meeting::Free;
         }
         given_up_if(self.may_unmap(ask))
@@ -97,6 +99,20 @@ impl<A: Allocator + Copy> Node<A> {
     {
         site == self.me && !self.is_late(0)
     }
+}
+
+/// Checks that behind this clock there is one for each byte of the runs, and one more.
+fn has_clocks<A: Allocator + Copy>(clock: u64, runs: &[Run<A>]) -> bool
+    ensures { result ≡ nat_lt (clock + sum_by (λ run. length run.bytes) (map run_in runs.now)) greatest }
+{
+    let mut last = clock;
+    'runs: for run in runs {
+        let Some(next) = last.checked_add(run.bytes.len() as u64) else {
+            return false;
+        };
+        last = next;
+    }
+    last < u64::MAX
 }
 
 /// An access waits while it would pass by what is mapped.

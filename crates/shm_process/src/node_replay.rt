@@ -1,10 +1,12 @@
 //! Restarts, and steps that are made again from what was recorded of them.
-ghost use Rattle.std.specs.Prelude.{◌≡◌, ◌<◌, false, is_some, max, option_map, unwrap_or, IfOk, IfSome, OnErr, OnOk};
+ghost use Rattle.std.specs.Prelude.{◌≡◌, ◌<◌, false, true, is_some, max, option_map, unwrap_or, IfOk, IfSome, OnErr, OnOk, Some};
 ghost use Rattle.shm_model.specs.Basics.{greatest};
-ghost use Rattle.shm_process.specs.Cause.{OfRestart};
+ghost use Rattle.shm_process.specs.Cause.{IsCause, OfRestart};
 ghost use Rattle.shm_process.specs.CauseOf.{cause_of};
 ghost use Rattle.shm_process.specs.Node.{stepped};
 ghost use Rattle.shm_process.specs.NodeOf.{heard_of, node_of, said_of};
+ghost use Rattle.shm_process.specs.Recorded.{entries_from, replayed_all, replayed_entry};
+ghost use Rattle.shm_process.specs.StepsOf.{steps_left};
 ghost use Rattle.shm_process.specs.Waiting.{after_restart, heard_again, replayed, said_restart};
 ghost use Rattle.shm_site.specs.Step.{input_of, is_foreign};
 
@@ -12,6 +14,7 @@ use crate::build_step_output::take_tag;
 use crate::interpreted_line::Heard;
 use crate::mapping_list::change_mapped;
 use crate::node::Node;
+use crate::recorded_steps::Steps;
 use crate::step_cause::Cause;
 use crate::step_output::Said;
 use shm_site::{Input, Made};
@@ -46,6 +49,34 @@ impl<A: Allocator + Copy> Node<A> {
             return Ok(false);
         }
         self.remake(heard)?;
+        Ok(true)
+    }
+
+    /// Makes all steps that an entry records. `false`: they can't be the site's next ones; then some of them may have been made.
+    pub fn replay_entry(&mut self, clock: u64, cause: Cause<A>) -> Result<bool, AllocError>
+        requires { IsCause (cause_of cause) }
+        ensures made { IfOk result (λ made. made ≡ is_some (replayed_entry (node_of self.old) (record { clock = clock; cause = cause_of cause }))) }
+        ensures after { IfOk result (λ made. made ≡ true → Some (node_of self.new) ≡ replayed_entry (node_of self.old) (record { clock = clock; cause = cause_of cause })) }
+    {
+        let mut steps = Steps::of(self.alloc, cause);
+        self.replay_steps(clock, &mut steps)
+    }
+
+    /// Makes these steps again, the first under this clock and each other one under the next.
+    fn replay_steps(&mut self, first: u64, steps: &mut Steps<A>) -> Result<bool, AllocError>
+        ensures made { IfOk result (λ made. made ≡ is_some (replayed_all (node_of self.old) (entries_from first (steps_left steps.old)))) }
+        ensures after { IfOk result (λ made. made ≡ true → Some (node_of self.new) ≡ replayed_all (node_of self.old) (entries_from first (steps_left steps.old))) }
+    {
+        let mut next = Some(first);
+        'steps: while let Some(cause) = steps.next() {
+            let Some(clock) = next else {
+                return Ok(false);
+            };
+            if !self.replay(clock, cause)? {
+                return Ok(false);
+            }
+            next = clock.checked_add(1);
+        }
         Ok(true)
     }
 

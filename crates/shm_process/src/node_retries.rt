@@ -18,7 +18,7 @@ use crate::retried_step::Again;
 use crate::waiting_ask::{Ended, WaitingAsk};
 use shm_model::Asked;
 use shm_site::{Answer, Input, Made, Site};
-use shm_wire::{Ask, Question, Tag};
+use shm_wire::Tag;
 use std::alloc::{AllocError, Allocator};
 
 impl<A: Allocator + Copy> Node<A> {
@@ -76,11 +76,6 @@ impl<A: Allocator + Copy> Node<A> {
         ensures after { IfOk result (λ again. IfSome again (λ a. node_of self.new ≡ again_at (node_of self.old) at)) }
         ensures refused { OnErr result (node_of self.new ≡ node_of self.old) }
     {
-        let ask = Ask {
-            site: self.me,
-            tag,
-            asked: Question::Access(asked),
-        };
         let clock = self.next_clock(0);
         let made = step_access(&mut self.site, Input::of(asked))?;
         if is_waiting(&made.answer) {
@@ -89,7 +84,7 @@ impl<A: Allocator + Copy> Node<A> {
         let stays = goes_on_at(self.waiting.as_slice(), at, &made.answer);
         let (told, block) = go_on_or_end(&mut self.waiting, at, stays, &made.answer);
         let said = self.say(clock, told, stays, made, block);
-        Ok(Some(Again { said, ask }))
+        Ok(Some(Again { said, tag, asked }))
     }
 }
 

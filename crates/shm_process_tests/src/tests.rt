@@ -46,7 +46,7 @@ fn take_line<A: Allocator + Copy>(
 
 /// What is said of a step of an ask that waited.
 fn said_again<A: Allocator + Copy>(again: Option<Again<A>>) -> Option<Said<A>> {
-    let Again { said, ask: _ } = again?;
+    let Again { said, .. } = again?;
     Some(said)
 }
 

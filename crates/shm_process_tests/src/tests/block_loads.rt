@@ -25,7 +25,7 @@ const NOTHING: Counts = Counts {
 
 /// The bytes are 7, 255, 0 and 16.
 #[test]
-fn a_block_is_told_once_and_recorded_byte_by_byte(rt: HostRuntime) -> Result<(), Fail> {
+fn a_block_is_told_once_and_recorded_in_one_entry(rt: HostRuntime) -> Result<(), Fail> {
     let mut desks = new_desks(rt.alloc(), 2)?;
     let exchanges = [
         Exchange {
@@ -38,9 +38,7 @@ fn a_block_is_told_once_and_recorded_byte_by_byte(rt: HostRuntime) -> Result<(),
             site: 0,
             lines: "ask 0 b read 0 5 4\n",
             output: "tell 0 b block B/8AEA==\n",
-            records: Records::All(
-                b"step 4 ask 0 b load 0 5\nstep 5 ask 0 b load 0 6\nstep 6 ask 0 b load 0 7\nstep 7 ask 0 b load 0 8\n",
-            ),
+            records: Records::All(b"step 4 ask 0 b read 0 5 4\n"),
         },
     ];
     assert_eq!(rt; first_astray(desks.as_mut_slice(), &exchanges)?, None);
@@ -102,9 +100,7 @@ fn over_two_pages<'a>(first: &'a str, second: &'a str) -> [Exchange<'a>; 7] {
             site: 2,
             lines: first,
             output: "env 2 0 5 1 0 confirm 0 0 1\nenv 2 1 8 4 0 ask 0 1 2 read\n",
-            records: Records::Ending(
-                b"\nstep 6 ask 2 b load 0 4094\nstep 7 ask 2 b load 0 4095\nstep 8 ask 2 b load 0 4096\n",
-            ),
+            records: Records::Ending(b"\nstep 6 ask 2 b read 0 4094 3\n"),
         },
         Exchange {
             site: 1,
@@ -116,9 +112,7 @@ fn over_two_pages<'a>(first: &'a str, second: &'a str) -> [Exchange<'a>; 7] {
             site: 2,
             lines: second,
             output: "env 2 1 11 5 0 confirm 0 1 1\ntell 2 b block AQIDAAU=\n",
-            records: Records::Ending(
-                b"\nstep 12 ask 2 b load 0 4096\nstep 13 ask 2 b load 0 4097\nstep 14 ask 2 b load 0 4098\n",
-            ),
+            records: Records::Ending(b"\nstep 12 ask 2 b read 0 4096 3\n"),
         },
     ]
 }

@@ -52,7 +52,7 @@ fn first_untold(
 
 /// The bytes are 7, 255, 0 and 16.
 #[test]
-fn a_block_is_stored_byte_by_byte_and_told_once(rt: HostRuntime) -> Result<(), Fail> {
+fn a_block_is_stored_and_told_once_and_recorded_in_one_entry(rt: HostRuntime) -> Result<(), Fail> {
     let mut desks = new_desks(rt.alloc(), 1)?;
     let Some(desk) = desks.get_mut(0) else {
         return Err(Fail::new("a desk"));
@@ -61,7 +61,7 @@ fn a_block_is_stored_byte_by_byte_and_told_once(rt: HostRuntime) -> Result<(), F
     assert_eq!(rt; desk.output(), "tell 0 a stored\n");
     assert_eq!(rt;
         desk.entries(),
-        b"step 1 ask 0 a store 0 5 7\nstep 2 ask 0 a store 0 6 255\nstep 3 ask 0 a store 0 7 0\nstep 4 ask 0 a store 0 8 16\n".as_slice()
+        b"step 1 ask 0 a write 0 5 B/8AEA==\n".as_slice()
     );
     assert_eq!(rt; counts(desks.as_slice(), 0), Some((4, 1, 0, 0)));
     Ok(())

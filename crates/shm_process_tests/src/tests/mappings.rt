@@ -52,7 +52,7 @@ fn a_held_hand<'a>(mapped: &'a str, given_up: &'a str, handed: &'a str) -> [Exch
             lines: "ask 0 m unmap 0 0 read 0 Bwg=\n",
             output: given_up,
             records: Records::All(
-                b"step 4 ask 0 m try-store 0 0 7\nstep 5 ask 0 m try-store 0 1 8\nstep 6 ask 0 m unmap 0 0 read\nstep 7 env 0 0 3 2 0 hand 0 0 1 read 1\n",
+                b"step 4 ask 0 m unmap 0 0 read 0 Bwg=\nstep 7 env 0 0 3 2 0 hand 0 0 1 read 1\n",
             ),
         },
         Exchange {

@@ -9,7 +9,8 @@ use Rattle.shm_wire.specs.TagOf.{tag_text}
 use Rattle.shm_process.specs.Access.{access_ask}
 use Rattle.shm_process.specs.AskOf.{ask_of}
 use Rattle.shm_process.specs.Cause.{OfLine}
-use Rattle.shm_process.specs.NodeOf.{node_of}
+use Rattle.shm_process.specs.Node.{Said}
+use Rattle.shm_process.specs.NodeOf.{node_of, said_of}
 use Rattle.shm_process.specs.WaitingAsks.{ask_in, goes_on}
 use Rattle.shm_process.proofs.Made.{IsMade, can_be, node_made, said_made}
 use Rattle.shm_process.proofs.node.Node.try_at.Goals as goal
@@ -43,10 +44,13 @@ returns-clause-said g c =
     c.goes_on_at-stays.ensures ∙ ap (λ asks. goes_on (ask_in (map ask_of asks) c.args.at) done.answer) c.as_slice.ensures.value in
     let told = option_map tag_text c.go_on_or_end-told.result.0 in
     let block = option_map (λ bytes. bytes.items) c.go_on_or_end-told.result.1 in
-    said_made node c.args.at c.args.asked input (site_of c.step_access.new.site) done.answer (map envelope_of done.sent.items) m _
+    let said = c.say-said.result in
+    let tag = tag_text c.args.tag in
+    let is = c.say-said.ensures.said (OfLine (stream.Ask (access_ask node.me tag c.args.asked))) in
+    ap (λ site. said_of (OfLine (stream.Ask (access_ask site tag c.args.asked))) said) (ap (λ (s : Said). s.site) is)
+    ∙ said_made node c.args.at c.args.asked input (site_of c.step_access.new.site) done.answer (map envelope_of done.sent.items) m _
     c.goes_on_at-stays.result told block c.next_clock-clock.result (tag_text c.args.tag) c.requires.tag stays c.go_on_or_end-told.ensures.tag
-    c.go_on_or_end-told.ensures.whole c.next_clock-clock.ensures
-    (c.say-said.ensures.said (OfLine (stream.Ask (access_ask node.me (tag_text c.args.tag) c.args.asked))))
+    c.go_on_or_end-told.ensures.whole c.next_clock-clock.ensures is
 
 pub returns-clause-after : goal.returns-clause-after
 returns-clause-after g c =
