@@ -1,5 +1,5 @@
 -- What a crash leaves in batches is what the next life begins with.
-use Rattle.std.proofs.Common.{◌≡◌, ◌⊎◌, ℕ, ◌+◌, List, [], ◌∷◌, ◌++◌, inl, inr, length, take, refl, ap, ap₂, sym, ◌∙◌, arith}
+use Rattle.std.proofs.Common.{◌≡◌, ◌⊎◌, ℕ, ◌+◌, List, [], ◌∷◌, ◌++◌, inl, inr, length, take, refl, ap, ap₂, sym, subst, ◌∙◌, arith}
 use Rattle.std.specs.List.{All, concat}
 use Rattle.std.proofs.lemmas.List.{length-append, take_all}
 use Rattle.std.proofs.lemmas.List.Elements.{All-append, All-head, All-tail}
@@ -7,7 +7,7 @@ use Rattle.shm_process.specs.Recorded.{Event}
 use Rattle.shm_journal.proofs.Leading.{counts-line}
 use Rattle.shm_journal.specs.Found.{bytes_of_lines, lines_behind, lines_of}
 use Rattle.shm_journal.specs.Lines.{Header}
-use Rattle.shm_journal.specs.Lives.{FindsLives, LeavesFront, journal_text}
+use Rattle.shm_journal.specs.Lives.{FindsLives, IsJournal, LeavesFront}
 use Rattle.shm_batches.proofs.WholeLemmas.{file_begins, lines_both, none_batch}
 use Rattle.shm_batches.specs.Whole.{whole_batches, whole_text}
 use Rattle.shm_batches.specs.Written.{IsBatch, IsPlain, lines_text}
@@ -51,15 +51,17 @@ none-long : (bytes : List ℕ) → length bytes ≡ 0 → bytes ≡ []
 none-long [] e = refl
 none-long (byte ∷ bytes) e = absurd (omega (arith, e))
 
-pub next_goes_on : (header : Header) (lives : List (List Event)) (file : List ℕ) → FindsLives header lives (whole_text file) → whole_text file ≡ journal_text header lives
-next_goes_on header lives file finds =
+pub next_goes_on : (header : Header) (lives : List (List Event)) (journal file : List ℕ) → FindsLives header lives journal (whole_text file)
+    → (whole_text file ≡ journal) × IsJournal header lives (whole_text file)
+next_goes_on header lives journal file finds =
     let text = whole_text file in
-    sym (take_all (length text) text (omega arith)) ∙ ap (λ n. take n text) (sym (all-counted file)) ∙ finds.whole
+    let same : text ≡ journal = sym (take_all (length text) text (omega arith)) ∙ ap (λ n. take n text) (sym (all-counted file)) ∙ finds.whole in
+    (same, subst (IsJournal header lives) (sym same) finds.is)
 
 pub next_begins : (header : Header) (durable file : List ℕ) → LeavesFront header durable (whole_text file)
-    → (whole_text file ≡ []) ⊎ (whole_text file ≡ journal_text header [])
+    → (whole_text file ≡ []) ⊎ IsJournal header [] (whole_text file)
 next_begins header durable file left = go left.whole
   where
-    go : (counted (whole_text file) ≡ 0) ⊎ (whole_text file ≡ journal_text header []) → (whole_text file ≡ []) ⊎ (whole_text file ≡ journal_text header [])
+    go : (counted (whole_text file) ≡ 0) ⊎ IsJournal header [] (whole_text file) → (whole_text file ≡ []) ⊎ IsJournal header [] (whole_text file)
     go (inl none) = inl (none-long (whole_text file) (sym (all-counted file) ∙ none))
     go (inr all) = inr all

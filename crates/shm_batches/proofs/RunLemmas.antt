@@ -1,17 +1,17 @@
 -- Each text that a process appends to its journal, and makes durable, is a batch.
 use Rattle.std.proofs.Common.{◌≡◌, ◌⊎◌, ℕ, false, List, [], ◌∷◌, ◌++◌, Ok, Err, take, refl, ap, sym, subst, ◌∙◌, append-nil, append_assoc}
 use Rattle.std.specs.List.{All, concat}
-use Rattle.std.specs.Prelude.{Result}
+use Rattle.std.specs.Prelude.{None, Result}
 use Rattle.std.proofs.lemmas.List.Elements.{All-append, All-cons, All-head, All-nil, All-push, All-tail}
 use Rattle.shm_process.proofs.Proper as proper
 use Rattle.shm_process.specs.Desk.{Desk, cleared, on_bytes, restarted}
 use Rattle.shm_process.specs.Node.{Node, is_late}
-use Rattle.shm_process.specs.Recorded.{Entry, Event, entries_of, entries_text, entry_line}
+use Rattle.shm_process.specs.Recorded.{Entry, Event, entries_text, entry_line}
 use Rattle.shm_process.specs.declared.process_counts.Start.{Start}
 use Rattle.shm_seal.specs.Seal.{Seal}
 use Rattle.shm_journal.proofs.CrashLemmas.{head-of, tail-of}
-use Rattle.shm_journal.proofs.DeskLives.{KeepsTaken, Took, keeps_none, line_bytes, line_restart, took_bytes, took_restart}
-use Rattle.shm_journal.proofs.EntriesFit.{AreFit, events_fit, lives_sound, opened_sound}
+use Rattle.shm_journal.proofs.DeskLives.{KeepsTaken, Took, keeps_none, line_bytes, line_restart, took_bytes, took_life, took_restart}
+use Rattle.shm_journal.proofs.EntriesFit.{AreFit, entries_fit, lives_sound, opened_sound}
 use Rattle.shm_journal.proofs.Fits.{IsNoFeed, fits-header}
 use Rattle.shm_journal.proofs.Leaving.{leaves_new_sound, leaves_sound}
 use Rattle.shm_journal.specs.Acts.{Act, Append, IsRun, Read, Sync, Tell, keeping, publishing, run, serving, telling}
@@ -21,7 +21,7 @@ use Rattle.shm_journal.specs.DeskFrom.{greeting_from, with_header}
 use Rattle.shm_journal.specs.Found.{opened}
 use Rattle.shm_journal.specs.Lines.{Header, IsHeader, header_line}
 use Rattle.shm_journal.specs.LinesOf.{Unended}
-use Rattle.shm_journal.specs.Lives.{AreTaken, LeavesFront, LeavesLife, after_lives, journal_text}
+use Rattle.shm_journal.specs.Lives.{IsJournal, IsLife, LeavesFront, LeavesLife, after_lives}
 use Rattle.shm_journal.specs.declared.process_error.ProcessFault.{ProcessFault}
 use Rattle.shm_journal.specs.declared.process_error.ProcessFault.TheVariants.{JournalFault, OutOfMemory, ReadFault, WriteFault}
 use Rattle.shm_batches.proofs.CrashLemmas.{acts_lines, leaves_batches}
@@ -131,13 +131,15 @@ header-batch header is =
 
 -- what a desk has recorded of further events
 took-batch : (old new : Desk) → Took old new → old.recorded ≡ [] → proper.Sound old.node → IsBatch new.recorded
-took-batch old new t none sound =
-    let entries = entries_of old.node t.events in
-    subst IsBatch (sym (t.recorded ∙ ap (λ r. r ++ entries_text entries) none)) (entries-batch entries (events_fit t.events old.node sound t.are))
+took-batch old new t none sound = life-batch old.node t.events new.recorded (took_life old new t none sound)
+  where
+    life-batch : (node : Node) (life : List Event) (text : List ℕ) → IsLife node life text → IsBatch text
+    life-batch node life text is = subst IsBatch (sym is.is) (entries-batch is.entries (entries_fit is.entries is.are is.taken))
 
 -- it holds nothing
 record IsFree (desk : Desk) : Type 0 where
   pub none : desk.recorded ≡ []
+  pub row : desk.row ≡ None
   pub unended : Unended desk.line
   pub kept : KeepsTaken desk.kept
   pub sound : proper.Sound desk.node
@@ -147,9 +149,9 @@ unfolding serving
 adds-serving [] desk free = All-nil Adds
 adds-serving (bytes ∷ reads) desk free =
     let next = on_bytes desk bytes in
-    let t = took_bytes bytes desk free.unended free.kept in
+    let t = took_bytes bytes desk free.unended free.kept free.row in
     let sound : proper.Sound next.node = subst proper.Sound (sym t.node) (proper.events-sound t.events desk.node free.sound) in
-    let more = adds-serving reads (cleared next) (record { none = refl; unended = line_bytes bytes desk free.unended; kept = t.kept; sound = sound }) in
+    let more = adds-serving reads (cleared next) (record { none = refl; row = t.tidy.1; unended = line_bytes bytes desk free.unended; kept = t.tidy.0; sound = sound }) in
     All-cons Adds (Read bytes) (publishing next ++ serving (cleared next) reads) tt
     (All-append Adds (publishing next) (serving (cleared next) reads) (adds-publishing next (took-batch desk next t free.none free.sound)) more)
 
@@ -165,8 +167,9 @@ adds-restarted header seal node start sound early reads =
     (
     record {
       none = refl;
+      row = t.tidy.1;
       unended = line_restart header seal node start;
-      kept = t.kept;
+      kept = t.tidy.0;
       sound = subst proper.Sound (sym t.node) (proper.events-sound t.events node sound);
     }
     )
@@ -175,7 +178,7 @@ adds-new : (header : Header) (seal : Seal) (start : Start) → IsHeader header �
     → All Adds (run (with_header header (greeting_from header seal (opened header) start)) reads)
 adds-new header seal start is reads =
     adds-run reads (with_header header (greeting_from header seal (opened header) start)) (header-batch header is)
-    (record { none = refl; unended = All-nil IsNoFeed; kept = keeps_none; sound = opened_sound header })
+    (record { none = refl; row = refl; unended = All-nil IsNoFeed; kept = keeps_none; sound = opened_sound header })
 
 -- ---- a life
 
@@ -186,19 +189,19 @@ holds-begun texts are = record { durable = are; loose = All-nil IsBatch }
 lines-then : (texts : List (List ℕ)) (text : List ℕ) (before : List Act) → concat texts ≡ text → in_lines (after_acts (begun texts) before) ≡ journal.after_acts (disk_of text) before
 lines-then texts text before e = acts_lines before (begun texts) ∙ ap (λ t. journal.after_acts (disk_of t) before) e
 
-pub leaves_whole : (header : Header) (lives : List (List Event)) (texts : List (List ℕ)) → IsHeader header → AreTaken lives
-    → is_late (after_lives (opened header) lives) 0 ≡ false → All IsBatch texts → concat texts ≡ journal_text header lives → LeavesWhole header lives texts
-leaves_whole header lives texts is taken early are text seal start result acts before after file ran e may =
+pub leaves_whole : (header : Header) (lives : List (List Event)) (texts : List (List ℕ)) → IsHeader header → IsJournal header lives (concat texts)
+    → is_late (after_lives (opened header) lives) 0 ≡ false → All IsBatch texts → LeavesWhole header lives texts
+leaves_whole header lives texts is lived early are seal start result acts before after file ran e may =
     let node = after_lives (opened header) lives in
     let disk = after_acts (begun texts) before in
-    let then = lines-then texts (journal_text header lives) before text in
+    let then = lines-then texts (concat texts) before refl in
     let all = adds-restarted header seal node start (lives_sound lives (opened header) (opened_sound header)) early in
     let durable = moment-run (restarted (greeting_from header seal node start)) (begun texts) (holds-begun texts are) all result acts before after ran e in
     let left = leaves_batches disk file durable may in
     let lines = subst (λ d. MayLeave d (whole_text file)) then left.lines in (
       left,
       subst (λ (d : journal.Disk). LeavesLife header lives d.durable (whole_text file)) (sym then)
-          (leaves_sound header lives is taken early seal start result acts before after (whole_text file) ran e lines),
+          (leaves_sound header lives (concat texts) is lived early seal start result acts before after (whole_text file) ran e lines),
     )
 
 pub leaves_new_whole : (header : Header) (texts : List (List ℕ)) → IsHeader header → All IsBatch texts → concat texts ≡ [] → LeavesNewWhole header texts

@@ -5,7 +5,7 @@ ghost use Rattle.shm_process.specs.Node.{is_late};
 ghost use Rattle.shm_process.specs.Recorded.{Event};
 ghost use Rattle.shm_journal.specs.Found.{opened};
 ghost use Rattle.shm_journal.specs.Lines.{Header, IsHeader};
-ghost use Rattle.shm_journal.specs.Lives.{AreTaken, FindsLives, LeavesFront, after_lives, journal_text};
+ghost use Rattle.shm_journal.specs.Lives.{FindsLives, IsJournal, LeavesFront, after_lives};
 ghost use Rattle.shm_batches.specs.BatchCrash.{Disk, LeavesBatches, MayLeaveFile, Unforged};
 ghost use Rattle.shm_batches.specs.BatchLives.{LeavesNewWhole, LeavesWhole};
 ghost use Rattle.shm_batches.specs.Chain.{Chain, Collision, chain_after, entries_at_end, file_text, is_marked, mark_line, unmarked};
@@ -60,16 +60,15 @@ pub fn a_cut_is_not_forged()
 pub fn a_crash_leaves_whole_batches()
     ensures begun { (header : Header) (texts : List (List ℕ)) → IsHeader header → All IsBatch texts → concat texts ≡ []
         → LeavesNewWhole header texts }
-    ensures goes_on { (header : Header) (lives : List (List Event)) (texts : List (List ℕ)) → IsHeader header → AreTaken lives
-        → is_late (after_lives (opened header) lives) 0 ≡ false → All IsBatch texts → concat texts ≡ journal_text header lives
-        → LeavesWhole header lives texts }
+    ensures goes_on { (header : Header) (lives : List (List Event)) (texts : List (List ℕ)) → IsHeader header → IsJournal header lives (concat texts)
+        → is_late (after_lives (opened header) lives) 0 ≡ false → All IsBatch texts → LeavesWhole header lives texts }
 {}
 
 /// With that the next life begins: a file's whole batches may be written, and where their lines are a sound journal nothing of it is torn.
 pub fn the_next_life_begins_with_whole_batches()
     ensures batches { (file : List ℕ) → All IsBatch (whole_batches file) }
     ensures begun { (header : Header) (durable file : List ℕ) → LeavesFront header durable (whole_text file)
-        → (whole_text file ≡ []) ⊎ (whole_text file ≡ journal_text header []) }
-    ensures goes_on { (header : Header) (lives : List (List Event)) (file : List ℕ) → FindsLives header lives (whole_text file)
-        → whole_text file ≡ journal_text header lives }
+        → (whole_text file ≡ []) ⊎ IsJournal header [] (whole_text file) }
+    ensures goes_on { (header : Header) (lives : List (List Event)) (journal file : List ℕ) → FindsLives header lives journal (whole_text file)
+        → (whole_text file ≡ journal) × IsJournal header lives (whole_text file) }
 {}

@@ -2,6 +2,7 @@
 use Rattle.std.proofs.Common.{◌≡◌, ◌⊎◌, ℕ, List, [], ◌∷◌, ◌++◌, inl, inr, refl, ap, sym, subst, ◌∙◌, append-nil}
 use Rattle.std.proofs.lemmas.List.{append_assoc}
 use Rattle.shm_process.proofs.DeskLemmas.{gone_on}
+use Rattle.shm_process.proofs.Recording.{did_events}
 use Rattle.shm_process.specs.Desk.{Desk, cleared, on_bytes}
 use Rattle.shm_journal.proofs.ActLemmas.{kept-silent, published-told, told_in-append}
 use Rattle.shm_journal.specs.Acts.{Act, Append, Read, Sync, Tell, keeping, publishing, serving, telling, told_in}
@@ -68,6 +69,7 @@ is-kept first file told bytes disk t d = record {
   told_of = t;
   durable = ap (λ (disk : Disk). disk.durable) d;
   settled = ap (λ (disk : Disk). disk.loose) d;
+  closed = λ none. (did_events first bytes none).row;
 }
 
 pub published-disk : (desk : Desk) (durable : List ℕ) → after_acts (disk_of durable) (publishing desk) ≡ disk_of (durable ++ desk.recorded)

@@ -1,24 +1,15 @@
 -- Each entry of what a site did has a line that a journal may have.
-use Rattle.std.proofs.Common.{◌≡◌, ℕ, Bool, true, false, List, [], ◌∷◌, Option, Some, None, cond, refl, sym, ap, subst}
+use Rattle.std.proofs.Common.{◌≡◌, List, [], ◌∷◌, Option, Some, None, refl}
 use Rattle.std.specs.List.{All}
-use Rattle.std.specs.Prelude.{option_map}
-use Rattle.std.proofs.lemmas.List.Elements.{All-head, All-nil, All-tail}
-use Rattle.shm_lines.proofs.StepLemmas.{some-is}
-use Rattle.shm_wire.proofs.LineWords.{line-is_spelled}
-use Rattle.shm_wire.specs.Line as stream
-use Rattle.shm_wire.specs.Line.{read_line}
+use Rattle.std.proofs.lemmas.List.Elements.{All-cons, All-head, All-nil, All-tail}
 use Rattle.shm_process.proofs.Proper as proper
 use Rattle.shm_process.proofs.Proper.{IsProper}
-use Rattle.shm_process.specs.Cause.{IsCause, OfLine, cause_text}
-use Rattle.shm_process.specs.Desk.{max_line_bytes}
-use Rattle.shm_process.specs.Node.{Heard, Node, Said, heard, is_late, says}
-use Rattle.shm_process.specs.Recorded.{Entry, Event, Line, TooLong, Again, Restarted, IsEntry, after_event, after_events, entries_of, entry_line, entry_of, kept, recorded, said_at}
-use Rattle.shm_process.specs.Waiting.{joins, next_line, ready, said_read, said_restart, says_at}
-use Rattle.shm_process.specs.WaitingAsks.{ask_in, next_access, tag_of}
-use Rattle.shm_journal.proofs.Fits.{Fits, fits-access, fits-entry, fits-restart}
+use Rattle.shm_process.specs.Node.{Node, Said}
+use Rattle.shm_process.specs.Recorded.{Entry, Event, IsEntry, after_event, after_events, entries_of, entry_line, entry_of, kept, recorded, said_at}
+use Rattle.shm_journal.proofs.Fits.{Fits, fits-entry}
 use Rattle.shm_journal.specs.Found.{max_journal_line, opened}
 use Rattle.shm_journal.specs.Lines.{Header}
-use Rattle.shm_journal.specs.Lives.{IsTaken, after_lives}
+use Rattle.shm_journal.specs.Lives.{IsOfTaken, after_lives}
 
 abbrev pub IsFit : Entry → Type 0
 IsFit entry = IsEntry entry × Fits max_journal_line (entry_line entry)
@@ -27,58 +18,27 @@ abbrev pub AreFit : List Entry → Type 0
 AreFit [] = Unit {0}
 AreFit (entry ∷ entries) = IsFit entry × AreFit entries
 
--- ---- the text of what made a step
+pub entries_fit : (entries : List Entry) → All IsEntry entries → All IsOfTaken entries → AreFit entries
+entries_fit [] are taken = tt
+entries_fit (entry ∷ entries) are taken =
+    let is = All-head IsEntry entry entries are in
+    let text = All-head IsOfTaken entry entries taken in (
+      (is, fits-entry entry is.0 (record { unended = text.0; short = text.1 })),
+      entries_fit entries (All-tail IsEntry entry entries are) (All-tail IsOfTaken entry entries taken),
+    )
 
-abbrev TextFits : Said → Type 0
-TextFits said = Fits max_line_bytes (cause_text said.cause)
+-- ---- the steps of a life
 
-line-cause : (node : Node) (line : stream.Line) (o : Option Heard) (said : Said) → option_map (λ h. says node (OfLine line) h (joins node h)) o ≡ Some said
-    → OfLine line ≡ said.cause
-line-cause node line None said made = absurd (cc)
-line-cause node line (Some h) said made = ap (λ (s : Said). s.cause) (some-is (says node (OfLine line) h (joins node h)) said made)
+with-step : (said : Option Said) (steps : List Entry) → ((s : Said) → said ≡ Some s → IsEntry (entry_of s)) → All IsEntry steps → All IsEntry (recorded said steps)
+with-step None steps is all = all
+with-step (Some said) steps is all = All-cons IsEntry (entry_of said) steps (is said refl) all
 
-read-text : (node : Node) (bytes : List ℕ) (read : Option stream.Line) (said : Said) → read_line bytes ≡ read → Fits max_line_bytes bytes
-    → said_read node read ≡ Some said → TextFits said
-read-text node bytes None said e fits made = absurd (cc)
-read-text node bytes (Some line) said e fits made =
-    subst (λ c. Fits max_line_bytes (cause_text c)) (line-cause node line (heard node line) said made)
-    (subst (Fits max_line_bytes) ((line-is_spelled bytes line e).1) fits)
-
-again-text : (node : Node) (p : Option ℕ) (said : Said) → option_map (says_at node) p ≡ Some said → IsCause said.cause → TextFits said
-again-text node None said made is = absurd (cc)
-again-text node (Some at) said made is =
-    let ask = ask_in node.waiting at in
-    let cause : OfLine (next_line node.me ask) ≡ said.cause = ap (λ (s : Said). s.cause) (some-is (says_at node at) said made) in
-    subst (λ c. Fits max_line_bytes (cause_text c)) cause (fits-access node.me (tag_of ask) (next_access ask) (subst IsCause (sym cause) is))
-
-restart-text : (node : Node) (late : Bool) (said : Said) → cond late None (Some (said_restart node)) ≡ Some said → TextFits said
-restart-text node true said made = absurd (cc)
-restart-text node false said made =
-    subst (λ c. Fits max_line_bytes (cause_text c)) (ap (λ (s : Said). s.cause) (some-is (said_restart node) said made)) fits-restart
-
-text-fits : (node : Node) (event : Event) (said : Said) → IsTaken event → IsCause said.cause → said_at node event ≡ Some said → TextFits said
-text-fits node (Line bytes) said taken is made = read-text node bytes (read_line bytes) said refl (record { unended = taken.0; short = taken.1 }) made
-text-fits node TooLong said taken is made = absurd (cc)
-text-fits node Again said taken is made = again-text node (ready node) said made is
-text-fits node Restarted said taken is made = restart-text node (is_late node 0) said made
-
--- ---- what is recorded
-
-event-fit : (node : Node) (event : Event) (said : Said) → proper.Sound node → IsTaken event → said_at node event ≡ Some said → IsFit (entry_of said)
-event-fit node event said sound taken made =
-    let is : IsEntry (entry_of said) = proper.event-entry node event said sound made in
-    (is, fits-entry (entry_of said) is.0 (text-fits node event said taken is.1 made))
-
-with-fit : (said : Option Said) (entries : List Entry) → ((s : Said) → said ≡ Some s → IsFit (entry_of s)) → AreFit entries → AreFit (recorded said entries)
-with-fit None entries is all = all
-with-fit (Some said) entries is all = (is said refl, all)
-
-pub events_fit : (events : List Event) (node : Node) → proper.Sound node → All IsTaken events → AreFit (entries_of node events)
-events_fit [] node sound taken = tt
-events_fit (event ∷ events) node sound taken =
-    with-fit (said_at node event) (entries_of (after_event node event) events)
-    (λ said made. event-fit node event said sound (All-head IsTaken event events taken) made)
-    (events_fit events (after_event node event) (proper.event-sound node event sound) (All-tail IsTaken event events taken))
+-- each has a line
+pub steps_are : (events : List Event) (node : Node) → proper.Sound node → All IsEntry (entries_of node events)
+steps_are [] node sound = All-nil IsEntry
+steps_are (event ∷ events) node sound =
+    with-step (said_at node event) (entries_of (after_event node event) events) (λ said made. proper.event-entry node event said sound made)
+    (steps_are events (after_event node event) (proper.event-sound node event sound))
 
 -- ---- life after life
 

@@ -25,9 +25,10 @@ use Rattle.shm_wire.specs.Tag.{IsTag}
 use Rattle.shm_wire.specs.Unmaps.{IsUnmap, UnmapAsk}
 use Rattle.shm_process.specs.Access.{access_ask}
 use Rattle.shm_process.specs.Cause.{cause_text}
+use Rattle.shm_process.specs.Causes.{bare}
 use Rattle.shm_process.specs.Desk.{max_line_bytes}
 use Rattle.shm_process.specs.Recorded.{Entry, entry_line}
-use Rattle.shm_process.proofs.DeskEvents.{bare, trying}
+use Rattle.shm_process.proofs.DeskEvents.{trying}
 use Rattle.shm_journal.specs.Found.{max_journal_line}
 use Rattle.shm_journal.specs.Lines.{Header, IsHeader, cluster_words, header_line}
 use Rattle.shm_seal.specs.Name.{IsName}
@@ -55,12 +56,12 @@ fits-more a b xs h f = record { unended = f.unended; short = omega (arith, h, f.
 fits-behind_blank : (b : ℕ) (xs : List ℕ) → Fits b xs → Fits (b + 1) (32 ∷ xs)
 fits-behind_blank b xs f = record { unended = All-cons IsNoFeed 32 xs refl f.unended; short = omega (arith, f.short) }
 
-fits-word : (a b : ℕ) (word rest : List ℕ) → Fits a word → Fits b rest → Fits (a + (b + 1)) (word ++ 32 ∷ rest)
+pub fits-word : (a b : ℕ) (word rest : List ℕ) → Fits a word → Fits b rest → Fits (a + (b + 1)) (word ++ 32 ∷ rest)
 fits-word a b word rest f g = fits-both a (b + 1) word (32 ∷ rest) f (fits-behind_blank b rest g)
 
 -- ---- words
 
-abbrev has_no_feed : List ℕ → Bool
+abbrev pub has_no_feed : List ℕ → Bool
 has_no_feed [] = true
 has_no_feed (x ∷ xs) = not (x == 10) && has_no_feed xs
 
@@ -68,13 +69,13 @@ both-so : (a b : Bool) → (not a && b) ≡ true → (a ≡ false) × (b ≡ tru
 both-so true b e = absurd (cc)
 both-so false b e = (refl, e)
 
-unended-test : (word : List ℕ) → has_no_feed word ≡ true → Unended word
-unended-test [] h = All-nil IsNoFeed
-unended-test (x ∷ xs) h = let p = both-so (x == 10) (has_no_feed xs) h in All-cons IsNoFeed x xs p.0 (unended-test xs p.1)
+pub unended_test : (word : List ℕ) → has_no_feed word ≡ true → Unended word
+unended_test [] h = All-nil IsNoFeed
+unended_test (x ∷ xs) h = let p = both-so (x == 10) (has_no_feed xs) h in All-cons IsNoFeed x xs p.0 (unended_test xs p.1)
 
 -- a word that is written out
-fits-text : (word : List ℕ) → has_no_feed word ≡ true → Fits (length word) word
-fits-text word h = record { unended = unended-test word h; short = omega arith }
+pub fits-text : (word : List ℕ) → has_no_feed word ≡ true → Fits (length word) word
+fits-text word h = record { unended = unended_test word h; short = omega arith }
 
 own : IsNumeralModel (λ ds. list_all is_ascii_digit ds ≡ true) (digits_value 10)
 own = numerals_by_value (λ ds. list_all is_ascii_digit ds ≡ true) (search rules)
@@ -91,7 +92,7 @@ fits-wide n h = record {
 wide-number : (n : ℕ) → IsNumber n → IsWide n
 wide-number n h = omega (arith, h)
 
-fits-number : (n : ℕ) → IsNumber n → Fits 20 (decimal n)
+pub fits-number : (n : ℕ) → IsNumber n → Fits 20 (decimal n)
 fits-number n h = fits-wide n (wide-number n h)
 
 graphic-is_no_feed : (c : ℕ) → is_ascii_graphic c ≡ true → (c == 10) ≡ false
@@ -106,7 +107,7 @@ tag-parts false b c h = absurd (cc)
 few : (n : ℕ) → nat_lt n 33 ≡ true → n ≤ 32
 few n h = grind (arith, nat_tests)
 
-fits-tag : (tag : List ℕ) → IsTag tag → Fits 32 tag
+pub fits-tag : (tag : List ℕ) → IsTag tag → Fits 32 tag
 fits-tag tag h =
     let p = tag-parts (nat_lt 0 (length tag)) (nat_lt (length tag) 33) (list_all is_ascii_graphic tag) h in
     record {
@@ -206,7 +207,7 @@ fits-unmap ask h = fits-kept ask.site ask.tag ask.at ask.index ask.keeps h.0 h.1
 pub fits-restart : Fits max_line_bytes (codes "restart")
 fits-restart = fits-more 7 max_line_bytes (codes "restart") (omega arith) (fits-text (codes "restart") refl)
 
--- what records a step that was made by a text of a line's length
+-- what records steps that were made by a text of a line's length
 pub fits-entry : (entry : Entry) → IsWide entry.clock → Fits max_line_bytes (cause_text entry.cause) → Fits max_journal_line (entry_line entry)
 fits-entry entry clock text =
     fits-both 5 8213 (codes "step ") (decimal entry.clock ++ 32 ∷ cause_text entry.cause) (fits-text (codes "step ") refl)

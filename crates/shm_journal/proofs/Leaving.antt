@@ -1,34 +1,34 @@
 -- What a crash leaves of a journal, at each moment of a life.
-use Rattle.std.proofs.Common.{◌≡◌, ◌≤◌, ◌<◌, ◌⊎◌, inl, inr, ℕ, zero, suc, ◌+◌, false, List, [], ◌∷◌, ◌++◌, Ok, Err, cond, length, take, refl, sym, ap, ap₂, subst, ◌∙◌, append-nil, append_assoc, arith}
+use Rattle.std.proofs.Common.{◌≡◌, ◌≤◌, ◌<◌, ◌⊎◌, inl, inr, ℕ, zero, suc, false, List, [], ◌∷◌, ◌++◌, Ok, Err, cond, length, take, refl, sym, ap, subst, ◌∙◌, append-nil, append_assoc, arith}
 use Rattle.std.specs.List.{All}
-use Rattle.std.specs.Prelude.{Result}
+use Rattle.std.specs.Prelude.{None, Result}
 use Rattle.std.proofs.lemmas.Bool.{cases_lt}
 use Rattle.std.proofs.lemmas.List.{length-append, length-take-le, take-append-le, take_all}
 use Rattle.std.proofs.Math.Seq.{take-nil}
-use Rattle.std.proofs.lemmas.List.Elements.{All-append, All-nil, All-push, All-take}
+use Rattle.std.proofs.lemmas.List.Elements.{All-append, All-nil, All-take}
 use Rattle.std.proofs.lemmas.Slice.Eq.{bytes_eq-Decides}
-use Rattle.shm_process.proofs.Events.{after-both, text_both}
+use Rattle.shm_process.proofs.Events.{after-both}
 use Rattle.shm_process.proofs.Proper as proper
 use Rattle.shm_process.specs.Desk.{Desk, cleared, on_bytes, restarted}
 use Rattle.shm_process.specs.declared.process_counts.Start.{Start}
 use Rattle.shm_process.specs.Node.{Node, is_late}
-use Rattle.shm_process.specs.Recorded.{Event, after_events, kept}
+use Rattle.shm_process.specs.Recorded.{Event, after_events}
 use Rattle.shm_seal.specs.Seal.{Seal}
 use Rattle.shm_journal.proofs.CrashLemmas.{head-of, kept-disk, published-disk, tail-of}
-use Rattle.shm_journal.proofs.DeskLives.{KeepsTaken, Took, keeps_none, line_bytes, line_restart, took_bytes, took_restart}
-use Rattle.shm_journal.proofs.EntriesFit.{events_fit, lives_sound, opened_sound}
+use Rattle.shm_journal.proofs.DeskLives.{KeepsTaken, Took, keeps_none, line_bytes, line_restart, took_bytes, took_life, took_restart}
+use Rattle.shm_journal.proofs.EntriesFit.{lives_sound, opened_sound}
 use Rattle.shm_journal.proofs.Fits.{Fits, IsNoFeed, fits-header}
 use Rattle.shm_journal.proofs.Leading.{alone-says, line_is_torn}
-use Rattle.shm_journal.proofs.Lives.{Cut, cut_life, finds_lives, finds_whole, text_of}
+use Rattle.shm_journal.proofs.Lives.{Cut, cut_life, finds_lives, finds_whole, journal_last, life_begins, life_both}
 use Rattle.shm_journal.specs.Acts.{Act, Append, IsRun, Read, Tell, keeping, publishing, run, serving, telling}
 use Rattle.shm_journal.specs.Crash.{Disk, MayLeave, after_act, after_acts, disk_of}
 use Rattle.shm_journal.specs.DeskFrom.{greeting_from, with_header}
-use Rattle.shm_journal.specs.Found.{Bad, Lines, Sound, bytes_of_lines, found, max_journal_line, opened, own}
+use Rattle.shm_journal.specs.Found.{Bad, Lines, Sound, bytes_of_lines, max_journal_line, opened, own}
 use Rattle.shm_journal.specs.Lines.{Header, IsHeader, header_line}
 use Rattle.shm_journal.specs.LinesOf.{Unended}
 use Rattle.shm_journal.specs.declared.process_error.ProcessFault.{ProcessFault}
 use Rattle.shm_journal.specs.declared.process_error.ProcessFault.TheVariants.{JournalFault, OutOfMemory, ReadFault, WriteFault}
-use Rattle.shm_journal.specs.Lives.{AreTaken, FindsLives, IsTaken, LeavesFront, LeavesLife, LeavesNewSound, LeavesSound, after_lives, journal_text, lives_text}
+use Rattle.shm_journal.specs.Lives.{FindsLives, IsJournal, IsLife, IsTaken, LeavesFront, LeavesLife, LeavesNewSound, LeavesSound, after_lives, header_text}
 
 -- ---- at each moment
 
@@ -141,121 +141,130 @@ record OnDisk (node : Node) (file : List ℕ) (disk : Disk) : Type 0 where
   pub next : List Event
   pub life_taken : All IsTaken life
   pub next_taken : All IsTaken next
-  pub durable : disk.durable ≡ file ++ text_of node life
-  pub loose : disk.loose ≡ text_of (after_events node life) next
+  pub text : List ℕ
+  pub durable : disk.durable ≡ file ++ text
+  pub is : IsLife node life text
+  pub later : IsLife (after_events node life) next disk.loose
 
-on-disk : (node : Node) (file : List ℕ) (life : List Event) → All IsTaken life → OnDisk node file (disk_of (file ++ text_of node life))
-on-disk node file life taken =
-    record { life = life; next = []; life_taken = taken; next_taken = All-nil IsTaken; durable = refl; loose = refl }
-
-grown-text : (node : Node) (file : List ℕ) (life next : List Event) → (file ++ text_of node life) ++ text_of (after_events node life) next ≡ file ++ text_of node (life ++ next)
-grown-text node file life next =
-    append_assoc file (text_of node life) (text_of (after_events node life) next) ∙ ap (λ t. file ++ t) (sym (text_both life next node))
+on-disk : (node : Node) (file text : List ℕ) (life : List Event) → All IsTaken life → IsLife node life text → OnDisk node file (disk_of (file ++ text))
+on-disk node file text life taken is = record {
+  life = life;
+  next = [];
+  life_taken = taken;
+  next_taken = All-nil IsTaken;
+  text = text;
+  durable = refl;
+  is = is;
+  later = life_begins (after_events node life);
+}
 
 -- what a desk has recorded of further events is published
-at-published : (node : Node) (file : List ℕ) (life next : List Event) (desk : Desk) → All IsTaken life → All IsTaken next
-    → desk.recorded ≡ text_of (after_events node life) next → AtAll (OnDisk node file) (disk_of (file ++ text_of node life)) (publishing desk)
-at-published node file life next desk taken more e =
-    at-publishing (OnDisk node file) desk (file ++ text_of node life) (on-disk node file life taken)
-    (record { life = life; next = next; life_taken = taken; next_taken = more; durable = refl; loose = e })
+at-published : (node : Node) (file text : List ℕ) (life next : List Event) (desk : Desk) → All IsTaken life → All IsTaken next → IsLife node life text
+    → IsLife (after_events node life) next desk.recorded → AtAll (OnDisk node file) (disk_of (file ++ text)) (publishing desk)
+at-published node file text life next desk taken more is later =
+    at-publishing (OnDisk node file) desk (file ++ text) (on-disk node file text life taken is)
+    (record { life = life; next = next; life_taken = taken; next_taken = more; text = text; durable = refl; is = is; later = later })
     (
-    subst (λ t. OnDisk node file (disk_of t)) (sym (ap (λ r. (file ++ text_of node life) ++ r) e ∙ grown-text node file life next))
-    (on-disk node file (life ++ next) (All-append IsTaken life next taken more))
+    subst (λ t. OnDisk node file (disk_of t)) (sym (append_assoc file text desk.recorded))
+    (on-disk node file (text ++ desk.recorded) (life ++ next) (All-append IsTaken life next taken more) (life_both node life next text desk.recorded is later))
     )
 
-published-text : (node : Node) (file : List ℕ) (life next : List Event) (desk : Desk) → desk.recorded ≡ text_of (after_events node life) next
-    → after_acts (disk_of (file ++ text_of node life)) (publishing desk) ≡ disk_of (file ++ text_of node (life ++ next))
-published-text node file life next desk e =
-    published-disk desk (file ++ text_of node life)
-    ∙ ap disk_of (ap (λ r. (file ++ text_of node life) ++ r) e ∙ grown-text node file life next)
+published-text : (file text : List ℕ) (desk : Desk) → after_acts (disk_of (file ++ text)) (publishing desk) ≡ disk_of (file ++ (text ++ desk.recorded))
+published-text file text desk = published-disk desk (file ++ text) ∙ ap disk_of (append_assoc file text desk.recorded)
 
-at-serving : (reads : List (List ℕ)) (node : Node) (file : List ℕ) (life : List Event) (desk : Desk) → All IsTaken life → desk.node ≡ after_events node life
-    → desk.recorded ≡ [] → Unended desk.line → KeepsTaken desk.kept → AtAll (OnDisk node file) (disk_of (file ++ text_of node life)) (serving desk reads)
+-- a desk that has published what its node did since the life began
+record Stands (node : Node) (life : List Event) (text : List ℕ) (desk : Desk) : Type 0 where
+  pub taken : All IsTaken life
+  pub is : IsLife node life text
+  pub same : desk.node ≡ after_events node life
+  pub none : desk.recorded ≡ []
+  pub row : desk.row ≡ None
+  pub unended : Unended desk.line
+  pub held : KeepsTaken desk.kept
+
+at-serving : (reads : List (List ℕ)) (node : Node) (file text : List ℕ) (life : List Event) (desk : Desk) → proper.Sound node → Stands node life text desk
+    → AtAll (OnDisk node file) (disk_of (file ++ text)) (serving desk reads)
 unfolding AtAll serving
-at-serving [] node file life desk taken same none unended held = on-disk node file life taken
-at-serving (bytes ∷ reads) node file life desk taken same none unended held =
+at-serving [] node file text life desk sound s = on-disk node file text life s.taken s.is
+at-serving (bytes ∷ reads) node file text life desk sound s =
     let next = on_bytes desk bytes in
-    let t = took_bytes bytes desk unended held in
-    let recorded : next.recorded ≡ text_of (after_events node life) t.events = t.recorded ∙ ap (λ r. r ++ text_of desk.node t.events) none ∙ ap (λ n. text_of n t.events) same in
-    let on : next.node ≡ after_events node (life ++ t.events) = t.node ∙ ap (λ n. after_events n t.events) same ∙ sym (after-both life t.events node) in
-    let both = All-append IsTaken life t.events taken t.are in (
-      on-disk node file life taken,
-      at-both (OnDisk node file) (publishing next) (serving (cleared next) reads) (disk_of (file ++ text_of node life))
-          (at-published node file life t.events next taken t.are recorded)
+    let t = took_bytes bytes desk s.unended s.held s.row in
+    let now : proper.Sound desk.node = subst proper.Sound (sym s.same) (proper.events-sound life node sound) in
+    let later : IsLife (after_events node life) t.events next.recorded = subst (λ n. IsLife n t.events next.recorded) s.same (took_life desk next t s.none now) in
+    let on : next.node ≡ after_events node (life ++ t.events) = t.node ∙ ap (λ n. after_events n t.events) s.same ∙ sym (after-both life t.events node) in
+    let both : Stands node (life ++ t.events) (text ++ next.recorded) (cleared next) = record {
+      taken = All-append IsTaken life t.events s.taken t.are;
+      is = life_both node life t.events text next.recorded s.is later;
+      same = on;
+      none = refl;
+      row = t.tidy.1;
+      unended = line_bytes bytes desk s.unended;
+      held = t.tidy.0;
+    } in (
+      on-disk node file text life s.taken s.is,
+      at-both (OnDisk node file) (publishing next) (serving (cleared next) reads) (disk_of (file ++ text))
+          (at-published node file text life t.events next s.taken t.are s.is later)
           (
-          subst (λ d. AtAll (OnDisk node file) d (serving (cleared next) reads)) (sym (published-text node file life t.events next recorded))
-          (at-serving reads node file (life ++ t.events) (cleared next) both on refl (line_bytes bytes desk unended) t.kept)
+          subst (λ d. AtAll (OnDisk node file) d (serving (cleared next) reads)) (sym (published-text file text next))
+          (at-serving reads node file (text ++ next.recorded) (life ++ t.events) (cleared next) sound both)
           ),
     )
 
-at-run : (reads : List (List ℕ)) (header : Header) (seal : Seal) (node : Node) (start : Start) (file : List ℕ) (first : Desk)
+at-run : (reads : List (List ℕ)) (header : Header) (seal : Seal) (node : Node) (start : Start) (file : List ℕ) (first : Desk) → proper.Sound node
     → Took (greeting_from header seal node start) first → Unended first.line
     → AtAll (OnDisk node file) (disk_of file) (run first reads)
-at-run reads header seal node start file first t unended =
+at-run reads header seal node start file first sound t unended =
     let whole : file ++ [] ≡ file = append-nil file in
+    let life : IsLife node t.events first.recorded = took_life (greeting_from header seal node start) first t refl sound in
+    let stands : Stands node t.events first.recorded (cleared first) =
+    record { taken = t.are; is = life; same = t.node; none = refl; row = t.tidy.1; unended = unended; held = t.tidy.0 } in
     subst (λ f. AtAll (OnDisk node file) (disk_of f) (run first reads)) whole
     (
     at-both (OnDisk node file) (publishing first) (serving (cleared first) reads) (disk_of (file ++ []))
-    (at-published node file [] t.events first (All-nil IsTaken) t.are t.recorded)
+    (at-published node file [] [] t.events first (All-nil IsTaken) t.are (life_begins node) life)
     (
-    subst (λ d. AtAll (OnDisk node file) d (serving (cleared first) reads)) (sym (published-text node file [] t.events first t.recorded))
-    (at-serving reads node file t.events (cleared first) t.are t.node refl unended t.kept)
+    subst (λ d. AtAll (OnDisk node file) d (serving (cleared first) reads)) (sym (published-text file [] first))
+    (at-serving reads node file first.recorded t.events (cleared first) sound stands)
     )
     )
 
 -- ---- what is left
 
--- the entries of one life more
-last-life : (lives : List (List Event)) (node : Node) (life : List Event) → lives_text node (lives ++ life ∷ []) ≡ lives_text node lives ++ text_of (after_lives node lives) life
-last-life [] node life = append-nil (text_of node life)
-last-life (first ∷ lives) node life =
-    let next = kept (after_events node first) in
-    ap (λ t. text_of node first ++ t) (last-life lives next life)
-    ∙ sym (append_assoc (text_of node first) (lives_text next lives) (text_of (after_lives next lives) life))
-
-journal-grown : (header : Header) (lives : List (List Event)) (life : List Event)
-    → journal_text header lives ++ text_of (after_lives (opened header) lives) life ≡ journal_text header (lives ++ life ∷ [])
-journal-grown header lives life =
-    append_assoc (header_line header ++ 10 ∷ []) (lives_text (opened header) lives) (text_of (after_lives (opened header) lives) life)
-    ∙ ap (λ t. (header_line header ++ 10 ∷ []) ++ t) (sym (last-life lives (opened header) life))
-
-left-life : (header : Header) (lives : List (List Event)) (disk : Disk) (left : List ℕ) → IsHeader header → AreTaken lives
-    → OnDisk (after_lives (opened header) lives) (journal_text header lives) disk → MayLeave disk left → LeavesLife header lives disk.durable left
-left-life header lives disk left is taken on may =
+left-life : (header : Header) (lives : List (List Event)) (journal : List ℕ) (disk : Disk) (left : List ℕ) → IsHeader header → IsJournal header lives journal
+    → OnDisk (after_lives (opened header) lives) journal disk → MayLeave disk left → LeavesLife header lives disk.durable left
+left-life header lives journal disk left is are on may =
     let node = after_lives (opened header) lives in
-    let journal = journal_text header lives in
-    let sound = proper.events-sound on.life node (lives_sound lives (opened header) (opened_sound header)) in
-    let cut : Cut (after_events node on.life) on.next (take may.0 (text_of (after_events node on.life) on.next)) =
-    cut_life on.next (after_events node on.life) may.0 on.next_taken (events_fit on.next (after_events node on.life) sound on.next_taken) in
-    let both = All-append IsTaken on.life cut.front on.life_taken cut.taken in
-    let text : left ≡ journal_text header (lives ++ (on.life ++ cut.front) ∷ []) ++ cut.torn =
-    may.1 ∙ ap₂ (λ d l. d ++ take may.0 l) on.durable on.loose
-    ∙ ap (λ t. (journal ++ text_of node on.life) ++ t) cut.text
-    ∙ sym (append_assoc (journal ++ text_of node on.life) (text_of (after_events node on.life) cut.front) cut.torn)
-    ∙ ap (λ t. t ++ cut.torn) (grown-text node journal on.life cut.front ∙ journal-grown header lives (on.life ++ cut.front)) in
+    let cut : Cut (after_events node on.life) on.next (take may.0 disk.loose) = cut_life (after_events node on.life) on.next disk.loose may.0 on.next_taken on.later in
+    let both = life_both node on.life cut.front on.text cut.whole on.is cut.is in
+    let grown : disk.durable ++ cut.whole ≡ journal ++ (on.text ++ cut.whole) = ap (λ d. d ++ cut.whole) on.durable ∙ append_assoc journal on.text cut.whole in
+    let found_journal : IsJournal header (lives ++ (on.life ++ cut.front) ∷ []) (disk.durable ++ cut.whole) =
+    subst (IsJournal header (lives ++ (on.life ++ cut.front) ∷ [])) (sym grown)
+    (journal_last header lives (on.life ++ cut.front) journal (on.text ++ cut.whole) are both) in
+    let text : left ≡ (disk.durable ++ cut.whole) ++ cut.torn =
+    may.1 ∙ ap (λ t. disk.durable ++ t) cut.text ∙ sym (append_assoc disk.durable cut.whole cut.torn) in
     record {
       life = on.life;
       more = cut.front;
-      taken = both;
-      kept = on.durable ∙ journal-grown header lives on.life;
-      finds = subst (FindsLives header (lives ++ (on.life ++ cut.front) ∷ [])) (sym text)
-          (
-          finds_lives header (lives ++ (on.life ++ cut.front) ∷ []) cut.torn is (All-push (All IsTaken) lives (on.life ++ cut.front) taken both)
-          cut.fits
-          );
+      taken = All-append IsTaken on.life cut.front on.life_taken cut.taken;
+      kept = subst (IsJournal header (lives ++ on.life ∷ [])) (sym on.durable) (journal_last header lives on.life journal on.text are on.is);
+      behind = cut.whole;
+      finds = subst (FindsLives header (lives ++ (on.life ++ cut.front) ∷ []) (disk.durable ++ cut.whole)) (sym text)
+          (finds_lives header (lives ++ (on.life ++ cut.front) ∷ []) (disk.durable ++ cut.whole) cut.torn is found_journal cut.fits);
     }
 
-pub leaves_sound : (header : Header) (lives : List (List Event)) → IsHeader header → AreTaken lives → is_late (after_lives (opened header) lives) 0 ≡ false → LeavesSound header lives
-leaves_sound header lives is taken early seal start result acts before after left ran e may =
+pub leaves_sound : (header : Header) (lives : List (List Event)) (journal : List ℕ) → IsHeader header → IsJournal header lives journal
+    → is_late (after_lives (opened header) lives) 0 ≡ false → LeavesSound header lives journal
+leaves_sound header lives journal is are early seal start result acts before after left ran e may =
     let node = after_lives (opened header) lives in
-    let journal = journal_text header lives in
+    let sound = lives_sound lives (opened header) (opened_sound header) in
     let P = Leaves (LeavesLife header lives) in
     at-front P before (disk_of journal) acts after e
     (
     at-acts (LeavesLife header lives) (restarted (greeting_from header seal node start)) (disk_of journal)
     (λ reads.
-    at-weaker (OnDisk node journal) P (run (restarted (greeting_from header seal node start)) reads) (disk_of journal) (λ disk on left may. left-life header lives disk left is taken on may)
-    (at-run reads header seal node start journal (restarted (greeting_from header seal node start)) (took_restart header seal node start early)
+    at-weaker (OnDisk node journal) P (run (restarted (greeting_from header seal node start)) reads) (disk_of journal)
+    (λ disk on left may. left-life header lives journal disk left is are on may)
+    (at-run reads header seal node start journal (restarted (greeting_from header seal node start)) sound (took_restart header seal node start early)
     (line_restart header seal node start)))
     result acts ran
     )
@@ -263,31 +272,37 @@ leaves_sound header lives is taken early seal start result acts before after lef
 
 -- ---- a journal that is begun
 
-abbrev first_line : Header → List ℕ
-first_line header = header_line header ++ 10 ∷ []
-
 -- nothing is durable yet
 record IsBlank (header : Header) (disk : Disk) : Type 0 where
   pub durable : disk.durable ≡ []
-  pub loose : (disk.loose ≡ []) ⊎ (disk.loose ≡ first_line header)
+  pub loose : (disk.loose ≡ []) ⊎ (disk.loose ≡ header_text header)
 
 abbrev NewDisk : Header → Disk → Type 0
-NewDisk header disk = IsBlank header disk ⊎ OnDisk (opened header) (first_line header) disk
+NewDisk header disk = IsBlank header disk ⊎ OnDisk (opened header) (header_text header) disk
 
 at-new : (reads : List (List ℕ)) (seal : Seal) (header : Header) (start : Start)
     → AtAll (NewDisk header) (disk_of []) (run (with_header header (greeting_from header seal (opened header) start)) reads)
 at-new reads seal header start =
     let node = opened header in
-    let line = first_line header in
+    let line = header_text header in
     let first = with_header header (greeting_from header seal node start) in
     let whole : line ++ [] ≡ line = append-nil line in
+    let stands : Stands node [] [] (cleared first) = record {
+      taken = All-nil IsTaken;
+      is = life_begins node;
+      same = refl;
+      none = refl;
+      row = refl;
+      unended = All-nil IsNoFeed;
+      held = keeps_none;
+    } in
     let all : AtAll (OnDisk node line) (disk_of line) (serving (cleared first) reads) =
     subst (λ t. AtAll (OnDisk node line) (disk_of t) (serving (cleared first) reads)) whole
-    (at-serving reads node line [] (cleared first) (All-nil IsTaken) refl refl (All-nil IsNoFeed) keeps_none) in
+    (at-serving reads node line [] [] (cleared first) (opened_sound header) stands) in
     at-both (NewDisk header) (publishing first) (serving (cleared first) reads) (disk_of [])
     (
     at-publishing (NewDisk header) first [] (inl (record { durable = refl; loose = inl refl })) (inl (record { durable = refl; loose = inr refl }))
-    (inr (subst (λ t. OnDisk node line (disk_of t)) whole (on-disk node line [] (All-nil IsTaken))))
+    (inr (subst (λ t. OnDisk node line (disk_of t)) whole (on-disk node line [] [] (All-nil IsTaken) (life_begins node))))
     )
     (
     subst (λ d. AtAll (NewDisk header) d (serving (cleared first) reads)) (sym (published-disk first []))
@@ -316,26 +331,29 @@ front-left header n is h =
       whole = inl (ap (λ (l : Lines). bytes_of_lines l.whole) (line_is_torn (take n (header_line header)) fits.unended));
     }
 
-whole-left : (header : Header) → IsHeader header → LeavesFront header [] (first_line header)
+-- the header alone is a journal
+alone : (header : Header) → IsJournal header [] (header_text header)
+alone header = ([], sym (append-nil (header_text header)), refl)
+
+whole-left : (header : Header) → IsHeader header → LeavesFront header [] (header_text header)
 whole-left header is =
-    let whole : journal_text header [] ≡ first_line header = append-nil (first_line header) in
-    let f = finds_whole header [] is (All-nil (All IsTaken)) in
-    record { none = refl; finds = ap (found header) (sym whole) ∙ f.sound; whole = inr (sym whole) }
+    let f = finds_whole header [] (header_text header) is (alone header) in
+    record { none = refl; finds = f.sound; whole = inr (alone header) }
 
 long-line : (n : ℕ) (line : List ℕ) → length line < n → length (line ++ 10 ∷ []) ≤ n
 long-line n line h = omega (arith, length-append line (10 ∷ []), h)
 
-line-left : (header : Header) (n : ℕ) → IsHeader header → LeavesFront header [] (take n (first_line header))
+line-left : (header : Header) (n : ℕ) → IsHeader header → LeavesFront header [] (take n (header_text header))
 line-left header n is = go (cases_lt (length (header_line header)) n)
   where
-    go : (length (header_line header) < n) ⊎ (n ≤ length (header_line header)) → LeavesFront header [] (take n (first_line header))
-    go (inl h) = subst (LeavesFront header []) (sym (take_all n (first_line header) (long-line n (header_line header) h))) (whole-left header is)
+    go : (length (header_line header) < n) ⊎ (n ≤ length (header_line header)) → LeavesFront header [] (take n (header_text header))
+    go (inl h) = subst (LeavesFront header []) (sym (take_all n (header_text header) (long-line n (header_line header) h))) (whole-left header is)
     go (inr h) = subst (LeavesFront header []) (sym (take-append-le n (header_line header) (10 ∷ []) h)) (front-left header n is h)
 
 none-left : (header : Header) (n : ℕ) → IsHeader header → LeavesFront header [] (take n [])
 none-left header n is = subst (LeavesFront header []) (sym (take-nil n)) (front-left header 0 is (omega arith))
 
-loose-left : (header : Header) (n : ℕ) (loose : List ℕ) → IsHeader header → (loose ≡ []) ⊎ (loose ≡ first_line header) → LeavesFront header [] (take n loose)
+loose-left : (header : Header) (n : ℕ) (loose : List ℕ) → IsHeader header → (loose ≡ []) ⊎ (loose ≡ header_text header) → LeavesFront header [] (take n loose)
 loose-left header n loose is (inl e) = subst (λ l. LeavesFront header [] (take n l)) (sym e) (none-left header n is)
 loose-left header n loose is (inr e) = subst (λ l. LeavesFront header [] (take n l)) (sym e) (line-left header n is)
 
@@ -350,10 +368,7 @@ left-new header disk left is (inl blank) may =
     (subst (LeavesFront header []) (sym text) (loose-left header may.0 disk.loose is blank.loose))
     )
 left-new header disk left is (inr on) may =
-    let whole : journal_text header [] ≡ first_line header = append-nil (first_line header) in
-    inr (
-    left-life header [] disk left is (All-nil (All IsTaken)) (subst (λ t. OnDisk (opened header) t disk) (sym whole) on) may
-    )
+    inr (left-life header [] (header_text header) disk left is (alone header) on may)
 
 pub leaves_new_sound : (header : Header) → IsHeader header → LeavesNewSound header
 leaves_new_sound header is seal start result acts before after left ran e may =

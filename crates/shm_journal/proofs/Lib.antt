@@ -10,6 +10,8 @@ pub mod WarningLemmas
 pub mod CrashLemmas
 pub mod SummaryLemmas
 pub mod Fits
+pub mod BytesFit
+pub mod RowsFit
 pub mod EntriesFit
 pub mod Lives
 pub mod DeskLives

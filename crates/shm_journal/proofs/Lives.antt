@@ -1,45 +1,60 @@
 -- What a site's journal leads to, through the entries of its lives, and where it is cut.
-use Rattle.std.proofs.Common.{◌≡◌, ◌≤◌, ◌<◌, ◌⊎◌, inl, inr, ℕ, suc, ◌+◌, ◌-◌, ◌==◌, false, List, [], ◌∷◌, ◌++◌, Option, Some, None, cond, length, take, refl, sym, ap, subst, ◌∙◌, append-nil, append_assoc, arith}
+use Rattle.std.proofs.Common.{◌≡◌, ◌≤◌, ◌<◌, ◌⊎◌, inl, inr, ℕ, suc, ◌+◌, ◌-◌, ◌==◌, false, List, [], ◌∷◌, ◌++◌, Option, Some, None, cond, drop, length, take, refl, sym, ap, subst, ◌∙◌, append-nil, append_assoc, arith}
 use Rattle.std.specs.List.{All}
+use Rattle.std.specs.Prelude.{option_and_then}
 use Rattle.std.proofs.lemmas.Bool.{cases_lt}
-use Rattle.std.proofs.lemmas.List.{length-append, length-take, take-append-le}
+use Rattle.std.proofs.lemmas.List.{length-append, length-take, take-append-drop, take-append-le}
 use Rattle.std.proofs.Math.Seq.{take-append-add, take-append_seam, take-nil}
-use Rattle.std.proofs.lemmas.List.Elements.{All-cons, All-head, All-nil, All-tail, All-take}
+use Rattle.std.proofs.lemmas.List.Elements.{All-append, All-nil, All-take}
 use Rattle.std.proofs.lemmas.Slice.Eq.{bytes_eq-Decides}
 use Rattle.shm_lines.proofs.StepLemmas.{some-is, step}
-use Rattle.shm_process.proofs.Proper as proper
+use Rattle.shm_process.proofs.Events.{entries-both, steps_both, text-both}
+use Rattle.shm_process.proofs.FirstEvents.{first_events}
 use Rattle.shm_process.proofs.Replays.{replays}
-use Rattle.shm_process.specs.Node.{Node, Said}
-use Rattle.shm_process.specs.Recorded.{Entry, Event, after_event, after_events, entries_of, entries_text, entry_line, entry_of, kept, recorded, replayed_all, said_at}
+use Rattle.shm_process.specs.Node.{Node}
+use Rattle.shm_process.specs.Recorded as process
+use Rattle.shm_process.specs.Recorded.{Entry, Event, IsEntry, after_events, all_steps, entries_of, entries_text, entry_line, kept, replayed_all, steps_of}
 use Rattle.shm_process.specs.Waiting.{replayed}
-use Rattle.shm_journal.proofs.EntriesFit.{AreFit, IsFit, events_fit, life_sound, opened_sound}
+use Rattle.shm_journal.proofs.EntriesFit.{AreFit, IsFit, entries_fit}
 use Rattle.shm_journal.proofs.EntryWords.{entry-is_read}
 use Rattle.shm_journal.proofs.Fits.{Fits, fits-header}
 use Rattle.shm_journal.proofs.Leading.{counts-line, ended-says, line_is_torn, one-first, one_line}
 use Rattle.shm_journal.specs.Found.{Lines, Sound, bytes_of_lines, found, found_behind, lines_of, max_journal_line, next_found, not_own, opened, own, replayed_entry, replayed_line, then_found}
 use Rattle.shm_journal.specs.Lines.{Header, IsHeader, header_line, read_header}
 use Rattle.shm_journal.specs.LinesOf.{Unended}
-use Rattle.shm_journal.specs.Lives.{AreTaken, FindsLives, IsTaken, after_lives, journal_text, lives_text}
+use Rattle.shm_journal.specs.Lives.{FindsLives, IsJournal, IsLife, IsLives, IsOfTaken, IsTaken, after_lives, header_text}
 
 -- ---- the entries of one life
 
 shape : (line rest more : List ℕ) → (line ++ 10 ∷ rest) ++ more ≡ (line ++ 10 ∷ []) ++ (rest ++ more)
 shape line rest more = append_assoc line (10 ∷ rest) more ∙ sym (append_assoc line (10 ∷ []) (rest ++ more))
 
-entry-leads : (node next : Node) (entry : Entry) → IsFit entry → replayed node entry.clock entry.cause ≡ Some next → replayed_line node (entry_line entry) ≡ Some next
+entry-leads : (node next : Node) (entry : Entry) → IsFit entry → process.replayed_entry node entry ≡ Some next → replayed_line node (entry_line entry) ≡ Some next
 unfolding replayed_entry
 entry-leads node next entry fit made = ap (replayed_entry node) (entry-is_read entry fit.0) ∙ made
+
+-- steps that were recorded, and others behind them
+behind-step : (o : Option Node) (xs ys : List Entry)
+    → ((n : Node) → replayed_all n (xs ++ ys) ≡ option_and_then (λ m. replayed_all m ys) (replayed_all n xs))
+    → option_and_then (λ n. replayed_all n (xs ++ ys)) o ≡ option_and_then (λ m. replayed_all m ys) (option_and_then (λ n. replayed_all n xs) o)
+behind-step None xs ys more = refl
+behind-step (Some n) xs ys more = more n
+
+replayed-both : (xs ys : List Entry) (node : Node) → replayed_all node (xs ++ ys) ≡ option_and_then (λ m. replayed_all m ys) (replayed_all node xs)
+replayed-both [] ys node = refl
+replayed-both (x ∷ xs) ys node = behind-step (replayed node x.clock x.cause) xs ys (λ n. replayed-both xs ys n)
 
 -- they lead from the first node to the last, and on from there, at a further line's number
 abbrev LeadsOn : ℕ → Node → Node → List ℕ → List ℕ → Type 0
 LeadsOn number node final bytes more =
     (later : ℕ) × (found_behind replayed_line number node (bytes ++ more) ≡ found_behind replayed_line later final more)
 
-entries-lead : (entries : List Entry) (number : ℕ) (node final : Node) (more : List ℕ) → AreFit entries → replayed_all node entries ≡ Some final
+entries-lead : (entries : List Entry) (number : ℕ) (node final : Node) (more : List ℕ) → AreFit entries → replayed_all node (all_steps entries) ≡ Some final
     → LeadsOn number node final (entries_text entries) more
 entries-lead [] number node final more fit made = (number, ap (λ n. found_behind replayed_line number n more) (some-is node final made))
 entries-lead (entry ∷ entries) number node final more fit made =
-    let s = step (replayed node entry.clock entry.cause) (λ next. replayed_all next entries) final made in
+    let steps = sym (replayed-both (steps_of entry) (all_steps entries) node) ∙ made in
+    let s = step (process.replayed_entry node entry) (λ next. replayed_all next (all_steps entries)) final steps in
     let line = entry_line entry in
     let rest = entries_text entries in
     let later = entries-lead entries (number + 1) s.value final more fit.1 s.gives in (
@@ -52,30 +67,42 @@ entries-lead (entry ∷ entries) number node final more fit made =
 
 -- ---- all lives
 
-lives-lead : (lives : List (List Event)) (number : ℕ) (node : Node) (more : List ℕ) → proper.Sound node → kept node ≡ node → AreTaken lives
-    → LeadsOn number node (after_lives node lives) (lives_text node lives) more
-lives-lead [] number node more sound same taken = (number, refl)
-lives-lead (life ∷ lives) number node more sound same taken =
+life-leads : (life : List Event) (text : List ℕ) (number : ℕ) (node : Node) (more : List ℕ) → kept node ≡ node → IsLife node life text
+    → LeadsOn number node (kept (after_events node life)) text more
+life-leads life text number node more same is =
     let next = kept (after_events node life) in
-    let text = lives_text next lives in
-    let entries = entries_of node life in
-    let fit = events_fit life node sound (All-head (All IsTaken) life lives taken) in
-    let first = entries-lead entries number node next (text ++ more) fit (ap (λ n. replayed_all n entries) (sym same) ∙ replays node life) in
-    let others = lives-lead lives first.0 next more (life_sound life node sound) refl (All-tail (All IsTaken) life lives taken) in
-    (others.0, ap (found_behind replayed_line number node) (append_assoc (entries_text entries) text more) ∙ first.1 ∙ others.1)
+    let steps = ap (replayed_all node) is.steps ∙ ap (λ n. replayed_all n (entries_of node life)) (sym same) ∙ replays node life in
+    let led = entries-lead is.entries number node next more (entries_fit is.entries is.are is.taken) steps in
+    (led.0, ap (λ t. found_behind replayed_line number node (t ++ more)) is.is ∙ led.1)
+
+lives-lead : (lives : List (List Event)) (text : List ℕ) (number : ℕ) (node : Node) (more : List ℕ) → kept node ≡ node → IsLives node lives text
+    → LeadsOn number node (after_lives node lives) text more
+lives-lead [] text number node more same is = (number, ap (λ t. found_behind replayed_line number node (t ++ more)) is)
+lives-lead (life ∷ lives) text number node more same is =
+    let next = kept (after_events node life) in
+    let first = life-leads life is.0 number node (is.1 ++ more) same is.3 in
+    let others = lives-lead lives is.1 first.0 next more refl is.4 in (
+      others.0,
+      ap (λ t. found_behind replayed_line number node (t ++ more)) is.2 ∙ ap (found_behind replayed_line number node) (append_assoc is.0 is.1 more)
+          ∙ first.1 ∙ others.1,
+    )
 
 own-header : (header : Header) → (own header).first (header_line header) ≡ Sound (opened header)
 own-header header =
     ap (λ b. cond b (Sound (opened header)) (not_own (read_header (header_line header))))
     ((bytes_eq-Decides (header_line header) (header_line header)).1 refl)
 
-journal-found : (header : Header) (lives : List (List Event)) (torn : List ℕ) → IsHeader header → AreTaken lives → Fits max_journal_line torn
-    → found header (journal_text header lives ++ torn) ≡ Sound (after_lives (opened header) lives)
-journal-found header lives torn is taken fits =
-    let text = lives_text (opened header) lives in
+-- the header, what stands behind it, and what is torn
+with-torn : (header : Header) (journal rest torn : List ℕ) → journal ≡ header_text header ++ rest → journal ++ torn ≡ header_text header ++ (rest ++ torn)
+with-torn header journal rest torn e = ap (λ t. t ++ torn) e ∙ append_assoc (header_text header) rest torn
+
+journal-found : (header : Header) (lives : List (List Event)) (journal torn : List ℕ) → IsHeader header → IsJournal header lives journal → Fits max_journal_line torn
+    → found header (journal ++ torn) ≡ Sound (after_lives (opened header) lives)
+journal-found header lives journal torn is are fits =
+    let text = are.0 in
     let line = fits-header header is in
-    let on = lives-lead lives 2 (opened header) torn (opened_sound header) refl taken in
-    ap (found header) (append_assoc (header_line header ++ 10 ∷ []) text torn)
+    let on = lives-lead lives text 2 (opened header) torn refl are.2 in
+    ap (found header) (with-torn header journal text torn are.1)
     ∙ one-first (own header) (header_line header) (text ++ torn) line.unended line.short
     ∙ ap (λ f. then_found f (λ state. found_behind replayed_line 2 state (text ++ torn))) (own-header header)
     ∙ on.1 ∙ ended-says replayed_line on.0 (after_lives (opened header) lives) torn fits.unended fits.short
@@ -102,63 +129,92 @@ entries-counted (entry ∷ entries) more fit =
     ap counted (shape line rest more) ∙ counts-line line (rest ++ more) fit.0.1.unended
     ∙ ap (λ n. length line + 1 + n) (entries-counted entries more fit.1) ∙ with-line line rest (counted more)
 
-lives-counted : (lives : List (List Event)) (node : Node) (more : List ℕ) → proper.Sound node → AreTaken lives
-    → counted (lives_text node lives ++ more) ≡ length (lives_text node lives) + counted more
-lives-counted [] node more sound taken = none-before (counted more)
-lives-counted (life ∷ lives) node more sound taken =
-    let next = kept (after_events node life) in
-    let first = entries_text (entries_of node life) in
-    let text = lives_text next lives in
-    ap counted (append_assoc first text more)
-    ∙ entries-counted (entries_of node life) (text ++ more) (events_fit life node sound (All-head (All IsTaken) life lives taken))
-    ∙ ap (λ n. length first + n) (lives-counted lives next more (life_sound life node sound) (All-tail (All IsTaken) life lives taken))
-    ∙ with-text first text (counted more)
+life-counted : (life : List Event) (text : List ℕ) (node : Node) (more : List ℕ) → IsLife node life text → counted (text ++ more) ≡ length text + counted more
+life-counted life text node more is =
+    ap (λ t. counted (t ++ more)) is.is ∙ entries-counted is.entries more (entries_fit is.entries is.are is.taken)
+    ∙ ap (λ t. length t + counted more) (sym is.is)
+
+lives-counted : (lives : List (List Event)) (text : List ℕ) (node : Node) (more : List ℕ) → IsLives node lives text → counted (text ++ more) ≡ length text + counted more
+lives-counted [] text node more is = ap (λ t. counted (t ++ more)) is ∙ none-before (counted more) ∙ ap (λ (t : List ℕ). length t + counted more) (sym is)
+lives-counted (life ∷ lives) text node more is =
+    ap (λ t. counted (t ++ more)) is.2 ∙ ap counted (append_assoc is.0 is.1 more) ∙ life-counted life is.0 node (is.1 ++ more) is.3
+    ∙ ap (λ n. length is.0 + n) (lives-counted lives is.1 (kept (after_events node life)) more is.4)
+    ∙ with-text is.0 is.1 (counted more) ∙ ap (λ (t : List ℕ). length t + counted more) (sym is.2)
 
 with-header : (line text : List ℕ) → length line + 1 + (length text + 0) ≡ length ((line ++ 10 ∷ []) ++ text)
 with-header line text = omega (arith, length-append (line ++ 10 ∷ []) text, length-append line (10 ∷ []))
 
-journal-counted : (header : Header) (lives : List (List Event)) (torn : List ℕ) → IsHeader header → AreTaken lives → Unended torn
-    → counted (journal_text header lives ++ torn) ≡ length (journal_text header lives)
-journal-counted header lives torn is taken unended =
+journal-counted : (header : Header) (lives : List (List Event)) (journal torn : List ℕ) → IsHeader header → IsJournal header lives journal → Unended torn
+    → counted (journal ++ torn) ≡ length journal
+journal-counted header lives journal torn is are unended =
     let line = header_line header in
-    let text = lives_text (opened header) lives in
+    let text = are.0 in
     let none : counted torn ≡ 0 = ap (λ (l : Lines). bytes_of_lines l.whole) (line_is_torn torn unended) in
-    ap counted (append_assoc (line ++ 10 ∷ []) text torn) ∙ counts-line line (text ++ torn) (fits-header header is).unended
-    ∙ ap (λ n. length line + 1 + n) (lives-counted lives (opened header) torn (opened_sound header) taken ∙ ap (λ n. length text + n) none)
-    ∙ with-header line text
+    ap counted (with-torn header journal text torn are.1) ∙ counts-line line (text ++ torn) (fits-header header is).unended
+    ∙ ap (λ n. length line + 1 + n) (lives-counted lives text (opened header) torn are.2 ∙ ap (λ n. length text + n) none)
+    ∙ with-header line text ∙ ap (λ (t : List ℕ). length t) (sym are.1)
 
-pub finds_lives : (header : Header) (lives : List (List Event)) (torn : List ℕ) → IsHeader header → AreTaken lives → Fits max_journal_line torn
-    → FindsLives header lives (journal_text header lives ++ torn)
-finds_lives header lives torn is taken fits =
-    let text = journal_text header lives in
-    record {
-      torn = torn;
-      text = refl;
-      unended = fits.unended;
-      sound = journal-found header lives torn is taken fits;
-      whole = ap (λ n. take n (text ++ torn)) (journal-counted header lives torn is taken fits.unended) ∙ take-append_seam text torn;
-    }
+pub finds_lives : (header : Header) (lives : List (List Event)) (journal torn : List ℕ) → IsHeader header → IsJournal header lives journal → Fits max_journal_line torn
+    → FindsLives header lives journal (journal ++ torn)
+finds_lives header lives journal torn is are fits = record {
+  is = are;
+  torn = torn;
+  text = refl;
+  unended = fits.unended;
+  sound = journal-found header lives journal torn is are fits;
+  whole =
+      ap (λ n. take n (journal ++ torn)) (journal-counted header lives journal torn is are fits.unended) ∙ take-append_seam journal torn;
+}
 
 -- ---- a journal that is whole
 
 nothing-torn : Fits max_journal_line []
 nothing-torn = record { unended = All-nil (λ byte. (byte == 10) ≡ false); short = omega arith }
 
-pub finds_whole : (header : Header) (lives : List (List Event)) → IsHeader header → AreTaken lives → FindsLives header lives (journal_text header lives)
-finds_whole header lives is taken =
-    subst (FindsLives header lives) (append-nil (journal_text header lives)) (finds_lives header lives [] is taken nothing-torn)
+pub finds_whole : (header : Header) (lives : List (List Event)) (journal : List ℕ) → IsHeader header → IsJournal header lives journal → FindsLives header lives journal journal
+finds_whole header lives journal is are =
+    subst (FindsLives header lives journal) (append-nil journal) (finds_lives header lives journal [] is are nothing-torn)
+
+-- ---- a life that goes on
+
+pub life_begins : (node : Node) → IsLife node [] []
+life_begins node = record { entries = []; are = All-nil IsEntry; taken = All-nil IsOfTaken; is = refl; steps = refl }
+
+pub life_both : (node : Node) (life next : List Event) (text more : List ℕ) → IsLife node life text → IsLife (after_events node life) next more
+    → IsLife node (life ++ next) (text ++ more)
+life_both node life next text more a b = record {
+  entries = a.entries ++ b.entries;
+  are = All-append IsEntry a.entries b.entries a.are b.are;
+  taken = All-append IsOfTaken a.entries b.entries a.taken b.taken;
+  is = ap (λ t. t ++ more) a.is ∙ ap (λ t. entries_text a.entries ++ t) b.is ∙ sym (text-both a.entries b.entries);
+  steps =
+      steps_both a.entries b.entries ∙ ap (λ s. s ++ all_steps b.entries) a.steps ∙ ap (λ s. entries_of node life ++ s) b.steps
+      ∙ sym (entries-both life next node);
+}
+
+-- one life more
+lives-last : (lives : List (List Event)) (node : Node) (life : List Event) (text more : List ℕ) → IsLives node lives text → IsLife (after_lives node lives) life more
+    → IsLives node (lives ++ life ∷ []) (text ++ more)
+lives-last [] node life text more is last = (more, [], ap (λ t. t ++ more) is ∙ sym (append-nil more), last, refl)
+lives-last (first ∷ lives) node life text more is last =
+    let next = kept (after_events node first) in
+    (is.0, is.1 ++ more, ap (λ t. t ++ more) is.2 ∙ append_assoc is.0 is.1 more, is.3, lives-last lives next life is.1 more is.4 last)
+
+pub journal_last : (header : Header) (lives : List (List Event)) (life : List Event) (journal more : List ℕ) → IsJournal header lives journal
+    → IsLife (after_lives (opened header) lives) life more → IsJournal header (lives ++ life ∷ []) (journal ++ more)
+journal_last header lives life journal more is last =
+    (is.0 ++ more, with-torn header journal is.0 more is.1, lives-last lives (opened header) life is.0 more is.2 last)
 
 -- ---- a front of the entries of one life
-
-abbrev pub text_of : Node → List Event → List ℕ
-text_of node events = entries_text (entries_of node events)
 
 -- the entries of the first events, and what may be the front of one more
 pub record Cut (node : Node) (events : List Event) (bytes : List ℕ) : Type 0 where
   pub front : List Event
   pub taken : All IsTaken front
+  pub whole : List ℕ
+  pub is : IsLife node front whole
   pub torn : List ℕ
-  pub text : bytes ≡ text_of node front ++ torn
+  pub text : bytes ≡ whole ++ torn
   pub fits : Fits max_journal_line torn
 
 fits-front : (n : ℕ) (line : List ℕ) → Fits max_journal_line line → Fits max_journal_line (take n line)
@@ -179,45 +235,54 @@ within-line n line rest = go (cases_lt (length line) n)
     go (inl h) = inr (n - (length line + 1), ap (λ k. take k (line ++ 10 ∷ rest)) (sym (behind h)) ∙ take-append-add line (10 ∷ rest) (suc (n - (length line + 1))))
     go (inr h) = inl (take-append-le n line (10 ∷ rest) h)
 
-cut-event : (node : Node) (event : Event) (events : List Event) (said : Option Said) (n : ℕ) → said_at node event ≡ said → IsTaken event
-    → AreFit (recorded said (entries_of (after_event node event) events))
-    → ((m : ℕ) → Cut (after_event node event) events (take m (text_of (after_event node event) events)))
-    → Cut node (event ∷ events) (take n (entries_text (recorded said (entries_of (after_event node event) events))))
-cut-event node event events None n e taken fit more =
-    let c = more n in
-    record {
-      front = event ∷ c.front;
-      taken = All-cons IsTaken event c.front taken c.taken;
-      torn = c.torn;
-      text = c.text ∙ ap (λ s. entries_text (recorded s (entries_of (after_event node event) c.front)) ++ c.torn) (sym e);
-      fits = c.fits;
-    }
-cut-event node event events (Some said) n e taken fit more =
-    let line = entry_line (entry_of said) in
-    let rest = text_of (after_event node event) events in
-    elim (within-line n line rest) [
-      | inl h ↦
-          record { front = []; taken = All-nil IsTaken; torn = take n line; text = h; fits = fits-front n line fit.0.1 }
+-- whole entries, and what may be the front of one more
+record CutAt (entries : List Entry) (bytes : List ℕ) : Type 0 where
+  count : ℕ
+  torn : List ℕ
+  text : bytes ≡ entries_text (take count entries) ++ torn
+  fits : Fits max_journal_line torn
+
+cut-line : (entry : Entry) (entries : List Entry) (n : ℕ) → IsFit entry → ((m : ℕ) → CutAt entries (take m (entries_text entries)))
+    → CutAt (entry ∷ entries) (take n (entries_text (entry ∷ entries)))
+cut-line entry entries n fit more =
+    let line = entry_line entry in
+    elim (within-line n line (entries_text entries)) [
+      | inl h ↦ record { count = 0; torn = take n line; text = h; fits = fits-front n line fit.1 }
       | inr h ↦
           let c = more h.0 in
           record {
-            front = event ∷ c.front;
-            taken = All-cons IsTaken event c.front taken c.taken;
+            count = suc c.count;
             torn = c.torn;
-            text =
-                h.1 ∙ ap (λ t. line ++ 10 ∷ t) c.text ∙ sym (append_assoc line (10 ∷ text_of (after_event node event) c.front) c.torn)
-                ∙ ap (λ s. entries_text (recorded s (entries_of (after_event node event) c.front)) ++ c.torn) (sym e);
+            text = h.1 ∙ ap (λ t. line ++ 10 ∷ t) c.text ∙ sym (append_assoc line (10 ∷ entries_text (take c.count entries)) c.torn);
             fits = c.fits;
           }
     ]
 
-fit-behind : (said : Option Said) (entries : List Entry) → AreFit (recorded said entries) → AreFit entries
-fit-behind None entries fit = fit
-fit-behind (Some said) entries fit = fit.1
+cut-entries : (entries : List Entry) (n : ℕ) → AreFit entries → CutAt entries (take n (entries_text entries))
+cut-entries [] n fit = record { count = 0; torn = []; text = take-nil n; fits = nothing-torn }
+cut-entries (entry ∷ entries) n fit = cut-line entry entries n fit.0 (λ m. cut-entries entries m fit.1)
 
-pub cut_life : (events : List Event) (node : Node) (n : ℕ) → All IsTaken events → AreFit (entries_of node events) → Cut node events (take n (text_of node events))
-cut_life [] node n taken fit = record { front = []; taken = All-nil IsTaken; torn = []; text = take-nil n; fits = nothing-torn }
-cut_life (event ∷ events) node n taken fit =
-    let next = after_event node event in
-    cut-event node event events (said_at node event) n refl (All-head IsTaken event events taken) fit
-    (λ m. cut_life events next m (All-tail IsTaken event events taken) (fit-behind (said_at node event) (entries_of next events) fit))
+-- a whole entry brings all its steps
+pub cut_life : (node : Node) (events : List Event) (text : List ℕ) (n : ℕ) → All IsTaken events → IsLife node events text → Cut node events (take n text)
+cut_life node events text n taken is =
+    let c = cut-entries is.entries n (entries_fit is.entries is.are is.taken) in
+    let front = take c.count is.entries in
+    let rest = drop c.count is.entries in
+    let parts : entries_of node events ≡ all_steps front ++ all_steps rest =
+    sym is.steps ∙ ap all_steps (sym (take-append-drop c.count is.entries)) ∙ steps_both front rest in
+    let f = first_events events node (all_steps front) (all_steps rest) parts in
+    record {
+      front = take f.0 events;
+      taken = All-take IsTaken f.0 events taken;
+      whole = entries_text front;
+      is = record {
+        entries = front;
+        are = All-take IsEntry c.count is.entries is.are;
+        taken = All-take IsOfTaken c.count is.entries is.taken;
+        is = refl;
+        steps = sym f.1;
+      };
+      torn = c.torn;
+      text = ap (take n) is.is ∙ c.text;
+      fits = c.fits;
+    }

@@ -1,6 +1,6 @@
 -- What is answered of a site's own journal.
 use Rattle.std.proofs.Common.{◌≡◌, ◌≤◌, ◌<◌, inl, inr, ℕ, ◌+◌, ◌==◌, Bool, true, false, List, [], ◌∷◌, ◌++◌, Option, None, Some, Ok, Err, cond, length, take, refl, sym, ap, ap₂, subst, ◌∙◌, append_assoc, arith}
-use Rattle.std.specs.Prelude.{Result, IfErr, IfOk, OnOk, is_some, unwrap_or}
+use Rattle.std.specs.Prelude.{Result, IfErr, IfOk, OnOk, is_some}
 use Rattle.std.specs.Str.{bytes_eq}
 use Rattle.std.specs.Io.KnownBytes.{Consumes, IsAtEnd}
 use Rattle.std.proofs.KnownBytes.{Consumes-nil}
@@ -24,18 +24,17 @@ use Rattle.shm_journal.specs.declared.recovered_site.Recovered.{Recovered}
 use Rattle.shm_journal.specs.declared.recovery_error.RecoveryFault.{RecoveryFault}
 use Rattle.shm_journal.specs.declared.recovery_error.RecoveryFault.TheVariants as fault
 
--- ---- a step
+-- ---- the steps of a line
 
-is_next : {T : Type 0} → (made : Bool) (after : Option T) (old now : T) → made ≡ is_some after → now ≡ unwrap_or after old → IsNext made after now
-is_next true None old now m n = absurd (cc)
-is_next true (Some x) old now m n = ap Some (sym n)
-is_next false None old now m n = refl
-is_next false (Some x) old now m n = absurd (cc)
+is_next : {T : Type 0} → (made : Bool) (after : Option T) (now : T) → made ≡ is_some after → (made ≡ true → Some now ≡ after) → IsNext made after now
+is_next true after now m n = sym (n refl)
+is_next false None now m n = refl
+is_next false (Some x) now m n = absurd (cc)
 
-pub made_next : {T E : Type 0} → (r : Result Bool E) (after : Option T) (old now : T) → IfOk r (λ made. made ≡ is_some after) → OnOk r (now ≡ unwrap_or after old)
+pub made_next : {T E : Type 0} → (r : Result Bool E) (after : Option T) (now : T) → IfOk r (λ made. made ≡ is_some after) → IfOk r (λ made. made ≡ true → Some now ≡ after)
     → IfOk r (λ made. IsNext made after now)
-made_next (Ok made) after old now m n = is_next made after old now m n
-made_next (Err e) after old now m n = tt
+made_next (Ok made) after now m n = is_next made after now m n
+made_next (Err e) after now m n = tt
 
 -- ---- a whole journal
 

@@ -1,34 +1,36 @@
 -- What a journal has, by what was read of it.
 use Rattle.std.proofs.Common.{◌≡◌, ◌≤◌, ◌<◌, ◌⊎◌, inl, inr, ℕ, ◌+◌, ◌==◌, Bool, true, false, List, [], ◌∷◌, ◌++◌, Option, None, Some, Ok, Err, cond, length, refl, sym, ap, subst, ◌∙◌, append_assoc, arith}
-use Rattle.std.specs.Prelude.{Result, IfErr, IfOk, IfSome, OnOk, drop, option_and_then}
+use Rattle.std.specs.Prelude.{Result, IfErr, IfOk, OnOk, drop, fold, option_and_then}
+use Rattle.std.specs.List.{sum_by}
+use Rattle.std.specs.Option.{option_map_or}
 use Rattle.std.specs.Str.{bytes_eq}
 use Rattle.std.specs.Io.KnownBytes.{Consumes, IsAtEnd}
 use Rattle.std.proofs.KnownBytes.{Consumes-trans}
 use Rattle.std.proofs.lemmas.List.{length-append}
 use Rattle.std.proofs.lemmas.Slice.Eq.{bytes_eq-Decides}
+use Rattle.shm_lines.proofs.StepLemmas.{some-is, step}
 use Rattle.shm_process.specs.Node.{Heard, Node, next_clock, stepped}
-use Rattle.shm_process.specs.Recorded.{Entry}
+use Rattle.shm_process.specs.Recorded.{Entry, replayed_all, steps_of}
 use Rattle.shm_process.specs.NodeOf.{node_of}
-use Rattle.shm_process.specs.Waiting.{heard_again, replayed_heard}
-use Rattle.shm_journal.specs.Found.{Found, Sound, Foreign, Bad, Lines, bytes_of_lines, found, found_behind, found_from, found_in, is_empty, is_long, lines_behind, lines_of, max_journal_line, next_found, not_own, opened, own, replayed_entry, replayed_line, then_found, unless_long, with_line}
+use Rattle.shm_process.specs.Waiting.{heard_again, replayed, replayed_heard}
+use Rattle.shm_journal.specs.Found.{Found, Sound, Bad, Lines, bytes_of_lines, found, found_behind, found_from, found_in, is_empty, is_long, lines_behind, lines_of, max_journal_line, next_found, not_own, opened, own, replayed_entry, replayed_line, then_found, with_line}
 use Rattle.shm_journal.specs.HeaderOf.{header_of}
-use Rattle.shm_journal.specs.Leading.{Leads}
 use Rattle.shm_journal.specs.Lines.{Header, header_line, read_entry, read_header}
 use Rattle.shm_journal.specs.LinesOf.{Unended}
-use Rattle.shm_journal.specs.ReadUpTo.{BreaksAt, LacksLine, ReadsToLine, ReadsWhole, StopsAt}
+use Rattle.shm_journal.specs.ReadUpTo.{ReadsToLine}
 use Rattle.shm_journal.specs.Recovers.{ReadsAll}
-use Rattle.shm_journal.specs.Summed.{IsSummary, NamesFirst, RestReadsUpTo, SummaryReadsUpTo, SumsRest, SumsUpKnown, any, entries_in, first_found, found_any, in_limits, node_named, opened_if, summary_of}
+use Rattle.shm_journal.specs.Summed.{IsSummary, NamesFirst, RestReadsUpTo, SummaryReadsUpTo, SumsRest, SumsUpKnown, any, entries_in, first_found, found_any, in_limits, node_named, opened_if, steps_in}
 use Rattle.shm_journal.specs.Taking.{BreaksOff, most_at_once}
 use Rattle.shm_journal.specs.declared.journal_error.JournalFault.{JournalFault}
 use Rattle.shm_journal.specs.declared.journal_error.JournalFault.TheVariants as fault
 use Rattle.shm_journal.specs.declared.journal_summary.Summary.{Summary}
 use Rattle.shm_journal.specs.declared.summary_reader.Named.{Named}
 use Rattle.shm_seal.specs.declared.cluster_name.ClusterName.{ClusterName}
-use Rattle.shm_journal.proofs.Fronts.{IsFile, any_file, of_all, whole_of}
+use Rattle.shm_journal.proofs.Fronts.{any_file, of_all, whole_of}
 use Rattle.shm_journal.proofs.HeaderWords.{header-is_spelled}
-use Rattle.shm_journal.proofs.Leading.{first_breaks, first_lacks, first_leads, first_overruns, first_stops, joined_fault}
+use Rattle.shm_journal.proofs.Leading.{first_breaks, first_leads, first_stops, joined_fault}
 
--- ---- each entry is a step
+-- ---- each step is counted
 
 test-steps : (node after : Node) (heard : Heard) (b : Bool) → cond b (Some (stepped node heard)) None ≡ Some after → after.steps ≡ node.steps + 1
 test-steps node after heard true h = let e : stepped node heard ≡ after = cc in sym (ap (λ (n : Node). n.steps) e)
@@ -38,37 +40,45 @@ heard-steps : (node after : Node) (clock : ℕ) (heard : Option Heard) → repla
 heard-steps node after clock None h = absurd (cc)
 heard-steps node after clock (Some heard) h = test-steps node after heard (next_clock node heard.source == clock) h
 
-entry-steps : (node after : Node) (entry : Option Entry) → replayed_entry node entry ≡ Some after → after.steps ≡ node.steps + 1
+all-steps : (entries : List Entry) (node after : Node) → replayed_all node entries ≡ Some after → after.steps ≡ node.steps + length entries
+all-steps [] node after h =
+    let s : after.steps ≡ node.steps = sym (ap (λ (n : Node). n.steps) (some-is node after h)) in omega (arith, s)
+all-steps (entry ∷ entries) node after h =
+    let s = step (replayed node entry.clock entry.cause) (λ next. replayed_all next entries) after h in
+    let one = heard-steps node s.value entry.clock (heard_again node entry.cause) s.gave in
+    let more = all-steps entries s.value after s.gives in
+    omega (arith, one, more)
+
+entry-steps : (node after : Node) (entry : Option Entry) → replayed_entry node entry ≡ Some after
+    → after.steps ≡ node.steps + option_map_or (λ e. length (steps_of e)) entry 0
 unfolding replayed_entry
 entry-steps node after None h = absurd (cc)
-entry-steps node after (Some entry) h = heard-steps node after entry.clock (heard_again node entry.cause) h
+entry-steps node after (Some entry) h = all-steps (steps_of entry) node after h
 
 torn-leads : (number : ℕ) (state node : Node) (b : Bool) → cond b (Bad number) (Sound state) ≡ Sound node → state ≡ node
 torn-leads number state node true h = absurd (cc)
 torn-leads number state node false h = cc
 
 -- a line leads on, or the journal leads nowhere
-line-leads : (number : ℕ) (state node : Node) (count : ℕ) (onward : Node → Found Node) (b : Bool) (next : Option Node) → cond b (Bad number) (next_found number next onward) ≡ Sound node
-    → ((after : Node) → next ≡ Some after → after.steps ≡ state.steps + 1) → ((after : Node) → onward after ≡ Sound node → node.steps ≡ after.steps + count)
-    → node.steps ≡ state.steps + (count + 1)
-line-leads number state node count onward true next h one more = absurd (cc)
-line-leads number state node count onward false None h one more = absurd (cc)
-line-leads number state node count onward false (Some after) h one more = omega (arith, one after refl, more after h)
+line-leads : (number : ℕ) (state node : Node) (steps : ℕ) (count : ℕ → ℕ) (onward : Node → Found Node) (b : Bool) (next : Option Node)
+    → cond b (Bad number) (next_found number next onward) ≡ Sound node
+    → ((after : Node) → next ≡ Some after → after.steps ≡ state.steps + steps) → ((after : Node) → onward after ≡ Sound node → node.steps ≡ count after.steps)
+    → node.steps ≡ count (state.steps + steps)
+line-leads number state node steps count onward true next h one more = absurd (cc)
+line-leads number state node steps count onward false None h one more = absurd (cc)
+line-leads number state node steps count onward false (Some after) h one more = more after h ∙ ap count (one after refl)
+
+-- so many steps, and those of these lines
+abbrev steps_on : ℕ → List (List ℕ) → ℕ
+steps_on steps lines = fold (λ n line. n + steps_in line) steps lines
 
 from-steps : (number : ℕ) (state node : Node) (lines : List (List ℕ)) (torn : List ℕ) → found_from replayed_line number state lines torn ≡ Sound node
-    → node.steps ≡ state.steps + length lines
+    → node.steps ≡ steps_on state.steps lines
 unfolding found_from
-from-steps number state node [] torn h =
-    let e : state ≡ node = torn-leads number state node (is_long torn) h in
-    let s : node.steps ≡ state.steps = sym (ap (λ (n : Node). n.steps) e) in omega (arith, s)
+from-steps number state node [] torn h = sym (ap (λ (n : Node). n.steps) (torn-leads number state node (is_long torn) h))
 from-steps number state node (line ∷ lines) torn h =
-    let e : node.steps ≡ state.steps + (length lines + 1) =
-    line-leads number state node (length lines) (λ after. found_from replayed_line (number + 1) after lines torn) (is_long line) (replayed_line state line) h
-    (λ after one. entry-steps state after (read_entry line) one) (λ after more. from-steps (number + 1) after node lines torn more) in
-    omega (arith, e)
-
-pub rest_steps : (state node : Node) (bytes : List ℕ) → found_behind replayed_line 2 state bytes ≡ Sound node → node.steps ≡ state.steps + length (lines_of bytes).whole
-rest_steps state node bytes h = from-steps 2 state node (lines_of bytes).whole (lines_of bytes).torn h
+    line-leads number state node (steps_in line) (λ n. steps_on n lines) (λ after. found_from replayed_line (number + 1) after lines torn) (is_long line) (replayed_line state line) h
+    (λ after one. entry-steps state after (read_entry line) one) (λ after more. from-steps (number + 1) after node lines torn more)
 
 -- ---- each byte is in a whole line, or torn
 
@@ -210,12 +220,11 @@ own-leads header node onward false false None h = absurd (cc)
 own-leads header node onward false false (Some x) h = absurd (cc)
 
 own-steps : (header : Header) (node : Node) (lines : List (List ℕ)) (torn : List ℕ) → found_in (own header) lines torn ≡ Sound node → is_empty lines ≡ false
-    → node.steps ≡ length (drop 1 lines)
+    → node.steps ≡ sum_by steps_in (drop 1 lines)
 own-steps header node [] torn h some = absurd (cc)
 own-steps header node (line ∷ lines) torn h some =
-    let rest = own-leads header node (λ state. found_from replayed_line 2 state lines torn) (is_long line) (bytes_eq line (header_line header)) (read_header line) h in
-    let e : node.steps ≡ 0 + length lines = from-steps 2 (opened header) node lines torn rest in
-    let none : length (drop 1 (line ∷ lines)) ≡ length lines = refl in omega (arith, e, none)
+    from-steps 2 (opened header) node lines torn
+    (own-leads header node (λ state. found_from replayed_line 2 state lines torn) (is_long line) (bytes_eq line (header_line header)) (read_header line) h)
 
 sums-all : (before left now : Option (List ℕ)) (header : Header) (node : Node) (count : ℕ) (summary : Summary) → NamesFirst before left header node count
     → SumsRest node left now header count summary → SumsAll before now summary
@@ -227,7 +236,7 @@ sums-all before left now header node count summary n s =
     let counted : bytes_of_lines (lines_of file).whole ≡ count + bytes_of_lines (lines_of r.bytes).whole = l.counted r.bytes in
     let torn : length (lines_of file).torn ≡ length (lines_of r.bytes).torn = ap length (l.torn r.bytes) in
     let begun : is_empty (lines_of file).whole ≡ false = some-lines (lines_of file).whole (omega (arith, n.some, counted)) in
-    let steps : s.after.steps ≡ length (entries_in file) = own-steps header s.after (lines_of file).whole (lines_of file).torn sound begun in
+    let steps : s.after.steps ≡ sum_by steps_in (entries_in file) = own-steps header s.after (lines_of file).whole (lines_of file).torn sound begun in
     let bytes : summary.bytes ≡ length file = omega (arith, s.bytes, s.torn, r.counted, counted, torn, file_length file) in record {
       bytes = file;
       taken = Consumes-trans before left now l.bytes r.bytes l.taken r.taken;
@@ -240,8 +249,8 @@ sums-all before left now header node count summary n s =
         sound = sound;
         named = s.cluster;
         summed =
-            same-summary summary header.me header.sites header.pages (length (entries_in file)) s.after.clock (length file) (length (lines_of file).torn) s.site s.sites s.pages
-            (s.steps ∙ steps) s.clock bytes (s.torn ∙ sym torn);
+            same-summary summary header.me header.sites header.pages (sum_by steps_in (entries_in file)) s.after.clock (length file) (length (lines_of file).torn) s.site s.sites
+            s.pages (s.steps ∙ steps) s.clock bytes (s.torn ∙ sym torn);
       };
     }
 

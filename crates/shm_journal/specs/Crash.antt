@@ -1,5 +1,5 @@
 -- What a crash leaves of a journal. What is durable it leaves; of what was appended since, a front.
-use Rattle.std.specs.Prelude.{◌≡◌, ℕ, List, [], ◌∷◌, ◌++◌, take}
+use Rattle.std.specs.Prelude.{◌≡◌, ℕ, List, [], ◌∷◌, ◌++◌, None, take}
 use Rattle.shm_process.specs.Desk.{Desk, on_bytes}
 use Rattle.shm_journal.specs.Acts.{Act, Append, Read, Sync, Tell, run, told_in}
 
@@ -25,12 +25,14 @@ after_acts disk (act ∷ acts) = after_acts (after_act disk act) acts
 abbrev pub MayLeave : Disk → List ℕ → Type 0
 MayLeave disk file = (n : ℕ) × (file ≡ disk.durable ++ take n disk.loose)
 
--- All that was told so far is told of what a desk took whose entries are all durable, behind the file that the process began with.
+-- All that was told so far is told of what a desk took whose entries are all durable, behind the file that the process began with. No step waits for
+-- its entry in a row, unless one did at the beginning.
 pub record IsKept (first : Desk) (file : List ℕ) (told : List ℕ) (disk : Disk) : Type 0 where
   pub bytes : List ℕ
   pub told_of : told ≡ (on_bytes first bytes).told
   pub durable : disk.durable ≡ file ++ (on_bytes first bytes).recorded
   pub settled : disk.loose ≡ []
+  pub closed : first.row ≡ None → (on_bytes first bytes).row ≡ None
 
 -- whenever a run tells something, it is kept
 abbrev pub KeepsBeforeTelling : Desk → List (List ℕ) → List ℕ → Type 0

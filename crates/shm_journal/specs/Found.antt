@@ -3,8 +3,8 @@
 use Rattle.std.specs.Prelude.{ℕ, ◌+◌, ◌==◌, Bool, true, false, List, [], ◌∷◌, ◌++◌, Option, Some, None, if◌then◌else◌, length, nat_lt, take}
 use Rattle.std.specs.Str.{bytes_eq}
 use Rattle.shm_process.specs.Node.{Node, new_node}
+use Rattle.shm_process.specs.Recorded as recorded
 use Rattle.shm_process.specs.Recorded.{Entry}
-use Rattle.shm_process.specs.Waiting.{replayed}
 use Rattle.shm_journal.specs.Lines.{Header, header_line, read_entry, read_header}
 
 -- ---- lines
@@ -36,7 +36,7 @@ is_empty (line ∷ lines) = false
 -- ---- what they say
 
 -- what they lead to; or that it is the journal of another site, of so many others, or of another opening; or the number of the first line,
--- from 1, that is none of a journal's, or records no step that can be the site's next
+-- from 1, that is none of a journal's, or records steps that can't be the site's next ones
 pub data Found (T : Type 0) : Type 0 where
   Sound : T → Found T
   Foreign : Found T
@@ -100,9 +100,9 @@ opened header = new_node header.sites header.me header.pages
 
 unfoldable pub replayed_entry : Node → Option Entry → Option Node
 replayed_entry node None = None
-replayed_entry node (Some entry) = replayed node entry.clock entry.cause
+replayed_entry node (Some entry) = recorded.replayed_entry node entry
 
--- the site after the step that a line records, if that can be its next
+-- the site after the steps that a line records, if they can be its next ones
 abbrev pub replayed_line : Node → List ℕ → Option Node
 replayed_line node line = replayed_entry node (read_entry line)
 

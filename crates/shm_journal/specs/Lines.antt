@@ -1,5 +1,5 @@
--- The lines of a journal: first `journal SITES ME PAGES`, and ` @NAME` where the cluster has a name; and then an entry for each step, `step CLOCK
--- LINE`, where LINE is the line that made it, or `restart`. One spelling for each.
+-- The lines of a journal: first `journal SITES ME PAGES`, and ` @NAME` where the cluster has a name; and then entries, `step CLOCK LINE`, where LINE
+-- is the line that made a step, or that stands for many, which follow each other from this clock on, or `restart`. One spelling for each.
 use Rattle.std.specs.Prelude.{ℕ, ◌==◌, List, [], ◌∷◌, codes, IfSome, Option, Some, None, if◌then◌else◌, option_map}
 use Rattle.std.specs.Fmt.{decimal}
 use Rattle.std.specs.List.{join_with_byte}
@@ -56,7 +56,7 @@ read_header line = do
   (verb, words) ← next_word (words_of line)
   by_verb ((codes "journal", header_after) ∷ []) nothing verb words
 
--- an entry as it is written: its clock, and the text of what made the step
+-- an entry as it is written: its clock, and the text of what made its steps
 pub record Written : Type 0 where
   pub clock : ℕ
   pub text : List ℕ

@@ -1,11 +1,12 @@
--- What a site's journal holds: its header, and then, of each life of the site, the entries of the events that it had. A life ends with its
--- process; the next begins with what the journal leads to.
+-- What a site's journal holds: its header, and then, of each life of the site, entries whose steps are exactly those of the events that it had. Which
+-- steps share an entry hangs on what came at once. A life ends with its process; the next begins with what the journal leads to.
 use Rattle.std.specs.Prelude.{⊤, ◌≡◌, ◌≤◌, ◌⊎◌, ℕ, List, [], ◌∷◌, ◌++◌, length, take, true, false, Result}
 use Rattle.std.specs.List.{All}
+use Rattle.shm_process.specs.Cause.{cause_text}
 use Rattle.shm_process.specs.Desk.{max_line_bytes}
 use Rattle.shm_process.specs.Node.{Node}
 use Rattle.shm_process.specs.declared.process_counts.Start.{Start}
-use Rattle.shm_process.specs.Recorded.{Event, Line, TooLong, Again, Restarted, after_events, entries_of, entries_text, kept}
+use Rattle.shm_process.specs.Recorded.{Entry, Event, Line, TooLong, Again, Restarted, IsEntry, after_events, all_steps, entries_of, entries_text, kept}
 use Rattle.shm_journal.specs.Acts.{Act, IsRun}
 use Rattle.shm_journal.specs.Crash.{MayLeave, after_acts, disk_of}
 use Rattle.shm_journal.specs.DeskFrom.{desk_from}
@@ -22,56 +23,73 @@ IsTaken TooLong = ⊤
 IsTaken Again = ⊤
 IsTaken Restarted = ⊤
 
-abbrev pub AreTaken : List (List Event) → Type 0
-AreTaken lives = All (All IsTaken) lives
+-- so it is of the text of what made the steps of an entry
+abbrev pub IsOfTaken : Entry → Type 0
+IsOfTaken entry = IsTaken (Line (cause_text entry.cause))
+
+-- ---- lives
+
+-- entries, all of them with lines, whose steps are exactly those of the events of a life, in order
+pub record IsLife (node : Node) (life : List Event) (text : List ℕ) : Type 0 where
+  pub entries : List Entry
+  pub are : All IsEntry entries
+  pub taken : All IsOfTaken entries
+  pub is : text ≡ entries_text entries
+  pub steps : all_steps entries ≡ entries_of node life
 
 -- the node after these lives; of each the next has what is kept
 abbrev pub after_lives : Node → List (List Event) → Node
 after_lives node [] = node
 after_lives node (life ∷ lives) = after_lives (kept (after_events node life)) lives
 
--- the entries of these lives
-abbrev pub lives_text : Node → List (List Event) → List ℕ
-lives_text node [] = []
-lives_text node (life ∷ lives) = entries_text (entries_of node life) ++ lives_text (kept (after_events node life)) lives
+-- the entries of these lives, life after life
+abbrev pub IsLives : Node → List (List Event) → List ℕ → Type 0
+IsLives node [] text = text ≡ []
+IsLives node (life ∷ lives) text =
+    (first rest : List ℕ) × (text ≡ first ++ rest) × IsLife node life first × IsLives (kept (after_events node life)) lives rest
+
+abbrev pub header_text : Header → List ℕ
+header_text header = header_line header ++ 10 ∷ []
 
 -- the header, and these entries
-abbrev pub journal_text : Header → List (List Event) → List ℕ
-journal_text header lives = (header_line header ++ 10 ∷ []) ++ lives_text (opened header) lives
+abbrev pub IsJournal : Header → List (List Event) → List ℕ → Type 0
+IsJournal header lives text = (rest : List ℕ) × (text ≡ header_text header ++ rest) × IsLives (opened header) lives rest
 
--- A file of whole lines, the journal of these lives, and behind them what is torn: the site finds the node after them. The whole lines are
+-- A file of whole lines, this journal of these lives, and behind them what is torn: the site finds the node after them. The whole lines are
 -- exactly the journal.
-pub record FindsLives (header : Header) (lives : List (List Event)) (file : List ℕ) : Type 0 where
+pub record FindsLives (header : Header) (lives : List (List Event)) (journal file : List ℕ) : Type 0 where
+  pub is : IsJournal header lives journal
   pub torn : List ℕ
-  pub text : file ≡ journal_text header lives ++ torn
+  pub text : file ≡ journal ++ torn
   pub unended : Unended torn
   pub sound : found header file ≡ Sound (after_lives (opened header) lives)
-  pub whole : take (bytes_of_lines (lines_of file).whole) file ≡ journal_text header lives
+  pub whole : take (bytes_of_lines (lines_of file).whole) file ≡ journal
 
 -- ---- a crash
 
--- What a crash leaves of a journal while a further life goes on: all entries that are durable, and those of as many events behind them as
+-- What a crash leaves of a journal while a further life goes on: all entries that are durable, and behind them those of as many events more as
 -- are whole.
 pub record LeavesLife (header : Header) (lives : List (List Event)) (durable file : List ℕ) : Type 0 where
   pub life : List Event
   pub more : List Event
   pub taken : All IsTaken (life ++ more)
-  pub kept : durable ≡ journal_text header (lives ++ life ∷ [])
-  pub finds : FindsLives header (lives ++ (life ++ more) ∷ []) file
+  pub kept : IsJournal header (lives ++ life ∷ []) durable
+  pub behind : List ℕ
+  pub finds : FindsLives header (lives ++ (life ++ more) ∷ []) (durable ++ behind) file
 
 -- Of a journal that is begun, while nothing is durable: no whole line, or its header alone; the site finds that nothing has happened.
 pub record LeavesFront (header : Header) (durable file : List ℕ) : Type 0 where
   pub none : durable ≡ []
   pub finds : found header file ≡ Sound (opened header)
-  pub whole : (bytes_of_lines (lines_of file).whole ≡ 0) ⊎ (file ≡ journal_text header [])
+  pub whole : (bytes_of_lines (lines_of file).whole ≡ 0) ⊎ IsJournal header [] file
 
--- whatever a process does in this life, at each moment of it, and whatever a crash leaves then
-abbrev pub LeavesSound : Header → List (List Event) → Type 0
-LeavesSound header lives =
+-- whatever a process does in this life, which began with this journal, at each moment of it, and whatever a crash leaves then
+abbrev pub LeavesSound : Header → List (List Event) → List ℕ → Type 0
+LeavesSound header lives journal =
     (seal : Seal) (start : Start) (result : Result (Unit {0}) ProcessFault) (acts before after : List Act) (left : List ℕ)
     → IsRun (desk_from header seal false (after_lives (opened header) lives) start) result acts → acts ≡ before ++ after
-    → MayLeave (after_acts (disk_of (journal_text header lives)) before) left
-    → LeavesLife header lives (after_acts (disk_of (journal_text header lives)) before).durable left
+    → MayLeave (after_acts (disk_of journal) before) left
+    → LeavesLife header lives (after_acts (disk_of journal) before).durable left
 
 abbrev pub LeavesNewSound : Header → Type 0
 LeavesNewSound header =

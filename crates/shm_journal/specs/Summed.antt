@@ -1,12 +1,15 @@
--- What a journal has, whichever site's it is: its site, how many entries, where they lead, and how many bytes.
+-- What a journal has, whichever site's it is: its site, how many steps its entries record, where they lead, and how many bytes.
 use Rattle.std.specs.Prelude.{⊤, ◌≡◌, ◌<◌, ◌⊎◌, ℕ, ◌+◌, ◌&&◌, Bool, true, false, List, [], ◌∷◌, ◌++◌, Option, Some, None, Result, Ok, Err, IfSome, codes, drop, if◌then◌else◌, length, nat_lt, option_and_then, option_map}
 use Rattle.std.specs.Fmt.{decimal}
+use Rattle.std.specs.List.{sum_by}
+use Rattle.std.specs.Option.{option_map_or}
 use Rattle.shm_place.specs.Limits.{max_sites}
 use Rattle.shm_place.specs.Limits as limit
 use Rattle.shm_process.specs.Node.{Node}
-use Rattle.shm_journal.specs.Found.{Found, Sound, Foreign, Bad, Kind, found, found_behind, found_of, is_empty, lines_of, opened, replayed_line}
+use Rattle.shm_process.specs.Recorded.{steps_of}
+use Rattle.shm_journal.specs.Found.{Found, Sound, Bad, Kind, found, found_behind, found_of, is_empty, lines_of, opened, replayed_line}
 use Rattle.shm_journal.specs.Leading.{Leads}
-use Rattle.shm_journal.specs.Lines.{Header, read_header}
+use Rattle.shm_journal.specs.Lines.{Header, read_entry, read_header}
 use Rattle.shm_journal.specs.ReadUpTo.{BreaksAt, LacksLine, ReadsWhole, StopsAt}
 use Rattle.shm_journal.specs.Recovers.{ReadsAll}
 use Rattle.shm_journal.specs.declared.journal_error.JournalFault.{JournalFault}
@@ -47,6 +50,10 @@ found_any file = found_of any file
 abbrev pub entries_in : List ℕ → List (List ℕ)
 entries_in file = drop 1 (lines_of file).whole
 
+-- how many steps a line records
+abbrev pub steps_in : List ℕ → ℕ
+steps_in line = option_map_or (λ entry. length (steps_of entry)) (read_entry line) 0
+
 -- of a file with this header, of a cluster of this name, whose entries lead to this node: the clock is that of the last step, or 0
 abbrev pub summary_of : Header → Option ClusterName → List ℕ → Node → Summary
 summary_of header cluster file node = record {
@@ -54,7 +61,7 @@ summary_of header cluster file node = record {
   sites = header.sites;
   pages = header.pages;
   cluster = cluster;
-  steps = length (entries_in file);
+  steps = sum_by steps_in (entries_in file);
   clock = node.clock;
   bytes = length file;
   torn = length (lines_of file).torn;

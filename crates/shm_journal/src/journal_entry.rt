@@ -1,10 +1,10 @@
 use shm_process::Cause;
 use std::alloc::{Allocator, Global};
 
-/// A step that is recorded.
+/// Steps that are recorded, one after another.
 #[derive(Drop)]
 pub struct Entry<A: Allocator + Copy = Global> {
-    /// The clock of the step.
+    /// The clock of the first step.
     pub clock: u64,
     pub cause: Cause<A>,
 }

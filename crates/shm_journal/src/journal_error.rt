@@ -10,8 +10,8 @@ pub enum JournalFault {
     /// The reader answered an error, or the journal is longer than any file.
     #[error("read fault")]
     ReadFault,
-    /// The line of this number, from 1, is none of a journal's, or longer than one may be, or records no step that can be the site's next; or
-    /// there is no first line.
+    /// The line of this number, from 1, is none of a journal's, or longer than one may be, or records steps that can't be the site's next ones;
+    /// or there is no first line.
     #[error("line {0}: bad line")]
     BadLine(u64),
 }

@@ -1,6 +1,7 @@
 //! Reads the lines of a journal.
 ghost use Rattle.std.specs.Prelude.{◌≡◌, None, Some, IfNone, IfOk, IfSome, option_map};
 ghost use Rattle.shm_process.specs.CauseOf.{cause_of};
+ghost use Rattle.shm_process.specs.Recorded.{IsEntry};
 ghost use Rattle.shm_journal.specs.EntryOf.{entry_of};
 ghost use Rattle.shm_journal.specs.HeaderOf.{header_of};
 ghost use Rattle.shm_journal.specs.Lines.{cluster_after, cluster_named, or_restart, read_cause, read_entry, read_header, read_written};
@@ -64,7 +65,8 @@ pub fn parse_entry<A: Allocator + Copy>(
     alloc: A,
     line: &[u8],
 ) -> Result<Option<Entry<A>>, AllocError>
-    ensures { IfOk result (λ entry. option_map entry_of entry ≡ read_entry line.now) }
+    ensures read { IfOk result (λ entry. option_map entry_of entry ≡ read_entry line.now) }
+    ensures lines { IfOk result (λ entry. IfSome entry (λ e. IsEntry (entry_of e))) }
 {
     let Some((clock, text)) = split_entry(line) else {
         return Ok(None);
@@ -75,7 +77,7 @@ pub fn parse_entry<A: Allocator + Copy>(
     }
 }
 
-/// The clock of the step that this line records, and the text of what made it.
+/// The clock of the first step that this line records, and the text of what made its steps.
 fn split_entry(line: &[u8]) -> Option<(u64, &[u8])>
     ensures some { IfSome result (λ entry. read_written line.now ≡ Some (record { clock = entry.0; text = entry.1.now })) }
     ensures none { IfNone result (read_written line.now ≡ None) }
@@ -90,7 +92,7 @@ fn split_entry(line: &[u8]) -> Option<(u64, &[u8])>
     Some((clock, text))
 }
 
-/// Reads the cause of a step: a line, or the site's restart.
+/// Reads the cause of steps: a line, or the site's restart.
 fn parse_cause<A: Allocator + Copy>(alloc: A, text: &[u8]) -> Result<Option<Cause<A>>, AllocError>
     ensures { IfOk result (λ cause. option_map cause_of cause ≡ read_cause text.now) }
 {

@@ -4,7 +4,7 @@ ghost use Rattle.shm_journal.specs.Crash.{KeepsBeforeTelling};
 ghost use Rattle.shm_journal.specs.DeskFrom.{desk_from};
 ghost use Rattle.shm_journal.specs.Found.{opened};
 ghost use Rattle.shm_journal.specs.Lines.{Header, IsHeader, header_line, read_entry, read_header};
-ghost use Rattle.shm_journal.specs.Lives.{AreTaken, FindsLives, LeavesNewSound, LeavesSound, after_lives, journal_text};
+ghost use Rattle.shm_journal.specs.Lives.{FindsLives, IsJournal, LeavesNewSound, LeavesSound, after_lives};
 ghost use Rattle.shm_process.specs.Desk.{Desk};
 ghost use Rattle.shm_process.specs.Node.{is_late};
 ghost use Rattle.shm_process.specs.Recorded.{Entry, Event, IsEntry, after_events, entry_line};
@@ -29,19 +29,20 @@ pub fn nothing_is_told_before_it_is_durable()
     ensures { (desk : Desk) (reads : List (List ℕ)) (file : List ℕ) → KeepsBeforeTelling desk reads file }
 {}
 
-/// A journal that a site left is found sound, whatever it took in each of its lives: its header, and the entries of all that happened. It leads
-/// to the site after them, less the asks that waited and the counts of lines.
+/// A journal that a site left is found sound, whatever it took in each of its lives: its header, and the entries of all that happened, however many
+/// steps share an entry. It leads to the site after them, less the asks that waited and the counts of lines.
 pub fn a_journal_that_was_served_is_found_sound()
-    ensures { (header : Header) (lives : List (List Event)) → IsHeader header → AreTaken lives → FindsLives header lives (journal_text header lives) }
+    ensures { (header : Header) (lives : List (List Event)) (journal : List ℕ) → IsHeader header → IsJournal header lives journal
+        → FindsLives header lives journal journal }
 {}
 
 /// So is what a crash leaves of it, at any moment of a further life, whatever comes in that life: it leads to the site after all whose entries
-/// were durable, and at most what had happened since; and its whole lines are the journal that the next life begins with. That life begins
+/// were durable, and at most what had happened since; and its whole lines are a journal that the next life begins with. That life begins
 /// with a restart, for which there has to be a clock.
 pub fn a_crash_leaves_a_sound_journal()
     ensures begun { (header : Header) → IsHeader header → LeavesNewSound header }
-    ensures goes_on { (header : Header) (lives : List (List Event)) → IsHeader header → AreTaken lives → is_late (after_lives (opened header) lives) 0 ≡ false
-        → LeavesSound header lives }
+    ensures goes_on { (header : Header) (lives : List (List Event)) (journal : List ℕ) → IsHeader header → IsJournal header lives journal
+        → is_late (after_lives (opened header) lives) 0 ≡ false → LeavesSound header lives journal }
 {}
 
 /// In its next life a site maps the pages that it mapped when the last one ended: its journal leads there, and a restart changes none.

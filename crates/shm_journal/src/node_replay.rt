@@ -1,5 +1,5 @@
 //! A site's process makes the steps again that its journal records.
-ghost use Rattle.std.specs.Prelude.{◌≡◌, is_some, unwrap_or, IfOk, OnOk};
+ghost use Rattle.std.specs.Prelude.{◌≡◌, is_some, true, IfOk, Some};
 ghost use Rattle.shm_journal.specs.Found.{replayed_line};
 ghost use Rattle.shm_process.specs.NodeOf.{node_of};
 
@@ -23,7 +23,7 @@ impl<A: Allocator + Copy> Replay<A> for Node<A> {
     }
 }
 
-/// Makes the step that this line records again; `false`: it records none that can be the site's next, and nothing changed.
+/// Makes the steps again that this line records; `false`: they can't be the site's next ones; then some of them may have been made.
 #[tactic(auto, unfolding(crate::specs::Found::replayed_entry))]
 fn replay_entry<A: Allocator + Copy>(
     alloc: A,
@@ -31,10 +31,10 @@ fn replay_entry<A: Allocator + Copy>(
     line: &[u8],
 ) -> Result<bool, AllocError>
     ensures made { IfOk result (λ made. made ≡ is_some (replayed_line (node_of node.old) line.now)) }
-    ensures after { OnOk result (node_of node.new ≡ unwrap_or (replayed_line (node_of node.old) line.now) (node_of node.old)) }
+    ensures after { IfOk result (λ made. made ≡ true → Some (node_of node.new) ≡ replayed_line (node_of node.old) line.now) }
 {
     let Some(Entry { clock, cause }) = parse_entry(alloc, line)? else {
         return Ok(false);
     };
-    node.replay(clock, cause)
+    node.replay_entry(clock, cause)
 }

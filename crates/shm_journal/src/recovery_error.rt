@@ -12,7 +12,7 @@ pub enum RecoveryFault {
     /// Its header is that of another site, of another number of sites, or of another opening.
     #[error("journal: of another site, number of sites, opening or cluster")]
     Foreign,
-    /// The line of this number, from 1, is none of a journal's, or records no step that can be the site's next.
+    /// The line of this number, from 1, is none of a journal's, or records steps that can't be the site's next ones.
     #[error("journal: line {0}: no entry of this site")]
     BadLine(u64),
 }

@@ -20,10 +20,10 @@ pub trait Replay<A: Allocator + Copy> {
 
     ghost state: { Self → State };
 
-    /// The state after the step that a line records, if that can be its next.
+    /// The state after the steps that a line records, if they can be its next ones.
     ghost next: { State → List ℕ → Option State };
 
-    /// Makes the step that this line records. `false`: it records none that can be next.
+    /// Makes the steps that this line records. `false`: they can't be the next ones.
     fn replay_line(&mut self, alloc: A, line: &[u8]) -> Result<bool, AllocError>
         ensures { IfOk result (λ made. IsNext made (next (state self.old) line.now) (state self.new)) };
 }

@@ -21,11 +21,13 @@ use Rattle.shm_laws.proofs.Page.Moves.{same-page}
 use Rattle.shm_parts.specs.Reached.{page_reached}
 use Rattle.shm_wire.specs.Line as stream
 use Rattle.shm_wire.specs.Unmaps.{Run, UnmapAsk}
-use Rattle.shm_process.specs.Desk.{Desk, brought, given_up, quietly, store_line, stored_run}
+use Rattle.shm_process.specs.Causes.{bare, store_line}
+use Rattle.shm_process.specs.Desk.{Desk, brought, given_up, stored_run, told_quietly, unmap_entry, unrecorded, with_record}
 use Rattle.shm_process.specs.Mapped.{byte_place, lowered}
-use Rattle.shm_process.specs.Node.{Heard, Node, asked_under, is_late}
+use Rattle.shm_process.specs.Node.{Heard, Node, Said, asked_under, is_late}
+use Rattle.shm_process.specs.Recorded.{entries_text}
 use Rattle.shm_process.specs.Remaps.{first_load, is_of_page, unmapped_to}
-use Rattle.shm_process.specs.Waiting.{after, after_heard, joining, taken}
+use Rattle.shm_process.specs.Waiting.{after, after_heard, joining, said, taken}
 use Rattle.shm_kept.specs.Brought.{IsBringable, IsGivenUp, bytes_of, with_bytes_at, with_runs}
 use Rattle.shm_kept.proofs.Bytes.{index-is, inside-test, place-of, within-is}
 use Rattle.shm_kept.proofs.Rights.{right-lower}
@@ -69,6 +71,15 @@ stored-here : (site : Site) (page : PageId) (k byte number : ℕ) (b : List ℕ)
     → at_page site.entries page (stored_entry k byte (site.entries page)) page ≡ OwnWrite number (slice_set b k byte)
 stored-here site page k byte number b e =
     cond-true (same_page page page) (stored_entry k byte (site.entries page)) (site.entries page) (same-page page) ∙ ap (stored_entry k byte) e
+
+-- a step whose entry is the unmap's
+told-node : (d : Desk) (says : Option Said) → (told_quietly d says).node ≡ d.node
+told-node d None = refl
+told-node d (Some says) = refl
+
+unrecorded-node : (d : Desk) (line : stream.Line) → (unrecorded d line).node ≡ after d.node line
+unfolding unrecorded
+unrecorded-node d line = told-node (record d { node = after d.node line }) (said d.node line)
 
 module _ (ask : UnmapAsk) (place : Place) (number : ℕ) where
   -- so many steps more have a clock after this one
@@ -130,14 +141,19 @@ module _ (ask : UnmapAsk) (place : Place) (number : ℕ) where
   one-left : (count left : ℕ) → suc count + left ≡ suc (count + left)
   one-left count left = omega arith
 
+  byte-ready : (byte : ℕ) (bs : List ℕ) (d : Desk) (page : List ℕ) (left k : ℕ) → Ready d.node page (suc (length bs) + left) → k + suc (length bs) ≤ page_bytes
+      → Ready (unrecorded d (store_line ask (ask.index * page_bytes + k) byte)).node (slice_set page k byte) (length bs + left)
+  byte-ready byte bs d page left k r within =
+      subst (λ n. Ready n (slice_set page k byte) (length bs + left)) (sym (unrecorded-node d (store_line ask (ask.index * page_bytes + k) byte)))
+      (store-ready d.node page (length bs + left) k byte (subst (λ n. Ready d.node page n) (one-left (length bs) left) r) (first-of k (length bs) within))
+
   run-ready : (bs : List ℕ) (d : Desk) (page : List ℕ) (left k : ℕ) → Ready d.node page (length bs + left) → k + length bs ≤ page_bytes
       → Ready (stored_run d ask (ask.index * page_bytes + k) bs).node (with_bytes_at k bs page) left
-  unfolding stored_run quietly
+  unfolding stored_run
   run-ready [] d page left k r within = subst (λ n. Ready d.node page n) (none-left left) r
   run-ready (byte ∷ bs) d page left k r within =
-      let next = quietly d (store_line ask (ask.index * page_bytes + k) byte) in
-      let now = subst (λ n. Ready d.node page n) (one-left (length bs) left) r in
-      let stored = store-ready d.node page (length bs + left) k byte now (first-of k (length bs) within) in
+      let next = unrecorded d (store_line ask (ask.index * page_bytes + k) byte) in
+      let stored = byte-ready byte bs d page left k r within in
       subst (λ o. Ready (stored_run next ask o bs).node (with_bytes_at (k + 1) bs (slice_set page k byte)) left) (sym (next-offset ask.index k))
       (run-ready bs next (slice_set page k byte) left (k + 1) stored (next-of k (length bs) within))
 
@@ -169,14 +185,15 @@ module _ (ask : UnmapAsk) (place : Place) (number : ℕ) where
 
   run-mapped : (bs : List ℕ) (d : Desk) (page : List ℕ) (left k : ℕ) → Ready d.node page (length bs + left) → k + length bs ≤ page_bytes
       → (stored_run d ask (ask.index * page_bytes + k) bs).node.mapped ≡ d.node.mapped
-  unfolding stored_run quietly
+  unfolding stored_run
   run-mapped [] d page left k r within = refl
   run-mapped (byte ∷ bs) d page left k r within =
-      let next = quietly d (store_line ask (ask.index * page_bytes + k) byte) in
+      let line = store_line ask (ask.index * page_bytes + k) byte in
+      let next = unrecorded d line in
       let now = subst (λ n. Ready d.node page n) (one-left (length bs) left) r in
-      let stored = store-ready d.node page (length bs + left) k byte now (first-of k (length bs) within) in
       ap (λ o. (stored_run next ask o bs).node.mapped) (next-offset ask.index k)
-      ∙ run-mapped bs next (slice_set page k byte) left (k + 1) stored (next-of k (length bs) within)
+      ∙ run-mapped bs next (slice_set page k byte) left (k + 1) (byte-ready byte bs d page left k r within) (next-of k (length bs) within)
+      ∙ ap (λ (n : Node). n.mapped) (unrecorded-node d line)
       ∙ store-mapped d.node page (suc (length bs + left)) (ask.index * page_bytes + k) byte now
 
   runs-mapped : (runs : List Run) (d : Desk) (page : List ℕ) → list_all (is_of_page ask.index) runs ≡ true → Ready d.node page (bytes_of runs)
@@ -197,7 +214,7 @@ module _ (ask : UnmapAsk) (place : Place) (number : ℕ) where
   -- ---- the last step
 
   last-after : (node : Node) (page : List ℕ) → Ready node page 0
-      → after node (stream.Unmap (record ask { runs = [] }))
+      → after node (stream.Unmap (bare ask))
       ≡ taken node (asked_under ask.tag None (unmapped_to node.mapped ask.keeps (page_reached (right node.site.attachments ask.at (byte_place ask.index 0) false))) (first_load ask.at ask.index))
   last-after node page r =
       ap (after_heard node None)
@@ -215,14 +232,14 @@ module _ (ask : UnmapAsk) (place : Place) (number : ℕ) where
       ap (λ b. (cond b (still (Byte (slice_index (bytes (site.entries place.page)) place.within)) site) (ask_for sites me Read place.page site)).site) reads
 
   last-entry : (node : Node) (page : List ℕ) → Ready node page 0 → ask.index < pages
-      → (after node (stream.Unmap (record ask { runs = [] }))).site.entries place.page ≡ OwnWrite number page
+      → (after node (stream.Unmap (bare ask))).site.entries place.page ≡ OwnWrite number page
   last-entry node page r low =
       ap (λ (n : Node). n.site.entries place.page) (last-after node page r)
       ∙ ap (λ x. (load_if node.sites node.me x node.site).site.entries place.page) (last-leads node page r low)
       ∙ ap (λ (s : Site). s.entries place.page) (load-still node.sites node.me node.site (ap readable r.entry)) ∙ r.entry
 
   last-mapped : (node : Node) (page : List ℕ) → Ready node page 0 → ask.index < pages
-      → (after node (stream.Unmap (record ask { runs = [] }))).mapped ≡ lowered place.page ask.keeps node.mapped
+      → (after node (stream.Unmap (bare ask))).mapped ≡ lowered place.page ask.keeps node.mapped
   last-mapped node page r low =
       ap (λ (n : Node). n.mapped) (last-after node page r)
       ∙ ap (λ x. unwrap_or (unmapped_to node.mapped ask.keeps (page_reached x)) node.mapped) (last-leads node page r low)
@@ -231,7 +248,7 @@ same-number : (a b : ℕ) → a ≡ b → (a == b) ≡ true
 same-number a b e = grind (arith, nat_tests, e)
 
 pub gives-up : (d : Desk) (ask : UnmapAsk) (place : Place) (number : ℕ) (page : List ℕ) → IsBringable d.node ask place number page → IsGivenUp d (given_up d ask) ask place number page
-unfolding quietly
+unfolding given_up
 gives-up d ask place number page b =
     let begun : Ready ask place number d.node page (bytes_of ask.runs) = record {
       here = same-number ask.site d.node.me b.here;
@@ -239,11 +256,13 @@ gives-up d ask place number page b =
       leads = ap (λ o. right d.node.site.attachments ask.at o true) (sym (place-of ask.index 0 b.within zero-small)) ∙ b.leads;
       entry = b.entry;
     } in
-    let next = brought d ask ask.runs in
+    let first = with_record (entries_text (unmap_entry d.node ask ∷ [])) d in
+    let next = brought first ask ask.runs in
     let after_all = with_runs ask.index ask.runs page in
-    let stored = runs-ready ask place number ask.runs d page b.runs begun in
+    let stored = runs-ready ask place number ask.runs first page b.runs begun in
+    let last = unrecorded-node next (stream.Unmap (bare ask)) in
     record {
-      entry = last-entry ask place number next.node after_all stored b.within;
-      mapped = last-mapped ask place number next.node after_all stored b.within
-          ∙ ap (lowered place.page ask.keeps) (runs-mapped ask place number ask.runs d page b.runs begun);
+      entry = ap (λ (n : Node). n.site.entries place.page) last ∙ last-entry ask place number next.node after_all stored b.within;
+      mapped = ap (λ (n : Node). n.mapped) last ∙ last-mapped ask place number next.node after_all stored b.within
+          ∙ ap (lowered place.page ask.keeps) (runs-mapped ask place number ask.runs first page b.runs begun);
     }

@@ -1,5 +1,5 @@
 -- What a site maps is kept: its right to each page that is mapped stands, whatever comes.
-use Rattle.std.specs.Prelude.{◌≡◌, ◌++◌, ℕ, ◌<◌, true, Bool, List, [], ◌∷◌, Some, map}
+use Rattle.std.specs.Prelude.{◌≡◌, ℕ, ◌<◌, true, Bool, List, [], ◌∷◌, Some, map}
 use Rattle.std.specs.List.{list_all}
 use Rattle.shm_model.specs.Book.{is_write}
 use Rattle.shm_model.specs.Calls.{Attachment}
@@ -8,9 +8,10 @@ use Rattle.shm_mapping.specs.Hosts.{has_page}
 use Rattle.shm_mapping.specs.Verdicts.{MayMap}
 use Rattle.shm_wire.specs.declared.mapping_text.Mapping.{Mapping}
 use Rattle.shm_process.specs.Desk.{Desk, cleared, on_bytes, restarted}
+use Rattle.shm_process.specs.DeskEvents.{DidEvents}
 use Rattle.shm_process.specs.Mapped.{as_mapped}
 use Rattle.shm_process.specs.Node.{Node}
-use Rattle.shm_process.specs.Recorded.{Event, after_event, after_events, entries_of, entries_text}
+use Rattle.shm_process.specs.Recorded.{Event, after_event}
 
 -- the attachment that a page is mapped through has it, and may be stored through where the page is mapped to write
 abbrev pub is_through : Site → Mapping → Bool
@@ -32,12 +33,10 @@ abbrev pub KeptThrough : Node → List Event → Type 0
 KeptThrough node [] = IsKept node
 KeptThrough node (event ∷ events) = IsKept node × KeptThrough (after_event node event) events
 
--- the node of the first desk had these events, whose entries were recorded, and became that of the other; at each moment what it mapped was kept
+-- the node of the first desk had events, whose steps were recorded, and became that of the other; at each moment what it mapped was kept
 pub record DidKeep (old new : Desk) : Type 0 where
-  pub events : List Event
-  pub node : new.node ≡ after_events old.node events
-  pub recorded : new.recorded ≡ old.recorded ++ entries_text (entries_of old.node events)
-  pub kept : KeptThrough old.node events
+  pub did : DidEvents old new
+  pub kept : KeptThrough old.node did.events
 
 -- what happens to a desk: bytes come, its site restarts, and what was recorded and told is written out
 pub data Happening : Type 0 where

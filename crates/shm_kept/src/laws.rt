@@ -12,7 +12,7 @@ ghost use Rattle.shm_wire.specs.declared.mapping_text.Mapping.{Mapping};
 ghost use Rattle.shm_process.specs.Desk.{Desk, given_up, on_bytes};
 ghost use Rattle.shm_process.specs.Mapped.{mapped_at};
 ghost use Rattle.shm_process.specs.Node.{Node, new_node};
-ghost use Rattle.shm_process.specs.Recorded.{Event, entries_of, kept, replayed_all};
+ghost use Rattle.shm_process.specs.Recorded.{Entry, Event, all_steps, entries_of, kept, replayed_all};
 ghost use Rattle.shm_kept.specs.Brought.{IsBringable, IsGivenUp};
 ghost use Rattle.shm_kept.specs.Bytes.{GivesBytes, IsMappable};
 ghost use Rattle.shm_kept.specs.Kept.{DidKeep, Happening, IsKept, KeptThrough, after_happenings};
@@ -21,15 +21,17 @@ ghost use Rattle.shm_kept.specs.Kept.{DidKeep, Happening, IsKept, KeptThrough, a
 /// page's segment: at first, after each step that it makes of what comes, and after all that happens to its desk.
 pub fn what_a_site_maps_is_kept()
     ensures new { (sites me pages : ℕ) → IsKept (new_node sites me pages) }
-    ensures steps { (desk : Desk) (bytes : List ℕ) → IsKept desk.node → DidKeep desk (on_bytes desk bytes) }
+    ensures steps { (desk : Desk) (bytes : List ℕ) → desk.row ≡ None → IsKept desk.node → DidKeep desk (on_bytes desk bytes) }
     ensures always { (desk : Desk) (happenings : List Happening) → IsKept desk.node → IsKept (after_happenings desk happenings).node }
 {}
 
-/// A site that comes back from what it recorded so, or from any front of it, keeps what it maps then. So each life of a site begins as the
-/// first did.
+/// A site that comes back from what it recorded so, or from any front of it, step by step or entry by entry, keeps what it maps then. So each
+/// life of a site begins as the first did.
 pub fn a_site_that_comes_back_keeps_what_it_maps()
-    ensures { (node next : Node) (events : List Event) (n : ℕ) → KeptThrough node events
+    ensures steps { (node next : Node) (events : List Event) (n : ℕ) → KeptThrough node events
         → replayed_all (kept node) (entries_of node (take n events)) ≡ Some next → IsKept next }
+    ensures entries { (node next : Node) (events : List Event) (entries : List Entry) (n : ℕ) → KeptThrough node events
+        → all_steps entries ≡ entries_of node events → replayed_all (kept node) (all_steps (take n entries)) ≡ Some next → IsKept next }
 {}
 
 /// Of two sites in a world whose sites agree, where one maps a page to write the other doesn't map it.

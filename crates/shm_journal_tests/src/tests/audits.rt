@@ -86,6 +86,20 @@ fn a_copy_was_lent(rt: HostRuntime) -> Result<(), Fail> {
 }
 
 #[test]
+fn each_step_of_an_entry_counts(rt: HostRuntime) -> Result<(), Fail> {
+    let blocks =
+        b"journal 2 0 4\nstep 1 ask 0 a write 0 5 Bwk=\nstep 3 ask 0 b read 0 5 2\n".as_slice();
+    let idle = b"journal 2 1 4\nstep 1 ask 1 t tick\n".as_slice();
+    let counts = Totals {
+        steps: 5,
+        accesses: 4,
+        envelopes: 0,
+    };
+    assert_eq!(rt; count_both(rt.alloc(), blocks, idle)?, Some(counts));
+    Ok(())
+}
+
+#[test]
 fn a_page_was_never_sent(rt: HostRuntime) -> Result<(), Fail> {
     let alloc = rt.alloc();
     let reader = reader(alloc)?;

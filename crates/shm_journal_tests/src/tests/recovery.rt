@@ -14,6 +14,10 @@ use std::test::Fail;
 const STORES: &[u8] =
     b"journal 2 0 4\nstep 1 ask 0 a store 0 5 7\nstep 2 ask 0 b store 0 6 9\nstep 3 ask 0 a load 0 5\n";
 
+/// Another one, whose entries have many steps: two stores, two loads, a map, and an unmap with a store.
+const BLOCKS: &[u8] =
+    b"journal 2 0 4\nstep 1 ask 0 a write 0 5 Bwk=\nstep 3 ask 0 b read 0 5 2\nstep 5 ask 0 m map 0 0 write\nstep 6 ask 0 m unmap 0 0 none 6 Aw==\n";
+
 /// How many bytes its header and its first entry have.
 const HEADER_AND_STORE: u64 = 14 + 27;
 
@@ -123,6 +127,25 @@ fn recorded_stores_are_loaded_again(rt: HostRuntime) -> Result<(), Fail> {
         Some(said) => assert_eq!(rt; (said.clock, said.answer), (4, Answer::Byte(9))),
         None => return Err(Fail::new("no step was made")),
     }
+    Ok(())
+}
+
+#[test]
+fn an_entry_of_many_steps_makes_them_all(rt: HostRuntime) -> Result<(), Fail> {
+    let mut reader = BLOCKS;
+    let Ok(mut recovered) = recover_first_site(rt.alloc(), &mut reader) else {
+        return Err(Fail::new("the journal was refused"));
+    };
+    assert_eq!(rt; (recovered.node.steps(), recovered.node.clock()), (7, 7));
+    let Some(line) = parse_line(rt.alloc(), b"ask 0 c load 0 6")? else {
+        return Err(Fail::new("an ask's line"));
+    };
+    match recovered.node.take(line)? {
+        Some(said) => assert_eq!(rt; (said.clock, said.answer), (8, Answer::Byte(3))),
+        None => return Err(Fail::new("no step was made")),
+    }
+    let overlapping = b"journal 2 0 4\nstep 1 ask 0 a write 0 5 Bwk=\nstep 2 restart\n".as_slice();
+    assert!(rt; is_refused(rt.alloc(), overlapping, RecoveryFault::BadLine(3)));
     Ok(())
 }
 

@@ -5,5 +5,5 @@ use Rattle.shm_journal.proofs.node_replay.NodeReplay.replay_line.Goals as goal
 
 pub returns : goal.returns
 returns g c =
-    made_next c.replay_entry.result (replayed_line (node_of c.args.self.now) c.args.line.now) (node_of c.args.self.now) (node_of c.replay_entry.new.node)
-    c.replay_entry.ensures.made c.replay_entry.ensures.after
+    made_next c.replay_entry.result (replayed_line (node_of c.args.self.now) c.args.line.now) (node_of c.replay_entry.new.node) c.replay_entry.ensures.made
+    c.replay_entry.ensures.after
