@@ -1,5 +1,6 @@
 pub mod Answering
 pub mod Counted
+pub mod Entering
 pub mod Tellings
 pub mod Among
 pub mod Since

@@ -1,17 +1,16 @@
 -- A block whose caller is told that it is stored was, since it was asked for, by steps that its site's process made.
-use Rattle.std.proofs.Common.{◌≡◌, ℕ, ◌+◌, ◌<◌, ◌≤◌, Bool, true, false, List, [], ◌∷◌, ◌++◌, Some, None, length, take, refl, ap, sym, subst, ◌∙◌, arith}
-use Rattle.std.specs.Prelude.{Option, nat_lt, option_map}
+use Rattle.std.proofs.Common.{◌≡◌, ℕ, ◌+◌, ◌≤◌, Bool, true, false, List, Some, length, refl, ap, sym, subst, ◌∙◌, arith}
+use Rattle.std.specs.Prelude.{Option, nat_lt}
 use Rattle.std.proofs.lemmas.Bool.Decides.{nat_tests}
 use Rattle.std.proofs.lemmas.List.{take_all}
-use Rattle.shm_model.specs.declared.answer.Answer.{Answer}
 use Rattle.shm_model.specs.declared.answer.Answer.TheVariants.{Stored}
-use Rattle.shm_process.specs.Node.{Node, Said, answer_to, new_node, tag_told}
+use Rattle.shm_process.specs.Node.{Node, answer_to, new_node, tag_told}
 use Rattle.shm_process.specs.Recorded.{Event, after_events}
-use Rattle.shm_process.specs.WaitingAsks.{Writes, WaitingAsk, ask_in, goes_on, tag_of}
+use Rattle.shm_process.specs.WaitingAsks.{Writes, ask_in, goes_on, tag_of}
 use Rattle.shm_process.specs.Waiting.{next_heard, says_at}
 use Rattle.shm_process.specs.Writes.{Write}
-use Rattle.shm_audit.specs.Loads.{MadeSince, made_by}
-use Rattle.shm_audit.specs.Stores.{IsStoredBlock, asked_write, stores}
+use Rattle.shm_audit.specs.Loads.{made_by}
+use Rattle.shm_audit.specs.Stores.{IsStoredBlock, stores}
 use Rattle.shm_audit.proofs.LoadedBlocks.{HasLoaded, Holds, ask-loaded, step_of, stored_of}
 use Rattle.shm_audit.proofs.StoredBytes.{stores-push}
 use Rattle.shm_audit.proofs.ToldBlocks.{all_hold}

@@ -1,5 +1,5 @@
 -- The stores of one more byte.
-use Rattle.std.proofs.Common.{◌≡◌, ℕ, zero, suc, ◌+◌, ◌<◌, List, [], ◌∷◌, ◌++◌, length, take, slice_index, refl, ap, ◌∙◌, arith}
+use Rattle.std.proofs.Common.{◌≡◌, ℕ, zero, suc, ◌+◌, ◌<◌, List, [], ◌∷◌, ◌++◌, length, take, slice_index, ap, ◌∙◌, arith}
 use Rattle.shm_model.specs.declared.answer.Answer.TheVariants.{Stored}
 use Rattle.shm_model.specs.declared.asked_access.Asked.TheVariants.{Store}
 use Rattle.shm_wire.specs.Line as stream

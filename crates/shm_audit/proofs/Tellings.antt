@@ -12,7 +12,7 @@ use Rattle.shm_process.specs.Cause.{Cause, OfLine, OfRestart}
 use Rattle.shm_process.specs.Mapped.{byte_place, page_at}
 use Rattle.shm_process.specs.Node.{Node, Heard, Said, asked_under, heard, input_asked, is_beyond, is_late, new_node, next_clock, remapped_by, says, stepped, unmap_input, waits_for}
 use Rattle.shm_process.specs.Remaps.{first_load, is_empty, unmapped_to}
-use Rattle.shm_process.specs.Recorded.{Entry, Event, Line, TooLong, Again, Restarted, after_event, entries_of, recorded, said_at}
+use Rattle.shm_process.specs.Recorded.{Entry, Event, Line, TooLong, Again, Restarted, after_event, all_steps, entries_of, recorded, said_at, steps_of}
 use Rattle.shm_process.specs.Waiting.{after_heard, after_read, after_unheard, again_at, can_be_made, joining, joins, next_heard, next_line, ready, restarting, said_read, said_restart, after_restart, says_at}
 use Rattle.shm_process.specs.WaitingAsks.{WaitingAsk, ask_in}
 use Rattle.shm_process.proofs.Replays.{hear-next}
@@ -26,8 +26,8 @@ use Rattle.shm_wire.specs.Sent.{Sent}
 use Rattle.shm_wire.specs.declared.caller_ask.Question.{Question}
 use Rattle.shm_wire.specs.declared.caller_ask.Question.TheVariants as question
 use Rattle.shm_wire.specs.declared.mapping_text.Mapping.{Mapping}
-use Rattle.shm_audit.specs.Entered.{Handed, at_clock, box_handed, delivered, handed, unless_refused, unsent}
-use Rattle.shm_audit.specs.Told.{ToldStep, box_after_all, told_at, told_by_log, told_by_said, told_by_step, all_said, said_first}
+use Rattle.shm_audit.specs.Entered.{Handed, at_clock, box_after, box_after_all, box_after_entries, box_after_entry, box_handed, delivered, handed, unless_refused, unsent}
+use Rattle.shm_audit.specs.Told.{ToldStep, told_at, told_by_log, told_by_said, told_by_step, all_said, said_first}
 
 -- the box of a node's site, which has this log
 abbrev box_at : Node → ℕ → List Logged → Box
@@ -205,3 +205,34 @@ follows node pages log (Restarted ∷ events) =
 pub logs_tell : (sites me pages : ℕ) (events : List Event)
     → option_map told_by_log (box_after_all (new_box sites me pages) (entries_of (new_node sites me pages) events)) ≡ Some (told_at (new_node sites me pages) events)
 logs_tell sites me pages events = follows (new_node sites me pages) pages [] events
+
+-- ---- entries of many steps
+
+-- some steps, and then others
+then-both : (xs ys : List Entry) (o : Option Box)
+    → ((box : Box) → box_after_all box (xs ++ ys) ≡ option_and_then (λ next. box_after_all next ys) (box_after_all box xs))
+    → option_and_then (λ next. box_after_all next (xs ++ ys)) o
+    ≡ option_and_then (λ next. box_after_all next ys) (option_and_then (λ next. box_after_all next xs) o)
+then-both xs ys None both = refl
+then-both xs ys (Some next) both = both next
+
+after-both : (xs ys : List Entry) (box : Box) → box_after_all box (xs ++ ys) ≡ option_and_then (λ next. box_after_all next ys) (box_after_all box xs)
+after-both [] ys box = refl
+after-both (x ∷ xs) ys box = then-both xs ys (box_after box x) (λ next. after-both xs ys next)
+
+then-entries : (entries : List Entry) (o : Option Box) → ((box : Box) → box_after_entries box entries ≡ box_after_all box (all_steps entries))
+    → option_and_then (λ next. box_after_entries next entries) o ≡ option_and_then (λ next. box_after_all next (all_steps entries)) o
+then-entries entries None are = refl
+then-entries entries (Some next) are = are next
+
+-- entries lead where all their steps do
+entries-are : (entries : List Entry) (box : Box) → box_after_entries box entries ≡ box_after_all box (all_steps entries)
+entries-are [] box = refl
+entries-are (entry ∷ entries) box =
+    then-entries entries (box_after_entry box entry) (λ next. entries-are entries next) ∙ sym (after-both (steps_of entry) (all_steps entries) box)
+
+pub entries_tell : (sites me pages : ℕ) (events : List Event) (entries : List Entry) → all_steps entries ≡ entries_of (new_node sites me pages) events
+    → option_map told_by_log (box_after_entries (new_box sites me pages) entries) ≡ Some (told_at (new_node sites me pages) events)
+entries_tell sites me pages events entries steps =
+    ap (option_map told_by_log) (entries-are entries (new_box sites me pages) ∙ ap (box_after_all (new_box sites me pages)) steps)
+    ∙ logs_tell sites me pages events

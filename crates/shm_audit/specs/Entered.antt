@@ -1,10 +1,10 @@
--- What an entry of a journal hands to its site's box, and the box after it.
-use Rattle.std.specs.Prelude.{ℕ, Option, Some, None, ◌==◌, if◌then◌else◌, option_and_then, option_map}
+-- What each step of an entry of a journal hands to its site's box, and the box after all of them.
+use Rattle.std.specs.Prelude.{ℕ, List, [], ◌∷◌, Option, Some, None, ◌==◌, if◌then◌else◌, option_and_then, option_map}
 use Rattle.shm_model.specs.Log.{Stamp}
 use Rattle.shm_model.specs.Message.{Input, Deliver, Restart}
 use Rattle.shm_process.specs.Cause.{Cause, OfLine, OfRestart}
 use Rattle.shm_process.specs.Node.{input_asked, unmap_input}
-use Rattle.shm_process.specs.Recorded.{Entry}
+use Rattle.shm_process.specs.Recorded.{Entry, steps_of}
 use Rattle.shm_logs.specs.Boxes.Box.{Box, after, refusal}
 use Rattle.shm_logs.specs.declared.site_boxes.box_error.BoxFault.{BoxFault}
 use Rattle.shm_wire.specs.Asks.{Ask}
@@ -34,7 +34,7 @@ asked_here me ask = if (ask.site == me) then option_map unsent (input_asked ask.
 abbrev pub unmapped_here : ℕ → UnmapAsk → Option Handed
 unmapped_here me ask = if (ask.site == me) then option_map unsent (unmap_input ask) else None
 
--- what made the step of an entry hands to this site; a block that is to be stored makes none itself
+-- what made a step hands to this site; a block makes none itself
 abbrev pub handed : ℕ → Cause → Option Handed
 handed me (OfLine (stream.Envelope sent)) = Some (delivered sent)
 handed me (OfLine (stream.Ask ask)) = asked_here me ask
@@ -56,6 +56,20 @@ abbrev pub box_handed : ℕ → Box → Option Handed → Option Box
 box_handed clock box None = None
 box_handed clock box (Some h) = option_and_then (at_clock clock) (unless_refused (refusal box h.input h.source) (after box h.input h.source))
 
--- the box after the step that this entry records, if it can be its next
+-- the box after this step, if it can be its next
 abbrev pub box_after : Box → Entry → Option Box
-box_after box entry = box_handed entry.clock box (handed box.me entry.cause)
+box_after box step = box_handed step.clock box (handed box.me step.cause)
+
+-- the box after these steps, one after another
+abbrev pub box_after_all : Box → List Entry → Option Box
+box_after_all box [] = Some box
+box_after_all box (step ∷ steps) = option_and_then (λ next. box_after_all next steps) (box_after box step)
+
+-- the box after the steps that an entry records
+abbrev pub box_after_entry : Box → Entry → Option Box
+box_after_entry box entry = box_after_all box (steps_of entry)
+
+-- the box after the steps that these entries record, one entry after another
+abbrev pub box_after_entries : Box → List Entry → Option Box
+box_after_entries box [] = Some box
+box_after_entries box (entry ∷ entries) = option_and_then (λ next. box_after_entries next entries) (box_after_entry box entry)

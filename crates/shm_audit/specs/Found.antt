@@ -11,7 +11,7 @@ use Rattle.shm_journal.specs.declared.journal_error.JournalFault.TheVariants as 
 use Rattle.shm_logs.specs.Boxes.Box.{Box, new_box}
 use Rattle.shm_logs.specs.Boxes.SiteLog.{steps_of}
 use Rattle.shm_logs.specs.declared.site_boxes.site_log.SiteLog.{SiteLog}
-use Rattle.shm_audit.specs.Entered.{box_after}
+use Rattle.shm_audit.specs.Entered.{box_after_entry}
 
 -- ---- the first line
 
@@ -33,9 +33,9 @@ first_found (Some box) = Sound box
 
 -- ---- the entries
 
--- the box after the step that a line records, if that can be its next
+-- the box after the steps that a line records, if they can be its next ones
 abbrev pub entered : Box → List ℕ → Option Box
-entered box line = option_and_then (box_after box) (read_entry line)
+entered box line = option_and_then (box_after_entry box) (read_entry line)
 
 -- any site's journal
 abbrev pub any : Kind Box

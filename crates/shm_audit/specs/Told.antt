@@ -1,12 +1,11 @@
 -- What a site tells of its steps, by its log, and by what its process said of them.
-use Rattle.std.specs.Prelude.{ℕ, List, [], ◌∷◌, Option, Some, None, map, option_and_then}
+use Rattle.std.specs.Prelude.{ℕ, List, [], ◌∷◌, Option, Some, None, map}
 use Rattle.shm_model.specs.declared.answer.Answer.{Answer}
 use Rattle.shm_model.specs.Log.{Logged}
 use Rattle.shm_model.specs.Message.{Envelope}
 use Rattle.shm_process.specs.Node.{Node, Said}
-use Rattle.shm_process.specs.Recorded.{Entry, Event, after_event, said_at}
+use Rattle.shm_process.specs.Recorded.{Event, after_event, said_at}
 use Rattle.shm_logs.specs.Boxes.Box.{Box}
-use Rattle.shm_audit.specs.Entered.{box_after}
 
 -- of one step: its stamp, its answer, and the envelopes that it sent
 pub record ToldStep : Type 0 where
@@ -34,8 +33,3 @@ all_said node (event ∷ events) = said_first (said_at node event) (all_said (af
 
 abbrev pub told_at : Node → List Event → List ToldStep
 told_at node events = map told_by_said (all_said node events)
-
--- the box after the steps that these entries record, one after another
-abbrev pub box_after_all : Box → List Entry → Option Box
-box_after_all box [] = Some box
-box_after_all box (entry ∷ entries) = option_and_then (λ next. box_after_all next entries) (box_after box entry)

@@ -3,12 +3,16 @@ ghost use Rattle.std.specs.Prelude.{Some, IfOk};
 ghost use Rattle.shm_journal.specs.EntryOf.{entry_of};
 ghost use Rattle.shm_journal.specs.Replaying.{IsNext};
 ghost use Rattle.shm_logs.specs.Boxes.SiteBox.{box_of};
-ghost use Rattle.shm_audit.specs.Entered.{box_after, box_handed};
+ghost use Rattle.shm_process.specs.CauseOf.{cause_of};
+ghost use Rattle.shm_process.specs.Recorded.{IsEntry, entries_from};
+ghost use Rattle.shm_process.specs.StepsOf.{steps_left};
+ghost use Rattle.shm_audit.specs.Entered.{box_after, box_after_all, box_after_entry, box_handed};
 ghost use Rattle.shm_audit.specs.HandedOf.{handed_of};
 
 use crate::box_replay_input::{Handed, handed_input};
 use shm_journal::{Entry, Replay, parse_entry};
 use shm_logs::{BoxFault, SiteBox};
+use shm_process::{Cause, Steps};
 use std::alloc::{AllocError, Allocator, Global};
 
 /// A site whose box takes the steps that its journal records.
@@ -30,28 +34,63 @@ impl<A: Allocator + Copy> Replay<A> for Audited<A> {
 
     fn replay_line(&mut self, alloc: A, line: &[u8]) -> Result<bool, AllocError> {
         match parse_entry(alloc, line) {
-            Ok(Some(entry)) => enter(&mut self.site_box, entry),
+            Ok(Some(entry)) => enter(alloc, &mut self.site_box, entry),
             Ok(None) => Ok(false),
             Err(refused) => Err(refused),
         }
     }
 }
 
-/// The box takes the step that the entry records, if it can be its next.
+/// The box takes the steps that the entry records, if they can be its next ones.
 fn enter<A: Allocator + Copy>(
+    alloc: A,
     site_box: &mut SiteBox<A>,
     entry: Entry<A>,
 ) -> Result<bool, AllocError>
-    ensures { IfOk result (λ made. IsNext made (box_after (box_of site_box.old) (entry_of entry)) (box_of site_box.new)) }
+    requires { IsEntry (entry_of entry) }
+    ensures { IfOk result (λ made. IsNext made (box_after_entry (box_of site_box.old) (entry_of entry)) (box_of site_box.new)) }
 {
     let Entry { clock, cause } = entry;
+    let mut steps = Steps::of(alloc, cause);
+    enter_steps(site_box, clock, &mut steps)
+}
+
+/// The box takes these steps, the first under this clock and each other one under the next, if they can be its next ones.
+fn enter_steps<A: Allocator + Copy>(
+    site_box: &mut SiteBox<A>,
+    first: u64,
+    steps: &mut Steps<A>,
+) -> Result<bool, AllocError>
+    ensures { IfOk result (λ made. IsNext made (box_after_all (box_of site_box.old) (entries_from first (steps_left steps.old))) (box_of site_box.new)) }
+{
+    let mut next = Some(first);
+    'steps: while let Some(cause) = steps.next() {
+        let Some(clock) = next else {
+            return Ok(false);
+        };
+        if !enter_step(site_box, clock, cause)? {
+            return Ok(false);
+        }
+        next = clock.checked_add(1);
+    }
+    Ok(true)
+}
+
+/// The box takes the step that this makes under this clock, if that can be its next.
+fn enter_step<A: Allocator + Copy>(
+    site_box: &mut SiteBox<A>,
+    clock: u64,
+    cause: Cause<A>,
+) -> Result<bool, AllocError>
+    ensures { IfOk result (λ made. IsNext made (box_after (box_of site_box.old) (record { clock = clock; cause = cause_of cause })) (box_of site_box.new)) }
+{
     match handed_input(site_box.log().site(), cause) {
         Some(handed) => take(site_box, clock, handed),
         None => Ok(false),
     }
 }
 
-/// The box takes the input of an entry, if that can be its next step under this clock.
+/// The box takes the input of a step, if that can be its next under this clock.
 fn take<A: Allocator + Copy>(
     site_box: &mut SiteBox<A>,
     clock: u64,

@@ -1,4 +1,4 @@
-//! The input that an entry brings to the box of its site.
+//! The input that a step brings to the box of its site.
 ghost use Rattle.std.specs.Prelude.{◌≡◌, option_map};
 ghost use Rattle.shm_site.specs.Step.{input_of};
 ghost use Rattle.shm_process.specs.CauseOf.{cause_of};
@@ -21,7 +21,7 @@ pub(crate) struct Handed<A: Allocator + Copy = Global> {
     pub(crate) source: Stamp,
 }
 
-/// The input that the cause of an entry's step brings to this site.
+/// The input that the cause of a step brings to this site.
 pub(crate) fn handed_input<A: Allocator + Copy>(me: SiteId, cause: Cause<A>) -> Option<Handed<A>>
     ensures { option_map handed_of result ≡ spec.handed me (cause_of cause) }
 {

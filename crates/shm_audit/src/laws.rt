@@ -1,22 +1,25 @@
 //! Laws of journals: each is the contract of a function that does nothing.
 ghost use Rattle.std.specs.Prelude.{◌≡◌, ℕ, List, Some, option_map};
 ghost use Rattle.shm_process.specs.Node.{Said, new_node};
-ghost use Rattle.shm_process.specs.Recorded.{Event, after_events, entries_of, said_at};
+ghost use Rattle.shm_process.specs.Recorded.{Entry, Event, after_events, all_steps, entries_of, said_at};
 ghost use Rattle.shm_process.specs.WaitingAsks.{Writes, ask_in};
 ghost use Rattle.shm_process.specs.Waiting.{says_at};
 ghost use Rattle.shm_process.specs.Writes.{Write};
 ghost use Rattle.shm_model.specs.declared.answer.Answer.TheVariants.{Stored};
 ghost use Rattle.shm_logs.specs.Boxes.Box.{new_box};
+ghost use Rattle.shm_audit.specs.Entered.{box_after_all, box_after_entries};
 ghost use Rattle.shm_audit.specs.Loads.{IsLoadedBlock, made_by};
 ghost use Rattle.shm_audit.specs.Stores.{IsStoredBlock};
-ghost use Rattle.shm_audit.specs.Told.{box_after_all, told_at, told_by_log};
+ghost use Rattle.shm_audit.specs.Told.{told_at, told_by_log};
 
-/// Take any run of a site's process from its first line on, restarts included. The entries that it recorded lead a box to a log whose
-/// stamps, answers and envelopes are those of what the process said, step by step. So an audit of the logs speaks of what callers were
-/// told.
+/// Take any run of a site's process from its first line on, restarts included. Its steps lead a box to a log whose stamps, answers and
+/// envelopes are those of what the process said, step by step. So do entries that record these steps, whichever of them share one. So an
+/// audit of the logs speaks of what callers were told.
 pub fn a_log_tells_what_was_said()
-    ensures { (sites me pages : ℕ) (events : List Event) → option_map told_by_log
+    ensures steps { (sites me pages : ℕ) (events : List Event) → option_map told_by_log
         (box_after_all (new_box sites me pages) (entries_of (new_node sites me pages) events)) ≡ Some (told_at (new_node sites me pages) events) }
+    ensures entries { (sites me pages : ℕ) (events : List Event) (entries : List Entry) → all_steps entries ≡ entries_of (new_node sites me pages) events
+        → option_map told_by_log (box_after_entries (new_box sites me pages) entries) ≡ Some (told_at (new_node sites me pages) events) }
 {}
 
 /// A block that a caller gets has exactly the bytes that were asked for, in order, from the ask's offset on, through its attachment. Each
