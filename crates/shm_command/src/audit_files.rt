@@ -6,6 +6,7 @@ ghost use Rattle.shm_command.specs.declared.audit_failure.Unaudited.TheVariants 
 
 use crate::audit_failure::Unaudited;
 use crate::error_text_and_status;
+use crate::line_of_step::wrong_line;
 use crate::whole_journal::open_whole;
 use shm_audit::{JournalsFault, Totals, audit_journals, read_log};
 use shm_journal::{Lines, Taken, parse_header};
@@ -35,7 +36,10 @@ pub(crate) fn audit<R: AllocGlobal + Files, O: Write, E: Write>(
 {
     match tell_audit(rt, sites, journals, out) {
         Ok(()) => 0,
-        Err(fault) => error_text_and_status::audit_fault(fault, journals, errors),
+        Err(fault) => {
+            let line = wrong_line(rt, journals, &fault);
+            error_text_and_status::audit_fault(fault, line, journals, errors)
+        }
     }
 }
 

@@ -10,6 +10,7 @@ ghost use Rattle.shm_command.specs.Status.{caption_status, fault_status, run_sta
 
 use crate::audit_failure::Unaudited;
 use crate::closed_standard_streams::Stream;
+use crate::line_of_step::WrongLine;
 use crate::replayed_steps_notice::TakenAgain;
 use crate::save_run_logs::Unlogged;
 use crate::script_file_error::ScriptFileFault;
@@ -20,7 +21,6 @@ use shm_audit::{JournalFault, JournalsFault};
 use shm_debug::DebugFault;
 use shm_draw::CaptionFault;
 use shm_journal::RecoveryFault;
-use shm_place::SiteId;
 use shm_process::{Health, Unopened};
 use shm_prompt::PromptFault;
 use shm_report::ReportFault;
@@ -148,11 +148,16 @@ pub fn health<E: Write>(health: Health, errors: &mut E) {
 
 /// The exit status where journals of these names weren't accepted. Its one line goes to `errors`: with the journal and the line, where there
 /// is one.
-pub fn audit_fault<E: Write>(fault: Unaudited, journals: &[&str], errors: &mut E) -> u8
+pub(crate) fn audit_fault<E: Write>(
+    fault: Unaudited,
+    line: Option<WrongLine>,
+    journals: &[&str],
+    errors: &mut E,
+) -> u8
     ensures { result ≡ unaudited_status fault }
 {
     let status = status_of(&fault);
-    let _ = write_unaudited(fault, journals, errors);
+    let _ = write_unaudited(fault, line, journals, errors);
     status
 }
 
@@ -177,6 +182,7 @@ fn status_of(fault: &Unaudited) -> u8
 
 fn write_unaudited<E: Write>(
     fault: Unaudited,
+    line: Option<WrongLine>,
     journals: &[&str],
     errors: &mut E,
 ) -> io::Result<()> {
@@ -213,30 +219,26 @@ fn write_unaudited<E: Write>(
             )
         }
         Unaudited::Unaccepted(JournalsFault::Audit(cause)) => {
-            write_cause(cause, journals, errors)
+            write_cause(cause, line, journals, errors)
         }
         Unaudited::Unaccepted(fault) => writeln!(errors, "shmdbg: {fault}"),
     }
 }
 
-/// The cause, and the line of the journal where it stands: the first line is the header.
-fn write_cause<E: Write>(cause: AuditFault, journals: &[&str], errors: &mut E) -> io::Result<()> {
-    let Some((site, index)) = step_of(cause) else {
+/// The cause, and the line of the journal where it stands.
+fn write_cause<E: Write>(
+    cause: AuditFault,
+    line: Option<WrongLine>,
+    journals: &[&str],
+    errors: &mut E,
+) -> io::Result<()> {
+    let Some(WrongLine { site, number }) = line else {
         return writeln!(errors, "shmdbg: audit no: {cause}");
     };
     let name = name_of(journals, site.0 as usize);
-    let line = index.saturating_add(2);
-    writeln!(errors, "shmdbg: audit no: {cause}: {name}: line {line}")
-}
-
-/// The site and the index of the step with which a cause was found.
-fn step_of(cause: AuditFault) -> Option<(SiteId, usize)> {
-    match cause {
-        AuditFault::Unsent { site, index }
-        | AuditFault::StampOrder { site, index }
-        | AuditFault::Forged { site, index }
-        | AuditFault::Untold { site, index } => Some((site, index)),
-        AuditFault::OutOfMemory => None,
+    match number {
+        Some(number) => writeln!(errors, "shmdbg: audit no: {cause}: {name}: line {number}"),
+        None => writeln!(errors, "shmdbg: audit no: {cause}: {name}"),
     }
 }
 

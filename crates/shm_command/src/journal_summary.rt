@@ -32,7 +32,7 @@ pub(crate) fn tell_journal<R: AllocGlobal + Files, O: Write, E: Write>(
 {
     match tell_summary(rt, name, out) {
         Ok(()) => 0,
-        Err(fault) => error_text_and_status::audit_fault(fault, &[name], errors),
+        Err(fault) => error_text_and_status::audit_fault(fault, None, &[name], errors),
     }
 }
 

@@ -14,6 +14,7 @@ mod file_summary;
 mod journal_backends;
 mod journal_startup;
 mod journal_summary;
+mod line_of_step;
 mod outcome_scripts;
 mod process_entry;
 mod read_seal;

@@ -14,6 +14,40 @@ const SECOND: [&[u8]; 3] = [
     b"step 2 env 0 1 1 0 0 clear 0 0 1\n",
 ];
 
+/// The first journal with a block, and behind it an envelope that site 1 never sent.
+const INVENTED: [&[u8]; 3] = [
+    b"journal 2 0 1\n",
+    b"step 1 ask 0 a write 0 5 Bwk=\n",
+    b"step 3 env 1 0 2 1 0 confirm 0 0 1\n",
+];
+
+/// A block's entry has many steps, and is one line.
+#[test]
+fn a_cause_behind_a_block_is_told_with_its_line(rt: HostRuntime) -> Result<(), Fail> {
+    let first = marked(rt.alloc(), &INVENTED)?;
+    fs::write(&rt, "block.journal", first.as_slice())?;
+    let second = marked(rt.alloc(), &SECOND[..2])?;
+    fs::write(&rt, "other.journal", second.as_slice())?;
+    let mut reader = b"".as_slice();
+    let ran = run_over(
+        &rt,
+        &[
+            "shmdbg",
+            "audit",
+            "--sites",
+            "2",
+            "block.journal",
+            "other.journal",
+        ],
+        &mut reader,
+    );
+    let no = b"shmdbg: audit no: unsent 0 2: block.journal: line 3\n".as_slice();
+    expect(&rt, &ran, 4, b"".as_slice(), no);
+    fs::remove_file(&rt, "block.journal")?;
+    fs::remove_file(&rt, "other.journal")?;
+    Ok(())
+}
+
 /// Each journal is read, in its turn, and stays as it was. A cause is told with the file and the line in which it stands.
 #[test]
 fn two_journals_are_audited(rt: HostRuntime) -> Result<(), Fail> {
