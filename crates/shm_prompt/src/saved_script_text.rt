@@ -1,9 +1,10 @@
 //! The script of what stands, which a replay plays to the same end.
-ghost use Rattle.std.specs.Prelude.{◌≡◌, ◌<◌, IfOk, length};
+ghost use Rattle.std.specs.Prelude.{◌≡◌, ◌≢◌, ◌≤◌, ◌<◌, IfErr, IfOk, length};
 ghost use Rattle.shm_model.specs.Opening.{opening_of};
 ghost use Rattle.shm_debug.specs.Standing.{Standing};
 ghost use Rattle.shm_prompt.specs.Saved as saved;
 ghost use Rattle.shm_prompt.specs.Saved.{Replays, lines_of, text_of_lines};
+ghost use Rattle.shm_prompt.specs.declared.save_refusal.SaveRefusal.TheVariants as refused;
 
 use crate::save_refusal::SaveRefusal;
 use crate::spell_saved_line::push_line;
@@ -23,6 +24,7 @@ pub fn saved_script<A: Allocator + Copy>(
 ) -> Result<Vec<u8, A>, SaveRefusal>
     ensures text { IfOk result (λ bytes. bytes.items ≡ text_of_lines (lines_of session.now)) }
     ensures replays { IfOk result (λ bytes. Replays bytes.items session.now) }
+    ensures long { IfErr result (λ refusal. refusal ≡ refused.TooManyLines → 100000 ≤ length session.now.events) }
 {
     let events = session.events();
     if events.len() >= MAX_LINES {
@@ -41,6 +43,7 @@ fn text_of<A: Allocator + Copy>(
         → IfOk result (λ bytes. bytes.items ≡ text_of_lines (lines_of s)) }
     ensures replays { (s : Standing) → saved.first_line s.opening ≡ first → s.events ≡ events.now → length s.events < 100000
         → IfOk result (λ bytes. Replays bytes.items s) }
+    ensures short { IfErr result (λ refusal. refusal ≢ refused.TooManyLines) }
 {
     laws::lines_have_one_spelling();
     let mut text = Vec::new(alloc);

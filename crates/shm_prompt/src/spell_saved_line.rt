@@ -1,10 +1,11 @@
 //! Checks that a line has a spelling that reads back as it, and spells it.
-ghost use Rattle.std.specs.Prelude.{◌≡◌, ◌≤◌, ◌==◌, [], ◌∷◌, ◌++◌, true, not, OnOk, length};
+ghost use Rattle.std.specs.Prelude.{◌≡◌, ◌≢◌, ◌≤◌, ◌==◌, [], ◌∷◌, ◌++◌, true, not, IfErr, OnOk, length};
 ghost use Rattle.std.specs.List.{list_all};
 ghost use Rattle.shm_model.specs.declared.call.Request.TheVariants.{Op as OpRequest};
 ghost use Rattle.shm_lines.specs.Calls.{IsRequest};
 ghost use Rattle.shm_lines.specs.Spelling.{IsEvent, IsLine, IsOpened};
 ghost use Rattle.shm_prompt.specs.Spelled.{IsSpelled, line_bytes, max_line_bytes};
+ghost use Rattle.shm_prompt.specs.declared.save_refusal.SaveRefusal.TheVariants as refused;
 
 use crate::save_refusal::SaveRefusal;
 use shm_lines::Line;
@@ -22,6 +23,7 @@ pub(crate) fn push_line<A: Allocator + Copy>(
 ) -> Result<(), SaveRefusal>
     ensures text { OnOk result (text.new.items ≡ text.old.items ++ line_bytes line) }
     ensures spelled { OnOk result (IsSpelled line) }
+    ensures short { IfErr result (λ refusal. refusal ≢ refused.TooManyLines) }
 {
     if !is_line(line) {
         return Err(SaveRefusal::NoLine);
@@ -37,7 +39,8 @@ pub(crate) fn push_line<A: Allocator + Copy>(
 
 /// Appends a line's bytes, and a line feed.
 fn append<A: Allocator + Copy>(text: &mut Vec<u8, A>, line: &[u8]) -> Result<(), SaveRefusal>
-    ensures { OnOk result (text.new.items ≡ text.old.items ++ (line.now ++ 10 ∷ [])) }
+    ensures text { OnOk result (text.new.items ≡ text.old.items ++ (line.now ++ 10 ∷ [])) }
+    ensures memory { IfErr result (λ refusal. refusal ≡ refused.OutOfMemory) }
 {
     match text.extend_from_slice(line) {
         Ok(()) => {}
