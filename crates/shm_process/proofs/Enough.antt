@@ -75,7 +75,7 @@ pub record Later (old new : Node) : Type 0 where
   pub waits : (x : Heard) → is_access x.input ≡ true → is_waiting (answer_to old x) ≡ true → is_waiting (answer_to new x) ≡ true
   pub held : (asked : Asked) → passing new.mapped new.site asked ≡ passing old.mapped old.site asked
 
-access-of : (asked : Asked) → is_access (access_of asked) ≡ true
+pub access-of : (asked : Asked) → is_access (access_of asked) ≡ true
 access-of (Load at offset) = refl
 access-of (Store at offset byte) = refl
 

@@ -36,3 +36,14 @@ pub mod Noting
 pub mod Finds
 pub mod MetLines
 pub mod Tries
+pub mod FurtherPlaces
+pub mod FurtherRows
+pub mod FurtherSearch
+pub mod FurtherStep
+pub mod FurtherLoads
+pub mod FurtherStores
+pub mod FurtherBrought
+pub mod FurtherFits
+pub mod FurtherBytes
+pub mod FurtherDesk
+pub mod FurtherRounds

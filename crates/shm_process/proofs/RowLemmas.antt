@@ -122,7 +122,7 @@ lt-is a b e = grind (arith, nat_tests)
 bytes_eq-is : (xs ys : List ℕ) → bytes_eq xs ys ≡ true → xs ≡ ys
 bytes_eq-is xs ys e = grind (arith, bytes_eq-Decides)
 
-follows-are : (row next : Row) → follows row next ≡ true → Follows row next
+pub follows-are : (row next : Row) → follows row next ≡ true → Follows row next
 follows-are row next e =
     let count = size row.accesses in
     let tags = bytes_eq row.tag next.tag in

@@ -31,3 +31,4 @@ pub mod Desk
 pub mod RowOf
 pub mod DeskOf
 pub mod DeskEvents
+pub mod Further

@@ -1,12 +1,13 @@
 //! Accesses of asks that wait, made one after another: they are recorded as a row, in one entry.
-ghost use Rattle.std.specs.Prelude.{◌≡◌, ◌<◌, ◌==◌, false, true, length, slice_index, IfOk, None, Some, if◌then◌else◌, string_bytes};
+ghost use Rattle.std.specs.Prelude.{◌≡◌, ◌+◌, ◌<◌, ◌≤◌, ◌==◌, ◌++◌, ℕ, List, false, true, length, slice_index, IfOk, None, OnOk, Some, if◌then◌else◌, string_bytes};
 ghost use Rattle.shm_model.specs.declared.asked_access.Asked.TheVariants as asked;
 ghost use Rattle.shm_place.specs.Limits.{page_bytes};
 ghost use Rattle.shm_process.specs.Access.{access_ask};
 ghost use Rattle.shm_process.specs.Cause.{cause_text};
+ghost use Rattle.shm_process.specs.Further.{LoadsGoOn, StoresGoOn};
 ghost use Rattle.shm_process.specs.RowOf.{accesses_of, row_of};
 ghost use Rattle.shm_process.specs.Rows as spec;
-ghost use Rattle.shm_process.specs.Rows.{accesses_cause, follows, joined, size};
+ghost use Rattle.shm_process.specs.Rows.{accesses_cause, follows, joined, size, with_accesses};
 ghost use Rattle.shm_wire.specs.Line as stream;
 ghost use Rattle.shm_wire.specs.Line.{line_text};
 ghost use Rattle.shm_wire.specs.TagOf.{tag_text};
@@ -125,6 +126,71 @@ impl<A: Allocator + Copy> Row<A> {
                 Ok(true)
             }
         }
+    }
+
+    /// How many loads go on with the row, the first this one, under this clock.
+    pub(crate) fn loads_room(&self, clock: u64, tag: &Tag, asked: Asked) -> usize
+        ensures { 0 < result → LoadsGoOn (row_of self.now) clock (tag_text tag.now) asked result }
+    {
+        match asked {
+            Asked::Load { at, offset } => self.room_for_loads(clock, tag, at, offset),
+            Asked::Store { .. } => 0,
+        }
+    }
+
+    /// How many stores go on with the row, the first this one, under this clock.
+    pub(crate) fn stores_room(&self, clock: u64, tag: &Tag, asked: Asked) -> usize
+        ensures { 0 < result → StoresGoOn (row_of self.now) clock (tag_text tag.now) asked result }
+    {
+        match asked {
+            Asked::Load { .. } => 0,
+            Asked::Store { at, offset, .. } => self.room_for_stores(clock, tag, at, offset),
+        }
+    }
+
+    fn room_for_loads(&self, clock: u64, tag: &Tag, at: u32, offset: u32) -> usize
+        ensures { 0 < result → LoadsGoOn (row_of self.now) clock (tag_text tag.now) (asked.Load at offset) result }
+    {
+        if !self.is_followed(clock, tag, at, offset) {
+            return 0;
+        }
+        match &self.accesses {
+            Accesses::Loads(count) => PAGE_BYTES - *count as usize,
+            Accesses::Stores(_) => 0,
+        }
+    }
+
+    fn room_for_stores(&self, clock: u64, tag: &Tag, at: u32, offset: u32) -> usize
+        ensures { (byte : ℕ) → 0 < result → StoresGoOn (row_of self.now) clock (tag_text tag.now) (asked.Store at offset byte) result }
+    {
+        if !self.is_followed(clock, tag, at, offset) {
+            return 0;
+        }
+        match &self.accesses {
+            Accesses::Loads(_) => 0,
+            Accesses::Stores(bytes) => PAGE_BYTES - bytes.len(),
+        }
+    }
+
+    /// A row of loads takes so many more.
+    pub(crate) fn add_loads(&mut self, more: usize)
+        requires { size (row_of self.old).accesses + more ≤ page_bytes }
+        ensures { (loads : ℕ) → (row_of self.old).accesses ≡ spec.Loads loads → row_of self.new ≡ with_accesses (row_of self.old) (spec.Loads (loads + more)) }
+    {
+        if let Accesses::Loads(count) = &mut self.accesses {
+            *count += more as u32;
+        }
+    }
+
+    /// A row of stores takes those of these bytes.
+    pub(crate) fn add_stores(&mut self, more: &[u8]) -> Result<(), AllocError>
+        ensures { (before : List ℕ) → (row_of self.old).accesses ≡ spec.Stores before
+            → OnOk result (row_of self.new ≡ with_accesses (row_of self.old) (spec.Stores (before ++ more.now))) }
+    {
+        if let Accesses::Stores(bytes) = &mut self.accesses {
+            bytes.extend_from_slice(more)?;
+        }
+        Ok(())
     }
 
     /// Checks that an access there goes on where the row ends, which has less than a page's bytes.

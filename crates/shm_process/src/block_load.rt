@@ -20,7 +20,7 @@ pub(crate) struct Block<A: Allocator + Copy = Global> {
 }
 
 impl<A: Allocator + Copy> Block<A> {
-    ghost use Rattle.std.specs.Prelude.{◌≡◌, [], false, true, option_map, IfOk};
+    ghost use Rattle.std.specs.Prelude.{◌≡◌, ◌++◌, ◌+◌, ◌<◌, [], false, length, nat_lt, true, option_map, IfOk};
     ghost use Rattle.shm_process.specs.AskOf.{block_of};
     ghost use Rattle.shm_process.specs.Blocks.{bytes_after, goes_on, next_load, whole_after};
     ghost use Rattle.shm_wire.specs.Asks.{is_block};
@@ -57,6 +57,20 @@ impl<A: Allocator + Copy> Block<A> {
         }
     }
 
+    /// The offset of its next load.
+    pub(crate) fn next_offset(&self) -> u32
+        ensures { result ≡ (block_of self.now).offset + length (block_of self.now).bytes }
+    {
+        self.offset + self.bytes.len() as u32
+    }
+
+    /// How many of its loads are left, but for the last.
+    pub(crate) fn left(&self) -> usize
+        ensures { length (block_of self.now).bytes + result < (block_of self.now).count }
+    {
+        self.length as usize - self.bytes.len() - 1
+    }
+
     /// Checks that it goes on waiting after its load has this answer.
     pub(crate) fn goes_on(&self, answer: &Answer) -> bool
         ensures { result ≡ goes_on (block_of self.now) answer.now }
@@ -76,6 +90,15 @@ impl<A: Allocator + Copy> Block<A> {
         if let Answer::Byte(byte) = answer {
             self.bytes.push_reserved(*byte);
         }
+    }
+
+    /// It has these bytes more, and not all yet.
+    pub(crate) fn add(&mut self, more: &[u8])
+        requires { nat_lt (length (block_of self.old).bytes + length more.now) (block_of self.old).count ≡ true }
+        ensures { block_of self.new ≡ record (block_of self.old) { bytes = (block_of self.old).bytes ++ more.now } }
+    {
+        // There is room for all.
+        let _ = self.bytes.extend_from_slice(more);
     }
 
     /// Its tag, and all its bytes if this is the last of them.

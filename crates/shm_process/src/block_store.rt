@@ -18,7 +18,7 @@ pub(crate) struct Write<A: Allocator + Copy = Global> {
 }
 
 impl<A: Allocator + Copy> Write<A> {
-    ghost use Rattle.std.specs.Prelude.{◌≡◌, false, true};
+    ghost use Rattle.std.specs.Prelude.{◌≡◌, ◌+◌, ◌<◌, false, length, nat_lt, true};
     ghost use Rattle.shm_process.specs.AskOf.{write_of};
     ghost use Rattle.shm_process.specs.Writes.{goes_on, next_store, stored_after};
     ghost use Rattle.shm_wire.specs.Asks.{is_block};
@@ -56,6 +56,20 @@ impl<A: Allocator + Copy> Write<A> {
         }
     }
 
+    /// The offset of its next store.
+    pub(crate) fn next_offset(&self) -> u32
+        ensures { result ≡ (write_of self.now).offset + (write_of self.now).stored }
+    {
+        self.offset + self.stored as u32
+    }
+
+    /// How many of its stores are left, but for the last.
+    pub(crate) fn left(&self) -> usize
+        ensures { (write_of self.now).stored + result < length (write_of self.now).bytes }
+    {
+        self.bytes.len() - self.stored - 1
+    }
+
     /// Checks that it goes on waiting after its store has this answer.
     pub(crate) fn goes_on(&self, answer: &Answer) -> bool
         ensures { result ≡ goes_on (write_of self.now) answer.now }
@@ -75,5 +89,13 @@ impl<A: Allocator + Copy> Write<A> {
         if let Answer::Stored = answer {
             self.stored += 1;
         }
+    }
+
+    /// It has so many bytes more stored, and not all yet.
+    pub(crate) fn add(&mut self, count: usize)
+        requires { nat_lt ((write_of self.old).stored + count) (length (write_of self.old).bytes) ≡ true }
+        ensures { write_of self.new ≡ record (write_of self.old) { stored = (write_of self.old).stored + count } }
+    {
+        self.stored += count;
     }
 }

@@ -1,15 +1,13 @@
 //! Takes bytes, opens the lines that they end, and gathers the entries and the sealed output of those lines.
-ghost use Rattle.std.specs.Prelude.{◌≡◌, ◌<◌, ◌==◌, ◌++◌, ◌∷◌, [], All, codes, false, length, if◌then◌else◌, is_some, string_bytes, IfNone, IfOk, IfSome, Ok, OnOk, Some};
-ghost use Rattle.std.specs.Fmt.{decimal};
+ghost use Rattle.std.specs.Prelude.{◌≡◌, ◌<◌, ◌==◌, ◌++◌, ◌∷◌, [], All, false, IfNone, IfSome, Ok, OnOk, Some};
 ghost use Rattle.shm_model.specs.Basics.{greatest};
-ghost use Rattle.shm_process.specs.Cause.{Cause, OfRestart, cause_text};
-ghost use Rattle.shm_process.specs.Counts.{is_envelope, was_received};
+ghost use Rattle.shm_process.specs.Counts.{is_envelope};
 ghost use Rattle.shm_process.specs.CountsOf.{counts_of};
-ghost use Rattle.shm_process.specs.Desk.{after_line, after_opened, after_read_line, all_made, cleared, desk_at, left_sealed, made_again, on_bytes, restarted, settled, step_text, taken, tell, line_text, with_record, with_step};
+ghost use Rattle.shm_process.specs.Desk.{after_line, after_opened, after_read_line, cleared, desk_at, left_sealed, on_bytes, restarted, settled, taken, tell, line_text};
 ghost use Rattle.shm_process.specs.DeskOf.{desk_of};
-ghost use Rattle.shm_process.specs.NodeOf.{again_of, node_of, said_of};
+ghost use Rattle.shm_process.specs.NodeOf.{node_of};
 ghost use Rattle.shm_process.specs.Telling.{shown_line};
-ghost use Rattle.shm_process.specs.Waiting.{most_steps, passed_over, said_again};
+ghost use Rattle.shm_process.specs.Waiting.{most_steps, passed_over};
 ghost use Rattle.shm_seal.specs.Seal.{Bare};
 ghost use Rattle.shm_seal.specs.SealOf.{seal_of};
 ghost use Rattle.shm_wire.specs.Line as stream;
@@ -20,11 +18,8 @@ use crate::access_row::Row;
 use crate::envelope_lines::push_sealed;
 use crate::kept_line::KeptLine;
 use crate::node::Node;
-use crate::node_takes_line::MOST_STEPS;
 use crate::process_counts::{Counts, Start};
-use crate::retried_step::Again;
 use crate::site_opening::Opening;
-use crate::step_output::Said;
 use memchr::memchr;
 use shm_seal::{Seal, Unsealed};
 use shm_wire::{Line, parse_line};
@@ -262,41 +257,6 @@ impl<A: Allocator + Copy> Desk<A> {
             Some(shown) => push_sealed(self.alloc, &self.seal, &mut self.told, shown.as_str()),
             None => Ok(()),
         }
-    }
-
-    /// Makes steps of the waiting asks, as long as one can be made, and at most `MOST_STEPS`.
-    #[tactic(auto, unfolding(crate::specs::Desk::settled))]
-    pub(crate) fn settle(&mut self) -> Result<(), AllocError>
-        ensures { OnOk result (desk_of self.new ≡ settled most_steps (desk_of self.old)) }
-    {
-        self.make_all()?;
-        self.close_row()
-    }
-
-    fn make_all(&mut self) -> Result<(), AllocError>
-        ensures { OnOk result (desk_of self.new ≡ all_made most_steps (desk_of self.old)) }
-    {
-        'asks: for _round in 0..MOST_STEPS {
-            let more = self.make_waiting()?;
-            if !more {
-                return Ok(());
-            }
-        }
-        Ok(())
-    }
-
-    /// Makes the oldest ask that can be made, if there is one.
-    #[tactic(auto, using(crate::proofs::DeskLemmas::none_again))]
-    fn make_waiting(&mut self) -> Result<bool, AllocError>
-        ensures more { IfOk result (λ more. more ≡ is_some (said_again (desk_of self.old).node)) }
-        ensures made { OnOk result (desk_of self.new ≡ (if is_some (said_again (desk_of self.old).node) then made_again
-            (desk_of self.old) else desk_of self.old)) }
-    {
-        let Some(again) = self.node.again()? else {
-            return Ok(false);
-        };
-        self.push_again(&again)?;
-        Ok(true)
     }
 }
 

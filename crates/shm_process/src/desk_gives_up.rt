@@ -67,8 +67,21 @@ impl<A: Allocator + Copy> Desk<A> {
         Ok(())
     }
 
-    /// Stores bytes one after another, from this offset on.
+    /// Stores bytes one after another, from this offset on: at once where they are of one page that the site may write.
     fn store_run(&mut self, ask: &UnmapAsk<A>, offset: u32, bytes: &[u8]) -> Result<(), AllocError>
+        requires ask { IsUnmap (unmap_in ask.now) }
+        requires within { offset + length bytes.now ≤ 2 ^ 32 }
+        ensures { OnOk result (desk_of self.new ≡ stored_run (desk_of self.old) (unmap_in ask.now) offset bytes.now) }
+    {
+        let (_sent, _taken) = (self.counts.envelopes_sent(), self.node.lines_taken());
+        if self.node.may_bring(ask.site, ask.at, offset, bytes.len()) {
+            return self.node.store_brought(ask.at, offset, bytes);
+        }
+        self.store_each(ask, offset, bytes)
+    }
+
+    /// Stores bytes one after another, each a step of its own.
+    fn store_each(&mut self, ask: &UnmapAsk<A>, offset: u32, bytes: &[u8]) -> Result<(), AllocError>
         requires ask { IsUnmap (unmap_in ask.now) }
         requires within { offset + length bytes.now ≤ 2 ^ 32 }
         ensures { OnOk result (desk_of self.new ≡ stored_run (desk_of self.old) (unmap_in ask.now) offset bytes.now) }

@@ -155,6 +155,9 @@ fn push_text<A: Allocator + Copy>(
 ) -> Result<(), AllocError>
     ensures { OnOk result (string_bytes told.new ≡ string_bytes told.old ++ step_text (seal_of seal.now) (Some (said_of OfRestart said.now))) }
 {
+    if said.tag.is_none() && said.sent.is_empty() {
+        return Ok(());
+    }
     if let Some(line) = said.answer_line(alloc)? {
         push_sealed(alloc, seal, told, line.as_str())?;
     }

@@ -1,18 +1,18 @@
 //! Asks that wait for their right, and are made again.
-ghost use Rattle.std.specs.Prelude.{◌≡◌, ◌<◌, false, true, map, max, length, option_map, None, remove, IfNone, IfOk, IfSome, OnErr, OnOk, Some, if◌then◌else◌, vec_len};
+ghost use Rattle.std.specs.Prelude.{◌≡◌, ◌<◌, true, map, max, length, option_map, None, IfOk, IfSome, OnErr, OnOk, Some, if◌then◌else◌, vec_len};
 ghost use Rattle.shm_model.specs.Basics.{greatest};
+ghost use Rattle.shm_model.specs.Receipt.{access_of};
 ghost use Rattle.shm_model.specs.Step.{step};
 ghost use Rattle.shm_parts.specs.Message.{envelope_of};
 ghost use Rattle.shm_process.specs.Access.{is_access, is_waiting};
 ghost use Rattle.shm_process.specs.AskOf.{ask_of};
 ghost use Rattle.shm_process.specs.WaitingAsks.{all_bytes, ask_in, goes_on, next_access, tag_of, waiting_after};
 ghost use Rattle.shm_process.specs.NodeOf.{again_of, node_of};
-ghost use Rattle.shm_process.specs.Waiting.{after_again, again_at, can_be_made, is_held, said_again, says_at};
+ghost use Rattle.shm_process.specs.Waiting.{after_again, again_at, can_be_made, ready, said_again, says_at};
 ghost use Rattle.shm_site.specs.Site.{SameSeat, site_of, stepped};
 ghost use Rattle.shm_site.specs.Step.{input_of};
 ghost use Rattle.shm_wire.specs.TagOf.{tag_text};
 
-use crate::build_step_output::is_waiting;
 use crate::node::Node;
 use crate::retried_step::Again;
 use crate::waiting_ask::{Ended, WaitingAsk};
@@ -31,60 +31,74 @@ impl<A: Allocator + Copy> Node<A> {
         ensures after { OnOk result (node_of self.new ≡ after_again (node_of self.old)) }
         ensures refused { OnErr result (node_of self.new ≡ node_of self.old) }
     {
-        if self.is_late(0) {
+        let Some(at) = self.ready() else {
             return Ok(None);
+        };
+        let again = self.make_at(at)?;
+        Ok(Some(again))
+    }
+
+    /// The place of the oldest waiting ask that can be made or refused now, or has to ask for its right again, while there is a clock for a step.
+    pub(crate) fn ready(&self) -> Option<usize>
+        ensures ready { result ≡ ready (node_of self.now) }
+        ensures within { IfSome result (λ at. at < vec_len self.now.waiting) }
+        ensures early { IfSome result (λ at. max self.now.clock 0 < greatest) }
+    {
+        if self.is_late(0) {
+            return None;
         }
         'asks: for at in 0..self.waiting.len() {
-            if let Some(again) = self.make_at(at)? {
-                return Ok(Some(again));
+            if self.can_be_made(at) {
+                return Some(at);
             }
         }
-        Ok(None)
+        None
     }
 
-    /// Makes the next access of the ask at this place, its own or a block's next load, unless it only waits for a right that was asked for
-    /// before, or would pass by what is mapped.
-    fn make_at(&mut self, at: usize) -> Result<Option<Again<A>>, AllocError>
-        requires at { at < vec_len self.old.waiting }
-        requires early { max self.old.clock 0 < greatest }
-        ensures none { IfOk result (λ again. IfNone again ((can_be_made (node_of self.old) (ask_in (node_of self.old).waiting at) ≡ false)
-            × (node_of self.new ≡ node_of self.old))) }
-        ensures count { IfOk result (λ again. IfNone again (vec_len self.new.waiting ≡ vec_len self.old.waiting)) }
-        ensures can { IfOk result (λ again. IfSome again (λ a. can_be_made (node_of self.old) (ask_in (node_of self.old).waiting at) ≡ true)) }
-        ensures said { IfOk result (λ again. IfSome again (λ a. again_of a ≡ says_at (node_of self.old) at)) }
-        ensures after { IfOk result (λ again. IfSome again (λ a. node_of self.new ≡ again_at (node_of self.old) at)) }
-        ensures refused { OnErr result (node_of self.new ≡ node_of self.old) }
+    /// Checks that the next access of the ask at this place, its own or a block's next one, neither waits for a right that was asked for before,
+    /// nor would pass by what is mapped.
+    fn can_be_made(&self, at: usize) -> bool
+        requires { at < vec_len self.now.waiting }
+        ensures { result ≡ can_be_made (node_of self.now) (ask_in (node_of self.now).waiting at) }
     {
-        let (tag, asked) = next_at(self.waiting.as_slice(), at);
-        if self.passing(asked).is_some() {
-            return Ok(None);
+        let (_, asked) = self.next_of(at);
+        self.passing(asked).is_none() && !self.would_wait(asked)
+    }
+
+    /// Checks that the access would wait for a right that was asked for before.
+    fn would_wait(&self, asked: Asked) -> bool
+        ensures { result ≡ is_waiting (step (node_of self.now).sites (node_of self.now).me (node_of self.now).site (access_of asked)).answer }
+    {
+        match asked {
+            Asked::Load { at, offset } => self.site.load_waits(at, offset),
+            Asked::Store { at, offset, .. } => self.site.store_waits(at, offset),
         }
-        self.try_at(at, tag, asked)
     }
 
-    fn try_at(&mut self, at: usize, tag: Tag, asked: Asked) -> Result<Option<Again<A>>, AllocError>
+    /// Makes the next access of the ask at this place. Where memory is refused the node is as before.
+    pub(crate) fn make_at(&mut self, at: usize) -> Result<Again<A>, AllocError>
         requires at { at < vec_len self.old.waiting }
         requires early { max self.old.clock 0 < greatest }
-        requires tag { tag_text tag ≡ tag_of (ask_in (node_of self.old).waiting at) }
-        requires asked { asked ≡ next_access (ask_in (node_of self.old).waiting at) }
-        requires free { is_held (node_of self.old) (ask_in (node_of self.old).waiting at) ≡ false }
-        ensures none { IfOk result (λ again. IfNone again ((can_be_made (node_of self.old) (ask_in (node_of self.old).waiting at) ≡ false)
-            × (node_of self.new ≡ node_of self.old))) }
-        ensures count { IfOk result (λ again. IfNone again (vec_len self.new.waiting ≡ vec_len self.old.waiting)) }
-        ensures can { IfOk result (λ again. IfSome again (λ a. can_be_made (node_of self.old) (ask_in (node_of self.old).waiting at) ≡ true)) }
-        ensures said { IfOk result (λ again. IfSome again (λ a. again_of a ≡ says_at (node_of self.old) at)) }
-        ensures after { IfOk result (λ again. IfSome again (λ a. node_of self.new ≡ again_at (node_of self.old) at)) }
+        ensures said { IfOk result (λ again. again_of again ≡ says_at (node_of self.old) at) }
+        ensures after { OnOk result (node_of self.new ≡ again_at (node_of self.old) at) }
         ensures refused { OnErr result (node_of self.new ≡ node_of self.old) }
     {
+        let (tag, asked) = self.next_of(at);
         let clock = self.next_clock(0);
         let made = step_access(&mut self.site, Input::of(asked))?;
-        if is_waiting(&made.answer) {
-            return Ok(None);
-        }
         let stays = goes_on_at(self.waiting.as_slice(), at, &made.answer);
         let (told, block) = go_on_or_end(&mut self.waiting, at, stays, &made.answer);
         let said = self.say(clock, told, stays, made, block);
-        Ok(Some(Again { said, tag, asked }))
+        Ok(Again { said, tag, asked })
+    }
+
+    /// The tag and the next access of the ask at this place.
+    pub(crate) fn next_of(&self, at: usize) -> (Tag, Asked)
+        requires { at < vec_len self.now.waiting }
+        ensures tag { tag_text result.0 ≡ tag_of (ask_in (node_of self.now).waiting at) }
+        ensures asked { result.1 ≡ next_access (ask_in (node_of self.now).waiting at) }
+    {
+        next_at(self.waiting.as_slice(), at)
     }
 }
 
@@ -107,7 +121,6 @@ fn step_access<A: Allocator + Copy>(
     requires { is_access (input_of input) ≡ true }
     ensures step { IfOk result (λ made. step site.old.sites site.old.me (site_of site.old) (input_of input)
         ≡ stepped site.new made.answer (map envelope_of made.sent.items)) }
-    ensures still { IfOk result (λ made. is_waiting made.answer ≡ true → site_of site.new ≡ site_of site.old) }
     ensures refused { OnErr result (site_of site.new ≡ site_of site.old) }
     ensures seat { SameSeat site.old site.new }
 {

@@ -45,6 +45,13 @@ impl Counts {
         }
     }
 
+    /// How many envelopes the site sent.
+    pub(crate) fn envelopes_sent(&self) -> u64
+        ensures { result ≡ (counts_of self.now).sent }
+    {
+        self.sent
+    }
+
     /// The counts after one more line that wasn't opened.
     pub(crate) fn with_unopened(&self, why: Unsealed) -> Counts
         ensures { counts_of result ≡ with_unopened why (counts_of self.now) }

@@ -24,9 +24,10 @@ pub(crate) struct Ended<A: Allocator + Copy = Global> {
 }
 
 impl<A: Allocator + Copy> WaitingAsk<A> {
-    ghost use Rattle.std.specs.Prelude.{◌≡◌, false, true, option_map};
+    ghost use Rattle.std.specs.Prelude.{◌≡◌, false, length, true, option_map};
     ghost use Rattle.shm_wire.specs.TagOf.{tag_text};
     ghost use Rattle.shm_process.specs.AskOf.{ask_of};
+    ghost use Rattle.shm_process.specs.Further.{leaves_loads, leaves_stores, with_loaded, with_stored};
     ghost use Rattle.shm_process.specs.WaitingAsks.{after_answer, all_bytes, goes_on, next_access, tag_of};
 
     /// The tag of its caller.
@@ -71,6 +72,28 @@ impl<A: Allocator + Copy> WaitingAsk<A> {
             WaitingAsk::Access { .. } => {}
             WaitingAsk::Reads(block) => block.take(answer),
             WaitingAsk::Writes(write) => write.take(answer),
+        }
+    }
+
+    /// A block that is loaded has these bytes more, and not all yet.
+    pub(crate) fn add_loaded(&mut self, more: &[u8])
+        requires { leaves_loads (ask_of self.old) (length more.now) ≡ true }
+        ensures { ask_of self.new ≡ with_loaded (ask_of self.old) more.now }
+    {
+        match self {
+            WaitingAsk::Reads(block) => block.add(more),
+            WaitingAsk::Access { .. } | WaitingAsk::Writes(_) => {}
+        }
+    }
+
+    /// A block that is stored has so many bytes more stored, and not all yet.
+    pub(crate) fn add_stored(&mut self, count: usize)
+        requires { leaves_stores (ask_of self.old) count ≡ true }
+        ensures { ask_of self.new ≡ with_stored (ask_of self.old) count }
+    {
+        match self {
+            WaitingAsk::Writes(write) => write.add(count),
+            WaitingAsk::Access { .. } | WaitingAsk::Reads(_) => {}
         }
     }
 

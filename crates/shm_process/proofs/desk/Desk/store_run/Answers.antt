@@ -1,20 +1,17 @@
-use Rattle.std.proofs.Common.{◌<◌, ◌≤◌, arith, get_or, length, refl, rules}
+use Rattle.std.proofs.Common.{◌≡◌, ◌≤◌, arith, subst}
+use Rattle.std.proofs.lemmas.Result.{on_ok_weaker}
+use Rattle.shm_model.specs.Basics.{greatest}
 use Rattle.shm_wire.specs.UnmapOf.{unmap_in}
 use Rattle.shm_process.specs.DeskOf.{desk_of}
-use Rattle.shm_process.proofs.MetLines.{first_byte, no_byte, one_byte}
+use Rattle.shm_process.specs.NodeOf.{node_of}
+use Rattle.shm_process.proofs.FurtherBrought.{made_brought}
 use Rattle.shm_process.proofs.desk.Desk.store_run.Goals as goal
 
-pub bytes-init : goal.bytes-init
-bytes-init g c = first_byte (unmap_in c.args.ask.now) c.args.offset c.args.bytes.now (desk_of c.args.self.now)
-
-pub bytes-preserved : goal.bytes-preserved
-bytes-preserved g c =
-    let bytes = c.args.bytes.now in
-    let within : c.bytes.place < length bytes = first_of (omega arith, search rules) in
-    one_byte (unmap_in c.args.ask.now) c.args.offset c.bytes.place bytes (get_or bytes c.bytes.place 0) (desk_of c.bytes.self) (desk_of c.store_byte.new.self) _ within refl
-    c.in_ok-store_byte.ensures c.bytes.invariant
-
-pub returns : goal.returns
-returns g c =
-    let over : length c.args.bytes.now ≤ c.bytes.place = first_of (omega arith, search rules) in
-    no_byte (unmap_in c.args.ask.now) c.args.offset c.bytes.place c.args.bytes.now (desk_of c.bytes.self) _ over c.bytes.invariant
+pub returns-then-may_bring : goal.returns-then-may_bring
+returns-then-may_bring g c =
+    let d = desk_of c.args.self.now in
+    let sent : d.counts.sent ≤ greatest = omega (arith, c.envelopes_sent-sent.ensures, c.envelopes_sent-sent.type_inv) in
+    let taken : d.node.taken ≤ greatest = omega (arith, c.lines_taken-taken.ensures, c.lines_taken-taken.type_inv) in
+    on_ok_weaker c.store_brought.result
+    (made_brought c.args.bytes.now d (unmap_in c.args.ask.now) c.args.offset (node_of c.store_brought.new.self) (c.may_bring.ensures c.if-may_bring.true) sent taken)
+    c.store_brought.ensures
