@@ -40,17 +40,20 @@ loads_may node at sites me offset block page more there is from gives reached ha
     let r = load_reads sites me (right node.site.attachments block.at offset false) node.site gives in
     let place = r.0 in
     let within : place.within ≡ within_of offset = within_is (node.site.attachments block.at) offset false place r.1 in
-    let same : page ≡ place.page = some-page page place.page (sym reached ∙ ap page_reached r.1) in
-    (block, place, record {
-      is = is;
-      left = left;
-      clocks = clocks;
-      leads = ap (λ o. right node.site.attachments block.at o false) (sym from) ∙ r.1;
-      reads = r.2;
-      inside = omega (arith, inside, within);
-      given = given ∙ ap (λ b. take (length more) (drop (within_of offset) b)) (has ∙ ap (λ p. bytes (node.site.entries p)) same)
-          ∙ ap (λ w. take (length more) (drop w (bytes (node.site.entries place.page)))) (sym within);
-    })
+    let same : page ≡ place.page = some-page page place.page (sym reached ∙ ap page_reached r.1) in (
+      block,
+      place,
+      record {
+        is = is;
+        left = left;
+        clocks = clocks;
+        leads = ap (λ o. right node.site.attachments block.at o false) (sym from) ∙ r.1;
+        reads = r.2;
+        inside = omega (arith, inside, within);
+        given = given ∙ ap (λ b. take (length more) (drop (within_of offset) b)) (has ∙ ap (λ p. bytes (node.site.entries p)) same)
+            ∙ ap (λ w. take (length more) (drop w (bytes (node.site.entries place.page)))) (sym within);
+      },
+    )
 
 -- and which stores
 pub stores_may : (node : Node) (at sites me offset : ℕ) (write : Write) (more : List ℕ) → ask_in node.waiting at ≡ Writes write
@@ -60,18 +63,21 @@ pub stores_may : (node : Node) (at sites me offset : ℕ) (write : Write) (more 
 stores_may node at sites me offset write more is from takes given left inside clocks =
     let r = store_writes sites me 0 (right node.site.attachments write.at offset true) node.site takes in
     let place = r.0 in
-    let within : place.within ≡ within_of offset = within_is (node.site.attachments write.at) offset true place r.1 in
-    (write, place, record {
-      is = is;
-      left = left;
-      clocks = clocks;
-      stores = record {
-        leads = ap (λ o. right node.site.attachments write.at o true) (sym from) ∙ r.1;
-        writes = r.2;
-        inside = omega (arith, inside, within);
-      };
-      given = given;
-    })
+    let within : place.within ≡ within_of offset = within_is (node.site.attachments write.at) offset true place r.1 in (
+      write,
+      place,
+      record {
+        is = is;
+        left = left;
+        clocks = clocks;
+        stores = record {
+          leads = ap (λ o. right node.site.attachments write.at o true) (sym from) ∙ r.1;
+          writes = r.2;
+          inside = omega (arith, inside, within);
+        };
+        given = given;
+      },
+    )
 
 pub brings_may : (node : Node) (sites me site at offset count : ℕ) → site ≡ node.me → node.clock + count ≤ greatest → within_of offset + count ≤ page_bytes
     → is_stored (store sites me at offset 0 node.site).answer ≡ true → MayBring node site at offset count

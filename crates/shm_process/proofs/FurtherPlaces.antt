@@ -27,6 +27,7 @@ part_first (x ∷ xs) zero byte more e = (heads byte x more (take (length more) 
   where
     heads : (a b : ℕ) (us vs : List ℕ) → a ∷ us ≡ b ∷ vs → a ≡ b
     heads a b us vs e = cc
+
     tails : (a b : ℕ) (us vs : List ℕ) → a ∷ us ≡ b ∷ vs → us ≡ vs
     tails a b us vs e = cc
 part_first (x ∷ xs) (suc from) byte more e =

@@ -44,9 +44,21 @@ impl<A: Allocator + Copy> Desk<A> {
         ensures made { IfOk result (λ after. all_made after (desk_of self.new) ≡ all_made left (desk_of self.old)) }
     {
         let made = self.make_further(at, left)?;
-        if made > 0 {
-            return Ok(left - made);
+        if made == 0 {
+            return self.make_next(left);
         }
+        Ok(left - made)
+    }
+
+    /// Makes the oldest step that can be made. Answers how many of so many are left: none where none can be made.
+    fn make_next(&mut self, left: usize) -> Result<usize, AllocError>
+        requires some { 0 < left }
+        ensures fewer { IfOk result (λ after. after < left) }
+        ensures made { IfOk result (λ after. all_made after (desk_of self.new) ≡ all_made left (desk_of self.old)) }
+    {
+        let Some(at) = self.node.ready() else {
+            return Ok(0);
+        };
         self.make_one(at)?;
         Ok(left - 1)
     }

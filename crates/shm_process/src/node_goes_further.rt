@@ -41,7 +41,10 @@ impl<A: Allocator + Copy> Node<A> {
         };
         let count = least(most, block.left(), bytes_to_end(offset), self.clocks_left());
         let bytes = self.site.bytes(page)?;
-        Vec::from_slice(self.alloc, part(bytes.as_slice(), place_in_page(offset), count))
+        Vec::from_slice(
+            self.alloc,
+            part(bytes.as_slice(), place_in_page(offset), count),
+        )
     }
 
     /// Makes the loads that give these bytes.
@@ -70,7 +73,10 @@ impl<A: Allocator + Copy> Node<A> {
             return Ok(Vec::new(self.alloc));
         }
         let count = least(most, write.left(), bytes_to_end(offset), self.clocks_left());
-        Vec::from_slice(self.alloc, part(write.bytes.as_slice(), write.stored, count))
+        Vec::from_slice(
+            self.alloc,
+            part(write.bytes.as_slice(), write.stored, count),
+        )
     }
 
     /// Makes the stores of these bytes. Where memory is refused the node is useless.
@@ -200,11 +206,7 @@ fn push_loaded<A: Allocator + Copy>(waiting: &mut Vec<WaitingAsk<A>, A>, at: usi
 
 /// The block at this place has so many bytes more stored.
 #[tactic(auto, using(crate::proofs::Asks::map_read, crate::proofs::Asks::map_set))]
-fn count_stored<A: Allocator + Copy>(
-    waiting: &mut Vec<WaitingAsk<A>, A>,
-    at: usize,
-    count: usize,
-)
+fn count_stored<A: Allocator + Copy>(waiting: &mut Vec<WaitingAsk<A>, A>, at: usize, count: usize)
     requires within { at < vec_len waiting.old }
     requires left { leaves_stores (ask_in (map ask_of waiting.old.items) at) count ≡ true }
     ensures { map ask_of waiting.new.items ≡ slice_set (map ask_of waiting.old.items) at (with_stored (ask_in (map ask_of waiting.old.items) at) count) }

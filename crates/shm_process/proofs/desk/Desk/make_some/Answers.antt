@@ -1,0 +1,10 @@
+use Rattle.std.proofs.Common.{◌≡◌, ◌∙◌, ◌+◌, ap, arith, sym}
+use Rattle.std.proofs.lemmas.Result.{IfOk-weaker}
+use Rattle.shm_process.specs.Desk.{all_made}
+use Rattle.shm_process.specs.DeskOf.{desk_of}
+use Rattle.shm_process.proofs.FurtherRounds.{rounds_are}
+use Rattle.shm_process.proofs.desk.Desk.make_some.Goals as goal
+
+pub returns-clause-made : goal.returns-clause-made
+returns-clause-made g c =
+    rounds_are c.in_ok-made.made c.args.left (desk_of c.args.self.now) (desk_of c.make_further.new.self) c.in_ok-made.ensures.few c.in_ok-made.ensures.made
