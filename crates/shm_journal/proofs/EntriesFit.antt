@@ -29,15 +29,15 @@ entries_fit (entry ∷ entries) are taken =
 
 -- ---- the steps of a life
 
-with-step : (said : Option Said) (steps : List Entry) → ((s : Said) → said ≡ Some s → IsEntry (entry_of s)) → All IsEntry steps → All IsEntry (recorded said steps)
-with-step None steps is all = all
-with-step (Some said) steps is all = All-cons IsEntry (entry_of said) steps (is said refl) all
+pub with_step : (P : Entry → Type 0) (said : Option Said) (steps : List Entry) → ((s : Said) → said ≡ Some s → P (entry_of s)) → All P steps → All P (recorded said steps)
+with_step P None steps is all = all
+with_step P (Some said) steps is all = All-cons P (entry_of said) steps (is said refl) all
 
 -- each has a line
 pub steps_are : (events : List Event) (node : Node) → proper.Sound node → All IsEntry (entries_of node events)
 steps_are [] node sound = All-nil IsEntry
 steps_are (event ∷ events) node sound =
-    with-step (said_at node event) (entries_of (after_event node event) events) (λ said made. proper.event-entry node event said sound made)
+    with_step IsEntry (said_at node event) (entries_of (after_event node event) events) (λ said made. proper.event-entry node event said sound made)
     (steps_are events (after_event node event) (proper.event-sound node event sound))
 
 -- ---- life after life

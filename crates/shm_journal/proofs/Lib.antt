@@ -14,6 +14,7 @@ pub mod BytesFit
 pub mod RowsFit
 pub mod EntriesFit
 pub mod Lives
+pub mod SingleSteps
 pub mod DeskLives
 pub mod Leaving
 pub mod MappedLives

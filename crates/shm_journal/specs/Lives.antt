@@ -55,6 +55,23 @@ header_text header = header_line header ++ 10 ∷ []
 abbrev pub IsJournal : Header → List (List Event) → List ℕ → Type 0
 IsJournal header lives text = (rest : List ℕ) × (text ≡ header_text header ++ rest) × IsLives (opened header) lives rest
 
+-- ---- an entry for each step
+
+-- what a desk may take in each life
+abbrev pub AreTaken : List (List Event) → Type 0
+AreTaken lives = All (All IsTaken) lives
+
+-- the steps of these lives, life after life, each as an entry of its own
+abbrev pub steps_text : Node → List (List Event) → List ℕ
+steps_text node [] = []
+steps_text node (life ∷ lives) = entries_text (entries_of node life) ++ steps_text (kept (after_events node life)) lives
+
+-- the header, and these entries, as earlier versions kept them
+abbrev pub journal_of_steps : Header → List (List Event) → List ℕ
+journal_of_steps header lives = header_text header ++ steps_text (opened header) lives
+
+-- ---- what is found
+
 -- A file of whole lines, this journal of these lives, and behind them what is torn: the site finds the node after them. The whole lines are
 -- exactly the journal.
 pub record FindsLives (header : Header) (lives : List (List Event)) (journal file : List ℕ) : Type 0 where

@@ -4,7 +4,7 @@ ghost use Rattle.shm_journal.specs.Crash.{KeepsBeforeTelling};
 ghost use Rattle.shm_journal.specs.DeskFrom.{desk_from};
 ghost use Rattle.shm_journal.specs.Found.{opened};
 ghost use Rattle.shm_journal.specs.Lines.{Header, IsHeader, header_line, read_entry, read_header};
-ghost use Rattle.shm_journal.specs.Lives.{FindsLives, IsJournal, LeavesNewSound, LeavesSound, after_lives};
+ghost use Rattle.shm_journal.specs.Lives.{AreTaken, FindsLives, IsJournal, LeavesNewSound, LeavesSound, after_lives, journal_of_steps};
 ghost use Rattle.shm_process.specs.Desk.{Desk};
 ghost use Rattle.shm_process.specs.Node.{is_late};
 ghost use Rattle.shm_process.specs.Recorded.{Entry, Event, IsEntry, after_events, entry_line};
@@ -43,6 +43,14 @@ pub fn a_crash_leaves_a_sound_journal()
     ensures begun { (header : Header) → IsHeader header → LeavesNewSound header }
     ensures goes_on { (header : Header) (lives : List (List Event)) (journal : List ℕ) → IsHeader header → IsJournal header lives journal
         → is_late (after_lives (opened header) lives) 0 ≡ false → LeavesSound header lives journal }
+{}
+
+/// A journal with an entry for each step, as earlier versions kept them, is one of the lives whose steps it records, whatever a desk took in
+/// them. So it is found sound too.
+pub fn a_journal_of_single_steps_is_found_sound()
+    ensures is { (header : Header) (lives : List (List Event)) → AreTaken lives → IsJournal header lives (journal_of_steps header lives) }
+    ensures found { (header : Header) (lives : List (List Event)) → IsHeader header → AreTaken lives
+        → FindsLives header lives (journal_of_steps header lives) (journal_of_steps header lives) }
 {}
 
 /// In its next life a site maps the pages that it mapped when the last one ended: its journal leads there, and a restart changes none.
