@@ -64,7 +64,7 @@ Breaks-after a b x y xs ys f o h more =
 Stops-after : (a b : Moment) (x y : List ℕ) (xs ys : List Line) (f : DebugFault) → Onward a x xs b → Stops b y ys f → Stops a (x ++ y) (xs ++ ys) f
 Stops-after a b x y xs ys OutOfMemory o h = Begins-after a b x y xs ys o h
 Stops-after a b x y xs ys ReadFault o h = absurd h
-Stops-after a b x y xs ys WriteFault o h = Begins-after a b x y xs ys o h
+Stops-after a b x y xs ys WriteFault o h = absurd h
 Stops-after a b x y xs ys (BadLine n) o h = Breaks-after a b x y xs ys (BadLine n) o h
 Stops-after a b x y xs ys (LineTooLong n) o h = Breaks-after a b x y xs ys (LineTooLong n) o h
 Stops-after a b x y xs ys TooManyLines o h = Breaks-after a b x y xs ys TooManyLines o h
@@ -84,7 +84,7 @@ Breaks-more a x y xs f h more = rest-after a x y more ∙ h (y ++ more)
 Stops-more : (a : Moment) (x y : List ℕ) (xs : List Line) (f : DebugFault) → Stops a x xs f → Stops a (x ++ y) xs f
 Stops-more a x y xs OutOfMemory h = Begins-more a x y xs h
 Stops-more a x y xs ReadFault h = absurd h
-Stops-more a x y xs WriteFault h = Begins-more a x y xs h
+Stops-more a x y xs WriteFault h = absurd h
 Stops-more a x y xs (BadLine n) h = Breaks-more a x y xs (BadLine n) h
 Stops-more a x y xs (LineTooLong n) h = Breaks-more a x y xs (LineTooLong n) h
 Stops-more a x y xs TooManyLines h = Breaks-more a x y xs TooManyLines h

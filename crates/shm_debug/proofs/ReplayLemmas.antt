@@ -114,8 +114,7 @@ stopped : (w0 w : Option (List ℕ)) (taken text pending more : List ℕ) (lines
     → Pauses w0 w pending (script_of (taken ++ more)) (Err fault)
 stopped w0 w taken text pending more lines OutOfMemory g h t = let r = h more in (text, g, first-begun (script_of (taken ++ more)) lines r.0 text r.1 t)
 stopped w0 w taken text pending more lines ReadFault g h t = absurd h
-stopped w0 w taken text pending more lines WriteFault g h t = let r = h more in
-    (g.0, g.1, front (script_of (taken ++ more)) lines r.0 text g.0 pending r.1 t g.2)
+stopped w0 w taken text pending more lines WriteFault g h t = absurd h
 stopped w0 w taken text pending more lines (BadLine n) g h t = (text, g, broken-there (script_of (taken ++ more)) lines (BadLine n) text (h more) t)
 stopped w0 w taken text pending more lines (LineTooLong n) g h t = (text, g, broken-there (script_of (taken ++ more)) lines (LineTooLong n) text (h more) t)
 stopped w0 w taken text pending more lines TooManyLines g h t = (text, g, broken-there (script_of (taken ++ more)) lines TooManyLines text (h more) t)

@@ -58,11 +58,11 @@ Begins m bytes lines = (more : List ℕ) → (others : List Line) × ((rest_of m
 abbrev pub Breaks : Moment → List ℕ → List Line → DebugFault → Type 0
 Breaks m bytes lines fault = (more : List ℕ) → rest_of m (bytes ++ more) ≡ after lines (broken fault)
 
--- what a fault says of the script where it comes after these lines, while bytes that were read are played; reading doesn't fail then
+-- what a fault says of the script where it comes after these lines, while bytes that were read are played; neither reading nor writing fails then
 abbrev pub Stops : Moment → List ℕ → List Line → DebugFault → Type 0
 Stops m bytes lines OutOfMemory = Begins m bytes lines
 Stops m bytes lines ReadFault = ⊥
-Stops m bytes lines WriteFault = Begins m bytes lines
+Stops m bytes lines WriteFault = ⊥
 Stops m bytes lines (BadLine number) = Breaks m bytes lines (BadLine number)
 Stops m bytes lines (LineTooLong number) = Breaks m bytes lines (LineTooLong number)
 Stops m bytes lines TooManyLines = Breaks m bytes lines TooManyLines

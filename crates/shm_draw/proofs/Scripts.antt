@@ -1,5 +1,5 @@
 -- What has been read of a script, and what stands at its end.
-use Rattle.std.proofs.Common.{◌≡◌, ◌∙◌, ℕ, List, [], ◌∷◌, ◌++◌, length, take, drop, take-append-drop, inl, inr, Option, None, Some, IfSome, Result, Ok, Err, IfOk, IfErr, refl, sym, ap, subst, append-nil}
+use Rattle.std.proofs.Common.{◌≡◌, ◌∙◌, ℕ, List, [], ◌++◌, length, take, drop, take-append-drop, Option, None, Some, IfSome, Ok, Err, refl, sym, ap, subst, append-nil}
 use Rattle.std.proofs.Math.Seq.{take-append_seam}
 use Rattle.std.specs.Io.KnownBytes.{Appends, Consumes, IsAtEnd, Keeps}
 use Rattle.std.proofs.KnownBytes.{Appends-kept, Consumes-whole}
@@ -9,13 +9,13 @@ use Rattle.shm_lines.specs.declared.script_line.Line.{Line}
 use Rattle.shm_debug.specs.Script.{Script, after, whole, script_of}
 use Rattle.shm_debug.specs.Said.{standing_after}
 use Rattle.shm_debug.specs.Standing.{Standing}
-use Rattle.shm_debug.specs.Reading.{Moment, Ended, rest_of}
+use Rattle.shm_debug.specs.Reading.{Moment, Ended, Fails, rest_of}
 use Rattle.shm_debug.specs.Replay.{Pauses}
 use Rattle.shm_debug.specs.declared.script_summary_and_error.Summary.{Summary}
 use Rattle.shm_debug.specs.declared.script_summary_and_error.DebugFault.{DebugFault}
 use Rattle.shm_debug.specs.declared.script_summary_and_error.DebugFault.TheVariants.{OutOfMemory, BadLine, LineTooLong, TooManyLines, ReadFault, WriteFault}
 use Rattle.shm_debug.proofs.PromiseLemmas.{Begins, begins-always}
-use Rattle.shm_debug.proofs.ReplayLemmas.{IfSome-map, SoFar, all_read}
+use Rattle.shm_debug.proofs.ReplayLemmas.{IfSome-map, SoFar, all_read, stopped_there}
 use Rattle.shm_draw.specs.Drawn.{BeganRight, LeadsTo, Stopped, Writes}
 
 -- ---- the lines that were read, and what stands after them
@@ -48,19 +48,43 @@ stands_there r0 r w0 w pending player summary s end e =
     Consumes-whole r0 r s.0 (λ bytes. LeadsTo (script_of bytes) player.standing) s.3 end
     (record { whole = ap (λ (t : Script). t.fault) script; stands = s.2.1.stands ∙ ap (standing_after None) (sym kept) })
 
-pub stopped-pauses : (w0 w : Option (List ℕ)) (pending : List ℕ) (script : Script) (fault : DebugFault) → Pauses w0 w pending script (Err fault) → Stopped script fault
-stopped-pauses w0 w pending script OutOfMemory p = tt
-stopped-pauses w0 w pending script ReadFault p = tt
-stopped-pauses w0 w pending script WriteFault p = tt
-stopped-pauses w0 w pending script (BadLine n) p = p.2.0
-stopped-pauses w0 w pending script (LineTooLong n) p = p.2.0
-stopped-pauses w0 w pending script TooManyLines p = p.2.0
+-- a fault that isn't the writer's
+abbrev Unwritten : DebugFault → Type 0
+Unwritten OutOfMemory = Unit {0}
+Unwritten ReadFault = Unit {0}
+Unwritten WriteFault = ⊥
+Unwritten (BadLine number) = Unit {0}
+Unwritten (LineTooLong number) = Unit {0}
+Unwritten TooManyLines = Unit {0}
 
-pub stopped-some : (r0 w0 w : Option (List ℕ)) (pending : List ℕ) (fault : DebugFault)
+fails-unwritten : (player : Moment) (bytes old new : List ℕ) (fault : DebugFault) → Fails player bytes fault old new → Unwritten fault
+fails-unwritten player bytes old new OutOfMemory f = tt
+fails-unwritten player bytes old new ReadFault f = tt
+fails-unwritten player bytes old new WriteFault f = f.1
+fails-unwritten player bytes old new (BadLine n) f = tt
+fails-unwritten player bytes old new (LineTooLong n) f = tt
+fails-unwritten player bytes old new TooManyLines f = tt
+
+stopped-pauses : (w0 w : Option (List ℕ)) (pending : List ℕ) (script : Script) (fault : DebugFault) → Unwritten fault → Pauses w0 w pending script (Err fault)
+    → Stopped script fault
+stopped-pauses w0 w pending script OutOfMemory u p = tt
+stopped-pauses w0 w pending script ReadFault u p = tt
+stopped-pauses w0 w pending script WriteFault u p = u
+stopped-pauses w0 w pending script (BadLine n) u p = p.2.0
+stopped-pauses w0 w pending script (LineTooLong n) u p = p.2.0
+stopped-pauses w0 w pending script TooManyLines u p = p.2.0
+
+stopped-some : (r0 w0 w : Option (List ℕ)) (pending : List ℕ) (fault : DebugFault) → Unwritten fault
     → IfSome r0 (λ bytes. Pauses w0 w pending (script_of bytes) (Err fault)) → IfSome r0 (λ bytes. Stopped (script_of bytes) fault)
-stopped-some r0 w0 w pending fault p =
+stopped-some r0 w0 w pending fault u p =
     IfSome-map r0 (λ bytes. Pauses w0 w pending (script_of bytes) (Err fault)) (λ bytes. Stopped (script_of bytes) fault) p
-    (λ bytes q. stopped-pauses w0 w pending (script_of bytes) fault q)
+    (λ bytes q. stopped-pauses w0 w pending (script_of bytes) fault u q)
+
+-- a fault came while bytes were read on
+pub stopped_on : (r0 r r1 w0 w : Option (List ℕ)) (old new : List ℕ) (player : Moment) (bytes : List ℕ) (fault : DebugFault)
+    → SoFar r0 r w0 w old player → Consumes r r1 bytes → Fails player bytes fault old new → IfSome r0 (λ all. Stopped (script_of all) fault)
+stopped_on r0 r r1 w0 w old new player bytes fault s c f =
+    stopped-some r0 w0 w new fault (fails-unwritten player bytes old new fault f) (stopped_there r0 r r1 w0 w old new player bytes fault s c f)
 
 -- a reader whose bytes aren't known
 some-always : (o : Option (List ℕ)) (P : List ℕ → Type 0) → ((bytes : List ℕ) → P bytes) → IfSome o P
@@ -70,7 +94,8 @@ some-always (Some x) P h = h x
 -- what the input's end says, by what was answered
 pub ended_there : (r0 r w0 w : Option (List ℕ)) (pending : List ℕ) (player : Moment) (fault : DebugFault)
     → SoFar r0 r w0 w pending player → IsAtEnd r → Ended player (Err fault) → IfSome r0 (λ bytes. Stopped (script_of bytes) fault)
-ended_there r0 r w0 w pending player fault s end e = stopped-some r0 w0 w pending fault (all_read r0 r w0 w pending player (Err fault) s end e)
+ended_there r0 r w0 w pending player fault s end e =
+    stopped-some r0 w0 w pending fault (subst Unwritten (sym e.1) tt) (all_read r0 r w0 w pending player (Err fault) s end e)
 
 -- ---- what was written by the end; `draw` is what is drawn of what stands
 
@@ -81,7 +106,7 @@ drawn_of draw script = draw (standing_after None script.lines)
 pub draws-stopped : (drawn : List ℕ) (script : Script) (fault : DebugFault) → Stopped script fault → Writes drawn script (Err fault) []
 draws-stopped drawn script OutOfMemory s = refl
 draws-stopped drawn script ReadFault s = refl
-draws-stopped drawn script WriteFault s = inl refl
+draws-stopped drawn script WriteFault s = absurd s
 draws-stopped drawn script (BadLine n) s = (s, refl)
 draws-stopped drawn script (LineTooLong n) s = (s, refl)
 draws-stopped drawn script TooManyLines s = (s, refl)
@@ -93,11 +118,11 @@ is-drawing draw script standing picture s e = e ∙ ap draw s.stands
 draws-front : (draw : Option Standing → List ℕ) (script : Script) (standing : Option Standing) (picture : List ℕ) (n : ℕ) → LeadsTo script standing → picture ≡ draw standing
     → Writes (drawn_of draw script) script (Err WriteFault) (take n picture)
 draws-front draw script standing picture n s e =
-    inr (s.whole, (drop n picture, sym (is-drawing draw script standing picture s e) ∙ sym (take-append-drop n picture)))
+    (s.whole, (drop n picture, sym (is-drawing draw script standing picture s e) ∙ sym (take-append-drop n picture)))
 
 draws-unflushed : (draw : Option Standing → List ℕ) (script : Script) (standing : Option Standing) (picture : List ℕ) → LeadsTo script standing → picture ≡ draw standing
     → Writes (drawn_of draw script) script (Err WriteFault) picture
-draws-unflushed draw script standing picture s e = inr (s.whole, ([], sym (is-drawing draw script standing picture s e) ∙ sym (append-nil picture)))
+draws-unflushed draw script standing picture s e = (s.whole, ([], sym (is-drawing draw script standing picture s e) ∙ sym (append-nil picture)))
 
 -- ---- it is written
 

@@ -1,5 +1,5 @@
 -- How drawing a script ends, and what it has written by then.
-use Rattle.std.specs.Prelude.{◌≡◌, ℕ, List, [], ◌++◌, ◌⊎◌, Option, None, Some, Result, Ok, Err}
+use Rattle.std.specs.Prelude.{◌≡◌, ℕ, List, [], ◌++◌, Option, None, Some, Result, Ok, Err}
 use Rattle.shm_place.specs.declared.page_id.PageId.{PageId}
 use Rattle.shm_model.specs.World.{IsOpening, opened}
 use Rattle.shm_debug.specs.Standing.{Standing}
@@ -23,9 +23,9 @@ drawing_of page besides script = drawing page besides (standing_after None scrip
 abbrev pub IsFaultOf : Script → DebugFault → List ℕ → Type 0
 IsFaultOf script fault text = (script.fault ≡ Some fault) × (text ≡ [])
 
--- a front of what is drawn of a script without a fault, or nothing
+-- a front of what is drawn of a script without a fault
 abbrev pub IsFrontOf : List ℕ → Script → List ℕ → Type 0
-IsFrontOf drawn script text = (text ≡ []) ⊎ ((script.fault ≡ None) × ((rest : List ℕ) × (drawn ≡ text ++ rest)))
+IsFrontOf drawn script text = (script.fault ≡ None) × ((rest : List ℕ) × (drawn ≡ text ++ rest))
 
 -- Where the script has no fault, what is drawn of it is written; a front of it, where writing fails; otherwise nothing is.
 abbrev pub Writes : List ℕ → Script → Result (Unit {0}) DebugFault → List ℕ → Type 0
@@ -51,11 +51,11 @@ pub record LeadsTo (script : Script) (standing : Option Standing) : Type 0 where
   pub whole : script.fault ≡ None
   pub stands : standing ≡ standing_after None script.lines
 
--- why a script was not read to its end
+-- why a script was not read to its end; nothing is written before that
 abbrev pub Stopped : Script → DebugFault → Type 0
 Stopped script OutOfMemory = Unit {0}
 Stopped script ReadFault = Unit {0}
-Stopped script WriteFault = Unit {0}
+Stopped script WriteFault = ⊥
 Stopped script (BadLine number) = script.fault ≡ Some (BadLine number)
 Stopped script (LineTooLong number) = script.fault ≡ Some (LineTooLong number)
 Stopped script TooManyLines = script.fault ≡ Some TooManyLines

@@ -1,9 +1,9 @@
 -- The script of what stands is read as its own lines, and leads to what stands.
 use Rattle.std.proofs.Common.{◌≡◌, ℕ, ◌+◌, ◌<◌, ◌≤◌, ◌==◌, ◌&&◌, Bool, true, false, not, cond, List, [], ◌∷◌, ◌++◌, length, map, take, get_or, All, None, Some, Ok, refl, sym, ap, subst, ◌∙◌, arith, append_assoc, append-nil}
 use Rattle.std.specs.List.{list_all}
-use Rattle.std.proofs.lemmas.List.Elements.{All-append, All-cons, All-nil, All-head, All-tail}
+use Rattle.std.proofs.lemmas.List.Elements.{All-append, All-cons, All-get_or, All-nil, All-head, All-tail}
 use Rattle.std.proofs.lemmas.Bool.Decides.{nat_tests}
-use Rattle.std.proofs.lemmas.List.{map-append, take_all, take_more}
+use Rattle.std.proofs.lemmas.List.{get_or-map, length-map, map-append, take_all, take_more}
 use Rattle.shm_model.specs.declared.event.Event.{Event}
 use Rattle.shm_model.specs.World.{Opening, New, Preset, Framed}
 use Rattle.shm_lines.specs.Line.{line_of, may_stand}
@@ -16,7 +16,9 @@ use Rattle.shm_debug.specs.Standing.{Standing, standing}
 use Rattle.shm_debug.proofs.PartsLemmas.{NoFeed, parts, parts-feed, read_on-line}
 use Rattle.shm_debug.proofs.ReadingLemmas.{read-within, placed-yes, rest-whole}
 use Rattle.shm_prompt.specs.Saved.{Replays, first_line, lines_of, text_of_lines}
-use Rattle.shm_prompt.specs.Spelled.{IsSpelled, line_bytes}
+use Rattle.shm_prompt.specs.Spelled.{AreRefused, IsSpelled, line_bytes}
+use Rattle.shm_prompt.specs.declared.save_refusal.SaveRefusal.{SaveRefusal}
+use Rattle.shm_prompt.specs.declared.save_refusal.SaveRefusal.TheVariants as refusal
 
 -- ---- what is read
 
@@ -129,3 +131,26 @@ all_read spelled s line events i text all before opening same early =
     ap (λ xs. line ∷ map EventLine xs) (take_all i events all ∙ sym same) ∙ ap (λ l. l ∷ map EventLine s.events) (sym opening) in
     let is : IsText text (lines_of s) = subst (IsText text) lines before in
     replayed spelled s text early is.1 is.0
+
+-- ---- why none is saved
+
+event-spelled : (events : List Event) (i : ℕ) (e : Event) → i < length events → e ≡ get_or events i e → All IsSpelled (map EventLine events) → IsSpelled (EventLine e)
+event-spelled events i e below here all =
+    subst IsSpelled (get_or-map EventLine events i e (EventLine e) below ∙ ap EventLine (sym here))
+    (All-get_or IsSpelled (map EventLine events) i (EventLine e) (subst (λ n. i < n) (sym (length-map events EventLine)) below) all)
+
+-- what refuses one of the lines refuses all
+refused-one : (line : Line) (lines : List Line) (r : SaveRefusal) → (All IsSpelled lines → IsSpelled line) → AreRefused (line ∷ []) r → AreRefused lines r
+refused-one line lines refusal.OutOfMemory among h = tt
+refused-one line lines refusal.TooManyLines among h = absurd (omega (arith, h))
+refused-one line lines refusal.NoLine among h = λ all. h (All-cons IsSpelled line [] (among all) (All-nil IsSpelled))
+
+pub refused-first : (s : Standing) (line : Line) (r : SaveRefusal) → first_line s.opening ≡ line → AreRefused (line ∷ []) r → AreRefused (lines_of s) r
+refused-first s line r opening h =
+    refused-one line (lines_of s) r (λ all. subst IsSpelled opening (All-head IsSpelled (first_line s.opening) (map EventLine s.events) all)) h
+
+pub refused-event : (s : Standing) (events : List Event) (i : ℕ) (e : Event) (r : SaveRefusal) → s.events ≡ events → i < length events → e ≡ get_or events i e
+    → AreRefused (EventLine e ∷ []) r → AreRefused (lines_of s) r
+refused-event s events i e r same below here h =
+    refused-one (EventLine e) (lines_of s) r (λ all. event-spelled events i e below here
+    (subst (λ es. All IsSpelled (map EventLine es)) same (All-tail IsSpelled (first_line s.opening) (map EventLine s.events) all))) h

@@ -7,6 +7,8 @@ use Rattle.shm_lines.specs.Words.{◌>>=◌, next_word, words_of}
 use Rattle.shm_draw.specs.Captions.{Beside}
 use Rattle.shm_prompt.specs.Notes.{AreDrawn, notes_text}
 use Rattle.shm_prompt.specs.Saved.{lines_of, text_of_lines}
+use Rattle.shm_prompt.specs.Spelled.{AreRefused, refusal_words}
+use Rattle.shm_prompt.specs.declared.save_refusal.SaveRefusal.{SaveRefusal}
 
 -- a file of this name was written whole, with these bytes; or it couldn't be
 pub data Save : Type 0 where
@@ -46,34 +48,43 @@ file_named typed = do
 abbrev pub saved_to : List ℕ → List ℕ
 saved_to name = codes "saved to " ++ (name ++ codes "\n")
 
+-- what is told where nothing was saved, for this cause
+abbrev pub not_saved : List ℕ → List ℕ
+not_saved why = codes "not saved: " ++ why
+
+abbrev pub unnamed : List ℕ
+unnamed = not_saved (codes "the file's name is no text\n")
+
 -- it is told that nothing was saved, and why
 abbrev pub TellsUnsaved : List ℕ → List ℕ → Type 0
-TellsUnsaved text text' = (more : List ℕ) × (text' ≡ text ++ (codes "not saved: " ++ more))
+TellsUnsaved text text' = (more : List ℕ) × (text' ≡ text ++ not_saved more)
 
 -- this file was written, which is told; or it couldn't be, which is told
 abbrev pub Writes : List ℕ → List ℕ → Option (List Save) → Option (List Save) → List ℕ → List ℕ → Type 0
 Writes name bytes old new text text' =
     (Adds old new (Whole name bytes) × (text' ≡ text ++ saved_to name)) ⊎ (Adds old new (Failed name bytes) × TellsUnsaved text text')
 
--- the whole script of what stands, under the name that was typed; or nothing at all, which is told
-abbrev pub SavesScript : Standing → List ℕ → Option (List Save) → Option (List Save) → List ℕ → List ℕ → Type 0
-SavesScript s typed old new text text' =
-    ((new ≡ old) × TellsUnsaved text text')
-    ⊎ ((name : List ℕ) × (name_typed typed ≡ Some name) × Writes name (text_of_lines (lines_of s)) old new text text')
+-- the script of what stands is refused, for a cause that is so and is told
+pub record Refuses (s : Standing) (text text' : List ℕ) : Type 0 where
+  pub refusal : SaveRefusal
+  pub so : AreRefused (lines_of s) refusal
+  pub told : text' ≡ text ++ not_saved (refusal_words refusal ++ codes "\n")
 
--- where no sites stand nothing is saved
+-- the whole script, under this name, or nothing at all, where it is refused; where there is no name, nothing
+abbrev pub SavesScript : Standing → Option (List ℕ) → Option (List Save) → Option (List Save) → List ℕ → List ℕ → Type 0
+SavesScript s None old new text text' = (new ≡ old) × (text' ≡ text ++ unnamed)
+SavesScript s (Some name) old new text text' = ((new ≡ old) × Refuses s text text') ⊎ Writes name (text_of_lines (lines_of s)) old new text text'
+
+-- the same of the name that was typed; where no sites stand nothing is saved
 abbrev pub SavesTyped : Option Standing → List ℕ → Option (List Save) → Option (List Save) → List ℕ → List ℕ → Type 0
 SavesTyped None typed old new text text' = new ≡ old
-SavesTyped (Some s) typed old new text text' = SavesScript s typed old new text text'
+SavesTyped (Some s) typed old new text text' = SavesScript s (file_named typed) old new text text'
 
 -- ---- `notes`
 
-abbrev pub unnamed_notes : List ℕ
-unnamed_notes = codes "not saved: the file's name is no text\n"
-
 -- all notes, under this name, as captions of pictures; where there is none, nothing
 abbrev pub SavesUnder : Option (List ℕ) → List Beside → Option (List Save) → Option (List Save) → List ℕ → List ℕ → Type 0
-SavesUnder None notes old new text text' = (new ≡ old) × (text' ≡ text ++ unnamed_notes)
+SavesUnder None notes old new text text' = (new ≡ old) × (text' ≡ text ++ unnamed)
 SavesUnder (Some name) notes old new text text' = Writes name (notes_text notes) old new text text' × AreDrawn (notes_text notes) notes
 
 -- the same of the name that was typed; where no sites stand nothing is saved

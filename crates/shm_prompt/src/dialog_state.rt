@@ -1,4 +1,4 @@
-ghost use Rattle.std.specs.Prelude.{◌≡◌, [], None};
+ghost use Rattle.std.specs.Prelude.{◌≡◌, [], length, None};
 ghost use Rattle.std.specs.Option.{option_copied};
 ghost use Rattle.shm_prompt.specs.Dialog.{standing_now};
 
@@ -44,7 +44,9 @@ impl<A: Allocator + Copy> Dialog<A> {
     }
 
     /// How many lines have a note.
-    pub(crate) fn note_count(&self) -> usize {
+    pub(crate) fn note_count(&self) -> usize
+        ensures { result ≡ length self.now.notes }
+    {
         self.notes.len()
     }
 

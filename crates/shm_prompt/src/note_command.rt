@@ -11,7 +11,7 @@ use crate::output_line::{last_line, tell_line};
 use crate::save_file_trait::SaveFile;
 use crate::script_line_act::NOT_BEGUN;
 use crate::script_notes::Notes;
-use crate::write_named_file::write_named;
+use crate::write_named_file::{tell_unnamed, write_named};
 use std::alloc::{AllocError, Allocator};
 
 impl<A: Allocator + Copy> Dialog<A> {
@@ -91,7 +91,7 @@ fn save_all<A: Allocator + Copy, S: SaveFile>(
     ensures saves { OnOk result (SavesUnder (file_named typed.now) notes.now (S.saves files.old) (S.saves files.new) out.old.items out.new.items) }
 {
     let Some(name) = file_name(typed) else {
-        return out.extend_from_slice(b"not saved: the file's name is no text\n");
+        return tell_unnamed(out);
     };
     let text = notes.text(alloc)?;
     write_named(text.as_slice(), name, files, out)

@@ -1,8 +1,9 @@
 //! What each command does to the session, and its answer.
-ghost use Rattle.std.specs.Prelude.{◌≡◌, ◌++◌, ◌⊎◌, Some, false, true, IfOk, OnErr, OnOk};
+ghost use Rattle.std.specs.Prelude.{◌≡◌, ◌++◌, ◌⊎◌, Some, codes, false, true, IfOk, OnErr, OnOk};
 ghost use Rattle.shm_prompt.specs.Command.{IsCommand, command_of, is_notes, is_quit, is_save};
 ghost use Rattle.shm_prompt.specs.Dialog.{HaltedCommand, HaltedRun, HaltedTyped, LeavesNotes, Obeyed, ObeyedTyped, OpensTyped, Ran, Runs, SomeDelivered, TellsMore, TellsOfStanding, next_undo, run_end, standing_now, told_undo};
-ghost use Rattle.shm_prompt.specs.Saves.{SavesNotes, SavesScript, SavesTyped, TellsUnsaved, file_named};
+ghost use Rattle.shm_prompt.specs.Saves.{SavesNotes, SavesScript, SavesTyped, file_named, not_saved};
+ghost use Rattle.shm_prompt.specs.Spelled.{refusal_words};
 
 use crate::deliver_all::deliver_all;
 use crate::dialog_state::Dialog;
@@ -17,7 +18,7 @@ use crate::saved_script_text::saved_script;
 use crate::script_line_act::NOT_BEGUN;
 use crate::segments_table::list_segments;
 use crate::undo_command::undo_on;
-use crate::write_named_file::{tell_unsaved, write_named};
+use crate::write_named_file::{tell_unnamed, tell_unsaved, write_named};
 use crate::wrong_line_hints::tell_hint;
 use shm_debug::Session;
 use shm_place::PageId;
@@ -242,10 +243,10 @@ fn save_to<A: Allocator + Copy, S: SaveFile>(
     out: &mut Vec<u8, A>,
 ) -> Result<(), AllocError>
     ensures tells { OnOk result (TellsMore out.old.items out.new.items) }
-    ensures saves { OnOk result (SavesScript session.now typed.now (S.saves files.old) (S.saves files.new) out.old.items out.new.items) }
+    ensures saves { OnOk result (SavesScript session.now (file_named typed.now) (S.saves files.old) (S.saves files.new) out.old.items out.new.items) }
 {
     let Some(name) = file_name(typed) else {
-        return tell_unsaved(b"the file's name is no text\n", out);
+        return tell_unnamed(out);
     };
     match saved_script(alloc, session) {
         Ok(script) => write_named(script.as_slice(), name, files, out),
@@ -257,7 +258,7 @@ fn tell_refusal<A: Allocator + Copy>(
     refusal: SaveRefusal,
     out: &mut Vec<u8, A>,
 ) -> Result<(), AllocError>
-    ensures { OnOk result (TellsUnsaved out.old.items out.new.items) }
+    ensures { OnOk result (out.new.items ≡ out.old.items ++ not_saved (refusal_words refusal ++ codes "\n")) }
 {
     let text = format!(in *out.allocator(); "{refusal}\n")?;
     tell_unsaved(text.as_bytes(), out)

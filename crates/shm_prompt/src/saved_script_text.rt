@@ -1,9 +1,10 @@
 //! The script of what stands, which a replay plays to the same end.
-ghost use Rattle.std.specs.Prelude.{◌≡◌, ◌<◌, IfOk, length};
+ghost use Rattle.std.specs.Prelude.{◌≡◌, ◌<◌, IfErr, IfOk, length};
 ghost use Rattle.shm_model.specs.Opening.{opening_of};
 ghost use Rattle.shm_debug.specs.Standing.{Standing};
 ghost use Rattle.shm_prompt.specs.Saved as saved;
 ghost use Rattle.shm_prompt.specs.Saved.{Replays, lines_of, text_of_lines};
+ghost use Rattle.shm_prompt.specs.Spelled.{AreRefused};
 
 use crate::save_refusal::SaveRefusal;
 use crate::spell_saved_line::push_line;
@@ -16,13 +17,14 @@ use std::alloc::Allocator;
 const MAX_LINES: usize = 100_000;
 
 /// The script of the events that stand: the `sites` line, and a line for each event. A replay reads exactly these lines, and its session is
-/// the same.
+/// the same. It is refused where memory is, where there are too many lines, or where a line has no spelling.
 pub fn saved_script<A: Allocator + Copy>(
     alloc: A,
     session: &Session<A>,
 ) -> Result<Vec<u8, A>, SaveRefusal>
     ensures text { IfOk result (λ bytes. bytes.items ≡ text_of_lines (lines_of session.now)) }
     ensures replays { IfOk result (λ bytes. Replays bytes.items session.now) }
+    ensures refused { IfErr result (AreRefused (lines_of session.now)) }
 {
     let events = session.events();
     if events.len() >= MAX_LINES {
@@ -41,6 +43,7 @@ fn text_of<A: Allocator + Copy>(
         → IfOk result (λ bytes. bytes.items ≡ text_of_lines (lines_of s)) }
     ensures replays { (s : Standing) → saved.first_line s.opening ≡ first → s.events ≡ events.now → length s.events < 100000
         → IfOk result (λ bytes. Replays bytes.items s) }
+    ensures refused { (s : Standing) → saved.first_line s.opening ≡ first → s.events ≡ events.now → IfErr result (AreRefused (lines_of s)) }
 {
     laws::lines_have_one_spelling();
     let mut text = Vec::new(alloc);

@@ -1,5 +1,5 @@
 //! Notes: captions for lines of the script of what stands.
-ghost use Rattle.std.specs.Prelude.{◌≡◌, ◌++◌, ◌<◌, [], true, IfOk, OnErr, OnOk};
+ghost use Rattle.std.specs.Prelude.{◌≡◌, ◌++◌, ◌<◌, [], length, true, IfOk, OnErr, OnOk};
 ghost use Rattle.shm_draw.specs.Captions.{Beside};
 ghost use Rattle.shm_prompt.specs.Notes.{AreDrawn, is_note, note_bytes, notes_text, notes_up_to, with_note};
 
@@ -50,7 +50,9 @@ impl<A: Allocator + Copy> Notes<A> {
     }
 
     /// How many lines have a note.
-    pub(crate) fn len(&self) -> usize {
+    pub(crate) fn len(&self) -> usize
+        ensures { result ≡ length self.now }
+    {
         self.notes.len()
     }
 

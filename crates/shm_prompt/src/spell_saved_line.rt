@@ -1,10 +1,11 @@
 //! Checks that a line has a spelling that reads back as it, and spells it.
-ghost use Rattle.std.specs.Prelude.{◌≡◌, ◌≤◌, ◌==◌, [], ◌∷◌, ◌++◌, true, not, OnOk, length};
+ghost use Rattle.std.specs.Prelude.{◌≡◌, ◌≤◌, ◌==◌, [], ◌∷◌, ◌++◌, List, false, true, not, IfErr, OnOk, length};
 ghost use Rattle.std.specs.List.{list_all};
 ghost use Rattle.shm_model.specs.declared.call.Request.TheVariants.{Op as OpRequest};
 ghost use Rattle.shm_lines.specs.Calls.{IsRequest};
 ghost use Rattle.shm_lines.specs.Spelling.{IsEvent, IsLine, IsOpened};
-ghost use Rattle.shm_prompt.specs.Spelled.{IsSpelled, line_bytes, max_line_bytes};
+ghost use Rattle.shm_lines.specs.declared.script_line.Line.{Line};
+ghost use Rattle.shm_prompt.specs.Spelled.{AreRefused, IsSpelled, line_bytes, max_line_bytes};
 
 use crate::save_refusal::SaveRefusal;
 use shm_lines::Line;
@@ -22,6 +23,7 @@ pub(crate) fn push_line<A: Allocator + Copy>(
 ) -> Result<(), SaveRefusal>
     ensures text { OnOk result (text.new.items ≡ text.old.items ++ line_bytes line) }
     ensures spelled { OnOk result (IsSpelled line) }
+    ensures refused { IfErr result (AreRefused (line ∷ [])) }
 {
     if !is_line(line) {
         return Err(SaveRefusal::NoLine);
@@ -35,9 +37,10 @@ pub(crate) fn push_line<A: Allocator + Copy>(
     append(text, spelled.as_bytes())
 }
 
-/// Appends a line's bytes, and a line feed.
+/// Appends a line's bytes, and a line feed, unless memory is refused.
 fn append<A: Allocator + Copy>(text: &mut Vec<u8, A>, line: &[u8]) -> Result<(), SaveRefusal>
-    ensures { OnOk result (text.new.items ≡ text.old.items ++ (line.now ++ 10 ∷ [])) }
+    ensures text { OnOk result (text.new.items ≡ text.old.items ++ (line.now ++ 10 ∷ [])) }
+    ensures refused { (lines : List Line) → IfErr result (AreRefused lines) }
 {
     match text.extend_from_slice(line) {
         Ok(()) => {}
@@ -53,6 +56,7 @@ fn append<A: Allocator + Copy>(text: &mut Vec<u8, A>, line: &[u8]) -> Result<(),
 fn fits(line: &[u8]) -> bool
     ensures short { result ≡ true → length line.now ≤ max_line_bytes }
     ensures unended { result ≡ true → list_all (λ byte. not (byte == 10)) line.now ≡ true }
+    ensures no { result ≡ false → length line.now ≤ max_line_bytes → list_all (λ byte. not (byte == 10)) line.now ≡ false }
 {
     line.len() <= MAX_LINE_BYTES && is_unended(line)
 }
@@ -64,9 +68,10 @@ fn is_unended(line: &[u8]) -> bool
     line.iter().all(|byte| *byte != b'\n')
 }
 
-/// Checks that a script can have this line.
+/// Checks whether a script can have this line.
 fn is_line(line: Line) -> bool
-    ensures { result ≡ true → IsLine line }
+    ensures yes { result ≡ true → IsLine line }
+    ensures no { result ≡ false → ¬ IsLine line }
 {
     match line {
         Line::Sites(opening) => is_opened(opening),
@@ -76,9 +81,10 @@ fn is_line(line: Line) -> bool
     }
 }
 
-/// Checks that the pages and frames are in range.
+/// Checks whether the pages and frames are in range.
 pub(crate) fn is_opened(opening: Opening) -> bool
-    ensures { result ≡ true → IsOpened opening.preset opening.frames }
+    ensures yes { result ≡ true → IsOpened opening.preset opening.frames }
+    ensures no { result ≡ false → ¬ IsOpened opening.preset opening.frames }
 {
     match (opening.preset, opening.frames) {
         (None, None) => true,
@@ -91,7 +97,8 @@ pub(crate) fn is_opened(opening: Opening) -> bool
 }
 
 fn is_event(event: Event) -> bool
-    ensures { result ≡ true → IsEvent event }
+    ensures yes { result ≡ true → IsEvent event }
+    ensures no { result ≡ false → ¬ IsEvent event }
 {
     match event {
         Event::Load { .. } => true,
@@ -106,7 +113,8 @@ fn is_event(event: Event) -> bool
 }
 
 fn is_request(request: Request) -> bool
-    ensures { result ≡ true → IsRequest request }
+    ensures yes { result ≡ true → IsRequest request }
+    ensures no { result ≡ false → ¬ IsRequest request }
 {
     match request {
         Request::Op(op) => is_call(op),
@@ -115,7 +123,8 @@ fn is_request(request: Request) -> bool
 }
 
 fn is_call(op: Op) -> bool
-    ensures { result ≡ true → IsRequest (OpRequest op) }
+    ensures yes { result ≡ true → IsRequest (OpRequest op) }
+    ensures no { result ≡ false → ¬ IsRequest (OpRequest op) }
 {
     match op {
         Op::Get { flags, .. } => flags.0 % 512 == 0 && flags.0 < 2048,

@@ -1,7 +1,7 @@
 //! Files that are written at the prompt, and what is told of them.
-ghost use Rattle.std.specs.Prelude.{◌≡◌, ◌++◌, codes, OnOk};
+ghost use Rattle.std.specs.Prelude.{◌≡◌, ◌++◌, OnOk};
 ghost use Rattle.shm_prompt.specs.Dialog.{TellsMore};
-ghost use Rattle.shm_prompt.specs.Saves.{TellsUnsaved, Writes, saved_to};
+ghost use Rattle.shm_prompt.specs.Saves.{TellsUnsaved, Writes, not_saved, saved_to, unnamed};
 
 use crate::save_file_trait::SaveFile;
 use std::alloc::{AllocError, Allocator};
@@ -41,8 +41,15 @@ pub(crate) fn tell_unsaved<A: Allocator + Copy>(
     why: &[u8],
     out: &mut Vec<u8, A>,
 ) -> Result<(), AllocError>
-    ensures { OnOk result (out.new.items ≡ out.old.items ++ (codes "not saved: " ++ why.now)) }
+    ensures { OnOk result (out.new.items ≡ out.old.items ++ not_saved why.now) }
 {
     out.extend_from_slice(b"not saved: ")?;
     out.extend_from_slice(why)
+}
+
+/// Says that nothing was saved, as no file was named.
+pub(crate) fn tell_unnamed<A: Allocator + Copy>(out: &mut Vec<u8, A>) -> Result<(), AllocError>
+    ensures { OnOk result (out.new.items ≡ out.old.items ++ unnamed) }
+{
+    tell_unsaved(b"the file's name is no text\n", out)
 }

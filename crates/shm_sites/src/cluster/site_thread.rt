@@ -1,9 +1,11 @@
 //! The thread of a site.
 ghost use Rattle.std.specs.Prelude.{◌≡◌, ◌⊎◌, length, IfOk};
+ghost use Rattle.std.specs.Option.{option_map};
 ghost use Rattle.shm_logs.specs.Boxes.Box.{after};
 ghost use Rattle.shm_logs.specs.Boxes.Logged.{stamp_of};
 ghost use Rattle.shm_logs.specs.Boxes.SiteBox.{box_of};
 ghost use Rattle.shm_site.specs.Step.{input_of as input_in};
+ghost use Rattle.shm_sites.specs.Cluster.Mail.{next_of};
 ghost use Rattle.shm_sites.specs.Cluster.Posted.{all_sent, sent_at};
 
 use crate::cluster::channel_message::Mail;
@@ -53,7 +55,9 @@ pub(crate) fn work<R: Wait, A: Allocator + Copy, G: Gate>(
 }
 
 /// The site's next input, and the step that sent it. `None` at the end.
-fn input_of<A: Allocator + Copy>(mail: Mail<A>) -> Option<(Input<A>, Stamp)> {
+fn input_of<A: Allocator + Copy>(mail: Mail<A>) -> Option<(Input<A>, Stamp)>
+    ensures { option_map (λ next. (input_in next.0, stamp_of next.1)) result ≡ next_of mail }
+{
     match mail {
         Mail::Envelope(Posted { envelope, source }) => Some((Input::Deliver(envelope), source)),
         Mail::Tick => Some((Input::Tick, Stamp::NONE)),

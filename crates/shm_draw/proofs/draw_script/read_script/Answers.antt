@@ -1,8 +1,12 @@
-use Rattle.std.proofs.Common.{◌+◌, ◌≤◌, ℕ, [], None, length, length-take, take, refl, sym, subst, arith}
+use Rattle.std.proofs.Common.{Ok, ◌≡◌, ◌+◌, ◌≤◌, ℕ, [], None, length, length-take, take, refl, sym, subst, arith}
+use Rattle.std.proofs.lemmas.Result.{IfOk-weaker}
 use Rattle.std.specs.Io.KnownBytes.{Consumes}
 use Rattle.shm_debug.specs.Limits.{max_bytes}
-use Rattle.shm_debug.specs.Reading.{reach, start, Plays}
+use Rattle.shm_debug.specs.Reading.{reach, start, Ended, Moment, Plays}
 use Rattle.shm_debug.proofs.ReplayLemmas.{SoFar, SoFar-none, SoFar-played, SoFar-written, within}
+use Rattle.shm_debug.specs.declared.script_summary_and_error.Summary.{Summary}
+use Rattle.shm_draw.specs.Drawn.{BeganRight}
+use Rattle.shm_draw.proofs.Scripts.{began}
 use Rattle.shm_draw.proofs.draw_script.read_script.Goals as goal
 
 pub chunks-init : goal.chunks-init
@@ -45,3 +49,11 @@ chunks-preserved g c =
       omega arith,
       c.clear.ensures,
     )
+
+pub returns-then-count-eq0-clause-began : goal.returns-then-count-eq0-clause-began
+returns-then-count-eq0-clause-began g c =
+    let remaining = g.R.Read.remaining in
+    IfOk-weaker c.whole.result (λ p. (p ≡ c.chunks.player) × ((summary : Summary) × Ended c.chunks.player (Ok summary))) (λ p. BeganRight p.standing)
+    (λ p is. subst (λ (m : Moment). BeganRight m.standing) (sym is.0) (began (λ bytes line e. (c.lines_have_one_spelling.ensures.read bytes line e).0)
+    (remaining c.args.reader.now) (remaining c.chunks.reader) None None c.chunks.told c.chunks.player c.chunks.invariant.0))
+    c.whole.ensures.ok
