@@ -202,7 +202,7 @@ static void finish(void) {
     site_end();
     write_lines(&to_carrier);
     stop_carrier();
-    unlink(options.socket);
+    leave_programs();
 }
 
 /* The start. */

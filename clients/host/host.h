@@ -136,6 +136,7 @@ extern struct segment segments[MOST_SEGMENTS];
 #define EACH_SEGMENT(one) for (struct segment *one = segments; one < segments + MOST_SEGMENTS; one++) if (one->used)
 #define EACH_PAGE(one) EACH_SEGMENT(its) for (struct page *one = its->pages; one < its->pages + its->length / PAGE; one++)
 void listen_to_programs(void);
+void leave_programs(void);
 struct page *page_of(int id, int attachment, int page); /* of a segment with this identifier or this attachment, or NULL */
 void segment_attached(struct segment *segment, int by);
 bool segments_turn(void); /* whether there is one */
