@@ -177,10 +177,11 @@ static void tick(void) {
 
 static void turn(void) {
     struct epoll_event events[EVENTS];
-    int64_t due = pages_turn(), wait = due == INT64_MAX ? TICK : due - now();
     if (!segments_turn() && carrier_due == INT64_MAX) ending = 1;
+    int64_t due = pages_turn();
     bool unwritten = !site_flush();
     if (carrier_due == 0) write_lines(&to_carrier);
+    int64_t wait = pages_search() ? 0 : due == INT64_MAX ? TICK : due - now();
     if ((unwritten || to_carrier.length > 0) && wait > UNWRITTEN_WAIT) wait = UNWRITTEN_WAIT;
     wait = wait < 0 ? 0 : wait < TICK ? wait : TICK;
     ppoll(&(struct pollfd){.fd = poller, .events = POLLIN}, 1, &(struct timespec){0, wait}, NULL);

@@ -23,6 +23,9 @@ enum { FUTEXES_AT_ONCE = 16, WOKEN = -1 };
 /* Nanoseconds for which a page stays at most, and until it is looked at again; and until one that left is fetched for those who sleep in it. */
 static const int64_t LONGEST_STAY = 20000000, LOOK_AGAIN = 50000, FIRST_WAIT = 1000000, LONGEST_WAIT = 64000000;
 
+static struct page *search_next; /* of the pages that are to be searched for sleepers, the one that was longest ago */
+static uint64_t searches;
+
 static uint8_t *bytes_of(const struct page *page) {
     return page->segment->bytes + page->offset;
 }
@@ -50,6 +53,7 @@ static void punch(struct page *page) {
     if (fallocate(page->segment->memory, mode, (off_t)page->offset, PAGE) < 0) errx(1, "a page can't be taken out of memory");
     if (now() > page->since + LONGEST_WAIT) page->wait = 0;
     page->unsearched = PAGE;
+    page->missed = false;
     page->search_at = now() + page->wait;
     page->segment->busy = true;
 }
@@ -89,21 +93,29 @@ static long call_futex(const struct page *page, size_t place, int operation, int
     return syscall(SYS_futex, word, operation, wakes, (long)INT32_MAX, word, 0);
 }
 
-/* Whether a page is to be fetched, as it has left and somebody sleeps in it. Some words at a time are searched, as each is a system call, and
-   faults are to be served meanwhile; `due` is when to go on. A word that has a sleeper is the first one next time. */
+/* Whether a page is to be fetched, as it has left and somebody sleeps in it. Where that isn't known yet the page is searched, from `due` on. */
 static bool is_missed(struct page *page, int64_t *due) {
-    if (page->unsearched > 0 && now() < page->search_at) {
-        if (page->search_at < *due) *due = page->search_at;
-        return false;
-    }
+    if (page->unsearched == 0 || page->missed) return page->missed;
+    if (now() < page->search_at) *due = page->search_at < *due ? page->search_at : *due;
+    else if (search_next == NULL || page->searched < search_next->searched) search_next = page;
+    return false;
+}
+
+/* Searches some words of one page, when all lines are written: each word is a system call, and lines and faults are not to wait for many, however
+   many pages have left. A word that has a sleeper is the first one next time. */
+bool pages_search(void) {
+    struct page *page = search_next;
+    if (page == NULL) return false;
+    search_next = NULL;
+    page->searched = ++searches;
     for (int count = 0; count < FUTEXES_AT_ONCE && page->unsearched > 0; count++) {
-        if (call_futex(page, page->place, FUTEX_REQUEUE, 0) != 0) return true;
+        page->missed = call_futex(page, page->place, FUTEX_REQUEUE, 0) != 0;
+        if (page->missed) return true;
         page->place = (page->place + sizeof(int)) % PAGE;
         page->unsearched -= sizeof(int);
-        if (page->unsearched == 0) page->wait = FIRST_WAIT;
     }
-    if (page->unsearched > 0) *due = 0;
-    return false;
+    if (page->unsearched == 0) page->wait = FIRST_WAIT;
+    return true;
 }
 
 /* A page that had left comes back with these bytes, for a fault or for who sleeps in it. Whether somebody is woken. */
@@ -115,6 +127,7 @@ static bool wake_sleepers(struct page *page, const uint8_t *bytes) {
     if (woken > 0) page->wait = 0;
     else if (page->faults == NULL && page->wait < LONGEST_WAIT) page->wait = page->wait == 0 ? FIRST_WAIT : 2 * page->wait;
     page->unsearched = 0;
+    page->missed = false;
     return woken > 0;
 }
 
