@@ -13,6 +13,7 @@
 #include <poll.h>
 #include <signal.h>
 #include <sys/epoll.h>
+#include <sys/prctl.h>
 #include <sys/resource.h>
 #include <sys/stat.h>
 #include <sys/wait.h>
@@ -247,6 +248,7 @@ int main(int argc, char **argv) {
     limit.rlim_cur = limit.rlim_max;
     setrlimit(RLIMIT_NOFILE, &limit);
     check_kernel();
+    prctl(PR_SET_TIMERSLACK, 1); /* else each wait, as for the end of a stay, may be 50 us longer */
     umask(077); /* a journal has the bytes of segments */
     signal(SIGPIPE, SIG_IGN);
     sigaction(SIGTERM, &(struct sigaction){.sa_handler = end}, NULL);
