@@ -176,17 +176,29 @@ static void tick(void) {
     programs_reap();
 }
 
+/* What is ready. While nothing is, pages that have left are searched for sleepers. */
+static int wait_for_events(struct epoll_event *events, int64_t due, bool unwritten) {
+    int64_t wait = due == INT64_MAX ? TICK : due - now();
+    bool searched = false;
+    int count = 0;
+    if (unwritten && wait > UNWRITTEN_WAIT) wait = UNWRITTEN_WAIT;
+    wait = wait < 0 ? 0 : wait < TICK ? wait : TICK;
+    while (count == 0 && now() < due && pages_search()) {
+        searched = true;
+        count = epoll_wait(poller, events, EVENTS, 0);
+    }
+    if (searched) return count;
+    ppoll(&(struct pollfd){.fd = poller, .events = POLLIN}, 1, &(struct timespec){0, wait}, NULL);
+    return epoll_wait(poller, events, EVENTS, 0);
+}
+
 static void turn(void) {
     struct epoll_event events[EVENTS];
     if (!segments_turn() && carrier_due == INT64_MAX) ending = 1;
     int64_t due = pages_turn();
     bool unwritten = !site_flush();
     if (carrier_due == 0) write_lines(&to_carrier);
-    int64_t wait = pages_search() ? 0 : due == INT64_MAX ? TICK : due - now();
-    if ((unwritten || to_carrier.length > 0) && wait > UNWRITTEN_WAIT) wait = UNWRITTEN_WAIT;
-    wait = wait < 0 ? 0 : wait < TICK ? wait : TICK;
-    ppoll(&(struct pollfd){.fd = poller, .events = POLLIN}, 1, &(struct timespec){0, wait}, NULL);
-    int count = epoll_wait(poller, events, EVENTS, 0);
+    int count = wait_for_events(events, due, unwritten || to_carrier.length > 0);
     for (int index = 0; index < count; index++) {
         struct source *source = events[index].data.ptr;
         source->ready(source);

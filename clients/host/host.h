@@ -122,7 +122,7 @@ void page_told(struct page *page, const char *text);
 void page_revoked(struct page *page, enum right keeps);
 void page_leaves(struct page *page);
 int64_t pages_turn(void); /* when to turn again */
-bool pages_search(void);  /* directly after it: whether to turn again at once */
+bool pages_search(void);  /* some of the page that the turn found to be searched; false where there is none */
 
 /* programs.c: the programs' memory. `device` is /dev/userfaultfd, or -1. */
 extern int device;

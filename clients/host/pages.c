@@ -19,7 +19,7 @@
 #include <sys/syscall.h>
 
 /* `ALIKE` bytes of a page are compared at once, as most of them didn't change. */
-enum { FUTEXES_AT_ONCE = 16, WOKEN = -1, ALIKE = 64, THREADS = 16 };
+enum { FUTEXES_AT_ONCE = 8, WOKEN = -1, ALIKE = 64, THREADS = 16 };
 
 /* Nanoseconds for which a page stays at most, and until it is looked at again; and until one that left is fetched for those who sleep in it. */
 static const int64_t LONGEST_STAY = 20000000, LOOK_AGAIN = 50000, FIRST_WAIT = 1000000, LONGEST_WAIT = 64000000;
@@ -96,27 +96,27 @@ static long call_futex(const struct page *page, size_t place, int operation, int
 }
 
 /* Whether a page is to be fetched, as it has left and somebody sleeps in it. Where that isn't known yet the page is searched, from `due` on. */
-static bool is_missed(struct page *page, int64_t *due) {
+static bool is_missed(struct page *page, int64_t time, int64_t *due) {
     if (page->unsearched == 0 || page->missed) return page->missed;
-    if (now() < page->search_at) *due = page->search_at < *due ? page->search_at : *due;
+    if (time < page->search_at) *due = page->search_at < *due ? page->search_at : *due;
     else if (search_next == NULL || page->searched < search_next->searched) search_next = page;
     return false;
 }
 
-/* Searches some words of one page, when all lines are written: each word is a system call, and lines and faults are not to wait for many, however
-   many pages have left. A word that has a sleeper is the first one next time. */
+/* Searches some words of one page: each word is a system call, and lines and faults are not to wait for many, however many pages have left. A word
+   that has a sleeper is the first one next time. */
 bool pages_search(void) {
     struct page *page = search_next;
     if (page == NULL) return false;
-    search_next = NULL;
     page->searched = ++searches;
     for (int count = 0; count < FUTEXES_AT_ONCE && page->unsearched > 0; count++) {
         page->missed = call_futex(page, page->place, FUTEX_REQUEUE, 0) != 0;
-        if (page->missed) return true;
+        if (page->missed) break;
         page->place = (page->place + sizeof(int)) % PAGE;
         page->unsearched -= sizeof(int);
     }
     if (page->unsearched == 0) page->wait = FIRST_WAIT;
+    if (page->unsearched == 0 || page->missed) search_next = NULL;
     return true;
 }
 
@@ -223,9 +223,9 @@ void page_fault(struct page *page, const struct fault *fault) {
 /* The loop. */
 
 /* Whether there is more to do for the page, and when. */
-static bool turn(struct page *page, int64_t *due) {
+static bool turn(struct page *page, int64_t time, int64_t *due) {
     open_for_all(page);
-    if (page->wanted == NONE && is_missed(page, due)) page->wanted = page->wait == 0 && page->segment->writing >= 0 ? WRITE : READ;
+    if (page->wanted == NONE && is_missed(page, time, due)) page->wanted = page->wait == 0 && page->segment->writing >= 0 ? WRITE : READ;
     if (page->keeps < WRITE) {
         int64_t until = stays_until(page);
         if (until <= now()) unmap_to(page, page->keeps);
@@ -236,11 +236,12 @@ static bool turn(struct page *page, int64_t *due) {
 }
 
 int64_t pages_turn(void) {
-    int64_t due = INT64_MAX;
+    int64_t time = now(), due = INT64_MAX;
+    search_next = NULL;
     EACH_SEGMENT(segment) {
         if (!segment->busy) continue;
         segment->busy = false;
-        for (size_t index = 0; index < segment->length / PAGE; index++) segment->busy |= turn(&segment->pages[index], &due);
+        for (size_t index = 0; index < segment->length / PAGE; index++) segment->busy |= turn(&segment->pages[index], time, &due);
     }
     return due;
 }
