@@ -188,8 +188,11 @@ static int wait_for_events(struct epoll_event *events, int64_t due, bool unwritt
         count = epoll_wait(poller, events, EVENTS, 0);
     }
     if (searched) return count;
-    ppoll(&(struct pollfd){.fd = poller, .events = POLLIN}, 1, &(struct timespec){0, wait}, NULL);
-    return epoll_wait(poller, events, EVENTS, 0);
+    if (wait < TICK) { /* epoll_wait counts milliseconds */
+        ppoll(&(struct pollfd){.fd = poller, .events = POLLIN}, 1, &(struct timespec){0, wait}, NULL);
+        wait = 0;
+    }
+    return epoll_wait(poller, events, EVENTS, (int)(wait / (SECOND / 1000)));
 }
 
 static void turn(void) {
