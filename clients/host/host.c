@@ -213,9 +213,13 @@ static void end(int signal) {
     ending = signal;
 }
 
-/* All that programs stored goes to the site, and its journal. Programs that go on wait at their next fault. */
+/* All that programs stored goes to the site, and its journal. Programs that go on wait at their next fault: a page that still comes is opened for
+   nobody. */
 static void finish(void) {
-    EACH_PAGE(page) page_leaves(page);
+    EACH_PAGE(page) {
+        page_leaves(page);
+        page->asked = NONE;
+    }
     site_end();
     write_lines(&to_carrier);
     stop_carrier();
