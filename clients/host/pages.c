@@ -71,6 +71,7 @@ static void unmap_to(struct page *page, enum right keeps) {
         }
     }
     gather(page, keeps);
+    if (options.broken == PROTECTS_NOT) usleep(50); /* some program stores meanwhile, or the test would see nothing */
     if (page->mapped > keeps) page->mapped = keeps;
     if (keeps == NONE && options.broken != (written ? LEAVES_WRITTEN : LEAVES_READ)) punch(page);
     say_unmap(page, keeps);
