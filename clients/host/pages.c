@@ -54,7 +54,7 @@ static void punch(struct page *page) {
     int mode = FALLOC_FL_PUNCH_HOLE | FALLOC_FL_KEEP_SIZE;
     if (fallocate(page->segment->memory, mode, (off_t)page->offset, PAGE) < 0) errx(1, "a page can't be taken out of memory");
     if (now() > page->since + LONGEST_WAIT) page->wait = 0;
-    page->unsearched = PAGE;
+    page->unsearched = page->segment->attached > 0 ? PAGE : 0; /* else nobody here sleeps in it */
     page->missed = false;
     page->search_at = now() + page->wait;
     page->segment->busy = true;
