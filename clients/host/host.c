@@ -13,13 +13,14 @@
 #include <poll.h>
 #include <signal.h>
 #include <sys/epoll.h>
+#include <sys/prctl.h>
 #include <sys/resource.h>
 #include <sys/stat.h>
 #include <sys/wait.h>
 
 enum { READ_BYTES = 1 << 16, MOST_UNWRITTEN = 1 << 22, PIPE_BYTES = 1 << 20, EVENTS = 64 };
 
-static const int64_t TICK = SECOND / 20, IDLE_TICK = SECOND, UNWRITTEN_WAIT = 200000;
+static const int64_t TICK = SECOND / 20, IDLE_TICK = SECOND, UNWRITTEN_WAIT = 200000, AWAKE = 10000;
 
 struct options options = {.me = -1, .socket = DEFAULT_SOCKET, .program = "shmdbg", .stay = 200000};
 
@@ -29,6 +30,7 @@ static pid_t processes[2];
 static int64_t carrier_due, last_tick; /* when ended commands are started again, or 0 */
 static int poller;
 static bool heard, carried = true; /* something came since the last tick, and since the carrier was started again */
+static bool wrote;                 /* lines, in this turn */
 static volatile sig_atomic_t ending;
 
 void *room(void *old, size_t size) {
@@ -75,6 +77,7 @@ void take_off(struct channel *channel, size_t count) {
 
 void write_lines(struct channel *channel) {
     ssize_t count;
+    wrote |= channel->length > 0;
     while (channel->length > 0 && (count = write(channel->descriptor, channel->bytes, channel->length)) > 0) take_off(channel, (size_t)count);
 }
 
@@ -175,16 +178,37 @@ static void tick(void) {
     programs_reap();
 }
 
+/* What is ready. While nothing is, pages that have left are searched for sleepers. Where faults were served from what is here, others often follow,
+   and to sleep and be woken takes as long as to serve one: so the daemon stays awake for a moment. */
+static int wait_for_events(struct epoll_event *events, int64_t due, bool unwritten, bool served) {
+    int64_t begun = now(), awake = served ? begun + AWAKE : begun, wait = due == INT64_MAX ? TICK : due - begun;
+    bool searched = false;
+    int count = 0;
+    if (unwritten && wait > UNWRITTEN_WAIT) wait = UNWRITTEN_WAIT;
+    wait = wait < 0 ? 0 : wait < TICK ? wait : TICK;
+    while (count == 0 && now() < due) {
+        bool searches = pages_search();
+        if (!searches && (searched || now() >= awake)) break;
+        searched |= searches;
+        count = epoll_wait(poller, events, EVENTS, 0);
+    }
+    if (count != 0 || searched) return count;
+    if (wait < TICK) { /* epoll_wait counts milliseconds */
+        ppoll(&(struct pollfd){.fd = poller, .events = POLLIN}, 1, &(struct timespec){0, wait}, NULL);
+        wait = 0;
+    }
+    return epoll_wait(poller, events, EVENTS, (int)(wait / (SECOND / 1000)));
+}
+
 static void turn(void) {
+    static int count;
     struct epoll_event events[EVENTS];
-    int64_t due = pages_turn(), wait = due == INT64_MAX ? TICK : due - now();
     if (!segments_turn() && carrier_due == INT64_MAX) ending = 1;
+    int64_t due = pages_turn();
+    wrote = false;
     bool unwritten = !site_flush();
     if (carrier_due == 0) write_lines(&to_carrier);
-    if ((unwritten || to_carrier.length > 0) && wait > UNWRITTEN_WAIT) wait = UNWRITTEN_WAIT;
-    wait = wait < 0 ? 0 : wait < TICK ? wait : TICK;
-    ppoll(&(struct pollfd){.fd = poller, .events = POLLIN}, 1, &(struct timespec){0, wait}, NULL);
-    int count = epoll_wait(poller, events, EVENTS, 0);
+    count = wait_for_events(events, due, unwritten || to_carrier.length > 0, count > 0 && !wrote);
     for (int index = 0; index < count; index++) {
         struct source *source = events[index].data.ptr;
         source->ready(source);
@@ -196,13 +220,17 @@ static void end(int signal) {
     ending = signal;
 }
 
-/* All that programs stored goes to the site, and its journal. Programs that go on wait at their next fault. */
+/* All that programs stored goes to the site, and its journal. Programs that go on wait at their next fault: a page that still comes is opened for
+   nobody. */
 static void finish(void) {
-    EACH_PAGE(page) page_leaves(page);
+    EACH_PAGE(page) {
+        page_leaves(page);
+        page->asked = NONE;
+    }
     site_end();
     write_lines(&to_carrier);
     stop_carrier();
-    unlink(options.socket);
+    leave_programs();
 }
 
 /* The start. */
@@ -246,6 +274,7 @@ int main(int argc, char **argv) {
     limit.rlim_cur = limit.rlim_max;
     setrlimit(RLIMIT_NOFILE, &limit);
     check_kernel();
+    prctl(PR_SET_TIMERSLACK, 1); /* else each wait, as for the end of a stay, may be 50 us longer */
     umask(077); /* a journal has the bytes of segments */
     signal(SIGPIPE, SIG_IGN);
     sigaction(SIGTERM, &(struct sigaction){.sa_handler = end}, NULL);

@@ -55,10 +55,12 @@ struct page {
     int64_t since;
     pid_t thread;
     uint64_t runs;
-    /* Since it left: how many of its bytes weren't searched for sleepers of futexes, from which place on, and when to begin. And how long that
-       waits when it leaves. */
+    /* Since it left: how many of its bytes weren't searched for sleepers of futexes, from which place on, and when to begin; the number of its last
+       search; and whether somebody sleeps in it. And how long that waits when it leaves. */
     size_t unsearched, place;
     int64_t search_at, wait;
+    uint64_t searched;
+    bool missed;
     struct fault *faults;
 };
 
@@ -120,6 +122,7 @@ void page_told(struct page *page, const char *text);
 void page_revoked(struct page *page, enum right keeps);
 void page_leaves(struct page *page);
 int64_t pages_turn(void); /* when to turn again */
+bool pages_search(void);  /* some of the page that the turn found to be searched; false where there is none */
 
 /* programs.c: the programs' memory. `device` is /dev/userfaultfd, or -1. */
 extern int device;
@@ -136,6 +139,7 @@ extern struct segment segments[MOST_SEGMENTS];
 #define EACH_SEGMENT(one) for (struct segment *one = segments; one < segments + MOST_SEGMENTS; one++) if (one->used)
 #define EACH_PAGE(one) EACH_SEGMENT(its) for (struct page *one = its->pages; one < its->pages + its->length / PAGE; one++)
 void listen_to_programs(void);
+void leave_programs(void);
 struct page *page_of(int id, int attachment, int page); /* of a segment with this identifier or this attachment, or NULL */
 void segment_attached(struct segment *segment, int by);
 bool segments_turn(void); /* whether there is one */

@@ -18,10 +18,14 @@
 #include <linux/futex.h>
 #include <sys/syscall.h>
 
-enum { FUTEXES_AT_ONCE = 16, WOKEN = -1 };
+/* `ALIKE` bytes of a page are compared at once, as most of them didn't change. */
+enum { FUTEXES_AT_ONCE = 8, WOKEN = -1, ALIKE = 64, THREADS = 16 };
 
 /* Nanoseconds for which a page stays at most, and until it is looked at again; and until one that left is fetched for those who sleep in it. */
 static const int64_t LONGEST_STAY = 20000000, LOOK_AGAIN = 50000, FIRST_WAIT = 1000000, LONGEST_WAIT = 64000000;
+
+static struct page *search_next; /* of the pages that are to be searched for sleepers, the one that was longest ago */
+static uint64_t searches;
 
 static uint8_t *bytes_of(const struct page *page) {
     return page->segment->bytes + page->offset;
@@ -40,6 +44,7 @@ static bool gather(struct page *page, enum right keeps) {
     for (size_t start = 0, end; start < PAGE; start = end + 1) {
         for (end = start; end < PAGE && bytes[end] != page->twin[end]; end++) {}
         if (start < end) add_run(page, start, end);
+        else if (start % ALIKE == 0 && memcmp(bytes + start, page->twin + start, ALIKE) == 0) end = start + ALIKE - 1;
     }
     memcpy(page->twin, bytes, PAGE);
     return true;
@@ -49,7 +54,8 @@ static void punch(struct page *page) {
     int mode = FALLOC_FL_PUNCH_HOLE | FALLOC_FL_KEEP_SIZE;
     if (fallocate(page->segment->memory, mode, (off_t)page->offset, PAGE) < 0) errx(1, "a page can't be taken out of memory");
     if (now() > page->since + LONGEST_WAIT) page->wait = 0;
-    page->unsearched = PAGE;
+    page->unsearched = page->segment->attached > 0 ? PAGE : 0; /* else nobody here sleeps in it */
+    page->missed = false;
     page->search_at = now() + page->wait;
     page->segment->busy = true;
 }
@@ -65,6 +71,7 @@ static void unmap_to(struct page *page, enum right keeps) {
         }
     }
     gather(page, keeps);
+    if (options.broken == PROTECTS_NOT) usleep(50); /* some program stores meanwhile, or the test would see nothing */
     if (page->mapped > keeps) page->mapped = keeps;
     if (keeps == NONE && options.broken != (written ? LEAVES_WRITTEN : LEAVES_READ)) punch(page);
     say_unmap(page, keeps);
@@ -89,52 +96,72 @@ static long call_futex(const struct page *page, size_t place, int operation, int
     return syscall(SYS_futex, word, operation, wakes, (long)INT32_MAX, word, 0);
 }
 
-/* Whether a page is to be fetched, as it has left and somebody sleeps in it. Some words at a time are searched, as each is a system call, and
-   faults are to be served meanwhile; `due` is when to go on. A word that has a sleeper is the first one next time. */
-static bool is_missed(struct page *page, int64_t *due) {
-    if (page->unsearched > 0 && now() < page->search_at) {
-        if (page->search_at < *due) *due = page->search_at;
-        return false;
-    }
-    for (int count = 0; count < FUTEXES_AT_ONCE && page->unsearched > 0; count++) {
-        if (call_futex(page, page->place, FUTEX_REQUEUE, 0) != 0) return true;
-        page->place = (page->place + sizeof(int)) % PAGE;
-        page->unsearched -= sizeof(int);
-        if (page->unsearched == 0) page->wait = FIRST_WAIT;
-    }
-    if (page->unsearched > 0) *due = 0;
+/* Whether a page is to be fetched, as it has left and somebody sleeps in it. Where that isn't known yet the page is searched, from `due` on. */
+static bool is_missed(struct page *page, int64_t time, int64_t *due) {
+    if (page->unsearched == 0 || page->missed) return page->missed;
+    if (time < page->search_at) *due = page->search_at < *due ? page->search_at : *due;
+    else if (search_next == NULL || page->searched < search_next->searched) search_next = page;
     return false;
 }
 
-/* A page that had left comes back with these bytes, for a fault or for who sleeps in it. Whether somebody is woken. */
-static bool wake_sleepers(struct page *page, const uint8_t *bytes) {
+/* Searches some words of one page: each word is a system call, and lines and faults are not to wait for many, however many pages have left. A word
+   that has a sleeper is the first one next time. */
+bool pages_search(void) {
+    struct page *page = search_next;
+    if (page == NULL) return false;
+    page->searched = ++searches;
+    for (int count = 0; count < FUTEXES_AT_ONCE && page->unsearched > 0; count++) {
+        page->missed = call_futex(page, page->place, FUTEX_REQUEUE, 0) != 0;
+        if (page->missed) break;
+        page->place = (page->place + sizeof(int)) % PAGE;
+        page->unsearched -= sizeof(int);
+    }
+    if (page->unsearched == 0) page->wait = FIRST_WAIT;
+    if (page->unsearched == 0 || page->missed) search_next = NULL;
+    return true;
+}
+
+/* A page has come back that had left with these bytes, for a fault or for who sleeps in it. Whether somebody is woken. */
+static bool wake_sleepers(struct page *page, const uint8_t *left, bool for_fault) {
     long woken = 0;
     for (size_t place = 0; place < PAGE; place += sizeof(int)) {
-        if (memcmp(bytes + place, page->twin + place, sizeof(int)) != 0) woken += call_futex(page, place, FUTEX_WAKE, INT32_MAX) > 0;
+        if (memcmp(left + place, page->twin + place, sizeof(int)) != 0) woken += call_futex(page, place, FUTEX_WAKE, INT32_MAX) > 0;
     }
     if (woken > 0) page->wait = 0;
-    else if (page->faults == NULL && page->wait < LONGEST_WAIT) page->wait = page->wait == 0 ? FIRST_WAIT : 2 * page->wait;
+    else if (!for_fault && page->wait < LONGEST_WAIT) page->wait = page->wait == 0 ? FIRST_WAIT : 2 * page->wait;
     page->unsearched = 0;
+    page->missed = false;
     return woken > 0;
 }
 
 /* Opening. */
 
-/* How often a thread has run on a processor; 0 where that can't be known. */
-static uint64_t runs_of(pid_t thread) {
+/* Where the kernel tells how often a thread has run. It stays open, as pages come for the same threads again and again. */
+static struct statistics { pid_t thread; int file; } statistics[THREADS];
+
+static bool open_statistics(struct statistics *of, pid_t thread) {
     char name[32];
-    uint64_t runs = 0;
+    if (of->thread != 0) close(of->file);
     snprintf(name, sizeof name, "/proc/%d/schedstat", thread);
-    FILE *file = fopen(name, "re");
-    if (file == NULL) return 0;
-    if (fscanf(file, "%*s %*s %lu", &runs) != 1) runs = 0;
-    fclose(file);
-    return runs;
+    of->file = open(name, O_RDONLY | O_CLOEXEC);
+    of->thread = of->file < 0 ? 0 : thread;
+    return of->file >= 0;
+}
+
+/* How often a thread has run on a processor; 0 where that can't be known. What can't be read was an earlier thread's, which had this number. */
+static uint64_t runs_of(pid_t thread) {
+    struct statistics *of = &statistics[(unsigned)thread % THREADS];
+    char text[80];
+    uint64_t runs = 0;
+    ssize_t length = of->thread == thread ? pread(of->file, text, sizeof text - 1, 0) : 0;
+    if (length <= 0 && open_statistics(of, thread)) length = pread(of->file, text, sizeof text - 1, 0);
+    text[length > 0 ? length : 0] = '\0';
+    return sscanf(text, "%*u %*u %lu", &runs) == 1 ? runs : 0;
 }
 
 static void stays_for(struct page *page, pid_t thread) {
     page->thread = thread;
-    page->runs = runs_of(thread);
+    page->runs = thread > 0 ? runs_of(thread) : 0;
 }
 
 /* Until when a page stays: for a while, and longer where the thread that it came for hasn't run yet, or on busy machines two hosts would take it
@@ -145,26 +172,6 @@ static int64_t stays_until(struct page *page) {
     if (now() < page->since + LONGEST_STAY && waits) return now() + LOOK_AGAIN;
     page->thread = 0;
     return 0;
-}
-
-/* The site answers what it was asked. What it can't do now it is asked again at a tick. An answer from before the page was given up says
-   nothing: that took back what it told of. */
-void page_told(struct page *page, const char *text) {
-    enum right right = page->asked;
-    bool brings = strncmp(text, "mapped ", 7) == 0;
-    uint8_t bytes[PAGE];
-    page->asked = NONE;
-    page->segment->busy = true;
-    if (is_unmapping(page)) return;
-    if (brings ? !decode(text + 7, bytes) : page->mapped == NONE || strcmp(text, "mapped") != 0) {
-        page->later = true;
-        return;
-    }
-    bool wakes = page->unsearched > 0 && wake_sleepers(page, bytes);
-    if (brings) memcpy(page->twin, bytes, PAGE), memcpy(bytes_of(page), bytes, PAGE);
-    page->mapped = right;
-    page->since = now();
-    stays_for(page, page->faults != NULL ? page->faults->thread : wakes ? WOKEN : 0);
 }
 
 /* Opens the page for those who need no more than what is mapped. */
@@ -184,6 +191,28 @@ static void open_for_all(struct page *page) {
     }
 }
 
+/* The site answers what it was asked. What it can't do now it is asked again at a tick. An answer from before the page was given up says
+   nothing: that took back what it told of. Who faulted goes on before sleepers are woken, as each word that changed is a system call. */
+void page_told(struct page *page, const char *text) {
+    enum right right = page->asked;
+    bool brings = strncmp(text, "mapped ", 7) == 0, for_fault = page->faults != NULL;
+    uint8_t bytes[PAGE], left[PAGE];
+    page->asked = NONE;
+    page->segment->busy = true;
+    if (is_unmapping(page)) return;
+    if (brings ? !decode(text + 7, bytes) : page->mapped == NONE || strcmp(text, "mapped") != 0) {
+        page->later = true;
+        return;
+    }
+    memcpy(left, page->twin, PAGE);
+    if (brings) memcpy(page->twin, bytes, PAGE), memcpy(bytes_of(page), bytes, PAGE);
+    page->mapped = right;
+    page->since = now();
+    stays_for(page, for_fault ? page->faults->thread : 0);
+    open_for_all(page);
+    if (page->unsearched > 0 && wake_sleepers(page, left, for_fault) && !for_fault) stays_for(page, WOKEN);
+}
+
 void page_fault(struct page *page, const struct fault *fault) {
     struct fault *kept = room(NULL, sizeof *kept);
     *kept = *fault;
@@ -195,22 +224,25 @@ void page_fault(struct page *page, const struct fault *fault) {
 /* The loop. */
 
 /* Whether there is more to do for the page, and when. */
-static bool turn(struct page *page, int64_t *due) {
+static bool turn(struct page *page, int64_t time, int64_t *due) {
     open_for_all(page);
-    if (page->wanted == NONE && is_missed(page, due)) page->wanted = page->wait == 0 && page->segment->writing >= 0 ? WRITE : READ;
-    int64_t until = page->keeps < WRITE ? stays_until(page) : INT64_MAX;
-    if (until <= now()) unmap_to(page, page->keeps);
-    else if (until < *due) *due = until;
+    if (page->wanted == NONE && is_missed(page, time, due)) page->wanted = page->wait == 0 && page->segment->writing >= 0 ? WRITE : READ;
+    if (page->keeps < WRITE) {
+        int64_t until = stays_until(page);
+        if (until <= now()) unmap_to(page, page->keeps);
+        else if (until < *due) *due = until;
+    }
     if (page->wanted > page->mapped && page->asked == NONE && !page->later) ask_map(page);
     return page->keeps < WRITE || page->unsearched > 0 || page->wanted > page->mapped;
 }
 
 int64_t pages_turn(void) {
-    int64_t due = INT64_MAX;
+    int64_t time = now(), due = INT64_MAX;
+    search_next = NULL;
     EACH_SEGMENT(segment) {
         if (!segment->busy) continue;
         segment->busy = false;
-        for (size_t index = 0; index < segment->length / PAGE; index++) segment->busy |= turn(&segment->pages[index], &due);
+        for (size_t index = 0; index < segment->length / PAGE; index++) segment->busy |= turn(&segment->pages[index], time, &due);
     }
     return due;
 }

@@ -15,7 +15,8 @@ struct segment segments[MOST_SEGMENTS];
 /* A program's connection. It is freed once it has ended and its calls have, too. */
 struct connection {
     struct source source;
-    int socket, calls; /* -1 once it has ended; how many calls are under way */
+    struct connection *next, **place; /* in the list of all; what points to it there */
+    int socket, calls;                /* -1 once it has ended; how many calls are under way */
     struct program *program;
     struct segment *promised; /* it was handed this one, and hasn't mapped it yet */
     struct ucred peer;
@@ -24,6 +25,7 @@ struct connection {
 /* Who made a segment here, and when: of the last ones that were made. */
 static struct made { int id; pid_t creator; time_t time; } made[MADE];
 
+static struct connection *connections;
 static int listener, lock;
 
 /* Segments. */
@@ -73,13 +75,21 @@ static struct call *new_call(struct connection *connection, const struct ask *as
     return call;
 }
 
+static void free_ended(struct connection *connection) {
+    if (connection->socket >= 0 || connection->calls > 0) return;
+    *connection->place = connection->next;
+    if (connection->next != NULL) connection->next->place = connection->place;
+    free(connection);
+}
+
 /* `descriptor` is handed over, or -1. */
 static void finish(struct call *call, int error, int descriptor) {
     struct connection *connection = call->connection;
     call->answer.error = error;
     call->answer.sites = options.sites;
     if (connection->socket >= 0) send_message(connection->socket, &call->answer, sizeof call->answer, descriptor);
-    if (--connection->calls == 0 && connection->socket < 0) free(connection);
+    connection->calls--;
+    free_ended(connection);
     free(call);
 }
 
@@ -245,6 +255,14 @@ static void take_ask(struct call *call, int handed) {
     }
 }
 
+static void end_connection(struct connection *connection) {
+    if (connection->promised != NULL) segment_attached(connection->promised, -1);
+    close(connection->socket);
+    connection->socket = -1;
+    connection->promised = NULL;
+    free_ended(connection);
+}
+
 static void connection_ready(struct source *source) {
     struct connection *connection = (struct connection *)source;
     struct ask ask;
@@ -257,10 +275,7 @@ static void connection_ready(struct source *source) {
         take_ask(new_call(connection, &ask), handed);
         return;
     }
-    if (connection->promised != NULL) segment_attached(connection->promised, -1);
-    close(connection->socket);
-    connection->socket = -1;
-    if (connection->calls == 0) free(connection);
+    end_connection(connection);
 }
 
 static void accept_program(struct source *source) {
@@ -268,7 +283,9 @@ static void accept_program(struct source *source) {
     (void)source;
     if (socket < 0) return;
     struct connection *connection = room(NULL, sizeof *connection);
-    *connection = (struct connection){.source = {connection_ready}, .socket = socket};
+    *connection = (struct connection){.source = {connection_ready}, .next = connections, .place = &connections, .socket = socket};
+    if (connections != NULL) connections->place = &connection->next;
+    connections = connection;
     socklen_t length = sizeof connection->peer;
     getsockopt(socket, SOL_SOCKET, SO_PEERCRED, &connection->peer, &length);
     watch(socket, &connection->source);
@@ -302,4 +319,14 @@ void listen_to_programs(void) {
     if (bind(listener, (struct sockaddr *)&address, sizeof address) < 0 || listen(listener, 128) < 0) err(1, "no socket %s", options.socket);
     umask(mask);
     watch(listener, &source);
+}
+
+/* At the daemon's end. A connection with a call under way stays in the list. */
+void leave_programs(void) {
+    for (struct connection *connection = connections, *next; connection != NULL; connection = next) {
+        next = connection->next;
+        if (connection->socket >= 0) end_connection(connection);
+    }
+    close(listener);
+    unlink(options.socket);
 }

@@ -43,26 +43,40 @@ __attribute__((format(printf, 1, 2))) static const char *say(const char *format,
 
 static const char letters[] = "ABCDEFGHIJKLMNOPQRSTUVWXYZabcdefghijklmnopqrstuvwxyz0123456789+/";
 
+/* Up to three bytes are four letters. */
+static void encode_some(const uint8_t *bytes, size_t count, char *text) {
+    uint32_t bits = (uint32_t)bytes[0] << 16 | (count > 1 ? (uint32_t)bytes[1] << 8 : 0) | (count > 2 ? bytes[2] : 0);
+    text[0] = letters[bits >> 18];
+    text[1] = letters[bits >> 12 & 63];
+    text[2] = count > 1 ? letters[bits >> 6 & 63] : '=';
+    text[3] = count > 2 ? letters[bits & 63] : '=';
+}
+
 static size_t encode(const uint8_t *bytes, size_t count, char *text) {
     const char *begin = text;
-    for (size_t place = 0; place < count; place += 3) {
-        uint32_t bits = 0;
-        for (size_t byte = place; byte < place + 3; byte++) bits = bits << 8 | (byte < count ? bytes[byte] : 0);
-        for (size_t letter = 0; letter < 4; letter++) *text++ = place + letter > count ? '=' : letters[bits >> (18 - 6 * letter) & 63];
-    }
+    for (; count >= 3; bytes += 3, count -= 3, text += 4) encode_some(bytes, 3, text);
+    if (count > 0) encode_some(bytes, count, text), text += 4;
     *text = '\0';
     return (size_t)(text - begin);
 }
 
+static uint32_t bits_of(const uint8_t values[256], const char *text) {
+    const uint8_t *letter = (const uint8_t *)text;
+    return (uint32_t)values[letter[0]] << 18 | (uint32_t)values[letter[1]] << 12 | (uint32_t)values[letter[2]] << 6 | values[letter[3]];
+}
+
 bool decode(const char *text, uint8_t bytes[PAGE]) {
     static uint8_t values[256];
+    size_t length = 0;
     for (uint8_t value = 0; values['/'] == 0 && value < 64; value++) values[(uint8_t)letters[value]] = value;
     if (strlen(text) < (PAGE + 2) / 3 * 4) return false;
-    for (size_t length = 0; length < PAGE; text += 4) {
-        uint32_t bits = 0;
-        for (int letter = 0; letter < 4; letter++) bits = bits << 6 | values[(uint8_t)text[letter]];
-        for (int shift = 16; shift >= 0 && length < PAGE; shift -= 8) bytes[length++] = (uint8_t)(bits >> shift);
+    for (; length + 3 <= PAGE; length += 3, text += 4) {
+        uint32_t bits = bits_of(values, text);
+        bytes[length] = (uint8_t)(bits >> 16);
+        bytes[length + 1] = (uint8_t)(bits >> 8);
+        bytes[length + 2] = (uint8_t)bits;
     }
+    for (int shift = 16; length < PAGE; shift -= 8) bytes[length++] = (uint8_t)(bits_of(values, text) >> shift);
     return true;
 }
 

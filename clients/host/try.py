@@ -333,11 +333,14 @@ def try_checked(options):
         if not (before == () or has('valgrind')):
             return
         cluster = Cluster(chosen, 2, before=before)
+        open_at_its_end = socket.socket(socket.AF_UNIX, socket.SOCK_SEQPACKET)
+        open_at_its_end.connect(cluster.socket(0))
         try:
             told = [try_counts(cluster, 20), try_words(cluster, 20), try_calls(cluster), *try_others(cluster)]
             yield f'{says}: {", ".join(told)}'
         finally:
             complaints = cluster.stop()
+            open_at_its_end.close()
         odd = [line for line in complaints.splitlines() if '==' not in line or any(word in line for word in ('Invalid', 'ninitialised', 'lost', 'ERROR'))]
         expect(not odd, complaints)
 
