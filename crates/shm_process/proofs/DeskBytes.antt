@@ -17,7 +17,7 @@ use Rattle.shm_wire.specs.Line as stream
 use Rattle.shm_wire.specs.Unmaps.{Run, UnmapAsk}
 use Rattle.shm_wire.specs.declared.mapping_text.RevokeText.{RevokeText}
 use Rattle.shm_process.specs.Access.{is_open}
-use Rattle.shm_process.specs.Desk.{Desk, KeptLine, after_line, after_opened, after_read_line, all_made, all_met, answered, brought, by_meeting, closed, closed_by, finished, given_up, given_up_by, grown, grown_by, keep, left_sealed, made_again, made_and_told, made_in_row, map_reply, max_line_bytes, may_keep, met, met_again, met_read, noted, on_byte, on_bytes, passed, quietly, reminded, reminded_if, revoked, settled, stored_run, tag_in, taken, tell_caller, ticks, told_quietly, tried, tried_by, try_of, unmap_entry, unmap_reply, unrecorded, untagged, with_again, with_other, with_record, with_step, with_told}
+use Rattle.shm_process.specs.Desk.{Desk, KeptLine, after_line, after_opened, after_read_line, all_made, all_met, answered, brought, by_meeting, closed, closed_by, finished, given_up, given_up_by, grown, grown_by, keep, later_met, left_sealed, made_again, made_and_told, made_in_row, map_reply, max_line_bytes, may_keep, met, met_again, met_read, noted, on_byte, on_bytes, passed, quietly, reminded, reminded_if, revoked, settled, stored_run, tag_in, taken, tell_caller, ticks, told_quietly, tried, tried_by, try_of, unmap_entry, unmap_reply, unrecorded, untagged, with_again, with_other, with_record, with_step, with_told}
 use Rattle.shm_process.specs.Causes.{bare, store_line}
 use Rattle.shm_process.specs.Hello.{first_other, read_hello}
 use Rattle.shm_process.specs.Meetings.{meeting}
@@ -237,8 +237,8 @@ read_line-line l d line (Some read) =
 
 opened-line : (l : List ℕ) (d : Desk) (inner : Result (List ℕ) Unsealed) → after_opened (with_line l d) inner ≡ with_line l (after_opened d inner)
 opened-line l d (Ok line) =
-    ap (λ x. after_read_line x line (read_line line)) (noted-line l d (read_hello line))
-    ∙ read_line-line l (noted d (read_hello line)) line (read_line line)
+    ap (λ x. after_read_line (later_met x (read_line line)) line (read_line line)) (noted-line l d (read_hello line))
+    ∙ read_line-line l (later_met (noted d (read_hello line)) (read_line line)) line (read_line line)
 opened-line l d (Err why) = settled-line most_steps l (left_sealed d why)
 
 -- what a line does has nothing to do with what is gathered of the next

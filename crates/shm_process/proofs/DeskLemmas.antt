@@ -18,7 +18,7 @@ use Rattle.shm_wire.specs.declared.mapping_text.RevokeText.{RevokeText}
 use Rattle.shm_process.specs.Access.{is_open}
 use Rattle.shm_process.specs.Causes.{bare, store_line}
 use Rattle.shm_process.specs.Counts.{with_said, with_text}
-use Rattle.shm_process.specs.Desk.{Desk, KeptLine, after_line, after_opened, after_read_line, all_made, all_met, answered, brought, by_meeting, cleared, closed, closed_by, counts_after, finished, given_up, given_up_by, grown, grown_by, in_row, keep, left_sealed, line_text, made_again, made_and_told, made_in_row, map_reply, max_line_bytes, may_keep, met, met_again, met_read, noted, on_byte, on_bytes, passed, quietly, reminded, reminded_if, reminder, revoke_line, revoked, settled, step_entry, step_text, stored_run, tag_in, taken, tell, tell_caller, ticks, told_quietly, told_to, tried, tried_by, try_of, unmap_entry, unmap_reply, unrecorded, untagged, with_again, with_other, with_record, with_step, with_told}
+use Rattle.shm_process.specs.Desk.{Desk, KeptLine, after_line, after_opened, after_read_line, all_made, all_met, answered, brought, by_meeting, cleared, closed, closed_by, counts_after, finished, given_up, given_up_by, grown, grown_by, in_row, keep, later_met, left_sealed, line_text, made_again, made_and_told, made_in_row, map_reply, max_line_bytes, may_keep, met, met_again, met_read, noted, on_byte, on_bytes, passed, quietly, reminded, reminded_if, reminder, revoke_line, revoked, settled, step_entry, step_text, stored_run, tag_in, taken, tell, tell_caller, ticks, told_quietly, told_to, tried, tried_by, try_of, unmap_entry, unmap_reply, unrecorded, untagged, with_again, with_other, with_record, with_step, with_told}
 use Rattle.shm_process.specs.Hello.{first_other, hello_line, hello_to, read_hello}
 use Rattle.shm_process.specs.Meetings.{meeting}
 use Rattle.shm_process.specs.Node.{Node, Said}
@@ -264,8 +264,8 @@ read_line-behind r t d line (Some read) =
 
 opened-behind : (r t : List ℕ) (d : Desk) (inner : Result (List ℕ) Unsealed) → after_opened (behind r t d) inner ≡ behind r t (after_opened d inner)
 opened-behind r t d (Ok line) =
-    ap (λ x. after_read_line x line (read_line line)) (noted-behind r t d (read_hello line))
-    ∙ read_line-behind r t (noted d (read_hello line)) line (read_line line)
+    ap (λ x. after_read_line (later_met x (read_line line)) line (read_line line)) (noted-behind r t d (read_hello line))
+    ∙ read_line-behind r t (later_met (noted d (read_hello line)) (read_line line)) line (read_line line)
 opened-behind r t d (Err why) = settled-behind most_steps r t (left_sealed d why)
 
 after_line-behind : (r t : List ℕ) (d : Desk) (line : List ℕ) → after_line (behind r t d) line ≡ behind r t (after_line d line)

@@ -1,15 +1,16 @@
 -- A step is recorded and told.
-use Rattle.std.proofs.Common.{◌≡◌, ℕ, ◌≤◌, Bool, false, List, [], ◌∷◌, ◌++◌, length, cond, nat_lt, ap, ap₂, sym, ◌∙◌, append-nil, arith}
+use Rattle.std.proofs.Common.{◌≡◌, ℕ, ◌≤◌, Bool, false, List, [], ◌∷◌, ◌++◌, length, cond, nat_lt, refl, ap, ap₂, sym, ◌∙◌, append-nil, arith}
 use Rattle.std.proofs.lemmas.Bool.Decides.{nat_tests}
 use Rattle.std.specs.Prelude.{codes, Option, Some, None, Result, Ok, option_and_then, option_map}
 use Rattle.std.specs.Fmt.{decimal}
+use Rattle.std.specs.Option.{option_or}
 use Rattle.shm_model.specs.declared.asked_access.Asked.{Asked}
 use Rattle.shm_seal.specs.Seal.{opened}
 use Rattle.shm_seal.specs.declared.open_line_error.Unsealed.{Unsealed}
 use Rattle.shm_wire.specs.Line.{Line, read_line}
 use Rattle.shm_process.specs.Cause.{Cause, cause_text}
 use Rattle.shm_process.specs.Counts.{Counts, counted_on, was_received}
-use Rattle.shm_process.specs.Desk.{Desk, after_line, after_opened, after_read_line, counts_after, line_text, max_line_bytes, noted, passed, quietly, restarted, settled, step_entry, step_text, tag_in, taken, tell, told_quietly, tried, tried_by, tried_so, try_of, unrecorded, untagged, with_step, with_told}
+use Rattle.shm_process.specs.Desk.{Desk, after_line, after_opened, after_read_line, counts_after, later_met, line_text, max_line_bytes, noted, passed, quietly, restarted, settled, step_entry, step_text, tag_in, taken, tell, told_quietly, tried, tried_by, tried_so, try_of, unrecorded, untagged, with_step, with_told}
 use Rattle.shm_process.specs.Hello.{read_hello}
 use Rattle.shm_process.specs.Node.{Node, Said}
 use Rattle.shm_process.specs.Telling.{shown_line}
@@ -83,14 +84,21 @@ within-most : (n : ℕ) → n ≤ 8192 → nat_lt max_line_bytes n ≡ false
 within-most n h = grind (arith, nat_tests)
 
 -- what was read of a line is met
-pub line_met : (d next : Desk) (line : List ℕ) (read : Line) → Some read ≡ read_line line → d ≡ noted d (read_hello line)
-    → next ≡ after_read_line d line (Some read) → next ≡ after_opened d (Ok line)
-line_met d next line read is noted e = e ∙ ap (after_read_line d line) is ∙ ap (λ x. after_read_line x line (read_line line)) noted
+pub line_met : (d met next : Desk) (line : List ℕ) (read : Line) → Some read ≡ read_line line → d ≡ noted d (read_hello line)
+    → met ≡ later_met d (Some read) → next ≡ after_read_line met line (Some read) → next ≡ after_opened d (Ok line)
+line_met d met next line read is noted later e =
+    e ∙ ap (λ x. after_read_line x line (Some read)) later ∙ ap (λ r. after_read_line (later_met d r) line r) is ∙ ap (λ x. after_read_line (later_met x (read_line line)) line (read_line line)) noted
+
+nothing-later : (later : Option ℕ) → later ≡ option_or later None
+nothing-later None = refl
+nothing-later (Some clock) = refl
 
 -- and what is no line of the stream is passed over
 pub line_passed : (d heard next : Desk) (line : List ℕ) → None ≡ read_line line → heard ≡ noted d (read_hello line)
     → next ≡ settled most_steps (passed heard) → next ≡ after_opened d (Ok line)
-line_passed d heard next line is noted e = e ∙ ap (after_read_line heard line) is ∙ ap (λ x. after_read_line x line (read_line line)) noted
+line_passed d heard next line is noted e =
+    e ∙ ap (λ l. settled most_steps (passed (record heard { later = l }))) (nothing-later heard.later)
+    ∙ ap (λ r. after_read_line (later_met heard r) line r) is ∙ ap (λ x. after_read_line (later_met x (read_line line)) line (read_line line)) noted
 
 -- ---- steps whose answer isn't told
 

@@ -6,7 +6,7 @@ use Rattle.std.proofs.lemmas.List.Elements.{All-cons, All-nil}
 use Rattle.shm_seal.specs.Seal.{opened}
 use Rattle.shm_seal.specs.declared.open_line_error.Unsealed.{Unsealed}
 use Rattle.shm_wire.specs.Line.{read_line}
-use Rattle.shm_process.specs.Desk.{Desk, KeptLine, after_line, after_opened, after_read_line, grown, left_sealed, max_line_bytes, noted, on_byte, on_bytes, settled, with_other}
+use Rattle.shm_process.specs.Desk.{Desk, KeptLine, after_line, after_opened, after_read_line, grown, later_met, left_sealed, max_line_bytes, noted, on_byte, on_bytes, settled, with_other}
 use Rattle.shm_process.specs.DeskEvents.{DidEvents}
 use Rattle.shm_process.proofs.DeskEvents.{AreKept, Had, IsKind, Tidy, had-both, had-cond, had-nothing, had-passed, had-settled, had_read_line}
 use Rattle.shm_process.specs.Hello.{first_other, read_hello}
@@ -45,10 +45,12 @@ module _ (P : Event → Type 0) (Q : List ℕ → Type 0) (kind : IsKind P Q) wh
   had-opened : (d : Desk) (line : List ℕ) (text : Result (List ℕ) Unsealed) → opened d.seal line ≡ text → nat_lt max_line_bytes (length line) ≡ false
       → Q line → Tidy P d → Had P d (after_opened d text)
   had-opened d line (Ok text) is short of tidy =
-      let now = noted d (read_hello text) in
+      let heard = noted d (read_hello text) in
+      let now = later_met heard (read_line text) in
       let first = had-noted d (read_hello text) tidy in
-      had-both P Q kind d now (after_read_line now text (read_line text)) first
-      (had_read_line P Q kind now text (read_line text) refl (kind.inner d.seal line text is short of) first.tidy)
+      had-both P Q kind d heard (after_read_line now text (read_line text)) first
+      (had-both P Q kind heard now (after_read_line now text (read_line text)) (had-nothing P Q kind heard now refl refl first.tidy)
+      (had_read_line P Q kind now text (read_line text) refl (kind.inner d.seal line text is short of) first.tidy))
   had-opened d line (Err why) is short of tidy =
       let next = left_sealed d why in
       let first = had-left d why tidy in

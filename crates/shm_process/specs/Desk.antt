@@ -1,9 +1,9 @@
 -- What a process records and tells: its node, what was read of a line, the entries of the steps that it made, a row of accesses that may still
 -- grow, and what callers and other sites are told of them. Each line that comes is opened first, and each that is told is sealed; what is recorded isn't. Where its site says
--- how it was begun, it has the first that another says otherwise.
+-- how it was begun, it has the first that another says otherwise; and the first step that its site has told, and doesn't have.
 use Rattle.std.specs.Prelude.{ℕ, zero, suc, ◌+◌, ◌==◌, ◌&&◌, Bool, true, false, not, List, [], ◌∷◌, ◌++◌, codes, Option, Some, None, Result, Ok, Err, if◌then◌else◌, is_some, length, nat_lt, option_and_then, option_map}
 use Rattle.std.specs.List.{flat_map, list_any}
-use Rattle.std.specs.Option.{option_map_or}
+use Rattle.std.specs.Option.{option_map_or, option_or}
 use Rattle.shm_place.specs.declared.page_id.PageId.{PageId}
 use Rattle.shm_place.specs.Page.{same_page}
 use Rattle.shm_model.specs.declared.answer.Answer.{Answer}
@@ -17,6 +17,7 @@ use Rattle.shm_text.specs.Text.{answer_text}
 use Rattle.shm_wire.specs.Answers.{tell_line}
 use Rattle.shm_wire.specs.Line.{Line, read_line}
 use Rattle.shm_wire.specs.Line as stream
+use Rattle.shm_wire.specs.Sent.{Sent}
 use Rattle.shm_wire.specs.MappingTexts.{mapped_text, raised_text, revoke_text, synced_text, unmapped_text}
 use Rattle.shm_wire.specs.Unmaps.{Run, UnmapAsk}
 use Rattle.shm_wire.specs.declared.caller_ask.Question.{Question}
@@ -31,7 +32,7 @@ use Rattle.shm_process.specs.Hello.{first_other, greeting, hello_line, hello_to,
 use Rattle.shm_process.specs.Lines.{sent_lines}
 use Rattle.shm_process.specs.Mapped.{byte_place, keeps_beside, mapped_there, passing}
 use Rattle.shm_process.specs.Meetings.{meeting, revoking}
-use Rattle.shm_process.specs.Node.{Node, Said, next_clock}
+use Rattle.shm_process.specs.Node.{Node, Said, is_beyond, next_clock}
 use Rattle.shm_process.specs.Recorded.{Entry, entries_text, recorded}
 use Rattle.shm_process.specs.Remaps.{bytes_there}
 use Rattle.shm_process.specs.Rows.{Row, joined, row_entry, row_in}
@@ -55,6 +56,7 @@ pub record Desk : Type 0 where
   pub seal : Seal
   pub opening : Option Opening
   pub other : Option Opening
+  pub later : Option ℕ
   pub counts : Counts
   pub line : List ℕ
   pub kept : List KeptLine
@@ -68,6 +70,7 @@ desk_at seal node = record {
   seal = seal;
   opening = None;
   other = None;
+  later = None;
   counts = counts_from (record { journal = 0; since = 0 });
   line = [];
   kept = [];
@@ -374,11 +377,30 @@ with_other desk d = record (tell desk (hello_line desk.seal (hello_to d.own d.ot
 abbrev pub noted : Desk → Option Hello → Desk
 noted desk read = option_map_or (with_other desk) (first_other desk.opening desk.other read) desk
 
+-- ---- steps of this site that it doesn't have
+
+-- the clock of the step that sent the envelope, where it is one of this site, later than its last. No site that keeps up can have sent one that
+-- is beyond it.
+abbrev pub later_sent : Node → Sent → Option ℕ
+later_sent node sent =
+    if (sent.envelope.from == node.me) && (nat_lt node.clock sent.source.at && not (is_beyond node sent)) then Some sent.source.at else None
+
+abbrev pub later_step : Node → Option Line → Option ℕ
+later_step node None = None
+later_step node (Some (stream.Envelope sent)) = later_sent node sent
+later_step node (Some (stream.Ask ask)) = None
+later_step node (Some (stream.Write write)) = None
+later_step node (Some (stream.Unmap unmap)) = None
+
+-- the first is noted: the site told it, so its journal is an older copy, or another's
+abbrev pub later_met : Desk → Option Line → Desk
+later_met desk read = record desk { later = option_or desk.later (later_step desk.node read) }
+
 -- ---- a line
 
--- what was opened is taken, and noted where it is another site's hello, which is no line for a site
+-- what was opened is taken, and noted where it is another site's hello, which is no line for a site, or tells of a later step of this one
 abbrev pub after_opened : Desk → Result (List ℕ) Unsealed → Desk
-after_opened desk (Ok line) = after_read_line (noted desk (read_hello line)) line (read_line line)
+after_opened desk (Ok line) = after_read_line (later_met (noted desk (read_hello line)) (read_line line)) line (read_line line)
 after_opened desk (Err why) = settled most_steps (left_sealed desk why)
 
 unfoldable pub after_line : Desk → List ℕ → Desk

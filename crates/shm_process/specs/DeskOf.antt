@@ -17,6 +17,7 @@ desk_of desk = record {
   seal = seal_of desk.seal;
   opening = desk.opening;
   other = desk.other;
+  later = desk.later;
   counts = counts_of desk.counts;
   line = desk.line.items;
   kept = map kept_of desk.kept.items;

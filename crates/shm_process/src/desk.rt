@@ -36,13 +36,14 @@ const MAX_LINE_BYTES: usize = 8192;
 
 /// A node whose lines come as bytes. It gathers entries, one for each step, and output: answers, and what its site sent. It takes a line as
 /// its seal opens it, passes over one that it doesn't open, and seals its output. It may say to other sites how its own was begun, and note
-/// where another says otherwise.
+/// where another says otherwise. It notes the first step of its own site that other sites were told of, and it doesn't have.
 #[derive(Drop)]
 pub struct Desk<A: Allocator + Copy = Global> {
     pub(crate) node: Node<A>,
     pub(crate) seal: Seal,
     pub(crate) opening: Option<Opening>,
     pub(crate) other: Option<Opening>,
+    pub(crate) later: Option<u64>,
     pub(crate) counts: Counts,
     pub(crate) line: Vec<u8, A>,
     pub(crate) kept: Vec<KeptLine<A>, A>,
@@ -69,6 +70,7 @@ impl<A: Allocator + Copy> Desk<A> {
             seal,
             opening: None,
             other: None,
+            later: None,
             counts: Counts::new(Start {
                 journal: 0,
                 since: 0,
@@ -94,6 +96,14 @@ impl<A: Allocator + Copy> Desk<A> {
         ensures { counts_of result ≡ (desk_of self.now).counts }
     {
         self.counts
+    }
+
+    /// The clock of the first step that its site has told, as a line says that came, and that it doesn't have: the site's journal is an older
+    /// copy, or another's.
+    pub fn later(&self) -> Option<u64>
+        ensures { result ≡ (desk_of self.now).later }
+    {
+        self.later
     }
 
     /// The allocator of what it gathers.
@@ -212,7 +222,10 @@ impl<A: Allocator + Copy> Desk<A> {
         ensures { OnOk result (desk_of self.new ≡ after_opened (desk_of self.old) (Ok line.now)) }
     {
         match parse_line(self.alloc, line)? {
-            Some(read) => self.take_parsed(line, read),
+            Some(read) => {
+                self.note_later(&read);
+                self.take_parsed(line, read)
+            }
             None => {
                 self.hear(line)?;
                 self.pass_line()

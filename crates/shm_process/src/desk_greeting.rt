@@ -32,6 +32,7 @@ impl<A: Allocator + Copy> Desk<A> {
             seal,
             opening: Some(opening),
             other: None,
+            later: None,
             counts: Counts::new(start),
             line: Vec::new(alloc),
             kept: Vec::new(alloc),

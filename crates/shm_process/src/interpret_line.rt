@@ -170,7 +170,7 @@ impl<A: Allocator + Copy> Node<A> {
     }
 
     /// The envelope is from too far ahead, or names a number that no site can have got by its clock.
-    fn is_beyond(&self, sent: &Sent<A>) -> bool
+    pub(crate) fn is_beyond(&self, sent: &Sent<A>) -> bool
         ensures { result ≡ spec.is_beyond (node_of self.now) (sent_of sent.now) }
     {
         let source = sent.source.clock;

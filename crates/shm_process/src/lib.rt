@@ -17,6 +17,7 @@ mod check_message_numbers;
 mod desk;
 mod desk_gives_up;
 mod desk_greeting;
+mod desk_later;
 mod desk_meets_line;
 mod desk_records;
 mod envelope_lines;

@@ -17,8 +17,9 @@ returns-in-Some g c =
     let line_read = line_of c.in-Some.read in
     let next = desk_of c.take_parsed.new.self in
     let read : Some line_read ≡ read_line line = sym (ap (option_map line_of) c.in-Some.is) ∙ c.in_ok-read.ensures.read in
-    IfOk-weaker c.take_parsed.result (λ _. next ≡ after_read_line desk line (Some line_read)) (λ _. next ≡ after_opened desk (Ok line))
-    (λ _ e. line_met desk next line line_read read (nothing_noted desk line line_read read) e) c.take_parsed.ensures
+    let met = desk_of c.note_later.new.self in
+    IfOk-weaker c.take_parsed.result (λ _. next ≡ after_read_line met line (Some line_read)) (λ _. next ≡ after_opened desk (Ok line))
+    (λ _ e. line_met desk met next line line_read read (nothing_noted desk line line_read read) c.note_later.ensures e) c.take_parsed.ensures
 
 pub returns-in_ok-hear-in-None : goal.returns-in_ok-hear-in-None
 returns-in_ok-hear-in-None g c =
