@@ -20,7 +20,7 @@ use clap::error::ErrorKind;
 use shm_audit::{JournalFault, JournalsFault};
 use shm_debug::DebugFault;
 use shm_draw::CaptionFault;
-use shm_journal::RecoveryFault;
+use shm_journal::{ProcessFault, RecoveryFault};
 use shm_process::{Health, Unopened};
 use shm_prompt::PromptFault;
 use shm_report::ReportFault;
@@ -101,6 +101,7 @@ pub fn site_fault<E: Write>(fault: SiteFault, errors: &mut E) -> u8
         SiteFault::Missing | SiteFault::NoFile | SiteFault::Existing | SiteFault::Blank => 1,
         SiteFault::Damaged(_) | SiteFault::Unmarked => 1,
         SiteFault::Unrecovered(RecoveryFault::Foreign | RecoveryFault::BadLine(_)) => 1,
+        SiteFault::Ended(ProcessFault::TooOld { .. }) => 1,
         _ => 3,
     }
 }
