@@ -8,11 +8,13 @@ mod journals_audit;
 mod journals_error;
 pub mod laws;
 mod log_from_journal;
+mod find_missing_step;
 mod site_from_header;
 mod totals;
 
 pub use journals_audit::audit_journals;
 pub use journals_error::JournalsFault;
 pub use log_from_journal::read_log;
+pub use find_missing_step::{MissingStep, missing_step};
 pub use shm_journal::JournalFault;
 pub use totals::Totals;
