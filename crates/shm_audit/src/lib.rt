@@ -4,17 +4,17 @@
 mod box_replay;
 mod box_replay_input;
 mod count_totals;
+mod find_missing_step;
 mod journals_audit;
 mod journals_error;
 pub mod laws;
 mod log_from_journal;
-mod find_missing_step;
 mod site_from_header;
 mod totals;
 
+pub use find_missing_step::{MissingStep, missing_step};
 pub use journals_audit::audit_journals;
 pub use journals_error::JournalsFault;
 pub use log_from_journal::read_log;
-pub use find_missing_step::{MissingStep, missing_step};
 pub use shm_journal::JournalFault;
 pub use totals::Totals;
