@@ -4,7 +4,7 @@
     backup.py [PROGRAM]      without PROGRAM: crates/shmdbg/out/shmdbg
 
 Types what docs/machines.md shows, in a shell, and compares what is printed. Then it restores the journal of one site alone, which nobody
-should: the audit has to find that. The status is 1 where something else is printed."""
+should: the audit has to find that, and to name the site. The status is 1 where something else is printed."""
 import os
 import signal
 import subprocess
@@ -40,7 +40,7 @@ start third; ask 0 e load 0 5; stop
 echo one alone; cp -p lost/site-?.journal .; cp -p backup/site-0.journal .
 "$PROGRAM" audit --sites 3 site-0.journal site-1.journal site-2.journal 2>&1 | cut -d ' ' -f 1-3
 '''
-PRINTED = ['tell 1 a stored', 'tell 2 b byte 7', 'audit yes', 'tell 0 c stored', 'tell 2 d byte 9', 'tell 0 e byte 7', 'one alone', 'shmdbg: audit no:']
+PRINTED = ['tell 1 a stored', 'tell 2 b byte 7', 'audit yes', 'tell 0 c stored', 'tell 2 d byte 9', 'tell 0 e byte 7', 'one alone', 'shmdbg: audit no:', 'shmdbg: site 0']
 
 
 def play(name, shell, expected, argument):

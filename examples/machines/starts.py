@@ -301,6 +301,17 @@ def try_audits(program, folder):
         start(name, audit(program, 2, first, second), 1, f'{second}: of another cluster than the first journal', b'')
 
 
+def try_later_steps(program, folder):
+    """A site that hears of a step of its own that it lacks ends: of what it read with that nothing is kept or told."""
+    journal = os.path.join(folder, 'later')
+    later = b'env 0 1 %d 1 0 clear 0 0 1\n'
+    start('the last step', words(program, journal, new=True), 0, '', TOLD, given=STORE + later % 1)
+    stays('the last step', journal, STORED)
+    old = 'journal: too old: this site made a step at clock 9 that it lacks'
+    start('a later step', words(program, journal), 1, again(1, 2) + '\nshmdbg: ' + old, given=STORE + later % 9)
+    stays('a later step', journal, marked(HEADER, STEP, RESTART))
+
+
 def try_saves(program, folder):
     """What is saved has its name and its bytes, in the place of what was there; what can't be saved is told as unsaved."""
     script = os.path.join(folder, 'script')
@@ -355,7 +366,7 @@ def main():
     program = os.path.abspath(sys.argv[1] if len(sys.argv) > 1 else os.path.join(HERE, '..', '..', 'crates', 'shmdbg', 'out', 'shmdbg'))
     with tempfile.TemporaryDirectory() as folder:
         for trial in (try_files, try_openings, try_health, try_no_files, try_two, try_closed, try_full, try_streams, try_behind,
-                      try_damaged, try_audits, try_saves, try_calls):
+                      try_damaged, try_audits, try_later_steps, try_saves, try_calls):
             trial(program, folder)
     print(f'starts: {tried[0]}, each told as it has to be')
 

@@ -8,3 +8,4 @@ pub mod StoredBytes
 pub mod LoadedBlocks
 pub mod ToldBlocks
 pub mod StoredBlocks
+pub mod Clocked

@@ -4,6 +4,7 @@ pub mod HandedOf
 pub mod Found
 pub mod Totals
 pub mod OneSet
+pub mod Missing
 pub mod Told
 pub mod Loads
 pub mod Stores

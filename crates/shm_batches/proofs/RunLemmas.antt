@@ -23,7 +23,7 @@ use Rattle.shm_journal.specs.Lines.{Header, IsHeader, header_line}
 use Rattle.shm_journal.specs.LinesOf.{Unended}
 use Rattle.shm_journal.specs.Lives.{IsJournal, IsLife, LeavesFront, LeavesLife, after_lives}
 use Rattle.shm_journal.specs.declared.process_error.ProcessFault.{ProcessFault}
-use Rattle.shm_journal.specs.declared.process_error.ProcessFault.TheVariants.{JournalFault, OutOfMemory, ReadFault, WriteFault}
+use Rattle.shm_journal.specs.declared.process_error.ProcessFault.TheVariants.{JournalFault, OutOfMemory, ReadFault, TooOld, WriteFault}
 use Rattle.shm_batches.proofs.CrashLemmas.{acts_lines, leaves_batches}
 use Rattle.shm_batches.proofs.WholeLemmas.{none_batch}
 use Rattle.shm_batches.specs.BatchCrash.{Disk, after_act, after_acts, begun, in_lines}
@@ -88,6 +88,8 @@ moment-run : (desk : Desk) (disk : Disk) → Holds disk → ((reads : List (List
 moment-run desk disk h all (Ok end) acts before after (reads, same) e = moment before after disk h (subst (All Adds) (sym same ∙ e) (all reads))
 moment-run desk disk h all (Err ReadFault) acts before after (reads, same) e = moment before after disk h (subst (All Adds) (sym same ∙ e) (all reads))
 moment-run desk disk h all (Err OutOfMemory) acts before after (reads, bytes, same) e =
+    moment before after disk h (subst (All Adds) (sym same ∙ e) (All-push Adds (run desk reads) (Read bytes) (all reads) tt))
+moment-run desk disk h all (Err (TooOld clock)) acts before after (reads, bytes, same, later) e =
     moment before after disk h (subst (All Adds) (sym same ∙ e) (All-push Adds (run desk reads) (Read bytes) (all reads) tt))
 moment-run desk disk h all (Err JournalFault) acts before after (reads, front, rest, text, n, is, same) e =
     moment-last before front after (take n text) disk h (adds-front front (Append text ∷ rest) (subst (All Adds) is (all reads))) (sym same ∙ e)

@@ -1,15 +1,18 @@
 -- What is told of journals that an audit accepts, and the cause and the status where it doesn't.
-use Rattle.std.specs.Prelude.{⊤, ◌≡◌, ◌≢◌, ◌⊎◌, ℕ, List, ◌∷◌, ◌++◌, codes, length, Option}
+use Rattle.std.specs.Prelude.{⊤, ◌≡◌, ◌≢◌, ◌⊎◌, ℕ, List, ◌∷◌, ◌++◌, codes, length, None, Option}
 use Rattle.std.specs.declared.alloc.Global.{Global}
 use Rattle.std.specs.Io.KnownBytes.{Appends}
+use Rattle.shm_audit.specs.Missing.{missing_step}
 use Rattle.shm_audit.specs.Totals.{totals_of, totals_text}
 use Rattle.shm_audit.specs.OneSet.{AreOneRun, IsWhy}
+use Rattle.shm_audit.specs.declared.find_missing_step.MissingStep.{MissingStep}
 use Rattle.shm_audit.specs.declared.totals.Totals.{Totals}
 use Rattle.shm_journal.specs.declared.journal_error.JournalFault.{JournalFault}
 use Rattle.shm_journal.specs.declared.journal_error.JournalFault.TheVariants as journal
 use Rattle.shm_audit.specs.declared.journals_error.JournalsFault.{JournalsFault}
 use Rattle.shm_audit.specs.declared.journals_error.JournalsFault.TheVariants as journals
 use Rattle.shm_logs.specs.Auditing.Logs.{logs_of}
+use Rattle.shm_model.specs.Log.{Logged}
 use Rattle.shm_logs.specs.declared.site_boxes.site_log.SiteLog.{SiteLog}
 use Rattle.shm_command.specs.declared.audit_failure.Unaudited.{Unaudited}
 use Rattle.shm_command.specs.declared.audit_failure.Unaudited.TheVariants as cause
@@ -79,3 +82,8 @@ pub record FailsAudit (journals sites status : ℕ) : Type 0 where
   pub fault : Unaudited
   pub told : status ≡ unaudited_status fault
   pub why : IsCauseOf journals sites fault
+
+-- the step that a log lacks, where the audit found one missing
+abbrev pub missing_in : List (List Logged) → Unaudited → Option MissingStep
+missing_in logs (cause.Unaccepted (journals.Audit found)) = missing_step logs found
+missing_in logs _ = None

@@ -4,7 +4,8 @@ use Rattle.std.specs.Io.KnownBytes.{IsAtEnd}
 use Rattle.shm_journal.specs.Acts.{Around, Did, Served}
 use Rattle.shm_journal.specs.Lines.{Header}
 use Rattle.shm_seal.specs.Seal.{Seal}
-use Rattle.shm_journal.specs.declared.process_error.ProcessFault.TheVariants.{JournalFault}
+use Rattle.shm_journal.specs.declared.process_error.ProcessFault.{ProcessFault}
+use Rattle.shm_journal.specs.declared.process_error.ProcessFault.TheVariants.{JournalFault, OutOfMemory, ReadFault, TooOld, WriteFault}
 use Rattle.shm_journal.specs.declared.recovery_error.RecoveryFault.{RecoveryFault}
 use Rattle.shm_journal.specs.declared.recovery_error.RecoveryFault.TheVariants as recovery
 use Rattle.shm_process.specs.Desk.{Desk}
@@ -62,11 +63,19 @@ recovery_status recovery.ReadFault = 3
 recovery_status recovery.Foreign = 1
 recovery_status (recovery.BadLine number) = 1
 
--- the journal isn't as it was asked for, or is none of this site's; or something failed
+-- the journal is too old; or something failed
+abbrev pub process_status : ProcessFault → ℕ
+process_status OutOfMemory = 3
+process_status ReadFault = 3
+process_status WriteFault = 3
+process_status JournalFault = 3
+process_status (TooOld clock) = 1
+
+-- the journal isn't as it was asked for, or is none of this site's, or too old; or something failed
 abbrev pub site_status : Result (Unit {0}) SiteFault → ℕ
 site_status (Ok end) = 0
 site_status (Err (fault.Unrecovered why)) = recovery_status why
-site_status (Err (fault.Ended why)) = 3
+site_status (Err (fault.Ended why)) = process_status why
 site_status (Err fault.OutOfMemory) = 3
 site_status (Err fault.Unopened) = 3
 site_status (Err fault.Missing) = 1

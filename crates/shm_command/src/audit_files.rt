@@ -1,14 +1,15 @@
 //! The audit of journals that lie in files.
 ghost use Rattle.std.specs.Prelude.{◌≡◌, ◌≢◌, ◌<◌, ◌⊎◌, length, IfErr, IfOk, OnOk};
 ghost use Rattle.std.specs.Io.KnownBytes.{Appends};
-ghost use Rattle.shm_command.specs.Audited.{IsOfSites, IsUnread, IsCauseOf, IsWhyNot, FailsAudit, TellsAudit, audit_text};
+ghost use Rattle.shm_logs.specs.Auditing.Logs.{logs_of};
+ghost use Rattle.shm_command.specs.Audited.{IsOfSites, IsUnread, IsCauseOf, IsWhyNot, FailsAudit, TellsAudit, audit_text, missing_in};
 ghost use Rattle.shm_command.specs.declared.audit_failure.Unaudited.TheVariants as cause;
 
 use crate::audit_failure::Unaudited;
 use crate::error_text_and_status;
 use crate::line_of_step::wrong_line;
 use crate::whole_journal::open_whole;
-use shm_audit::{JournalsFault, Totals, audit_journals, read_log};
+use shm_audit::{JournalsFault, MissingStep, Totals, audit_journals, missing_step, read_log};
 use shm_journal::{Lines, Taken, parse_header};
 use shm_place::Sites;
 use shm_seal::ClusterName;
@@ -34,21 +35,25 @@ pub(crate) fn audit<R: AllocGlobal + Files, O: Write, E: Write>(
     ensures failed { result ≢ 0 → FailsAudit (length journals.now) sites result }
     ensures quiet { (result ≡ 1) ⊎ (result ≡ 4) → out.new ≡ out.old }
 {
-    match tell_audit(rt, sites, journals, out) {
+    let mut missing = None;
+    match tell_audit(rt, sites, journals, out, &mut missing) {
         Ok(()) => 0,
         Err(fault) => {
             let line = wrong_line(rt, journals, &fault);
-            error_text_and_status::audit_fault(fault, line, journals, errors)
+            let status = error_text_and_status::audit_fault(fault, line, journals, errors);
+            error_text_and_status::missing(missing, errors);
+            status
         }
     }
 }
 
-/// Audits the journals, and writes the counts.
+/// Audits the journals, and writes the counts. `missing` is the step that one of them lacks, where that is why they aren't accepted.
 fn tell_audit<R: AllocGlobal + Files, O: Write>(
     rt: &R,
     sites: Sites,
     journals: &[&str],
     out: &mut O,
+    missing: &mut Option<MissingStep>,
 ) -> Result<(), Unaudited>
     ensures audited { OnOk result (TellsAudit sites (O.contents out.old) (O.contents out.new)) }
     ensures each { OnOk result (length journals.now ≡ sites) }
@@ -61,7 +66,20 @@ fn tell_audit<R: AllocGlobal + Files, O: Write>(
     };
     match judge(rt.alloc(), sites, logs.as_slice()) {
         Ok(counts) => tell_counts(rt.alloc(), counts, out),
-        Err(fault) => Err(fault),
+        Err(fault) => {
+            *missing = missing_in(logs.as_slice(), &fault);
+            Err(fault)
+        }
+    }
+}
+
+/// The step that a log lacks, where the audit found one missing.
+fn missing_in(logs: &[SiteLog], fault: &Unaudited) -> Option<MissingStep>
+    ensures { result ≡ missing_in (logs_of logs.now) fault.now }
+{
+    match fault {
+        Unaudited::Unaccepted(JournalsFault::Audit(cause)) => missing_step(logs, cause),
+        _ => None,
     }
 }
 

@@ -17,10 +17,10 @@ use crate::script_file_error::ScriptFileFault;
 use crate::seal_error::SealFault;
 use crate::site_error::SiteFault;
 use clap::error::ErrorKind;
-use shm_audit::{JournalFault, JournalsFault};
+use shm_audit::{JournalFault, JournalsFault, MissingStep};
 use shm_debug::DebugFault;
 use shm_draw::CaptionFault;
-use shm_journal::RecoveryFault;
+use shm_journal::{ProcessFault, RecoveryFault};
 use shm_process::{Health, Unopened};
 use shm_prompt::PromptFault;
 use shm_report::ReportFault;
@@ -101,6 +101,7 @@ pub fn site_fault<E: Write>(fault: SiteFault, errors: &mut E) -> u8
         SiteFault::Missing | SiteFault::NoFile | SiteFault::Existing | SiteFault::Blank => 1,
         SiteFault::Damaged(_) | SiteFault::Unmarked => 1,
         SiteFault::Unrecovered(RecoveryFault::Foreign | RecoveryFault::BadLine(_)) => 1,
+        SiteFault::Ended(ProcessFault::TooOld { .. }) => 1,
         _ => 3,
     }
 }
@@ -240,6 +241,14 @@ fn write_cause<E: Write>(
         Some(number) => writeln!(errors, "shmdbg: audit no: {cause}: {name}: line {number}"),
         None => writeln!(errors, "shmdbg: audit no: {cause}: {name}"),
     }
+}
+
+/// Tells which site's journal lacks a step that was found missing, if one was. A failure to write it is passed over.
+pub(crate) fn missing<E: Write>(step: Option<MissingStep>, errors: &mut E) {
+    let Some(step) = step else {
+        return;
+    };
+    let _ = writeln!(errors, "shmdbg: {step}");
 }
 
 fn name_of<'a>(journals: &[&'a str], at: usize) -> &'a str {

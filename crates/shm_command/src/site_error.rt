@@ -43,7 +43,7 @@ pub enum SiteFault {
     /// The site can't go on from its journal.
     #[error("{0}")]
     Unopenable(OpeningFault),
-    /// Memory, reading or writing failed while it ran. Where the journal failed, what wasn't durable was cut off it.
+    /// Memory, reading or writing failed while it ran, or its journal is too old. Where the journal failed, what wasn't durable was cut off it.
     #[error("{0}")]
     Ended(ProcessFault),
     /// The journal failed, and then what isn't durable couldn't be cut off either. What stands behind this many bytes may be read, and be

@@ -1,6 +1,7 @@
 mod desk_counts;
 mod hellos;
 mod impossible_envelopes;
+mod later_steps;
 
 use shm_place::{SiteId, Sites};
 use shm_process::{Desk, Node, Opening, Start};

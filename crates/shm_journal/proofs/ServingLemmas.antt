@@ -6,17 +6,12 @@ use Rattle.std.proofs.lemmas.List.{append_assoc}
 use Rattle.shm_process.specs.Desk.{Desk, cleared, on_bytes}
 use Rattle.std.proofs.KnownBytes.{Appends-nil, Consumes-kept, Consumes-nil}
 use Rattle.std.specs.Io.KnownBytes.{Appends, Consumes, Keeps}
-use Rattle.std.specs.Prelude.{Option}
+use Rattle.std.specs.Prelude.{None, Option, Some}
 use Rattle.shm_journal.proofs.ActLemmas.{GoesOn-nil, GoesOn-trans, did_both, did_nothing, kept-silent, kept-then, published-told, published-unread, told_in-append}
-use Rattle.shm_journal.specs.Acts.{Act, Append, Around, Did, GoesOn, Read, Served, Sync, Tell, around, keeping, publishing, read_in, run, serving, telling, told_in}
-use Rattle.shm_journal.specs.Publishing.{FailsToPublish}
+use Rattle.shm_journal.specs.Acts.{Act, Append, Around, Did, GoesOn, Read, Served, Sync, Tell, around, keeping, publishing, read_in, run, serving, standing, telling, told_in}
+use Rattle.shm_journal.specs.Publishing.{FailsToPublish, FailsToTake}
 use Rattle.shm_journal.specs.declared.process_error.ProcessFault.{ProcessFault}
-use Rattle.shm_journal.specs.declared.process_error.ProcessFault.TheVariants.{JournalFault, OutOfMemory, ReadFault, WriteFault}
-
--- the desk after these reads, each published
-unfoldable pub standing : Desk → List (List ℕ) → Desk
-standing desk [] = desk
-standing desk (bytes ∷ reads) = standing (cleared (on_bytes desk bytes)) reads
+use Rattle.shm_journal.specs.declared.process_error.ProcessFault.TheVariants.{JournalFault, OutOfMemory, ReadFault, TooOld, WriteFault}
 
 standing-more : (reads : List (List ℕ)) (desk : Desk) (bytes : List ℕ) → standing desk (reads ++ bytes ∷ []) ≡ cleared (on_bytes (standing desk reads) bytes)
 unfolding standing
@@ -195,10 +190,31 @@ read_failed first desk old now new s r = (
   (s.reads, refl),
 )
 
-pub out_of_memory : (first desk : Desk) (old now new : Around) (bytes : List ℕ) → Serves first old now desk → Did now new (Read bytes ∷ [])
+out_of_memory : (first desk : Desk) (old now new : Around) (bytes : List ℕ) → Serves first old now desk → Did now new (Read bytes ∷ [])
     → Served first old new (Err OutOfMemory)
 out_of_memory first desk old now new bytes s r =
     (run first s.reads ++ Read bytes ∷ [], did_both old now new (run first s.reads) (Read bytes ∷ []) s.did r, (s.reads, bytes, refl))
+
+too_old : (first desk : Desk) (old now new : Around) (bytes : List ℕ) (clock : ℕ) → Serves first old now desk → Did now new (Read bytes ∷ [])
+    → (on_bytes desk bytes).later ≡ Some clock → Served first old new (Err (TooOld clock))
+too_old first desk old now new bytes clock s r e = (
+  run first s.reads ++ Read bytes ∷ [],
+  did_both old now new (run first s.reads) (Read bytes ∷ []) s.did r,
+  (s.reads, bytes, refl, ap (λ d. (on_bytes d bytes).later) (sym s.stands) ∙ e),
+)
+
+-- what was read last isn't taken
+pub not_taken : (first desk : Desk) (fault : ProcessFault) (old now new : Around) (bytes : List ℕ) → Serves first old now desk
+    → Did now new (Read bytes ∷ []) → FailsToTake desk bytes fault → Served first old new (Err fault)
+not_taken first desk OutOfMemory old now new bytes s r f = out_of_memory first desk old now new bytes s r
+not_taken first desk (TooOld clock) old now new bytes s r f = too_old first desk old now new bytes clock s r f
+not_taken first desk JournalFault old now new bytes s r f = absurd f
+not_taken first desk ReadFault old now new bytes s r f = absurd f
+not_taken first desk WriteFault old now new bytes s r f = absurd f
+
+-- what was published has the later step that was noted
+pub still_sound : (desk next : Desk) → next ≡ cleared desk → desk.later ≡ None → next.later ≡ None
+still_sound desk next e h = ap (λ (d : Desk). d.later) e ∙ h
 
 -- what the desk holds after these acts can't be published
 unpublished : (first next : Desk) (reads : List (List ℕ)) (acts : List Act) (fault : ProcessFault) (old now new : Around)
@@ -231,6 +247,7 @@ unpublished first next reads acts WriteFault old now new whole d (some, (n, f)) 
     )
 unpublished first next reads acts OutOfMemory old now new whole d f = absurd f
 unpublished first next reads acts ReadFault old now new whole d f = absurd f
+unpublished first next reads acts (TooOld clock) old now new whole d f = absurd f
 
 pub never_published : (first : Desk) (fault : ProcessFault) (old new : Around) → FailsToPublish first old new fault → Served first old new (Err fault)
 unfolding serving

@@ -1,5 +1,5 @@
 -- A process warns once.
-use Rattle.std.proofs.Common.{◌≡◌, ℕ, ◌||◌, Bool, true, false, List, [], ◌++◌, Option, None, Some, length, take, refl, ap, sym, subst, ◌∙◌, append-nil}
+use Rattle.std.proofs.Common.{◌≡◌, ℕ, ◌||◌, Bool, List, [], Option, None, Some, length, take, refl, ap, sym, subst, ◌∙◌, append-nil}
 use Rattle.std.proofs.Math.Seq.{take-length, take-nil}
 use Rattle.std.proofs.KnownBytes.{Appends-nil, Appends-trans}
 use Rattle.std.specs.Io.KnownBytes.{Appends}

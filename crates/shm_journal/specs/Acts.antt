@@ -3,7 +3,7 @@ use Rattle.std.specs.Prelude.{⊤, ◌≡◌, ℕ, List, [], ◌∷◌, ◌++◌
 use Rattle.std.specs.Io.KnownBytes.{Appends, Consumes}
 use Rattle.shm_process.specs.Desk.{Desk, cleared, on_bytes}
 use Rattle.shm_journal.specs.declared.process_error.ProcessFault.{ProcessFault}
-use Rattle.shm_journal.specs.declared.process_error.ProcessFault.TheVariants.{JournalFault, OutOfMemory, ReadFault, WriteFault}
+use Rattle.shm_journal.specs.declared.process_error.ProcessFault.TheVariants.{JournalFault, OutOfMemory, ReadFault, TooOld, WriteFault}
 
 -- one read gave these bytes; this was appended to the journal; all that was appended is durable; and this was told
 pub data Act : Type 0 where
@@ -67,16 +67,24 @@ serving desk (bytes ∷ reads) =
     let taken = on_bytes desk bytes in
     Read bytes ∷ (publishing taken ++ serving (cleared taken) reads)
 
+-- the desk after these reads, each published
+unfoldable pub standing : Desk → List (List ℕ) → Desk
+standing desk [] = desk
+standing desk (bytes ∷ reads) = standing (cleared (on_bytes desk bytes)) reads
+
 -- all that is done from this desk on
 abbrev pub run : Desk → List (List ℕ) → List Act
 run desk reads = publishing desk ++ serving (cleared desk) reads
 
--- How it ends: when the reads do, or a read fails, after all is done; where memory is missing what came last is lost; and where the journal
--- or the writer fails it stops in the middle of that act.
+-- How it ends: when the reads do, or a read fails, after all is done; where memory is missing what came last is lost, and so where that tells
+-- of a step of the own site that it doesn't have; and where the journal or the writer fails it stops in the middle of that act.
 abbrev pub IsRun : Desk → Result (Unit {0}) ProcessFault → List Act → Type 0
 IsRun desk (Ok _) acts = (reads : List (List ℕ)) × (acts ≡ run desk reads)
 IsRun desk (Err ReadFault) acts = (reads : List (List ℕ)) × (acts ≡ run desk reads)
 IsRun desk (Err OutOfMemory) acts = (reads : List (List ℕ)) × (bytes : List ℕ) × (acts ≡ run desk reads ++ Read bytes ∷ [])
+IsRun desk (Err (TooOld clock)) acts =
+    (reads : List (List ℕ)) × (bytes : List ℕ) × (acts ≡ run desk reads ++ Read bytes ∷ [])
+    × ((on_bytes (standing (cleared desk) reads) bytes).later ≡ Some clock)
 IsRun desk (Err JournalFault) acts =
     (reads : List (List ℕ)) × (before after : List Act) × (text : List ℕ) × (n : ℕ) × (run desk reads ≡ before ++ Append text ∷ after)
     × (acts ≡ before ++ Append (take n text) ∷ [])

@@ -16,6 +16,10 @@ pub enum ProcessFault {
     /// The journal couldn't be appended to, or not be made durable: its disk may be full. Of the steps that it lacks nothing was written.
     #[error("journal: write fault")]
     JournalFault,
+    /// A line tells of a step of this site, at this clock, that it doesn't have: its journal is an older copy, or another's. Of what came
+    /// with that line nothing was appended or written.
+    #[error("journal: too old: this site made a step at clock {clock} that it lacks")]
+    TooOld { clock: u64 },
 }
 
 impl Numbered for ProcessFault {
@@ -28,6 +32,7 @@ impl Numbered for ProcessFault {
             ProcessFault::OutOfMemory => refusal::OUT_OF_MEMORY,
             ProcessFault::ReadFault => refusal::READ_FAULT,
             ProcessFault::WriteFault | ProcessFault::JournalFault => refusal::WRITE_FAULT,
+            ProcessFault::TooOld { .. } => refusal::LOGS,
         }
     }
 }

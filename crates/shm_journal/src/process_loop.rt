@@ -1,10 +1,10 @@
 //! A process: it takes what comes, makes what it recorded durable, and only then writes its answers.
-ghost use Rattle.std.specs.Prelude.{◌≡◌, ◌≢◌, ◌||◌, [], ◌∷◌, ℕ, List, Option, Some, is_some, take, IfErr, OnErr, OnOk};
+ghost use Rattle.std.specs.Prelude.{◌≡◌, ◌≢◌, ◌||◌, [], ◌∷◌, ℕ, List, None, Option, Some, is_some, take, IfErr, OnErr, OnOk};
 ghost use Rattle.std.specs.Io.KnownBytes.{Appends, IsAtEnd};
 ghost use Rattle.shm_journal.specs.Acts.{Append, Did, GoesOn, Served, Tell, around, keeping, publishing, telling};
-ghost use Rattle.shm_journal.specs.Publishing.{FailsToPublish};
+ghost use Rattle.shm_journal.specs.Publishing.{FailsToPublish, FailsToTake};
 ghost use Rattle.shm_journal.specs.Warning.{Warns, WarnsOnce, warned_if};
-ghost use Rattle.shm_process.specs.Desk.{cleared, disagreement_in};
+ghost use Rattle.shm_process.specs.Desk.{cleared, disagreement_in, on_bytes};
 ghost use Rattle.shm_process.specs.DeskOf.{desk_of};
 
 use crate::journal_trait::{Failed, Journal};
@@ -20,6 +20,8 @@ const CHUNK: usize = 8192;
 /// Takes lines until the input ends. First, and after each read, it appends what the desk has recorded to the journal, makes that durable,
 /// and then writes the desk's output. It doesn't take a last line without its line feed. The desk then has its counts of lines.
 ///
+/// A line may tell of a step of the own site that it doesn't have. Then it ends: of the bytes that it read last it appends and writes nothing.
+///
 /// Where another site was begun with other numbers it warns once, on `errors`. A failure to write that is passed over.
 pub fn serve<A: Allocator + Copy, R: Read, W: Write, E: Write, J: Journal>(
     desk: &mut Desk<A>,
@@ -31,6 +33,7 @@ pub fn serve<A: Allocator + Copy, R: Read, W: Write, E: Write, J: Journal>(
     ensures end { OnOk result (IsAtEnd (R.remaining reader.new)) }
     ensures served { Served (desk_of desk.old) (around (R.remaining reader.old) (W.contents writer.old) (J.acts journal.old))
         (around (R.remaining reader.new) (W.contents writer.new) (J.acts journal.new)) result }
+    ensures sound { (desk_of desk.old).later ≡ None → OnOk result ((desk_of desk.new).later ≡ None) }
     ensures warned { WarnsOnce (E.contents errors.old) (E.contents errors.new) (desk_of desk.new) result }
 {
     let mut warned = warn(desk, false, errors);
@@ -46,9 +49,9 @@ pub fn serve<A: Allocator + Copy, R: Read, W: Write, E: Write, J: Journal>(
         if count == 0 {
             return Ok(());
         }
-        match desk.take(&chunk[..count]) {
+        match take_read(desk, &chunk[..count]) {
             Ok(()) => {}
-            Err(_) => return Err(ProcessFault::OutOfMemory),
+            Err(fault) => return Err(fault),
         }
         warned = warn(desk, warned, errors);
         match publish(desk, writer, journal) {
@@ -58,6 +61,22 @@ pub fn serve<A: Allocator + Copy, R: Read, W: Write, E: Write, J: Journal>(
     }
     // No run reads so often.
     Err(ProcessFault::ReadFault)
+}
+
+/// Takes these bytes, unless they tell of a step of the own site that it doesn't have.
+fn take_read<A: Allocator + Copy>(desk: &mut Desk<A>, bytes: &[u8]) -> Result<(), ProcessFault>
+    ensures taken { OnOk result (desk_of desk.new ≡ on_bytes (desk_of desk.old) bytes.now) }
+    ensures sound { OnOk result ((desk_of desk.new).later ≡ None) }
+    ensures fault { IfErr result (FailsToTake (desk_of desk.old) bytes.now) }
+{
+    match desk.take(bytes) {
+        Ok(()) => {}
+        Err(_) => return Err(ProcessFault::OutOfMemory),
+    }
+    match desk.later() {
+        Some(clock) => Err(ProcessFault::TooOld { clock }),
+        None => Ok(()),
+    }
 }
 
 /// Warns of another opening, if the desk has noted one, unless that was done. Whether it was done then.

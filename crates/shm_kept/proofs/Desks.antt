@@ -28,7 +28,7 @@ use Rattle.shm_wire.specs.declared.mapping_text.RevokeText.{RevokeText}
 use Rattle.shm_process.specs.Access.{is_open}
 use Rattle.shm_process.specs.Cause.{OfLine}
 use Rattle.shm_process.specs.Causes.{bare, brought_run, brought_runs, store_line, unmap_causes}
-use Rattle.shm_process.specs.Desk.{Desk, KeptLine, after_line, after_opened, after_read_line, all_met, answered, by_meeting, finished, given_up, grown, keep, left_sealed, made_and_told, map_reply, max_line_bytes, may_keep, met, met_read, noted, on_byte, on_bytes, passed, quietly, reminded, reminded_if, restarted, revoked, settled, step_entry, tag_in, taken, ticks, tried, tried_by, try_of, unmap_entry, untagged, with_other, with_step}
+use Rattle.shm_process.specs.Desk.{Desk, KeptLine, after_line, after_opened, after_read_line, all_met, answered, by_meeting, finished, given_up, grown, keep, later_met, left_sealed, made_and_told, map_reply, max_line_bytes, may_keep, met, met_read, noted, on_byte, on_bytes, passed, quietly, reminded, reminded_if, restarted, revoked, settled, step_entry, tag_in, taken, ticks, tried, tried_by, try_of, unmap_entry, untagged, with_other, with_step}
 use Rattle.shm_process.proofs.Tries.{meeting-tries, try-is_line}
 use Rattle.shm_process.specs.Hello.{first_other, read_hello}
 use Rattle.shm_process.specs.Mapped.{is_detained, keeps_beside, keeps_under, passing, verdict_for, wanted}
@@ -296,8 +296,11 @@ did-noted d g read = did-other d g (first_other d.opening d.other read)
 
 did-opened : (d : Desk) → GoodNode d.node → (inner : Result (List ℕ) Unsealed) → Keeps d (after_opened d inner)
 did-opened d g (Ok line) =
-    let now = noted d (read_hello line) in
-    did-then d now (after_read_line now line (read_line line)) (did-noted d g (read_hello line)) (λ h. did-read_line now h line (read_line line) refl)
+    let heard = noted d (read_hello line) in
+    let now = later_met heard (read_line line) in
+    did-then d heard (after_read_line now line (read_line line)) (did-noted d g (read_hello line))
+    (λ h. did-then heard now (after_read_line now line (read_line line)) (did-nothing heard now h refl refl refl)
+    (λ i. did-read_line now i line (read_line line) refl))
 did-opened d g (Err why) =
     did-then d (left_sealed d why) (settled most_steps (left_sealed d why)) (did-too-long d (left_sealed d why) g refl refl refl) (did-settled most_steps (left_sealed d why))
 

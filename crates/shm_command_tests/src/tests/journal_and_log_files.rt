@@ -21,7 +21,7 @@ const INVENTED: [&[u8]; 3] = [
     b"step 3 env 1 0 2 1 0 confirm 0 0 1\n",
 ];
 
-/// A block's entry has many steps, and is one line.
+/// A block's entry has many steps, and is one line. The site that lacks the step is named.
 #[test]
 fn a_cause_behind_a_block_is_told_with_its_line(rt: HostRuntime) -> Result<(), Fail> {
     let first = marked(rt.alloc(), &INVENTED)?;
@@ -41,14 +41,17 @@ fn a_cause_behind_a_block_is_told_with_its_line(rt: HostRuntime) -> Result<(), F
         ],
         &mut reader,
     );
-    let no = b"shmdbg: audit no: unsent 0 2: block.journal: line 3\n".as_slice();
+    let no = b"shmdbg: audit no: unsent 0 2: block.journal: line 3\n\
+        shmdbg: site 1 lacks the step at clock 2: its journal may be an older copy\n"
+        .as_slice();
     expect(&rt, &ran, 4, b"".as_slice(), no);
     fs::remove_file(&rt, "block.journal")?;
     fs::remove_file(&rt, "other.journal")?;
     Ok(())
 }
 
-/// Each journal is read, in its turn, and stays as it was. A cause is told with the file and the line in which it stands.
+/// Each journal is read, in its turn, and stays as it was. A cause is told with the file and the line in which it stands. Site 0 lacks no step: it
+/// has one of that clock, which sent nothing.
 #[test]
 fn two_journals_are_audited(rt: HostRuntime) -> Result<(), Fail> {
     let first = marked(rt.alloc(), &FIRST)?;

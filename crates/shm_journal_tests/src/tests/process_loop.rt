@@ -159,6 +159,33 @@ fn each_call_fails_in_turn(rt: HostRuntime) -> Result<(), Fail> {
     Ok(())
 }
 
+/// Behind the first read comes an envelope of the site's own second step, which it doesn't have, and then an ask.
+const LACKED: &[u8] = b"ask 0 a store 0 5 7\nenv 0 0 2 1 0 ask 0 0 1 read\nask 0 b load 0 5\n";
+
+/// What came before is kept and told, and nothing after it.
+#[test]
+fn a_site_that_lacks_a_step_ends(rt: HostRuntime) -> Result<(), Fail> {
+    let alloc = rt.alloc();
+    let mut journal = Rehearsal {
+        done: Vec::new(alloc),
+        at_once: 20,
+        calls: 100,
+    };
+    let mut lines = LACKED;
+    let mut told = Vec::new(alloc);
+    let mut errors = Vec::new(alloc);
+    let mut desk = new_desk(alloc)?;
+    let served = serve(&mut desk, &mut lines, &mut told, &mut errors, &mut journal);
+    drop(desk);
+    match served {
+        Ok(()) => return Err(Fail::new("a step is lacking")),
+        Err(found) => assert!(rt; found == ProcessFault::TooOld { clock: 2 }),
+    }
+    let done = b"+step 1 ask 0 a store 0 5 7\n!>tell 0 a stored\n".as_slice();
+    assert_eq!(rt; journal.done.as_slice(), done);
+    Ok(())
+}
+
 const OTHERS: &[u8] =
     b"env 1 0 0 0 0 hello 2 1\nenv 2 0 0 0 0 hello 3 1\nenv 1 0 0 0 0 hello 2 1\n";
 
