@@ -27,7 +27,7 @@ use Rattle.shm_journal.specs.Found.{Bad, Lines, Sound, bytes_of_lines, max_journ
 use Rattle.shm_journal.specs.Lines.{Header, IsHeader, header_line}
 use Rattle.shm_journal.specs.LinesOf.{Unended}
 use Rattle.shm_journal.specs.declared.process_error.ProcessFault.{ProcessFault}
-use Rattle.shm_journal.specs.declared.process_error.ProcessFault.TheVariants.{JournalFault, OutOfMemory, ReadFault, WriteFault}
+use Rattle.shm_journal.specs.declared.process_error.ProcessFault.TheVariants.{JournalFault, OutOfMemory, ReadFault, TooOld, WriteFault}
 use Rattle.shm_journal.specs.Lives.{FindsLives, IsJournal, IsLife, IsTaken, LeavesFront, LeavesLife, LeavesNewSound, LeavesSound, after_lives, header_text}
 
 -- ---- at each moment
@@ -119,6 +119,9 @@ unfolding AtAll
 at-acts R desk disk all (Ok end) acts (reads, same) = subst (AtAll (Leaves R) disk) (sym same) (all reads)
 at-acts R desk disk all (Err ReadFault) acts (reads, same) = subst (AtAll (Leaves R) disk) (sym same) (all reads)
 at-acts R desk disk all (Err OutOfMemory) acts (reads, bytes, same) =
+    let last = at-last (Leaves R) disk (run desk reads) (all reads) in
+    subst (AtAll (Leaves R) disk) (sym same) (at-both (Leaves R) (run desk reads) (Read bytes ∷ []) disk (all reads) (last, last))
+at-acts R desk disk all (Err (TooOld clock)) acts (reads, bytes, same, later) =
     let last = at-last (Leaves R) disk (run desk reads) (all reads) in
     subst (AtAll (Leaves R) disk) (sym same) (at-both (Leaves R) (run desk reads) (Read bytes ∷ []) disk (all reads) (last, last))
 at-acts R desk disk all (Err JournalFault) acts (reads, before, after, text, n, is, same) =
