@@ -25,7 +25,7 @@ use Rattle.shm_process.specs.Waiting.{after, after_heard, after_read, after_rest
 use Rattle.shm_process.specs.WaitingAsks.{WaitingAsk, ask_in, next_access}
 use Rattle.shm_process.proofs.NumberedRows.{Good}
 use Rattle.shm_process.proofs.NumberedSteps.{InputWithin, good-step, opened-within}
-use Rattle.shm_process.proofs.Tests.{unless-some}
+use Rattle.shm_process.proofs.Tests.{some_is, unless-some}
 
 -- what a line hands over: no clock out of reach, and no number above the clock
 record Heeds (node : Node) (x : Heard) : Type 0 where
@@ -37,9 +37,6 @@ record Heeds (node : Node) (x : Heard) : Type 0 where
 neither : (a b : Bool) → (a || b) ≡ false → (a ≡ false) × (b ≡ false)
 neither true b h = absurd (cc)
 neither false b h = (refl, h)
-
-some-is : {A : Type 0} (a b : A) → Some a ≡ Some b → a ≡ b
-some-is a b h = cc
 
 near-is : (clock source : ℕ) → nat_lt (clock + most_ahead) source ≡ false → source ≤ clock + most_ahead
 near-is clock source h = grind (arith, nat_tests)
@@ -58,7 +55,7 @@ envelope-heeds node sent x e =
     let own = neither (foreign node.sites node.me sent.envelope) (is_late node sent.source.at || is_beyond node sent) is.0 in
     let early = neither (is_late node sent.source.at) (is_beyond node sent) own.1 in
     let both = neither (is_ahead node sent.source.at) (not (numbers_fit sent.source.at sent.envelope.message)) early.1 in
-    subst (Heeds node) (some-is made x is.1)
+    subst (Heeds node) (some_is made x is.1)
     (record {
       near = near-is node.clock sent.source.at both.0;
       number = number-is (number_named sent.envelope.message) sent.source.at both.1;
@@ -85,7 +82,7 @@ ask-heeds node tag waits mapped x o false late number e = absurd (cc)
 ask-heeds node tag waits mapped x o true true number e = absurd (cc)
 ask-heeds node tag waits mapped x None true false number e = absurd (cc)
 ask-heeds node tag waits mapped x (Some input) true false number e =
-    subst (Heeds node) (some-is (asked_under tag waits mapped input) x e) (record { near = zero-near node.clock; number = number })
+    subst (Heeds node) (some_is (asked_under tag waits mapped input) x e) (record { near = zero-near node.clock; number = number })
 
 unmap-number : (empty : Bool) (at index : ℕ) → IfSome (cond empty (Some (first_load at index)) None) (InputWithin 0)
 unmap-number true at index = tt
@@ -219,10 +216,10 @@ new_within sites me pages = opened-within 0 sites pages me
 again-heeds : (node : Node) (cause : Cause) (x : Heard) → heard_again node cause ≡ Some x → Heeds node x
 again-heeds node (OfLine line) x e = line-heeds node line x e
 again-heeds node OfRestart x e =
-    subst (Heeds node) (some-is restarting x (unless-some (is_late node 0) (Some restarting) x e).1) (restart-heeds node)
+    subst (Heeds node) (some_is restarting x (unless-some (is_late node 0) (Some restarting) x e).1) (restart-heeds node)
 
 made-within : (node : Node) (x : Heard) (next : Node) (same : Bool) → Heeds node x → Within node → cond same (Some (stepped node x)) None ≡ Some next → Within next
-made-within node x next true is within e = subst Within (some-is (stepped node x) next e) (heard-good node x is within).site
+made-within node x next true is within e = subst Within (some_is (stepped node x) next e) (heard-good node x is within).site
 made-within node x next false is within e = absurd (cc)
 
 replay-within : (node : Node) (clock : ℕ) (o : Option Heard) (next : Node) → ((x : Heard) → o ≡ Some x → Heeds node x) → Within node
@@ -243,7 +240,7 @@ line-sends : (node : Node) (line : stream.Line) (o : Option Heard) (said : Said)
     → option_map (λ h. says node (OfLine line) h (joins node h)) o ≡ Some said → SentFits said
 line-sends node line None said e within made = absurd (cc)
 line-sends node line (Some x) said e within made =
-    subst SentFits (some-is (says node (OfLine line) x (joins node x)) said made) (heard-good node x (line-heeds node line x e) within).sent
+    subst SentFits (some_is (says node (OfLine line) x (joins node x)) said made) (heard-good node x (line-heeds node line x e) within).sent
 
 read-sends : (node : Node) (read : Option stream.Line) (said : Said) → Within node → said_read node read ≡ Some said → SentFits said
 read-sends node None said within made = absurd (cc)
@@ -252,13 +249,13 @@ read-sends node (Some line) said within made = line-sends node line (heard node 
 again-sends : (node : Node) (p : Option ℕ) (said : Said) → Within node → option_map (says_at node) p ≡ Some said → SentFits said
 again-sends node None said within made = absurd (cc)
 again-sends node (Some at) said within made =
-    subst SentFits (some-is (says_at node at) said made)
+    subst SentFits (some_is (says_at node at) said made)
     (heard-good node (next_heard (ask_in node.waiting at)) (next-heeds node (ask_in node.waiting at)) within).sent
 
 restart-sends : (node : Node) (late : Bool) (said : Said) → Within node → cond late None (Some (said_restart node)) ≡ Some said → SentFits said
 restart-sends node true said within made = absurd (cc)
 restart-sends node false said within made =
-    subst SentFits (some-is (said_restart node) said made) (heard-good node restarting (restart-heeds node) within).sent
+    subst SentFits (some_is (said_restart node) said made) (heard-good node restarting (restart-heeds node) within).sent
 
 pub sent_fits : (node : Node) (event : Event) (said : Said) → said_at node event ≡ Some said → NumbersWithin node.clock node.site
     → All (λ e. numbers_fit said.clock e.message ≡ true) said.sent

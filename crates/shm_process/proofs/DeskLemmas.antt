@@ -21,11 +21,11 @@ use Rattle.shm_process.specs.Counts.{with_said, with_text}
 use Rattle.shm_process.specs.Desk.{Desk, KeptLine, after_line, after_opened, after_read_line, all_made, all_met, answered, brought, by_meeting, cleared, closed, closed_by, counts_after, finished, given_up, given_up_by, grown, grown_by, in_row, keep, later_met, left_sealed, line_text, made_again, made_and_told, made_in_row, map_reply, max_line_bytes, may_keep, met, met_again, met_read, noted, on_byte, on_bytes, passed, quietly, reminded, reminded_if, reminder, revoke_line, revoked, settled, step_entry, step_text, stored_run, tag_in, taken, tell, tell_caller, ticks, told_quietly, told_to, tried, tried_by, try_of, unmap_entry, unmap_reply, unrecorded, untagged, with_again, with_other, with_record, with_step, with_told}
 use Rattle.shm_process.specs.Hello.{first_other, hello_line, hello_to, read_hello}
 use Rattle.shm_process.specs.Meetings.{meeting}
-use Rattle.shm_process.specs.Node.{Node, Said}
+use Rattle.shm_process.specs.Node.{Said}
 use Rattle.shm_process.specs.Recorded.{entries_text}
 use Rattle.shm_process.specs.Rows.{Row, joined, row_entry, row_in}
 use Rattle.shm_process.specs.Telling.{shown_line}
-use Rattle.shm_process.specs.Waiting.{after, after_again, after_read, again_at, most_steps, passed_over, ready, said, said_again, said_read, says_at}
+use Rattle.shm_process.specs.Waiting.{after, after_again, after_read, most_steps, passed_over, said, said_again, said_read}
 use Rattle.shm_process.specs.WaitingAsks.{next_access}
 use Rattle.shm_process.specs.declared.hello_line.Hello.{Hello}
 use Rattle.shm_process.specs.declared.line_meeting.Meeting.{Meeting}
@@ -33,32 +33,6 @@ use Rattle.shm_process.specs.declared.line_meeting.Meeting.TheVariants.{Answered
 use Rattle.shm_process.specs.declared.site_opening.Disagreement.{Disagreement}
 
 -- ---- loops
-
--- a desk after one round
-abbrev pub after_round : Desk → Desk
-after_round desk = cond (is_some (said_again desk.node)) (made_again desk) desk
-
--- of `n` rounds one is made
-pub round_made : (n m : ℕ) (d next whole : Desk) → n ≡ suc m → is_some (said_again d.node) ≡ true → next ≡ after_round d → all_made n d ≡ whole → all_made m next ≡ whole
-unfolding all_made
-round_made n m d next whole more made step before =
-    ap (all_made m) (step ∙ ap (λ b. cond b (made_again d) d) made)
-    ∙ sym (ap (λ k. all_made k d) more ∙ ap (λ b. cond b (all_made m (made_again d)) d) made) ∙ before
-
--- no ask can be made
-pub none_made : (n m : ℕ) (d next whole : Desk) → n ≡ suc m → is_some (said_again d.node) ≡ false → next ≡ after_round d → all_made n d ≡ whole → next ≡ whole
-unfolding all_made
-none_made n m d next whole more none step before =
-    step ∙ ap (λ b. cond b (made_again d) d) none
-    ∙ sym (ap (λ k. all_made k d) more ∙ ap (λ b. cond b (all_made m (made_again d)) d) none) ∙ before
-
--- where no ask can be made, the node stays as it is
-none-ready : (node : Node) (p : Option ℕ) → option_map (says_at node) p ≡ None → option_map_or (again_at node) p node ≡ node
-none-ready node None e = refl
-none-ready node (Some at) e = absurd (cc)
-
-pub none_again : (node : Node) → said_again node ≡ None → after_again node ≡ node
-none_again node e = none-ready node (ready node) e
 
 -- all rounds are made
 pub rounds_over : (n : ℕ) (d whole : Desk) → n ≡ 0 → all_made n d ≡ whole → d ≡ whole

@@ -1,14 +1,14 @@
 -- Bytes of a page that an unmap brings, stored at once, are so many steps.
-use Rattle.std.proofs.Common.{◌≡◌, ℕ, zero, suc, ◌+◌, ◌≤◌, ◌==◌, Bool, true, false, List, [], ◌∷◌, ◌++◌, Option, Some, None, cond, length, max, min, refl, ap, ap₂, sym, subst, ◌∙◌, append-nil, arith}
+use Rattle.std.proofs.Common.{◌≡◌, ℕ, suc, ◌+◌, ◌≤◌, ◌==◌, true, List, [], ◌∷◌, ◌++◌, Some, None, cond, length, refl, ap, ap₂, sym, ◌∙◌, append-nil, arith}
 use Rattle.std.specs.Prelude.{option_map}
-use Rattle.std.proofs.Math.Nat.{max-zero, min-eq_left}
+use Rattle.std.proofs.Math.Nat.{max-zero}
 use Rattle.std.proofs.lemmas.Bool.Decides.{nat_tests}
 use Rattle.shm_model.specs.declared.answer.Answer.TheVariants.{Stored}
 use Rattle.shm_model.specs.declared.asked_access.Asked.TheVariants.{Store}
 use Rattle.shm_model.specs.Access.{Place, store}
 use Rattle.shm_model.specs.Basics.{greatest}
 use Rattle.shm_model.specs.Receipt.{access_of}
-use Rattle.shm_model.specs.Site.{Site, Step, still}
+use Rattle.shm_model.specs.Site.{Step, still}
 use Rattle.shm_wire.specs.Line as stream
 use Rattle.shm_wire.specs.Unmaps.{UnmapAsk}
 use Rattle.shm_process.specs.Cause.{OfLine}
@@ -29,9 +29,6 @@ same-number one other e = grind (arith, nat_tests)
 -- counting on, one by one and at once
 pub counted_then : (lines more : ℕ) → lines ≤ greatest → counted_on (counted lines) more ≡ counted_on lines (suc more)
 counted_then lines more few = grind (arith, nat_tests)
-
-pub counted_none : (lines : ℕ) → lines ≤ greatest → counted_on lines 0 ≡ lines
-counted_none lines few = let same : lines + 0 ≡ lines = omega arith in ap (λ n. min n greatest) same ∙ min-eq_left few
 
 pub counted_few : (lines : ℕ) → lines ≤ greatest → counted lines ≤ greatest
 counted_few lines few = grind (arith, nat_tests)
@@ -133,7 +130,7 @@ module _ (d : Desk) (ask : UnmapAsk) (offset byte : ℕ) (more : List ℕ) (plac
   one_alone lines =
       ap₂ (λ t n. record node { site = t; clock = node.clock + 1; steps = node.steps + 1; taken = n })
       (nothing-left ∙ sym (stored_on node.sites node.me ask.at offset byte node.site place (length more) b.stores []))
-      (sym (counted_none (counted node.taken) (counted_few node.taken lines)) ∙ counted_then node.taken 0 lines)
+      (sym (none_sent (counted node.taken) (counted_few node.taken lines)) ∙ counted_then node.taken 0 lines)
 
 -- so many bytes
 pub brought_further : (more : List ℕ) (byte : ℕ) (d : Desk) (ask : UnmapAsk) (offset : ℕ) (place : Place)
@@ -154,7 +151,7 @@ none-brought node at offset lines =
     let clock : node.clock ≡ node.clock + 0 = omega arith in
     let steps : node.steps ≡ node.steps + 0 = omega arith in
     ap₂ (λ c s. record node { clock = c; steps = s }) clock steps
-    ∙ ap (λ n. record node { clock = node.clock + 0; steps = node.steps + 0; taken = n }) (sym (counted_none node.taken lines))
+    ∙ ap (λ n. record node { clock = node.clock + 0; steps = node.steps + 0; taken = n }) (sym (none_sent node.taken lines))
 
 -- whatever an unmap brings
 brought-all : (bytes : List ℕ) (d : Desk) (ask : UnmapAsk) (offset : ℕ) → MayBring d.node ask.site ask.at offset (length bytes)

@@ -7,9 +7,9 @@ use Rattle.shm_model.specs.Basics.{greatest}
 use Rattle.shm_process.specs.Desk.{Desk, all_made}
 use Rattle.shm_process.specs.Further.{GoesOn, LoadsGoOn, MayLoad, MayStore, StoresGoOn, after_loads, after_stores}
 use Rattle.shm_process.specs.Node.{next_clock}
-use Rattle.shm_process.specs.Rows.{Loads, Row, Stores, size, with_accesses}
+use Rattle.shm_process.specs.Rows.{Loads, Row, Stores, with_accesses}
 use Rattle.shm_process.specs.Waiting.{ready}
-use Rattle.shm_process.specs.WaitingAsks.{Reads, WaitingAsk, Writes, ask_in, next_access, tag_of}
+use Rattle.shm_process.specs.WaitingAsks.{ask_in, next_access, tag_of}
 use Rattle.shm_process.proofs.FurtherLoads.{loads_further}
 use Rattle.shm_process.proofs.FurtherStores.{stores_further}
 

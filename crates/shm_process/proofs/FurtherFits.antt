@@ -1,31 +1,26 @@
 -- What may be loaded or stored at once leaves some of its block.
-use Rattle.std.proofs.Common.{◌≡◌, ℕ, ◌+◌, ◌<◌, ◌≤◌, Bool, true, false, not, List, Option, Some, None, Ok, length, take, drop, ap, sym, subst, ◌∙◌, arith}
+use Rattle.std.proofs.Common.{◌≡◌, ℕ, ◌+◌, ◌<◌, ◌≤◌, Bool, true, false, not, List, Option, Some, length, take, drop, ap, sym, subst, ◌∙◌, arith}
 use Rattle.std.specs.Prelude.{is_some}
 use Rattle.shm_place.specs.declared.page_id.PageId.{PageId}
 use Rattle.shm_place.specs.Limits.{page_bytes}
 use Rattle.shm_place.specs.Offset.{within_of}
-use Rattle.shm_model.specs.Access.{Place, load, right, store}
+use Rattle.shm_model.specs.Access.{load, right, store}
 use Rattle.shm_model.specs.Basics.{greatest}
 use Rattle.shm_model.specs.Entry.{bytes}
 use Rattle.shm_parts.specs.Reached.{page_reached}
 use Rattle.shm_site.specs.AtOnce.{byte_given, is_stored}
 use Rattle.shm_process.specs.Blocks.{Block}
-use Rattle.shm_process.specs.Further.{MayBring, MayLoad, MayStore, leaves_loads, leaves_stores}
+use Rattle.shm_process.specs.Further.{MayBring, MayLoad, MayStore, leaves_loads}
 use Rattle.shm_process.specs.Node.{Node}
 use Rattle.shm_process.specs.WaitingAsks.{Reads, Writes, ask_in}
 use Rattle.shm_process.specs.Writes.{Write}
-use Rattle.shm_process.proofs.FurtherLoads.{less_is}
 use Rattle.shm_process.proofs.FurtherPlaces.{load_reads, store_writes, within_is}
+use Rattle.shm_process.proofs.Tests.{less_is}
 
 pub loads_leave : (node : Node) (at : ℕ) (more : List ℕ) → MayLoad node at more → leaves_loads (ask_in node.waiting at) (length more) ≡ true
 loads_leave node at more may =
     let block = may.0 in
     ap (λ ask. leaves_loads ask (length more)) may.2.is ∙ less_is (length block.bytes + length more) block.count may.2.left
-
-pub stores_leave : (node : Node) (at : ℕ) (more : List ℕ) → MayStore node at more → leaves_stores (ask_in node.waiting at) (length more) ≡ true
-stores_leave node at more may =
-    let write = may.0 in
-    ap (λ ask. leaves_stores ask (length more)) may.2.is ∙ less_is (write.stored + length more) (length write.bytes) may.2.left
 
 some-page : (a b : PageId) → Some a ≡ Some b → a ≡ b
 some-page a b e = cc

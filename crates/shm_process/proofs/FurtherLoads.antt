@@ -1,13 +1,13 @@
 -- Further loads of a block, made at once, are so many steps.
-use Rattle.std.proofs.Common.{◌≡◌, ℕ, zero, suc, ◌+◌, ◌<◌, ◌≤◌, ◌==◌, ◌||◌, not, Bool, true, false, List, [], ◌∷◌, ◌++◌, Option, Some, None, Ok, length, max, set, take, drop, slice_index, refl, ap, ap₂, sym, subst, ◌∙◌, arith}
-use Rattle.std.specs.Prelude.{is_some, nat_lt, option_and_then}
+use Rattle.std.proofs.Common.{◌≡◌, ℕ, suc, ◌+◌, ◌<◌, ◌≤◌, ◌==◌, ◌||◌, not, Bool, true, false, List, [], ◌∷◌, ◌++◌, Some, Ok, length, max, set, take, drop, slice_index, refl, ap, ap₂, sym, subst, ◌∙◌, arith}
+use Rattle.std.specs.Prelude.{is_some, option_and_then}
 use Rattle.std.proofs.Math.Nat.{max-zero}
 use Rattle.std.proofs.lemmas.Bool.Decides.{nat_tests}
 use Rattle.std.proofs.lemmas.List.{append_assoc, get_or-set_same, length-append}
 use Rattle.shm_model.specs.declared.answer.Answer.TheVariants.{Byte}
 use Rattle.shm_model.specs.declared.asked_access.Asked.{Asked}
 use Rattle.shm_model.specs.declared.asked_access.Asked.TheVariants.{Load}
-use Rattle.shm_model.specs.Access.{Place, load, right}
+use Rattle.shm_model.specs.Access.{Place, right}
 use Rattle.shm_model.specs.Basics.{greatest}
 use Rattle.shm_model.specs.Entry.{bytes}
 use Rattle.shm_model.specs.Receipt.{access_of}
@@ -18,19 +18,16 @@ use Rattle.shm_process.specs.Blocks.{Block}
 use Rattle.shm_process.specs.Desk.{Desk, all_made}
 use Rattle.shm_process.specs.Further.{GoesOn, LoadsOf, after_loads, with_loaded}
 use Rattle.shm_process.specs.Mapped.{mapped_at, passed_by, passing}
-use Rattle.shm_process.specs.Node.{Node, answer_to, is_late, next_clock}
+use Rattle.shm_process.specs.Node.{Node, answer_to, next_clock}
 use Rattle.shm_process.specs.Rows.{Loads, Row, joined, row_of, with_accesses}
 use Rattle.shm_process.specs.Waiting.{can_be_made, is_held, next_heard, ready}
-use Rattle.shm_process.specs.WaitingAsks.{Access, Reads, WaitingAsk, after_answer, ask_in, goes_on, next_access, tag_of}
-use Rattle.shm_process.proofs.Enough.{Later}
+use Rattle.shm_process.specs.WaitingAsks.{Access, Reads, after_answer, ask_in, goes_on, next_access, tag_of}
 use Rattle.shm_process.proofs.FurtherPlaces.{load_given, next_place, part_first, place_after}
 use Rattle.shm_process.proofs.FurtherRows.{goes_further, joins_load, one_load_more}
 use Rattle.shm_process.proofs.FurtherSearch.{First, first_is, set_twice, stays_first}
 use Rattle.shm_process.proofs.FurtherStep.{all_further}
 use Rattle.shm_process.proofs.Made.{IsMade}
-
-pub less_is : (n count : ℕ) → n < count → nat_lt n count ≡ true
-less_is n count h = grind (arith, nat_tests)
+use Rattle.shm_process.proofs.Tests.{less_is}
 
 pub early_is : (clock : ℕ) → clock < greatest → (max clock 0 == greatest) ≡ false
 early_is clock h = let same = max-zero clock in grind (arith, nat_tests, same)

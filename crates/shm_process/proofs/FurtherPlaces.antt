@@ -1,5 +1,5 @@
 -- The places of a page that accesses go to one after another, and what they are answered.
-use Rattle.std.proofs.Common.{◌≡◌, ℕ, ◌==◌, zero, suc, ◌+◌, ◌*◌, ◌<◌, ◌≤◌, Bool, true, false, ◌&&◌, List, [], ◌∷◌, Option, Some, None, Result, Ok, Err, cond, length, take, drop, nat_lt, slice_index, refl, ap, sym, subst, ◌∙◌, arith}
+use Rattle.std.proofs.Common.{◌≡◌, ℕ, ◌==◌, zero, suc, ◌+◌, ◌<◌, Bool, true, false, ◌&&◌, List, [], ◌∷◌, Option, Some, None, Result, Ok, Err, cond, length, take, drop, nat_lt, slice_index, refl, ap, sym, subst, ◌∙◌, arith}
 use Rattle.std.specs.Prelude.{is_some}
 use Rattle.std.proofs.lemmas.Bool.Decides.{nat_tests}
 use Rattle.shm_place.specs.declared.page_id.PageId.{PageId}
@@ -8,12 +8,12 @@ use Rattle.shm_place.specs.Offset.{index_of, rounded, within_of}
 use Rattle.shm_model.specs.declared.answer.Answer.TheVariants.{Byte, Refused, Stored, Waiting}
 use Rattle.shm_model.specs.declared.request_kind.Kind.{Kind}
 use Rattle.shm_model.specs.declared.request_kind.Kind.TheVariants.{Read, Write}
-use Rattle.shm_model.specs.Access.{Place, ask_for, asked, is_pending, load, load_at, load_if, place_in, right, right_through, store, store_at, store_if, stored_entry}
+use Rattle.shm_model.specs.Access.{Place, ask_for, asked, is_pending, load, load_if, place_in, right, right_through, store, store_if, stored_entry}
 use Rattle.shm_model.specs.Basics.{at_page, greatest}
 use Rattle.shm_model.specs.Calls.{Attachment}
 use Rattle.shm_model.specs.Entry.{bytes, readable, writable}
-use Rattle.shm_model.specs.Refusal.{no_attachment, numbers_used_up, out_of_segment, read_only}
-use Rattle.shm_model.specs.Site.{Site, Step, still}
+use Rattle.shm_model.specs.Refusal.{numbers_used_up, out_of_segment, read_only}
+use Rattle.shm_model.specs.Site.{Site, still}
 use Rattle.shm_site.specs.AtOnce.{byte_given, is_stored}
 
 -- ---- a list from a place on

@@ -1,10 +1,10 @@
 -- Rounds of steps, of which some are made at once.
-use Rattle.std.proofs.Common.{◌≡◌, ℕ, zero, suc, ◌+◌, ◌-◌, ◌<◌, ◌≤◌, Option, Some, None, true, cond, refl, ap, ap₂, sym, ◌∙◌, arith}
+use Rattle.std.proofs.Common.{◌≡◌, ℕ, zero, suc, ◌+◌, ◌-◌, ◌≤◌, Some, None, cond, refl, ap, ap₂, sym, ◌∙◌, arith}
 use Rattle.std.specs.Option.{option_map_or}
 use Rattle.std.specs.Prelude.{is_some, option_map}
 use Rattle.shm_process.specs.Desk.{Desk, all_made, made_again, with_again}
 use Rattle.shm_process.specs.Node.{Node, Said}
-use Rattle.shm_process.specs.Waiting.{again_at, after_again, ready, said_again, says_at}
+use Rattle.shm_process.specs.Waiting.{again_at, ready, said_again, says_at}
 
 module _ (d : Desk) (at : ℕ) (first : ready d.node ≡ Some at) where
   said-is : said_again d.node ≡ Some (says_at d.node at)

@@ -1,5 +1,5 @@
 -- The ask that goes on stays the first that can be made.
-use Rattle.std.proofs.Common.{◌≡◌, ℕ, zero, suc, ◌+◌, ◌<◌, Bool, true, false, ◌||◌, not, List, [], ◌∷◌, Option, Some, None, cond, length, set, get_or, refl, ap, sym, subst, ◌∙◌, arith}
+use Rattle.std.proofs.Common.{◌≡◌, ℕ, zero, suc, ◌+◌, ◌<◌, Bool, true, false, ◌||◌, not, List, [], ◌∷◌, Some, None, cond, length, set, get_or, refl, ap, sym, subst, ◌∙◌, arith}
 use Rattle.std.specs.List.{position_from}
 use Rattle.std.specs.Prelude.{is_some}
 use Rattle.shm_model.specs.declared.asked_access.Asked.TheVariants.{Load}
@@ -8,7 +8,7 @@ use Rattle.shm_process.specs.Node.{Node, answer_to, is_late}
 use Rattle.shm_process.specs.Waiting.{can_be_made, is_held, next_heard, ready}
 use Rattle.shm_process.specs.WaitingAsks.{Access, WaitingAsk, ask_in, next_access}
 use Rattle.shm_process.proofs.Enough.{Later, access-of}
-use Rattle.shm_process.proofs.Tests.{unless-some}
+use Rattle.shm_process.proofs.Tests.{some_is, unless-some}
 use Rattle.shm_process.proofs.Totals.{Found, found_at}
 
 -- ---- lists
@@ -18,15 +18,12 @@ set_twice [] i x y = refl
 set_twice (z ∷ zs) zero x y = refl
 set_twice (z ∷ zs) (suc i) x y = ap (λ l. z ∷ l) (set_twice zs i x y)
 
-some-is : (a b : ℕ) → Some a ≡ Some b → a ≡ b
-some-is a b e = cc
-
 module _ {X : Type 0} (p q : X → Bool) (less : (x : X) → p x ≡ false → q x ≡ false) where
   search-later : (x : X) (xs : List X) (from i : ℕ) (y : X) (here : Bool) → p x ≡ here
       → (position_from p (from + 1) xs ≡ Some (from + suc i) → position_from q (from + 1) (set xs i y) ≡ Some (from + suc i))
       → cond here (Some from) (position_from p (from + 1) xs) ≡ Some (from + suc i)
       → cond (q x) (Some from) (position_from q (from + 1) (set xs i y)) ≡ Some (from + suc i)
-  search-later x xs from i y true is later e = absurd (let same = some-is from (from + suc i) e in omega (arith, same))
+  search-later x xs from i y true is later e = absurd (let same = some_is from (from + suc i) e in omega (arith, same))
   search-later x xs from i y false is later e =
       ap (λ b. cond b (Some from) (position_from q (from + 1) (set xs i y))) (less x is) ∙ later e
 

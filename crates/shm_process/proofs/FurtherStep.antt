@@ -1,5 +1,5 @@
 -- A step of a block that goes on: it joins the row, and nobody is told of it.
-use Rattle.std.proofs.Common.{◌≡◌, ℕ, suc, ◌+◌, ◌≤◌, true, List, [], ◌∷◌, ◌++◌, Option, Some, None, cond, min, set, refl, ap, ap₂, sym, ◌∙◌, append-nil, arith}
+use Rattle.std.proofs.Common.{◌≡◌, ℕ, suc, ◌+◌, ◌≤◌, true, [], ◌++◌, Some, None, cond, min, set, refl, ap, ap₂, sym, ◌∙◌, append-nil, arith}
 use Rattle.std.specs.List.{remove}
 use Rattle.std.specs.Option.{option_map_or}
 use Rattle.std.specs.Prelude.{is_some, option_and_then, option_map}
@@ -12,10 +12,10 @@ use Rattle.shm_model.specs.Site.{Site}
 use Rattle.shm_wire.specs.Line as stream
 use Rattle.shm_process.specs.Access.{access_ask}
 use Rattle.shm_process.specs.Cause.{OfLine}
-use Rattle.shm_process.specs.Counts.{Counts, counted_on, with_said}
+use Rattle.shm_process.specs.Counts.{counted_on, with_said}
 use Rattle.shm_process.specs.Desk.{Desk, all_made, grown_by, made_again, step_text, with_again, with_told}
 use Rattle.shm_process.specs.Node.{Node, Said, caller_after, next_clock, tag_told}
-use Rattle.shm_process.specs.Rows.{Row, joined, row_in, row_of}
+use Rattle.shm_process.specs.Rows.{Row, joined, row_of}
 use Rattle.shm_process.specs.Waiting.{after_again, again_at, ready, said_again, says_at}
 use Rattle.shm_process.specs.WaitingAsks.{WaitingAsk, after_answer, all_bytes, ask_in, goes_on, tag_of}
 use Rattle.shm_process.proofs.Made.{IsMade, node_made, said_made}

@@ -1,10 +1,8 @@
 -- Further stores of a block, made at once, are so many steps.
-use Rattle.std.proofs.Common.{◌≡◌, ℕ, zero, suc, ◌+◌, ◌<◌, ◌≤◌, ◌==◌, ◌||◌, not, Bool, true, false, List, [], ◌∷◌, ◌++◌, Option, Some, None, Ok, cond, length, max, set, take, drop, slice_index, refl, ap, ap₂, sym, subst, ◌∙◌, arith}
+use Rattle.std.proofs.Common.{◌≡◌, ℕ, suc, ◌+◌, ◌≤◌, true, false, List, [], ◌∷◌, ◌++◌, Some, Ok, length, set, take, drop, slice_index, refl, ap, ap₂, sym, subst, ◌∙◌, arith}
 use Rattle.std.specs.Prelude.{is_some, option_and_then}
 use Rattle.std.proofs.Math.Nat.{max-zero}
-use Rattle.std.proofs.lemmas.Bool.Decides.{nat_tests}
 use Rattle.std.proofs.lemmas.List.{append_assoc, get_or-set_same}
-use Rattle.shm_place.specs.declared.page_id.PageId.{PageId}
 use Rattle.shm_model.specs.declared.answer.Answer.TheVariants.{Stored}
 use Rattle.shm_model.specs.declared.asked_access.Asked.{Asked}
 use Rattle.shm_model.specs.declared.asked_access.Asked.TheVariants.{Load, Store}
@@ -20,19 +18,20 @@ use Rattle.shm_process.specs.Access.{is_access, is_waiting}
 use Rattle.shm_process.specs.Desk.{Desk, all_made}
 use Rattle.shm_process.specs.Further.{GoesOn, StoresAt, StoresOf, after_stores, site_stored, stored_from, with_stored}
 use Rattle.shm_process.specs.Mapped.{mapped_at, passed_by, passing}
-use Rattle.shm_process.specs.Node.{Heard, Node, answer_to, is_late, next_clock}
+use Rattle.shm_process.specs.Node.{Node, answer_to, next_clock}
 use Rattle.shm_process.specs.Rows.{Row, Stores, joined, row_of, with_accesses}
 use Rattle.shm_process.specs.Waiting.{can_be_made, is_held, next_heard, ready}
-use Rattle.shm_process.specs.WaitingAsks.{Access, WaitingAsk, Writes, after_answer, ask_in, goes_on, next_access, tag_of}
+use Rattle.shm_process.specs.WaitingAsks.{Access, Writes, after_answer, ask_in, goes_on, next_access, tag_of}
 use Rattle.shm_process.specs.Writes.{Write}
 use Rattle.shm_process.proofs.Enough.{Later}
-use Rattle.shm_process.proofs.FurtherLoads.{early_is, less_is, neither, not_either}
+use Rattle.shm_process.proofs.FurtherLoads.{early_is, neither, not_either}
 use Rattle.shm_process.proofs.FurtherPlaces.{loads_too, next_place, part_first, place_after, store_made}
 use Rattle.shm_process.proofs.FurtherRows.{goes_further, joins_store, one_store_more}
 use Rattle.shm_process.proofs.FurtherSearch.{First, first_is, set_twice, stays_first}
 use Rattle.shm_process.proofs.FurtherStep.{all_further}
 use Rattle.shm_process.proofs.Lasting.{access_keeps, lasts}
 use Rattle.shm_process.proofs.Made.{IsMade}
+use Rattle.shm_process.proofs.Tests.{less_is}
 
 -- ---- the site after one store
 

@@ -1,6 +1,5 @@
 pub mod SentLines
-pub mod Still
-pub mod Ready
+pub mod OwnAccess
 pub mod Replays
 pub mod ManySteps
 pub mod StepsLeft
@@ -33,6 +32,7 @@ pub mod Clocks
 pub mod HelloWords
 pub mod Greeting
 pub mod Noting
+pub mod ToldClocks
 pub mod Finds
 pub mod MetLines
 pub mod Tries

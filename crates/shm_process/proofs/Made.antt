@@ -1,5 +1,5 @@
 -- A step by what the site answered: of an ask that waits, and of what a line handed over.
-use Rattle.std.proofs.Common.{◌≡◌, ℕ, ◌+◌, ◌&&◌, ◌||◌, Bool, false, not, List, Option, Some, None, cond, ap, sym, ◌∙◌}
+use Rattle.std.proofs.Common.{◌≡◌, ℕ, ◌+◌, ◌&&◌, Bool, List, Option, Some, None, cond, ap, sym, ◌∙◌}
 use Rattle.std.specs.Prelude.{is_some, unwrap_or}
 use Rattle.shm_model.specs.declared.answer.Answer.{Answer}
 use Rattle.shm_model.specs.declared.asked_access.Asked.{Asked}
@@ -9,10 +9,10 @@ use Rattle.shm_model.specs.Site.{Site, Step}
 use Rattle.shm_model.specs.Step.{step}
 use Rattle.shm_wire.specs.Line as stream
 use Rattle.shm_wire.specs.declared.mapping_text.Mapping.{Mapping}
-use Rattle.shm_process.specs.Access.{access_ask, is_open, is_waiting}
+use Rattle.shm_process.specs.Access.{access_ask, is_open}
 use Rattle.shm_process.specs.Cause.{Cause, OfLine}
-use Rattle.shm_process.specs.Node.{Node, Heard, Said, answer_to, caller_after, next_clock, says, tag_told}
-use Rattle.shm_process.specs.Waiting.{again_at, can_be_made, counted, has_room, is_held, joins, next_heard, next_line, says_at, taken, with_ask}
+use Rattle.shm_process.specs.Node.{Node, Heard, Said, caller_after, next_clock, says, tag_told}
+use Rattle.shm_process.specs.Waiting.{again_at, counted, has_room, joins, next_heard, next_line, says_at, taken, with_ask}
 use Rattle.shm_process.specs.WaitingAsks.{WaitingAsk, all_bytes, ask_in, goes_on, next_access, tag_of, waiting_after}
 use Rattle.shm_process.proofs.Callers.{goes_on_caller, joins_caller, stays_told}
 
@@ -28,13 +28,6 @@ module _ (node : Node) (at : ℕ) (asked : Asked) (input : Input) (site : Site) 
 
   done-is : step node.sites node.me node.site (next_heard ask).input ≡ record { site = site; answer = answer; sent = sent }
   done-is = ap (step node.sites node.me node.site) (sym (m.hands ∙ ap access_of m.asks)) ∙ m.made
-
-  answer-is : answer_to node (next_heard ask) ≡ answer
-  answer-is = ap (λ (s : Step). s.answer) done-is
-
-  pub can_be : (waits : Bool) → is_held node ask ≡ false → is_waiting answer ≡ waits → can_be_made node ask ≡ not waits
-  can_be waits free is =
-      ap (λ h. not (h || is_waiting (answer_to node (next_heard ask)))) free ∙ ap (λ a. not (is_waiting a)) answer-is ∙ ap not is
 
   says-made : says_at node at ≡ record {
     site = node.me;

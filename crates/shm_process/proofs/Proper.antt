@@ -32,7 +32,7 @@ use Rattle.shm_process.specs.Mapped.{byte_place, page_at}
 use Rattle.shm_process.specs.Remaps.{first_load, is_empty, unmapped_to}
 use Rattle.shm_process.specs.Recorded.{Entry, Event, Line, TooLong, Again, Restarted, IsEntry, entry_of, after_event, after_events, entries_of, recorded, said_at}
 use Rattle.shm_process.specs.Waiting.{after_heard, after_read, after_restart, after_unheard, again_at, block_in, can_be_made, has_room, joining, joins, next_heard, next_line, ready, said_read, said_restart, says_at, unstored, with_ask}
-use Rattle.shm_process.proofs.Tests.{below, unless-some}
+use Rattle.shm_process.proofs.Tests.{below, some_is, unless-some}
 use Rattle.shm_process.proofs.Totals.{Found, found_at}
 use Rattle.shm_process.proofs.WriteLemmas.{goes-on, more-to-store}
 
@@ -107,9 +107,6 @@ record IsHeard (node : Node) (x : Heard) : Type 0 where
   pub early : is_late node x.source ≡ false
   pub waits : (ask : WaitingAsk) → x.waits ≡ Some ask → IsProper node.me ask
 
-some-is : {A : Type 0} (a b : A) → Some a ≡ Some b → a ≡ b
-some-is a b h = cc
-
 -- what never waits
 idle : (lost late beyond : Bool) (node : Node) (made x : Heard) → IsWide made.source → is_late node made.source ≡ late → made.waits ≡ None
     → cond (lost || (late || beyond)) None (Some made) ≡ Some x → IsHeard node x
@@ -117,7 +114,7 @@ idle true late beyond node made x wide is none e = absurd (cc)
 idle false true beyond node made x wide is none e = absurd (cc)
 idle false false true node made x wide is none e = absurd (cc)
 idle false false false node made x wide is none e =
-    subst (IsHeard node) (some-is made x e)
+    subst (IsHeard node) (some_is made x e)
     (record { source = wide; early = is; waits = λ ask w. absurd (let never : None ≡ Some ask = sym none ∙ w in cc) })
 
 wide-zero : IsWide 0
@@ -129,11 +126,11 @@ asks-here : (node : Node) (site : ℕ) (tag : List ℕ) (q : Question) (x : Hear
 asks-here node site tag q x false late own is h e = absurd (cc)
 asks-here node site tag q x true true own is h e = absurd (cc)
 asks-here node site tag (question.Access asked) x true false own is h e =
-    subst (IsHeard node) (some-is (under_tag tag (Some (Access tag asked)) (access_of asked)) x e)
+    subst (IsHeard node) (some_is (under_tag tag (Some (Access tag asked)) (access_of asked)) x e)
     (record {
       source = wide-zero;
       early = is;
-      waits = λ ask w. subst (IsProper node.me) (some-is (Access tag asked) ask w) (subst (λ s. IsAsk (access_ask s tag asked)) (own refl) h);
+      waits = λ ask w. subst (IsProper node.me) (some_is (Access tag asked) ask w) (subst (λ s. IsAsk (access_ask s tag asked)) (own refl) h);
     })
 asks-here node site tag (question.Try asked) x true false own is h e = idle false false false node (under_tag tag None (access_of asked)) x wide-zero is refl e
 asks-here node site tag (question.Begin request) x true false own is h e = idle false false false node (under_tag tag None (Begin request)) x wide-zero is refl e
@@ -278,7 +275,7 @@ line-entry : (node : Node) (line : stream.Line) (o : Option Heard) (said : Said)
 line-entry node line None said e is sound made = absurd (cc)
 line-entry node line (Some x) said e is sound made =
     let h = line-heard node line x is e in
-    subst (λ (s : Said). IsEntry (entry_of s)) (some-is (says node (OfLine line) x (joins node x)) said made)
+    subst (λ (s : Said). IsEntry (entry_of s)) (some_is (says node (OfLine line) x (joins node x)) said made)
     (later node.clock x.source sound.clock h.source h.early, is)
 
 read-entry : (node : Node) (bytes : List ℕ) (read : Option stream.Line) (said : Said) → read_line bytes ≡ read → Sound node
@@ -291,13 +288,13 @@ again-entry node None said is sound made = absurd (cc)
 again-entry node (Some at) said is sound made =
     let r = ready-is node at is in
     let proper : IsProper node.me (ask_in node.waiting at) = All-get_or (IsProper node.me) node.waiting at (Access [] (Load 0 0)) r.within sound.asks in
-    subst (λ (s : Said). IsEntry (entry_of s)) (some-is (says_at node at) said made)
+    subst (λ (s : Said). IsEntry (entry_of s)) (some_is (says_at node at) said made)
     (later node.clock 0 sound.clock wide-zero r.early, next-is node.me (ask_in node.waiting at) proper)
 
 restart-entry : (node : Node) (late : Bool) (said : Said) → is_late node 0 ≡ late → Sound node → cond late None (Some (said_restart node)) ≡ Some said → IsEntry (entry_of said)
 restart-entry node true said is sound made = absurd (cc)
 restart-entry node false said is sound made =
-    subst (λ (s : Said). IsEntry (entry_of s)) (some-is (said_restart node) said made) (later node.clock 0 sound.clock wide-zero is, tt)
+    subst (λ (s : Said). IsEntry (entry_of s)) (some_is (said_restart node) said made) (later node.clock 0 sound.clock wide-zero is, tt)
 
 pub event-entry : (node : Node) (event : Event) (said : Said) → Sound node → said_at node event ≡ Some said → IsEntry (entry_of said)
 event-entry node (Line bytes) said sound made = read-entry node bytes (read_line bytes) said refl sound made

@@ -2,6 +2,7 @@
 use Rattle.std.proofs.Common.{◌≡◌, ℕ, zero, suc, ◌+◌, ◌*◌, ◌<◌, ◌≤◌, Bool, true, false, List, [], ◌∷◌, Some, length, set, get_or, cond, refl, arith}
 use Rattle.std.specs.List.{All, position_from, remove}
 use Rattle.std.proofs.lemmas.List.Elements.{All-head, All-tail}
+use Rattle.shm_process.proofs.Tests.{some_is}
 
 abbrev pub total : {X : Type 0} → (X → ℕ) → List X → ℕ
 total f [] = 0
@@ -42,14 +43,11 @@ pub record Found {X : Type 0} (t : X → Bool) (xs : List X) (d : X) (from at : 
   pub within : place < length xs
   pub passes : t (get_or xs place d) ≡ true
 
-some-is : {A : Type 0} (a b : A) → Some a ≡ Some b → a ≡ b
-some-is a b h = cc
-
 found-case : {X : Type 0} (t : X → Bool) (x : X) (xs : List X) (d : X) (from at : ℕ) (here : Bool) → t x ≡ here
     → (position_from t (from + 1) xs ≡ Some at → Found t xs d (from + 1) at)
     → cond here (Some from) (position_from t (from + 1) xs) ≡ Some at → Found t (x ∷ xs) d from at
 found-case t x xs d from at true is later e =
-    let same = some-is from at e in record { place = 0; is = omega (arith, same); within = omega arith; passes = is }
+    let same = some_is from at e in record { place = 0; is = omega (arith, same); within = omega arith; passes = is }
 found-case t x xs d from at false is later e =
     let f = later e in
     let place = f.is in

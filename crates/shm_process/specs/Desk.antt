@@ -1,6 +1,7 @@
 -- What a process records and tells: its node, what was read of a line, the entries of the steps that it made, a row of accesses that may still
--- grow, and what callers and other sites are told of them. Each line that comes is opened first, and each that is told is sealed; what is recorded isn't. Where its site says
--- how it was begun, it has the first that another says otherwise; and the first step that its site has told, and doesn't have.
+-- grow, and what callers and other sites are told of them. Each line that comes is opened first, and each that is told is sealed; what is
+-- recorded isn't. Where its site says how it was begun, it has the first that another says otherwise; and the first step that its site has
+-- told, and doesn't have.
 use Rattle.std.specs.Prelude.{ℕ, zero, suc, ◌+◌, ◌==◌, ◌&&◌, Bool, true, false, not, List, [], ◌∷◌, ◌++◌, codes, Option, Some, None, Result, Ok, Err, if◌then◌else◌, is_some, length, nat_lt, option_and_then, option_map}
 use Rattle.std.specs.List.{flat_map, list_any}
 use Rattle.std.specs.Option.{option_map_or, option_or}

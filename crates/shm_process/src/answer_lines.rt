@@ -1,9 +1,9 @@
 //! The lines that callers get: answers, blocks, a page's state, and the site's counts.
-ghost use Rattle.std.specs.Prelude.{◌≡◌, option_map, string_bytes, IfOk, Some};
+ghost use Rattle.std.specs.Prelude.{◌≡◌, ◌++◌, option_map, string_bytes, IfOk, OnOk, Some};
 ghost use Rattle.shm_process.specs.Cause.{OfRestart};
 ghost use Rattle.shm_process.specs.CountsOf.{counts_of};
 ghost use Rattle.shm_process.specs.NodeOf.{node_of, said_of};
-ghost use Rattle.shm_process.specs.Telling.{answer_line_of, crowded_out, health_line, mappings_line, page_line, shown_for, shown_here, shown_line, shown_write};
+ghost use Rattle.shm_process.specs.Telling.{answer_line_of, crowded_out, health_line, mappings_line, page_line, shown_for, shown_here, shown_line, shown_write, text_of};
 ghost use Rattle.shm_process.specs.HealthOf.{health_in};
 ghost use Rattle.shm_wire.specs.Asks.{ask_of};
 ghost use Rattle.shm_wire.specs.LineOf.{line_of};
@@ -17,7 +17,7 @@ use crate::step_output::Said;
 use shm_model::refusal::FOREIGN;
 use shm_model::{Answer, Shown, State};
 use shm_place::PageId;
-use shm_text::AnswerText;
+use shm_text::{AnswerText, push_answer, push_number};
 use shm_wire::{Ask, BlockText, Line, MappingsText, Question, Tag, WriteAsk};
 use std::alloc::{AllocError, Allocator};
 use std::fmt;
@@ -30,13 +30,13 @@ impl<A: Allocator + Copy> Said<A> {
         let Some(tag) = &self.tag else {
             return Ok(None);
         };
-        let site = self.site.0;
-        let tag = tag.as_str();
-        let text = ToldText {
-            answer: self.answer,
-            block: self.whole_block(),
-        };
-        let line = format!(in alloc; "tell {site} {tag} {text}")?;
+        let mut line = String::new(alloc);
+        line.push_str("tell ")?;
+        push_number(&mut line, self.site.0 as u64)?;
+        line.push_str(" ")?;
+        line.push_str(tag.as_str())?;
+        line.push_str(" ")?;
+        push_told(&mut line, &self.answer, self.whole_block())?;
         Ok(Some(line))
     }
 
@@ -50,24 +50,20 @@ impl<A: Allocator + Copy> Said<A> {
     }
 }
 
-/// An answer in the script's words, or the bytes of a block.
-#[derive(Clone, Copy)]
-struct ToldText<'a> {
-    answer: Answer,
-    block: Option<&'a [u8]>,
-}
-
-impl<'a> fmt::Display for ToldText<'a> {
-    ghost use Rattle.std.specs.Prelude.{Some, option_map};
-    ghost use Rattle.shm_process.specs.Telling.{text_of};
-
-    ghost output = { λ text. Some (text_of text.answer (option_map (λ bytes. bytes.now) text.block)) };
-
-    fn fmt<W: fmt::Write>(&self, f: &mut fmt::Formatter<W>) -> fmt::Result {
-        match self.block {
-            Some(bytes) => write!(f, "{}", BlockText(bytes)),
-            None => write!(f, "{}", AnswerText(self.answer)),
+/// Appends an answer in the script's words, or the bytes of a block.
+fn push_told<A: Allocator + Copy>(
+    line: &mut String<A>,
+    answer: &Answer,
+    block: Option<&[u8]>,
+) -> Result<(), AllocError>
+    ensures { OnOk result (string_bytes line.new ≡ string_bytes line.old ++ text_of answer.now (option_map (λ bytes. bytes.now) block)) }
+{
+    match block {
+        Some(bytes) => {
+            let text = BlockText(bytes);
+            write!(line, "{text}")
         }
+        None => push_answer(line, answer),
     }
 }
 

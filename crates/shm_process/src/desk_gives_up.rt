@@ -73,6 +73,7 @@ impl<A: Allocator + Copy> Desk<A> {
         requires within { offset + length bytes.now ≤ 2 ^ 32 }
         ensures { OnOk result (desk_of self.new ≡ stored_run (desk_of self.old) (unmap_in ask.now) offset bytes.now) }
     {
+        // They are read so that the proof knows them to be below 2^64: counting none then leaves them as they are.
         let (_sent, _taken) = (self.counts.envelopes_sent(), self.node.lines_taken());
         if self.node.may_bring(ask.site, ask.at, offset, bytes.len()) {
             return self.node.store_brought(ask.at, offset, bytes);

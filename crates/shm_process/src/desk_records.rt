@@ -15,6 +15,7 @@ use crate::desk::Desk;
 use crate::envelope_lines::push_sealed;
 use crate::retried_step::Again;
 use crate::step_output::Said;
+use itoa::Buffer;
 use shm_model::Asked;
 use shm_seal::Seal;
 use shm_wire::Tag;
@@ -40,7 +41,7 @@ impl<A: Allocator + Copy> Desk<A> {
         ensures { (cause : Cause) → cause_text cause ≡ line.now → was_received cause ≡ received
             → OnOk result (desk_of self.new ≡ with_step (desk_of self.old) (Some (said_of cause said.now))) }
     {
-        let bytes = push_entry(self.alloc, &mut self.recorded, said.clock, line)?;
+        let bytes = push_entry(&mut self.recorded, said.clock, line)?;
         push_text(self.alloc, &self.seal, &mut self.told, said)?;
         let counts = self.counts.with_step(received, count_sent(said));
         self.counts = counts.with_recorded(bytes);
@@ -52,7 +53,7 @@ impl<A: Allocator + Copy> Desk<A> {
         ensures { OnOk result (desk_of self.new
             ≡ with_record ((codes "step " ++ (decimal clock ++ 32 ∷ line.now)) ++ 10 ∷ []) (desk_of self.old)) }
     {
-        let bytes = push_entry(self.alloc, &mut self.recorded, clock, line)?;
+        let bytes = push_entry(&mut self.recorded, clock, line)?;
         self.counts = self.counts.with_recorded(bytes);
         Ok(())
     }
@@ -129,7 +130,6 @@ fn count_sent<A: Allocator + Copy>(said: &Said<A>) -> usize
 
 /// Appends the entry of a step: `step CLOCK LINE`, and a line feed. How many bytes it has.
 fn push_entry<A: Allocator + Copy>(
-    alloc: A,
     recorded: &mut Vec<u8, A>,
     clock: u64,
     line: &[u8],
@@ -138,8 +138,10 @@ fn push_entry<A: Allocator + Copy>(
     ensures bytes { IfOk result (λ bytes. bytes ≡ length ((codes "step " ++ (decimal clock ++ 32 ∷ line.now)) ++ 10 ∷ [])) }
 {
     let before = recorded.len();
-    let head = format!(in alloc; "step {clock} ")?;
-    recorded.extend_from_slice(head.as_bytes())?;
+    let mut buffer = Buffer::new();
+    recorded.extend_from_slice("step ".as_bytes())?;
+    recorded.extend_from_slice(buffer.format(clock).as_bytes())?;
+    recorded.push(b' ')?;
     recorded.extend_from_slice(line)?;
     recorded.push(b'\n')?;
     Ok(recorded.len() - before)

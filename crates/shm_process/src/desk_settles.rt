@@ -82,7 +82,7 @@ impl<A: Allocator + Copy> Desk<A> {
         ensures few { IfOk result (λ made. made ≤ most) }
         ensures made { IfOk result (λ made. (k : ℕ) → all_made (made + k) (desk_of self.old) ≡ all_made k (desk_of self.new)) }
     {
-        // As a number of 64 bits it can't be passed by counting none.
+        // It is read so that the proof knows it to be below 2^64: counting none then leaves it as it is.
         let _sent = self.counts.envelopes_sent();
         match self.node.next_of(at).1 {
             Asked::Load { .. } => self.load_further(at, most),

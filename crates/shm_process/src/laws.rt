@@ -1,7 +1,7 @@
 //! Laws of the definitions, for every run of a node.
 ghost use Rattle.std.specs.Prelude.{◌≡◌, ◌≤◌, ◌+◌, ◌*◌, All, List, ℕ, None, Some, length, true};
 ghost use Rattle.shm_process.specs.Cause.{Cause};
-ghost use Rattle.shm_process.specs.Desk.{Desk, disagreement_in, on_bytes, settled};
+ghost use Rattle.shm_process.specs.Desk.{Desk, disagreement_in, later_sent, on_bytes, settled};
 ghost use Rattle.shm_process.specs.DeskEvents.{DidEvents};
 ghost use Rattle.shm_process.specs.Hello.{IsHello, hello_text, read_hello};
 ghost use Rattle.shm_process.specs.Node as spec;
@@ -13,6 +13,7 @@ ghost use Rattle.shm_process.specs.declared.hello_line.Hello.{Hello};
 ghost use Rattle.shm_process.specs.declared.site_opening.Disagreement.{Disagreement};
 ghost use Rattle.shm_wire.specs.Line as stream;
 ghost use Rattle.shm_wire.specs.Line.{read_line};
+ghost use Rattle.shm_wire.specs.Sent.{Sent};
 
 /// The recorded steps, replayed one by one, lead to the same site, clock, count of steps and outstanding caller; only the asks that wait
 /// are forgotten, and no line is counted.
@@ -91,4 +92,18 @@ pub fn a_hello_is_no_line_of_the_stream()
 #[tactic(auto, using(crate::proofs::Noting::stays_noted))]
 pub fn the_first_other_opening_stays()
     ensures { (desk : Desk) (bytes : List ℕ) (first : Disagreement) → disagreement_in desk ≡ Some first → disagreement_in (on_bytes desk bytes) ≡ Some first }
+{}
+
+/// Whatever comes after the first step that the site's journal lacks, that one stays the one that is noted.
+#[tactic(auto, using(crate::proofs::Noting::stays_later))]
+pub fn the_first_later_step_stays()
+    ensures { (desk : Desk) (bytes : List ℕ) (clock : ℕ) → desk.later ≡ Some clock → (on_bytes desk bytes).later ≡ Some clock }
+{}
+
+/// What a node told never shows a later step of its own: a node's clock never falls, and each step is told under the clock that the node then
+/// has. So no site that has all its steps ends because of what it told itself.
+#[tactic(auto, using(crate::proofs::ToldClocks::told_never_later))]
+pub fn no_step_that_was_told_is_a_later_one()
+    ensures { (node : spec.Node) (event : Event) (said : spec.Said) (events : List Event) (sent : Sent) → said_at node event ≡ Some said
+        → sent.source.at ≡ said.clock → later_sent (after_events (after_event node event) events) sent ≡ None }
 {}

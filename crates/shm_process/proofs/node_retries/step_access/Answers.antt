@@ -1,5 +1,5 @@
 use Rattle.shm_site.specs.Step.{input_of}
-use Rattle.shm_process.proofs.Still.{own_access}
+use Rattle.shm_process.proofs.OwnAccess.{own_access}
 use Rattle.shm_process.proofs.node_retries.step_access.Goals as goal
 
 pub step_spending-requires : goal.step_spending-requires

@@ -1,4 +1,4 @@
-use Rattle.std.proofs.Common.{◌∙◌, [], ap, sym}
+use Rattle.std.proofs.Common.{◌∙◌, ap, sym}
 use Rattle.shm_process.specs.RowOf.{accesses_of, row_of}
 use Rattle.shm_process.specs.Rows.{size}
 use Rattle.shm_process.specs.Rows as spec

@@ -1,6 +1,3 @@
-use Rattle.std.proofs.Common.{◌≡◌, ◌∙◌, ◌+◌, ap, arith, sym}
-use Rattle.std.proofs.lemmas.Result.{IfOk-weaker}
-use Rattle.shm_process.specs.Desk.{all_made}
 use Rattle.shm_process.specs.DeskOf.{desk_of}
 use Rattle.shm_process.proofs.FurtherRounds.{rounds_are}
 use Rattle.shm_process.proofs.desk.Desk.make_some.Goals as goal

@@ -1,11 +1,10 @@
-use Rattle.std.proofs.Common.{◌≡◌, ◌≢◌, ◌∙◌, ◌+◌, ◌++◌, ◌<◌, ◌≤◌, [], Some, ap, arith, length, sym, subst}
+use Rattle.std.proofs.Common.{◌≡◌, ◌∙◌, ◌+◌, ◌++◌, ◌<◌, ◌≤◌, Some, ap, arith, length, sym, subst}
 use Rattle.std.specs.Prelude.{option_map}
 use Rattle.std.proofs.Math.Nat.{min-le_right}
 use Rattle.shm_wire.specs.TagOf.{tag_text}
 use Rattle.shm_process.specs.Desk.{all_made}
 use Rattle.shm_process.specs.DeskOf.{desk_of}
 use Rattle.shm_process.specs.Further.{after_stores}
-use Rattle.shm_process.specs.NodeOf.{node_of}
 use Rattle.shm_process.specs.RowOf.{row_of}
 use Rattle.shm_process.specs.Rows.{Stores, with_accesses}
 use Rattle.shm_process.proofs.FurtherDesk.{made_stores, nonempty, some-one}

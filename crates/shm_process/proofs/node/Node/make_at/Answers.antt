@@ -1,4 +1,4 @@
-use Rattle.std.proofs.Common.{◌≡◌, ◌∙◌, true, ap, ap₂, map, sym}
+use Rattle.std.proofs.Common.{◌≡◌, ◌∙◌, ap, ap₂, map, sym}
 use Rattle.std.specs.Prelude.{option_map}
 use Rattle.shm_model.specs.Step.{step}
 use Rattle.shm_parts.specs.Message.{envelope_of}

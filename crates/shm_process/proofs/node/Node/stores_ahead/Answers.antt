@@ -1,4 +1,4 @@
-use Rattle.std.proofs.Common.{◌≡◌, ◌∙◌, ◌+◌, ◌<◌, ◌≤◌, [], true, ap, arith, drop, length, sym, take}
+use Rattle.std.proofs.Common.{◌≡◌, ◌∙◌, ◌+◌, ◌<◌, ◌≤◌, [], ap, arith, drop, length, sym, take}
 use Rattle.std.proofs.lemmas.Result.{IfOk-weaker}
 use Rattle.shm_place.specs.Limits.{page_bytes}
 use Rattle.shm_place.specs.Offset.{within_of}
