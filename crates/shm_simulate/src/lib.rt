@@ -16,8 +16,6 @@ mod scheduler;
 mod simulate_runs;
 mod spread;
 mod tally_text;
-#[cfg(test)]
-mod tests;
 mod workload_lines;
 
 pub use gave::Gave;
