@@ -22,6 +22,9 @@ use shm_wire::{Ask, BlockText, Line, MappingsText, Question, Tag, WriteAsk};
 use std::alloc::{AllocError, Allocator};
 use std::fmt;
 
+/// So many bytes most answers' lines have at most; others take more memory as they grow.
+const ANSWER_BYTES: usize = 64;
+
 impl<A: Allocator + Copy> Said<A> {
     /// The line with the answer, without a line feed, if there is a caller who gets it.
     pub fn answer_line(&self, alloc: A) -> Result<Option<String<A>>, AllocError>
@@ -30,7 +33,7 @@ impl<A: Allocator + Copy> Said<A> {
         let Some(tag) = &self.tag else {
             return Ok(None);
         };
-        let mut line = String::new(alloc);
+        let mut line = String::with_capacity(alloc, ANSWER_BYTES)?;
         line.push_str("tell ")?;
         push_number(&mut line, self.site.0 as u64)?;
         line.push_str(" ")?;
