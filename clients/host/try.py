@@ -346,7 +346,7 @@ def try_checked(options):
         open_at_its_end = socket.socket(socket.AF_UNIX, socket.SOCK_SEQPACKET)
         open_at_its_end.connect(cluster.socket(0))
         try:
-            told = [try_counts(cluster, 20), try_words(cluster, 20), try_calls(cluster), *try_others(cluster)]
+            told = [try_counts(cluster, 20), try_words(cluster, 20), try_pages(cluster, 5), try_calls(cluster), *try_others(cluster)]
             yield f'{says}: {", ".join(told)}'
         finally:
             complaints = cluster.stop()
