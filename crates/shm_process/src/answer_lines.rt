@@ -59,7 +59,7 @@ fn push_told<A: Allocator + Copy>(
     answer: &Answer,
     block: Option<&[u8]>,
 ) -> Result<(), AllocError>
-    ensures { OnOk result (string_bytes line.new ≡ string_bytes line.old ++ text_of answer.now (option_map (λ bytes. bytes.now) block)) }
+    ensures { OnOk result (string_bytes line.new ≡ string_bytes line.old ++ text_of answer.now (option_map (λ bytes. bytes.now) block.entry)) }
 {
     match block {
         Some(bytes) => {

@@ -102,7 +102,6 @@ pub fn the_first_later_step_stays()
 
 /// What a node told never shows a later step of its own: a node's clock never falls, and each step is told under the clock that the node then
 /// has. So no site that has all its steps ends because of what it told itself.
-#[tactic(auto, using(crate::proofs::ToldClocks::told_never_later))]
 pub fn no_step_that_was_told_is_a_later_one()
     ensures { (node : spec.Node) (event : Event) (said : spec.Said) (events : List Event) (sent : Sent) → said_at node event ≡ Some said
         → sent.source.at ≡ said.clock → later_sent (after_events (after_event node event) events) sent ≡ None }
