@@ -85,15 +85,15 @@ adds-front (act ∷ front) rest adds =
 moment-run : (desk : Desk) (disk : Disk) → Holds disk → ((reads : List (List ℕ)) → All Adds (run desk reads))
     → (result : Result (Unit {0}) ProcessFault) (acts before after : List Act) → IsRun desk result acts → acts ≡ before ++ after
     → All IsBatch (after_acts disk before).durable
-moment-run desk disk h all (Ok end) acts before after (reads, same) e = moment before after disk h (subst (All Adds) (sym same ∙ e) (all reads))
-moment-run desk disk h all (Err ReadFault) acts before after (reads, same) e = moment before after disk h (subst (All Adds) (sym same ∙ e) (all reads))
-moment-run desk disk h all (Err OutOfMemory) acts before after (reads, bytes, same) e =
+moment-run desk disk h all (Ok end) acts before after (reads, sound, same) e = moment before after disk h (subst (All Adds) (sym same ∙ e) (all reads))
+moment-run desk disk h all (Err ReadFault) acts before after (reads, sound, same) e = moment before after disk h (subst (All Adds) (sym same ∙ e) (all reads))
+moment-run desk disk h all (Err OutOfMemory) acts before after (reads, bytes, sound, same) e =
     moment before after disk h (subst (All Adds) (sym same ∙ e) (All-push Adds (run desk reads) (Read bytes) (all reads) tt))
-moment-run desk disk h all (Err (TooOld clock)) acts before after (reads, bytes, same, later) e =
+moment-run desk disk h all (Err (TooOld clock)) acts before after (reads, bytes, sound, same, later) e =
     moment before after disk h (subst (All Adds) (sym same ∙ e) (All-push Adds (run desk reads) (Read bytes) (all reads) tt))
-moment-run desk disk h all (Err JournalFault) acts before after (reads, front, rest, text, n, is, same) e =
+moment-run desk disk h all (Err JournalFault) acts before after (reads, front, rest, text, n, sound, is, same) e =
     moment-last before front after (take n text) disk h (adds-front front (Append text ∷ rest) (subst (All Adds) is (all reads))) (sym same ∙ e)
-moment-run desk disk h all (Err WriteFault) acts before after (reads, front, text, n, is, same) e =
+moment-run desk disk h all (Err WriteFault) acts before after (reads, front, text, n, sound, is, same) e =
     let adds = adds-front front (Tell text ∷ []) (subst (All Adds) is (all reads)) in
     moment before after disk h (subst (All Adds) (sym same ∙ e) (All-push Adds front (Tell (take n text)) adds tt))
 

@@ -1,6 +1,6 @@
--- The scripts that are kept, one more after the other.
-use Rattle.std.proofs.Common.{◌≡◌, ◌∙◌, ℕ, ◌+◌, ◌<◌, ◌≤◌, List, [], ◌∷◌, ◌++◌, Option, None, Some, append_assoc, append-nil, ap, get_or, length, length-take-le, refl, subst, sym, take, arith}
-use Rattle.std.proofs.lemmas.List.{take_all, take_more}
+-- The scripts that are kept, and the logs, one more after the other.
+use Rattle.std.proofs.Common.{◌≡◌, ◌∙◌, ℕ, ◌+◌, ◌<◌, ◌≤◌, List, [], ◌∷◌, ◌++◌, map, Option, None, Some, append_assoc, append-nil, ap, get_or, length, length-take-le, refl, subst, sym, take, arith}
+use Rattle.std.proofs.lemmas.List.{map-append, take_all, take_more}
 use Rattle.shm_prompt.specs.Saves.{Adds, Save, Whole}
 use Rattle.shm_simulate.specs.declared.outcome.Outcome.{Outcome}
 use Rattle.shm_command.specs.Kept.{kept, name_of_outcome, script_of_outcome, AddsAll}
@@ -17,6 +17,18 @@ adds_more (Some before) None new saves save all one = absurd all
 adds_more (Some before) (Some between) None saves save all one = absurd one
 adds_more (Some before) (Some between) (Some now) saves save all one =
     one ∙ ap (λ l. l ++ save ∷ []) all ∙ append_assoc before saves (save ∷ [])
+
+-- of things that are saved so the next one is
+pub one_more : {X : Type 0} (f : X → Save) (xs : List X) (at : ℕ) (x : X) (old mid new : Option (List Save)) → at < length xs → x ≡ get_or xs at x
+    → AddsAll old mid (map f (take at xs)) → Adds mid new (f x) → AddsAll old new (map f (take (at + 1) xs))
+one_more f xs at x old mid new below here before one =
+    let longer : take (at + 1) xs ≡ take at xs ++ x ∷ [] = take_more xs at x below ∙ ap (λ y. take at xs ++ y ∷ []) (sym here) in
+    subst (AddsAll old new) (sym (ap (map f) longer ∙ map-append f (take at xs) (x ∷ []))) (adds_more old mid new (map f (take at xs)) (f x) before one)
+
+-- all are
+pub all_more : {X : Type 0} (f : X → Save) (xs : List X) (at : ℕ) (old new : Option (List Save)) → length xs ≤ at → AddsAll old new (map f (take at xs))
+    → AddsAll old new (map f xs)
+all_more f xs at old new all before = subst (λ ys. AddsAll old new (map f ys)) (take_all at xs all) before
 
 pub kept-append : (folder : List ℕ) (sites pages number : ℕ) (outcomes : List Outcome) (outcome : Outcome)
     → kept folder sites pages number (outcomes ++ outcome ∷ [])

@@ -1,5 +1,7 @@
 //! The logs of a run, as files.
-ghost use Rattle.std.specs.Prelude.{IfErr};
+ghost use Rattle.std.specs.Prelude.{◌≡◌, IfErr, IfOk, OnOk, string_bytes};
+ghost use Rattle.shm_command.specs.Kept.{kept_log, kept_logs, name_of_log, AddsAll};
+ghost use Rattle.shm_prompt.specs.Saves.{Adds};
 ghost use Rattle.shm_report.specs.Causes.{IsOther};
 
 use shm_place::Sites;
@@ -61,7 +63,8 @@ pub fn save_logs<F: SaveFile>(
     logs: &[SiteLog],
     files: &mut F,
 ) -> Result<(), ReportFault>
-    ensures { IfErr result IsOther }
+    ensures saved { OnOk result (AddsAll (F.saves files.old) (F.saves files.new) (kept_logs folder.now logs.now)) }
+    ensures fault { IfErr result IsOther }
 {
     'logs: for log in logs {
         match save_log(alloc, folder, log, files) {
@@ -78,7 +81,8 @@ fn save_log<F: SaveFile>(
     log: &SiteLog,
     files: &mut F,
 ) -> Result<(), ReportFault>
-    ensures { IfErr result IsOther }
+    ensures saved { OnOk result (Adds (F.saves files.old) (F.saves files.new) (kept_log folder.now log.now)) }
+    ensures fault { IfErr result IsOther }
 {
     let Ok(name) = name_of(alloc, folder, log.site().0) else {
         return Err(ReportFault::OutOfMemory);
@@ -93,7 +97,9 @@ fn save_log<F: SaveFile>(
 }
 
 /// The file of a site's log. A folder without a name is the one where the program runs.
-fn name_of(alloc: Global, folder: &str, site: u32) -> Result<String, AllocError> {
+fn name_of(alloc: Global, folder: &str, site: u32) -> Result<String, AllocError>
+    ensures { IfOk result (λ name. string_bytes name ≡ name_of_log folder.now site) }
+{
     if folder.is_empty() {
         return format!(in alloc; "site-{site}.log");
     }

@@ -116,15 +116,15 @@ at-last P disk acts all = at-front P acts disk acts [] (sym (append-nil acts)) a
 at-acts : (R : List ℕ → List ℕ → Type 0) (desk : Desk) (disk : Disk) → ((reads : List (List ℕ)) → AtAll (Leaves R) disk (run desk reads))
     → (result : Result (Unit {0}) ProcessFault) (acts : List Act) → IsRun desk result acts → AtAll (Leaves R) disk acts
 unfolding AtAll
-at-acts R desk disk all (Ok end) acts (reads, same) = subst (AtAll (Leaves R) disk) (sym same) (all reads)
-at-acts R desk disk all (Err ReadFault) acts (reads, same) = subst (AtAll (Leaves R) disk) (sym same) (all reads)
-at-acts R desk disk all (Err OutOfMemory) acts (reads, bytes, same) =
+at-acts R desk disk all (Ok end) acts (reads, sound, same) = subst (AtAll (Leaves R) disk) (sym same) (all reads)
+at-acts R desk disk all (Err ReadFault) acts (reads, sound, same) = subst (AtAll (Leaves R) disk) (sym same) (all reads)
+at-acts R desk disk all (Err OutOfMemory) acts (reads, bytes, sound, same) =
     let last = at-last (Leaves R) disk (run desk reads) (all reads) in
     subst (AtAll (Leaves R) disk) (sym same) (at-both (Leaves R) (run desk reads) (Read bytes ∷ []) disk (all reads) (last, last))
-at-acts R desk disk all (Err (TooOld clock)) acts (reads, bytes, same, later) =
+at-acts R desk disk all (Err (TooOld clock)) acts (reads, bytes, sound, same, later) =
     let last = at-last (Leaves R) disk (run desk reads) (all reads) in
     subst (AtAll (Leaves R) disk) (sym same) (at-both (Leaves R) (run desk reads) (Read bytes ∷ []) disk (all reads) (last, last))
-at-acts R desk disk all (Err JournalFault) acts (reads, before, after, text, n, is, same) =
+at-acts R desk disk all (Err JournalFault) acts (reads, before, after, text, n, sound, is, same) =
     let p = at-parts (Leaves R) before (Append text ∷ after) disk (subst (AtAll (Leaves R) disk) is (all reads)) in
     let now = after_acts disk before in
     subst (AtAll (Leaves R) disk) (sym same)
@@ -132,7 +132,7 @@ at-acts R desk disk all (Err JournalFault) acts (reads, before, after, text, n, 
     at-both (Leaves R) before (Append (take n text) ∷ []) disk p.0
     (p.1.0, leaves-less R now text n (at-first (Leaves R) (after_act now (Append text)) after p.1.1))
     )
-at-acts R desk disk all (Err WriteFault) acts (reads, before, text, n, is, same) =
+at-acts R desk disk all (Err WriteFault) acts (reads, before, text, n, sound, is, same) =
     let p = at-parts (Leaves R) before (Tell text ∷ []) disk (subst (AtAll (Leaves R) disk) is (all reads)) in
     subst (AtAll (Leaves R) disk) (sym same) (at-both (Leaves R) before (Tell (take n text) ∷ []) disk p.0 (p.1.0, p.1.0))
 

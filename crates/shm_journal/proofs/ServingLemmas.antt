@@ -8,7 +8,7 @@ use Rattle.std.proofs.KnownBytes.{Appends-nil, Consumes-kept, Consumes-nil}
 use Rattle.std.specs.Io.KnownBytes.{Appends, Consumes, Keeps}
 use Rattle.std.specs.Prelude.{None, Option, Some}
 use Rattle.shm_journal.proofs.ActLemmas.{GoesOn-nil, GoesOn-trans, did_both, did_nothing, kept-silent, kept-then, published-told, published-unread, told_in-append}
-use Rattle.shm_journal.specs.Acts.{Act, Append, Around, Did, GoesOn, Read, Served, Sync, Tell, around, keeping, publishing, read_in, run, serving, standing, telling, told_in}
+use Rattle.shm_journal.specs.Acts.{Act, Append, AreSound, Around, Did, GoesOn, Read, Served, Stood, Sync, Tell, around, keeping, publishing, read_in, run, serving, standing, telling, told_in}
 use Rattle.shm_journal.specs.Publishing.{FailsToPublish, FailsToTake}
 use Rattle.shm_journal.specs.declared.process_error.ProcessFault.{ProcessFault}
 use Rattle.shm_journal.specs.declared.process_error.ProcessFault.TheVariants.{JournalFault, OutOfMemory, ReadFault, TooOld, WriteFault}
@@ -166,51 +166,83 @@ went_on first desk next last old now read new bytes s r e p c = record {
 
 -- ---- how it ends
 
-pub ended : (first desk : Desk) (old now new : Around) → Serves first old now desk → Did now new (Read [] ∷ []) → Served first old new (Ok tt)
+-- none of the reads told of a step that the site lacks, as its desk has noted none
+sound-so : (first desk : Desk) (reads : List (List ℕ)) → desk ≡ standing (cleared first) reads → (first.later ≡ None → desk.later ≡ None) → AreSound first reads
+sound-so first desk reads stands sound none = ap (λ (d : Desk). d.later) (sym stands) ∙ sound none
+
+sound_of : (first desk : Desk) (old now : Around) → (s : Serves first old now desk) → (first.later ≡ None → desk.later ≡ None) → AreSound first s.reads
+sound_of first desk old now s sound = sound-so first desk s.reads s.stands sound
+
+-- one more read, of nothing, leaves it as it is
+standing-cleared : (reads : List (List ℕ)) (first : Desk) → cleared (standing (cleared first) reads) ≡ standing (cleared first) reads
+unfolding standing
+standing-cleared [] first = refl
+standing-cleared (bytes ∷ reads) first = standing-cleared reads (on_bytes (cleared first) bytes)
+
+read-nothing : (first desk : Desk) (reads : List (List ℕ)) → desk ≡ standing (cleared first) reads → desk ≡ standing (cleared first) (reads ++ [] ∷ [])
 unfolding on_bytes
-ended first desk old now new s r = (
-  run first s.reads ++ Read [] ∷ [],
+read-nothing first desk reads stands = stands ∙ sym (standing-more reads (cleared first) [] ∙ standing-cleared reads first)
+
+all-done : (first desk : Desk) (old now new : Around) → (s : Serves first old now desk) → Did now new (Read [] ∷ [])
+    → (run first s.reads ++ Read [] ∷ [] ≡ run first (s.reads ++ [] ∷ [])) × Did old new (run first s.reads ++ Read [] ∷ [])
+unfolding on_bytes
+all-done first desk old now new s r = (
+  sym (
+      more_run first desk desk old now [] s refl ∙ ap (λ t. (run first s.reads ++ Read [] ∷ []) ++ t) s.empty
+      ∙ append-nil (run first s.reads ++ Read [] ∷ [])
+      ),
   did_both old now new (run first s.reads) (Read [] ∷ []) s.did r,
-  (
-    s.reads ++ [] ∷ [],
-    sym (
-        more_run first desk desk old now [] s refl ∙ ap (λ t. (run first s.reads ++ Read [] ∷ []) ++ t) s.empty
-        ∙ append-nil (run first s.reads ++ Read [] ∷ [])
-        ),
-  ),
 )
 
-pub no_more : (first desk : Desk) (old now : Around) → Serves first old now desk → Served first old now (Err ReadFault)
-no_more first desk old now s = (run first s.reads, s.did, (s.reads, refl))
+pub ended : (first desk : Desk) (old now new : Around) → Serves first old now desk → (first.later ≡ None → desk.later ≡ None) → Did now new (Read [] ∷ [])
+    → Served first old new (Ok tt)
+ended first desk old now new s sound r =
+    let all = all-done first desk old now new s r in (
+      run first s.reads ++ Read [] ∷ [],
+      all.1,
+      (s.reads ++ [] ∷ [], sound-so first desk (s.reads ++ [] ∷ []) (read-nothing first desk s.reads s.stands) sound, all.0),
+    )
 
-pub read_failed : (first desk : Desk) (old now new : Around) → Serves first old now desk → Did now new [] → Served first old new (Err ReadFault)
-read_failed first desk old now new s r = (
+pub stood : (first desk : Desk) (old now new : Around) → Serves first old now desk → Did now new (Read [] ∷ []) → Stood first desk old new
+stood first desk old now new s r =
+    let all = all-done first desk old now new s r in
+    (s.reads ++ [] ∷ [], subst (Did old new) all.0 all.1, read-nothing first desk s.reads s.stands)
+
+pub no_more : (first desk : Desk) (old now : Around) → Serves first old now desk → (first.later ≡ None → desk.later ≡ None) → Served first old now (Err ReadFault)
+no_more first desk old now s sound = (run first s.reads, s.did, (s.reads, sound_of first desk old now s sound, refl))
+
+pub read_failed : (first desk : Desk) (old now new : Around) → Serves first old now desk → (first.later ≡ None → desk.later ≡ None) → Did now new []
+    → Served first old new (Err ReadFault)
+read_failed first desk old now new s sound r = (
   run first s.reads,
   subst (Did old new) (append-nil (run first s.reads)) (did_both old now new (run first s.reads) [] s.did r),
-  (s.reads, refl),
+  (s.reads, sound_of first desk old now s sound, refl),
 )
 
-out_of_memory : (first desk : Desk) (old now new : Around) (bytes : List ℕ) → Serves first old now desk → Did now new (Read bytes ∷ [])
-    → Served first old new (Err OutOfMemory)
-out_of_memory first desk old now new bytes s r =
-    (run first s.reads ++ Read bytes ∷ [], did_both old now new (run first s.reads) (Read bytes ∷ []) s.did r, (s.reads, bytes, refl))
-
-too_old : (first desk : Desk) (old now new : Around) (bytes : List ℕ) (clock : ℕ) → Serves first old now desk → Did now new (Read bytes ∷ [])
-    → (on_bytes desk bytes).later ≡ Some clock → Served first old new (Err (TooOld clock))
-too_old first desk old now new bytes clock s r e = (
+out_of_memory : (first desk : Desk) (old now new : Around) (bytes : List ℕ) → Serves first old now desk → (first.later ≡ None → desk.later ≡ None)
+    → Did now new (Read bytes ∷ []) → Served first old new (Err OutOfMemory)
+out_of_memory first desk old now new bytes s sound r = (
   run first s.reads ++ Read bytes ∷ [],
   did_both old now new (run first s.reads) (Read bytes ∷ []) s.did r,
-  (s.reads, bytes, refl, ap (λ d. (on_bytes d bytes).later) (sym s.stands) ∙ e),
+  (s.reads, bytes, sound_of first desk old now s sound, refl),
+)
+
+too_old : (first desk : Desk) (old now new : Around) (bytes : List ℕ) (clock : ℕ) → Serves first old now desk → (first.later ≡ None → desk.later ≡ None)
+    → Did now new (Read bytes ∷ []) → (on_bytes desk bytes).later ≡ Some clock → Served first old new (Err (TooOld clock))
+too_old first desk old now new bytes clock s sound r e = (
+  run first s.reads ++ Read bytes ∷ [],
+  did_both old now new (run first s.reads) (Read bytes ∷ []) s.did r,
+  (s.reads, bytes, sound_of first desk old now s sound, refl, ap (λ d. (on_bytes d bytes).later) (sym s.stands) ∙ e),
 )
 
 -- what was read last isn't taken
 pub not_taken : (first desk : Desk) (fault : ProcessFault) (old now new : Around) (bytes : List ℕ) → Serves first old now desk
-    → Did now new (Read bytes ∷ []) → FailsToTake desk bytes fault → Served first old new (Err fault)
-not_taken first desk OutOfMemory old now new bytes s r f = out_of_memory first desk old now new bytes s r
-not_taken first desk (TooOld clock) old now new bytes s r f = too_old first desk old now new bytes clock s r f
-not_taken first desk JournalFault old now new bytes s r f = absurd f
-not_taken first desk ReadFault old now new bytes s r f = absurd f
-not_taken first desk WriteFault old now new bytes s r f = absurd f
+    → (first.later ≡ None → desk.later ≡ None) → Did now new (Read bytes ∷ []) → FailsToTake desk bytes fault → Served first old new (Err fault)
+not_taken first desk OutOfMemory old now new bytes s sound r f = out_of_memory first desk old now new bytes s sound r
+not_taken first desk (TooOld clock) old now new bytes s sound r f = too_old first desk old now new bytes clock s sound r f
+not_taken first desk JournalFault old now new bytes s sound r f = absurd f
+not_taken first desk ReadFault old now new bytes s sound r f = absurd f
+not_taken first desk WriteFault old now new bytes s sound r f = absurd f
 
 -- what was published has the later step that was noted
 pub still_sound : (desk next : Desk) → next ≡ cleared desk → desk.later ≡ None → next.later ≡ None
@@ -218,8 +250,8 @@ still_sound desk next e h = ap (λ (d : Desk). d.later) e ∙ h
 
 -- what the desk holds after these acts can't be published
 unpublished : (first next : Desk) (reads : List (List ℕ)) (acts : List Act) (fault : ProcessFault) (old now new : Around)
-    → run first reads ≡ acts ++ publishing next → Did old now acts → FailsToPublish next now new fault → Served first old new (Err fault)
-unpublished first next reads acts JournalFault old now new whole d (some, (n, f)) = (
+    → run first reads ≡ acts ++ publishing next → AreSound first reads → Did old now acts → FailsToPublish next now new fault → Served first old new (Err fault)
+unpublished first next reads acts JournalFault old now new whole sound d (some, (n, f)) = (
   acts ++ Append (take n next.recorded) ∷ [],
   did_both old now new acts (Append (take n next.recorded) ∷ []) d f,
   (
@@ -228,11 +260,12 @@ unpublished first next reads acts JournalFault old now new whole d (some, (n, f)
     Sync ∷ telling next.told,
     next.recorded,
     n,
+    sound,
     whole ∙ ap (λ kept. acts ++ (kept ++ telling next.told)) (keeping_some next.recorded some),
     refl,
   ),
 )
-unpublished first next reads acts WriteFault old now new whole d (some, (n, f)) =
+unpublished first next reads acts WriteFault old now new whole sound d (some, (n, f)) =
     let kept = keeping next.recorded in (
       acts ++ (kept ++ Tell (take n next.told) ∷ []),
       did_both old now new acts (kept ++ Tell (take n next.told) ∷ []) d f,
@@ -241,20 +274,27 @@ unpublished first next reads acts WriteFault old now new whole d (some, (n, f)) 
         acts ++ kept,
         next.told,
         n,
+        sound,
         whole ∙ ap (λ told. acts ++ (kept ++ told)) (telling_some next.told some) ∙ sym (append_assoc acts kept (Tell next.told ∷ [])),
         sym (append_assoc acts kept (Tell (take n next.told) ∷ [])),
       ),
     )
-unpublished first next reads acts OutOfMemory old now new whole d f = absurd f
-unpublished first next reads acts ReadFault old now new whole d f = absurd f
-unpublished first next reads acts (TooOld clock) old now new whole d f = absurd f
+unpublished first next reads acts OutOfMemory old now new whole sound d f = absurd f
+unpublished first next reads acts ReadFault old now new whole sound d f = absurd f
+unpublished first next reads acts (TooOld clock) old now new whole sound d f = absurd f
 
 pub never_published : (first : Desk) (fault : ProcessFault) (old new : Around) → FailsToPublish first old new fault → Served first old new (Err fault)
-unfolding serving
-never_published first fault old new f = unpublished first first [] [] fault old old new (append-nil (publishing first)) (did_nothing old) f
+unfolding serving standing
+never_published first fault old new f =
+    unpublished first first [] [] fault old old new (append-nil (publishing first)) (λ none. none) (did_nothing old) f
+
+sound-more : (first desk next : Desk) (reads : List (List ℕ)) (bytes : List ℕ) → desk ≡ standing (cleared first) reads → next ≡ on_bytes desk bytes
+    → next.later ≡ None → AreSound first (reads ++ bytes ∷ [])
+sound-more first desk next reads bytes stands e sound none =
+    ap (λ (d : Desk). d.later) (standing-more reads (cleared first) bytes ∙ ap (λ d. cleared (on_bytes d bytes)) (sym stands) ∙ ap cleared (sym e)) ∙ sound
 
 pub not_published : (first desk next : Desk) (fault : ProcessFault) (old now read new : Around) (bytes : List ℕ) → Serves first old now desk
-    → Did now read (Read bytes ∷ []) → next ≡ on_bytes desk bytes → FailsToPublish next read new fault → Served first old new (Err fault)
-not_published first desk next fault old now read new bytes s r e f =
+    → Did now read (Read bytes ∷ []) → next ≡ on_bytes desk bytes → next.later ≡ None → FailsToPublish next read new fault → Served first old new (Err fault)
+not_published first desk next fault old now read new bytes s r e sound f =
     unpublished first next (s.reads ++ bytes ∷ []) (run first s.reads ++ Read bytes ∷ []) fault old read new (more_run first desk next old now bytes s e)
-    (did_both old now read (run first s.reads) (Read bytes ∷ []) s.did r) f
+    (sound-more first desk next s.reads bytes s.stands e sound) (did_both old now read (run first s.reads) (Read bytes ∷ []) s.did r) f

@@ -76,22 +76,31 @@ standing desk (bytes ∷ reads) = standing (cleared (on_bytes desk bytes)) reads
 abbrev pub run : Desk → List (List ℕ) → List Act
 run desk reads = publishing desk ++ serving (cleared desk) reads
 
+-- none of these reads told of a step of the own site that it doesn't have: the first that is noted stays so
+abbrev pub AreSound : Desk → List (List ℕ) → Type 0
+AreSound desk reads = desk.later ≡ None → (standing (cleared desk) reads).later ≡ None
+
 -- How it ends: when the reads do, or a read fails, after all is done; where memory is missing what came last is lost, and so where that tells
 -- of a step of the own site that it doesn't have; and where the journal or the writer fails it stops in the middle of that act.
 abbrev pub IsRun : Desk → Result (Unit {0}) ProcessFault → List Act → Type 0
-IsRun desk (Ok _) acts = (reads : List (List ℕ)) × (acts ≡ run desk reads)
-IsRun desk (Err ReadFault) acts = (reads : List (List ℕ)) × (acts ≡ run desk reads)
-IsRun desk (Err OutOfMemory) acts = (reads : List (List ℕ)) × (bytes : List ℕ) × (acts ≡ run desk reads ++ Read bytes ∷ [])
+IsRun desk (Ok _) acts = (reads : List (List ℕ)) × AreSound desk reads × (acts ≡ run desk reads)
+IsRun desk (Err ReadFault) acts = (reads : List (List ℕ)) × AreSound desk reads × (acts ≡ run desk reads)
+IsRun desk (Err OutOfMemory) acts =
+    (reads : List (List ℕ)) × (bytes : List ℕ) × AreSound desk reads × (acts ≡ run desk reads ++ Read bytes ∷ [])
 IsRun desk (Err (TooOld clock)) acts =
-    (reads : List (List ℕ)) × (bytes : List ℕ) × (acts ≡ run desk reads ++ Read bytes ∷ [])
+    (reads : List (List ℕ)) × (bytes : List ℕ) × AreSound desk reads × (acts ≡ run desk reads ++ Read bytes ∷ [])
     × ((on_bytes (standing (cleared desk) reads) bytes).later ≡ Some clock)
 IsRun desk (Err JournalFault) acts =
-    (reads : List (List ℕ)) × (before after : List Act) × (text : List ℕ) × (n : ℕ) × (run desk reads ≡ before ++ Append text ∷ after)
-    × (acts ≡ before ++ Append (take n text) ∷ [])
+    (reads : List (List ℕ)) × (before after : List Act) × (text : List ℕ) × (n : ℕ) × AreSound desk reads
+    × (run desk reads ≡ before ++ Append text ∷ after) × (acts ≡ before ++ Append (take n text) ∷ [])
 IsRun desk (Err WriteFault) acts =
-    (reads : List (List ℕ)) × (before : List Act) × (text : List ℕ) × (n : ℕ) × (run desk reads ≡ before ++ Tell text ∷ [])
-    × (acts ≡ before ++ Tell (take n text) ∷ [])
+    (reads : List (List ℕ)) × (before : List Act) × (text : List ℕ) × (n : ℕ) × AreSound desk reads
+    × (run desk reads ≡ before ++ Tell text ∷ []) × (acts ≡ before ++ Tell (take n text) ∷ [])
 
 -- a process did so
 abbrev pub Served : Desk → Around → Around → Result (Unit {0}) ProcessFault → Type 0
 Served desk old new result = (acts : List Act) × Did old new acts × IsRun desk result acts
+
+-- its desk then stands as what it read has left it
+abbrev pub Stood : Desk → Desk → Around → Around → Type 0
+Stood first last old new = (reads : List (List ℕ)) × Did old new (run first reads) × (last ≡ standing (cleared first) reads)

@@ -1,7 +1,7 @@
 //! A process: it takes what comes, makes what it recorded durable, and only then writes its answers.
 ghost use Rattle.std.specs.Prelude.{◌≡◌, ◌≢◌, ◌||◌, [], ◌∷◌, ℕ, List, None, Option, Some, is_some, take, IfErr, OnErr, OnOk};
 ghost use Rattle.std.specs.Io.KnownBytes.{Appends, IsAtEnd};
-ghost use Rattle.shm_journal.specs.Acts.{Append, Did, GoesOn, Served, Tell, around, keeping, publishing, telling};
+ghost use Rattle.shm_journal.specs.Acts.{Append, Did, GoesOn, Served, Stood, Tell, around, keeping, publishing, telling};
 ghost use Rattle.shm_journal.specs.Publishing.{FailsToPublish, FailsToTake};
 ghost use Rattle.shm_journal.specs.Warning.{Warns, WarnsOnce, warned_if};
 ghost use Rattle.shm_process.specs.Desk.{cleared, disagreement_in, on_bytes};
@@ -33,6 +33,9 @@ pub fn serve<A: Allocator + Copy, R: Read, W: Write, E: Write, J: Journal>(
     ensures end { OnOk result (IsAtEnd (R.remaining reader.new)) }
     ensures served { Served (desk_of desk.old) (around (R.remaining reader.old) (W.contents writer.old) (J.acts journal.old))
         (around (R.remaining reader.new) (W.contents writer.new) (J.acts journal.new)) result }
+    ensures stands { OnOk result (Stood (desk_of desk.old) (desk_of desk.new)
+        (around (R.remaining reader.old) (W.contents writer.old) (J.acts journal.old))
+        (around (R.remaining reader.new) (W.contents writer.new) (J.acts journal.new))) }
     ensures sound { (desk_of desk.old).later ≡ None → OnOk result ((desk_of desk.new).later ≡ None) }
     ensures warned { WarnsOnce (E.contents errors.old) (E.contents errors.new) (desk_of desk.new) result }
 {

@@ -1,7 +1,7 @@
 use Rattle.std.proofs.Common.{◌<◌, [], ◌∷◌, is_some, length, take, refl, ap, subst, ◌∙◌, arith}
 use Rattle.shm_process.specs.DeskOf.{desk_of}
 use Rattle.shm_process.specs.Desk.{disagreement_in}
-use Rattle.shm_journal.proofs.ServingLemmas.{begun, did_not_read, did_read, ended, never_published, not_published, not_taken, read_failed, still_sound, went_on}
+use Rattle.shm_journal.proofs.ServingLemmas.{begun, did_not_read, did_read, ended, never_published, no_more, not_published, not_taken, read_failed, still_sound, stood, went_on}
 use Rattle.shm_journal.proofs.WarningLemmas.{still_noted, warned_done, warned_on}
 use Rattle.shm_journal.specs.Acts.{Did, Read, around}
 use Rattle.shm_journal.specs.Warning.{Warns}
@@ -38,7 +38,7 @@ returns-in_default-clause-served g c =
     let acts = g.J.Journal.acts in
     read_failed (desk_of c.args.desk.now) (desk_of c.reads.desk) (around (remaining c.args.reader.now) (contents c.args.writer.now) (acts c.args.journal.now))
     (around (remaining c.reads.reader) (contents c.reads.writer) (acts c.reads.journal))
-    (around (remaining c.read.new.reader) (contents c.reads.writer) (acts c.read.new.self)) c.reads.invariant.serves
+    (around (remaining c.read.new.reader) (contents c.reads.writer) (acts c.read.new.self)) c.reads.invariant.serves c.reads.invariant.sound
     (
     did_not_read (remaining c.reads.reader) (remaining c.read.new.reader) (contents c.reads.writer) (acts c.reads.journal) (acts c.read.new.self)
     c.in_default.ensures.unread c.in_default.ensures.none
@@ -60,6 +60,19 @@ returns-then-count-eq0-clause-served g c =
     did_read (remaining c.reads.reader) (remaining c.read.new.reader) (contents c.reads.writer) (acts c.reads.journal) (acts c.read.new.self) _
     c.in-Ok-read.ensures.read c.in-Ok-read.ensures.act in
     ended (desk_of c.args.desk.now) (desk_of c.reads.desk) (around (remaining c.args.reader.now) (contents c.args.writer.now) (acts c.args.journal.now)) before after
+    c.reads.invariant.serves c.reads.invariant.sound (subst (λ n. Did before after (Read (take n c.read.new.chunk) ∷ [])) c.if-count-eq0.true all)
+
+pub returns-then-count-eq0-clause-stands : goal.returns-then-count-eq0-clause-stands
+returns-then-count-eq0-clause-stands g c =
+    let remaining = g.R.Read.remaining in
+    let contents = g.W.Write.contents in
+    let acts = g.J.Journal.acts in
+    let before = around (remaining c.reads.reader) (contents c.reads.writer) (acts c.reads.journal) in
+    let after = around (remaining c.read.new.reader) (contents c.reads.writer) (acts c.read.new.self) in
+    let all : Did before after (Read (take c.in-Ok-read.count c.read.new.chunk) ∷ []) =
+    did_read (remaining c.reads.reader) (remaining c.read.new.reader) (contents c.reads.writer) (acts c.reads.journal) (acts c.read.new.self) _
+    c.in-Ok-read.ensures.read c.in-Ok-read.ensures.act in
+    stood (desk_of c.args.desk.now) (desk_of c.reads.desk) (around (remaining c.args.reader.now) (contents c.args.writer.now) (acts c.args.journal.now)) before after
     c.reads.invariant.serves (subst (λ n. Did before after (Read (take n c.read.new.chunk) ∷ [])) c.if-count-eq0.true all)
 
 pub returns-in-Err-take_read-clause-served : goal.returns-in-Err-take_read-clause-served
@@ -70,6 +83,7 @@ returns-in-Err-take_read-clause-served g c =
     not_taken (desk_of c.args.desk.now) (desk_of c.reads.desk) c.in-Err-take_read.fault (around (remaining c.args.reader.now) (contents c.args.writer.now) (acts c.args.journal.now))
     (around (remaining c.reads.reader) (contents c.reads.writer) (acts c.reads.journal))
     (around (remaining c.read.new.reader) (contents c.reads.writer) (acts c.read.new.self)) (take c.in-Ok-read.count c.read.new.chunk) c.reads.invariant.serves
+    c.reads.invariant.sound
     (
     did_read (remaining c.reads.reader) (remaining c.read.new.reader) (contents c.reads.writer) (acts c.reads.journal) (acts c.read.new.self) _
     c.in-Ok-read.ensures.read c.in-Ok-read.ensures.act
@@ -91,7 +105,7 @@ returns-in-Err-publish-clause-served g c =
     did_read (remaining c.reads.reader) (remaining c.read.new.reader) (contents c.reads.writer) (acts c.reads.journal) (acts c.read.new.self) _
     c.in-Ok-read.ensures.read c.in-Ok-read.ensures.act
     )
-    c.in-Ok-take_read.ensures.taken (c.in-Err-publish.ensures.fault (remaining c.read.new.reader))
+    c.in-Ok-take_read.ensures.taken c.in-Ok-take_read.ensures.sound (c.in-Err-publish.ensures.fault (remaining c.read.new.reader))
 
 pub reads-preserved : goal.reads-preserved
 reads-preserved g c =
