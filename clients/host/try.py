@@ -26,7 +26,8 @@ import time
 HERE = os.path.dirname(os.path.abspath(__file__))
 sys.path.insert(0, os.path.join(HERE, 'try'))
 from cluster import Cluster, Words, answer_of, expect, has, has_ended, keys, patience
-from others import try_others, try_postgres
+from framebuffer import try_framebuffer
+from others import try_modules, try_others, try_postgres
 from refusals import try_refusals, try_sockets
 from sleepers import try_sleepers
 from times import time_all
@@ -39,11 +40,11 @@ BROKEN = {1: 'leaves a page in memory that was read and is given up', 2: 'leaves
 
 def try_counts(cluster, times=500):
     key = next(keys)
-    cluster.together(*[(me, './count', key, 3, times) for me in range(cluster.hosts)])
+    cluster.together(*[(me, './count', key, 4, times) for me in range(cluster.hosts)])
     told = cluster.told(0, './count', key, 1, 1)
-    expected = 6 * times * cluster.hosts + 2
+    expected = 8 * times * cluster.hosts + 2
     expect(told == f'{expected} {expected}', f'{expected} adds are {told}')
-    return f'{expected} adds of {6 * cluster.hosts} threads'
+    return f'{expected} adds of {8 * cluster.hosts} threads'
 
 
 def try_words(cluster, rounds, seed=1):
@@ -111,6 +112,7 @@ def try_smooth(options):
             yield try_all_litmus(cluster, 2 * options.times)
             yield try_calls(cluster)
             yield from try_others(cluster)
+            yield from try_modules(cluster, 30)
         finally:
             complaints = cluster.stop()
         expect(complaints == '', complaints)
@@ -189,24 +191,39 @@ def try_repeats(options):
 
 
 def try_broken(options):
-    """Each broken rule is seen: something counts wrong, has an outcome that must not be, or goes on and on."""
+    """Each broken rule is seen: something counts wrong, has an outcome that must not be, or goes on for ten times as long as without it."""
+    begun = time.monotonic()
+    sound = broken_cluster(options, 0)
+    try:
+        turn_broken(sound, 0)
+    finally:
+        sound.stop()
+    longest = max(20, 10 * (time.monotonic() - begun))
     for rule, says in BROKEN.items():
-        cluster = Cluster(options, 3, rough=('0', '20', '20'), words=('--break', str(rule)))
+        cluster = broken_cluster(options, rule)
         try:
-            seen = see_broken(cluster)
+            seen = see_broken(cluster, longest)
         finally:
             cluster.stop()
         expect(seen, f'rule {rule} is broken ({says}), and nothing is seen')
         yield f'seen where the daemon {says}: {seen}'
 
 
-def see_broken(cluster):
+def broken_cluster(options, rule):
+    return Cluster(options, 3, rough=('0', '20', '20'), words=('--break', str(rule)))
+
+
+def turn_broken(cluster, turn):
+    try_words(cluster, 200, turn)
+    try_counts(cluster, 300)
+
+
+def see_broken(cluster, longest):
     """What shows it: programs whose every answer is known. What needs two to meet in a moment needs some turns."""
-    before, patience[0] = patience[0], 20
+    before, patience[0] = patience[0], longest
     try:
         for turn in range(30):
-            try_words(cluster, 200, turn)
-            try_counts(cluster, 300)
+            turn_broken(cluster, turn)
     except AssertionError as seen:
         return str(seen).splitlines()[0].replace(cluster.options.build, '..')[:100]
     finally:
@@ -232,7 +249,7 @@ b[0] = b"a"; print("here", flush=True); sys.stdin.readline(); b[1] = b"b"; print
         time.sleep(0.5)
         expect(program.poll() is None, 'it waits at its next fault')
         again = cluster.start(0, subprocess.DEVNULL)
-        expect(again.wait(10) == 1 and 'still run' in cluster.complaints(), 'no other daemon begins')
+        expect(again.wait(60) == 1 and 'still run' in cluster.complaints(), 'no other daemon begins')
     finally:
         program.kill()
         program.wait()
@@ -364,9 +381,11 @@ def kill_early(cluster, times):
         time.sleep(draw.uniform(0, 0.03))
         program.kill()
         program.wait()
-    time.sleep(3)
-    lines = [line.split() for line in cluster.told(0, 'ipcs', '-m').splitlines() if line.startswith(f'0x{key:08x}')]
-    expect([line[5] for line in lines] == ['0'], f'nobody has attached it: {lines}')
+    until, attached = time.monotonic() + 60, None
+    while attached != ['0']:
+        expect(time.monotonic() < until, f'nobody has attached it: {attached}')
+        time.sleep(1)
+        attached = [line.split()[5] for line in cluster.told(0, 'ipcs', '-m').splitlines() if line.startswith(f'0x{key:08x}')]
     return f'{times} programs killed early'
 
 
@@ -396,7 +415,7 @@ def try_seals(options):
     yield cluster.audit()
 
 
-TRIES = {'smooth': try_smooth, 'sleepers': try_sleepers, 'carriers': try_carriers, 'postgres': try_database, 'nobody': try_nobody, 'checked': try_checked,
+TRIES = {'smooth': try_smooth, 'sleepers': try_sleepers, 'carriers': try_carriers, 'postgres': try_database, 'framebuffer': try_framebuffer, 'nobody': try_nobody, 'checked': try_checked,
          'many': try_many, 'refusals': try_refusals, 'sockets': try_sockets, 'death': try_daemon_death, 'kills': try_kills, 'untold': try_untold,
          'seals': try_seals, 'repeats': try_repeats, 'broken': try_broken}
 

@@ -9,9 +9,9 @@ import tempfile
 import time
 
 PACKAGES = {'mosquitto_sub': 'mosquitto-clients', 'mosquitto': 'mosquitto', 'perl': 'perl', 'ipcs': 'util-linux', 'stress-ng': 'stress-ng',
-            'valgrind': 'valgrind', 'pg_lsclusters': 'postgresql', 'setpriv': 'util-linux'}
+            'valgrind': 'valgrind', 'pg_lsclusters': 'postgresql', 'setpriv': 'util-linux', 'Xvfb': 'xvfb'}
 keys = itertools.count(1000)
-patience = [240]  # seconds until a program counts as one that goes on and on
+patience = [1200]  # seconds until a program counts as one that goes on and on
 
 
 def expect(condition, text):
@@ -86,7 +86,7 @@ class Cluster:
         return subprocess.Popen(self.command(me) + list(words), stdin=stream, stdout=stream, stderr=self.logs[me])
 
     def wait_for_sockets(self):
-        until = time.monotonic() + 20
+        until = time.monotonic() + 120
         while not all(os.path.exists(self.socket(me)) for me in range(self.hosts)):
             expect(time.monotonic() < until, f'the daemons start: {self.complaints()}')
             time.sleep(0.02)
@@ -134,7 +134,7 @@ class Cluster:
         for daemon in self.daemons:
             daemon.terminate()
         for daemon in self.daemons:
-            daemon.wait(60)
+            daemon.wait(240)
         self.carrier.terminate()
         self.carrier.wait()
         for stream in self.streams:
