@@ -44,8 +44,8 @@ struct page {
     size_t offset;
     /* In some program here; by a fault that waits; of the site, which hasn't answered; and what the site lets stay at most. */
     enum right mapped, wanted, asked, keeps;
-    /* The site is asked at a tick again; and some program may have stored since the bytes were last brought. */
-    bool later, opened;
+    /* The site is asked at a tick again; some program may have stored since the bytes were last brought; and who reads on soon needs the page. */
+    bool later, opened, ahead;
     /* The attachment that it is mapped through, and the number of its last unmap or sync. */
     int at;
     uint64_t unmap;
@@ -72,7 +72,9 @@ struct segment {
     size_t length;
     uint8_t *bytes, *twins;
     struct page *pages;
-    int64_t changed;
+    /* The page behind the one that was read last, when that was, and how many before it were read one after another. */
+    size_t next_read, reads;
+    int64_t read_at, changed;
     time_t attach_time, detach_time;
     pid_t last;
 };
@@ -107,6 +109,7 @@ void site_end(void);
 bool site_flush(void); /* whether all is written */
 void site_tick(void);
 bool site_waits(void); /* a call is outstanding */
+bool may_read_ahead(void); /* few maps have no answer */
 bool is_to_call(const char *text); /* such a call has no answer yet */
 bool pass_line(const char *line);
 void ask_map(struct page *page);

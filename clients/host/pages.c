@@ -19,7 +19,7 @@
 #include <sys/syscall.h>
 
 /* `ALIKE` bytes of a page are compared at once, as most of them didn't change. */
-enum { FUTEXES_AT_ONCE = 8, WOKEN = -1, ALIKE = 64, THREADS = 16 };
+enum { FUTEXES_AT_ONCE = 8, WOKEN = -1, ALIKE = 64, THREADS = 16, MOST_AHEAD = 16 };
 
 /* Nanoseconds for which a page stays at most, and until it is looked at again; and until one that left is fetched for those who sleep in it. */
 static const int64_t LONGEST_STAY = 20000000, LOOK_AGAIN = 50000, FIRST_WAIT = 1000000, LONGEST_WAIT = 64000000;
@@ -168,8 +168,8 @@ static void stays_for(struct page *page, pid_t thread) {
    from one another before either's instruction is repeated. */
 static int64_t stays_until(struct page *page) {
     if (page->thread == 0 || now() < page->since + options.stay) return page->since + options.stay;
-    bool waits = page->thread == WOKEN || (page->runs > 0 && runs_of(page->thread) == page->runs);
-    if (now() < page->since + LONGEST_STAY && waits) return now() + LOOK_AGAIN;
+    bool came_lately = now() < page->since + LONGEST_STAY;
+    if (came_lately && (page->thread == WOKEN || (page->runs > 0 && runs_of(page->thread) == page->runs))) return now() + LOOK_AGAIN;
     page->thread = 0;
     return 0;
 }
@@ -213,8 +213,25 @@ void page_told(struct page *page, const char *text) {
     if (page->unsearched > 0 && wake_sleepers(page, left, for_fault) && !for_fault) stays_for(page, WOKEN);
 }
 
+/* Who has read three pages one after another soon needs the next ones. They are asked for at once, so that their ways overlap: two pages, and with
+   each further page that is read twice as many, once half of them have been read. Each is asked for once; where that fails, a fault asks for it. */
+static void read_ahead(struct page *page) {
+    struct segment *segment = page->segment;
+    size_t index = page->offset / PAGE, last = segment->length / PAGE - 1;
+    bool goes_on = index == segment->next_read && now() < segment->read_at + SECOND;
+    segment->reads = goes_on ? segment->reads + 1 : 0;
+    segment->next_read = index + 1;
+    segment->read_at = now();
+    size_t count = segment->reads < 2 ? 0 : segment->reads < 5 ? (size_t)1 << (segment->reads - 1) : MOST_AHEAD;
+    if (count > last - index) count = last - index;
+    const struct page *midway = page + (count + 1) / 2;
+    if (midway->mapped != NONE || midway->asked != NONE) return;
+    for (size_t number = 1; number <= count; number++) page[number].ahead = true;
+}
+
 void page_fault(struct page *page, const struct fault *fault) {
     struct fault *kept = room(NULL, sizeof *kept);
+    if (fault->needed == READ) read_ahead(page);
     *kept = *fault;
     kept->next = page->faults;
     page->faults = kept;
@@ -232,6 +249,8 @@ static bool turn(struct page *page, int64_t time, int64_t *due) {
         if (until <= now()) unmap_to(page, page->keeps);
         else if (until < *due) *due = until;
     }
+    if (page->ahead && page->wanted == NONE && may_read_ahead()) page->wanted = READ;
+    page->ahead = false;
     if (page->wanted > page->mapped && page->asked == NONE && !page->later) ask_map(page);
     return page->keeps < WRITE || page->unsearched > 0 || page->wanted > page->mapped;
 }

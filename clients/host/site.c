@@ -13,8 +13,9 @@
 #include <sys/stat.h>
 #include <sys/wait.h>
 
-/* A line has at most so many bytes, with its seal; and so many of runs, each of which has so many beside its base64. */
-enum { LINE = 8192, RUNS = 8000, BESIDE = 16 };
+/* A line has at most so many bytes, with its seal; and so many of runs, each of which has so many beside its base64. A site lets 64 asks wait, half
+   of which faults keep for themselves. */
+enum { LINE = 8192, RUNS = 8000, BESIDE = 16, MOST_MAPS_AHEAD = 32 };
 
 static struct channel to_site = {.descriptor = -1}, from_site = {.descriptor = -1};
 static struct channel unmaps; /* and syncs: their lines; those from `unanswered` on have no answer */
@@ -25,6 +26,7 @@ static size_t runs_length;
 static pid_t process;
 static struct call *calls;
 static uint64_t calls_made;
+static int maps; /* without an answer */
 static bool ticking, recovering; /* a tick has no answer yet; what is mapped hasn't been told since the site was started */
 
 /* Says an ask, and gives its line, without its seal. */
@@ -92,11 +94,17 @@ void ask_map(struct page *page) {
     if (recovering || is_unmapping(page)) return;
     page->asked = page->wanted;
     page->at = at;
+    maps++;
     say("m.%d.%zu map %d %zu %s", at, index, at, index, page->wanted == WRITE ? "write" : "read");
+}
+
+bool may_read_ahead(void) {
+    return maps < MOST_MAPS_AHEAD;
 }
 
 static void map_answered(const char *tag, const char *text) {
     int at = 0, index = 0;
+    maps--;
     sscanf(tag, "m.%d.%d", &at, &index);
     struct page *page = page_of(-1, at, index);
     if (page != NULL && page->asked != NONE) page_told(page, text);
@@ -288,6 +296,7 @@ void site_start(void) {
     watch(from_site.descriptor, &source);
     push_bytes(&to_site, unmaps.bytes + unanswered, unmaps.length - unanswered);
     unmaps_said_again = unmaps_said;
+    maps = 0;
     recovering = true;
     say("l mappings");
 }

@@ -77,6 +77,14 @@ def try_ring(cluster, times):
     return f'ring {times}'
 
 
+def try_pages(cluster, rounds):
+    """One host stores to page after page, the others read them in the same order, so that pages are read ahead."""
+    key, pages = next(keys), 24
+    told = cluster.together(*[(me, './pages', key, 'get' if me > 0 else 'put', pages, rounds) for me in range(cluster.hosts)])
+    expect(set(told) == {'0'}, f'pages that go back: {told}')
+    return f'pages {pages} times {rounds}'
+
+
 def try_litmus(cluster, test, rounds, *plain):
     key = next(keys)
     roles = 4 if test == 'iriw' else 2
@@ -109,6 +117,7 @@ def try_smooth(options):
             yield try_words(cluster, options.times // 5)
             yield try_locks(cluster, options.times)
             yield try_ring(cluster, 10 * options.times)
+            yield try_pages(cluster, options.times // 5)
             yield try_all_litmus(cluster, 2 * options.times)
             yield try_calls(cluster)
             yield from try_others(cluster)
@@ -157,6 +166,7 @@ def try_kills(options):
         yield try_words(cluster, times)
         yield try_locks(cluster, times // 5)
         yield try_ring(cluster, times)
+        yield try_pages(cluster, times // 5)
         yield try_litmus(cluster, 'sb', times // 5)
         yield try_litmus(cluster, 'iriw', times // 5)
     yield f'{cluster.kills} sites killed; {cluster.audit()}'
@@ -353,7 +363,7 @@ def try_checked(options):
         open_at_its_end = socket.socket(socket.AF_UNIX, socket.SOCK_SEQPACKET)
         open_at_its_end.connect(cluster.socket(0))
         try:
-            told = [try_counts(cluster, 20), try_words(cluster, 20), try_calls(cluster), *try_others(cluster)]
+            told = [try_counts(cluster, 20), try_words(cluster, 20), try_pages(cluster, 5), try_calls(cluster), *try_others(cluster)]
             yield f'{says}: {", ".join(told)}'
         finally:
             complaints = cluster.stop()
@@ -436,6 +446,7 @@ def soak(options):
         for turn in itertools.count(1):
             first = next(keys)
             told = [try_counts(cluster, times), try_words(cluster, times, turn), try_lock(cluster, 'mutex', times), try_ring(cluster, times)]
+            told.append(try_pages(cluster, times // 5))
             print(f'  {turn}: {", ".join(told)}; memory {cluster.memory()}', flush=True)
             cluster.told(0, 'ipcrm', *[word for key in range(first + 1, next(keys)) for word in ('-M', key)])
             if time.monotonic() > until:

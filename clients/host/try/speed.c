@@ -1,5 +1,6 @@
 /* speed KEY loads: how many million loads, stores and atomic adds a second there are of pages that are here.
-   speed KEY read|write PAGES [SECONDS]: the median of the first touches of so many pages, in microseconds; then it stays so long.
+   speed KEY read|write PAGES [SECONDS]: the median of the first touches of so many pages, in microseconds, from the last page on, so that none is
+   read ahead; then it stays so long.
    speed KEY fill PAGES: stores to all bytes of so many pages, and tells how many milliseconds it took.
    speed KEY scan PAGES: how many milliseconds the first reads of so many pages take together. */
 #include <stdio.h>
@@ -37,7 +38,7 @@ static int compare(const void *one, const void *other) {
 
 static void time_touches(volatile char *bytes, int stores, int pages) {
     static double times[MOST];
-    for (int page = 0; page < pages; page++) {
+    for (int page = pages - 1; page >= 0; page--) {
         double begun = microseconds();
         if (stores) bytes[4096 * page] = 1;
         else (void)bytes[4096 * page];
