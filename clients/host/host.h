@@ -95,6 +95,7 @@ struct call {
 /* host.c: lines, the carrier, the loop. No memory ends the daemon. */
 void *room(void *old, size_t size);
 void watch(int descriptor, struct source *source);
+void close_watched(int descriptor);
 void push_bytes(struct channel *channel, const char *bytes, size_t length);
 void push_line(struct channel *channel, const char *line, bool seals);
 void take_off(struct channel *channel, size_t count);

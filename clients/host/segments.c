@@ -257,7 +257,7 @@ static void take_ask(struct call *call, int handed) {
 
 static void end_connection(struct connection *connection) {
     if (connection->promised != NULL) segment_attached(connection->promised, -1);
-    close(connection->socket);
+    close_watched(connection->socket);
     connection->socket = -1;
     connection->promised = NULL;
     free_ended(connection);

@@ -128,13 +128,18 @@ def try_smooth(options):
 
 
 def kill_sites(cluster, ended, seed):
-    draw = random.Random(seed)
-    cluster.kills = 0
-    while not ended.wait(draw.uniform(0.3, 1.5) * cluster.options.between_kills):
-        site = cluster.site_of(draw.randrange(cluster.hosts))
-        if site is not None:
-            os.kill(site, signal.SIGKILL)
-            cluster.kills += 1
+    """One, or several at once, some of them again while they read their journals. All come back before others are killed, and then have as long to
+    work: else on a busy machine nothing would go on."""
+    draw, took = random.Random(seed), 0
+    while not ended.wait(took + draw.uniform(0.3, 1.5) * cluster.options.between_kills):
+        begun, hosts = time.monotonic(), draw.sample(range(cluster.hosts), draw.choice((1, 1, 1, 2, cluster.hosts)))
+        for me in hosts:
+            cluster.kill_site(me)
+        if draw.random() < 0.2 and not ended.wait(draw.uniform(0, 0.3)):
+            cluster.kill_site(hosts[0])
+        while not all(cluster.is_back(me) for me in hosts) and not ended.wait(0.05):
+            pass
+        took = time.monotonic() - begun
 
 
 def odd_lines(complaints):
@@ -155,7 +160,7 @@ def rough_cluster(options, seed):
         ended.set()
         killer.join()
         complaints = cluster.stop()
-    odd = odd_lines(complaints)
+    odd, cluster.kills = odd_lines(complaints), complaints.count('was killed')
     expect(not odd, '\n'.join(odd))
 
 

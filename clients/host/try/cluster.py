@@ -3,6 +3,7 @@ import itertools
 import os
 import select
 import shutil
+import signal
 import socket
 import subprocess
 import tempfile
@@ -124,6 +125,22 @@ class Cluster:
         listed = subprocess.run(['ps', '-o', 'pid=,args=', '--ppid', str(self.daemons[me].pid)], stdout=subprocess.PIPE, text=True).stdout
         sites = [int(line.split()[0]) for line in listed.splitlines() if ' site --sites ' in line]
         return sites[0] if sites else None
+
+    def kill_site(self, me):
+        """Its daemon tells of it in its log, and so does the site once it is back."""
+        site, told = self.site_of(me), self.log_of(me).count('was killed')
+        if site is not None:
+            os.kill(site, signal.SIGKILL)
+            while self.log_of(me).count('was killed') == told and self.daemons[me].poll() is None:
+                time.sleep(0.02)
+
+    def is_back(self, me):
+        log = self.log_of(me)
+        return log.rfind('steps taken again') >= log.rfind('was killed') or self.daemons[me].poll() is not None
+
+    def log_of(self, me):
+        with open(os.path.join(self.folder, f'log-{me}')) as log:
+            return log.read()
 
     def memory(self):
         """Kilobytes of the daemons, and of their sites."""
