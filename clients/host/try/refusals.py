@@ -1,5 +1,7 @@
 """Daemons that can't begin, and sockets that nobody answers at: each is told in a sentence."""
 import os
+import signal
+import socket
 import subprocess
 import time
 
@@ -67,3 +69,22 @@ def try_sockets(options):
             again.kill()
         cluster.stop()
     yield 'nothing starts over a socket that was left, which the next daemon has; one that answers is left alone'
+
+
+def try_leaving(options):
+    """Programs that leave while the daemon starts its site anew, so that the child that is to be the site has their connections, too."""
+    cluster = Cluster(options, 2, journals=True)
+    try:
+        for _ in range(10):
+            programs = [socket.socket(socket.AF_UNIX, socket.SOCK_SEQPACKET) for _ in range(400)]
+            for program in programs:
+                program.connect(cluster.socket(0))
+            cluster.told(0, 'ipcs', '-m')
+            os.kill(cluster.site_of(0), signal.SIGKILL)
+            for program in programs:
+                program.close()
+            cluster.told(0, 'ipcs', '-m')
+        expect(cluster.daemons[0].poll() is None, 'the daemon goes on')
+    finally:
+        cluster.stop()
+    yield f'10 times 400 connections end while a site is started again; {cluster.audit()}'
