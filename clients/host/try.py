@@ -264,7 +264,7 @@ b[0] = b"a"; print("here", flush=True); sys.stdin.readline(); b[1] = b"b"; print
         time.sleep(0.5)
         expect(program.poll() is None, 'it waits at its next fault')
         again = cluster.start(0, subprocess.DEVNULL)
-        expect(again.wait(60) == 1 and 'still run' in cluster.complaints(), 'no other daemon begins')
+        expect(again.wait(240) == 1 and 'still run' in cluster.complaints(), 'no other daemon begins')
     finally:
         program.kill()
         program.wait()

@@ -12,7 +12,7 @@ import time
 PACKAGES = {'mosquitto_sub': 'mosquitto-clients', 'mosquitto': 'mosquitto', 'perl': 'perl', 'ipcs': 'util-linux', 'stress-ng': 'stress-ng',
             'valgrind': 'valgrind', 'pg_lsclusters': 'postgresql', 'setpriv': 'util-linux', 'Xvfb': 'xvfb'}
 keys = itertools.count(1000)
-patience = [1200]  # seconds until a program counts as one that goes on and on
+patience = [3600]  # seconds until a program counts as one that goes on and on
 
 
 def expect(condition, text):

@@ -24,7 +24,7 @@ def receive(client, length):
 def draw(display, pixels):
     """A client of the X protocol that puts an image on the root window, and waits until it is there."""
     with socket.socket(socket.AF_UNIX) as client:
-        client.settimeout(60)
+        client.settimeout(600)
         client.connect(f'/tmp/.X11-unix/X{display}')
         client.sendall(struct.pack('<BxHHHHxx', ord('l'), 11, 0, 0, 0))
         good, length = struct.unpack('<BxxxxxH', receive(client, 8))
@@ -51,7 +51,7 @@ def try_server(cluster):
         expect(int(row) == 4 * WIDTH and bytes.fromhex(pixels) == drawn, "the framebuffer's pixels are those that were drawn")
     finally:
         server.terminate()
-        server.communicate(timeout=60)
+        server.communicate(timeout=600)
     return f"Xvfb's framebuffer of {WIDTH} times {HEIGHT} pixels, read on another host as it was drawn"
 
 
