@@ -287,9 +287,11 @@ def try_daemon_again(options):
         while not has_ended(site):  # it ends with its input, and has the journal until then
             time.sleep(0.02)
         cluster.daemons[0] = cluster.start(0, cluster.streams[0])
-        words.ask((1, 0, 1), (1, 1024, 1))
+        words.ask((1, 0, 1))
+        words.ask((1, 1024, 1))
         words.programs[0] = words.program(0)
-        words.ask((0, 0, 1), (0, 1024, 1))
+        words.ask((0, 0, 1))
+        words.ask((0, 1024, 1))
         told = try_counts(cluster, 20)
     finally:
         words.end()

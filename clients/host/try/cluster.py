@@ -202,7 +202,7 @@ class Words:
         return self.cluster.on(me, './words', self.key, stdin=subprocess.PIPE, stderr=None)
 
     def ask(self, *asks):
-        """Each is a host, a word and how often: all at once, each of a word of its own. Fails where one isn't told what the word must be."""
+        """Each is a host, a word and how often: all at once, each of a host and a word of its own. Fails where one isn't told what the word must be."""
         for me, word, times in asks:
             self.values[word] = self.values.get(word, 0) + times
             self.programs[me].stdin.write(f'{word} {times}\n')
