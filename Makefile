@@ -117,8 +117,8 @@ bench-core:
 
 # Programs of one machine's segments, unchanged, over two and three hosts on this machine, with carriers that lose, sites that are killed, and
 # daemons that leave out a part of their rule. Needs the program that `make build` leaves, root, Linux 6.4 or later, Python 3 and a C compiler
-# with its sanitizers; what needs the Debian packages mosquitto, mosquitto-clients, perl, postgresql, stress-ng or valgrind is left out where they
-# aren't there. Some minutes; no part of the gate.
+# with its sanitizers; what needs the Debian packages libipc-shareable-perl, libipc-sharelite-perl, mosquitto, mosquitto-clients, perl, postgresql,
+# python3-sysv-ipc, stress-ng, valgrind or xvfb is left out where they aren't there, and named. Some ten minutes; no part of the gate.
 programs:
 	@clients/host/try.py --program $(PROGRAM)/out/shmdbg
 

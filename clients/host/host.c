@@ -46,6 +46,12 @@ void watch(int descriptor, struct source *source) {
     err(1, "nothing more can be awaited");
 }
 
+/* A child that is about to start a command has the descriptor, too: until then it would be awaited even if it is closed here. */
+void close_watched(int descriptor) {
+    epoll_ctl(poller, EPOLL_CTL_DEL, descriptor, NULL);
+    close(descriptor);
+}
+
 /* Lines. */
 
 static void reserve(struct channel *channel, size_t more) {

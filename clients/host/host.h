@@ -80,11 +80,11 @@ struct segment {
 };
 
 /* A segment call, which a site has one of at a time. `done` gets an errno or 0, and the reply, and ends the call or makes it go on; without it the call ends. Where it makes
-   a segment that nobody finds again, it isn't made twice. */
+   a segment that nobody finds again, it isn't made twice; else it is said again to a site that was killed. */
 struct call {
     struct call *next;
     uint64_t number;
-    bool said, makes;
+    bool said, again, makes;
     char text[160];
     void (*done)(struct call *, int error, const char *reply);
     struct connection *connection;
@@ -95,6 +95,7 @@ struct call {
 /* host.c: lines, the carrier, the loop. No memory ends the daemon. */
 void *room(void *old, size_t size);
 void watch(int descriptor, struct source *source);
+void close_watched(int descriptor);
 void push_bytes(struct channel *channel, const char *bytes, size_t length);
 void push_line(struct channel *channel, const char *line, bool seals);
 void take_off(struct channel *channel, size_t count);

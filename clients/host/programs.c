@@ -207,7 +207,7 @@ void programs_reap(void) {
     EACH_PROGRAM(program) {
         if (ioctl(program->faults, UFFDIO_WRITEPROTECT, &nothing) == 0 || errno != ESRCH) continue;
         program->used = false;
-        close(program->faults);
+        close_watched(program->faults);
         for (int index = 0; index < program->count; index++) segment_attached(program->ranges[index].segment, -1);
     }
 }

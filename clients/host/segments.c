@@ -164,6 +164,7 @@ static void answered(struct call *call, int error, const char *reply) {
     struct segment *segment = segment_of(ask->id);
     if (error == 0 && ask->kind == ASK_GET) error = take_made(call, reply);
     if (error == 0 && ask->kind == ASK_STATUS) error = take_status(reply, ask->id, &call->answer.status);
+    if (error == EIDRM && ask->kind == ASK_REMOVE && call->again) error = 0; /* made before the site was killed, and told to nobody */
     if (error == 0 && ask->kind == ASK_REMOVE && segment != NULL) segment->removed = true;
     finish(call, error, -1);
 }
@@ -257,7 +258,7 @@ static void take_ask(struct call *call, int handed) {
 
 static void end_connection(struct connection *connection) {
     if (connection->promised != NULL) segment_attached(connection->promised, -1);
-    close(connection->socket);
+    close_watched(connection->socket);
     connection->socket = -1;
     connection->promised = NULL;
     free_ended(connection);

@@ -272,7 +272,7 @@ static void start_again(void) {
     EACH_PAGE(page) page->asked = NONE, page->later = false;
     ticking = false;
     if (calls != NULL && calls->said && calls->makes) end_call(EIO, "");
-    else if (calls != NULL) calls->said = false;
+    else if (calls != NULL) calls->again |= calls->said, calls->said = false;
     site_tick();
 }
 

@@ -26,8 +26,9 @@ import time
 HERE = os.path.dirname(os.path.abspath(__file__))
 sys.path.insert(0, os.path.join(HERE, 'try'))
 from cluster import Cluster, Words, answer_of, expect, has, has_ended, keys, patience
-from others import try_others, try_postgres
-from refusals import try_refusals, try_sockets
+from framebuffer import try_framebuffer
+from others import try_modules, try_others, try_postgres
+from refusals import try_leaving, try_refusals, try_sockets
 from sleepers import try_sleepers
 from times import time_all
 
@@ -39,11 +40,11 @@ BROKEN = {1: 'leaves a page in memory that was read and is given up', 2: 'leaves
 
 def try_counts(cluster, times=500):
     key = next(keys)
-    cluster.together(*[(me, './count', key, 3, times) for me in range(cluster.hosts)])
+    cluster.together(*[(me, './count', key, 4, times) for me in range(cluster.hosts)])
     told = cluster.told(0, './count', key, 1, 1)
-    expected = 6 * times * cluster.hosts + 2
+    expected = 8 * times * cluster.hosts + 2
     expect(told == f'{expected} {expected}', f'{expected} adds are {told}')
-    return f'{expected} adds of {6 * cluster.hosts} threads'
+    return f'{expected} adds of {8 * cluster.hosts} threads'
 
 
 def try_words(cluster, rounds, seed=1):
@@ -120,19 +121,25 @@ def try_smooth(options):
             yield try_all_litmus(cluster, 2 * options.times)
             yield try_calls(cluster)
             yield from try_others(cluster)
+            yield from try_modules(cluster, 30)
         finally:
             complaints = cluster.stop()
         expect(complaints == '', complaints)
 
 
 def kill_sites(cluster, ended, seed):
-    draw = random.Random(seed)
-    cluster.kills = 0
-    while not ended.wait(draw.uniform(0.3, 1.5) * cluster.options.between_kills):
-        site = cluster.site_of(draw.randrange(cluster.hosts))
-        if site is not None:
-            os.kill(site, signal.SIGKILL)
-            cluster.kills += 1
+    """One, or several at once, some of them again while they read their journals. All come back before others are killed, and then have as long to
+    work: else on a busy machine nothing would go on."""
+    draw, took = random.Random(seed), 0
+    while not ended.wait(took + draw.uniform(0.3, 1.5) * cluster.options.between_kills):
+        begun, hosts = time.monotonic(), draw.sample(range(cluster.hosts), draw.choice((1, 1, 1, 2, cluster.hosts)))
+        for me in hosts:
+            cluster.kill_site(me)
+        if draw.random() < 0.2 and not ended.wait(draw.uniform(0, 0.3)):
+            cluster.kill_site(hosts[0])
+        while not all(cluster.is_back(me) for me in hosts) and not ended.wait(0.05):
+            pass
+        took = time.monotonic() - begun
 
 
 def odd_lines(complaints):
@@ -153,7 +160,7 @@ def rough_cluster(options, seed):
         ended.set()
         killer.join()
         complaints = cluster.stop()
-    odd = odd_lines(complaints)
+    odd, cluster.kills = odd_lines(complaints), complaints.count('was killed')
     expect(not odd, '\n'.join(odd))
 
 
@@ -199,24 +206,39 @@ def try_repeats(options):
 
 
 def try_broken(options):
-    """Each broken rule is seen: something counts wrong, has an outcome that must not be, or goes on and on."""
+    """Each broken rule is seen: something counts wrong, has an outcome that must not be, or goes on for ten times as long as without it."""
+    begun = time.monotonic()
+    sound = broken_cluster(options, 0)
+    try:
+        turn_broken(sound, 0)
+    finally:
+        sound.stop()
+    longest = max(20, 10 * (time.monotonic() - begun))
     for rule, says in BROKEN.items():
-        cluster = Cluster(options, 3, rough=('0', '20', '20'), words=('--break', str(rule)))
+        cluster = broken_cluster(options, rule)
         try:
-            seen = see_broken(cluster)
+            seen = see_broken(cluster, longest)
         finally:
             cluster.stop()
         expect(seen, f'rule {rule} is broken ({says}), and nothing is seen')
         yield f'seen where the daemon {says}: {seen}'
 
 
-def see_broken(cluster):
+def broken_cluster(options, rule):
+    return Cluster(options, 3, rough=('0', '20', '20'), words=('--break', str(rule)))
+
+
+def turn_broken(cluster, turn):
+    try_words(cluster, 200, turn)
+    try_counts(cluster, 300)
+
+
+def see_broken(cluster, longest):
     """What shows it: programs whose every answer is known. What needs two to meet in a moment needs some turns."""
-    before, patience[0] = patience[0], 20
+    before, patience[0] = patience[0], longest
     try:
         for turn in range(30):
-            try_words(cluster, 200, turn)
-            try_counts(cluster, 300)
+            turn_broken(cluster, turn)
     except AssertionError as seen:
         return str(seen).splitlines()[0].replace(cluster.options.build, '..')[:100]
     finally:
@@ -242,7 +264,7 @@ b[0] = b"a"; print("here", flush=True); sys.stdin.readline(); b[1] = b"b"; print
         time.sleep(0.5)
         expect(program.poll() is None, 'it waits at its next fault')
         again = cluster.start(0, subprocess.DEVNULL)
-        expect(again.wait(10) == 1 and 'still run' in cluster.complaints(), 'no other daemon begins')
+        expect(again.wait(240) == 1 and 'still run' in cluster.complaints(), 'no other daemon begins')
     finally:
         program.kill()
         program.wait()
@@ -265,9 +287,11 @@ def try_daemon_again(options):
         while not has_ended(site):  # it ends with its input, and has the journal until then
             time.sleep(0.02)
         cluster.daemons[0] = cluster.start(0, cluster.streams[0])
-        words.ask((1, 0, 1), (1, 1024, 1))
+        words.ask((1, 0, 1))
+        words.ask((1, 1024, 1))
         words.programs[0] = words.program(0)
-        words.ask((0, 0, 1), (0, 1024, 1))
+        words.ask((0, 0, 1))
+        words.ask((0, 1024, 1))
         told = try_counts(cluster, 20)
     finally:
         words.end()
@@ -374,9 +398,11 @@ def kill_early(cluster, times):
         time.sleep(draw.uniform(0, 0.03))
         program.kill()
         program.wait()
-    time.sleep(3)
-    lines = [line.split() for line in cluster.told(0, 'ipcs', '-m').splitlines() if line.startswith(f'0x{key:08x}')]
-    expect([line[5] for line in lines] == ['0'], f'nobody has attached it: {lines}')
+    until, attached = time.monotonic() + 60, None
+    while attached != ['0']:
+        expect(time.monotonic() < until, f'nobody has attached it: {attached}')
+        time.sleep(1)
+        attached = [line.split()[5] for line in cluster.told(0, 'ipcs', '-m').splitlines() if line.startswith(f'0x{key:08x}')]
     return f'{times} programs killed early'
 
 
@@ -406,8 +432,8 @@ def try_seals(options):
     yield cluster.audit()
 
 
-TRIES = {'smooth': try_smooth, 'sleepers': try_sleepers, 'carriers': try_carriers, 'postgres': try_database, 'nobody': try_nobody, 'checked': try_checked,
-         'many': try_many, 'refusals': try_refusals, 'sockets': try_sockets, 'death': try_daemon_death, 'kills': try_kills, 'untold': try_untold,
+TRIES = {'smooth': try_smooth, 'sleepers': try_sleepers, 'carriers': try_carriers, 'postgres': try_database, 'framebuffer': try_framebuffer, 'nobody': try_nobody, 'checked': try_checked,
+         'many': try_many, 'refusals': try_refusals, 'sockets': try_sockets, 'leaving': try_leaving, 'death': try_daemon_death, 'kills': try_kills, 'untold': try_untold,
          'seals': try_seals, 'repeats': try_repeats, 'broken': try_broken}
 
 

@@ -24,7 +24,7 @@ static void expect(bool holds, const char *what, int line) {
 /* How often it is attached; what ended may still be counted for a moment. */
 static bool attached(int id, unsigned long count) {
     struct shmid_ds status;
-    for (int turn = 0; turn < 100; turn++, usleep(10000)) {
+    for (int turn = 0; turn < 2000; turn++, usleep(10000)) {
         if (shmctl(id, IPC_STAT, &status) == 0 && status.shm_nattch == count) return true;
     }
     fprintf(stderr, "attached %lu times\n", (unsigned long)status.shm_nattch);
@@ -117,7 +117,7 @@ static void try_removal(int id, char *memory) {
     struct shmid_ds status;
     EXPECT(shmctl(id, IPC_RMID, NULL) == 0 && shmctl(id, IPC_STAT, &status) == 0);
     EXPECT(status.shm_perm.mode & SHM_DEST && memory[0] == 'h' && shmdt(memory) == 0);
-    for (int turn = 0; turn < 100 && shmctl(id, IPC_STAT, &status) == 0; turn++) usleep(10000);
+    for (int turn = 0; turn < 2000 && shmctl(id, IPC_STAT, &status) == 0; turn++) usleep(10000);
     EXPECT_ERROR(EIDRM, shmctl(id, IPC_STAT, &status));
     NOT_ATTACHED(EIDRM, shmat(id, NULL, 0));
 }

@@ -3,15 +3,16 @@ import itertools
 import os
 import select
 import shutil
+import signal
 import socket
 import subprocess
 import tempfile
 import time
 
 PACKAGES = {'mosquitto_sub': 'mosquitto-clients', 'mosquitto': 'mosquitto', 'perl': 'perl', 'ipcs': 'util-linux', 'stress-ng': 'stress-ng',
-            'valgrind': 'valgrind', 'pg_lsclusters': 'postgresql', 'setpriv': 'util-linux'}
+            'valgrind': 'valgrind', 'pg_lsclusters': 'postgresql', 'setpriv': 'util-linux', 'Xvfb': 'xvfb'}
 keys = itertools.count(1000)
-patience = [240]  # seconds until a program counts as one that goes on and on
+patience = [3600]  # seconds until a program counts as one that goes on and on
 
 
 def expect(condition, text):
@@ -86,7 +87,7 @@ class Cluster:
         return subprocess.Popen(self.command(me) + list(words), stdin=stream, stdout=stream, stderr=self.logs[me])
 
     def wait_for_sockets(self):
-        until = time.monotonic() + 20
+        until = time.monotonic() + 120
         while not all(os.path.exists(self.socket(me)) for me in range(self.hosts)):
             expect(time.monotonic() < until, f'the daemons start: {self.complaints()}')
             time.sleep(0.02)
@@ -125,6 +126,22 @@ class Cluster:
         sites = [int(line.split()[0]) for line in listed.splitlines() if ' site --sites ' in line]
         return sites[0] if sites else None
 
+    def kill_site(self, me):
+        """Its daemon tells of it in its log, and so does the site once it is back."""
+        site, told = self.site_of(me), self.log_of(me).count('was killed')
+        if site is not None:
+            os.kill(site, signal.SIGKILL)
+            while self.log_of(me).count('was killed') == told and self.daemons[me].poll() is None:
+                time.sleep(0.02)
+
+    def is_back(self, me):
+        log = self.log_of(me)
+        return log.rfind('steps taken again') >= log.rfind('was killed') or self.daemons[me].poll() is not None
+
+    def log_of(self, me):
+        with open(os.path.join(self.folder, f'log-{me}')) as log:
+            return log.read()
+
     def memory(self):
         """Kilobytes of the daemons, and of their sites."""
         processes = [daemon.pid for daemon in self.daemons] + [self.site_of(me) for me in range(self.hosts)]
@@ -134,7 +151,7 @@ class Cluster:
         for daemon in self.daemons:
             daemon.terminate()
         for daemon in self.daemons:
-            daemon.wait(60)
+            daemon.wait(240)
         self.carrier.terminate()
         self.carrier.wait()
         for stream in self.streams:
@@ -185,7 +202,7 @@ class Words:
         return self.cluster.on(me, './words', self.key, stdin=subprocess.PIPE, stderr=None)
 
     def ask(self, *asks):
-        """Each is a host, a word and how often: all at once, each of a word of its own. Fails where one isn't told what the word must be."""
+        """Each is a host, a word and how often: all at once, each of a host and a word of its own. Fails where one isn't told what the word must be."""
         for me, word, times in asks:
             self.values[word] = self.values.get(word, 0) + times
             self.programs[me].stdin.write(f'{word} {times}\n')

@@ -64,6 +64,63 @@ def try_others(cluster):
             yield one(cluster)
 
 
+# Each counts under its own lock, as often as it is told to. Host 0 says first that it is to begin, and makes what is shared.
+COUNTERS = {
+    'IPC::SharedMem': ('perl', ('perl', '-e'), """
+use IPC::SysV qw(IPC_CREAT); use IPC::SharedMem; use IPC::Semaphore;
+my ($key, $times, $first) = @ARGV;
+my $memory = IPC::SharedMem->new($key, 8192, IPC_CREAT | 0600) or die; my $lock = IPC::Semaphore->new($key, 1, IPC_CREAT | 0600) or die;
+$memory->attach or die; $lock->setval(0, 1) or die if $first;
+for (1 .. $times) {
+    $lock->op(0, -1, 0) or die; $memory->write(pack("q", unpack("q", $memory->read(4096, 8)) + 1), 4096, 8) or die; $lock->op(0, 1, 0) or die;
+}
+print unpack("q", $memory->read(4096, 8));"""),
+    'IPC::ShareLite': ('libipc-sharelite-perl', ('perl', '-e'), """
+use IPC::ShareLite qw(:lock);
+my ($key, $times, $first) = @ARGV;
+my $share = IPC::ShareLite->new(-key => $key, -create => "yes", -destroy => "no", -size => 4000) or die $!;
+$share->store("0") if $first;
+for (1 .. $times) { $share->lock(LOCK_EX) or die; $share->store($share->fetch + 1); $share->unlock or die }
+print $share->fetch;"""),
+    'IPC::Shareable': ('libipc-shareable-perl', ('perl', '-e'), """
+use IPC::Shareable;
+my ($key, $times, $first) = @ARGV;
+my $knot = tie my %shared, "IPC::Shareable", {key => $key, create => 1, destroy => 0, mode => 0600, size => 8000} or die;
+%shared = (count => 0, words => "two words") if $first;
+for (1 .. $times) { $knot->lock; $shared{count}++; $knot->unlock }
+$shared{words} eq "two words" or die; print $shared{count};"""),
+    'sysv_ipc': ('python3-sysv-ipc', ('/usr/bin/python3', '-c'), """
+import sys, sysv_ipc
+key, times, first = int(sys.argv[1]), int(sys.argv[2]), len(sys.argv) > 3
+how = sysv_ipc.IPC_CREX if first else 0
+memory = sysv_ipc.SharedMemory(key, how, 0o600, 8192 if first else 0)
+lock = sysv_ipc.Semaphore(key, how, 0o600, 1)
+if first: memory.write(b'0'.ljust(20), 4090)
+for _ in range(times):
+    with lock: memory.write(str(int(memory.read(20, 4090)) + 1).encode().ljust(20), 4090)
+print(int(memory.read(20, 4090)))"""),
+}
+
+
+def has_module(module, package, command):
+    probe = f'use {module};' if command[0] == 'perl' else f'import {module}'
+    found = shutil.which(command[0]) is not None and subprocess.run([*command, probe], stderr=subprocess.DEVNULL).returncode == 0
+    if not found:
+        print(f'  left out: this needs the Debian package {package}')
+    return found
+
+
+def try_modules(cluster, times):
+    for module, (package, command, script) in COUNTERS.items():
+        if not has_module(module, package, command):
+            continue
+        key = next(keys)
+        cluster.told(0, *command, script, key, 0, 'first')
+        told = cluster.together(*[(me, *command, script, key, times) for me in range(cluster.hosts)])
+        expect(max(map(int, told)) == cluster.hosts * times, f'{module}: {cluster.hosts} times {times} is {told}')
+        yield f'{module} counts to {cluster.hosts * times}'
+
+
 SETTINGS = """
 listen_addresses = ''
 unix_socket_directories = '.'
@@ -85,7 +142,7 @@ def make_database(folder, tools):
 
 
 def wait_for(log, words):
-    for _ in range(300):
+    for _ in range(1200):
         with open(log) as lines:
             if words in lines.read():
                 return
@@ -108,7 +165,7 @@ def end_server(server):
     children = subprocess.run(['ps', '-o', 'pid=', '--ppid', str(server.pid)], stdout=subprocess.PIPE, text=True).stdout.split()
     for process in children if server.args[0] == 'unshare' else [server.pid]:
         os.kill(int(process), signal.SIGINT)
-    server.wait(60)
+    server.wait(240)
 
 
 def ask_database(tools, data):
@@ -130,11 +187,11 @@ def try_postgres(cluster):
         wait_for(one, 'ready to accept connections')
         ask_database(tools, data)
         second = serve(cluster, cluster.hosts - 1, tools, data, two, *alone)
-        expect(second.wait(60) == 1, 'the second server ends')
+        expect(second.wait(240) == 1, 'the second server ends')
         wait_for(two, 'is still in use')
         ask_database(tools, data)
         end_server(first)
-        time.sleep(2)
+        time.sleep(5)
         second = serve(cluster, cluster.hosts - 1, tools, data, two, *alone)
         wait_for(two, 'ready to accept connections')
         ask_database(tools, data)

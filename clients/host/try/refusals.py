@@ -1,5 +1,7 @@
 """Daemons that can't begin, and sockets that nobody answers at: each is told in a sentence."""
 import os
+import signal
+import socket
 import subprocess
 import time
 
@@ -9,7 +11,7 @@ from cluster import Cluster, expect
 def refusal(options, *words, **how):
     """What a daemon says that can't begin."""
     command = [os.path.join(options.build, 'leddwyfan-host'), '--me', '0', '--program', options.program, *words]
-    told = subprocess.run(command, stdin=subprocess.DEVNULL, stdout=subprocess.DEVNULL, stderr=subprocess.PIPE, text=True, timeout=20, **how)
+    told = subprocess.run(command, stdin=subprocess.DEVNULL, stdout=subprocess.DEVNULL, stderr=subprocess.PIPE, text=True, timeout=120, **how)
     return told.stderr
 
 
@@ -52,18 +54,37 @@ def try_sockets(options):
         cluster.daemons[0].wait()
         expect(os.path.exists(cluster.socket(0)), 'the socket is left')
         program = cluster.on(0, 'echo', 'started')
-        told, complaint = program.communicate(timeout=20)
+        told, complaint = program.communicate(timeout=120)
         expect((program.returncode, told) == (1, ''), f'nothing is started: {program.returncode} {told}')
         expect('no leddwyfan-host answers' in complaint and complaint.count('\n') == 1, f'a sentence: {complaint}')
         again = cluster.start(0, subprocess.DEVNULL, '--', 'sleep', '1000')
-        until = time.monotonic() + 20
-        while cluster.on(0, 'true').wait(20) != 0:
+        until = time.monotonic() + 120
+        while cluster.on(0, 'true').wait(120) != 0:
             expect(again.poll() is None and time.monotonic() < until, f'a daemon has the socket that was left: {cluster.complaints()}')
             time.sleep(0.1)
         again.terminate()
-        expect(again.wait(20) == 0, 'the daemon ends')
+        expect(again.wait(120) == 0, 'the daemon ends')
     finally:
         if again is not None:
             again.kill()
         cluster.stop()
     yield 'nothing starts over a socket that was left, which the next daemon has; one that answers is left alone'
+
+
+def try_leaving(options):
+    """Programs that leave while the daemon starts its site anew, so that the child that is to be the site has their connections, too."""
+    cluster = Cluster(options, 2, journals=True)
+    try:
+        for _ in range(10):
+            programs = [socket.socket(socket.AF_UNIX, socket.SOCK_SEQPACKET) for _ in range(400)]
+            for program in programs:
+                program.connect(cluster.socket(0))
+            cluster.told(0, 'ipcs', '-m')
+            os.kill(cluster.site_of(0), signal.SIGKILL)
+            for program in programs:
+                program.close()
+            cluster.told(0, 'ipcs', '-m')
+        expect(cluster.daemons[0].poll() is None, 'the daemon goes on')
+    finally:
+        cluster.stop()
+    yield f'10 times 400 connections end while a site is started again; {cluster.audit()}'
