@@ -262,7 +262,7 @@ static void start_again(void) {
     struct stat journal;
     close(to_site.descriptor);
     close(from_site.descriptor);
-    waitpid(process, &status, 0);
+    while (waitpid(process, &status, 0) < 0 && errno == EINTR) {} /* the daemon is told to end meanwhile: it does so in order */
     to_site.length = from_site.length = 0;
     if (WIFEXITED(status)) errx(1, "the site's process has ended, status %d", WEXITSTATUS(status));
     if (options.journal == NULL) errx(1, "the site's process was killed, and has no journal: stop all hosts, and begin anew");
