@@ -88,9 +88,14 @@ class Cluster:
 
     def wait_for_sockets(self):
         until = time.monotonic() + 120
-        while not all(os.path.exists(self.socket(me)) for me in range(self.hosts)):
+        while not all(self.answers(me) for me in range(self.hosts)):
             expect(time.monotonic() < until, f'the daemons start: {self.complaints()}')
             time.sleep(0.02)
+
+    def answers(self, me):
+        """The socket's file is there a moment before anybody answers at it."""
+        with socket.socket(socket.AF_UNIX, socket.SOCK_SEQPACKET) as probe:
+            return probe.connect_ex(self.socket(me)) == 0
 
     def socket(self, me):
         return os.path.join(self.folder, f'socket-{me}')
