@@ -271,8 +271,12 @@ static void start_again(void) {
     site_start();
     EACH_PAGE(page) page->asked = NONE, page->later = false;
     ticking = false;
-    if (calls != NULL && calls->said && calls->makes) end_call(EIO, "");
-    else if (calls != NULL) calls->again |= calls->said, calls->said = false;
+    if (calls != NULL && calls->said && calls->makes) {
+        end_call(EIO, "");
+    } else if (calls != NULL) {
+        calls->again = calls->again || calls->said;
+        calls->said = false;
+    }
     site_tick();
 }
 

@@ -1,14 +1,13 @@
 #!/usr/bin/env python3
 """Tries programs that know nothing of sites, over two and three hosts on this machine, with a carrier that loses, repeats and delays.
 
-    try.py [--program PROGRAM] [--only NAME] [--times N] [--seconds SECONDS] [--speed [--journals]]
+    try.py [--program PROGRAM] [--only NAME] [--times N] [--seconds SECONDS] [--slow TIMES] [--speed [--journals]]
 
 Builds what is here. Some of what is tried needs Debian packages, which it names where they are missing. The status is 1 where something isn't
 as expected. Needs what leddwyfan-host needs: root, or what docs/programs.md says.
 
 With --seconds it goes on so long, with kills and losses; with --speed it times, and tries nothing."""
 import argparse
-import contextlib
 import copy
 import itertools
 import os
@@ -20,19 +19,18 @@ import stat
 import subprocess
 import sys
 import tempfile
-import threading
 import time
 
 HERE = os.path.dirname(os.path.abspath(__file__))
 sys.path.insert(0, os.path.join(HERE, 'try'))
-from cluster import Cluster, Words, answer_of, expect, has, has_ended, keys, patience
+from cluster import Cluster, Words, expect, has, has_ended, keys, patience, slowness, within
 from framebuffer import try_framebuffer
 from others import try_modules, try_others, try_postgres
 from refusals import try_leaving, try_refusals, try_sockets
+from rough import ROUGH, odd_lines, rough_cluster
 from sleepers import try_sleepers
 from times import time_all
 
-ROUGH = ('5', '10', '30')
 BROKEN = {1: 'leaves a page in memory that was read and is given up', 2: 'leaves a page in memory that was written and is given up',
           3: 'leaves a page open to write that it lends', 4: "doesn't say what changed", 5: 'opens pages to write that are mapped to read',
           6: "doesn't protect before it says what changed"}
@@ -125,43 +123,6 @@ def try_smooth(options):
         finally:
             complaints = cluster.stop()
         expect(complaints == '', complaints)
-
-
-def kill_sites(cluster, ended, seed):
-    """One, or several at once, some of them again while they read their journals. All come back before others are killed, and then have as long to
-    work: else on a busy machine nothing would go on."""
-    draw, took = random.Random(seed), 0
-    while not ended.wait(took + draw.uniform(0.3, 1.5) * cluster.options.between_kills):
-        begun, hosts = time.monotonic(), draw.sample(range(cluster.hosts), draw.choice((1, 1, 1, 2, cluster.hosts)))
-        for me in hosts:
-            cluster.kill_site(me)
-        if draw.random() < 0.2 and not ended.wait(draw.uniform(0, 0.3)):
-            cluster.kill_site(hosts[0])
-        while not all(cluster.is_back(me) for me in hosts) and not ended.wait(0.05):
-            pass
-        took = time.monotonic() - begun
-
-
-def odd_lines(complaints):
-    """What is said beside deaths of sites, and how they go on."""
-    return [line for line in complaints.splitlines() if 'was killed' not in line and not line.startswith('shmdbg: journal: steps taken again: ')]
-
-
-@contextlib.contextmanager
-def rough_cluster(options, seed):
-    """Three hosts, a carrier that loses, repeats and delays, and sites that are killed and go on from their journals."""
-    cluster = Cluster(options, 3, rough=ROUGH, journals=True, seed=seed)
-    ended = threading.Event()
-    killer = threading.Thread(target=kill_sites, args=(cluster, ended, seed))
-    killer.start()
-    try:
-        yield cluster
-    finally:
-        ended.set()
-        killer.join()
-        complaints = cluster.stop()
-    odd, cluster.kills = odd_lines(complaints), complaints.count('was killed')
-    expect(not odd, '\n'.join(odd))
 
 
 def try_kills(options):
@@ -264,7 +225,7 @@ b[0] = b"a"; print("here", flush=True); sys.stdin.readline(); b[1] = b"b"; print
         time.sleep(0.5)
         expect(program.poll() is None, 'it waits at its next fault')
         again = cluster.start(0, subprocess.DEVNULL)
-        expect(again.wait(240) == 1 and 'still run' in cluster.complaints(), 'no other daemon begins')
+        expect(again.wait(within(10)) == 1 and 'still run' in cluster.complaints(), 'no other daemon begins')
     finally:
         program.kill()
         program.wait()
@@ -398,7 +359,7 @@ def kill_early(cluster, times):
         time.sleep(draw.uniform(0, 0.03))
         program.kill()
         program.wait()
-    until, attached = time.monotonic() + 60, None
+    until, attached = time.monotonic() + within(3), None
     while attached != ['0']:
         expect(time.monotonic() < until, f'nobody has attached it: {attached}')
         time.sleep(1)
@@ -432,9 +393,9 @@ def try_seals(options):
     yield cluster.audit()
 
 
-TRIES = {'smooth': try_smooth, 'sleepers': try_sleepers, 'carriers': try_carriers, 'postgres': try_database, 'framebuffer': try_framebuffer, 'nobody': try_nobody, 'checked': try_checked,
-         'many': try_many, 'refusals': try_refusals, 'sockets': try_sockets, 'leaving': try_leaving, 'death': try_daemon_death, 'kills': try_kills, 'untold': try_untold,
-         'seals': try_seals, 'repeats': try_repeats, 'broken': try_broken}
+TRIES = {'smooth': try_smooth, 'sleepers': try_sleepers, 'carriers': try_carriers, 'postgres': try_database, 'framebuffer': try_framebuffer,
+         'nobody': try_nobody, 'checked': try_checked, 'many': try_many, 'refusals': try_refusals, 'sockets': try_sockets, 'leaving': try_leaving,
+         'death': try_daemon_death, 'kills': try_kills, 'untold': try_untold, 'seals': try_seals, 'repeats': try_repeats, 'broken': try_broken}
 
 
 def run_tries(options):
@@ -477,10 +438,12 @@ def main():
     parser.add_argument('--times', type=int, default=500, help='rounds of a lock; of the others as many, or more')
     parser.add_argument('--seconds', type=int, default=0)
     parser.add_argument('--between-kills', type=float, default=1, help='seconds; more for a program that was compiled with checks')
+    parser.add_argument('--slow', type=float, default=1, help='how many times as slow as one at rest the machine may be: all limits of time are so much longer')
     parser.add_argument('--build', help='a folder for what is built, in place of a new one')
     parser.add_argument('--speed', action='store_true')
     parser.add_argument('--journals', action='store_true', help='with --speed: the sites have journals')
     options = parser.parse_args()
+    slowness[0], os.environ['SLOW'] = options.slow, str(options.slow)
     options.program = os.path.abspath(options.program)
     if not os.path.isfile(options.program):
         sys.exit(f'try.py: no {options.program}: `make build` makes it')

@@ -21,10 +21,16 @@ static void expect(bool holds, const char *what, int line) {
     exit(1);
 }
 
+/* Turns of 10 ms that make a second, on a machine that may be so many times as slow as one at rest. */
+static int turns(void) {
+    const char *slow = getenv("SLOW");
+    return slow == NULL ? 100 : (int)(100 * atof(slow));
+}
+
 /* How often it is attached; what ended may still be counted for a moment. */
 static bool attached(int id, unsigned long count) {
     struct shmid_ds status;
-    for (int turn = 0; turn < 2000; turn++, usleep(10000)) {
+    for (int turn = 0; turn < turns(); turn++, usleep(10000)) {
         if (shmctl(id, IPC_STAT, &status) == 0 && status.shm_nattch == count) return true;
     }
     fprintf(stderr, "attached %lu times\n", (unsigned long)status.shm_nattch);
@@ -117,7 +123,7 @@ static void try_removal(int id, char *memory) {
     struct shmid_ds status;
     EXPECT(shmctl(id, IPC_RMID, NULL) == 0 && shmctl(id, IPC_STAT, &status) == 0);
     EXPECT(status.shm_perm.mode & SHM_DEST && memory[0] == 'h' && shmdt(memory) == 0);
-    for (int turn = 0; turn < 2000 && shmctl(id, IPC_STAT, &status) == 0; turn++) usleep(10000);
+    for (int turn = 0; turn < turns() && shmctl(id, IPC_STAT, &status) == 0; turn++) usleep(10000);
     EXPECT_ERROR(EIDRM, shmctl(id, IPC_STAT, &status));
     NOT_ATTACHED(EIDRM, shmat(id, NULL, 0));
 }

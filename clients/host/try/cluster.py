@@ -12,7 +12,13 @@ import time
 PACKAGES = {'mosquitto_sub': 'mosquitto-clients', 'mosquitto': 'mosquitto', 'perl': 'perl', 'ipcs': 'util-linux', 'stress-ng': 'stress-ng',
             'valgrind': 'valgrind', 'pg_lsclusters': 'postgresql', 'setpriv': 'util-linux', 'Xvfb': 'xvfb'}
 keys = itertools.count(1000)
-patience = [3600]  # seconds until a program counts as one that goes on and on
+slowness = [1]  # how many times as slow as one at rest the machine may be
+patience = [240]  # seconds until a program counts as one that goes on and on
+
+
+def within(seconds):
+    """What takes at most so long on a machine at rest."""
+    return seconds * slowness[0]
 
 
 def expect(condition, text):
@@ -29,7 +35,7 @@ def has(*names):
 
 def answer_of(process):
     try:
-        told, complaint = process.communicate(timeout=patience[0])
+        told, complaint = process.communicate(timeout=within(patience[0]))
     except subprocess.TimeoutExpired:
         process.kill()
         raise AssertionError(f'{process.args[3:]} goes on and on') from None
@@ -87,7 +93,7 @@ class Cluster:
         return subprocess.Popen(self.command(me) + list(words), stdin=stream, stdout=stream, stderr=self.logs[me])
 
     def wait_for_sockets(self):
-        until = time.monotonic() + 120
+        until = time.monotonic() + within(20)
         while not all(self.answers(me) for me in range(self.hosts)):
             expect(time.monotonic() < until, f'the daemons start: {self.complaints()}')
             time.sleep(0.02)
@@ -156,7 +162,7 @@ class Cluster:
         for daemon in self.daemons:
             daemon.terminate()
         for daemon in self.daemons:
-            daemon.wait(240)
+            daemon.wait(within(60))
         self.carrier.terminate()
         self.carrier.wait()
         for stream in self.streams:
@@ -213,7 +219,7 @@ class Words:
             self.programs[me].stdin.write(f'{word} {times}\n')
             self.programs[me].stdin.flush()
         for me, word, times in asks:
-            expect(select.select([self.programs[me].stdout], [], [], patience[0])[0], f'words goes on and on; {self.cluster.complaints()}')
+            expect(select.select([self.programs[me].stdout], [], [], within(patience[0]))[0], f'words goes on and on; {self.cluster.complaints()}')
             told = self.programs[me].stdout.readline().strip()
             expect(told == str(self.values[word]), f'host {me} has {told} in place of {self.values[word]}')
 

@@ -3,7 +3,7 @@ import random
 import socket
 import struct
 
-from cluster import Cluster, expect, has
+from cluster import Cluster, expect, has, within
 
 WIDTH, HEIGHT = 256, 200
 # The file of a window dump: a head whose words have their highest byte first, so many colours of 12 bytes, and rows of pixels.
@@ -24,7 +24,7 @@ def receive(client, length):
 def draw(display, pixels):
     """A client of the X protocol that puts an image on the root window, and waits until it is there."""
     with socket.socket(socket.AF_UNIX) as client:
-        client.settimeout(600)
+        client.settimeout(within(60))
         client.connect(f'/tmp/.X11-unix/X{display}')
         client.sendall(struct.pack('<BxHHHHxx', ord('l'), 11, 0, 0, 0))
         good, length = struct.unpack('<BxxxxxH', receive(client, 8))
@@ -51,7 +51,7 @@ def try_server(cluster):
         expect(int(row) == 4 * WIDTH and bytes.fromhex(pixels) == drawn, "the framebuffer's pixels are those that were drawn")
     finally:
         server.terminate()
-        server.communicate(timeout=600)
+        server.communicate(timeout=within(60))
     return f"Xvfb's framebuffer of {WIDTH} times {HEIGHT} pixels, read on another host as it was drawn"
 
 

@@ -6,7 +6,7 @@ import signal
 import subprocess
 import time
 
-from cluster import expect, has, keys
+from cluster import expect, has, keys, within
 
 def try_ipc(cluster):
     """ipcmk, ipcs and ipcrm, each on another host."""
@@ -142,7 +142,7 @@ def make_database(folder, tools):
 
 
 def wait_for(log, words):
-    for _ in range(1200):
+    for _ in range(round(within(300))):
         with open(log) as lines:
             if words in lines.read():
                 return
@@ -165,7 +165,7 @@ def end_server(server):
     children = subprocess.run(['ps', '-o', 'pid=', '--ppid', str(server.pid)], stdout=subprocess.PIPE, text=True).stdout.split()
     for process in children if server.args[0] == 'unshare' else [server.pid]:
         os.kill(int(process), signal.SIGINT)
-    server.wait(240)
+    server.wait(within(60))
 
 
 def ask_database(tools, data):
@@ -187,7 +187,7 @@ def try_postgres(cluster):
         wait_for(one, 'ready to accept connections')
         ask_database(tools, data)
         second = serve(cluster, cluster.hosts - 1, tools, data, two, *alone)
-        expect(second.wait(240) == 1, 'the second server ends')
+        expect(second.wait(within(60)) == 1, 'the second server ends')
         wait_for(two, 'is still in use')
         ask_database(tools, data)
         end_server(first)

@@ -5,13 +5,13 @@ import socket
 import subprocess
 import time
 
-from cluster import Cluster, expect
+from cluster import Cluster, expect, within
 
 
 def refusal(options, *words, **how):
     """What a daemon says that can't begin."""
     command = [os.path.join(options.build, 'leddwyfan-host'), '--me', '0', '--program', options.program, *words]
-    told = subprocess.run(command, stdin=subprocess.DEVNULL, stdout=subprocess.DEVNULL, stderr=subprocess.PIPE, text=True, timeout=120, **how)
+    told = subprocess.run(command, stdin=subprocess.DEVNULL, stdout=subprocess.DEVNULL, stderr=subprocess.PIPE, text=True, timeout=within(20), **how)
     return told.stderr
 
 
@@ -54,16 +54,16 @@ def try_sockets(options):
         cluster.daemons[0].wait()
         expect(os.path.exists(cluster.socket(0)), 'the socket is left')
         program = cluster.on(0, 'echo', 'started')
-        told, complaint = program.communicate(timeout=120)
+        told, complaint = program.communicate(timeout=within(20))
         expect((program.returncode, told) == (1, ''), f'nothing is started: {program.returncode} {told}')
         expect('no leddwyfan-host answers' in complaint and complaint.count('\n') == 1, f'a sentence: {complaint}')
         again = cluster.start(0, subprocess.DEVNULL, '--', 'sleep', '1000')
-        until = time.monotonic() + 120
-        while cluster.on(0, 'true').wait(120) != 0:
+        until = time.monotonic() + within(20)
+        while cluster.on(0, 'true').wait(within(20)) != 0:
             expect(again.poll() is None and time.monotonic() < until, f'a daemon has the socket that was left: {cluster.complaints()}')
             time.sleep(0.1)
         again.terminate()
-        expect(again.wait(120) == 0, 'the daemon ends')
+        expect(again.wait(within(20)) == 0, 'the daemon ends')
     finally:
         if again is not None:
             again.kill()

@@ -2,10 +2,10 @@
 import subprocess
 import time
 
-from cluster import Cluster, answer_of, expect, keys
+from cluster import Cluster, answer_of, expect, keys, within
 
 PAGE_LINE = 5464  # a line that brings a page has at least so many letters
-HOSTS, THREADS, WAKES, QUIET, LONGEST = 2, 3, 12, 3, 60000  # threads of each host; seconds; milliseconds
+HOSTS, THREADS, WAKES, QUIET, LONGEST = 2, 3, 12, 3, 5000  # threads of each host; seconds; milliseconds
 
 
 def pages_carried(cluster):
@@ -31,7 +31,7 @@ def wait_for_quiet(cluster):
     """The page is where each host can read it, and then no more of it is carried."""
     begun = time.monotonic()
     while moves_a_second(cluster, QUIET) > 0:
-        expect(time.monotonic() < begun + 200 * QUIET, f'a page in which all sleep moves {moves_a_second(cluster, QUIET):.1f} times a second')
+        expect(time.monotonic() < begun + within(20 * QUIET), f'a page in which all sleep moves {moves_a_second(cluster, QUIET):.1f} times a second')
 
 
 def wake(waker, sleepers, wakes):
@@ -41,7 +41,7 @@ def wake(waker, sleepers, wakes):
         waker.stdin.write('\n')
         waker.stdin.flush()
     told = [answer_of(sleeper) for sleeper in sleepers]
-    expect(all(float(line.split()[1]) < LONGEST for line in told), f'from a wake until a sleeper knows, milliseconds: {told}')
+    expect(all(float(line.split()[1]) < within(LONGEST) for line in told), f'from a wake until a sleeper knows, milliseconds: {told}')
     return f'woken after {", ".join(f"{median} ms at most {longest}" for median, longest in map(str.split, told))}'
 
 
