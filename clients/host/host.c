@@ -18,7 +18,7 @@
 #include <sys/stat.h>
 #include <sys/wait.h>
 
-enum { READ_BYTES = 1 << 16, MOST_UNWRITTEN = 1 << 22, PIPE_BYTES = 1 << 20, EVENTS = 64 };
+enum { READ_BYTES = 1 << 16, MOST_EMPTY = 1 << 18, PIPE_BYTES = 1 << 20, EVENTS = 64 };
 
 static const int64_t TICK = SECOND / 20, IDLE_TICK = SECOND, UNWRITTEN_WAIT = 200000, AWAKE = 10000;
 
@@ -76,9 +76,14 @@ void push_line(struct channel *channel, const char *line, bool seals) {
     channel->length += length + 1;
 }
 
+/* Much memory goes back once nothing needs it. */
 void take_off(struct channel *channel, size_t count) {
     channel->length -= count;
     memmove(channel->bytes, channel->bytes + count, channel->length);
+    if (channel->length > 0 || channel->capacity <= MOST_EMPTY) return;
+    free(channel->bytes);
+    channel->bytes = NULL;
+    channel->capacity = 0;
 }
 
 void write_lines(struct channel *channel) {

@@ -9,7 +9,8 @@
 
 enum right { NONE, READ, WRITE };
 
-enum { MOST_SEGMENTS = 64 };
+/* Where so many bytes wait to be written, envelopes are lost: a tick sends them again. */
+enum { MOST_SEGMENTS = 64, MOST_UNWRITTEN = 1 << 22 };
 
 /* What a test leaves out of what the daemon does with pages (`--break`). */
 enum { LEAVES_READ = 1, LEAVES_WRITTEN, LENDS_OPEN, BRINGS_NOTHING, OPENS_TO_WRITE, PROTECTS_NOT };

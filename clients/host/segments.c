@@ -293,31 +293,33 @@ static void accept_program(struct source *source) {
 }
 
 /* What a daemon that was killed left is replaced; what somebody answers at isn't, nor what is no socket. */
-static void clear_socket(void) {
+static void clear_socket(const char *name) {
     struct stat file;
-    int other = connect_to(options.socket);
+    int other = connect_to(name);
     if (other < 0 && errno == ENOENT) return;
-    if (other >= 0 || errno != ECONNREFUSED) errx(1, "another daemon answers at %s, or another program has it", options.socket);
-    if (stat(options.socket, &file) < 0 || !S_ISSOCK(file.st_mode)) errx(1, "%s is no socket", options.socket);
-    unlink(options.socket);
+    if (other >= 0 || errno != ECONNREFUSED) errx(1, "another daemon answers at %s, or another program has it", name);
+    if (stat(name, &file) < 0 || !S_ISSOCK(file.st_mode)) errx(1, "%s is no socket", name);
+    unlink(name);
 }
 
 /* The lock is held by the daemon and by each program that it hands it to: while one of them lives, no other daemon begins, as such a program
-   may have pages that the new one knew nothing of. */
+   may have pages that the new one knew nothing of. The socket gets its name once it listens, so that no program finds it before. */
 void listen_to_programs(void) {
     static struct source source = {accept_program};
     struct sockaddr_un address = {.sun_family = AF_UNIX};
     char name[sizeof address.sun_path + 8];
-    if (strlen(options.socket) >= sizeof address.sun_path) errx(1, "%s is too long for a socket's name", options.socket);
-    strcpy(address.sun_path, options.socket);
-    snprintf(name, sizeof name, "%s.lock", address.sun_path);
+    if (strlen(options.socket) + strlen(".new") >= sizeof address.sun_path) errx(1, "%s is too long for a socket's name", options.socket);
+    sprintf(address.sun_path, "%s.new", options.socket);
+    snprintf(name, sizeof name, "%s.lock", options.socket);
     lock = open(name, O_RDWR | O_CREAT | O_CLOEXEC, 0600);
     if (lock < 0) err(1, "%s can't be made", name);
     if (flock(lock, LOCK_EX | LOCK_NB) < 0) errx(1, "another daemon has %s, or programs of an earlier one still run: end them first", options.socket);
-    clear_socket();
+    clear_socket(address.sun_path);
+    clear_socket(options.socket);
     listener = socket(AF_UNIX, SOCK_SEQPACKET | SOCK_CLOEXEC | SOCK_NONBLOCK, 0);
     mode_t mask = umask(0);
-    if (bind(listener, (struct sockaddr *)&address, sizeof address) < 0 || listen(listener, 128) < 0) err(1, "no socket %s", options.socket);
+    bool listens = bind(listener, (struct sockaddr *)&address, sizeof address) == 0 && listen(listener, 128) == 0;
+    if (!listens || rename(address.sun_path, options.socket) < 0) err(1, "no socket %s", options.socket);
     umask(mask);
     watch(listener, &source);
 }

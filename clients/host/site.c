@@ -244,9 +244,9 @@ static void take_answer(char *line) {
 /* Envelopes for this site pass as they are, with their seal. Asks of others don't: they could give up what is mapped here. */
 bool pass_line(const char *line) {
     int to;
-    bool passes = sscanf(line, "env %*s %d", &to) == 1 && to == options.me;
-    if (passes) push_line(&to_site, line, false);
-    return passes;
+    bool is_ours = sscanf(line, "env %*s %d", &to) == 1 && to == options.me;
+    if (is_ours && to_site.length < MOST_UNWRITTEN) push_line(&to_site, line, false);
+    return is_ours;
 }
 
 static void take_site_line(char *line) {

@@ -26,7 +26,7 @@ sys.path.insert(0, os.path.join(HERE, 'try'))
 from cluster import Cluster, Words, expect, has, has_ended, keys, patience, slowness, within
 from framebuffer import try_framebuffer
 from others import try_modules, try_others, try_postgres
-from refusals import try_leaving, try_refusals, try_sockets
+from refusals import try_ending, try_leaving, try_refusals, try_sockets
 from rough import ROUGH, odd_lines, rough_cluster
 from sleepers import try_sleepers
 from times import time_all
@@ -395,7 +395,8 @@ def try_seals(options):
 
 TRIES = {'smooth': try_smooth, 'sleepers': try_sleepers, 'carriers': try_carriers, 'postgres': try_database, 'framebuffer': try_framebuffer,
          'nobody': try_nobody, 'checked': try_checked, 'many': try_many, 'refusals': try_refusals, 'sockets': try_sockets, 'leaving': try_leaving,
-         'death': try_daemon_death, 'kills': try_kills, 'untold': try_untold, 'seals': try_seals, 'repeats': try_repeats, 'broken': try_broken}
+         'ending': try_ending, 'death': try_daemon_death, 'kills': try_kills, 'untold': try_untold, 'seals': try_seals, 'repeats': try_repeats,
+         'broken': try_broken}
 
 
 def run_tries(options):

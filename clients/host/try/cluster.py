@@ -99,7 +99,6 @@ class Cluster:
             time.sleep(0.02)
 
     def answers(self, me):
-        """The socket's file is there a moment before anybody answers at it."""
         with socket.socket(socket.AF_UNIX, socket.SOCK_SEQPACKET) as probe:
             return probe.connect_ex(self.socket(me)) == 0
 

@@ -1,5 +1,6 @@
 """Daemons that can't begin, and sockets that nobody answers at: each is told in a sentence."""
 import os
+import random
 import signal
 import socket
 import subprocess
@@ -88,3 +89,21 @@ def try_leaving(options):
     finally:
         cluster.stop()
     yield f'10 times 400 connections end while a site is started again; {cluster.audit()}'
+
+
+def try_ending(options):
+    """Daemons that are told to end while they start their sites anew: they end in order, and their journals are whole."""
+    draw, times = random.Random(1), 20
+    for _ in range(times):
+        cluster = Cluster(options, 2, journals=True)
+        try:
+            cluster.told(0, 'ipcmk', '-M', '5000')
+            os.kill(cluster.site_of(0), signal.SIGKILL)
+            time.sleep(draw.uniform(0, 0.02))
+            cluster.daemons[0].terminate()
+            status = cluster.daemons[0].wait(within(20))
+            expect(status == 0, f'a daemon that is told to end ends with {status}: {cluster.complaints()}')
+        finally:
+            cluster.stop()
+        audit = cluster.audit()
+    yield f'{times} daemons end while their sites are started anew; {audit}'
