@@ -1,7 +1,11 @@
 //! Lines that give a mapped page up or bring its bytes, and the texts that tell of mapped pages.
+use super::is_line;
 use shm_model::Kind;
 use shm_place::{PageId, SegId};
-use shm_wire::{Line, MappedText, Mapping, MappingsText, RevokeText, parse_line, parse_tell_line};
+use shm_wire::{
+    Line, MappedText, Mapping, MappingsText, RevokeText, UnmapAsk, parse_line, parse_tell_line,
+};
+use std::alloc::{AllocError, Global};
 use std::test::Fail;
 
 /// A line of each form, and as a journal has it, without runs.
@@ -28,41 +32,54 @@ const NO_UNMAPS: [&str; 9] = [
     "ask 0 a sync 0 0 5 AB==",
 ];
 
+/// What the line is printed as, if it is an unmap's.
+fn printed(alloc: Global, line: &str) -> Result<Option<String>, AllocError> {
+    match parse_line(alloc, line.as_bytes())? {
+        Some(Line::Unmap(unmap)) => Ok(Some(format!(in alloc; "{unmap}")?)),
+        _ => Ok(None),
+    }
+}
+
 #[test]
 fn mappings_that_are_given_up_are_printed_as_they_were_read(rt: HostRuntime) -> Result<(), Fail> {
-    let alloc = rt.alloc();
-    'good: for line in UNMAPS {
-        let read = parse_line(alloc, line.as_bytes())?;
-        let Some(Line::Unmap(unmap)) = &read else {
-            return Err(Fail::new("an unmap's line"));
-        };
-        let printed = format!(in alloc; "{unmap}")?;
-        assert_eq!(rt; printed.as_str(), line);
+    for line in UNMAPS {
+        let printed = printed(rt.alloc(), line)?;
+        assert_eq!(rt; printed.as_deref(), Some(line));
         assert!(rt; parse_tell_line(line.as_bytes()).is_none(), "at {line}");
-    }
-    'bad: for line in NO_UNMAPS {
-        let read = parse_line(alloc, line.as_bytes())?;
-        assert!(rt; read.is_none(), "at {line}");
     }
     Ok(())
 }
 
 #[test]
+fn lines_that_give_up_no_mapping(rt: HostRuntime) -> Result<(), Fail> {
+    for line in NO_UNMAPS {
+        assert!(rt; !is_line(rt.alloc(), line.as_bytes())?, "at {line}");
+    }
+    Ok(())
+}
+
+/// Whether the unmap brings three bytes and one, each run to its place.
+fn brings_two_runs(unmap: &UnmapAsk) -> bool {
+    let [first, last] = unmap.runs.as_slice() else {
+        return false;
+    };
+    let one: [u8; 3] = [1, 2, 3];
+    let two: [u8; 1] = [255];
+    first.offset == 4097
+        && first.bytes.as_slice() == one.as_slice()
+        && last.offset == 8191
+        && last.bytes.as_slice() == two.as_slice()
+}
+
+#[test]
 fn what_an_unmap_brings_is_read_run_by_run(rt: HostRuntime) -> Result<(), Fail> {
-    let alloc = rt.alloc();
-    let read = parse_line(alloc, b"ask 3 a unmap 7 1 read 4097 AQID 8191 /w==")?;
-    let Some(Line::Unmap(unmap)) = &read else {
+    let line = b"ask 3 a unmap 7 1 read 4097 AQID 8191 /w==".as_slice();
+    let Some(Line::Unmap(unmap)) = parse_line(rt.alloc(), line)? else {
         return Err(Fail::new("an unmap's line"));
     };
     assert_eq!(rt; (unmap.site.0, unmap.at, unmap.index), (3, 7, 1));
     assert!(rt; unmap.keeps == Some(Kind::Read));
-    let [first, last] = unmap.runs.as_slice() else {
-        return Err(Fail::new("two runs"));
-    };
-    let one: [u8; 3] = [1, 2, 3];
-    let two: [u8; 1] = [255];
-    assert!(rt; first.offset == 4097 && first.bytes.as_slice() == one.as_slice());
-    assert!(rt; last.offset == 8191 && last.bytes.as_slice() == two.as_slice());
+    assert!(rt; brings_two_runs(&unmap));
     Ok(())
 }
 

@@ -1,9 +1,9 @@
 //! Lines that others spelled, and lines that are none.
+use super::is_line;
 use linked_list_allocator::LocalHeap;
 use shm_parts::{EntryNote, Message, Note};
-use shm_wire::{Line, Sent, parse_line, parse_tell_line};
+use shm_wire::{Ask, Line, parse_line, parse_tell_line};
 use std::alloc::{AllocError, Allocator, Global};
-use std::process::Abort;
 use std::test::Fail;
 
 /// One line of each kind of message that brings no page.
@@ -76,39 +76,56 @@ const NO_ASKS: [&[u8]; 13] = [
     b"tell 1 t tick",
 ];
 
+/// What the line is printed as, if it is an envelope's.
+fn printed_envelope(alloc: Global, line: &str) -> Result<Option<String>, AllocError> {
+    match parse_line(alloc, line.as_bytes())? {
+        Some(Line::Envelope(sent)) => Ok(Some(format!(in alloc; "{sent}")?)),
+        _ => Ok(None),
+    }
+}
+
+/// What the line asks, if it is an ask's.
+fn read_ask(alloc: Global, line: &str) -> Result<Option<Ask>, AllocError> {
+    let read = parse_line(alloc, line.as_bytes())?;
+    match &read {
+        Some(Line::Ask(ask)) => Ok(Some(*ask)),
+        _ => Ok(None),
+    }
+}
+
 #[test]
 fn messages_are_printed_as_they_were_read(rt: HostRuntime) -> Result<(), Fail> {
-    let alloc = rt.alloc();
     for line in PLAIN {
-        let Some(Line::Envelope(sent)) = parse_line(alloc, line.as_bytes())? else {
-            return Err(Fail::new("an envelope's line"));
-        };
-        let printed = format!(in alloc; "{sent}")?;
-        assert_eq!(rt; printed.as_str(), line);
+        let printed = printed_envelope(rt.alloc(), line)?;
+        assert_eq!(rt; printed.as_deref(), Some(line));
         assert!(rt; parse_tell_line(line.as_bytes()).is_none(), "at {line}");
     }
+    Ok(())
+}
+
+#[test]
+fn lines_that_bring_no_message(rt: HostRuntime) -> Result<(), Fail> {
     for line in BAD {
-        let read = parse_line(alloc, line.as_bytes())?;
-        assert!(rt; read.is_none(), "at {line}");
+        assert!(rt; !is_line(rt.alloc(), line.as_bytes())?, "at {line}");
     }
     Ok(())
 }
 
 #[test]
 fn asks_are_printed_as_they_were_read(rt: HostRuntime) -> Result<(), Fail> {
-    let alloc = rt.alloc();
     for line in ASKS {
-        let read = parse_line(alloc, line.as_bytes())?;
-        let Some(Line::Ask(ask)) = &read else {
-            return Err(Fail::new("an ask's line"));
-        };
-        let printed = format!(in alloc; "{ask}")?;
+        let ask = read_ask(rt.alloc(), line)?.ok_or("an ask's line")?;
+        let printed = format!(in rt.alloc(); "{ask}")?;
         assert_eq!(rt; printed.as_str(), line);
         assert!(rt; parse_tell_line(line.as_bytes()).is_none(), "at {line}");
     }
+    Ok(())
+}
+
+#[test]
+fn lines_that_ask_nothing(rt: HostRuntime) -> Result<(), Fail> {
     for line in NO_ASKS {
-        let read = parse_line(alloc, line)?;
-        assert!(rt; read.is_none(), "at {line:?}");
+        assert!(rt; !is_line(rt.alloc(), line)?, "at {line:?}");
     }
     Ok(())
 }
@@ -126,8 +143,7 @@ fn answers_are_printed_as_they_were_read(rt: HostRuntime) -> Result<(), Fail> {
     );
     let printed = format!(in alloc; "{answer}")?;
     assert_eq!(rt; printed.as_str(), line);
-    let read = parse_line(alloc, line.as_bytes())?;
-    assert!(rt; read.is_none());
+    assert!(rt; !is_line(alloc, line.as_bytes())?);
     let bad: [&[u8]; 4] = [
         b"tell 3 t",
         b"tell 3 t stored\r",
@@ -151,9 +167,9 @@ fn page_line(alloc: Global, kind: &str) -> Result<String, AllocError> {
     Ok(line)
 }
 
-/// Whether it brings that page, to read or to write.
-fn brings_the_page<A: Allocator + Copy>(sent: &Sent<A>, kind: &str) -> bool {
-    match &sent.envelope.message {
+/// Whether it is that page's message, to read or to write.
+fn is_of_the_page<A: Allocator + Copy>(message: &Message<A>, kind: &str) -> bool {
+    match message {
         Message::Of {
             note: Note::ToEntry(EntryNote::Read(grant)),
             ..
@@ -175,39 +191,43 @@ fn is_the_page(bytes: &[u8]) -> bool {
         && bytes.ends_with(end.as_slice())
 }
 
+/// Whether the line is read as an envelope that brings that page.
+fn brings_the_page<A: Allocator + Copy>(
+    alloc: A,
+    line: &str,
+    kind: &str,
+) -> Result<bool, AllocError> {
+    match parse_line(alloc, line.as_bytes())? {
+        Some(Line::Envelope(sent)) => Ok(is_of_the_page(&sent.envelope.message, kind)),
+        _ => Ok(false),
+    }
+}
+
 #[test]
 fn a_page_is_read_as_others_spell_it(rt: HostRuntime) -> Result<(), Fail> {
     let alloc = rt.alloc();
     for kind in ["read", "write"] {
         let line = page_line(alloc, kind)?;
-        let Some(Line::Envelope(sent)) = parse_line(alloc, line.as_bytes())? else {
-            return Err(Fail::new("an envelope's line"));
-        };
-        assert!(rt; brings_the_page(&sent, kind), "at {kind}");
-        let printed = format!(in alloc; "{sent}")?;
-        assert!(rt; printed.as_str() == line.as_str(), "at {kind}");
+        let brings = brings_the_page(alloc, line.as_str(), kind)?;
+        let printed = printed_envelope(alloc, line.as_str())?;
+        assert!(rt; brings, "at {kind}");
+        assert!(rt; printed.as_deref() == Some(line.as_str()), "at {kind}");
     }
     Ok(())
 }
 
-/// Whether the page that comes to write to is read with this heap's memory.
-fn is_read(rt: &impl Abort, heap: &LocalHeap, line: &str) -> Result<bool, Fail> {
-    match parse_line(heap, line.as_bytes()) {
-        Ok(Some(Line::Envelope(sent))) => {
-            assert!(rt; brings_the_page(&sent, "write"));
-            Ok(true)
-        }
-        Ok(_) => Err(Fail::new("refused memory isn't a bad line")),
-        Err(_) => Ok(false),
-    }
+/// Whether the line brings the page to write; `None` where it isn't read with so many bytes of memory.
+fn brings_it_in(alloc: Global, bytes: usize, line: &str) -> Result<Option<bool>, AllocError> {
+    let heap = LocalHeap::new(alloc, bytes)?;
+    Ok(brings_the_page(&heap, line, "write").ok())
 }
 
 #[test]
 fn each_growth_of_a_page_is_refused_in_turn(rt: HostRuntime) -> Result<(), Fail> {
     let line = page_line(rt.alloc(), "write")?;
     'sizes: for size in 1..2000usize {
-        let heap = LocalHeap::new(rt.alloc(), size * 16)?;
-        if is_read(&rt, &heap, line.as_str())? {
+        if let Some(brings) = brings_it_in(rt.alloc(), size * 16, line.as_str())? {
+            assert!(rt; brings, "refused memory isn't a bad line");
             assert!(rt;
                 size > 512,
                 "the page and its bytes as they came were refused too"
