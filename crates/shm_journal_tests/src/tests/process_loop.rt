@@ -97,6 +97,37 @@ fn comparing_desk(alloc: Global) -> Result<Desk, AllocError> {
     Desk::greeting(alloc, Seal::Bare, new_node(alloc)?, opening, start)
 }
 
+/// What became of a process.
+#[derive(Drop)]
+struct Ended {
+    fault: Option<ProcessFault>,
+    /// What was done through its journal.
+    done: Vec<u8>,
+    told: Vec<u8>,
+    errors: Vec<u8>,
+}
+
+/// What becomes of the process with this desk. It reads these lines, at most so many bytes at once. After so many calls the next one fails.
+fn serve_lines(alloc: Global, desk: Desk, lines: &[u8], at_once: usize, calls: usize) -> Ended {
+    let mut desk = desk;
+    let mut journal = Rehearsal {
+        done: Vec::new(alloc),
+        at_once,
+        calls,
+    };
+    let mut lines = lines;
+    let mut told = Vec::new(alloc);
+    let mut errors = Vec::new(alloc);
+    let served = serve(&mut desk, &mut lines, &mut told, &mut errors, &mut journal);
+    let Rehearsal { done, .. } = journal;
+    Ended {
+        fault: served.err(),
+        done,
+        told,
+        errors,
+    }
+}
+
 const LINES: &[u8] = b"ask 0 a store 0 5 7\nnot a line of ours\nask 0 b load 0 5\nask 0 c load 0 5";
 
 const DONE: &[u8] =
@@ -105,56 +136,36 @@ const DONE: &[u8] =
 #[test]
 fn steps_are_kept_and_then_told(rt: HostRuntime) -> Result<(), Fail> {
     let alloc = rt.alloc();
-    let mut journal = Rehearsal {
-        done: Vec::new(alloc),
-        at_once: 8192,
-        calls: 100,
-    };
-    let mut lines = LINES;
-    let mut told = Vec::new(alloc);
-    let mut errors = Vec::new(alloc);
-    let mut desk = new_desk(alloc)?;
-    assert!(rt; serve(&mut desk, &mut lines, &mut told, &mut errors, &mut journal).is_ok());
-    drop(desk);
-    assert_eq!(rt; journal.done.as_slice(), DONE);
-    assert_eq!(rt; told.as_slice(), &DONE[54..]);
+    let ended = serve_lines(alloc, new_desk(alloc)?, LINES, 8192, 100);
+    assert!(rt; ended.fault.is_none());
+    assert_eq!(rt; ended.done.as_slice(), DONE);
+    assert_eq!(rt; ended.told.as_slice(), &DONE[54..]);
     Ok(())
 }
+
+/// Why the process ends where a call fails, and what was done before.
+const FAULTS: [(ProcessFault, &[u8]); 5] = [
+    (ProcessFault::ReadFault, b""),
+    (ProcessFault::JournalFault, b""),
+    (
+        ProcessFault::JournalFault,
+        b"+step 1 ask 0 a store 0 5 7\nstep 2 ask 0 b load 0 5\n",
+    ),
+    (
+        ProcessFault::WriteFault,
+        b"+step 1 ask 0 a store 0 5 7\nstep 2 ask 0 b load 0 5\n!",
+    ),
+    (ProcessFault::ReadFault, DONE),
+];
 
 /// The calls are read, append, sync, tell, read. Each fails in turn, and nothing comes behind it.
 #[test]
 fn each_call_fails_in_turn(rt: HostRuntime) -> Result<(), Fail> {
     let alloc = rt.alloc();
-    let faults: [(ProcessFault, &[u8]); 5] = [
-        (ProcessFault::ReadFault, b""),
-        (ProcessFault::JournalFault, b""),
-        (
-            ProcessFault::JournalFault,
-            b"+step 1 ask 0 a store 0 5 7\nstep 2 ask 0 b load 0 5\n",
-        ),
-        (
-            ProcessFault::WriteFault,
-            b"+step 1 ask 0 a store 0 5 7\nstep 2 ask 0 b load 0 5\n!",
-        ),
-        (ProcessFault::ReadFault, DONE),
-    ];
-    for (calls, (fault, done)) in faults.iter().enumerate() {
-        let mut journal = Rehearsal {
-            done: Vec::new(alloc),
-            at_once: 8192,
-            calls,
-        };
-        let mut lines = LINES;
-        let mut told = Vec::new(alloc);
-        let mut errors = Vec::new(alloc);
-        let mut desk = new_desk(alloc)?;
-        let served = serve(&mut desk, &mut lines, &mut told, &mut errors, &mut journal);
-        drop(desk);
-        match served {
-            Ok(()) => return Err(Fail::new("a call failed")),
-            Err(found) => assert!(rt; found == *fault),
-        }
-        assert_eq!(rt; journal.done.as_slice(), *done);
+    for (calls, (fault, done)) in FAULTS.iter().enumerate() {
+        let ended = serve_lines(alloc, new_desk(alloc)?, LINES, 8192, calls);
+        assert!(rt; ended.fault == Some(*fault), "at {calls}");
+        assert_eq!(rt; ended.done.as_slice(), *done);
     }
     Ok(())
 }
@@ -166,23 +177,10 @@ const LACKED: &[u8] = b"ask 0 a store 0 5 7\nenv 0 0 2 1 0 ask 0 0 1 read\nask 0
 #[test]
 fn a_site_that_lacks_a_step_ends(rt: HostRuntime) -> Result<(), Fail> {
     let alloc = rt.alloc();
-    let mut journal = Rehearsal {
-        done: Vec::new(alloc),
-        at_once: 20,
-        calls: 100,
-    };
-    let mut lines = LACKED;
-    let mut told = Vec::new(alloc);
-    let mut errors = Vec::new(alloc);
-    let mut desk = new_desk(alloc)?;
-    let served = serve(&mut desk, &mut lines, &mut told, &mut errors, &mut journal);
-    drop(desk);
-    match served {
-        Ok(()) => return Err(Fail::new("a step is lacking")),
-        Err(found) => assert!(rt; found == ProcessFault::TooOld { clock: 2 }),
-    }
+    let ended = serve_lines(alloc, new_desk(alloc)?, LACKED, 20, 100);
+    assert!(rt; ended.fault == Some(ProcessFault::TooOld { clock: 2 }));
     let done = b"+step 1 ask 0 a store 0 5 7\n!>tell 0 a stored\n".as_slice();
-    assert_eq!(rt; journal.done.as_slice(), done);
+    assert_eq!(rt; ended.done.as_slice(), done);
     Ok(())
 }
 
@@ -193,20 +191,14 @@ const OTHERS: &[u8] =
 #[test]
 fn another_opening_is_warned_of_once(rt: HostRuntime) -> Result<(), Fail> {
     let alloc = rt.alloc();
-    let mut journal = Rehearsal {
-        done: Vec::new(alloc),
-        at_once: 13,
-        calls: 100,
-    };
-    let mut lines = OTHERS;
-    let mut told = Vec::new(alloc);
-    let mut errors = Vec::new(alloc);
-    let mut desk = comparing_desk(alloc)?;
-    assert!(rt; serve(&mut desk, &mut lines, &mut told, &mut errors, &mut journal).is_ok());
-    drop(desk);
-    assert_eq!(rt; told.as_slice(), b"env 0 1 0 0 0 hello 1 1\n".as_slice());
+    let ended = serve_lines(alloc, comparing_desk(alloc)?, OTHERS, 13, 100);
+    assert!(rt; ended.fault.is_none());
     assert_eq!(rt;
-        errors.as_slice(),
+        ended.told.as_slice(),
+        b"env 0 1 0 0 0 hello 1 1\n".as_slice()
+    );
+    assert_eq!(rt;
+        ended.errors.as_slice(),
         b"shmdbg: site 1 was begun with --sites 2 --preset 1, this one with --sites 1 --preset 1\n".as_slice()
     );
     Ok(())

@@ -1,12 +1,13 @@
 //! Journals that were written by hand, and what is found in them.
+use super::unended;
 use linked_list_allocator::LocalHeap;
 use shm_journal::{Entry, Header, Recovered, RecoveryFault, parse_entry, parse_header, recover};
 use shm_model::Answer;
 use shm_place::{SiteId, Sites};
-use shm_process::Cause;
+use shm_process::{Cause, Node, Said};
 use shm_seal::ClusterName;
 use shm_wire::parse_line;
-use std::alloc::Allocator;
+use std::alloc::{AllocError, Allocator, Global};
 use std::io::{self, ErrorKind, Read};
 use std::test::Fail;
 
@@ -41,7 +42,7 @@ impl Read for Broken<'_> {
     }
 }
 
-/// What site 0 of 2 finds there, where segment 0 has 4 pages.
+/// The site that is recovered from there: site 0 of 2, where segment 0 has 4 pages.
 fn recover_first_site<A: Allocator + Copy, R: Read>(
     alloc: A,
     reader: &mut R,
@@ -52,26 +53,79 @@ fn recover_first_site<A: Allocator + Copy, R: Read>(
     }
 }
 
-/// Whether the journal is refused so.
-fn is_refused<A: Allocator + Copy>(alloc: A, journal: &[u8], fault: RecoveryFault) -> bool {
-    let mut reader = journal;
-    match recover_first_site(alloc, &mut reader) {
-        Ok(_) => false,
-        Err(e) => e == fault,
+/// How many steps are found, the clock of the last, how many whole bytes, and whether the journal is new.
+type Found = (u64, u64, u64, bool);
+
+/// What was found of this site.
+fn found_of<A: Allocator + Copy>(recovered: &Recovered<A>) -> Found {
+    (
+        recovered.node.steps(),
+        recovered.node.clock(),
+        recovered.whole,
+        recovered.is_new,
+    )
+}
+
+/// What is found where this reads.
+fn found_by<A: Allocator + Copy, R: Read>(
+    alloc: A,
+    reader: &mut R,
+) -> Result<Found, RecoveryFault> {
+    match recover_first_site(alloc, reader) {
+        Ok(recovered) => Ok(found_of(&recovered)),
+        Err(fault) => Err(fault),
     }
 }
 
-/// How many steps and whole bytes are found, and whether the journal is new.
-fn counts<A: Allocator + Copy>(alloc: A, journal: &[u8]) -> Option<(u64, u64, bool)> {
+/// What is found in the journal.
+fn found<A: Allocator + Copy>(alloc: A, journal: &[u8]) -> Result<Found, RecoveryFault> {
+    let mut reader = journal;
+    found_by(alloc, &mut reader)
+}
+
+/// What is found in it with so many bytes of memory.
+fn found_within(
+    alloc: Global,
+    bytes: usize,
+    journal: &[u8],
+) -> Result<Result<Found, RecoveryFault>, AllocError> {
+    let heap = LocalHeap::new(alloc, bytes)?;
+    Ok(found(&heap, journal))
+}
+
+/// The clock and the answer of a step.
+fn answer_of(said: Option<Said>) -> Option<(u64, Answer)> {
+    let said = said?;
+    Some((said.clock, said.answer))
+}
+
+/// The clock and the answer of the step that the site makes of the line.
+fn take_line(
+    alloc: Global,
+    node: &mut Node,
+    line: &[u8],
+) -> Result<Option<(u64, Answer)>, AllocError> {
+    match parse_line(alloc, line)? {
+        Some(read) => Ok(answer_of(node.take(read)?)),
+        None => Ok(None),
+    }
+}
+
+/// The clock and the answer of the step that the recovered site makes of the line.
+fn answered(
+    alloc: Global,
+    journal: &[u8],
+    line: &[u8],
+) -> Result<Option<(u64, Answer)>, AllocError> {
     let mut reader = journal;
     match recover_first_site(alloc, &mut reader) {
-        Ok(recovered) => Some((recovered.node.steps(), recovered.whole, recovered.is_new)),
-        Err(_) => None,
+        Ok(mut recovered) => take_line(alloc, &mut recovered.node, line),
+        Err(_) => Ok(None),
     }
 }
 
 #[test]
-fn lines_are_read_as_they_are_spelled(rt: HostRuntime) -> Result<(), Fail> {
+fn headers_are_read_as_they_are_spelled(rt: HostRuntime) -> Result<(), Fail> {
     let header = Header {
         sites: 2,
         me: 0,
@@ -89,133 +143,141 @@ fn lines_are_read_as_they_are_spelled(rt: HostRuntime) -> Result<(), Fail> {
     assert_eq!(rt; line.as_str(), "journal 2 0 4 @north");
     assert_eq!(rt; parse_header(line.as_bytes()), Some(named));
     assert_eq!(rt; parse_header(b"journal 2 0 4 ".as_slice()), None);
-    let Some(Entry { clock, cause }) = parse_entry(
-        rt.alloc(),
-        b"step 18446744073709551615 restart",
-    )?
-    else {
-        return Err(Fail::new("a restart's entry"));
+    Ok(())
+}
+
+/// The clock that the line records a restart at, if it does.
+fn restart_clock(alloc: Global, line: &[u8]) -> Result<Option<u64>, AllocError> {
+    let Some(Entry { clock, cause }) = parse_entry(alloc, line)? else {
+        return Ok(None);
     };
-    assert_eq!(rt; clock, u64::MAX);
-    assert!(rt; matches!(cause, Cause::Restart));
-    let bad: [&[u8]; 5] = [
-        b"step 18446744073709551616 restart",
-        b"step 1",
-        b"step 1 restart ",
-        b"step 1 a  b",
-        b"step 1 tell 0 a stored",
-    ];
-    for line in bad {
-        let entry = parse_entry(rt.alloc(), line)?;
-        assert!(rt; entry.is_none(), "at {line:?}");
+    match cause {
+        Cause::Restart => Ok(Some(clock)),
+        Cause::Line(_) => Ok(None),
+    }
+}
+
+/// Whether the line is an entry.
+fn is_entry(alloc: Global, line: &[u8]) -> Result<bool, AllocError> {
+    Ok(parse_entry(alloc, line)?.is_some())
+}
+
+const NO_ENTRIES: [&[u8]; 5] = [
+    b"step 18446744073709551616 restart",
+    b"step 1",
+    b"step 1 restart ",
+    b"step 1 a  b",
+    b"step 1 tell 0 a stored",
+];
+
+#[test]
+fn entries_are_read_as_they_are_spelled(rt: HostRuntime) -> Result<(), Fail> {
+    let last = b"step 18446744073709551615 restart".as_slice();
+    assert_eq!(rt; restart_clock(rt.alloc(), last)?, Some(u64::MAX));
+    for line in NO_ENTRIES {
+        assert!(rt; !is_entry(rt.alloc(), line)?, "at {line:?}");
     }
     Ok(())
 }
 
 #[test]
 fn recorded_stores_are_loaded_again(rt: HostRuntime) -> Result<(), Fail> {
-    let mut reader = STORES;
-    let Ok(mut recovered) = recover_first_site(rt.alloc(), &mut reader) else {
-        return Err(Fail::new("the journal was refused"));
-    };
-    assert_eq!(rt; (recovered.node.steps(), recovered.node.clock()), (3, 3));
-    assert_eq!(rt; (recovered.whole, recovered.is_new), (92, false));
-    let Some(line) = parse_line(rt.alloc(), b"ask 0 c load 0 6")? else {
-        return Err(Fail::new("an ask's line"));
-    };
-    match recovered.node.take(line)? {
-        Some(said) => assert_eq!(rt; (said.clock, said.answer), (4, Answer::Byte(9))),
-        None => return Err(Fail::new("no step was made")),
-    }
+    assert_eq!(rt; found(rt.alloc(), STORES), Ok((3, 3, 92, false)));
+    let loaded = answered(rt.alloc(), STORES, b"ask 0 c load 0 6")?;
+    assert_eq!(rt; loaded, Some((4, Answer::Byte(9))));
     Ok(())
 }
 
 #[test]
 fn an_entry_of_many_steps_makes_them_all(rt: HostRuntime) -> Result<(), Fail> {
-    let mut reader = BLOCKS;
-    let Ok(mut recovered) = recover_first_site(rt.alloc(), &mut reader) else {
-        return Err(Fail::new("the journal was refused"));
-    };
-    assert_eq!(rt; (recovered.node.steps(), recovered.node.clock()), (7, 7));
-    let Some(line) = parse_line(rt.alloc(), b"ask 0 c load 0 6")? else {
-        return Err(Fail::new("an ask's line"));
-    };
-    match recovered.node.take(line)? {
-        Some(said) => assert_eq!(rt; (said.clock, said.answer), (8, Answer::Byte(3))),
-        None => return Err(Fail::new("no step was made")),
-    }
-    let overlapping = b"journal 2 0 4\nstep 1 ask 0 a write 0 5 Bwk=\nstep 2 restart\n".as_slice();
-    assert!(rt; is_refused(rt.alloc(), overlapping, RecoveryFault::BadLine(3)));
+    assert_eq!(rt; found(rt.alloc(), BLOCKS), Ok((7, 7, 136, false)));
+    let loaded = answered(rt.alloc(), BLOCKS, b"ask 0 c load 0 6")?;
+    assert_eq!(rt; loaded, Some((8, Answer::Byte(3))));
     Ok(())
 }
 
+/// Journals whose last line is torn, or that have none, and what is found in each. The last one has just its header.
+const TORN: [(&[u8], Found); 4] = [
+    (
+        b"journal 2 0 4\nstep 1 ask 0 a store 0 5 7\nstep 2 ask 0 b store 0 6 9",
+        (1, 1, HEADER_AND_STORE, false),
+    ),
+    (b"", (0, 0, 0, true)),
+    (b"journal 2", (0, 0, 0, true)),
+    (b"journal 2 0 4\n", (0, 0, 14, false)),
+];
+
 #[test]
 fn a_torn_line_counts_for_nothing(rt: HostRuntime) {
-    let alloc = rt.alloc();
-    let torn = b"journal 2 0 4\nstep 1 ask 0 a store 0 5 7\nstep 2 ask 0 b store 0 6 9".as_slice();
-    assert_eq!(rt; counts(alloc, torn), Some((1, HEADER_AND_STORE, false)));
-    assert_eq!(rt; counts(alloc, b"".as_slice()), Some((0, 0, true)));
-    assert_eq!(rt; counts(alloc, b"journal 2".as_slice()), Some((0, 0, true)));
-    assert_eq!(rt;
-        counts(alloc, b"journal 2 0 4\n".as_slice()),
-        Some((0, 14, false))
-    );
+    for (journal, whole) in TORN {
+        assert_eq!(rt; found(rt.alloc(), journal), Ok(whole), "at {journal:?}");
+    }
 }
+
+/// Journals that aren't this site's, and why. In the last one an entry of two steps reaches over the next.
+const REFUSED: [(&[u8], RecoveryFault); 6] = [
+    (b"journal 2 1 4\n", RecoveryFault::Foreign),
+    (b"journal 2 0 4 \n", RecoveryFault::BadLine(1)),
+    (b"journal 2 1", RecoveryFault::BadLine(1)),
+    (
+        b"journal 2 0 4\nstep 1 ask 0 a store 0 5 7\nstep 3 ask 0 b load 0 5\n",
+        RecoveryFault::BadLine(3),
+    ),
+    (
+        b"journal 2 0 4\nstep 1 ask 1 a store 0 5 7\n",
+        RecoveryFault::BadLine(2),
+    ),
+    (
+        b"journal 2 0 4\nstep 1 ask 0 a write 0 5 Bwk=\nstep 2 restart\n",
+        RecoveryFault::BadLine(3),
+    ),
+];
 
 #[test]
 fn another_journal_is_refused(rt: HostRuntime) {
-    let alloc = rt.alloc();
-    assert!(rt; is_refused(alloc, b"journal 2 1 4\n".as_slice(), RecoveryFault::Foreign));
-    assert!(rt;
-        is_refused(
-            alloc,
-            b"journal 2 0 4 \n".as_slice(),
-            RecoveryFault::BadLine(1)
-        )
-    );
-    assert!(rt; is_refused(alloc, b"journal 2 1".as_slice(), RecoveryFault::BadLine(1)));
-    let late = b"journal 2 0 4\nstep 1 ask 0 a store 0 5 7\nstep 3 ask 0 b load 0 5\n".as_slice();
-    assert!(rt; is_refused(alloc, late, RecoveryFault::BadLine(3)));
-    let foreign = b"journal 2 0 4\nstep 1 ask 1 a store 0 5 7\n".as_slice();
-    assert!(rt; is_refused(alloc, foreign, RecoveryFault::BadLine(2)));
+    for (journal, fault) in REFUSED {
+        assert_eq!(rt; found(rt.alloc(), journal), Err(fault), "at {journal:?}");
+    }
 }
 
 #[test]
 fn a_line_of_8219_bytes_is_refused(rt: HostRuntime) -> Result<(), Fail> {
-    let alloc = rt.alloc();
-    let mut journal = Vec::from_slice(alloc, b"journal 2 0 4\n".as_slice())?;
-    for _ in 0..8218 {
-        journal.push(b'a')?;
-    }
+    let header = b"journal 2 0 4\n".as_slice();
+    let longest = unended(rt.alloc(), header, 8218)?;
     assert_eq!(rt;
-        counts(alloc, journal.as_slice()),
-        Some((0, 14, false)),
+        found(rt.alloc(), longest.as_slice()),
+        Ok((0, 0, 14, false)),
         "it may be torn"
     );
-    journal.push(b'a')?;
-    assert!(rt; is_refused(alloc, journal.as_slice(), RecoveryFault::BadLine(2)));
+    let longer = unended(rt.alloc(), header, 8219)?;
+    assert_eq!(rt;
+        found(rt.alloc(), longer.as_slice()),
+        Err(RecoveryFault::BadLine(2))
+    );
     Ok(())
 }
 
 #[test]
 fn a_reader_that_fails_is_a_read_fault(rt: HostRuntime) {
     let mut reader = Broken { rest: STORES };
-    match recover_first_site(rt.alloc(), &mut reader) {
-        Ok(_) => assert!(rt; false, "the fault was passed over"),
-        Err(fault) => assert_eq!(rt; fault, RecoveryFault::ReadFault),
-    }
+    assert_eq!(rt;
+        found_by(rt.alloc(), &mut reader),
+        Err(RecoveryFault::ReadFault),
+        "the fault was passed over"
+    );
 }
 
 #[test]
 fn each_allocation_is_refused_in_turn(rt: HostRuntime) -> Result<(), Fail> {
-    'sizes: for size in 1..4000usize {
-        let heap = LocalHeap::new(rt.alloc(), size * 16)?;
-        if let Some(counted) = counts(&heap, STORES) {
-            assert!(rt; size > 512, "the site's own two pages were refused too");
-            assert_eq!(rt; counted, (3, 92, false));
-            return Ok(());
+    for size in 1..4000usize {
+        match found_within(rt.alloc(), size * 16, STORES)? {
+            Err(fault) => assert_eq!(rt; fault, RecoveryFault::OutOfMemory),
+            Ok(whole) => {
+                assert!(rt; size > 512, "the site's own two pages were refused too");
+                assert_eq!(rt; whole, (3, 3, 92, false));
+                return Ok(());
+            }
         }
-        assert!(rt; is_refused(&heap, STORES, RecoveryFault::OutOfMemory));
     }
     Err(Fail::new("the site was never recovered"))
 }
