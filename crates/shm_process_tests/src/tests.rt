@@ -44,6 +44,19 @@ fn take_line<A: Allocator + Copy>(
     }
 }
 
+/// How many steps a node made, how many lines it took and passed over, and how many asks wait.
+type Counted = (u64, u64, u64, usize);
+
+/// What the node counts.
+fn counts_of<A: Allocator + Copy>(node: &Node<A>) -> Counted {
+    (
+        node.steps(),
+        node.lines_taken(),
+        node.lines_passed(),
+        node.asks_waiting(),
+    )
+}
+
 /// What is said of a step of an ask that waited.
 fn said_again<A: Allocator + Copy>(again: Option<Again<A>>) -> Option<Said<A>> {
     let Again { said, .. } = again?;

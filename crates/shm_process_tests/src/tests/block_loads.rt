@@ -1,7 +1,7 @@
 //! Blocks: many loads that one caller asks for at once, and is told of once.
 use crate::tests::exchanges::{Exchange, Records, counts, first_astray, new_desks, page_line};
 use crate::tests::fill_heap::{Filling, TRIES, fill_heap};
-use crate::tests::{new_node, new_nodes, said_again, take_line, tells};
+use crate::tests::{Counted, counts_of, new_node, new_nodes, said_again, take_line, tells};
 use linked_list_allocator::LocalHeap;
 use shm_model::Answer;
 use shm_process::{Counts, Node, Unopened};
@@ -152,13 +152,25 @@ fn is_line(told: &Option<String>, line: &str) -> bool {
     }
 }
 
-/// Whether such an ask is told that it finds no room, and passed over.
+/// Whether the node tells this at once of the line.
+fn is_told_at_once(
+    alloc: Global,
+    node: &Node,
+    line: &[u8],
+    told: &str,
+) -> Result<bool, AllocError> {
+    match parse_line(alloc, line)? {
+        Some(read) => Ok(is_line(&node.line_at_once(NOTHING, &read)?, told)),
+        None => Ok(false),
+    }
+}
+
+/// Whether a block is told that it finds no room, and passed over.
 fn finds_no_room(alloc: Global, node: &mut Node) -> Result<bool, AllocError> {
-    let Some(line) = parse_line(alloc, b"ask 1 b read 0 2 1")? else {
-        return Ok(false);
-    };
-    let is_told = is_line(&node.line_at_once(NOTHING, &line)?, "tell 1 b waiting");
-    Ok(is_told && node.take(line)?.is_none())
+    let block = b"ask 1 b read 0 2 1".as_slice();
+    let is_told = is_told_at_once(alloc, node, block, "tell 1 b waiting")?;
+    let is_passed_over = take_line(alloc, node, block)?.is_none();
+    Ok(is_told && is_passed_over)
 }
 
 #[test]
@@ -170,35 +182,27 @@ fn a_block_that_finds_no_room_is_told_so_and_passed_over(rt: HostRuntime) -> Res
     };
     crowd(alloc, node)?;
     assert!(rt; finds_no_room(alloc, node)?);
-    assert_eq!(rt;
-        (
-            node.steps(),
-            node.lines_taken(),
-            node.lines_passed(),
-            node.asks_waiting()
-        ),
-        (64, 64, 1, 64)
-    );
+    assert_eq!(rt; counts_of(node), (64, 64, 1, 64));
     Ok(())
 }
 
-/// Whether the node takes the ask for a page's bytes. Where memory is refused it is as before.
-fn takes<'a>(rt: &impl Abort, heap: &'a LocalHeap, node: &mut Node<&'a LocalHeap>) -> bool {
+/// Whether the ask for a page's bytes joins those that wait, and makes no step. `None`: memory is refused.
+fn joins<'a>(heap: &'a LocalHeap, node: &mut Node<&'a LocalHeap>) -> Option<bool> {
     match take_line(heap, node, b"ask 0 b read 0 0 4096") {
-        Ok(said) => {
-            assert!(rt; said.is_none(), "a block that joins makes no step");
+        Ok(said) => Some(said.is_none()),
+        Err(_) => None,
+    }
+}
+
+/// Whether the node takes that ask. Where memory is refused it is as before.
+fn takes<'a>(rt: &impl Abort, heap: &'a LocalHeap, node: &mut Node<&'a LocalHeap>) -> bool {
+    match joins(heap, node) {
+        Some(joins) => {
+            assert!(rt; joins, "a block that joins makes no step");
             true
         }
-        Err(_) => {
-            assert_eq!(rt;
-                (
-                    node.steps(),
-                    node.lines_taken(),
-                    node.lines_passed(),
-                    node.asks_waiting()
-                ),
-                (0, 0, 0, 0)
-            );
+        None => {
+            assert_eq!(rt; counts_of(node), (0, 0, 0, 0));
             false
         }
     }
@@ -220,27 +224,26 @@ fn refusals<'a>(
     None
 }
 
+/// How often a node in a full heap is refused memory before it takes the ask, and what it counts then.
+fn until_taken(rt: &impl Abort, alloc: Global) -> Result<(Option<usize>, Counted), AllocError> {
+    let heap = LocalHeap::new(alloc, 1 << 16)?;
+    let mut node = new_node(&heap, 2, 0)?;
+    let mut filling = fill_heap(alloc, &heap)?;
+    let tries = refusals(rt, &heap, &mut node, &mut filling);
+    Ok((tries, counts_of(&node)))
+}
+
 /// The bytes need a hole of 4,096: 256 times 16.
 #[test]
 fn each_growth_of_a_block_is_refused_in_turn(rt: HostRuntime) -> Result<(), Fail> {
-    let heap = LocalHeap::new(rt.alloc(), 1 << 16)?;
-    let mut node = new_node(&heap, 2, 0)?;
-    let mut filling = fill_heap(rt.alloc(), &heap)?;
-    let Some(tries) = refusals(&rt, &heap, &mut node, &mut filling) else {
+    let (tries, counts) = until_taken(&rt, rt.alloc())?;
+    let Some(tries) = tries else {
         return Err(Fail::new("the block never joined"));
     };
     assert!(rt;
         tries > 256,
         "the place among those that wait was refused too"
     );
-    assert_eq!(rt;
-        (
-            node.steps(),
-            node.lines_taken(),
-            node.lines_passed(),
-            node.asks_waiting()
-        ),
-        (0, 1, 0, 1)
-    );
+    assert_eq!(rt; counts, (0, 1, 0, 1));
     Ok(())
 }

@@ -1,24 +1,32 @@
 //! Blocks that are stored: many stores that one caller asks for at once, and is told of once.
-use crate::tests::exchanges::{asks_waiting, counts, new_desks, page_line};
+use crate::tests::exchanges::{
+    Exchange, Records, answers, asks_waiting, counts, first_astray, new_desks, page_line,
+};
 use shm_process::Desk;
 use shm_wire::{Line, parse_line, parse_tell_line};
 use std::alloc::{AllocError, Global};
 use std::test::Fail;
 
 /// What callers are told once these lines, and all that the sites send for them, have come to each site.
-fn answers(alloc: Global, desks: &mut [Desk], lines: &str) -> Result<String, AllocError> {
+fn told_in_all(alloc: Global, desks: &mut [Desk], lines: &str) -> Result<String, AllocError> {
     let mut told = String::new(alloc);
     let mut coming = String::from_str(alloc, lines)?;
     'rounds: for _ in 0..20 {
         coming = carried(alloc, desks, coming.as_str())?;
-        'lines: for line in coming.as_str().lines() {
-            if line.starts_with("tell ") {
-                told.push_str(line)?;
-                told.push_str("\n")?;
-            }
-        }
+        push_told(&mut told, coming.as_str())?;
     }
     Ok(told)
+}
+
+/// Adds those of the lines that tell a caller something.
+fn push_told(told: &mut String, lines: &str) -> Result<(), AllocError> {
+    'lines: for line in lines.lines() {
+        if line.starts_with("tell ") {
+            told.push_str(line)?;
+            told.push_str("\n")?;
+        }
+    }
+    Ok(())
 }
 
 /// What the sites tell of these lines.
@@ -42,8 +50,7 @@ fn first_untold(
     all: &[Told<'_>],
 ) -> Result<Option<usize>, AllocError> {
     'all: for (number, (lines, told)) in all.iter().enumerate() {
-        let answers = answers(alloc, desks, lines)?;
-        if answers.as_str() != *told {
+        if told_in_all(alloc, desks, lines)?.as_str() != *told {
             return Ok(Some(number));
         }
     }
@@ -54,15 +61,13 @@ fn first_untold(
 #[test]
 fn a_block_is_stored_and_told_once_and_recorded_in_one_entry(rt: HostRuntime) -> Result<(), Fail> {
     let mut desks = new_desks(rt.alloc(), 1)?;
-    let Some(desk) = desks.get_mut(0) else {
-        return Err(Fail::new("a desk"));
-    };
-    desk.take(b"ask 0 a write 0 5 B/8AEA==\n".as_slice())?;
-    assert_eq!(rt; desk.output(), "tell 0 a stored\n");
-    assert_eq!(rt;
-        desk.entries(),
-        b"step 1 ask 0 a write 0 5 B/8AEA==\n".as_slice()
-    );
+    let exchanges = [Exchange {
+        site: 0,
+        lines: "ask 0 a write 0 5 B/8AEA==\n",
+        output: "tell 0 a stored\n",
+        records: Records::All(b"step 1 ask 0 a write 0 5 B/8AEA==\n"),
+    }];
+    assert_eq!(rt; first_astray(desks.as_mut_slice(), &exchanges)?, None);
     assert_eq!(rt; counts(desks.as_slice(), 0), Some((4, 1, 0, 0)));
     Ok(())
 }
@@ -104,19 +109,34 @@ fn a_block_that_is_refused_leaves_what_was_stored_before(rt: HostRuntime) -> Res
 }
 
 /// 64 loads wait for one page.
-#[test]
-fn a_block_that_finds_no_room_is_not_stored(rt: HostRuntime) -> Result<(), Fail> {
-    let mut desks = new_desks(rt.alloc(), 2)?;
-    let Some(desk) = desks.get_mut(1) else {
-        return Err(Fail::new("a desk"));
+fn crowd(desks: &mut [Desk], site: usize) -> Result<(), AllocError> {
+    let Some(desk) = desks.get_mut(site) else {
+        return Ok(());
     };
     'asks: for _ in 0..64 {
         desk.take(b"ask 1 a load 0 2\n".as_slice())?;
     }
-    desk.clear();
-    desk.take(b"ask 1 b write 0 4096 AQ==\nask 0 b write 0 0 AQ==\n".as_slice())?;
-    assert_eq!(rt; desk.output(), "tell 1 b waiting\n");
+    Ok(())
+}
+
+#[test]
+fn a_block_that_finds_no_room_is_not_stored(rt: HostRuntime) -> Result<(), Fail> {
+    let mut desks = new_desks(rt.alloc(), 2)?;
+    crowd(desks.as_mut_slice(), 1)?;
+    let lines = "ask 1 b write 0 4096 AQ==\nask 0 b write 0 0 AQ==\n";
+    assert!(rt; answers(desks.as_mut_slice(), 1, lines, "tell 1 b waiting\n")?);
     assert_eq!(rt; counts(desks.as_slice(), 1), Some((64, 64, 2, 64)));
+    Ok(())
+}
+
+/// Restarts the site, unless it has no clock left for that.
+fn restart(desks: &mut [Desk], site: usize) -> Result<(), AllocError> {
+    let Some(desk) = desks.get_mut(site) else {
+        return Ok(());
+    };
+    if desk.node().clock() < u64::MAX {
+        desk.restart()?;
+    }
     Ok(())
 }
 
@@ -124,33 +144,33 @@ fn a_block_that_finds_no_room_is_not_stored(rt: HostRuntime) -> Result<(), Fail>
 #[test]
 fn a_restart_forgets_a_block_that_is_to_be_stored(rt: HostRuntime) -> Result<(), Fail> {
     let mut desks = new_desks(rt.alloc(), 2)?;
-    let Some(desk) = desks.get_mut(1) else {
-        return Err(Fail::new("a desk"));
-    };
-    desk.take(b"ask 1 b write 0 4095 AQI=\n".as_slice())?;
-    assert_eq!(rt; desk.output(), "env 1 0 1 0 0 ask 0 0 1 write\n");
-    assert_eq!(rt; desk.node().asks_waiting(), 1);
-    if desk.node().clock() < u64::MAX {
-        desk.restart()?;
-    }
-    assert_eq!(rt; desk.node().asks_waiting(), 0);
+    let lines = "ask 1 b write 0 4095 AQI=\n";
+    let sent = "env 1 0 1 0 0 ask 0 0 1 write\n";
+    assert!(rt; answers(desks.as_mut_slice(), 1, lines, sent)?);
+    assert_eq!(rt; asks_waiting(desks.as_slice(), 1), Some(1));
+    restart(desks.as_mut_slice(), 1)?;
+    assert_eq!(rt; asks_waiting(desks.as_slice(), 1), Some(0));
     Ok(())
 }
 
-/// Bytes without their padding, with bits left over, none, or too many; and offsets that there aren't.
+/// Bytes without their padding, with bits left over, or none; and offsets that there aren't.
+const NO_BLOCKS: &str = "ask 0 a write 0 0 AQ\n\
+    ask 0 a write 0 0 AQ=\n\
+    ask 0 a write 0 0 AR==\n\
+    ask 0 a write 0 0 \n\
+    ask 0 a write 0 0\n\
+    ask 0 a write 0 0 AQ== \n\
+    ask 0 a write 0 4294967295 AQI=\n\
+    ask 0 a write 0 4294967296 AQ==\n";
+
+/// Before those comes a block of too many bytes.
 #[test]
 fn what_is_no_block_is_passed_over(rt: HostRuntime) -> Result<(), Fail> {
     let alloc = rt.alloc();
     let mut desks = new_desks(alloc, 1)?;
-    let Some(desk) = desks.get_mut(0) else {
-        return Err(Fail::new("a desk"));
-    };
     let too_many = page_line(alloc, "ask 0 a write 0 0 ", 1365, "AAA=\n")?;
-    desk.take(too_many.as_bytes())?;
-    let lines =
-        "ask 0 a write 0 0 AQ\nask 0 a write 0 0 AQ=\nask 0 a write 0 0 AR==\nask 0 a write 0 0 \nask 0 a write 0 0\nask 0 a write 0 0 AQ== \nask 0 a write 0 4294967295 AQI=\nask 0 a write 0 4294967296 AQ==\n";
-    desk.take(lines.as_bytes())?;
-    assert_eq!(rt; desk.output(), "");
+    assert!(rt; answers(desks.as_mut_slice(), 0, too_many.as_str(), "")?);
+    assert!(rt; answers(desks.as_mut_slice(), 0, NO_BLOCKS, "")?);
     assert_eq!(rt; counts(desks.as_slice(), 0), Some((0, 0, 9, 0)));
     Ok(())
 }
@@ -160,29 +180,28 @@ fn what_is_no_block_is_passed_over(rt: HostRuntime) -> Result<(), Fail> {
 fn a_whole_page_is_stored_by_one_line(rt: HostRuntime) -> Result<(), Fail> {
     let alloc = rt.alloc();
     let mut desks = new_desks(alloc, 1)?;
-    let Some(desk) = desks.get_mut(0) else {
-        return Err(Fail::new("a desk"));
-    };
     let line = page_line(alloc, "ask 0 a write 0 4096 ", 1365, "AA==\n")?;
-    desk.take(line.as_bytes())?;
-    assert_eq!(rt; desk.output(), "tell 0 a stored\n");
+    assert!(rt; answers(desks.as_mut_slice(), 0, line.as_str(), "tell 0 a stored\n")?);
     assert_eq!(rt; counts(desks.as_slice(), 0), Some((4096, 1, 0, 0)));
     Ok(())
 }
 
+/// What the line is printed as, if it is a write's.
+fn printed(alloc: Global, line: &str) -> Result<Option<String>, AllocError> {
+    match parse_line(alloc, line.as_bytes())? {
+        Some(Line::Write(write)) => Ok(Some(format!(in alloc; "{write}")?)),
+        _ => Ok(None),
+    }
+}
+
 #[test]
 fn writes_are_printed_as_they_were_read(rt: HostRuntime) -> Result<(), Fail> {
-    let alloc = rt.alloc();
     for line in [
         "ask 0 a write 0 0 AA==",
         "ask 15 a write 63 4294967293 AQID",
     ] {
-        let read = parse_line(alloc, line.as_bytes())?;
-        let Some(Line::Write(write)) = &read else {
-            return Err(Fail::new("a write's line"));
-        };
-        let printed = format!(in alloc; "{write}")?;
-        assert_eq!(rt; printed.as_str(), line);
+        let printed = printed(rt.alloc(), line)?;
+        assert_eq!(rt; printed.as_deref(), Some(line));
         assert!(rt; parse_tell_line(line.as_bytes()).is_none(), "at {line}");
     }
     Ok(())

@@ -1,5 +1,5 @@
 //! Desks that a test carries lines between, by a table.
-use crate::tests::new_node;
+use crate::tests::{Counted, counts_of, new_node};
 use shm_process::Desk;
 use std::alloc::{AllocError, Global};
 
@@ -62,15 +62,24 @@ fn goes(desk: &mut Desk, exchange: &Exchange<'_>) -> Result<bool, AllocError> {
     Ok(desk.output() == exchange.output && exchange.records.are(desk.entries()))
 }
 
-/// How many steps the node of a site's desk has made, how many lines it took and passed over, and how many asks wait.
-pub(super) fn counts(desks: &[Desk], site: usize) -> Option<(u64, u64, u64, usize)> {
-    let node = desks.get(site)?.node();
-    Some((
-        node.steps(),
-        node.lines_taken(),
-        node.lines_passed(),
-        node.asks_waiting(),
-    ))
+/// Whether the desk of a site tells this of these lines.
+pub(super) fn answers(
+    desks: &mut [Desk],
+    site: usize,
+    lines: &str,
+    told: &str,
+) -> Result<bool, AllocError> {
+    let Some(desk) = desks.get_mut(site) else {
+        return Ok(false);
+    };
+    desk.clear();
+    desk.take(lines.as_bytes())?;
+    Ok(desk.output() == told)
+}
+
+/// What the node of a site's desk counts.
+pub(super) fn counts(desks: &[Desk], site: usize) -> Option<Counted> {
+    Some(counts_of(desks.get(site)?.node()))
 }
 
 /// How many asks wait at a site.

@@ -3,7 +3,9 @@ use crate::tests::exchanges::{
     Exchange, Records, asks_waiting, counts, first_astray, new_desks, page_line,
 };
 use crate::tests::fill_heap::{Filling, TRIES, fill_heap};
-use crate::tests::{new_node, new_nodes, said_again, take_line, tells, tells_nobody};
+use crate::tests::{
+    Counted, counts_of, new_node, new_nodes, said_again, take_line, tells, tells_nobody,
+};
 use linked_list_allocator::LocalHeap;
 use shm_model::Answer;
 use shm_process::{Desk, Node, Said};
@@ -39,7 +41,8 @@ fn stores(alloc: Global, owner: &mut Node) -> Result<bool, AllocError> {
 fn asks(alloc: Global, reader: &mut Node) -> Result<bool, AllocError> {
     let fault = take_line(alloc, reader, b"ask 1 b load 0 5")?;
     let is_told_nobody = tells_nobody(&fault);
-    Ok(is_told_nobody && sent_line(alloc, fault)?.as_str() == "env 1 0 1 0 0 ask 0 0 1 read\n")
+    let sent = sent_line(alloc, fault)?;
+    Ok(is_told_nobody && sent.as_str() == "env 1 0 1 0 0 ask 0 0 1 read\n")
 }
 
 /// What the owner's manager tells the owner on that ask.
@@ -106,32 +109,28 @@ fn lend(rt: &impl Abort, alloc: Global, nodes: &mut [Node]) -> Result<(), Fail> 
     assert!(rt; confirms(alloc, owner, reader)?);
     assert!(rt; is_told(reader)?);
     assert!(rt; is_quiet(reader)?, "it was answered");
-    assert_eq!(rt; counts_of(reader), (3, 5, 2, 1));
+    assert_eq!(rt; reader.clock(), 5);
+    assert_eq!(rt; counts_of(reader), (3, 2, 1, 0));
     Ok(())
 }
 
-/// How many steps it made, its clock, and how many lines it took and passed over.
-fn counts_of(node: &Node) -> (u64, u64, u64, u64) {
-    (
-        node.steps(),
-        node.clock(),
-        node.lines_taken(),
-        node.lines_passed(),
-    )
+/// Whether the node makes the step of a load that is tried, and tells its fault. `None`: memory is refused.
+fn tells_fault<'a>(heap: &'a LocalHeap, node: &mut Node<&'a LocalHeap>) -> Option<bool> {
+    match take_line(heap, node, b"ask 1 b try-load 0 5") {
+        Ok(said) => Some(tells(&said, "b", Answer::Fault)),
+        Err(_) => None,
+    }
 }
 
-/// Whether the node makes the step of a load that is tried. Where memory is refused it is as before.
+/// Whether the node makes that step. Where memory is refused it is as before.
 fn tries_load<'a>(rt: &impl Abort, heap: &'a LocalHeap, node: &mut Node<&'a LocalHeap>) -> bool {
-    match take_line(heap, node, b"ask 1 b try-load 0 5") {
-        Ok(said) => {
-            assert!(rt; tells(&said, "b", Answer::Fault));
+    match tells_fault(heap, node) {
+        Some(is_told) => {
+            assert!(rt; is_told);
             true
         }
-        Err(_) => {
-            assert_eq!(rt;
-                (node.steps(), node.lines_taken(), node.lines_passed()),
-                (0, 0, 0)
-            );
+        None => {
+            assert_eq!(rt; counts_of(node), (0, 0, 0, 0));
             false
         }
     }
@@ -153,19 +152,26 @@ fn refusals<'a>(
     None
 }
 
+/// How often a node in a full heap is refused memory before it makes the step, and what it counts then.
+fn until_made(rt: &impl Abort, alloc: Global) -> Result<(Option<usize>, Counted), AllocError> {
+    let heap = LocalHeap::new(alloc, 1 << 16)?;
+    let mut node = new_node(&heap, 2, 1)?;
+    let mut filling = fill_heap(alloc, &heap)?;
+    let tries = refusals(rt, &heap, &mut node, &mut filling);
+    Ok((tries, counts_of(&node)))
+}
+
 #[test]
 fn each_growth_is_refused_in_turn(rt: HostRuntime) -> Result<(), Fail> {
-    let heap = LocalHeap::new(rt.alloc(), 1 << 16)?;
-    let mut node = new_node(&heap, 2, 1)?;
-    let mut filling = fill_heap(rt.alloc(), &heap)?;
-    let Some(tries) = refusals(&rt, &heap, &mut node, &mut filling) else {
+    let (tries, counts) = until_made(&rt, rt.alloc())?;
+    let Some(tries) = tries else {
         return Err(Fail::new("no step was made"));
     };
     assert!(rt;
         tries > 1,
         "the place to wait and what is sent were refused too"
     );
-    assert_eq!(rt; (node.steps(), node.lines_taken()), (1, 1));
+    assert_eq!(rt; counts, (1, 1, 0, 0));
     Ok(())
 }
 
