@@ -34,6 +34,16 @@ fn hears(alloc: Global, desks: &mut [Desk], heard: &Heard<'_>) -> Result<bool, A
     Ok(is_noted && is_passed && desk.output() == heard.told && desk.entries().is_empty())
 }
 
+/// Whether the site tells and notes nothing on the line, and passes it over.
+fn ignores(alloc: Global, desks: &mut [Desk], line: &str) -> Result<bool, AllocError> {
+    let heard = Heard {
+        line,
+        told: "",
+        noted: "",
+    };
+    hears(alloc, desks, &heard)
+}
+
 /// Whether the site has told this.
 fn has_told(desks: &[Desk], told: &str) -> bool {
     match desks.first() {
@@ -94,12 +104,7 @@ fn what_says_no_other_opening_is_not_noted(rt: HostRuntime) -> Result<(), Fail> 
     let alloc = rt.alloc();
     let mut desks = greeting_desk(alloc, Seal::Bare, 3, 1)?;
     for line in &NOT_NOTED {
-        let heard = Heard {
-            line,
-            told: "",
-            noted: "",
-        };
-        assert!(rt; hears(alloc, desks.as_mut_slice(), &heard)?);
+        assert!(rt; ignores(alloc, desks.as_mut_slice(), line)?, "at {line}");
     }
     Ok(())
 }
@@ -123,19 +128,24 @@ const NOTED: [Heard<'static>; 3] = [
     },
 ];
 
+/// Whether a site does so on the line, and then notes and answers no other.
+fn hears_first(alloc: Global, heard: &Heard<'_>) -> Result<bool, AllocError> {
+    let mut desks = greeting_desk(alloc, Seal::Bare, 3, 1)?;
+    let later = Heard {
+        line: "env 2 1 0 0 0 hello 7 7\n",
+        told: "",
+        noted: heard.noted,
+    };
+    let is_first = hears(alloc, desks.as_mut_slice(), heard)?;
+    let is_last = hears(alloc, desks.as_mut_slice(), &later)?;
+    Ok(is_first && is_last)
+}
+
 /// Only the first is noted, and answered.
 #[test]
 fn another_opening_is_noted_once_and_answered(rt: HostRuntime) -> Result<(), Fail> {
-    let alloc = rt.alloc();
     for heard in &NOTED {
-        let mut desks = greeting_desk(alloc, Seal::Bare, 3, 1)?;
-        assert!(rt; hears(alloc, desks.as_mut_slice(), heard)?);
-        let later = Heard {
-            line: "env 2 1 0 0 0 hello 7 7\n",
-            told: "",
-            noted: heard.noted,
-        };
-        assert!(rt; hears(alloc, desks.as_mut_slice(), &later)?);
+        assert!(rt; hears_first(rt.alloc(), heard)?, "at {}", heard.line);
     }
     Ok(())
 }
@@ -146,12 +156,11 @@ fn a_desk_without_an_opening_notes_nothing(rt: HostRuntime) -> Result<(), Fail> 
     let alloc = rt.alloc();
     let mut desks = silent_desk(alloc, 3, 1)?;
     for heard in &NOTED {
-        let ignored = Heard {
-            line: heard.line,
-            told: "",
-            noted: "",
-        };
-        assert!(rt; hears(alloc, desks.as_mut_slice(), &ignored)?);
+        assert!(rt;
+            ignores(alloc, desks.as_mut_slice(), heard.line)?,
+            "at {}",
+            heard.line
+        );
     }
     Ok(())
 }
@@ -161,12 +170,8 @@ fn a_hello_without_its_digest_is_not_noted(rt: HostRuntime) -> Result<(), Fail> 
     let alloc = rt.alloc();
     let seal = Seal::Keyed(north()?, Key::new(b"secret".as_slice()));
     let mut desks = greeting_desk(alloc, seal, 3, 1)?;
-    let heard = Heard {
-        line: "env 2 1 0 0 0 hello 4 4 @north\n",
-        told: "",
-        noted: "",
-    };
-    assert!(rt; hears(alloc, desks.as_mut_slice(), &heard)?);
+    let line = "env 2 1 0 0 0 hello 4 4 @north\n";
+    assert!(rt; ignores(alloc, desks.as_mut_slice(), line)?);
     assert_eq!(rt; without_digest(desks.as_slice()), Some(1));
     Ok(())
 }
