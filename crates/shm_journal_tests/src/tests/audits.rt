@@ -70,6 +70,17 @@ fn audit_both(
     Ok(audit_journals(alloc, logs.as_slice()))
 }
 
+/// What is counted in them, if an audit accepts them.
+fn count_both(alloc: Global, one: &[u8], other: &[u8]) -> Result<Option<Totals>, Fail> {
+    match audit_both(alloc, one, other)? {
+        Ok(counts) => Ok(Some(counts)),
+        Err(JournalsFault::OutOfMemory) => Ok(None),
+        Err(JournalsFault::NotOneSet) => Ok(None),
+        Err(JournalsFault::Audit(AuditFault::OutOfMemory)) => Ok(None),
+        Err(JournalsFault::Audit(_)) => Ok(None),
+    }
+}
+
 #[test]
 fn a_copy_was_lent(rt: HostRuntime) -> Result<(), Fail> {
     let reader = reader(rt.alloc())?;
@@ -79,8 +90,8 @@ fn a_copy_was_lent(rt: HostRuntime) -> Result<(), Fail> {
         envelopes: 4,
     };
     assert_eq!(rt;
-        audit_both(rt.alloc(), owner(), reader.as_bytes())?,
-        Ok(counts)
+        count_both(rt.alloc(), owner(), reader.as_bytes())?,
+        Some(counts)
     );
     Ok(())
 }
@@ -95,7 +106,7 @@ fn each_step_of_an_entry_counts(rt: HostRuntime) -> Result<(), Fail> {
         accesses: 4,
         envelopes: 0,
     };
-    assert_eq!(rt; audit_both(rt.alloc(), blocks, idle)?, Ok(counts));
+    assert_eq!(rt; count_both(rt.alloc(), blocks, idle)?, Some(counts));
     Ok(())
 }
 
