@@ -76,7 +76,7 @@ void push_line(struct channel *channel, const char *line, bool seals) {
     channel->length += length + 1;
 }
 
-/* Much memory goes back once nothing needs it. */
+/* A large buffer is freed once it is empty. */
 void take_off(struct channel *channel, size_t count) {
     channel->length -= count;
     memmove(channel->bytes, channel->bytes + count, channel->length);
@@ -106,7 +106,6 @@ bool read_lines(struct channel *channel, void (*take)(char *)) {
     return true;
 }
 
-/* Where too much is on its way already this line is lost: a tick sends it again. */
 void carry(const char *line) {
     if (to_carrier.length < MOST_UNWRITTEN) push_line(&to_carrier, line, false);
 }

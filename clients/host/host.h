@@ -9,8 +9,10 @@
 
 enum right { NONE, READ, WRITE };
 
-/* Where so many bytes wait to be written, envelopes are lost: a tick sends them again. */
-enum { MOST_SEGMENTS = 64, MOST_UNWRITTEN = 1 << 22 };
+enum { MOST_SEGMENTS = 64 };
+
+/* Where so many bytes wait for the carrier, or for the site, further envelopes are lost: a tick sends them again. */
+enum { MOST_UNWRITTEN = 1 << 22 };
 
 /* What a test leaves out of what the daemon does with pages (`--break`). */
 enum { LEAVES_READ = 1, LEAVES_WRITTEN, LENDS_OPEN, BRINGS_NOTHING, OPENS_TO_WRITE, PROTECTS_NOT };

@@ -24,9 +24,10 @@ import time
 HERE = os.path.dirname(os.path.abspath(__file__))
 sys.path.insert(0, os.path.join(HERE, 'try'))
 from cluster import Cluster, Words, expect, has, has_ended, keys, patience, slowness, within
+from endings import try_ending, try_leaving
 from framebuffer import try_framebuffer
 from others import try_modules, try_others, try_postgres
-from refusals import try_ending, try_leaving, try_refusals, try_sockets
+from refusals import try_refusals, try_sockets
 from rough import ROUGH, odd_lines, rough_cluster
 from sleepers import try_sleepers
 from times import time_all
