@@ -11,7 +11,7 @@ use Rattle.shm_simulate.specs.declared.gave.Gave.TheVariants as gave
 use Rattle.shm_simulate.specs.declared.line_state.LineState.{LineState}
 use Rattle.shm_simulate.specs.declared.outcome.Outcome.{Outcome}
 use Rattle.shm_simulate.specs.Lines.{counted}
-use Rattle.shm_simulate.specs.Outcomes.{IsAmong, Tallied, agrees, same_gave, same_given}
+use Rattle.shm_simulate.specs.Outcomes.{IsAmong, IsFirstOf, Tallied, agrees, same_gave, same_given}
 use Rattle.shm_simulate.proofs.ListLemmas.{count-no, count-none, count-yes, get-cases, get-front, get-last, get-within, set-cases, set-other, set-same, sum-push, sum-raise}
 use Rattle.shm_simulate.proofs.SpreadLemmas.{counted-below}
 
@@ -60,6 +60,27 @@ given-other xs ys ne = bool-false (same_given xs ys) (λ h. ne (same-given xs ys
 abbrev count-of-outcome : Outcome → ℕ
 count-of-outcome outcome = outcome.count
 
+-- a later run leaves the first as it is
+first-stays : (givens : List (List Gave)) (run : ℕ) (given later : List Gave) → IsFirstOf givens run given → IsFirstOf (givens ++ later ∷ []) run given
+first-stays givens run given later is = record {
+  gave = get-front givens (later ∷ []) run given is.gave;
+  first = λ earlier below there. elim (get-cases givens later earlier given there) [
+    | inl a ↦ is.first earlier below a
+    | inr b ↦ let within : run < length givens = slice_get_within givens run given is.gave in omega (arith, below, within, b.0)
+  ];
+}
+
+-- the last run is the first that gave what no run before it did
+first-comes : (givens : List (List Gave)) (run : ℕ) (given : List Gave) → length givens ≡ run
+    → ((earlier : ℕ) → slice_get givens earlier ≡ Some given → ⊥) → IsFirstOf (givens ++ given ∷ []) run given
+first-comes givens run given long none = record {
+  gave = ap (slice_get (givens ++ given ∷ [])) (sym long) ∙ get-last givens given;
+  first = λ earlier below there. elim (get-cases givens given earlier given there) [
+    | inl a ↦ none earlier a
+    | inr b ↦ omega (arith, below, long, b.0)
+  ];
+}
+
 module _ (givens : List (List Gave)) (schedules : List (List Event)) (outcomes : List Outcome) (given : List Gave) (events : List Event)
     (had : Tallied givens schedules outcomes) where
   -- a run that came to an outcome once more
@@ -84,16 +105,16 @@ module _ (givens : List (List Gave)) (schedules : List (List Event)) (outcomes :
     ]
 
     again-kept : (i : ℕ) (x : Outcome) → slice_get (slice_set outcomes place raised) i ≡ Some x
-        → (slice_get (schedules ++ events ∷ []) x.run ≡ Some x.events.items) × (slice_get (givens ++ given ∷ []) x.run ≡ Some x.given.items)
+        → (slice_get (schedules ++ events ∷ []) x.run ≡ Some x.events.items) × IsFirstOf (givens ++ given ∷ []) x.run x.given.items
     unfolding raised
     again-kept i x h = elim (set-cases outcomes place raised i x h) [
-      | inl a ↦ subst (λ (z : Outcome). (slice_get (schedules ++ events ∷ []) z.run ≡ Some z.events.items) × (slice_get (givens ++ given ∷ []) z.run ≡ Some z.given.items)) a.1 (
+      | inl a ↦ subst (λ (z : Outcome). (slice_get (schedules ++ events ∷ []) z.run ≡ Some z.events.items) × IsFirstOf (givens ++ given ∷ []) z.run z.given.items) a.1 (
         get-front schedules (events ∷ []) outcome.run outcome.events.items (had.kept place outcome there).0,
-        get-front givens (given ∷ []) outcome.run outcome.given.items (had.kept place outcome there).1,
+        first-stays givens outcome.run outcome.given.items given (had.kept place outcome there).1,
       )
       | inr b ↦ (
         get-front schedules (events ∷ []) x.run x.events.items (had.kept i x b.1).0,
-        get-front givens (given ∷ []) x.run x.given.items (had.kept i x b.1).1,
+        first-stays givens x.run x.given.items given (had.kept i x b.1).1,
       )
     ]
 
@@ -118,13 +139,21 @@ module _ (givens : List (List Gave)) (schedules : List (List Event)) (outcomes :
       | inr b ↦ record { place = place; outcome = raised; there = set-same outcomes place outcome raised there; same = same ∙ b.1 }
     ]
 
-    -- the outcomes stay where they are
-    origin : (i : ℕ) (x : Outcome) → slice_get (slice_set outcomes place raised) i ≡ Some x → (y : Outcome) × (slice_get outcomes i ≡ Some y) × (y.given.items ≡ x.given.items)
+    -- the outcomes stay where they are, each with its run
+    origin : (i : ℕ) (x : Outcome) → slice_get (slice_set outcomes place raised) i ≡ Some x
+        → (y : Outcome) × (slice_get outcomes i ≡ Some y) × (y.given.items ≡ x.given.items) × (y.run ≡ x.run)
     unfolding raised
     origin i x h = elim (set-cases outcomes place raised i x h) [
-      | inl a ↦ (outcome, ap (slice_get outcomes) a.0 ∙ there, ap (λ (o : Outcome). o.given.items) a.1)
-      | inr b ↦ (x, b.1, refl)
+      | inl a ↦ (outcome, ap (slice_get outcomes) a.0 ∙ there, ap (λ (o : Outcome). o.given.items) a.1, ap (λ (o : Outcome). o.run) a.1)
+      | inr b ↦ (x, b.1, refl, refl)
     ]
+
+    again-in-order : (i j : ℕ) (a b : Outcome) → slice_get (slice_set outcomes place raised) i ≡ Some a → slice_get (slice_set outcomes place raised) j ≡ Some b
+        → i < j → a.run < b.run
+    again-in-order i j a b ha hb below =
+        let x = origin i a ha in
+        let y = origin j b hb in
+        omega (arith, had.in_order i j x.0 y.0 x.1 y.1 below, x.3, y.3)
 
     pub again : Tallied (givens ++ given ∷ []) (schedules ++ events ∷ []) (slice_set outcomes place (record outcome { count = counted outcome.count }))
     unfolding raised
@@ -133,6 +162,7 @@ module _ (givens : List (List Gave)) (schedules : List (List Event)) (outcomes :
       kept = again-kept;
       told = again-told;
       once = λ i j a b ha hb e. let x = origin i a ha in let y = origin j b hb in had.once i j x.0 y.0 x.1 y.1 (x.2 ∙ (e ∙ sym y.2));
+      in_order = again-in-order;
       whole = sum-raise count-of-outcome outcomes place outcome raised there one-more ∙ (ap (λ n. n + 1) had.whole ∙ sym (length-append givens (given ∷ [])));
     }
 
@@ -153,17 +183,35 @@ module _ (givens : List (List Gave)) (schedules : List (List Event)) (outcomes :
           ∙ sym (count-yes (same_given new.given.items) givens given (ap (same_given new.given.items) (sym gave) ∙ given-same new.given.items))))
     ]
 
+    -- no run before it gave this
+    none-gave : (earlier : ℕ) → slice_get givens earlier ≡ Some new.given.items → ⊥
+    none-gave earlier h = let among = had.told earlier new.given.items h in missing among.place among.outcome among.there (among.same ∙ gave)
+
     first-kept : (i : ℕ) (x : Outcome) → slice_get (outcomes ++ new ∷ []) i ≡ Some x
-        → (slice_get (schedules ++ events ∷ []) x.run ≡ Some x.events.items) × (slice_get (givens ++ given ∷ []) x.run ≡ Some x.given.items)
+        → (slice_get (schedules ++ events ∷ []) x.run ≡ Some x.events.items) × IsFirstOf (givens ++ given ∷ []) x.run x.given.items
     first-kept i x h = elim (get-cases outcomes new i x h) [
       | inl a ↦ (
         get-front schedules (events ∷ []) x.run x.events.items (had.kept i x a).0,
-        get-front givens (given ∷ []) x.run x.given.items (had.kept i x a).1,
+        first-stays givens x.run x.given.items given (had.kept i x a).1,
       )
-      | inr b ↦ subst (λ (z : Outcome). (slice_get (schedules ++ events ∷ []) z.run ≡ Some z.events.items) × (slice_get (givens ++ given ∷ []) z.run ≡ Some z.given.items)) b.1 (
+      | inr b ↦ subst (λ (z : Outcome). (slice_get (schedules ++ events ∷ []) z.run ≡ Some z.events.items) × IsFirstOf (givens ++ given ∷ []) z.run z.given.items) b.1 (
         ap (slice_get (schedules ++ events ∷ [])) (sym scheduled) ∙ (get-last schedules events ∙ ap Some (sym made)),
-        ap (slice_get (givens ++ given ∷ [])) (sym runs) ∙ (get-last givens given ∙ ap Some (sym gave)),
+        subst (λ last. IsFirstOf (givens ++ last ∷ []) new.run new.given.items) gave (first-comes givens new.run new.given.items runs none-gave),
       )
+    ]
+
+    first-in-order : (i j : ℕ) (a b : Outcome) → slice_get (outcomes ++ new ∷ []) i ≡ Some a → slice_get (outcomes ++ new ∷ []) j ≡ Some b → i < j
+        → a.run < b.run
+    first-in-order i j a b ha hb below = elim (get-cases outcomes new i a ha) [
+      | inl x ↦ elim (get-cases outcomes new j b hb) [
+        | inl y ↦ had.in_order i j a b x y below
+        | inr y ↦ let within : a.run < length givens = slice_get_within givens a.run a.given.items (had.kept i a x).1.gave in
+            omega (arith, within, runs, ap (λ (o : Outcome). o.run) y.1)
+      ]
+      | inr x ↦ elim (get-cases outcomes new j b hb) [
+        | inl y ↦ let within : j < length outcomes = slice_get_within outcomes j b y in omega (arith, within, below, x.0)
+        | inr y ↦ omega (arith, below, x.0, y.0)
+      ]
     ]
 
     first-told : (run : ℕ) (g : List Gave) → slice_get (givens ++ given ∷ []) run ≡ Some g → IsAmong (outcomes ++ new ∷ []) g
@@ -191,6 +239,7 @@ module _ (givens : List (List Gave)) (schedules : List (List Event)) (outcomes :
       kept = first-kept;
       told = first-told;
       once = first-once;
+      in_order = first-in-order;
       whole = sum-push count-of-outcome outcomes new ∙ (omega (arith, had.whole, one) ∙ sym (length-append givens (given ∷ [])));
     }
 
