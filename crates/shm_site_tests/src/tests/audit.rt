@@ -66,14 +66,10 @@ const EVENTS: [Event; 2] = [
 
 #[test]
 fn what_was_told_holds(rt: HostRuntime) -> Result<(), Fail> {
-    let logs = one_log(rt.alloc(), &SEVEN)?;
-    let told = receipts_of(rt.alloc(), 1, 0, &SEVEN)?;
-    let callers = alone(rt.alloc(), told)?;
-    let audited = audit_all(rt.alloc(), 1, &logs, &callers);
-    expect(&rt, are_events(&audited, &EVENTS));
-    drop(audited);
+    let callers = one_caller(rt.alloc(), 1, 0, &SEVEN)?;
+    let audited = audit_seven(rt.alloc(), &callers);
     drop(callers);
-    drop(logs);
+    expect(&rt, are_events(&audited?, &EVENTS));
     Ok(())
 }
 
@@ -106,21 +102,14 @@ fn a_receipt_counts_once_and_in_its_order(rt: HostRuntime) -> Result<(), Fail> {
 /// A receipt of site 1 of two, where the logs are those of a single site.
 #[test]
 fn a_receipt_of_a_site_without_a_log_is_forged(rt: HostRuntime) -> Result<(), Fail> {
-    let logs = one_log(rt.alloc(), &SEVEN)?;
-    let told = receipts_of(rt.alloc(), 2, 1, &SEVEN)?;
-    let callers = alone(rt.alloc(), told)?;
-    let audited = audit_all(rt.alloc(), 1, &logs, &callers);
-    expect(
-        &rt,
-        fault(&audited)
-            == Some(AuditFault::Forged {
-                site: SiteId(1),
-                index: 0,
-            }),
-    );
-    drop(audited);
+    let callers = one_caller(rt.alloc(), 2, 1, &SEVEN)?;
+    let audited = audit_seven(rt.alloc(), &callers);
     drop(callers);
-    drop(logs);
+    let forged = AuditFault::Forged {
+        site: SiteId(1),
+        index: 0,
+    };
+    expect(&rt, fault(&audited?) == Some(forged));
     Ok(())
 }
 
@@ -144,14 +133,21 @@ fn replace_second(told: &mut [Receipt], other: &[Receipt]) {
 
 /// What is wrong where the log is that of `SEVEN`, and a single caller was told this.
 fn of_told<A: Allocator + Copy>(alloc: A, told: Told<A>) -> Result<Option<AuditFault>, AllocError> {
-    let logs = one_log(alloc, &SEVEN)?;
     let callers = alone(alloc, told)?;
-    let audited = audit_all(alloc, 1, &logs, &callers);
-    let fault = fault(&audited);
-    drop(audited);
+    let audited = audit_seven(alloc, &callers);
     drop(callers);
+    Ok(fault(&audited?))
+}
+
+/// What the audit says where the log is that of `SEVEN`.
+fn audit_seven<A: Allocator + Copy>(
+    alloc: A,
+    callers: &[Told<A>],
+) -> Result<Verdict<A>, AllocError> {
+    let logs = one_log(alloc, &SEVEN)?;
+    let audited = audit_all(alloc, 1, &logs, callers);
     drop(logs);
-    Ok(fault)
+    Ok(audited)
 }
 
 /// What is wrong where the log is that of `SEVEN`, and two callers were told of these steps of it.
@@ -160,18 +156,25 @@ fn of_callers<A: Allocator + Copy, const M: usize, const N: usize>(
     first: [usize; M],
     second: [usize; N],
 ) -> Result<Option<AuditFault>, AllocError> {
-    let logs = one_log(alloc, &SEVEN)?;
     let all = receipts_of(alloc, 1, 0, &SEVEN)?;
-    let first = choose(alloc, &all, &first)?;
-    let second = choose(alloc, &all, &second)?;
-    let callers = pair(alloc, first, second)?;
-    let audited = audit_all(alloc, 1, &logs, &callers);
-    let fault = fault(&audited);
-    drop(audited);
-    drop(callers);
+    let callers = choose_for_two(alloc, &all, &first, &second);
     drop(all);
-    drop(logs);
-    Ok(fault)
+    let callers = callers?;
+    let audited = audit_seven(alloc, &callers);
+    drop(callers);
+    Ok(fault(&audited?))
+}
+
+/// Two callers' receipts: these of all.
+fn choose_for_two<A: Allocator + Copy>(
+    alloc: A,
+    told: &[Receipt],
+    first: &[usize],
+    second: &[usize],
+) -> Result<Vec<Told<A>, A>, AllocError> {
+    let first = choose(alloc, told, first)?;
+    let second = choose(alloc, told, second)?;
+    pair(alloc, first, second)
 }
 
 fn choose<A: Allocator + Copy>(
@@ -282,13 +285,36 @@ fn receipts_of<A: Allocator + Copy>(
 ) -> Result<Told<A>, AllocError> {
     let mut site = preset_box(alloc, count, me)?;
     let mut told = Vec::new(alloc);
+    let taken = take_all(&mut site, me, given, &mut told);
+    drop(site);
+    taken?;
+    Ok(told)
+}
+
+/// The one caller of this site of so many is told of its steps.
+fn one_caller<A: Allocator + Copy>(
+    alloc: A,
+    count: u32,
+    me: u32,
+    given: &[(Given, Stamp)],
+) -> Result<Vec<Told<A>, A>, AllocError> {
+    let told = receipts_of(alloc, count, me, given)?;
+    alone(alloc, told)
+}
+
+/// Gives the box these inputs. Its receipts join those of before.
+fn take_all<A: Allocator + Copy>(
+    site: &mut SiteBox<A>,
+    me: u32,
+    given: &[(Given, Stamp)],
+    told: &mut Told<A>,
+) -> Result<(), AllocError> {
     'given: for (given, source) in given {
         if let Ok(receipt) = site.take(input_of(*given, me), *source) {
             told.push(receipt)?;
         }
     }
-    drop(site);
-    Ok(told)
+    Ok(())
 }
 
 fn preset_box<A: Allocator + Copy>(

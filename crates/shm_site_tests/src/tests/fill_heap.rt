@@ -1,6 +1,6 @@
 //! Heaps that are full but for a hole.
 use linked_list_allocator::LocalHeap;
-use std::alloc::{AllocError, Global};
+use std::alloc::AllocError;
 
 /// How many blocks of 16 bytes a page takes.
 pub(super) const PAGE_BLOCKS: usize = 256;
@@ -10,13 +10,6 @@ pub(super) const TRIES: usize = 400;
 
 /// Blocks of 16 bytes that fill a heap; each that is dropped widens the hole at its end.
 pub(super) type Blocks<'a> = Vec<Vec<u8, &'a LocalHeap>>;
-
-/// As many blocks as the heap has room for.
-pub(super) fn fill_heap(alloc: Global, heap: &LocalHeap) -> Result<Blocks<'_>, AllocError> {
-    let mut blocks = Vec::new(alloc);
-    fill(heap, &mut blocks)?;
-    Ok(blocks)
-}
 
 /// Fills what room there is.
 pub(super) fn fill<'a>(heap: &'a LocalHeap, blocks: &mut Blocks<'a>) -> Result<(), AllocError> {

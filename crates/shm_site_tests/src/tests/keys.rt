@@ -1,9 +1,11 @@
 //! The rules of the calls as tables of calls and answers, a home that has made all that it may make, and refused growths.
+//!
+//! Where a test may stop, a table of segments is behind a reference: the proof writes out the drop of a table at each such place.
 ghost use Rattle.std.specs.Prelude.{◌≡◌};
 
 use shm_keys::{Attached, Cred, Errno, GetFault, GetFlags, Mode, SegTable, Stat};
-use shm_place::{Key, SegId, SiteId, SiteSet, Sites};
-use std::alloc::{Allocator, Global};
+use shm_place::{Key, SegId, SiteId, Sites};
+use std::alloc::{AllocError, Allocator, Global};
 use std::process::Abort;
 
 mod calls;
@@ -20,12 +22,13 @@ struct Lone<A: Allocator + Copy = Global> {
     ghost sites: { table.sites ≡ 1 },
 }
 
-fn make_lone<A: Allocator + Copy>(alloc: A, sites: Sites) -> Lone<A>
-    requires { sites ≡ 1 }
-{
-    Lone {
+fn make_lone<A: Allocator + Copy>(alloc: A) -> Result<Lone<A>, AllocError> {
+    let Ok(sites) = Sites::new(1) else {
+        return Err(AllocError);
+    };
+    Ok(Lone {
         table: SegTable::new(alloc, SiteId(0), sites),
-    }
+    })
 }
 
 impl<A: Allocator + Copy> Lone<A> {
@@ -69,13 +72,21 @@ impl<A: Allocator + Copy> Lone<A> {
         self.table.stat(cred, SegId(id))
     }
 
+    /// Why `stat` refuses to tell of the segment.
+    fn stat_fault(&self, cred: Cred, id: u32) -> Option<Errno> {
+        match self.stat(cred, id) {
+            Ok(_) => None,
+            Err(errno) => Some(errno),
+        }
+    }
+
     fn on_purged(&mut self, id: u32) -> bool {
         self.table.on_purged(SegId(id), SiteId(0))
     }
 
-    fn next_purge(&self, after: Option<u32>) -> Option<(u32, SiteSet)> {
-        match self.table.next_purge(after.map(|id| SegId(id))) {
-            Some((id, sites)) => Some((id.0, sites)),
+    fn next_purge(&self, after: Option<SegId>) -> Option<SegId> {
+        match self.table.next_purge(after) {
+            Some((id, _)) => Some(id),
             None => None,
         }
     }
@@ -87,6 +98,35 @@ fn expect_made(rt: &impl Abort, answer: Result<u32, GetFault>, expected: Result<
         Ok(id) => Ok(id),
         Err(errno) => Err(GetFault::Refused(errno)),
     };
+    assert_eq!(rt; answer, expected);
+}
+
+/// Stops the test where `stat` isn't refused so.
+fn expect_no_stat(rt: &impl Abort, fault: Option<Errno>, expected: Errno) {
+    assert_eq!(rt; fault, Some(expected));
+}
+
+/// Stops the test where `stat` tells something else.
+fn expect_stat(rt: &impl Abort, answer: Result<Stat, Errno>, expected: Stat) {
+    assert_eq!(rt; answer, Ok(expected));
+}
+
+/// Stops the test where another segment was made.
+fn expect_id(rt: &impl Abort, answer: Result<SegId, GetFault>, expected: u32) {
+    assert_eq!(rt; answer, Ok(SegId(expected)));
+}
+
+/// Stops the test where another segment is to be purged next.
+fn expect_next(rt: &impl Abort, next: Option<SegId>, expected: Option<SegId>) {
+    assert_eq!(rt; next, expected);
+}
+
+/// Stops the test where an attach answers otherwise.
+fn expect_attached(
+    rt: &impl Abort,
+    answer: Result<Attached, Errno>,
+    expected: Result<Attached, Errno>,
+) {
     assert_eq!(rt; answer, expected);
 }
 

@@ -31,13 +31,14 @@ fn copy_in(out: Out) -> Result<ReadGrant, AllocError> {
 #[test]
 fn a_copy_is_lent_and_taken(rt: HostRuntime) -> Result<(), Fail> {
     let grant = lent_copy(rt.alloc())?;
-    assert_eq!(rt; (grant.number(), grant.bytes().len()), (1, 4096));
+    let sent = (grant.number(), grant.bytes().len());
     let (reader, out) = take_copy(Entry::Nil(NilPage::after(0)), grant);
     let confirms = matches!(out, Out::Confirm(1));
     let has_copy = matches!(reader, Entry::Copy(_));
     let number = reader.seen();
     drop(out);
     drop(reader);
+    assert_eq!(rt; sent, (1, 4096));
     assert_eq!(rt; (confirms, has_copy, number), (true, true, 1));
     Ok(())
 }

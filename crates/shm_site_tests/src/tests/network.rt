@@ -1,8 +1,12 @@
 //! Envelopes that are posted, taken out and put back.
+//!
+//! Where a test may stop, a network is behind a reference: the proof writes out the drop of a network at each such place.
+use super::expect;
 use shm_parts::{Envelope, Message, Outbox};
 use shm_place::{SegId, SiteId};
 use shm_world::Network;
 use std::alloc::{AllocError, Global};
+use std::process::Abort;
 use std::test::Fail;
 
 fn purge(id: u32) -> Envelope {
@@ -13,57 +17,79 @@ fn purge(id: u32) -> Envelope {
     }
 }
 
-/// A network that carries one purge of segment 7.
-fn network_with_purge(alloc: Global) -> Result<Network, AllocError> {
+/// A network that carries a purge of each of these segments.
+fn network_with_purges(alloc: Global, from: u32, to: u32) -> Result<Network, AllocError> {
     let mut network = Network::new(alloc);
-    network.reserve(1)?;
-    network.push(purge(7));
+    post_purges(&mut network, from, to)?;
     Ok(network)
 }
 
-fn is_of(envelope: Option<&Envelope>, segment: u32) -> bool {
-    match envelope {
+fn post_purges(network: &mut Network, from: u32, to: u32) -> Result<(), AllocError> {
+    'purges: for id in from..to {
+        network.reserve(1)?;
+        network.push(purge(id));
+    }
+    Ok(())
+}
+
+/// Whether the envelope of this number is the segment's purge.
+fn carries(network: &Network, number: u64, segment: u32) -> bool {
+    match network.envelope(number) {
         Some(envelope) => matches!(envelope.message, Message::Purge { id } if id.0 == segment),
         None => false,
     }
 }
 
+fn carries_none(network: &Network) -> bool {
+    network.envelope(0).is_none()
+}
+
 #[test]
 fn what_is_lost_is_gone(rt: HostRuntime) -> Result<(), Fail> {
-    let mut network = network_with_purge(rt.alloc())?;
+    let mut network = network_with_purges(rt.alloc(), 7, 8)?;
+    expect(&rt, lose_beside_copy(&rt, &mut network).is_ok());
+    expect(&rt, network.sent() == 1);
+    drop(network);
+    Ok(())
+}
+
+/// Loses the purge of segment 7, which a copy goes on carrying.
+fn lose_beside_copy(rt: &impl Abort, network: &mut Network) -> Result<(), AllocError> {
     let copy = network.copy()?;
-    assert!(rt; is_of(network.envelope(0), 7));
-    assert!(rt; network.lose(0));
-    assert!(rt; network.envelope(0).is_none());
-    assert!(rt; !network.lose(0));
-    assert!(rt; is_of(copy.envelope(0), 7));
-    let sent = network.sent();
-    assert_eq!(rt; sent, 1);
+    expect(rt, carries(network, 0, 7));
+    expect(rt, network.lose(0));
+    expect(rt, carries_none(network));
+    expect(rt, !network.lose(0));
+    expect(rt, carries(&copy, 0, 7));
+    drop(copy);
     Ok(())
 }
 
 #[test]
 fn what_is_taken_out_is_put_back(rt: HostRuntime) -> Result<(), Fail> {
-    let mut network = network_with_purge(rt.alloc())?;
-    let Some((place, envelope)) = network.take_out(0) else {
-        return Err(Fail::new("the envelope is on its way"));
-    };
-    assert!(rt; network.envelope(0).is_none());
-    network.put_back(place, envelope);
-    assert!(rt; is_of(network.envelope(0), 7));
-    assert!(rt; network.take_out(0).is_some());
-    assert!(rt; network.take_out(0).is_none());
+    let mut network = network_with_purges(rt.alloc(), 7, 8)?;
+    expect(&rt, is_out_meanwhile(&mut network));
+    expect(&rt, carries(&network, 0, 7));
+    expect(&rt, is_taken_out(&mut network));
+    expect(&rt, !is_taken_out(&mut network));
+    drop(network);
     Ok(())
 }
 
-/// A network that carries a purge of each of 100 segments, under its number.
-fn hundred(alloc: Global) -> Result<Network, AllocError> {
-    let mut network = Network::new(alloc);
-    for id in 0..100u32 {
-        network.reserve(1)?;
-        network.push(purge(id));
+/// Takes the envelope out and puts it back. Whether it was there, and nowhere meanwhile.
+fn is_out_meanwhile(network: &mut Network) -> bool {
+    match network.take_out(0) {
+        Some((place, envelope)) => {
+            let is_out = carries_none(network);
+            network.put_back(place, envelope);
+            is_out
+        }
+        None => false,
     }
-    Ok(network)
+}
+
+fn is_taken_out(network: &mut Network) -> bool {
+    network.take_out(0).is_some()
 }
 
 /// Loses nine of ten.
@@ -77,12 +103,20 @@ fn lose_most(network: &mut Network) {
 
 #[test]
 fn what_stays_is_found_among_many_that_are_gone(rt: HostRuntime) -> Result<(), Fail> {
-    let mut network = hundred(rt.alloc())?;
+    let mut network = network_with_purges(rt.alloc(), 0, 100)?;
     lose_most(&mut network);
     network.sweep();
-    for id in 0..100u32 {
-        let stays = is_of(network.envelope(id as u64), id);
-        assert_eq!(rt; stays, id % 10 == 3);
-    }
+    expect(&rt, first_astray(&network) == None);
+    drop(network);
     Ok(())
+}
+
+/// The first segment of a hundred whose purge is there though it was lost, or the other way round.
+fn first_astray(network: &Network) -> Option<u32> {
+    'segments: for id in 0..100u32 {
+        if carries(network, id as u64, id) != (id % 10 == 3) {
+            return Some(id);
+        }
+    }
+    None
 }

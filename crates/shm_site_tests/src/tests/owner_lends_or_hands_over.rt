@@ -2,7 +2,7 @@
 //!
 //! An entry stands in a list: the proof writes out the drop of an entry, and not that of a list.
 use super::expect;
-use crate::tests::fill_heap::{Blocks, PAGE_BLOCKS, TRIES, fill_heap};
+use crate::tests::fill_heap::{Blocks, PAGE_BLOCKS, TRIES, fill};
 use linked_list_allocator::LocalHeap;
 use shm_page::{Entry, Out, clear, hand_to, lend_to};
 use shm_place::SiteId;
@@ -77,8 +77,11 @@ fn what_sends_no_bytes_takes_no_memory(rt: HostRuntime) -> Result<(), Fail> {
     for steps in KEPT {
         let heap = LocalHeap::new(rt.alloc(), 1 << 14)?;
         let mut entries = opening_entry(rt.alloc(), &heap)?;
-        let _blocks = fill_heap(rt.alloc(), &heap)?;
+        let mut blocks = Vec::new(rt.alloc());
+        expect(&rt, fill(&heap, &mut blocks).is_ok());
         expect_steps(&rt, &mut entries, &steps);
+        drop(blocks);
+        drop(entries);
     }
     Ok(())
 }
@@ -188,8 +191,12 @@ fn has_state<A: Allocator + Copy>(entry: &Entry<A>, state: State) -> bool {
 fn refusals_of(rt: &impl Abort, alloc: Global, step: &Step) -> Result<Option<usize>, AllocError> {
     let heap = LocalHeap::new(alloc, 1 << 14)?;
     let mut entries = opening_entry(alloc, &heap)?;
-    let mut blocks = fill_heap(alloc, &heap)?;
-    Ok(refusals(rt, &mut entries, &mut blocks, step))
+    let mut blocks = Vec::new(alloc);
+    expect(rt, fill(&heap, &mut blocks).is_ok());
+    let tries = refusals(rt, &mut entries, &mut blocks, step);
+    drop(blocks);
+    drop(entries);
+    Ok(tries)
 }
 
 /// How often the step is refused memory while the hole widens. Each time the entry is as it was.

@@ -2,7 +2,7 @@
 //!
 //! Entries and grants stand in lists: the proof writes out their drop, and not that of a list.
 use super::expect;
-use crate::tests::fill_heap::{Blocks, PAGE_BLOCKS, TRIES, fill_heap};
+use crate::tests::fill_heap::{Blocks, PAGE_BLOCKS, TRIES, fill};
 use linked_list_allocator::LocalHeap;
 use shm_page::{Entry, Out, WriteGrant, hand_to, take_ownership};
 use shm_place::SiteId;
@@ -99,8 +99,10 @@ fn is_on_its_way<A: Allocator + Copy>(entries: &[Entry<A>], grants: &[WriteGrant
 fn a_page_comes_to_its_new_owner(rt: HostRuntime) -> Result<(), Fail> {
     let mut grants = handed_page(rt.alloc(), rt.alloc())?;
     let mut entries = nil_entry(rt.alloc(), rt.alloc())?;
-    assert_eq!(rt; takes(&mut entries, &mut grants), Some(true));
-    assert!(rt; is_owner(&entries));
+    let taken = takes(&mut entries, &mut grants) == Some(true) && is_owner(&entries);
+    drop(entries);
+    drop(grants);
+    expect(&rt, taken);
     Ok(())
 }
 
@@ -109,10 +111,14 @@ fn an_ownership_is_refused(rt: HostRuntime) -> Result<(), Fail> {
     let heap = LocalHeap::new(rt.alloc(), 1 << 15)?;
     let mut grants = handed_page(rt.alloc(), &heap)?;
     let mut entries = nil_entry(rt.alloc(), &heap)?;
-    let mut blocks = fill_heap(rt.alloc(), &heap)?;
+    let mut blocks = Vec::new(rt.alloc());
+    expect(&rt, fill(&heap, &mut blocks).is_ok());
     let tries = refusals(&rt, &mut entries, &mut grants, &mut blocks);
-    assert_eq!(rt; tries, Some(PAGE_BLOCKS));
-    assert!(rt; is_owner(&entries));
+    let taken = is_owner(&entries);
+    drop(blocks);
+    drop(entries);
+    drop(grants);
+    assert_eq!(rt; (tries, taken), (Some(PAGE_BLOCKS), true));
     Ok(())
 }
 

@@ -1,7 +1,7 @@
 //! What the audit says of receipts that claim to be all.
 use super::{
     EVENTS, Given, PAGES, SEVEN, Told, Verdict, alone, are_events, audit_all, choose, expect,
-    one_log, receipts_of, two_logs,
+    one_caller, one_log, receipts_of, two_logs,
 };
 use shm_logs::{AuditFault, SiteLog, Stamp, audit_complete, logs_match};
 use shm_place::{SiteId, Sites};
@@ -27,15 +27,22 @@ const fn untold_at(index: usize) -> Option<AuditFault> {
 
 #[test]
 fn receipts_of_all_accesses_are_complete(rt: HostRuntime) -> Result<(), Fail> {
-    let logs = one_log(rt.alloc(), &SEVEN)?;
-    let told = receipts_of(rt.alloc(), 1, 0, &SEVEN)?;
-    let callers = alone(rt.alloc(), told)?;
-    let complete = complete(rt.alloc(), 1, &logs, &callers);
-    expect(&rt, are_events(&complete, &EVENTS));
-    drop(complete);
+    let callers = one_caller(rt.alloc(), 1, 0, &SEVEN)?;
+    let complete = complete_seven(rt.alloc(), &callers);
     drop(callers);
-    drop(logs);
+    expect(&rt, are_events(&complete?, &EVENTS));
     Ok(())
+}
+
+/// What `audit_complete` says where the log is that of `SEVEN`.
+fn complete_seven<A: Allocator + Copy>(
+    alloc: A,
+    callers: &[Told<A>],
+) -> Result<Verdict<A>, AllocError> {
+    let logs = one_log(alloc, &SEVEN)?;
+    let complete = complete(alloc, 1, &logs, callers);
+    drop(logs);
+    Ok(complete)
 }
 
 #[test]
@@ -75,19 +82,27 @@ fn says<A: Allocator + Copy, const N: usize>(
     steps: [usize; N],
     cause: Option<AuditFault>,
 ) -> Result<bool, AllocError> {
-    let logs = one_log(alloc, given)?;
     let all = receipts_of(alloc, 1, 0, given)?;
-    let some = choose(alloc, &all, &steps)?;
-    let callers = alone(alloc, some)?;
-    let accepted = audit_all(alloc, 1, &logs, &callers);
-    let complete = complete(alloc, 1, &logs, &callers);
-    let said = is_said(&accepted, given.len(), None) && is_said(&complete, given.len(), cause);
-    drop(complete);
-    drop(accepted);
-    drop(callers);
+    let some = choose(alloc, &all, &steps);
     drop(all);
+    let callers = alone(alloc, some?)?;
+    let said = both_say(alloc, given, &callers, cause);
+    drop(callers);
+    said
+}
+
+/// Whether `audit` accepts the log of a box with these inputs, and `audit_complete` finds this.
+fn both_say<A: Allocator + Copy>(
+    alloc: A,
+    given: &[(Given, Stamp)],
+    callers: &[Told<A>],
+    cause: Option<AuditFault>,
+) -> Result<bool, AllocError> {
+    let logs = one_log(alloc, given)?;
+    let accepted = is_said(&audit_all(alloc, 1, &logs, callers), given.len(), None);
+    let found = is_said(&complete(alloc, 1, &logs, callers), given.len(), cause);
     drop(logs);
-    Ok(said)
+    Ok(accepted && found)
 }
 
 /// Whether this was said: this cause, or where there is none so many events.

@@ -1,7 +1,7 @@
-use super::{expect_answer, expect_made, make_lone};
+use super::{expect_answer, expect_attached, expect_made, expect_no_stat, expect_stat, make_lone};
 use crate::tests::expect;
 use shm_keys::{Attached, Cred, Errno, Mode, Stat};
-use shm_place::{Key, Sites};
+use shm_place::Key;
 use std::test::Fail;
 
 const A: Cred = Cred { uid: 10, gid: 20 };
@@ -16,8 +16,7 @@ const EXCL: u32 = 0o2000;
 
 #[test]
 fn a_key_is_found_and_checked_in_order(rt: HostRuntime) -> Result<(), Fail> {
-    let sites = Sites::new(1).ok().ok_or("one site")?;
-    let mut table = make_lone(rt.alloc(), sites);
+    let mut table = make_lone(rt.alloc())?;
     for (cred, key, size, mode, flags, expected) in [
         (A, 5, 0, 0o600, CREAT, Err(Errno::Einval)),
         (A, 5, 300, 0o600, 0, Err(Errno::Enoent)),
@@ -35,13 +34,13 @@ fn a_key_is_found_and_checked_in_order(rt: HostRuntime) -> Result<(), Fail> {
         let answer = table.get(cred, key, size, mode, flags);
         expect_made(&rt, answer, expected);
     }
+    drop(table);
     Ok(())
 }
 
 #[test]
 fn one_class_of_bits_counts(rt: HostRuntime) -> Result<(), Fail> {
-    let sites = Sites::new(1).ok().ok_or("one site")?;
-    let mut table = make_lone(rt.alloc(), sites);
+    let mut table = make_lone(rt.alloc())?;
     expect_made(&rt, table.get(A, 5, 256, 0o640, CREAT), Ok(0));
     for (cred, ro, expected) in [
         (
@@ -63,9 +62,9 @@ fn one_class_of_bits_counts(rt: HostRuntime) -> Result<(), Fail> {
         (G, false, Err(Errno::Eacces)),
         (B, true, Err(Errno::Eacces)),
     ] {
-        assert_eq!(rt; table.attach(cred, 0, ro), expected);
+        expect_attached(&rt, table.attach(cred, 0, ro), expected);
     }
-    expect_answer(&rt, table.stat(B, 0).map(|_| ()), Err(Errno::Eacces));
+    expect_no_stat(&rt, table.stat_fault(B, 0), Errno::Eacces);
     expect_answer(&rt, table.set(G, 0, 11, 20, 0o600), Err(Errno::Eperm));
     expect_answer(&rt, table.set(A, 0, 11, 20, 0o600), Ok(()));
     expect(&rt, table.attach(A, 0, false).is_ok());
@@ -81,6 +80,7 @@ fn one_class_of_bits_counts(rt: HostRuntime) -> Result<(), Fail> {
         nattch: 4,
         marked: false,
     };
-    assert_eq!(rt; table.stat(G, 0), Ok(stat));
+    expect_stat(&rt, table.stat(G, 0), stat);
+    drop(table);
     Ok(())
 }

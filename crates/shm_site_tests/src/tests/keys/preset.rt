@@ -1,3 +1,5 @@
+use super::expect_stat;
+use crate::tests::expect;
 use shm_keys::{Cred, Mode, SegTable, Stat};
 use shm_place::{Key, SegId, SiteId, Sites};
 use std::test::Fail;
@@ -23,8 +25,10 @@ fn segment_0_is_made_at_site_0(rt: HostRuntime) -> Result<(), Fail> {
         nattch: 3,
         marked: false,
     };
-    assert_eq!(rt; table.stat(ANYONE, SegId(0)), Ok(expected));
+    expect_stat(&rt, table.stat(ANYONE, SegId(0)), expected);
+    drop(table);
     let empty = SegTable::preset(rt.alloc(), other, sites, 2)?;
-    assert!(rt; empty.stat(ANYONE, SegId(1)).is_err());
+    expect(&rt, empty.stat(ANYONE, SegId(1)).is_err());
+    drop(empty);
     Ok(())
 }

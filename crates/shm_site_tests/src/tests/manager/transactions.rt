@@ -1,72 +1,90 @@
-use super::{clear, gives, lend};
-use shm_manager::{Book, Orders};
+use super::{LENT_TO_1, Ordered, Step, Told, expect_seen, has_copy, run};
+use crate::tests::expect;
+use shm_manager::Book;
 use shm_model::Kind;
 use shm_place::SiteId;
 use std::alloc::{AllocError, Global};
+use std::process::Abort;
 use std::test::Fail;
 
-/// A book of manager 0, after sites 1 and 2 have read.
-fn read_by_two(alloc: Global) -> Result<Book, AllocError> {
-    let mut book = Book::new(alloc, SiteId(0))?;
-    for site in 1..=2 {
-        if book.ask(SiteId(site), 1, Kind::Read).is_ok() {
-            let number = book.number();
-            let _ = book.confirm(SiteId(site), number);
-        }
-    }
-    Ok(book)
-}
+const CONFIRMED: [Step; 4] = [
+    (0, Told::Resend, Ordered::Hand(1, Kind::Read)),
+    (2, Told::Confirm(1), Ordered::Ignored),
+    (1, Told::Confirm(2), Ordered::Ignored),
+    (1, Told::Confirm(1), Ordered::Nothing),
+];
 
 #[test]
 fn readers_get_copies(rt: HostRuntime) -> Result<(), Fail> {
     let mut book = Book::new(rt.alloc(), SiteId(0))?;
-    assert!(rt; gives(book.ask(SiteId(1), 1, Kind::Read)?, lend(1)));
-    assert_eq!(rt; book.running(), Some((Kind::Read, SiteId(1))));
-    assert!(rt; gives(Some(book.resend()), lend(1)));
-    assert!(rt; book.confirm(SiteId(2), 1).is_none());
-    assert!(rt; book.confirm(SiteId(1), 2).is_none());
-    assert!(rt; gives(book.confirm(SiteId(1), 1), Orders::Nothing));
-    assert_eq!(rt;
-        (book.owner(), book.number(), book.running()),
-        (SiteId(0), 1, None)
-    );
-    assert!(rt; book.copies().contains(SiteId(1)));
-    assert!(rt; !book.copies().contains(SiteId(0)));
+    run(&rt, &mut book, &LENT_TO_1);
+    expect_seen(&rt, &book, (1, 0, Some((Kind::Read, SiteId(1)))));
+    run(&rt, &mut book, &CONFIRMED);
+    expect_seen(&rt, &book, (1, 0, None));
+    expect(&rt, has_copy(&book, 1) && !has_copy(&book, 0));
+    drop(book);
     Ok(())
 }
+
+/// After these notes sites 1 and 2 have copies.
+const READ_BY_TWO: [Step; 4] = [
+    (1, Told::Ask(1, Kind::Read), Ordered::Hand(1, Kind::Read)),
+    (1, Told::Confirm(1), Ordered::Nothing),
+    (2, Told::Ask(1, Kind::Read), Ordered::Hand(2, Kind::Read)),
+    (2, Told::Confirm(2), Ordered::Nothing),
+];
+
+const WRITTEN: [Step; 7] = [
+    (3, Told::Ask(1, Kind::Write), Ordered::Clear(1, 2)),
+    (2, Told::Cleared(3), Ordered::Nothing),
+    (2, Told::Cleared(3), Ordered::Ignored),
+    (0, Told::Resend, Ordered::Clear(1, 1)),
+    (1, Told::Cleared(3), Ordered::Hand(3, Kind::Write)),
+    (0, Told::Resend, Ordered::Hand(3, Kind::Write)),
+    (3, Told::Confirm(3), Ordered::Nothing),
+];
 
 #[test]
 fn a_writer_waits_for_each_copy(rt: HostRuntime) -> Result<(), Fail> {
-    let mut book = read_by_two(rt.alloc())?;
-    let hand = Orders::Hand {
-        owner: SiteId(0),
-        requester: SiteId(3),
-        kind: Kind::Write,
-    };
-    let clears = clear(1, 2);
-    assert!(rt; gives(book.ask(SiteId(3), 1, Kind::Write)?, clears));
-    assert!(rt; gives(book.cleared(SiteId(2), 3), Orders::Nothing));
-    assert!(rt; book.cleared(SiteId(2), 3).is_none());
-    assert!(rt; gives(Some(book.resend()), clear(1, 1)));
-    assert!(rt; gives(book.cleared(SiteId(1), 3), hand));
-    assert!(rt; gives(Some(book.resend()), hand));
-    assert!(rt; gives(book.confirm(SiteId(3), 3), Orders::Nothing));
-    assert_eq!(rt; (book.owner(), book.running()), (SiteId(3), None));
-    assert!(rt; !book.copies().contains(SiteId(1)));
+    let mut book = Book::new(rt.alloc(), SiteId(0))?;
+    run(&rt, &mut book, &READ_BY_TWO);
+    run(&rt, &mut book, &WRITTEN);
+    expect_seen(&rt, &book, (3, 3, None));
+    expect(&rt, !has_copy(&book, 1));
+    drop(book);
     Ok(())
 }
 
+/// Site 4 waits behind site 3, for which site 2 gave its copy up.
+const WAITING: [Step; 3] = [
+    (3, Told::Ask(1, Kind::Write), Ordered::Clear(1, 2)),
+    (2, Told::Cleared(3), Ordered::Nothing),
+    (4, Told::Ask(1, Kind::Read), Ordered::Nothing),
+];
+
+const FORGOTTEN: [Step; 1] = [(0, Told::Resend, Ordered::Clear(1, 2))];
+
+const REMEMBERED: [Step; 1] = [(0, Told::Resend, Ordered::Clear(1, 1))];
+
+const WAITING_AGAIN: [Step; 1] = [(4, Told::Ask(1, Kind::Read), Ordered::Nothing)];
+
 #[test]
 fn a_restart_forgets_who_cleared_and_who_waits(rt: HostRuntime) -> Result<(), Fail> {
-    let mut book = read_by_two(rt.alloc())?;
-    let clears = clear(1, 2);
-    assert!(rt; gives(book.ask(SiteId(3), 1, Kind::Write)?, clears));
-    assert!(rt; gives(book.cleared(SiteId(2), 3), Orders::Nothing));
-    assert!(rt; gives(book.ask(SiteId(4), 1, Kind::Read)?, Orders::Nothing));
-    let copy = book.copy()?;
+    let mut book = Book::new(rt.alloc(), SiteId(0))?;
+    run(&rt, &mut book, &READ_BY_TWO);
+    run(&rt, &mut book, &WAITING);
+    expect(&rt, restart_beside_copy(&rt, &mut book).is_ok());
+    run(&rt, &mut book, &WAITING_AGAIN);
+    drop(book);
+    Ok(())
+}
+
+/// The book restarts, and its copy doesn't.
+fn restart_beside_copy(rt: &impl Abort, book: &mut Book<Global>) -> Result<(), AllocError> {
+    let mut copy = book.copy()?;
     book.forget_volatile();
-    assert!(rt; gives(Some(book.resend()), clears));
-    assert!(rt; gives(Some(copy.resend()), clear(1, 1)));
-    assert!(rt; gives(book.ask(SiteId(4), 1, Kind::Read)?, Orders::Nothing));
+    run(rt, book, &FORGOTTEN);
+    run(rt, &mut copy, &REMEMBERED);
+    drop(copy);
     Ok(())
 }

@@ -3,7 +3,7 @@ use super::{
     expect_grant, expect_number, expect_page, lent_page, of_lender, of_owner, written_page,
 };
 use crate::tests::expect;
-use crate::tests::fill_heap::{Blocks, PAGE_BLOCKS, TRIES, fill_heap};
+use crate::tests::fill_heap::{Blocks, PAGE_BLOCKS, TRIES, fill};
 use linked_list_allocator::LocalHeap;
 use shm_page::{Entry, NilPage, OwnWritePage, WriteGrant};
 use shm_place::SiteId;
@@ -14,9 +14,12 @@ use std::test::Fail;
 #[test]
 fn an_opening_page_is_refused(rt: HostRuntime) -> Result<(), Fail> {
     let heap = LocalHeap::new(rt.alloc(), 1 << 13)?;
-    let mut blocks = fill_heap(rt.alloc(), &heap)?;
-    assert!(rt; opens(&heap, false));
-    assert_eq!(rt; opened_after(&heap, &mut blocks), Some(PAGE_BLOCKS));
+    let mut blocks = Vec::new(rt.alloc());
+    expect(&rt, fill(&heap, &mut blocks).is_ok());
+    expect(&rt, opens(&heap, false));
+    let tries = opened_after(&heap, &mut blocks);
+    drop(blocks);
+    assert_eq!(rt; tries, Some(PAGE_BLOCKS));
     Ok(())
 }
 
@@ -75,8 +78,12 @@ fn a_first_copy_and_a_handing_are_refused(rt: HostRuntime) -> Result<(), Fail> {
 fn gone_in_a_heap(rt: &impl Abort, alloc: Global, way: Way) -> Result<Option<usize>, AllocError> {
     let heap = LocalHeap::new(alloc, 1 << 14)?;
     let mut pages = written_pages(alloc, &heap)?;
-    let mut blocks = fill_heap(alloc, &heap)?;
-    Ok(gone_after(rt, &mut pages, &mut blocks, way))
+    let mut blocks = Vec::new(alloc);
+    expect(rt, fill(&heap, &mut blocks).is_ok());
+    let tries = gone_after(rt, &mut pages, &mut blocks, way);
+    drop(blocks);
+    drop(pages);
+    Ok(tries)
 }
 
 /// How often the page is refused memory while the hole widens. Each time it is back as it was.
@@ -174,8 +181,11 @@ fn on_its_way(alloc: Global, heap: &LocalHeap) -> Result<Vec<WriteGrant<&LocalHe
 fn an_ownership_is_refused(rt: HostRuntime) -> Result<(), Fail> {
     let heap = LocalHeap::new(rt.alloc(), 1 << 15)?;
     let mut grants = on_its_way(rt.alloc(), &heap)?;
-    let mut blocks = fill_heap(rt.alloc(), &heap)?;
+    let mut blocks = Vec::new(rt.alloc());
+    expect(&rt, fill(&heap, &mut blocks).is_ok());
     let tries = installed_after(&rt, &mut grants, &mut blocks);
+    drop(blocks);
+    drop(grants);
     assert_eq!(rt; tries, Some(PAGE_BLOCKS));
     Ok(())
 }
@@ -224,18 +234,26 @@ fn is_installed<'a>(rt: &impl Abort, grants: &mut Vec<WriteGrant<&'a LocalHeap>>
 #[test]
 fn a_copy_of_an_owners_page_is_refused(rt: HostRuntime) -> Result<(), Fail> {
     for is_lent in [false, true] {
-        let tries = copied_in_a_heap(rt.alloc(), is_lent)?;
+        let tries = copied_in_a_heap(&rt, rt.alloc(), is_lent)?;
         assert_eq!(rt; tries, Some(PAGE_BLOCKS));
     }
     Ok(())
 }
 
 /// How often the copy of an owner's entry is refused, in a heap of its own.
-fn copied_in_a_heap(alloc: Global, is_lent: bool) -> Result<Option<usize>, AllocError> {
+fn copied_in_a_heap(
+    rt: &impl Abort,
+    alloc: Global,
+    is_lent: bool,
+) -> Result<Option<usize>, AllocError> {
     let heap = LocalHeap::new(alloc, 1 << 14)?;
     let entries = owners_entries(alloc, &heap, is_lent)?;
-    let mut blocks = fill_heap(alloc, &heap)?;
-    Ok(copied_after(&entries, &mut blocks))
+    let mut blocks = Vec::new(alloc);
+    expect(rt, fill(&heap, &mut blocks).is_ok());
+    let tries = copied_after(&entries, &mut blocks);
+    drop(blocks);
+    drop(entries);
+    Ok(tries)
 }
 
 fn owners_entries(

@@ -149,10 +149,9 @@ fn the_greatest_number_and_a_reader_that_is_no_site(rt: HostRuntime) -> Result<(
     let mut outbox = Vec::new(rt.alloc());
     run_at(&rt, preset_site(rt.alloc(), 2, 1), &mut outbox, &cleared);
     run_at(&rt, preset_site(rt.alloc(), 2, 0), &mut outbox, &handed);
-    assert_eq!(rt; outbox.len(), 2);
-    assert_eq!(rt; receiver(&outbox, 0), Some(SiteId(0)));
-    assert_eq!(rt; receiver(&outbox, 1), Some(SiteId(7)));
+    let receivers = (outbox.len(), receiver(&outbox, 0), receiver(&outbox, 1));
     drop(outbox);
+    assert_eq!(rt; receivers, (2, Some(SiteId(0)), Some(SiteId(7))));
     Ok(())
 }
 
@@ -166,10 +165,13 @@ fn receiver<A: Allocator + Copy>(outbox: &Sent<A>, place: usize) -> Option<SiteI
 
 /// The last envelope's bytes are said to be those of another page.
 fn rename<A: Allocator + Copy>(outbox: &mut Sent<A>, index: u32) {
-    if let Some(mut envelope) = outbox.pop() {
-        if let Message::Of { page, .. } = &mut envelope.message {
-            page.index = index;
-        }
-        let _ = outbox.push(envelope);
+    if let Some(envelope) = outbox.last_mut() {
+        readdress(&mut envelope.message, index);
+    }
+}
+
+fn readdress<A: Allocator + Copy>(message: &mut Message<A>, index: u32) {
+    if let Message::Of { page, .. } = message {
+        page.index = index;
     }
 }
