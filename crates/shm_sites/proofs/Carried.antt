@@ -5,7 +5,7 @@ use Rattle.rand_pcg.specs.Lcg.{Lcg}
 use Rattle.rand_pcg.specs.Pcg.{pcg32}
 use Rattle.shm_sites.specs.Cluster.Carried.{by_fate, carried, drawn_for}
 use Rattle.shm_sites.specs.Cluster.Fate.{fate_of}
-use Rattle.shm_sites.specs.Cluster.Posted.{Sent}
+use Rattle.shm_sites.specs.Cluster.Sent.{Sent}
 
 pub drawn_for-push : (es : List Sent) (e : Sent) (draws : Lcg) → drawn_for (es ++ e ∷ []) draws ≡ (pcg32 (drawn_for es draws)).1
 drawn_for-push [] e draws = refl

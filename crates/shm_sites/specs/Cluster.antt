@@ -1,4 +1,5 @@
 pub mod Faults
+pub mod Sent
 pub mod Posted
 pub mod Fate
 pub mod Carried

@@ -3,7 +3,7 @@ use Rattle.std.specs.Prelude.{ℕ, List, [], ◌∷◌, ◌++◌}
 use Rattle.rand_pcg.specs.Lcg.{Lcg, increment_of, started}
 use Rattle.rand_pcg.specs.Pcg.{multiplier_64, pcg32}
 use Rattle.shm_sites.specs.Cluster.Fate.{fate_of}
-use Rattle.shm_sites.specs.Cluster.Posted.{Sent}
+use Rattle.shm_sites.specs.Cluster.Sent.{Sent}
 use Rattle.shm_sites.specs.declared.cluster.envelope_fate.Fate.{Fate}
 use Rattle.shm_sites.specs.declared.cluster.envelope_fate.Fate.TheVariants as fate
 

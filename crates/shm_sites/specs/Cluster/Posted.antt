@@ -1,15 +1,11 @@
 -- Envelopes on their way, and what a step of a log sent.
 use Rattle.std.specs.Prelude.{ℕ, ◌+◌, List, [], ◌∷◌, Option, Some, None, map, slice_get}
-use Rattle.shm_model.specs.Log.{Logged, Stamp}
+use Rattle.shm_model.specs.Log.{Logged}
 use Rattle.shm_model.specs.Message.{Envelope}
 use Rattle.shm_parts.specs.Message.{envelope_of}
 use Rattle.shm_logs.specs.Boxes.Logged.{stamp_of}
+use Rattle.shm_sites.specs.Cluster.Sent.{Sent}
 use Rattle.shm_sites.specs.declared.cluster.posted_envelope.Posted.{Posted}
-
--- an envelope, and where it was sent
-pub record Sent : Type 0 where
-  pub envelope : Envelope
-  pub source : Stamp
 
 abbrev pub sent_of : {A : Type 0} → Posted A → Sent
 sent_of posted = record { envelope = envelope_of posted.envelope; source = stamp_of posted.source }

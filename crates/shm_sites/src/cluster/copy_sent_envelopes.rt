@@ -1,9 +1,10 @@
 //! The envelopes that a step sent, copied from the site's log for the channels.
-ghost use Rattle.std.specs.Prelude.{◌≡◌, ◌++◌, ◌∷◌, [], IfOk, OnOk};
+ghost use Rattle.std.specs.Prelude.{◌≡◌, ◌++◌, ◌∷◌, [], Some, IfOk, OnOk, slice_get};
 ghost use Rattle.shm_parts.specs.Message.{envelope_of};
 ghost use Rattle.shm_logs.specs.Boxes.Logged.{logged_of, stamp_of};
 ghost use Rattle.shm_logs.specs.Boxes.SiteLog.{steps_of};
 ghost use Rattle.shm_sites.specs.Cluster.Posted.{all_sent, sent_at, sent_by};
+ghost use Rattle.shm_sites.specs.Cluster.Sent.{IsSent};
 
 use crate::cluster::posted_envelope::Posted;
 use shm_logs::{Envelope, SiteLog, Stamp, Step};
@@ -21,15 +22,17 @@ pub(crate) fn copies_of<A: Allocator + Copy>(
     if index >= steps.len() {
         return Ok(Vec::new(alloc));
     }
-    copies(alloc, &steps[index], index)
+    copies(alloc, log, &steps[index], index)
 }
 
-/// All that the step sent, each envelope with its place.
+/// All that the step of this index in the log sent, each envelope with its place.
 fn copies<A: Allocator + Copy>(
     alloc: A,
+    log: &SiteLog<A>,
     step: &Step<A>,
     index: usize,
 ) -> Result<Vec<Posted<A>, A>, AllocError>
+    requires { slice_get (steps_of log.now) index ≡ Some (logged_of step.now) }
     ensures { IfOk result (λ all. all_sent all.items ≡ sent_by index (logged_of step.now)) }
 {
     let mut all = Vec::new(alloc);
@@ -46,6 +49,7 @@ fn add<A: Allocator + Copy>(
     envelope: &Envelope<A>,
     source: Stamp,
 ) -> Result<(), AllocError>
+    requires { IsSent (record { envelope = envelope_of envelope.now; source = stamp_of source }) }
     ensures { OnOk result (all_sent all.new.items ≡ all_sent all.old.items ++ record { envelope = envelope_of envelope.now; source = stamp_of source } ∷ []) }
 {
     let posted = Posted::of(envelope, source)?;

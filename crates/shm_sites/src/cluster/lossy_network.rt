@@ -1,7 +1,8 @@
 //! The network between the sites' threads, which loses and repeats: what goes on of that which a step sent.
 ghost use Rattle.std.specs.Prelude.{◌≡◌, ◌++◌, List, IfOk, OnOk};
 ghost use Rattle.shm_sites.specs.Cluster.Carried.{by_fate, carried, drawn_for, generator_of};
-ghost use Rattle.shm_sites.specs.Cluster.Posted.{all_sent, sent_of, Sent};
+ghost use Rattle.shm_sites.specs.Cluster.Posted.{all_sent, sent_of};
+ghost use Rattle.shm_sites.specs.Cluster.Sent.{Sent};
 
 use crate::cluster::envelope_fate::Fate;
 use crate::cluster::posted_envelope::Posted;

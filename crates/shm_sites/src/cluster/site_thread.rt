@@ -1,11 +1,10 @@
 //! The thread of a site.
-ghost use Rattle.std.specs.Prelude.{◌≡◌, ◌⊎◌, length, IfOk};
+ghost use Rattle.std.specs.Prelude.{◌≡◌, length, IfOk};
 ghost use Rattle.std.specs.Option.{option_map};
-ghost use Rattle.shm_logs.specs.Boxes.Box.{after};
 ghost use Rattle.shm_logs.specs.Boxes.Logged.{stamp_of};
 ghost use Rattle.shm_logs.specs.Boxes.SiteBox.{box_of};
 ghost use Rattle.shm_site.specs.Step.{input_of as input_in};
-ghost use Rattle.shm_sites.specs.Cluster.Mail.{next_of};
+ghost use Rattle.shm_sites.specs.Cluster.Mail.{next_of, Gives};
 ghost use Rattle.shm_sites.specs.Cluster.Posted.{all_sent, sent_at};
 
 use crate::cluster::channel_message::Mail;
@@ -90,7 +89,7 @@ pub(crate) fn give_input<A: Allocator + Copy>(
     input: Input<A>,
     source: Stamp,
 ) -> Result<Vec<Posted<A>, A>, AllocError>
-    ensures step { (box_of site.new ≡ box_of site.old) ⊎ (box_of site.new ≡ after (box_of site.old) (input_in input) (stamp_of source)) }
+    ensures step { Gives site.old site.new (input_in input) (stamp_of source) }
     ensures sent { IfOk result (λ posted. all_sent posted.items ≡ sent_at (box_of site.new).log (length (box_of site.old).log)) }
 {
     match site.take(input, source) {

@@ -7,7 +7,8 @@ use Rattle.rand_pcg.specs.Lcg.{Lcg}
 use Rattle.rand_pcg.specs.Pcg.{pcg32}
 use Rattle.shm_sites.specs.Cluster.Carried.{by_fate, carried, drawn_for}
 use Rattle.shm_sites.specs.Cluster.Fate.{fate_of}
-use Rattle.shm_sites.specs.Cluster.Posted.{all_sent, sent_of, Sent}
+use Rattle.shm_sites.specs.Cluster.Posted.{all_sent, sent_of}
+use Rattle.shm_sites.specs.Cluster.Sent.{Sent}
 use Rattle.shm_sites.proofs.Carried.{carried-push, drawn_for-push}
 use Rattle.shm_sites.proofs.cluster.lossy_network.carry.Goals as goal
 
