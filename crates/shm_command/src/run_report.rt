@@ -54,7 +54,7 @@ pub fn tell_run<
     let started = Instant::now(rt).ok();
     match run_audited(rt, rt.alloc(), sites, seed, reader) {
         Ok(run) => tell_wanted(rt, started, wanted, &run, out),
-        Err(fault) => Err(fault),
+        Err(refused) => Err(refused.fault),
     }
 }
 

@@ -1,16 +1,14 @@
 -- Why nothing was reported, where the workload is wrong or an audit found a cause.
-use Rattle.std.specs.Prelude.{◌≡◌, ◌≤◌, ℕ, ◌+◌, Bool, true, false, List, length, min, IfSome, Err, Ok, Option, None, Some, Vec}
-use Rattle.std.specs.declared.alloc.Global.{Global}
+use Rattle.std.specs.Prelude.{⊤, ◌≡◌, ◌≤◌, ℕ, ◌+◌, Bool, true, false, List, length, min, IfSome, Err, Ok, Option, None, Some}
 use Rattle.shm_logs.specs.Auditing.Callers.{callers_of}
 use Rattle.shm_logs.specs.Auditing.Complete.{IsFirstCauseOfAll}
+use Rattle.shm_logs.specs.Auditing.Logs.{logs_of, AreLogsOf}
 use Rattle.shm_logs.specs.declared.log_audit.audit_error.AuditFault.{AuditFault}
-use Rattle.shm_logs.specs.declared.site_boxes.receipt.Receipt.{Receipt}
 use Rattle.shm_sites.specs.declared.cluster.client_error.ClientFault.{ClientFault}
 use Rattle.shm_sites.specs.declared.cluster.client_error.ClientFault.TheVariants as client
 use Rattle.shm_sites.specs.declared.cluster.start_error.StartFault.TheVariants as start
-use Rattle.shm_model.specs.Log.{Logged}
 use Rattle.shm_report.specs.Callers.{AllServed}
-use Rattle.shm_report.specs.RunFaults.{IsUnmatched}
+use Rattle.shm_report.specs.RunFaults.{CameUnmatched}
 use Rattle.shm_report.specs.declared.call_and_run_error.RunFault.{RunFault}
 use Rattle.shm_report.specs.declared.call_and_run_error.RunFault.TheVariants as run
 use Rattle.shm_lines.specs.Workload.{Whole, workload_of}
@@ -18,6 +16,7 @@ use Rattle.shm_lines.specs.declared.workload_error.WorkloadFault.{WorkloadFault}
 use Rattle.shm_lines.specs.declared.workload_error.WorkloadFault.TheVariants as workload
 use Rattle.shm_report.specs.declared.report_error.ReportFault.{ReportFault}
 use Rattle.shm_report.specs.declared.report_error.ReportFault.TheVariants as report
+use Rattle.shm_report.specs.declared.workload_outcome.Ran.{Ran}
 
 -- what is wrong with the workload
 abbrev pub input_cause : ReportFault → Option WorkloadFault
@@ -124,22 +123,31 @@ IsLineIn sites known line = IfSome known (λ bytes. (whole : Whole) × (workload
 abbrev pub IsWrongBy : ℕ → Option (List ℕ) → WorkloadFault → Type 0
 IsWrongBy sites known cause = IfSome known (λ bytes. workload_of sites bytes ≡ Err cause)
 
--- This is the first cause why the logs of so many sites, and what their callers were told of the workload's lines, can't be those of sites
--- that ran.
-pub record IsFoundIn (sites : ℕ) (workload : Whole) (logs : List (List Logged)) (callers : List (Vec Receipt Global)) (cause : AuditFault) : Type 0 where
-  pub a_log_each : length logs ≡ sites
-  pub served : AllServed sites workload.accesses callers
-  pub first : IsFirstCauseOfAll logs (callers_of callers) cause
-
--- so it is after a run of the workload that these bytes have, where they are known
-pub record IsFound (sites : ℕ) (bytes : Option (List ℕ)) (cause : AuditFault) : Type 0 where
+-- After this run of the workload that these bytes have, where they are known, over so many sites: each caller was told a receipt for each
+-- of its site's lines, the logs are the sites', and this is the first cause why these very receipts and logs can't be those of sites that ran.
+pub record IsFoundIn (sites : ℕ) (bytes : Option (List ℕ)) (ran : Ran) (cause : AuditFault) : Type 0 where
   pub workload : Whole
   pub read : IfSome bytes (λ bytes. workload_of sites bytes ≡ Ok workload)
-  pub logs : List (List Logged)
-  pub callers : List (Vec Receipt Global)
-  pub found : IsFoundIn sites workload logs callers cause
+  pub served : AllServed sites workload.accesses ran.callers.items
+  pub logs : AreLogsOf sites workload.size ran.logs.items
+  pub first : IsFirstCauseOfAll (logs_of ran.logs.items) (callers_of ran.callers.items) cause
 
--- After a run of the workload that these bytes have, where they are known, as many logs came back as there are sites, and they aren't the
--- sites'.
+-- so it is after some run
+abbrev pub IsFound : ℕ → Option (List ℕ) → AuditFault → Type 0
+IsFound sites bytes cause = (ran : Ran) × IsFoundIn sites bytes ran cause
+
+-- After this run of the workload that these bytes have, where they are known, the logs that came back aren't those of so many sites.
+pub record HasOtherLogs (sites : ℕ) (bytes : Option (List ℕ)) (ran : Ran) : Type 0 where
+  pub workload : Whole
+  pub read : IfSome bytes (λ bytes. workload_of sites bytes ≡ Ok workload)
+  pub came : CameUnmatched sites workload.size workload.accesses ran
+
+-- so they aren't after some run
 abbrev pub IsUnmatchedIn : ℕ → Option (List ℕ) → Type 0
-IsUnmatchedIn sites known = IfSome known (λ bytes. (whole : Whole) × (workload_of sites bytes ≡ Ok whole) × IsUnmatched sites whole.size)
+IsUnmatchedIn sites bytes = (ran : Ran) × HasOtherLogs sites bytes ran
+
+-- a fault of the logs or of the audit comes with what was run, and tells of its very receipts and logs
+abbrev pub TellsOfRun : ℕ → Option (List ℕ) → ReportFault → Option Ran → Type 0
+TellsOfRun sites bytes (report.Audit cause) told = (ran : Ran) × (told ≡ Some ran) × IsFoundIn sites bytes ran cause
+TellsOfRun sites bytes report.Logs told = (ran : Ran) × (told ≡ Some ran) × HasOtherLogs sites bytes ran
+TellsOfRun sites bytes _ told = ⊤

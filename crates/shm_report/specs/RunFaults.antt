@@ -1,13 +1,14 @@
 -- Which fault is told where callers ended before their last lines.
-use Rattle.std.specs.Prelude.{◌≡◌, ℕ, ◌<◌, ◌≤◌, List, Result, Ok, Err, Option, None, Some, Vec, if◌then◌else◌, length, nat_lt, slice_get}
-use Rattle.std.specs.declared.alloc.Global.{Global}
+use Rattle.std.specs.Prelude.{⊤, ◌≡◌, ℕ, ◌<◌, ◌≤◌, List, Result, Ok, Err, Option, None, Some, if◌then◌else◌, length, nat_lt, slice_get}
 use Rattle.shm_logs.specs.Auditing.Logs.{AreLogsOf}
-use Rattle.shm_logs.specs.declared.site_boxes.site_log.SiteLog.{SiteLog}
+use Rattle.shm_lines.specs.declared.workload_access.WorkloadAccess.{WorkloadAccess}
 use Rattle.shm_model.specs.Refusal.{other_logs, out_of_memory}
 use Rattle.shm_sites.specs.Cluster.Faults.{client_fault_number, start_fault_number}
+use Rattle.shm_report.specs.Callers.{AllServed}
 use Rattle.shm_report.specs.declared.call_and_run_error.CallFault.{CallFault}
 use Rattle.shm_report.specs.declared.call_and_run_error.RunFault.{RunFault}
 use Rattle.shm_report.specs.declared.call_and_run_error.RunFault.TheVariants as run
+use Rattle.shm_report.specs.declared.workload_outcome.Ran.{Ran}
 
 -- the fault of an access names one of so many
 abbrev pub NamesAccess : ℕ → RunFault → Type 0
@@ -49,14 +50,19 @@ TellsFirst told (run.Start fault) = NoneFailed told
 TellsFirst told run.OutOfMemory = NoneFailed told
 TellsFirst told run.Logs = NoneFailed told
 
--- the logs that came back aren't those of so many sites, where segment 0 began with so many pages
-abbrev pub CameUnmatched : {E : Type 0} → ℕ → ℕ → Result (Vec (SiteLog Global) Global) E → Type 0
-CameUnmatched sites pages (Ok logs) = ¬ AreLogsOf sites pages logs.items
-CameUnmatched sites pages (Err fault) = ⊥
+-- Each caller was told a receipt for each of its site's lines. But the logs that came back, as many as there are sites, aren't the sites',
+-- where segment 0 began with so many pages.
+pub record CameUnmatched (sites pages : ℕ) (accesses : List WorkloadAccess) (ran : Ran) : Type 0 where
+  pub served : AllServed sites accesses ran.callers.items
+  pub count : length ran.logs.items ≡ sites
+  pub unmatched : ¬ AreLogsOf sites pages ran.logs.items
 
--- so, and there were as many as sites
-abbrev pub IsUnmatched : ℕ → ℕ → Type 0
-IsUnmatched sites pages = (logs : List (SiteLog Global)) × (length logs ≡ sites) × (¬ AreLogsOf sites pages logs)
+-- a fault of other logs comes with what was run, and tells of its very logs
+abbrev pub TellsOfLogs : ℕ → ℕ → List WorkloadAccess → RunFault → Option Ran → Type 0
+TellsOfLogs sites pages accesses run.Logs told = (ran : Ran) × (told ≡ Some ran) × CameUnmatched sites pages accesses ran
+TellsOfLogs sites pages accesses (run.Start fault) told = ⊤
+TellsOfLogs sites pages accesses (run.Call call) told = ⊤
+TellsOfLogs sites pages accesses run.OutOfMemory told = ⊤
 
 -- the numbers of the causes
 abbrev pub run_fault_number : RunFault → ℕ

@@ -1,13 +1,14 @@
-ghost use Rattle.std.specs.Prelude.{◌≡◌, ◌≢◌, ◌≤◌, ℕ, List, Err, Ok, length, map, IfErr, IfOk};
+ghost use Rattle.std.specs.Prelude.{◌≡◌, ◌≢◌, ◌≤◌, ℕ, List, Err, None, Ok, Some, length, map, vec_len, IfErr, IfOk};
 ghost use Rattle.shm_logs.specs.Auditing.Logs.{AreLogsOf};
 ghost use Rattle.shm_report.specs.Callers.{AllServed, ServedUnlessEnded};
 ghost use Rattle.shm_report.specs.RunFaults as said;
-ghost use Rattle.shm_report.specs.RunFaults.{CameUnmatched, FirstIfAny, IsUnmatched, NamesAccess, NoneFailed, TellsFirst};
+ghost use Rattle.shm_report.specs.RunFaults.{FirstIfAny, NamesAccess, NoneFailed, TellsFirst, TellsOfLogs};
 ghost use Rattle.shm_report.specs.declared.call_and_run_error.RunFault.TheVariants as cause;
 ghost use Rattle.shm_lines.specs.declared.workload_access.WorkloadAccess.{WorkloadAccess};
 
 use crate::call_and_run_error::{CallFault, RunFault};
 use crate::caller_threads::{CallerTold, Told, call};
+use crate::refused_run::Refused;
 use crate::workload_outcome::Ran;
 use shm_lines::Workload;
 use shm_place::{PAGES, Sites};
@@ -18,24 +19,29 @@ use std::thread::Threads;
 
 /// Runs the workload over these sites, whose network draws its losses and repeats from this seed. One caller for each site runs the site's
 /// lines in order, in a thread of its own; at the end the threads have ended. A caller whose thread can't be started comes before any other
-/// fault; then, of callers that ended by faults, the first in the order of the lines.
+/// fault; then, of callers that ended by faults, the first in the order of the lines. Other logs come back with the fault.
 pub fn run_workload<R: Threads + Wait + Copy + Send + Sync + 'static>(
     rt: &R,
     alloc: Global,
     sites: Sites,
     seed: u64,
     workload: &Workload,
-) -> Result<Ran, RunFault>
+) -> Result<Ran, Refused<RunFault>>
     requires from { 1 ≤ workload.now.pages }
     requires to { workload.now.pages ≤ PAGES }
     ensures served { IfOk result (λ ran. AllServed sites workload.now.accesses.items ran.callers.items) }
     ensures logs { IfOk result (λ ran. AreLogsOf sites workload.now.pages ran.logs.items) }
-    ensures place { IfErr result (NamesAccess (length workload.now.accesses.items)) }
-    ensures unmatched { IfErr result (λ fault. fault ≡ cause.Logs → IsUnmatched sites workload.now.pages) }
+    ensures place { IfErr result (λ refused. NamesAccess (length workload.now.accesses.items) refused.fault) }
+    ensures unmatched { IfErr result (λ refused. TellsOfLogs sites workload.now.pages workload.now.accesses.items refused.fault refused.ran) }
 {
     let cluster = match Cluster::start(rt, alloc, sites, workload.pages, seed, OpenGate) {
         Ok(cluster) => cluster,
-        Err(fault) => return Err(RunFault::Start(fault)),
+        Err(fault) => {
+            return Err(Refused {
+                fault: RunFault::Start(fault),
+                ran: None,
+            });
+        }
     };
     let told = call(
         rt,
@@ -55,38 +61,50 @@ fn run_outcome(
     pages: u32,
     told: Result<Told, StartFault>,
     logs: Result<Vec<SiteLog>, AllocError>,
-) -> Result<Ran, RunFault>
-    ensures unstarted { IfErr told (λ fault. result ≡ Err (cause.Start fault)) }
+) -> Result<Ran, Refused<RunFault>>
+    ensures unstarted { IfErr told (λ fault. result ≡ Err (record { fault = cause.Start fault; ran = None })) }
     ensures callers { (count : ℕ) (accesses : List WorkloadAccess) → IfOk told (λ told. ServedUnlessEnded count accesses told.items) →
         IfOk result (λ ran. AllServed count accesses ran.callers.items) }
     ensures logs { IfOk result (λ ran. (logs ≡ Ok ran.logs) × AreLogsOf sites pages ran.logs.items) }
-    ensures first { IfOk told (λ told. IfErr result (TellsFirst told.items)) }
-    ensures unmatched { IfErr result (λ fault. fault ≡ cause.Logs → CameUnmatched sites pages logs) }
+    ensures first { IfOk told (λ told. IfErr result (λ refused. TellsFirst told.items refused.fault)) }
+    ensures unmatched { (accesses : List WorkloadAccess) → IfOk told (λ told. ServedUnlessEnded sites accesses told.items) →
+        IfOk logs (λ logs. vec_len logs ≡ sites) → IfErr result (λ refused. TellsOfLogs sites pages accesses refused.fault refused.ran) }
     ensures place { (count : ℕ) (accesses : List WorkloadAccess) → IfOk told (λ told. ServedUnlessEnded count accesses told.items) →
-        IfErr result (NamesAccess (length accesses)) }
+        IfErr result (λ refused. NamesAccess (length accesses) refused.fault) }
 {
     let told = match told {
         Ok(told) => told,
-        Err(fault) => return Err(RunFault::Start(fault)),
+        Err(fault) => {
+            return Err(Refused {
+                fault: RunFault::Start(fault),
+                ran: None,
+            });
+        }
     };
     let callers = match receipts(alloc, told) {
         Ok(callers) => callers,
-        Err(fault) => return Err(fault),
+        Err(fault) => return Err(Refused { fault, ran: None }),
     };
     match logs {
         Ok(logs) => if_matching(sites, pages, Ran { callers, logs }),
-        Err(_) => Err(RunFault::OutOfMemory),
+        Err(_) => Err(Refused {
+            fault: RunFault::OutOfMemory,
+            ran: None,
+        }),
     }
 }
 
 /// The same, where its logs are those of these sites.
-fn if_matching(sites: Sites, pages: u32, ran: Ran) -> Result<Ran, RunFault>
+fn if_matching(sites: Sites, pages: u32, ran: Ran) -> Result<Ran, Refused<RunFault>>
     ensures same { IfOk result (λ matched. matched ≡ ran) }
     ensures logs { IfOk result (λ ran. AreLogsOf sites pages ran.logs.items) }
-    ensures fault { IfErr result (λ fault. (fault ≡ cause.Logs) × (¬ AreLogsOf sites pages ran.logs.items)) }
+    ensures fault { IfErr result (λ refused. (refused ≡ record { fault = cause.Logs; ran = Some ran }) × (¬ AreLogsOf sites pages ran.logs.items)) }
 {
     if !logs_match(sites, pages, ran.logs.as_slice()) {
-        return Err(RunFault::Logs);
+        return Err(Refused {
+            fault: RunFault::Logs,
+            ran: Some(ran),
+        });
     }
     Ok(ran)
 }

@@ -49,7 +49,9 @@ fn seen_under<R: Threads + Wait + Copy + Send + Sync + 'static>(
 ) -> Result<Option<Seen>, Fail> {
     let sites = Sites::new(2)?;
     let workload = parse_workload(alloc, sites, LINES)?;
-    let ran = run_workload(rt, alloc, sites, seed, &workload)?;
+    let Ok(ran) = run_workload(rt, alloc, sites, seed, &workload) else {
+        return Err(Fail::new("not run"));
+    };
     drop(workload);
     let seen = ran.logs.get(1).and_then(|log| first_order(log));
     drop(ran);

@@ -43,7 +43,9 @@ fn last_answers<R: Threads + Wait + Copy + Send + Sync + 'static>(
 ) -> Result<Vec<Option<Answer>>, Fail> {
     let sites = Sites::new(count)?;
     let workload = parse_workload(alloc, sites, lines)?;
-    let ran = run_workload(rt, alloc, sites, 1, &workload)?;
+    let Ok(ran) = run_workload(rt, alloc, sites, 1, &workload) else {
+        return Err(Fail::new("not run"));
+    };
     drop(workload);
     let answers = answers_of(alloc, &ran);
     drop(ran);

@@ -4,7 +4,7 @@ use Rattle.std.specs.Io.KnownBytes.{Appends}
 use Rattle.shm_report.specs.Callers.{AreOf}
 use Rattle.shm_report.specs.Causes.{audit_cause, input_cause}
 use Rattle.shm_report.specs.Report.{IsCutShort}
-use Rattle.shm_report.proofs.Causes.{ending_none}
+use Rattle.shm_report.proofs.Causes.{ending_none, unmatched_of}
 use Rattle.shm_report.proofs.Reports.{if_err, of_none, on_ok, right_of_run, unsummed, IsRunOf}
 use Rattle.shm_report.proofs.report_workload.report.Goals as goal
 
@@ -50,3 +50,7 @@ returns-in-Ok-clause-unmatched g c =
     let accesses = c.in-Ok.run'.workload.accesses.items in
     let among : AreOf c.in-Ok.run'.sites accesses = subst (λ sites. AreOf sites accesses) (sym c.in-Ok.ensures.sites) c.in-Ok.ensures.among in
     if_err c.write.result (λ fault served is. absurd (served c.in-Ok.ensures.accepted among is)) c.write.ensures.served
+
+pub returns-in-Err-clause-unmatched : goal.returns-in-Err-clause-unmatched
+returns-in-Err-clause-unmatched g c is =
+    unmatched_of c.args.sites (g.I.Read.remaining c.args.reader.now) c.in-Err.refused.fault c.in-Err.refused.ran c.in-Err.ensures.ran is
