@@ -3,5 +3,8 @@ mod DialogLemmas
 mod FileNameLemmas
 mod NoteLemmas
 mod OpenLemmas
+mod PlainLemmas
 mod SavedLemmas
+mod SittingLemmas
+mod TypingLemmas
 mod UndoLemmas

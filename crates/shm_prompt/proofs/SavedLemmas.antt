@@ -140,17 +140,21 @@ event-spelled events i e below here all =
     (All-get_or IsSpelled (map EventLine events) i (EventLine e) (subst (λ n. i < n) (sym (length-map events EventLine)) below) all)
 
 -- what refuses one of the lines refuses all
-refused-one : (line : Line) (lines : List Line) (r : SaveRefusal) → (All IsSpelled lines → IsSpelled line) → AreRefused (line ∷ []) r → AreRefused lines r
-refused-one line lines refusal.OutOfMemory among h = tt
-refused-one line lines refusal.TooManyLines among h = absurd (omega (arith, h))
-refused-one line lines refusal.NoLine among h = λ all. h (All-cons IsSpelled line [] (among all) (All-nil IsSpelled))
+refused-one : (line : Line) (lines : List Line) (r : SaveRefusal) → length lines ≤ 100000 → (All IsSpelled lines → IsSpelled line) → AreRefused (line ∷ []) r → AreRefused lines r
+refused-one line lines refusal.OutOfMemory few among h = tt
+refused-one line lines refusal.TooManyLines few among h = absurd (omega (arith, h))
+refused-one line lines refusal.NoLine few among h = (few, λ all. h.1 (All-cons IsSpelled line [] (among all) (All-nil IsSpelled)))
 
-pub refused-first : (s : Standing) (line : Line) (r : SaveRefusal) → first_line s.opening ≡ line → AreRefused (line ∷ []) r → AreRefused (lines_of s) r
-refused-first s line r opening h =
-    refused-one line (lines_of s) r (λ all. subst IsSpelled opening (All-head IsSpelled (first_line s.opening) (map EventLine s.events) all)) h
+few-lines : (s : Standing) → length s.events < 100000 → length (lines_of s) ≤ 100000
+few-lines s early = let same = length-map s.events EventLine in omega (arith, same, early)
 
-pub refused-event : (s : Standing) (events : List Event) (i : ℕ) (e : Event) (r : SaveRefusal) → s.events ≡ events → i < length events → e ≡ get_or events i e
-    → AreRefused (EventLine e ∷ []) r → AreRefused (lines_of s) r
-refused-event s events i e r same below here h =
-    refused-one (EventLine e) (lines_of s) r (λ all. event-spelled events i e below here
+pub refused-first : (s : Standing) (line : Line) (r : SaveRefusal) → length s.events < 100000 → first_line s.opening ≡ line → AreRefused (line ∷ []) r → AreRefused (lines_of s) r
+refused-first s line r early opening h =
+    refused-one line (lines_of s) r (few-lines s early)
+    (λ all. subst IsSpelled opening (All-head IsSpelled (first_line s.opening) (map EventLine s.events) all)) h
+
+pub refused-event : (s : Standing) (events : List Event) (i : ℕ) (e : Event) (r : SaveRefusal) → length s.events < 100000 → s.events ≡ events → i < length events
+    → e ≡ get_or events i e → AreRefused (EventLine e ∷ []) r → AreRefused (lines_of s) r
+refused-event s events i e r early same below here h =
+    refused-one (EventLine e) (lines_of s) r (few-lines s early) (λ all. event-spelled events i e below here
     (subst (λ es. All IsSpelled (map EventLine es)) same (All-tail IsSpelled (first_line s.opening) (map EventLine s.events) all))) h

@@ -10,8 +10,8 @@ use Rattle.shm_text.specs.Text.{line_text}
 use Rattle.shm_draw.specs.Captions.{Beside}
 use Rattle.shm_debug.specs.Said.{next, standing_after}
 use Rattle.shm_debug.specs.Standing.{Standing, with_event, world_of}
-use Rattle.shm_prompt.specs.Command.{command_of, is_quit}
 use Rattle.shm_prompt.specs.Given.{Bytes, Given, TooLong, Unread}
+use Rattle.shm_prompt.specs.Hints.{TellsPlain, TellsWrong}
 use Rattle.shm_prompt.specs.Notes.{notes_up_to, noted, text_typed, told_noted}
 use Rattle.shm_prompt.specs.Refusals.{said_here}
 use Rattle.shm_prompt.specs.Saves.{file_named}
@@ -110,6 +110,11 @@ TellsMore text text' = (more : List ℕ) × (text' ≡ text ++ more)
 abbrev pub TellsOfStanding : Option Standing → List ℕ → List ℕ → Type 0
 TellsOfStanding None text text' = text' ≡ text ++ not_begun
 TellsOfStanding (Some s) text text' = TellsMore text text'
+
+-- the same, and only what a terminal can be told
+abbrev pub ShowsStanding : Option Standing → List ℕ → List ℕ → Type 0
+ShowsStanding None text text' = text' ≡ text ++ not_begun
+ShowsStanding (Some s) text text' = TellsPlain text text'
 
 -- ---- `open`: the lines of a script that was saved, as if they were typed into a fresh session
 
@@ -228,10 +233,10 @@ abbrev pub Obeyed : (List ℕ → Given → Type 0) → List ℕ → State → C
 Obeyed gives typed old (command.Line l) new text text' = (new ≡ after_line old l) × (text' ≡ text ++ said_to old.standing l)
 Obeyed gives typed old command.Undo new text text' = (new ≡ standing_now old (next_undo old.standing)) × (text' ≡ text ++ told_undo old.standing)
 Obeyed gives typed old (command.Run most) new text text' = Runs most old.standing new.standing text text' × (new.notes ≡ old.notes)
-Obeyed gives typed old command.Flight new text text' = (new ≡ old) × TellsOfStanding old.standing text text'
-Obeyed gives typed old command.Sites new text text' = (new ≡ old) × TellsOfStanding old.standing text text'
-Obeyed gives typed old (command.Book page) new text text' = (new ≡ old) × TellsOfStanding old.standing text text'
-Obeyed gives typed old command.Segments new text text' = (new ≡ old) × TellsOfStanding old.standing text text'
+Obeyed gives typed old command.Flight new text text' = (new ≡ old) × ShowsStanding old.standing text text'
+Obeyed gives typed old command.Sites new text text' = (new ≡ old) × ShowsStanding old.standing text text'
+Obeyed gives typed old (command.Book page) new text text' = (new ≡ old) × ShowsStanding old.standing text text'
+Obeyed gives typed old command.Segments new text text' = (new ≡ old) × ShowsStanding old.standing text text'
 Obeyed gives typed old command.Help new text text' = (new ≡ old) × (text' ≡ text ++ HELP.now)
 Obeyed gives typed old command.Save new text text' = (new ≡ old) × TellsOfStanding old.standing text text'
 Obeyed gives typed old command.Open new text text' = OpensTyped gives (file_named typed) old new text text'
@@ -240,9 +245,9 @@ Obeyed gives typed old command.Note new text text' =
 Obeyed gives typed old command.Notes new text text' = (new ≡ old) × TellsOfStanding old.standing text text'
 Obeyed gives typed old command.Quit new text text' = (new ≡ old) × (text' ≡ text)
 
--- the same of what was typed; a wrong line changes nothing, and is told something
+-- the same of what was typed; a wrong line changes nothing, and is told what was expected
 abbrev pub ObeyedTyped : (List ℕ → Given → Type 0) → List ℕ → State → Option Command → State → List ℕ → List ℕ → Type 0
-ObeyedTyped gives typed old None new text text' = (new ≡ old) × TellsMore text text'
+ObeyedTyped gives typed old None new text text' = (new ≡ old) × TellsWrong typed text text'
 ObeyedTyped gives typed old (Some command) new text text' = Obeyed gives typed old command new text text'
 
 -- ---- what stands where memory was refused
@@ -282,8 +287,3 @@ HaltedTyped old (Some command) new = HaltedCommand old command new
 -- what is told of a line that is too long
 abbrev pub too_long : List ℕ
 too_long = codes "a line has at most 200 bytes\n"
-
--- it is done once, and whole, and says whether the session ends; one that is too long isn't done
-abbrev pub LineEnds : (List ℕ → Given → Type 0) → Bool → State → List ℕ → State → Bool → List ℕ → List ℕ → Type 0
-LineEnds gives true old line new quits text text' = (new ≡ old) × (text' ≡ text ++ too_long)
-LineEnds gives false old line new quits text text' = ObeyedTyped gives line old (command_of line) new text text' × (quits ≡ is_quit (command_of line))

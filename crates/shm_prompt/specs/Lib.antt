@@ -2,10 +2,13 @@ pub mod Command
 pub mod Dialog
 pub mod Faults
 pub mod Given
+pub mod Hints
 pub mod Notes
 pub mod Refusals
 pub mod Saved
 pub mod Saves
+pub mod Sitting
 pub mod Spelled
 pub mod State
+pub mod Typing
 pub mod Undo

@@ -55,14 +55,14 @@ not_saved why = codes "not saved: " ++ why
 abbrev pub unnamed : List ℕ
 unnamed = not_saved (codes "the file's name is no text\n")
 
--- it is told that nothing was saved, and why
-abbrev pub TellsUnsaved : List ℕ → List ℕ → Type 0
-TellsUnsaved text text' = (more : List ℕ) × (text' ≡ text ++ not_saved more)
+-- what is told of a file that couldn't be written
+abbrev pub unwritten : List ℕ → List ℕ
+unwritten name = not_saved (name ++ codes " can't be written\n")
 
 -- this file was written, which is told; or it couldn't be, which is told
 abbrev pub Writes : List ℕ → List ℕ → Option (List Save) → Option (List Save) → List ℕ → List ℕ → Type 0
 Writes name bytes old new text text' =
-    (Adds old new (Whole name bytes) × (text' ≡ text ++ saved_to name)) ⊎ (Adds old new (Failed name bytes) × TellsUnsaved text text')
+    (Adds old new (Whole name bytes) × (text' ≡ text ++ saved_to name)) ⊎ (Adds old new (Failed name bytes) × (text' ≡ text ++ unwritten name))
 
 -- the script of what stands is refused, for a cause that is so and is told
 pub record Refuses (s : Standing) (text text' : List ℕ) : Type 0 where
@@ -91,3 +91,23 @@ SavesUnder (Some name) notes old new text text' = Writes name (notes_text notes)
 abbrev pub SavesNotes : Option Standing → List Beside → List ℕ → Option (List Save) → Option (List Save) → List ℕ → List ℕ → Type 0
 SavesNotes None notes typed old new text text' = new ≡ old
 SavesNotes (Some s) notes typed old new text text' = SavesUnder (file_named typed) notes old new text text'
+
+-- ---- what is saved where memory is refused
+
+-- this file was written, or couldn't be
+abbrev pub Tries : List ℕ → List ℕ → Option (List Save) → Option (List Save) → Type 0
+Tries name bytes old new = Adds old new (Whole name bytes) ⊎ Adds old new (Failed name bytes)
+
+-- it at most; where there is no name, nothing
+abbrev pub MayTry : Option (List ℕ) → List ℕ → Option (List Save) → Option (List Save) → Type 0
+MayTry None bytes old new = new ≡ old
+MayTry (Some name) bytes old new = (new ≡ old) ⊎ Tries name bytes old new
+
+-- at most the script, and at most the notes; where no sites stand, nothing
+abbrev pub HaltsScript : Option Standing → List ℕ → Option (List Save) → Option (List Save) → Type 0
+HaltsScript None typed old new = new ≡ old
+HaltsScript (Some s) typed old new = MayTry (file_named typed) (text_of_lines (lines_of s)) old new
+
+abbrev pub HaltsNotes : Option Standing → List Beside → List ℕ → Option (List Save) → Option (List Save) → Type 0
+HaltsNotes None notes typed old new = new ≡ old
+HaltsNotes (Some s) notes typed old new = MayTry (file_named typed) (notes_text notes) old new

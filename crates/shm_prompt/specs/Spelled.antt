@@ -20,12 +20,12 @@ pub record IsSpelled (line : Line) : Type 0 where
 abbrev pub line_bytes : Line → List ℕ
 line_bytes line = spelling line ++ 10 ∷ []
 
--- Why these lines aren't saved: they are more than a script may have, or not each is one that a replay reads as itself. Memory that is refused
--- says nothing of them.
+-- Why these lines aren't saved: they are more than a script may have; or they aren't, but not each is one that a replay reads as itself. Memory
+-- that is refused says nothing of them.
 abbrev pub AreRefused : List Line → SaveRefusal → Type 0
 AreRefused lines refusal.OutOfMemory = ⊤
 AreRefused lines refusal.TooManyLines = max_lines < length lines
-AreRefused lines refusal.NoLine = ¬ All IsSpelled lines
+AreRefused lines refusal.NoLine = (length lines ≤ max_lines) × (¬ All IsSpelled lines)
 
 abbrev pub refusal_words : SaveRefusal → List ℕ
 refusal_words refusal.OutOfMemory = codes "out of memory"

@@ -14,6 +14,7 @@ mod obey_command;
 mod open_script;
 mod output_line;
 mod pages_table;
+mod plain_text;
 mod prompt_command;
 mod prompt_error;
 mod prompt_loop;

@@ -1,8 +1,8 @@
 //! `note` and `notes`: a note for the line of the script that stands last, and the file of all.
 ghost use Rattle.std.specs.Prelude.{◌≡◌, ◌++◌, ◌<◌, OnErr, OnOk};
 ghost use Rattle.shm_prompt.specs.Dialog.{TellsMore, TellsOfStanding, next_notes, told_note};
-ghost use Rattle.shm_prompt.specs.Notes.{noted, text_typed, told_noted, unnoted_text};
-ghost use Rattle.shm_prompt.specs.Saves.{SavesNotes, SavesUnder, file_named};
+ghost use Rattle.shm_prompt.specs.Notes.{noted, notes_text, text_typed, told_noted, unnoted_text};
+ghost use Rattle.shm_prompt.specs.Saves.{HaltsNotes, MayTry, SavesNotes, SavesUnder, file_named};
 
 use crate::dialog_state::Dialog;
 use crate::file_name::file_name;
@@ -40,6 +40,7 @@ impl<A: Allocator + Copy> Dialog<A> {
     ) -> Result<(), AllocError>
         ensures tells { OnOk result (TellsOfStanding self.now.standing out.old.items out.new.items) }
         ensures saves { OnOk result (SavesNotes self.now.standing self.now.notes typed.now (S.saves files.old) (S.saves files.new) out.old.items out.new.items) }
+        ensures halted { OnErr result (HaltsNotes self.now.standing self.now.notes typed.now (S.saves files.old) (S.saves files.new)) }
     {
         match &self.session {
             None => out.extend_from_slice(NOT_BEGUN.as_bytes()),
@@ -89,6 +90,7 @@ fn save_all<A: Allocator + Copy, S: SaveFile>(
 ) -> Result<(), AllocError>
     ensures tells { OnOk result (TellsMore out.old.items out.new.items) }
     ensures saves { OnOk result (SavesUnder (file_named typed.now) notes.now (S.saves files.old) (S.saves files.new) out.old.items out.new.items) }
+    ensures halted { OnErr result (MayTry (file_named typed.now) (notes_text notes.now) (S.saves files.old) (S.saves files.new)) }
 {
     let Some(name) = file_name(typed) else {
         return tell_unnamed(out);

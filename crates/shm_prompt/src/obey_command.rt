@@ -1,8 +1,10 @@
 //! What each command does to the session, and its answer.
 ghost use Rattle.std.specs.Prelude.{◌≡◌, ◌++◌, ◌⊎◌, Some, codes, false, true, IfOk, OnErr, OnOk};
 ghost use Rattle.shm_prompt.specs.Command.{IsCommand, command_of, is_notes, is_quit, is_save};
-ghost use Rattle.shm_prompt.specs.Dialog.{HaltedCommand, HaltedRun, HaltedTyped, LeavesNotes, Obeyed, ObeyedTyped, OpensTyped, Ran, Runs, SomeDelivered, TellsMore, TellsOfStanding, next_undo, run_end, standing_now, told_undo};
-ghost use Rattle.shm_prompt.specs.Saves.{SavesNotes, SavesScript, SavesTyped, file_named, not_saved};
+ghost use Rattle.shm_prompt.specs.Dialog.{HaltedCommand, HaltedRun, HaltedTyped, LeavesNotes, Obeyed, ObeyedTyped, OpensTyped, Ran, Runs, ShowsStanding, SomeDelivered, TellsMore, TellsOfStanding, next_undo, run_end, standing_now, told_undo};
+ghost use Rattle.shm_prompt.specs.Hints.{TellsPlain};
+ghost use Rattle.shm_prompt.specs.Saved.{lines_of, text_of_lines};
+ghost use Rattle.shm_prompt.specs.Saves.{HaltsNotes, HaltsScript, MayTry, SavesNotes, SavesScript, SavesTyped, file_named, not_saved};
 ghost use Rattle.shm_prompt.specs.Spelled.{refusal_words};
 
 use crate::deliver_all::deliver_all;
@@ -11,6 +13,7 @@ use crate::envelopes_in_flight::list_flight;
 use crate::file_name::file_name;
 use crate::help_text::HELP;
 use crate::pages_table::{show_book, show_pages};
+use crate::plain_text::tell_plain;
 use crate::prompt_command::{Command, parse_command};
 use crate::save_file_trait::SaveFile;
 use crate::save_refusal::SaveRefusal;
@@ -28,8 +31,8 @@ impl<A: Allocator + Copy> Dialog<A> {
     /// Does what a line asks for, without its line feed, and answers whether it was `quit`, which has no answer of its own. The answer to a
     /// wrong line shows where it goes wrong and what could stand there.
     ///
-    /// `save` writes the whole script under the name in the line, or nothing, and `notes` all notes; each says whether it did. No clause says
-    /// what the tables and hints print.
+    /// `save` writes the whole script under the name in the line, or nothing, and `notes` all notes; each says whether it did, and writes
+    /// nothing else where memory is refused. No clause says what the tables and hints print.
     pub fn obey<S: SaveFile>(
         &mut self,
         typed: &[u8],
@@ -43,6 +46,10 @@ impl<A: Allocator + Copy> Dialog<A> {
             → OnOk result (SavesTyped self.old.standing typed.now (S.saves files.old) (S.saves files.new) out.old.items out.new.items) }
         ensures saves_notes { is_notes (command_of typed.now) ≡ true
             → OnOk result (SavesNotes self.old.standing self.old.notes typed.now (S.saves files.old) (S.saves files.new) out.old.items out.new.items) }
+        ensures halts_save { is_save (command_of typed.now) ≡ true
+            → OnErr result (HaltsScript self.old.standing typed.now (S.saves files.old) (S.saves files.new)) }
+        ensures halts_notes { is_notes (command_of typed.now) ≡ true
+            → OnErr result (HaltsNotes self.old.standing self.old.notes typed.now (S.saves files.old) (S.saves files.new)) }
         ensures unsaved { is_save (command_of typed.now) ≡ false → is_notes (command_of typed.now) ≡ false → files.new ≡ files.old }
     {
         let Some(command) = parse_command(typed) else {
@@ -68,6 +75,10 @@ impl<A: Allocator + Copy> Dialog<A> {
             → OnOk result (SavesTyped self.old.standing typed.now (S.saves files.old) (S.saves files.new) out.old.items out.new.items) }
         ensures saves_notes { is_notes (Some command) ≡ true
             → OnOk result (SavesNotes self.old.standing self.old.notes typed.now (S.saves files.old) (S.saves files.new) out.old.items out.new.items) }
+        ensures halts_save { is_save (Some command) ≡ true
+            → OnErr result (HaltsScript self.old.standing typed.now (S.saves files.old) (S.saves files.new)) }
+        ensures halts_notes { is_notes (Some command) ≡ true
+            → OnErr result (HaltsNotes self.old.standing self.old.notes typed.now (S.saves files.old) (S.saves files.new)) }
         ensures unsaved { is_save (Some command) ≡ false → is_notes (Some command) ≡ false → files.new ≡ files.old }
     {
         match command {
@@ -111,7 +122,7 @@ impl<A: Allocator + Copy> Dialog<A> {
     }
 
     fn show(&self, view: View, out: &mut Vec<u8, A>) -> Result<(), AllocError>
-        ensures { OnOk result (TellsOfStanding self.now.standing out.old.items out.new.items) }
+        ensures { OnOk result (ShowsStanding self.now.standing out.old.items out.new.items) }
     {
         match &self.session {
             None => out.extend_from_slice(NOT_BEGUN.as_bytes()),
@@ -142,6 +153,7 @@ impl<A: Allocator + Copy> Dialog<A> {
     ) -> Result<(), AllocError>
         ensures tells { OnOk result (TellsOfStanding self.now.standing out.old.items out.new.items) }
         ensures saves { OnOk result (SavesTyped self.now.standing typed.now (S.saves files.old) (S.saves files.new) out.old.items out.new.items) }
+        ensures halted { OnErr result (HaltsScript self.now.standing typed.now (S.saves files.old) (S.saves files.new)) }
     {
         match &self.session {
             None => out.extend_from_slice(NOT_BEGUN.as_bytes()),
@@ -222,7 +234,7 @@ fn show_view<A: Allocator + Copy>(
     view: View,
     out: &mut Vec<u8, A>,
 ) -> Result<(), AllocError>
-    ensures { OnOk result (TellsMore out.old.items out.new.items) }
+    ensures { OnOk result (TellsPlain out.old.items out.new.items) }
 {
     let mut text = String::new(*out.allocator());
     match view {
@@ -231,7 +243,7 @@ fn show_view<A: Allocator + Copy>(
         View::Book(page) => show_book(&mut text, session.world(), page)?,
         View::Segments => list_segments(&mut text, session.world())?,
     }
-    out.extend_from_slice(text.as_bytes())
+    tell_plain(text.as_bytes(), out)
 }
 
 /// Saves the script of the events that stand to the file that the line names, and says so or why not.
@@ -244,6 +256,7 @@ fn save_to<A: Allocator + Copy, S: SaveFile>(
 ) -> Result<(), AllocError>
     ensures tells { OnOk result (TellsMore out.old.items out.new.items) }
     ensures saves { OnOk result (SavesScript session.now (file_named typed.now) (S.saves files.old) (S.saves files.new) out.old.items out.new.items) }
+    ensures halted { OnErr result (MayTry (file_named typed.now) (text_of_lines (lines_of session.now)) (S.saves files.old) (S.saves files.new)) }
 {
     let Some(name) = file_name(typed) else {
         return tell_unnamed(out);

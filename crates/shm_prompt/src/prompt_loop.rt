@@ -1,4 +1,11 @@
 //! The dialog itself: each line is answered before the next is read.
+ghost use Rattle.std.specs.Prelude.{◌≡◌, ◌==◌, ◌++◌, ◌&&◌, ℕ, List, [], length, false, true, not, IfErr, IfOk, OnErr, OnOk};
+ghost use Rattle.std.specs.Io.KnownBytes.{Appends};
+ghost use Rattle.shm_prompt.specs.Sitting as sitting;
+ghost use Rattle.shm_prompt.specs.Sitting.{Ends, GivenLast, GivenOn, NotShown, all_saved, end_text, greeting, is_unsaved, nothing_typed, told_if, unsaved_here};
+ghost use Rattle.shm_prompt.specs.Typing.{IsKept, Starves, moment};
+ghost use Rattle.shm_prompt.specs.declared.prompt_error.PromptFault.TheVariants.{WriteFault};
+
 use crate::line_assembler::Typed;
 use crate::prompt_error::PromptFault;
 use crate::save_file_trait::SaveFile;
@@ -37,7 +44,10 @@ pub fn prompt<A: Allocator + Copy, R: Read, W: Write, S: SaveFile>(
     writer: &mut W,
     files: &mut S,
     is_terminal: bool,
-) -> Result<(), PromptFault> {
+) -> Result<(), PromptFault>
+    ensures { (text : List ℕ) × Appends (W.contents writer.old) (W.contents writer.new) text
+        × Ends S.saves S.gives is_terminal (nothing_typed is_terminal (R.remaining reader.old) files.old) result (R.remaining reader.new) files.new text }
+{
     let Ok(mut typed) = Typed::new(alloc) else {
         return Err(PromptFault::OutOfMemory);
     };
@@ -61,7 +71,11 @@ pub fn prompt<A: Allocator + Copy, R: Read, W: Write, S: SaveFile>(
             Err(_) => return Err(PromptFault::OutOfMemory),
         }
     }
-    Ok(())
+    // No run reads so often.
+    match show(is_terminal, &typed, &mut out, writer) {
+        Ok(()) => Err(PromptFault::ReadFault),
+        Err(fault) => Err(fault),
+    }
 }
 
 /// Writes all output, and marks the next line.
@@ -70,7 +84,13 @@ fn show<A: Allocator + Copy, W: Write>(
     typed: &Typed<A>,
     out: &mut Vec<u8, A>,
     writer: &mut W,
-) -> Result<(), PromptFault> {
+) -> Result<(), PromptFault>
+    ensures shown { (front : List ℕ) → IsKept front typed.now.line.items typed.now.is_long
+        → OnOk result (Appends (W.contents writer.old) (W.contents writer.new) (out.old.items ++ sitting.mark is_terminal front)) }
+    ensures emptied { OnOk result (out.new.items ≡ []) }
+    ensures fault { (front : List ℕ) → IsKept front typed.now.line.items typed.now.is_long
+        → IfErr result (NotShown (W.contents writer.old) (W.contents writer.new) (out.old.items ++ sitting.mark is_terminal front)) }
+{
     match mark(is_terminal, typed, out) {
         Ok(()) => write_and_flush(out, writer),
         Err(_) => Err(PromptFault::OutOfMemory),
@@ -84,20 +104,27 @@ fn take<A: Allocator + Copy, S: SaveFile>(
     bytes: &[u8],
     files: &mut S,
     out: &mut Vec<u8, A>,
-) -> Result<bool, AllocError> {
+) -> Result<bool, AllocError>
+    ensures goes { (front : List ℕ) → IsKept front typed.old.line.items typed.old.is_long → IfOk result (λ ends. ends ≡ false
+        → (rest : List ℕ) × GivenOn S.saves S.gives is_terminal front bytes.now (moment typed.old.dialog typed.old.unsaved files.old out.old.items)
+        (moment typed.new.dialog typed.new.unsaved files.new out.new.items) rest × IsKept rest typed.new.line.items typed.new.is_long) }
+    ensures ends { (front : List ℕ) → IsKept front typed.old.line.items typed.old.is_long → IfOk result (λ ends. ends ≡ true
+        → GivenLast S.saves S.gives is_terminal front bytes.now (moment typed.old.dialog typed.old.unsaved files.old out.old.items)
+        (moment typed.new.dialog typed.new.unsaved files.new out.new.items)) }
+    ensures starves { (front : List ℕ) → IsKept front typed.old.line.items typed.old.is_long → OnErr result
+        (Starves S.saves S.gives front bytes.now (moment typed.old.dialog typed.old.unsaved files.old out.old.items) files.new) }
+{
     if bytes.is_empty() {
         return end(is_terminal, typed, out);
     }
-    typed.feed(bytes, files, out)?;
-    Ok(typed.has_quit())
+    typed.feed(bytes, files, out)
 }
 
 /// Greets a person.
-fn greet<A: Allocator + Copy>(is_terminal: bool, out: &mut Vec<u8, A>) -> Result<(), AllocError> {
-    if is_terminal {
-        return out.extend_from_slice(GREETING);
-    }
-    Ok(())
+fn greet<A: Allocator + Copy>(is_terminal: bool, out: &mut Vec<u8, A>) -> Result<(), AllocError>
+    ensures { OnOk result (out.new.items ≡ out.old.items ++ greeting is_terminal) }
+{
+    tell_if(is_terminal, GREETING, out)
 }
 
 /// Marks the next line, unless one is half typed.
@@ -105,11 +132,18 @@ fn mark<A: Allocator + Copy>(
     is_terminal: bool,
     typed: &Typed<A>,
     out: &mut Vec<u8, A>,
-) -> Result<(), AllocError> {
-    if is_terminal && typed.is_between_lines() {
-        return out.extend_from_slice(MARK);
-    }
-    Ok(())
+) -> Result<(), AllocError>
+    ensures { (front : List ℕ) → IsKept front typed.now.line.items typed.now.is_long
+        → OnOk result (out.new.items ≡ out.old.items ++ sitting.mark is_terminal front) }
+{
+    tell_if(is_marked(is_terminal, typed), MARK, out)
+}
+
+/// Checks that the next line is marked.
+fn is_marked<A: Allocator + Copy>(is_terminal: bool, typed: &Typed<A>) -> bool
+    ensures { result ≡ (is_terminal && ((length typed.now.line.items == 0) && not typed.now.is_long)) }
+{
+    is_terminal && typed.is_between_lines()
 }
 
 /// At the input's end: whether the session ends. A person is told first of what isn't saved.
@@ -117,26 +151,49 @@ fn end<A: Allocator + Copy>(
     is_terminal: bool,
     typed: &mut Typed<A>,
     out: &mut Vec<u8, A>,
-) -> Result<bool, AllocError> {
+) -> Result<bool, AllocError>
+    ensures ends { IfOk result (λ ends. ends ≡ not (is_terminal && is_unsaved (unsaved_here typed.old.unsaved typed.old.dialog.notes))) }
+    ensures told { OnOk result (out.new.items
+        ≡ out.old.items ++ told_if is_terminal (end_text (unsaved_here typed.old.unsaved typed.old.dialog.notes))) }
+    ensures dialog { typed.new.dialog ≡ typed.old.dialog }
+    ensures line { typed.new.line.items ≡ typed.old.line.items }
+    ensures is_long { typed.new.is_long ≡ typed.old.is_long }
+    ensures unsaved { OnOk result (is_terminal ≡ true → typed.new.unsaved ≡ all_saved) }
+{
     if !is_terminal {
         return Ok(true);
     }
-    out.extend_from_slice(b"\n")?;
     let unsaved = typed.take_unsaved();
-    if unsaved.script {
-        out.extend_from_slice(UNSAVED)?;
-    }
-    if unsaved.notes {
-        out.extend_from_slice(UNSAVED_NOTES)?;
-    }
+    out.extend_from_slice(b"\n")?;
+    tell_if(unsaved.script, UNSAVED, out)?;
+    tell_if(unsaved.notes, UNSAVED_NOTES, out)?;
     Ok(!unsaved.script && !unsaved.notes)
+}
+
+/// Tells this, if it is so.
+fn tell_if<A: Allocator + Copy>(
+    is: bool,
+    text: &[u8],
+    out: &mut Vec<u8, A>,
+) -> Result<(), AllocError>
+    ensures { OnOk result (out.new.items ≡ out.old.items ++ told_if is text.now) }
+{
+    if is {
+        return out.extend_from_slice(text);
+    }
+    Ok(())
 }
 
 /// Writes all output, empties it, and flushes the writer.
 fn write_and_flush<A: Allocator + Copy, W: Write>(
     out: &mut Vec<u8, A>,
     writer: &mut W,
-) -> Result<(), PromptFault> {
+) -> Result<(), PromptFault>
+    ensures written { OnOk result (Appends (W.contents writer.old) (W.contents writer.new) out.old.items) }
+    ensures emptied { OnOk result (out.new.items ≡ []) }
+    ensures fault { IfErr result (NotShown (W.contents writer.old) (W.contents writer.new) out.old.items) }
+    ensures memory { IfErr result (λ fault. fault ≡ WriteFault) }
+{
     if write_whole(writer, out.as_slice()).is_err() {
         return Err(PromptFault::WriteFault);
     }

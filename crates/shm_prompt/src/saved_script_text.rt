@@ -43,7 +43,8 @@ fn text_of<A: Allocator + Copy>(
         → IfOk result (λ bytes. bytes.items ≡ text_of_lines (lines_of s)) }
     ensures replays { (s : Standing) → saved.first_line s.opening ≡ first → s.events ≡ events.now → length s.events < 100000
         → IfOk result (λ bytes. Replays bytes.items s) }
-    ensures refused { (s : Standing) → saved.first_line s.opening ≡ first → s.events ≡ events.now → IfErr result (AreRefused (lines_of s)) }
+    ensures refused { (s : Standing) → saved.first_line s.opening ≡ first → s.events ≡ events.now → length s.events < 100000
+        → IfErr result (AreRefused (lines_of s)) }
 {
     laws::lines_have_one_spelling();
     let mut text = Vec::new(alloc);

@@ -1,7 +1,7 @@
 //! Files that are written at the prompt, and what is told of them.
-ghost use Rattle.std.specs.Prelude.{◌≡◌, ◌++◌, OnOk};
+ghost use Rattle.std.specs.Prelude.{◌≡◌, ◌++◌, OnErr, OnOk};
 ghost use Rattle.shm_prompt.specs.Dialog.{TellsMore};
-ghost use Rattle.shm_prompt.specs.Saves.{TellsUnsaved, Writes, not_saved, saved_to, unnamed};
+ghost use Rattle.shm_prompt.specs.Saves.{Tries, Writes, not_saved, saved_to, unnamed, unwritten};
 
 use crate::save_file_trait::SaveFile;
 use std::alloc::{AllocError, Allocator};
@@ -15,6 +15,7 @@ pub(crate) fn write_named<A: Allocator + Copy, S: SaveFile>(
 ) -> Result<(), AllocError>
     ensures tells { OnOk result (TellsMore out.old.items out.new.items) }
     ensures writes { OnOk result (Writes name.now bytes.now (S.saves files.old) (S.saves files.new) out.old.items out.new.items) }
+    ensures halted { OnErr result (Tries name.now bytes.now (S.saves files.old) (S.saves files.new)) }
 {
     match files.save(name, bytes) {
         Ok(()) => tell_saved(name, out),
@@ -30,7 +31,7 @@ fn tell_saved<A: Allocator + Copy>(name: &str, out: &mut Vec<u8, A>) -> Result<(
 }
 
 fn tell_unwritten<A: Allocator + Copy>(name: &str, out: &mut Vec<u8, A>) -> Result<(), AllocError>
-    ensures { OnOk result (TellsUnsaved out.old.items out.new.items) }
+    ensures { OnOk result (out.new.items ≡ out.old.items ++ unwritten name.now) }
 {
     let text = format!(in *out.allocator(); "{name} can't be written\n")?;
     tell_unsaved(text.as_bytes(), out)

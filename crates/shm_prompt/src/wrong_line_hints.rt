@@ -1,8 +1,11 @@
 //! Tells a wrong line: of a script's line where it goes wrong, of another command how it is typed.
-ghost use Rattle.std.specs.Prelude.{OnOk};
-ghost use Rattle.shm_prompt.specs.Dialog.{TellsMore};
+ghost use Rattle.std.specs.Prelude.{◌≡◌, ◌++◌, OnOk};
+ghost use Rattle.std.specs.Option.{option_map};
+ghost use Rattle.shm_prompt.specs.Hints as told;
+ghost use Rattle.shm_prompt.specs.Hints.{TellsPlain, TellsWrong, verb_of};
 
-use shm_lines::{Expected, Hint, Word, Words, hint_of_script_line, write_hint};
+use crate::plain_text::tell_plain;
+use shm_lines::{Expected, Hint, Word, hint_of_script_line, split_at, write_hint};
 use std::alloc::{AllocError, Allocator};
 
 /// Told where the first word is no command.
@@ -13,16 +16,23 @@ pub(crate) fn tell_hint<A: Allocator + Copy>(
     out: &mut Vec<u8, A>,
     typed: &[u8],
 ) -> Result<(), AllocError>
-    ensures { OnOk result (TellsMore out.old.items out.new.items) }
+    ensures { OnOk result (TellsWrong typed.now out.old.items out.new.items) }
+{
+    match form_of(verb_among(typed)) {
+        Some(form) => tell_form(out, form),
+        None => tell_place(out, typed),
+    }
+}
+
+/// Tells where the line of a script goes wrong.
+fn tell_place<A: Allocator + Copy>(out: &mut Vec<u8, A>, typed: &[u8]) -> Result<(), AllocError>
+    ensures { OnOk result (TellsPlain out.old.items out.new.items) }
 {
     let text = hint_text(*out.allocator(), typed)?;
-    out.extend_from_slice(text.as_slice())
+    tell_plain(text.as_slice(), out)
 }
 
 fn hint_text<A: Allocator + Copy>(alloc: A, typed: &[u8]) -> Result<Vec<u8, A>, AllocError> {
-    if let Some(form) = form_of(first_word(typed)) {
-        return form_text(alloc, form);
-    }
     match hint_of_script_line(typed) {
         Some(hint) if hint.expected != Expected::Word(Word::Verb) => place_text(
             alloc, typed, &hint,
@@ -31,36 +41,71 @@ fn hint_text<A: Allocator + Copy>(alloc: A, typed: &[u8]) -> Result<Vec<u8, A>, 
     }
 }
 
-fn first_word(typed: &[u8]) -> &[u8] {
-    match Words::of(typed).word() {
-        Some((word, _others)) => word,
-        None => typed,
-    }
+/// The first word.
+fn verb_among(typed: &[u8]) -> &[u8]
+    ensures { result.now ≡ verb_of typed.now }
+{
+    let (verb, _others) = split_at(typed, b' ');
+    verb
 }
 
 /// The form of a command of the prompt that is no line of a script.
-fn form_of(verb: &[u8]) -> Option<&'static str> {
-    match verb {
-        b"flight" => Some("flight"),
-        b"book" => Some("book SEGMENT PAGE"),
-        b"segments" => Some("segments"),
-        b"run" => Some(
-            "run, or run N with N from 0 to 4294967295, with no zero before other digits",
-        ),
-        b"undo" => Some("undo"),
-        b"help" | b"?" => Some("help"),
-        b"save" => Some("save FILE, where FILE is one word"),
-        b"open" => Some("open FILE, where FILE is one word"),
-        b"note" => Some("note TEXT"),
-        b"notes" => Some("notes FILE, where FILE is one word"),
-        b"quit" | b"exit" => Some("quit"),
-        _ => None,
+fn form_of(verb: &[u8]) -> Option<&'static str>
+    ensures { option_map (λ form. form.now) result ≡ told.form_of verb.now }
+{
+    if verb == b"flight".as_slice() {
+        return Some("flight");
     }
+    if verb == b"book".as_slice() {
+        return Some("book SEGMENT PAGE");
+    }
+    if verb == b"segments".as_slice() {
+        return Some("segments");
+    }
+    if verb == b"run".as_slice() {
+        return Some("run, or run N with N from 0 to 4294967295, with no zero before other digits");
+    }
+    if verb == b"undo".as_slice() {
+        return Some("undo");
+    }
+    if verb == b"help".as_slice() {
+        return Some("help");
+    }
+    if verb == b"?".as_slice() {
+        return Some("help");
+    }
+    later_form_of(verb)
 }
 
-fn form_text<A: Allocator + Copy>(alloc: A, form: &str) -> Result<Vec<u8, A>, AllocError> {
-    let text = format!(in alloc; "expected: {form}\n")?;
-    Ok(text.into_bytes())
+fn later_form_of(verb: &[u8]) -> Option<&'static str>
+    ensures { option_map (λ form. form.now) result ≡ told.later_form_of verb.now }
+{
+    if verb == b"save".as_slice() {
+        return Some("save FILE, where FILE is one word");
+    }
+    if verb == b"open".as_slice() {
+        return Some("open FILE, where FILE is one word");
+    }
+    if verb == b"note".as_slice() {
+        return Some("note TEXT");
+    }
+    if verb == b"notes".as_slice() {
+        return Some("notes FILE, where FILE is one word");
+    }
+    if verb == b"quit".as_slice() {
+        return Some("quit");
+    }
+    if verb == b"exit".as_slice() {
+        return Some("quit");
+    }
+    None
+}
+
+fn tell_form<A: Allocator + Copy>(out: &mut Vec<u8, A>, form: &str) -> Result<(), AllocError>
+    ensures { OnOk result (out.new.items ≡ out.old.items ++ told.form_text form.now) }
+{
+    let text = format!(in *out.allocator(); "expected: {form}\n")?;
+    out.extend_from_slice(text.as_bytes())
 }
 
 /// The line, and below it what could stand where it goes wrong.

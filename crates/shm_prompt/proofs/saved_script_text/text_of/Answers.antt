@@ -13,8 +13,8 @@ returns-clause-replays g c = λ s opening same early.
     (omega (arith, c.events-test.false)) c.events.invariant opening same early
 
 pub returns-in-Err-clause-refused : goal.returns-in-Err-clause-refused
-returns-in-Err-clause-refused g c = λ s opening same. refused-first s c.args.first c.in-Err.refusal opening c.in-Err.ensures.refused
+returns-in-Err-clause-refused g c = λ s opening same early. refused-first s c.args.first c.in-Err.refusal early opening c.in-Err.ensures.refused
 
 pub returns-in-Err-push_line-clause-refused : goal.returns-in-Err-push_line-clause-refused
-returns-in-Err-push_line-clause-refused g c = λ s opening same.
-    refused-event s c.args.events.now c.events.event-index c.event-item.result c.in-Err-push_line.refusal same c.events-test.true c.event-item.is c.in-Err-push_line.ensures.refused
+returns-in-Err-push_line-clause-refused g c = λ s opening same early.
+    refused-event s c.args.events.now c.events.event-index c.event-item.result c.in-Err-push_line.refusal early same c.events-test.true c.event-item.is c.in-Err-push_line.ensures.refused
