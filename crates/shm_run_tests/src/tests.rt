@@ -1,6 +1,7 @@
 mod captions;
 mod drawing_failures;
 mod error_numbers;
+mod failing_dialogs;
 mod failing_streams;
 mod held_site;
 mod line_assembler;

@@ -40,15 +40,18 @@ fn the_errors_of_the_system(rt: HostRuntime) {
 /// What a site, a world, a box and a session refuse.
 #[test]
 fn what_is_refused_to_an_event(rt: HostRuntime) {
-    assert_eq!(rt; Denied::NoAttachment.number(), 9);
-    assert_eq!(rt; Denied::ReadOnly.number(), 10);
-    assert_eq!(rt; Denied::OutOfSegment.number(), 11);
-    assert_eq!(rt; UsedUp.number(), 13);
-    assert_eq!(rt; NoSuchSite.number(), 14);
-    assert_eq!(rt; StepFault::Foreign.number(), 16);
-    assert_eq!(rt; BoxFault::Foreign.number(), 16);
-    assert_eq!(rt; BoxFault::ClockEnd.number(), 27);
-    assert_eq!(rt; BackFault::PastBeginning.number(), 28);
+    let told = [
+        Denied::NoAttachment.number(),
+        Denied::ReadOnly.number(),
+        Denied::OutOfSegment.number(),
+        UsedUp.number(),
+        NoSuchSite.number(),
+        StepFault::Foreign.number(),
+        BoxFault::Foreign.number(),
+        BoxFault::ClockEnd.number(),
+        BackFault::PastBeginning.number(),
+    ];
+    assert_eq!(rt; told, [9, 10, 11, 13, 14, 16, 16, 27, 28]);
 }
 
 /// Want of memory has one number wherever it is told.
@@ -81,55 +84,58 @@ fn want_of_memory(rt: HostRuntime) {
 /// Why a script isn't replayed, and a workload isn't read.
 #[test]
 fn what_ends_a_reading(rt: HostRuntime) {
-    assert_eq!(rt; DebugFault::BadLine(2).number(), 18);
-    assert_eq!(rt; DebugFault::LineTooLong(2).number(), 19);
-    assert_eq!(rt; DebugFault::TooManyLines.number(), 20);
-    assert_eq!(rt; DebugFault::ReadFault.number(), 21);
-    assert_eq!(rt; DebugFault::WriteFault.number(), 22);
-    assert_eq!(rt; WorkloadFault::BadLine(2).number(), 18);
-    assert_eq!(rt; WorkloadFault::LineTooLong(2).number(), 19);
-    assert_eq!(rt; WorkloadFault::TooManyLines.number(), 20);
+    let told = [
+        DebugFault::BadLine(2).number(),
+        DebugFault::LineTooLong(2).number(),
+        DebugFault::TooManyLines.number(),
+        DebugFault::ReadFault.number(),
+        DebugFault::WriteFault.number(),
+        WorkloadFault::BadLine(2).number(),
+        WorkloadFault::LineTooLong(2).number(),
+        WorkloadFault::TooManyLines.number(),
+    ];
+    assert_eq!(rt; told, [18, 19, 20, 21, 22, 18, 19, 20]);
 }
 
 /// Why a workload isn't reported.
 #[test]
 fn what_ends_a_report(rt: HostRuntime) {
-    assert_eq!(rt; ReportFault::BadLine(2).number(), 18);
-    assert_eq!(rt; ReportFault::LineTooLong(2).number(), 19);
-    assert_eq!(rt; ReportFault::TooManyLines.number(), 20);
-    assert_eq!(rt; ReportFault::ReadFault.number(), 21);
-    assert_eq!(rt; ReportFault::WriteFault.number(), 22);
-    assert_eq!(rt; ReportFault::Audit(UNTOLD).number(), 30);
+    let told = [
+        ReportFault::BadLine(2).number(),
+        ReportFault::LineTooLong(2).number(),
+        ReportFault::TooManyLines.number(),
+        ReportFault::ReadFault.number(),
+        ReportFault::WriteFault.number(),
+        ReportFault::Audit(UNTOLD).number(),
+    ];
+    assert_eq!(rt; told, [18, 19, 20, 21, 22, 30]);
 }
+
+const UNSENT: AuditFault = AuditFault::Unsent {
+    site: SITE,
+    index: 4,
+};
+
+const STAMP_ORDER: AuditFault = AuditFault::StampOrder {
+    site: SITE,
+    index: 4,
+};
+
+const FORGED: AuditFault = AuditFault::Forged {
+    site: SITE,
+    index: 4,
+};
 
 /// What an audit finds.
 #[test]
 fn what_an_audit_finds(rt: HostRuntime) {
-    assert_eq!(rt;
-        AuditFault::Unsent {
-            site: SITE,
-            index: 4
-        }
-        .number(),
-        23
-    );
-    assert_eq!(rt;
-        AuditFault::StampOrder {
-            site: SITE,
-            index: 4
-        }
-        .number(),
-        24
-    );
-    assert_eq!(rt;
-        AuditFault::Forged {
-            site: SITE,
-            index: 4
-        }
-        .number(),
-        25
-    );
-    assert_eq!(rt; UNTOLD.number(), 30);
+    let told = [
+        UNSENT.number(),
+        STAMP_ORDER.number(),
+        FORGED.number(),
+        UNTOLD.number(),
+    ];
+    assert_eq!(rt; told, [23, 24, 25, 30]);
 }
 
 /// Why a run doesn't end well before its audit.

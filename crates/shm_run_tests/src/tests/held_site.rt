@@ -3,6 +3,7 @@ use shm_model::Answer;
 use shm_place::{SiteId, Sites};
 use shm_sites::{Client, ClientFault, Cluster, Gate, Receipt, SiteLog, audit_complete, logs_match};
 use std::alloc::{AllocError, Global};
+use std::process::Abort;
 use std::sync::atomic::{AtomicBool, Ordering};
 use std::sync::{Arc, Wait};
 use std::test::Fail;
@@ -81,35 +82,82 @@ struct Told {
     after: [Receipt; 2],
 }
 
+/// A cluster whose site 0 is held until the flag is set.
+fn held_cluster<R: Threads + Wait + Copy + Send + 'static>(
+    rt: &R,
+    alloc: Global,
+    sites: Sites,
+    flags: &Arc<Flags>,
+) -> Result<Cluster, Fail> {
+    let gate = HoldsFirst {
+        flags: Arc::try_clone(flags)?,
+    };
+    Ok(Cluster::start(rt, alloc, sites, PAGES, 1, gate)?)
+}
+
+/// What its clients are told: while the thread stands at the gate, and then. Also whether it came there.
+fn told_by<R: Threads + Wait + Sync>(
+    rt: &R,
+    cluster: &Cluster,
+    flags: &Flags,
+) -> Result<(bool, Told), Fail> {
+    cluster.tick_all(rt)?;
+    let entered = is_set_in_time(&flags.entered);
+    let (late, beside) = run(rt, cluster, flags)?;
+    let after = after(rt, cluster)?;
+    let told = Told {
+        late,
+        beside,
+        after,
+    };
+    Ok((entered, told))
+}
+
+/// The receipts, whether the thread came to the gate, and the logs.
+type Held = (Result<(bool, Told), Fail>, Result<Vec<SiteLog>, AllocError>);
+
+/// What a cluster's clients are told, and its logs when it has stopped.
+fn run_held<R: Threads + Wait + Copy + Send + Sync + 'static>(
+    rt: &R,
+    alloc: Global,
+    sites: Sites,
+    flags: &Arc<Flags>,
+) -> Result<Held, Fail> {
+    let cluster = held_cluster(rt, alloc, sites, flags)?;
+    let told = told_by(rt, &cluster, flags);
+    Ok((told, cluster.stop(rt)))
+}
+
+/// The answers are as they are to be, and the audit accepts the logs and these receipts.
+fn expect_accepted(
+    rt: &impl Abort,
+    alloc: Global,
+    sites: Sites,
+    told: &Told,
+    logs: &[SiteLog],
+) -> Result<(), AllocError> {
+    let answers = answers(alloc, told)?;
+    assert!(rt; told.late.index() > 0);
+    assert_eq!(rt; answers.as_slice(), ANSWERS.as_slice());
+    let callers = callers(alloc, told)?;
+    assert!(rt; logs_match(sites, PAGES, logs));
+    assert!(rt; is_accepted(alloc, sites, logs, callers.as_slice()));
+    Ok(())
+}
+
 /// While site 0's thread stands at the gate, a load there waits for it, and the other two sites serve each other. Then all take part. The
 /// audit accepts the logs, and these receipts as all that there are.
 #[test]
 fn the_audit_accepts_a_run_with_a_held_thread(rt: HostRuntime) -> Result<(), Fail> {
     let sites = Sites::new(3)?;
     let flags = Arc::new(rt.alloc(), Flags::new())?;
-    let gate = HoldsFirst {
-        flags: Arc::try_clone(&flags)?,
-    };
-    let cluster = Cluster::start(&rt, rt.alloc(), sites, PAGES, 1, gate)?;
-    cluster.tick_all(&rt)?;
-    let entered = is_set_in_time(&flags.entered);
-    let (late, beside) = run(&rt, &cluster, &flags)?;
-    let after = after(&rt, &cluster)?;
-    let logs = cluster.stop(&rt)?;
+    let (told, logs) = run_held(&rt, rt.alloc(), sites, &flags)?;
     let in_time = !is_set(&flags.late);
     drop(flags);
-    let told = Told {
-        late,
-        beside,
-        after,
-    };
+    let (entered, told) = told?;
+    let logs = logs?;
     assert!(rt; entered && in_time);
-    assert!(rt; told.late.index() > 0);
-    let answers = answers(rt.alloc(), &told)?;
-    assert_eq!(rt; answers.as_slice(), ANSWERS.as_slice());
-    let callers = callers(rt.alloc(), &told)?;
-    assert!(rt; logs_match(sites, PAGES, logs.as_slice()));
-    assert!(rt; is_accepted(rt.alloc(), sites, logs.as_slice(), callers.as_slice()));
+    expect_accepted(&rt, rt.alloc(), sites, &told, logs.as_slice())?;
     Ok(())
 }
 

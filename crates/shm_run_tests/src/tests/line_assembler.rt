@@ -70,31 +70,31 @@ const CASES: [(&str, &str, &str); 7] = [
     ),
 ];
 
+/// Whether a script is saved under a name of so many letters.
+fn is_saved_under(alloc: Global, letters: usize) -> Result<bool, Fail> {
+    let name = "a".repeat(alloc, letters)?;
+    let typed = format!(in alloc; "sites 1\nsave {name}\n")?;
+    let told = format!(in alloc; "1 ready\nsaved to {name}\n")?;
+    let saved = format!(in alloc; "{name}:sites 1\n")?;
+    comes_to(alloc, typed.as_str(), told.as_str(), saved.as_str())
+}
+
+/// Whether a line with a name of so many letters is too long.
+fn is_too_long(alloc: Global, letters: usize) -> Result<bool, Fail> {
+    let name = "a".repeat(alloc, letters)?;
+    let typed = format!(in alloc; "sites 1\nsave {name}\n")?;
+    let told = "1 ready\na line has at most 200 bytes\n";
+    comes_to(alloc, typed.as_str(), told, "")
+}
+
 /// A line is done once and whole: not one that is too long, nor what stands behind the last line feed or behind `quit`.
 #[test]
 fn lines_are_done_once_and_whole(rt: HostRuntime) -> Result<(), Fail> {
     for (typed, told, saved) in CASES {
         assert!(rt; comes_to(rt.alloc(), typed, told, saved)?, "{typed}");
     }
-    for (count, is_saved) in [(LONGEST, true), (LONGEST + 1, false)] {
-        let name = "a".repeat(rt.alloc(), count)?;
-        let typed = format!(in rt.alloc(); "sites 1\nsave {name}\n")?;
-        let (told, saved) = if is_saved {
-            (
-                format!(in rt.alloc(); "1 ready\nsaved to {name}\n")?,
-                format!(in rt.alloc(); "{name}:sites 1\n")?,
-            )
-        } else {
-            (
-                format!(in rt.alloc(); "1 ready\na line has at most 200 bytes\n")?,
-                String::new(rt.alloc()),
-            )
-        };
-        assert!(rt;
-            comes_to(rt.alloc(), typed.as_str(), told.as_str(), saved.as_str())?,
-            "{count}"
-        );
-    }
+    assert!(rt; is_saved_under(rt.alloc(), LONGEST)?);
+    assert!(rt; is_too_long(rt.alloc(), LONGEST + 1)?);
     Ok(())
 }
 

@@ -81,28 +81,44 @@ fn draw_script(
 }
 
 /// Between the head and the rows stand the style sheet and the legend, which the contract names.
-fn expect_small_run(rt: &impl Abort, text: &[u8]) {
-    assert!(rt; text.starts_with(HEAD.as_bytes()));
-    assert!(rt; text.ends_with(BODY.as_bytes()));
+fn expect_small_run(rt: &impl Abort, drawn: (Result<(), DebugFault>, Vec<u8>)) {
+    let (result, text) = drawn;
+    assert_eq!(rt; result, Ok(()));
+    assert!(rt; text.as_slice().starts_with(HEAD.as_bytes()));
+    assert!(rt; text.as_slice().ends_with(BODY.as_bytes()));
 }
 
 #[test]
 fn each_kind_of_arrow(rt: HostRuntime) {
-    let (result, text) = draw_script(rt.alloc(), SCRIPT, None);
-    assert_eq!(rt; result, Ok(()));
-    expect_small_run(&rt, text.as_slice());
+    expect_small_run(&rt, draw_script(rt.alloc(), SCRIPT, None));
 }
 
 /// The picture is of what stands: what was taken back, and what is only shown, has no row.
 #[test]
 fn what_was_taken_back_is_not_drawn(rt: HostRuntime) -> Result<(), Fail> {
-    let mut script = Vec::new(rt.alloc());
-    script.extend_from_slice(SCRIPT)?;
+    let mut script = Vec::from_slice(rt.alloc(), SCRIPT)?;
     script.extend_from_slice(b"tick 1\nshow 0 0\nback 1\n".as_slice())?;
-    let (result, text) = draw_script(rt.alloc(), script.as_slice(), None);
-    assert_eq!(rt; result, Ok(()));
-    expect_small_run(&rt, text.as_slice());
+    expect_small_run(&rt, draw_script(rt.alloc(), script.as_slice(), None));
     Ok(())
+}
+
+/// What only the picture of the page has.
+const ABSENT: [&str; 5] = ["<text class='m'", "M380", "M270", " fault", "page 0 of"];
+
+/// What the picture of another page has.
+const PRESENT: [&str; 5] = [
+    "page 1 of segment 0</text>",
+    "<text class='e' x='8' y='254' dy='4'>9 load 1 0 0</text>",
+    "<text class='e' x='258' y='254' dy='4' text-anchor='end'>page 0 0</text>",
+    "refused 15</text>",
+    "<use href='#Restart' x='380' y='232'/>",
+];
+
+/// All of this stands in the text, or none.
+fn expect_parts(rt: &impl Abort, text: &[u8], parts: &[&str], stands: bool) {
+    for part in parts {
+        assert!(rt; after(text, part.as_bytes()).is_some() == stands, "{part}");
+    }
 }
 
 /// On the picture of another page there is no ring, no arrow and no answer of this one's accesses and envelopes.
@@ -114,20 +130,18 @@ fn another_page_is_only_named(rt: HostRuntime) {
     };
     let (result, text) = draw_script(rt.alloc(), SCRIPT, Some(page));
     assert_eq!(rt; result, Ok(()));
-    let text = text.as_slice();
-    for absent in ["<text class='m'", "M380", "M270", " fault", "page 0 of"] {
-        assert!(rt; after(text, absent.as_bytes()).is_none(), "{absent}");
-    }
-    for present in [
-        "page 1 of segment 0</text>",
-        "<text class='e' x='8' y='254' dy='4'>9 load 1 0 0</text>",
-        "<text class='e' x='258' y='254' dy='4' text-anchor='end'>page 0 0</text>",
-        "refused 15</text>",
-        "<use href='#Restart' x='380' y='232'/>",
-    ] {
-        assert!(rt; after(text, present.as_bytes()).is_some(), "{present}");
-    }
+    expect_parts(&rt, text.as_slice(), &ABSENT, false);
+    expect_parts(&rt, text.as_slice(), &PRESENT, true);
 }
+
+/// What a picture of two pages has, in this order.
+const TWO_PAGES: [&str; 5] = [
+    "height='396'>",
+    "<g transform='translate(0 0)'>",
+    "page 2 of segment 0</text>",
+    "<g transform='translate(0 198)'>",
+    "page 1 of segment 0</text>",
+];
 
 /// Each page that is touched has its picture, in the order in which they are first touched.
 #[test]
@@ -136,21 +150,20 @@ fn pages_stand_one_below_the_other(rt: HostRuntime) -> Result<(), Fail> {
         b"sites 2 preset 3\nload 0 0 8192\nload 1 0 4096\nload 0 0 8192\nload 1 0 12288\n";
     let (result, text) = draw_script(rt.alloc(), script, None);
     assert_eq!(rt; result, Ok(()));
-    let mut rest = text.as_slice();
-    for part in [
-        "height='396'>",
-        "<g transform='translate(0 0)'>",
-        "page 2 of segment 0</text>",
-        "<g transform='translate(0 198)'>",
-        "page 1 of segment 0</text>",
-    ] {
-        let Some(behind) = after(rest, part.as_bytes()) else {
-            return Err(Fail::new(part));
-        };
-        rest = behind;
-    }
+    let Some(rest) = behind_all(text.as_slice(), &TWO_PAGES) else {
+        return Err(Fail::new("two pages"));
+    };
     assert!(rt; after(rest, b"<g ").is_none());
     Ok(())
+}
+
+/// What stands behind all these parts, where each is the first of its kind behind the one before.
+fn behind_all<'a>(text: &'a [u8], parts: &[&str]) -> Option<&'a [u8]> {
+    let mut rest = text;
+    for part in parts {
+        rest = after(rest, part.as_bytes())?;
+    }
+    Some(rest)
 }
 
 /// What stands behind the first such part of the text.
@@ -163,15 +176,17 @@ fn after<'a>(text: &'a [u8], part: &[u8]) -> Option<&'a [u8]> {
     None
 }
 
+/// Scripts, and the number of the first wrong line.
+const WRONG: [(&[u8], u64); 3] = [
+    (b"", 1),
+    (b"sites 1\nload 0 0 0", 2),
+    (b"sites 1\ntick 0\nnonsense\n", 3),
+];
+
 /// Of a script that has a fault nothing is written.
 #[test]
 fn nothing_is_written_of_a_wrong_script(rt: HostRuntime) {
-    let cases: [(&[u8], u64); 3] = [
-        (b"", 1),
-        (b"sites 1\nload 0 0 0", 2),
-        (b"sites 1\ntick 0\nnonsense\n", 3),
-    ];
-    for (script, number) in cases {
+    for (script, number) in WRONG {
         let (result, text) = draw_script(rt.alloc(), script, None);
         assert_eq!(rt; result, Err(DebugFault::BadLine(number)));
         assert!(rt; text.is_empty());

@@ -1,17 +1,16 @@
-//! Dialogs of the prompt: typed line by line, saved and replayed, and with streams and memory that fail.
-use super::failing_streams::{Giver, NEVER, Taker};
-use linked_list_allocator::LocalHeap;
+//! Dialogs of the prompt: typed line by line, at once or at a terminal, saved and replayed.
 use shm_debug::replay;
 use shm_prompt::{PromptFault, ReadRefusal, SaveFile, prompt};
 use std::alloc::{Allocator, Global};
 use std::cell::Cell;
 use std::io::{self, ErrorKind, Read, Write};
+use std::process::Abort;
 use std::test::Fail;
 
 /// The file that was saved last, if one was.
 #[derive(Drop)]
 pub(super) struct Shelf {
-    pub(super) saved: Option<Vec<u8>>,
+    saved: Option<Vec<u8>>,
     alloc: Global,
 }
 
@@ -66,7 +65,7 @@ fn shelved(name: &str) -> Result<&'static [u8], ReadRefusal> {
     Err(ReadRefusal::Unread)
 }
 
-fn empty_shelf(alloc: Global) -> Shelf {
+pub(super) fn empty_shelf(alloc: Global) -> Shelf {
     Shelf { saved: None, alloc }
 }
 
@@ -171,6 +170,28 @@ const TOLD: [&str; 13] = [
     "",
 ];
 
+/// What a dialog answers, and what is told in it.
+pub(super) type Dialog = (Result<(), PromptFault>, Vec<u8>);
+
+/// The dialog of one who types line by line.
+fn type_slowly(alloc: Global, seen: &Seen) -> Dialog {
+    let mut reader = Typing { given: 0, seen };
+    let mut writer = Screen {
+        text: Vec::new(alloc),
+        seen,
+    };
+    let mut files = empty_shelf(alloc);
+    let result = prompt(alloc, &mut reader, &mut writer, &mut files, false);
+    (result, writer.text)
+}
+
+/// The dialog ends well, and this is told in it.
+fn expect_dialog(rt: &impl Abort, dialog: Dialog, told: &str) {
+    let (result, text) = dialog;
+    assert_eq!(rt; result, Ok(()));
+    assert_eq!(rt; std::str::from_utf8(text.as_slice()), Ok(told));
+}
+
 /// Each answer is written and flushed before the next line is read, and no more than it.
 #[test]
 fn each_line_is_answered_before_the_next(rt: HostRuntime) -> Result<(), Fail> {
@@ -179,43 +200,57 @@ fn each_line_is_answered_before_the_next(rt: HostRuntime) -> Result<(), Fail> {
         reads: Cell::new(0),
         wrong: Cell::new(0),
     };
-    let mut reader = Typing {
-        given: 0,
-        seen: &seen,
-    };
-    let mut writer = Screen {
-        text: Vec::new(rt.alloc()),
-        seen: &seen,
-    };
-    let mut files = empty_shelf(rt.alloc());
-    let result = prompt(rt.alloc(), &mut reader, &mut writer, &mut files, false);
-    assert_eq!(rt; result, Ok(()));
-    assert_eq!(rt; writer.text.as_slice(), TOLD.concat(rt.alloc())?.as_bytes());
-    assert_eq!(rt; seen.wrong.get(), 0);
-    assert_eq!(rt; seen.reads.get(), 13);
+    let told = TOLD.concat(rt.alloc())?;
+    expect_dialog(&rt, type_slowly(rt.alloc(), &seen), told.as_str());
+    assert_eq!(rt; (seen.wrong.get(), seen.reads.get()), (0, 13));
     Ok(())
 }
 
 /// A byte that no terminal should be told is shown as a question mark.
 #[test]
 fn bytes_that_are_no_text_are_not_told(rt: HostRuntime) {
-    let (result, text, _files) = type_at_once(rt.alloc(), b"load 01 \x1b[2J\xff\n\x1b[2J\n");
-    assert_eq!(rt; result, Ok(()));
-    let told = b"load 01 ?[2J?\n      ^ a site's number: digits, with no zero before others\n\
+    let told = "load 01 ?[2J?\n      ^ a site's number: digits, with no zero before others\n\
 expected a command: `help` lists them\n";
-    assert_eq!(rt; text.as_slice(), told.as_slice());
+    expect_dialog(
+        &rt,
+        dialog_on(rt.alloc(), b"load 01 \x1b[2J\xff\n\x1b[2J\n"),
+        told,
+    );
 }
 
 /// What is answered to bytes that are typed at once, and what is saved.
-pub(super) fn type_at_once(
-    alloc: Global,
-    bytes: &[u8],
-) -> (Result<(), PromptFault>, Vec<u8>, Shelf) {
+fn type_at_once(alloc: Global, bytes: &[u8]) -> (Dialog, Option<Vec<u8>>) {
     let mut reader = bytes;
     let mut text = Vec::new(alloc);
     let mut files = empty_shelf(alloc);
     let result = prompt(alloc, &mut reader, &mut text, &mut files, false);
-    (result, text, files)
+    ((result, text), files.saved)
+}
+
+/// What is answered to bytes that are typed at once.
+fn dialog_on(alloc: Global, bytes: &[u8]) -> Dialog {
+    let (dialog, _saved) = type_at_once(alloc, bytes);
+    dialog
+}
+
+/// What is told to bytes that are typed at once. The dialog ends well.
+pub(super) fn told_on(rt: &impl Abort, alloc: Global, bytes: &[u8]) -> Vec<u8> {
+    let (result, text) = dialog_on(alloc, bytes);
+    assert_eq!(rt; result, Ok(()));
+    text
+}
+
+/// What is saved last by bytes that are typed at once. The dialog ends well, and with this text.
+pub(super) fn saved_by(
+    rt: &impl Abort,
+    alloc: Global,
+    bytes: &[u8],
+    end: &[u8],
+) -> Result<Vec<u8>, Fail> {
+    let ((result, text), saved) = type_at_once(alloc, bytes);
+    assert_eq!(rt; result, Ok(()));
+    assert!(rt; text.as_slice().ends_with(end));
+    Ok(saved.ok_or("a file")?)
 }
 
 /// What is typed, and what is told.
@@ -310,9 +345,7 @@ site 1 waits for page 0 0 to read, request 1\n",
 #[test]
 fn commands_are_told(rt: HostRuntime) {
     for (typed, told) in DIALOGS {
-        let (result, text, _files) = type_at_once(rt.alloc(), typed.as_bytes());
-        assert_eq!(rt; result, Ok(()));
-        assert_eq!(rt; std::str::from_utf8(text.as_slice()), Ok(told));
+        expect_dialog(&rt, dialog_on(rt.alloc(), typed.as_bytes()), told);
     }
 }
 
@@ -395,18 +428,23 @@ notes are not saved: `notes FILE` first, or Ctrl-D again\n> saved to a\nnot save
     ),
 ];
 
+/// The dialog with a person who types these lines, and how many were read.
+fn type_at_terminal(alloc: Global, lines: &[&'static str]) -> (Dialog, usize) {
+    let mut reader = Terminal { lines, given: 0 };
+    let mut text = Vec::new(alloc);
+    let mut files = empty_shelf(alloc);
+    let result = prompt(alloc, &mut reader, &mut text, &mut files, true);
+    ((result, text), reader.given)
+}
+
 /// A person is greeted, sees a mark before each line, and is asked before what isn't saved is lost.
 #[test]
 fn a_person_is_greeted_and_asked(rt: HostRuntime) -> Result<(), Fail> {
     for (lines, told) in AT_TERMINAL {
-        let mut reader = Terminal { lines, given: 0 };
-        let mut text = Vec::new(rt.alloc());
-        let mut files = empty_shelf(rt.alloc());
-        let result = prompt(rt.alloc(), &mut reader, &mut text, &mut files, true);
-        assert_eq!(rt; result, Ok(()));
-        assert_eq!(rt; reader.given, lines.len());
         let whole = format!(in rt.alloc(); "{GREETING}{told}")?;
-        assert_eq!(rt; std::str::from_utf8(text.as_slice()), Ok(whole.as_str()));
+        let (dialog, given) = type_at_terminal(rt.alloc(), lines);
+        expect_dialog(&rt, dialog, whole.as_str());
+        assert_eq!(rt; given, lines.len());
     }
     Ok(())
 }
@@ -424,77 +462,24 @@ deliver 5
 load 1 0 0
 ";
 
+/// What is typed until `KEPT` is saved. A save to a full disk, and one to two words, come to nothing.
+const SAVING: &[u8] =
+    b"sites 3\nsites 2 preset 1\nstore 0 0 0 7\ntick 0\nundo\nload 1 0 0\nshow 0 0\nget 1 0 0 5 1 600 c\nsave full\nrun\nsave a b\nload 1 0 0\nsave a\n";
+
+/// The script replays, and this is told last.
+fn expect_replay(rt: &impl Abort, alloc: Global, script: &[u8], end: &[u8]) {
+    let mut script = script;
+    let mut text = Vec::new(alloc);
+    let is_done = replay(alloc, &mut script, &mut text).is_ok();
+    assert!(rt; is_done);
+    assert!(rt; text.as_slice().ends_with(end));
+}
+
 /// What is saved replays to the answers that stand; what was taken back, shown and asked isn't in it.
 #[test]
 fn what_is_saved_replays(rt: HostRuntime) -> Result<(), Fail> {
-    let (result, _text, files) = type_at_once(
-        rt.alloc(),
-        b"sites 3\nsites 2 preset 1\nstore 0 0 0 7\ntick 0\nundo\nload 1 0 0\nshow 0 0\nget 1 0 0 5 1 600 c\nsave full\nrun\nsave a b\nload 1 0 0\nsave a\n",
-    );
-    assert_eq!(rt; result, Ok(()));
-    let saved = files.saved.ok_or("a file")?;
+    let saved = saved_by(&rt, rt.alloc(), SAVING, b"saved to a\n")?;
     assert_eq!(rt; std::str::from_utf8(saved.as_slice()), Ok(KEPT));
-    let mut script = saved.as_slice();
-    let mut text = Vec::new(rt.alloc());
-    let done = replay(rt.alloc(), &mut script, &mut text);
-    assert!(rt; done.is_ok());
-    assert!(rt; text.as_slice().ends_with(b"11 byte 7\n".as_slice()));
-    Ok(())
-}
-
-/// A writer that stops ends the dialog, and so does a reader that fails. The writer's call after each line is its flush.
-#[test]
-fn one_call_of_a_dialog_fails(rt: HostRuntime) -> Result<(), Fail> {
-    for calls in 0..8usize {
-        let mut writer = Taker {
-            text: Vec::new(rt.alloc()),
-            calls,
-            kind: None,
-        };
-        let mut reader = b"sites 2\n".as_slice();
-        let mut files = empty_shelf(rt.alloc());
-        let result = prompt(rt.alloc(), &mut reader, &mut writer, &mut files, false);
-        assert_eq!(rt; result, Err(PromptFault::WriteFault));
-        assert_eq!(rt;
-            writer.text.as_slice(),
-            &b"1 ready\n"[..calls.saturating_sub(1)]
-        );
-    }
-    for calls in 0..9usize {
-        let mut reader = Giver {
-            rest: b"sites 2\n".as_slice(),
-            calls,
-            kind: ErrorKind::Other,
-        };
-        let mut text = Vec::new(rt.alloc());
-        let mut files = empty_shelf(rt.alloc());
-        let result = prompt(rt.alloc(), &mut reader, &mut text, &mut files, false);
-        assert_eq!(rt; result, Err(PromptFault::ReadFault));
-    }
-    Ok(())
-}
-
-/// Whatever allocation is refused, the dialog ends with that, or is the same as with ample memory.
-#[test]
-fn a_dialog_runs_out_of_memory(rt: HostRuntime) -> Result<(), Fail> {
-    let bytes =
-        b"sites 2 preset 1\nload 1 0 0\nflight\nbook 0 0\nrun\nsites\nsegments\nload 9 0 0\nloud\nload 01\nrun 01\nundo\nnote a\nnotes n\nopen early\nnote b\nhelp\n".as_slice();
-    let (whole, text, _files) = type_at_once(rt.alloc(), bytes);
-    assert_eq!(rt; whole, Ok(()));
-    let mut done = false;
-    for step in 1..6000usize {
-        let heap = LocalHeap::new(rt.alloc(), step * 64)?;
-        let mut reader = bytes;
-        let mut told = Vec::new(rt.alloc());
-        let mut files = empty_shelf(rt.alloc());
-        let result = prompt(&heap, &mut reader, &mut told, &mut files, false);
-        if result.is_ok() {
-            assert!(rt; told.as_slice() == text.as_slice());
-            done = true;
-            break;
-        }
-        assert_eq!(rt; result, Err(PromptFault::OutOfMemory));
-    }
-    assert!(rt; done);
+    expect_replay(&rt, rt.alloc(), saved.as_slice(), b"11 byte 7\n");
     Ok(())
 }

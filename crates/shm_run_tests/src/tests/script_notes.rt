@@ -1,7 +1,8 @@
 //! Notes of the prompt: which lines have one, and how pictures read what is saved.
-use super::prompt_dialogs::type_at_once;
+use super::prompt_dialogs::{saved_by, told_on};
 use shm_draw::parse_captions;
 use std::alloc::Global;
+use std::process::Abort;
 use std::test::Fail;
 
 /// What is typed before the notes are saved, and what is saved.
@@ -23,20 +24,23 @@ const SAVED: [(&str, &str); 6] = [
     ("sites 1\ntick 0\nnote a\nopen early\n", ""),
 ];
 
+/// These notes are saved once this is typed; pictures have these captions.
+fn expect_notes(rt: &impl Abort, alloc: Global, typed: &str, notes: &str) -> Result<(), Fail> {
+    let whole = format!(in alloc; "{typed}notes n\n")?;
+    let saved = saved_by(rt, alloc, whole.as_bytes(), b"saved to n\n")?;
+    assert_eq!(rt; std::str::from_utf8(saved.as_slice()), Ok(notes));
+    assert_eq!(rt;
+        reads_as(alloc, saved.as_slice()),
+        Some(notes.lines().count())
+    );
+    Ok(())
+}
+
 /// Notes of lines that stand no more are gone, and one for each other line is saved; pictures have these captions.
 #[test]
 fn notes_are_saved(rt: HostRuntime) -> Result<(), Fail> {
     for (typed, notes) in SAVED {
-        let whole = format!(in rt.alloc(); "{typed}notes n\n")?;
-        let (result, text, files) = type_at_once(rt.alloc(), whole.as_bytes());
-        assert_eq!(rt; result, Ok(()));
-        assert!(rt; text.as_slice().ends_with(b"saved to n\n"));
-        let saved = files.saved.ok_or("a file")?;
-        assert_eq!(rt; std::str::from_utf8(saved.as_slice()), Ok(notes));
-        assert_eq!(rt;
-            reads_as(rt.alloc(), saved.as_slice()),
-            Some(notes.lines().count())
-        );
+        expect_notes(&rt, rt.alloc(), typed, notes)?;
     }
     Ok(())
 }
@@ -65,19 +69,28 @@ const TEXTS: [&[u8]; 12] = [
     b"\xef\xbf\xbf",
 ];
 
+/// Whether the prompt takes the text as a note.
+fn is_noted(rt: &impl Abort, alloc: Global, text: &[u8]) -> Result<bool, Fail> {
+    let mut typed = Vec::from_slice(alloc, b"sites 1\nnote ".as_slice())?;
+    typed.extend_from_slice(text)?;
+    typed.push(b'\n')?;
+    let told = told_on(rt, alloc, typed.as_slice());
+    Ok(told.as_slice().ends_with(b"1 noted\n"))
+}
+
+/// Whether pictures take it as a caption.
+fn is_caption(alloc: Global, text: &[u8]) -> Result<bool, Fail> {
+    let mut note = Vec::from_slice(alloc, b"1 ".as_slice())?;
+    note.extend_from_slice(text)?;
+    Ok(reads_as(alloc, note.as_slice()) == Some(1))
+}
+
 /// The prompt takes a text as a note where pictures take it as a caption.
 #[test]
 fn pictures_take_what_is_noted(rt: HostRuntime) -> Result<(), Fail> {
     for text in TEXTS {
-        let mut typed = b"sites 1\nnote ".to_vec(rt.alloc())?;
-        typed.extend_from_slice(text)?;
-        typed.push(b'\n')?;
-        let (result, told, _files) = type_at_once(rt.alloc(), typed.as_slice());
-        assert_eq!(rt; result, Ok(()));
-        let mut note = b"1 ".to_vec(rt.alloc())?;
-        note.extend_from_slice(text)?;
-        let is_taken = reads_as(rt.alloc(), note.as_slice()) == Some(1);
-        assert_eq!(rt; told.as_slice().ends_with(b"1 noted\n"), is_taken);
+        let is_taken = is_caption(rt.alloc(), text)?;
+        assert_eq!(rt; is_noted(&rt, rt.alloc(), text)?, is_taken);
     }
     Ok(())
 }

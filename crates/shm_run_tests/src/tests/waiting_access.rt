@@ -3,6 +3,7 @@ use shm_stepped::{
     Answer, Asked, Cost, SiteId, Sites, Unanswered, World, access_until_done, settle,
 };
 use std::alloc::Allocator;
+use std::process::Abort;
 use std::test::Fail;
 
 /// A store of byte 7 to the first place of the first page, which two sites share.
@@ -35,12 +36,11 @@ fn cost<A: Allocator + Copy>(
     Ok(done.cost)
 }
 
-#[test]
-fn a_read_fault_costs_three_deliveries(rt: HostRuntime) -> Result<(), Fail> {
-    let mut world = world(rt.alloc())?;
-    let stored = cost(&mut world, 0, STORE, Answer::Stored)?;
+/// What a store at site 0 costs, and a load at site 1 after it.
+fn expect_costs<A: Allocator + Copy>(rt: &impl Abort, world: &mut World<A>) -> Result<(), Fail> {
+    let stored = cost(world, 0, STORE, Answer::Stored)?;
     assert_eq!(rt; (stored.accesses, stored.events), (1, 1));
-    let read = cost(&mut world, 1, LOAD, Answer::Byte(7))?;
+    let read = cost(world, 1, LOAD, Answer::Byte(7))?;
     assert_eq!(rt;
         (read.accesses, read.asks, read.hands, read.pages),
         (2, 1, 1, 1)
@@ -54,19 +54,36 @@ fn a_read_fault_costs_three_deliveries(rt: HostRuntime) -> Result<(), Fail> {
 }
 
 #[test]
-fn a_budget_ends(rt: HostRuntime) -> Result<(), Fail> {
+fn a_read_fault_costs_three_deliveries(rt: HostRuntime) -> Result<(), Fail> {
     let mut world = world(rt.alloc())?;
-    match access_until_done(&mut world, SiteId(1), STORE, 3) {
-        Err(Unanswered::BudgetSpent(cost)) => {
-            assert_eq!(rt;
-                (cost.accesses, cost.asks, cost.hands, cost.events),
-                (1, 1, 1, 3)
-            );
-        }
-        _ => return Err("the budget was spent".into()),
+    expect_costs(&rt, &mut world)
+}
+
+/// What a store at site 1 has cost when its three deliveries are spent, if they are.
+fn spent<A: Allocator + Copy>(world: &mut World<A>) -> Option<Cost> {
+    match access_until_done(world, SiteId(1), STORE, 3) {
+        Err(Unanswered::BudgetSpent(cost)) => Some(cost),
+        _ => None,
     }
-    settle(&mut world, 20)?;
-    let stored = cost(&mut world, 1, STORE, Answer::Stored)?;
+}
+
+/// What such a store costs, and one after all has come to rest.
+fn expect_spent<A: Allocator + Copy>(rt: &impl Abort, world: &mut World<A>) -> Result<(), Fail> {
+    let Some(cut) = spent(world) else {
+        return Err("the budget was spent".into());
+    };
+    assert_eq!(rt;
+        (cut.accesses, cut.asks, cut.hands, cut.events),
+        (1, 1, 1, 3)
+    );
+    settle(world, 20)?;
+    let stored = cost(world, 1, STORE, Answer::Stored)?;
     assert_eq!(rt; (stored.accesses, stored.events), (1, 1));
     Ok(())
+}
+
+#[test]
+fn a_budget_ends(rt: HostRuntime) -> Result<(), Fail> {
+    let mut world = world(rt.alloc())?;
+    expect_spent(&rt, &mut world)
 }

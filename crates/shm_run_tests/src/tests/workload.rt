@@ -33,28 +33,31 @@ fn what_callers_do(rt: HostRuntime) -> Result<(), Fail> {
     Ok(())
 }
 
+/// Workloads of three sites, and the number of the first wrong line.
+const BAD: [(&[u8], u64); 16] = [
+    (b"", 1),
+    (b"\n", 1),
+    (b"preset 1", 1),
+    (b"preset 0\n", 1),
+    (b"preset 257\n", 1),
+    (b"preset 01\n", 1),
+    (b"sites 1 preset 1\n", 1),
+    (b"load 0 0\n", 1),
+    (b"preset 1\n\n", 2),
+    (b"preset 1\npreset 1\n", 2),
+    (b"preset 1\nload 3 0\n", 2),
+    (b"preset 1\nload 0 4096\n", 2),
+    (b"preset 1\nload 0 0 0\n", 2),
+    (b"preset 1\nload 0 0\nstore 0 0 256\n", 3),
+    (b"preset 1\nload 0 0\nstore 0 0\n", 3),
+    (b"preset 1\nload 0 0\nload 0 0", 3),
+];
+
 #[test]
 fn bad_lines(rt: HostRuntime) -> Result<(), Fail> {
-    let bad: [(&[u8], u64); 16] = [
-        (b"", 1),
-        (b"\n", 1),
-        (b"preset 1", 1),
-        (b"preset 0\n", 1),
-        (b"preset 257\n", 1),
-        (b"preset 01\n", 1),
-        (b"sites 1 preset 1\n", 1),
-        (b"load 0 0\n", 1),
-        (b"preset 1\n\n", 2),
-        (b"preset 1\npreset 1\n", 2),
-        (b"preset 1\nload 3 0\n", 2),
-        (b"preset 1\nload 0 4096\n", 2),
-        (b"preset 1\nload 0 0 0\n", 2),
-        (b"preset 1\nload 0 0\nstore 0 0 256\n", 3),
-        (b"preset 1\nload 0 0\nstore 0 0\n", 3),
-        (b"preset 1\nload 0 0\nload 0 0", 3),
-    ];
-    for (text, line) in bad {
-        let fault = parse_workload(rt.alloc(), sites()?, text).err();
+    let sites = sites()?;
+    for (text, line) in BAD {
+        let fault = parse_workload(rt.alloc(), sites, text).err();
         assert_eq!(rt; fault, Some(WorkloadFault::BadLine(line)), "{text:?}");
     }
     Ok(())

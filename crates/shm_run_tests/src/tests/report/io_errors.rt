@@ -4,6 +4,7 @@ use shm_place::Sites;
 use shm_report::{ReportFault, report};
 use std::alloc::Global;
 use std::io::ErrorKind;
+use std::process::Abort;
 use std::sync::Wait;
 use std::test::Fail;
 use std::thread::Threads;
@@ -12,6 +13,9 @@ const WORKLOAD: &[u8] = b"preset 1\nstore 1 0 7\nload 1 0\n";
 
 const REPORT: &[u8] = b"1 ready\n2 stored\n3 byte 7\naudit yes\n";
 
+/// What a workload answers, and what it writes.
+type Reported = (Result<(), ReportFault>, Vec<u8>);
+
 /// What the workload answers over two sites, and what it writes, where the read after so many fails, and the write after so many.
 fn reported_between<R: Threads + Wait + Copy + Send + Sync + 'static>(
     rt: &R,
@@ -19,7 +23,8 @@ fn reported_between<R: Threads + Wait + Copy + Send + Sync + 'static>(
     reads: usize,
     writes: usize,
     kind: Option<ErrorKind>,
-) -> Result<(Result<(), ReportFault>, Vec<u8>), Fail> {
+) -> Result<Reported, Fail> {
+    let sites = Sites::new(2)?;
     let mut reader = Giver {
         rest: WORKLOAD,
         calls: reads,
@@ -30,8 +35,14 @@ fn reported_between<R: Threads + Wait + Copy + Send + Sync + 'static>(
         calls: writes,
         kind,
     };
-    let answer = report(rt, alloc, Sites::new(2)?, 1, &mut reader, &mut writer);
+    let answer = report(rt, alloc, sites, 1, &mut reader, &mut writer);
     Ok((answer, writer.text))
+}
+
+/// The workload has this fault, where the call of this number fails, and this was written.
+fn expect(rt: &impl Abort, reported: Reported, fault: ReportFault, call: usize, text: &[u8]) {
+    assert_eq!(rt; reported.0, Err(fault), "at call {call}");
+    assert_eq!(rt; reported.1.as_slice(), text);
 }
 
 /// Each write fails in turn, and then the flush: that is the fault, and nothing is written after it.
@@ -39,9 +50,9 @@ fn reported_between<R: Threads + Wait + Copy + Send + Sync + 'static>(
 fn one_write_fails(rt: HostRuntime) -> Result<(), Fail> {
     for kind in [Some(ErrorKind::Other), Some(ErrorKind::Interrupted), None] {
         for writes in 0..=REPORT.len() {
-            let (answer, text) = reported_between(&rt, rt.alloc(), NEVER, writes, kind)?;
-            assert_eq!(rt; answer, Err(ReportFault::WriteFault), "at write {writes}");
-            assert_eq!(rt; text.as_slice(), &REPORT[..writes]);
+            let reported = reported_between(&rt, rt.alloc(), NEVER, writes, kind)?;
+            let text = &REPORT[..writes];
+            expect(&rt, reported, ReportFault::WriteFault, writes, text);
         }
     }
     Ok(())
@@ -52,9 +63,8 @@ fn one_write_fails(rt: HostRuntime) -> Result<(), Fail> {
 fn one_read_fails(rt: HostRuntime) -> Result<(), Fail> {
     for kind in [ErrorKind::Other, ErrorKind::Interrupted] {
         for reads in 0..=WORKLOAD.len() {
-            let (answer, text) = reported_between(&rt, rt.alloc(), reads, NEVER, Some(kind))?;
-            assert_eq!(rt; answer, Err(ReportFault::ReadFault), "at read {reads}");
-            assert!(rt; text.is_empty());
+            let reported = reported_between(&rt, rt.alloc(), reads, NEVER, Some(kind))?;
+            expect(&rt, reported, ReportFault::ReadFault, reads, b"");
         }
     }
     Ok(())

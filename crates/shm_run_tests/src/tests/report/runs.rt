@@ -146,6 +146,22 @@ fn is_right(alloc: Global, sites: u8, lines: &[Line], out: &[u8]) -> Result<bool
     )
 }
 
+/// What a workload of these lines writes, if the audit says yes.
+fn written<R: Threads + Wait + Copy + Send + Sync + 'static>(
+    rt: &R,
+    alloc: Global,
+    sites: u8,
+    lines: &[Line],
+    seed: u32,
+) -> Result<Vec<u8>, Fail> {
+    let text = workload(alloc, lines)?;
+    let (answer, out) = report_run(rt, alloc, u32::from(sites), seed, text.as_bytes())?;
+    match answer {
+        Ok(()) => Ok(out),
+        Err(_) => Err("the audit says yes".into()),
+    }
+}
+
 /// Runs so many lines over so many sites, and looks at each line of what is written.
 fn run<R: Threads + Wait + Copy + Send + Sync + 'static>(
     rt: &R,
@@ -158,15 +174,11 @@ fn run<R: Threads + Wait + Copy + Send + Sync + 'static>(
     if lines.len() != count {
         return Err("so many lines".into());
     }
-    let text = workload(alloc, lines.as_slice())?;
-    let (answer, out) = report_run(rt, alloc, u32::from(sites), seed, text.as_bytes())?;
-    if answer != Ok(()) {
-        return Err("the audit says yes".into());
+    let out = written(rt, alloc, sites, lines.as_slice(), seed)?;
+    match is_right(alloc, sites, lines.as_slice(), out.as_slice())? {
+        true => Ok(()),
+        false => Err("each line is as it may be".into()),
     }
-    if !is_right(alloc, sites, lines.as_slice(), out.as_slice())? {
-        return Err("each line is as it may be".into());
-    }
-    Ok(())
 }
 
 #[test]
