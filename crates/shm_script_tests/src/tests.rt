@@ -20,39 +20,24 @@ use script_fixtures::Script;
 use shm_debug::{DebugFault, Session, Summary, replay};
 use shm_model::Opening;
 use shm_place::{SiteId, Sites};
-use shm_world::{Answer, Event, World};
-use std::alloc::{AllocError, Allocator, Global};
+use shm_world::{Event, World};
+use std::alloc::{Allocator, Global};
 use std::process::Abort;
 use std::test::Fail;
 
 /// What a script answers, and the text that it writes.
-fn replay_script(alloc: Global, script: &[u8]) -> (Ending, Vec<u8>) {
+fn replay_script(alloc: Global, script: &[u8]) -> (Result<Summary, DebugFault>, Vec<u8>) {
     let mut reader = script;
     let mut text = Vec::new(alloc);
     let result = replay(alloc, &mut reader, &mut text);
     (result, text)
 }
 
-/// What a replay answers.
-type Ending = Result<Summary, DebugFault>;
-
-/// What a script answers, if this is the text that it writes.
-fn ending_of(alloc: Global, script: &[u8], text: &[u8]) -> Option<Ending> {
-    let (result, told) = replay_script(alloc, script);
-    ending_with(result, told, text)
-}
-
-/// What was answered, if this was told.
-fn ending_with(ending: Ending, told: Vec<u8>, text: &[u8]) -> Option<Ending> {
-    let is_told = told.as_slice() == text;
-    drop(told);
-    if is_told { Some(ending) } else { None }
-}
-
 /// Replays a script, and expects its text and its end.
 fn plays(rt: &impl Abort, alloc: Global, script: &Script) {
-    let ending = ending_of(alloc, script.input, script.text);
-    assert_eq!(rt; ending, Some(Ok(summary_of(script))), "{}", script.name);
+    let (result, text) = replay_script(alloc, script.input);
+    assert_eq!(rt; text.as_slice(), script.text, "{}", script.name);
+    assert_eq!(rt; result, Ok(summary_of(script)), "{}", script.name);
 }
 
 /// What the replay of a script answers.
@@ -62,16 +47,6 @@ fn summary_of(script: &Script) -> Summary {
         events: script.events,
         sent: script.sent,
     }
-}
-
-/// Stops the test where this doesn't hold.
-fn expect(rt: &impl Abort, holds: bool) {
-    assert!(rt; holds);
-}
-
-/// Stops the test where an event was answered otherwise.
-fn expect_answer(rt: &impl Abort, answer: Result<Answer, AllocError>, expected: Answer) {
-    assert_eq!(rt; answer, Ok(expected));
 }
 
 fn is_line_feed(byte: &u8) -> bool {

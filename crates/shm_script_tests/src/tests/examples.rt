@@ -12,7 +12,7 @@ mod segments;
 mod three_copies;
 mod two_sites;
 
-use super::ending_of;
+use super::replay_script;
 use std::alloc::Global;
 use std::process::Abort;
 
@@ -24,8 +24,9 @@ struct Example {
 }
 
 fn plays(rt: &impl Abort, alloc: Global, example: &Example) {
-    let ending = ending_of(alloc, example.script, example.text);
-    assert!(rt; matches!(ending, Some(Ok(_))), "{}", example.name);
+    let (result, text) = replay_script(alloc, example.script);
+    assert_eq!(rt; text.as_slice(), example.text, "{}", example.name);
+    assert!(rt; result.is_ok(), "{}", example.name);
 }
 
 #[test]

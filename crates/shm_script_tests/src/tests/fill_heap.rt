@@ -5,13 +5,14 @@ use std::alloc::{AllocError, Global};
 /// Blocks that fill a heap. Of those of 16 bytes each that is dropped widens the hole at its end.
 pub(super) type Blocks<'a> = Vec<Vec<u8, &'a LocalHeap>>;
 
-/// Fills what room there is with blocks of 16 bytes.
-pub(super) fn fill<'a>(heap: &'a LocalHeap, blocks: &mut Blocks<'a>) -> Result<(), AllocError> {
-    'blocks: for _ in 0..heap.free() / 16 {
+/// Blocks of 16 bytes that fill the heap.
+pub(super) fn fill_heap(alloc: Global, heap: &LocalHeap) -> Result<Blocks<'_>, AllocError> {
+    let mut blocks = Vec::new(alloc);
+    for _ in 0..heap.free() / 16 {
         let block = Vec::with_capacity(heap, 16)?;
         blocks.push(block)?;
     }
-    Ok(())
+    Ok(blocks)
 }
 
 /// Blocks that fill the heap but for one hole of so many bytes.
@@ -22,18 +23,11 @@ pub(super) fn fill_heap_but<'a>(
 ) -> Result<Blocks<'a>, AllocError> {
     let hole: Vec<u8, &LocalHeap> = Vec::with_capacity(heap, bytes)?;
     let mut blocks = Vec::new(alloc);
-    let filled = fill_with_each(heap, &mut blocks);
-    drop(hole);
-    filled?;
-    Ok(blocks)
-}
-
-/// As many blocks as there is room for, the largest first.
-fn fill_with_each<'a>(heap: &'a LocalHeap, blocks: &mut Blocks<'a>) -> Result<(), AllocError> {
     'sizes: for size in [1 << 14, 1 << 10, 1 << 7, 16] {
-        fill_with(heap, size, blocks)?;
+        fill_with(heap, size, &mut blocks)?;
     }
-    Ok(())
+    drop(hole);
+    Ok(blocks)
 }
 
 /// As many blocks of the size as there is room for.

@@ -28,9 +28,10 @@ struct Before {
 
 impl Before {
     fn new(alloc: Global, session: &Session<&LocalHeap>) -> Result<Before, AllocError> {
+        let shown = session.show(PAGE)?;
         Ok(Before {
             standing: session.len(),
-            shown: shown_on(alloc, session)?,
+            shown: shown.as_slice().to_vec(alloc)?,
         })
     }
 
@@ -41,17 +42,8 @@ impl Before {
         session: &Session<&LocalHeap>,
     ) -> Result<(), AllocError> {
         let shown = session.show(PAGE)?;
-        let same = shown.as_slice() == self.shown.as_slice();
-        drop(shown);
-        assert_eq!(rt; (same, session.len()), (true, self.standing));
+        assert_eq!(rt; shown.as_slice(), self.shown.as_slice());
+        assert_eq!(rt; session.len(), self.standing);
         Ok(())
     }
-}
-
-/// What the session shows of the page, copied.
-fn shown_on(alloc: Global, session: &Session<&LocalHeap>) -> Result<Vec<u8>, AllocError> {
-    let shown = session.show(PAGE)?;
-    let copied = shown.as_slice().to_vec(alloc);
-    drop(shown);
-    copied
 }

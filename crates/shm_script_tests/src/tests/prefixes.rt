@@ -1,4 +1,4 @@
-use super::{ending_of, expect, is_line_feed};
+use super::{is_line_feed, replay_script};
 use crate::tests::script_fixtures::{Script, going_back, losses, pages, segments};
 use shm_debug::DebugFault;
 use std::alloc::{AllocError, Global};
@@ -9,29 +9,15 @@ use std::test::Fail;
 fn every_prefix_plays(rt: &impl Abort, alloc: Global, script: &Script) -> Result<(), AllocError> {
     let mut front = Vec::new(alloc);
     let mut text = Vec::new(alloc);
-    let played = play_prefixes(rt, alloc, script, &mut front, &mut text);
-    let whole = front.as_slice() == script.input && text.as_slice() == script.text;
-    drop(text);
-    drop(front);
-    expect(rt, whole);
-    played
-}
-
-/// All prefixes that end with a line or amid one. At last they are the whole script, with its whole text.
-fn play_prefixes(
-    rt: &impl Abort,
-    alloc: Global,
-    script: &Script,
-    front: &mut Vec<u8>,
-    text: &mut Vec<u8>,
-) -> Result<(), AllocError> {
     let told = script.text.split_inclusive(is_line_feed);
     let lines = script.input.split_inclusive(is_line_feed);
-    'lines: for (number, (line, told)) in (1..script.lines.saturating_add(1)).zip(lines.zip(told)) {
-        ends_amid(rt, alloc, number, front, line, text)?;
+    for (number, (line, told)) in (1..script.lines.saturating_add(1)).zip(lines.zip(told)) {
+        ends_amid(rt, alloc, number, &mut front, line, &text)?;
         text.extend_from_slice(told)?;
-        plays_to(rt, alloc, front, text);
+        plays_to(rt, alloc, &front, &text);
     }
+    assert_eq!(rt; front.as_slice(), script.input);
+    assert_eq!(rt; text.as_slice(), script.text);
     Ok(())
 }
 
@@ -46,11 +32,9 @@ fn ends_amid(
 ) -> Result<(), AllocError> {
     for (at, byte) in line.iter().enumerate() {
         if at > 0 || number == 1 {
-            let ending = ending_of(alloc, front, told);
-            assert!(rt;
-                ending == Some(Err(DebugFault::BadLine(number))),
-                "at {front:?}"
-            );
+            let (result, text) = replay_script(alloc, front);
+            assert_eq!(rt; result, Err(DebugFault::BadLine(number)), "at {front:?}");
+            assert_eq!(rt; text.as_slice(), told, "at {front:?}");
         }
         front.push(*byte)?;
     }
@@ -58,8 +42,9 @@ fn ends_amid(
 }
 
 fn plays_to(rt: &impl Abort, alloc: Global, script: &[u8], wanted: &[u8]) {
-    let ending = ending_of(alloc, script, wanted);
-    assert!(rt; matches!(ending, Some(Ok(_))), "at {script:?}");
+    let (result, text) = replay_script(alloc, script);
+    assert_eq!(rt; text.as_slice(), wanted);
+    assert!(rt; result.is_ok());
 }
 
 /// What is told of a script that is cut off are its whole lines; a line that is cut off, or a first line that isn't there, is bad.

@@ -1,4 +1,4 @@
-use super::ending_of;
+use super::replay_script;
 use shm_debug::DebugFault;
 use std::alloc::Global;
 use std::process::Abort;
@@ -43,8 +43,9 @@ const SECOND: [&[u8]; 13] = [
 /// Each script ends with this fault, after this text.
 fn all_end(rt: &impl Abort, alloc: Global, scripts: &[&[u8]], fault: DebugFault, told: &[u8]) {
     for script in scripts {
-        let ending = ending_of(alloc, script, told);
-        assert_eq!(rt; ending, Some(Err(fault)), "at {script:?}");
+        let (result, text) = replay_script(alloc, script);
+        assert_eq!(rt; result, Err(fault), "at {script:?}");
+        assert_eq!(rt; text.as_slice(), told, "at {script:?}");
     }
 }
 

@@ -1,30 +1,8 @@
 //! What a replay may read at most, and what is told of its faults.
 
-use super::{Ending, ending_of};
+use super::replay_script;
 use shm_debug::{DebugFault, Summary};
-use std::alloc::{AllocError, Global};
 use std::test::Fail;
-
-/// What a script answers whose second line is so many letters and this end, if it tells that it is ready.
-fn ending_of_letters(
-    alloc: Global,
-    letters: usize,
-    end: &[u8],
-) -> Result<Option<Ending>, AllocError> {
-    let mut script = b"sites 2 preset 1\n".to_vec(alloc)?;
-    let written = push_letters(&mut script, letters, end);
-    let ending = ending_of(alloc, &script, b"1 ready\n");
-    drop(script);
-    written?;
-    Ok(ending)
-}
-
-fn push_letters(script: &mut Vec<u8>, letters: usize, end: &[u8]) -> Result<(), AllocError> {
-    'letters: for _ in 0..letters {
-        script.push(b'a')?;
-    }
-    script.extend_from_slice(end)
-}
 
 #[test]
 fn lines_of_many_bytes(rt: HostRuntime) -> Result<(), Fail> {
@@ -32,52 +10,43 @@ fn lines_of_many_bytes(rt: HostRuntime) -> Result<(), Fail> {
         (200, DebugFault::BadLine(2)),
         (201, DebugFault::LineTooLong(2)),
     ] {
-        let open = ending_of_letters(rt.alloc(), letters, b"")?;
-        assert_eq!(rt; open, Some(Err(fault)), "open, {letters}");
-        let ended = ending_of_letters(rt.alloc(), letters, b"\n")?;
-        assert_eq!(rt; ended, Some(Err(fault)), "ended, {letters}");
+        let mut script = b"sites 2 preset 1\n".to_vec(rt.alloc())?;
+        for _ in 0..letters {
+            script.push(b'a')?;
+        }
+        let (result, text) = replay_script(rt.alloc(), script.as_slice());
+        assert_eq!(rt; result, Err(fault), "open, {letters}");
+        assert_eq!(rt; text.as_slice(), b"1 ready\n".as_slice());
+        script.push(b'\n')?;
+        let (result, text) = replay_script(rt.alloc(), script.as_slice());
+        assert_eq!(rt; result, Err(fault), "ended, {letters}");
+        assert_eq!(rt; text.as_slice(), b"1 ready\n".as_slice());
     }
     Ok(())
-}
-
-/// A script of 100,000 lines and what comes behind them, and the text of these lines.
-fn many_loads(alloc: Global, end: &[u8]) -> Result<(Vec<u8>, String), AllocError> {
-    let mut script = b"sites 1 preset 1\n".to_vec(alloc)?;
-    let mut told = String::from_str(alloc, "1 ready\n")?;
-    push_loads(&mut script, &mut told)?;
-    script.extend_from_slice(end)?;
-    Ok((script, told))
-}
-
-fn push_loads(script: &mut Vec<u8>, told: &mut String) -> Result<(), AllocError> {
-    'loads: for number in 2..100_001 {
-        script.extend_from_slice(b"load 0 0 0\n".as_slice())?;
-        writeln!(told, "{number} byte 0")?;
-    }
-    Ok(())
-}
-
-/// What such a script answers, if its lines are told so.
-fn ending_of_loads(alloc: Global, end: &[u8]) -> Result<Option<Ending>, AllocError> {
-    let (script, told) = many_loads(alloc, end)?;
-    let ending = ending_of(alloc, &script, told.as_bytes());
-    drop(told);
-    drop(script);
-    Ok(ending)
 }
 
 #[test]
 fn as_many_lines_as_may_be(rt: HostRuntime) -> Result<(), Fail> {
-    let summary = Summary {
-        lines: 100_000,
-        events: 99_999,
-        sent: 0,
-    };
-    assert_eq!(rt; ending_of_loads(rt.alloc(), b"")?, Some(Ok(summary)));
+    let mut script = b"sites 1 preset 1\n".to_vec(rt.alloc())?;
+    let mut told = String::from_str(rt.alloc(), "1 ready\n")?;
+    for number in 2..100_001 {
+        script.extend_from_slice(b"load 0 0 0\n".as_slice())?;
+        writeln!(told, "{number} byte 0")?;
+    }
+    let (result, text) = replay_script(rt.alloc(), script.as_slice());
     assert_eq!(rt;
-        ending_of_loads(rt.alloc(), b"x")?,
-        Some(Err(DebugFault::TooManyLines))
+        result,
+        Ok(Summary {
+            lines: 100_000,
+            events: 99_999,
+            sent: 0
+        })
     );
+    assert!(rt; text.as_slice() == told.as_bytes());
+    script.push(b'x')?;
+    let (result, text) = replay_script(rt.alloc(), script.as_slice());
+    assert_eq!(rt; result, Err(DebugFault::TooManyLines));
+    assert!(rt; text.as_slice() == told.as_bytes());
     Ok(())
 }
 

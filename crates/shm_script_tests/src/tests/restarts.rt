@@ -119,18 +119,10 @@ fn expect_one_owner(rt: &impl Abort, world: &World, sites: u32) -> Result<(), Fa
 /// What is shown of the page has one owner.
 fn expect_one_owner_shown(rt: &impl Abort, session: &Session) -> Result<(), Fail> {
     let text = session.show(PAGE)?;
-    let owners = owners_in(&text);
-    let is_idle = text.ends_with(b" idle".as_slice());
-    drop(text);
-    assert_eq!(rt; (owners, is_idle), (1, true));
+    let owners = text.windows(4).filter(|word| *word == b":Own".as_slice());
+    assert_eq!(rt; owners.count(), 1);
+    assert!(rt; text.ends_with(b" idle".as_slice()));
     Ok(())
-}
-
-/// How many sites own the page by this text.
-fn owners_in(text: &[u8]) -> usize {
-    text.windows(4)
-        .filter(|word| *word == b":Own".as_slice())
-        .count()
 }
 
 /// After so many lines of a script a site restarts: all is delivered, and all sites agree.
@@ -143,29 +135,17 @@ fn heals(
     site: u32,
 ) -> Result<(), Fail> {
     let mut session = open_session(alloc, sites, true)?;
-    let healed = heal(rt, &mut session, sites, script, lines, site);
-    drop(session);
-    healed
-}
-
-fn heal(
-    rt: &impl Abort,
-    session: &mut Session,
-    sites: u32,
-    script: &Script,
-    lines: usize,
-    site: u32,
-) -> Result<(), Fail> {
-    let byte = run_first(rt, session, script, lines)?;
-    apply(rt, session, &Event::Restart { site: SiteId(site) })?;
-    settle(rt, session, sites)?;
-    'sites: for site in 0..sites {
-        expect_byte(rt, session, sites, site, byte)?;
+    let byte = run_first(rt, &mut session, script, lines)?;
+    apply(rt, &mut session, &Event::Restart { site: SiteId(site) })?;
+    settle(rt, &mut session, sites)?;
+    for site in 0..sites {
+        expect_byte(rt, &mut session, sites, site, byte)?;
     }
-    settle(rt, session, sites)?;
+    settle(rt, &mut session, sites)?;
     expect_one_owner(rt, session.world(), sites)?;
-    expect_one_owner_shown(rt, session)?;
+    expect_one_owner_shown(rt, &session)?;
     assert!(rt; session.len() <= EVENTS);
+    drop(session);
     Ok(())
 }
 

@@ -1,5 +1,5 @@
 use super::script_fixtures::{Script, frames, going_back, losses, pages, purges, segments};
-use super::{ending_of, plays};
+use super::{plays, replay_script};
 use shm_debug::Summary;
 use std::alloc::{AllocError, Global};
 use std::process::Abort;
@@ -76,16 +76,11 @@ fn events_are_taken_back(rt: HostRuntime) {
 fn many_stores(alloc: Global) -> Result<(String, String), AllocError> {
     let mut script = String::from_str(alloc, "sites 1 preset 1\n")?;
     let mut text = String::from_str(alloc, "1 ready\n")?;
-    push_stores(&mut script, &mut text)?;
-    Ok((script, text))
-}
-
-fn push_stores(script: &mut String, text: &mut String) -> Result<(), AllocError> {
-    'stores: for number in 1..1201u32 {
+    for number in 1..1201u32 {
         writeln!(script, "store 0 0 0 {}", number % 256)?;
         writeln!(text, "{} stored", number + 1)?;
     }
-    Ok(())
+    Ok((script, text))
 }
 
 #[test]
@@ -93,14 +88,15 @@ fn events_are_taken_back_over_checkpoints(rt: HostRuntime) -> Result<(), Fail> {
     let (mut script, mut text) = many_stores(rt.alloc())?;
     script.push_str("back 50\nload 0 0 0\nback 1051\nload 0 0 0\n")?;
     text.push_str("1202 back 1150\n1203 byte 126\n1204 back 100\n1205 byte 100\n")?;
-    let ending = ending_of(rt.alloc(), script.as_bytes(), text.as_bytes());
-    drop(text);
-    drop(script);
-    let summary = Summary {
-        lines: 1205,
-        events: 101,
-        sent: 0,
-    };
-    assert_eq!(rt; ending, Some(Ok(summary)));
+    let (result, told) = replay_script(rt.alloc(), script.as_bytes());
+    assert!(rt; told.as_slice() == text.as_bytes());
+    assert_eq!(rt;
+        result,
+        Ok(Summary {
+            lines: 1205,
+            events: 101,
+            sent: 0
+        })
+    );
     Ok(())
 }

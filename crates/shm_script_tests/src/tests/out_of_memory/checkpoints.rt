@@ -2,12 +2,12 @@
 
 use super::{Before, PAGE_BYTES};
 use crate::tests::fill_heap::fill_heap_but;
-use crate::tests::{expect, expect_answer, open_session};
+use crate::tests::open_session;
 use linked_list_allocator::LocalHeap;
 use shm_debug::{BackFault, Session};
 use shm_place::SiteId;
 use shm_world::{Answer, Event};
-use std::alloc::{AllocError, Global};
+use std::alloc::Global;
 use std::process::Abort;
 use std::test::Fail;
 
@@ -37,21 +37,16 @@ fn load() -> Event {
 /// 140 stores, each of its number from 1.
 fn store_all(rt: &impl Abort, session: &mut Session<&LocalHeap>) {
     for byte in 1..=140u8 {
-        expect_answer(rt, session.apply(store(byte)), Answer::Stored);
+        assert_eq!(rt; session.apply(store(byte)), Ok(Answer::Stored));
     }
 }
 
 /// Goes back, and expects so many events to stand, of which the last stored this byte.
 fn expect_back(rt: &impl Abort, session: &mut Session<&LocalHeap>, count: u32, left: u8) {
-    let back = session.back(count);
-    let loaded = session.apply(load());
-    let again = session.back(1);
-    let number = left as u64;
-    assert_eq!(rt;
-        (back, again, session.len()),
-        (Ok(number), Ok(number), number)
-    );
-    expect_answer(rt, loaded, Answer::Byte(left));
+    assert_eq!(rt; session.back(count), Ok(left as u64));
+    assert_eq!(rt; session.apply(load()), Ok(Answer::Byte(left)));
+    assert_eq!(rt; session.back(1), Ok(left as u64));
+    assert_eq!(rt; session.len(), left as u64);
 }
 
 /// Goes back on a heap with so small a hole; how much memory is used then. None: it was refused memory, and nothing changed.
@@ -63,29 +58,21 @@ fn used_after(
     hole: usize,
 ) -> Result<Option<usize>, Fail> {
     let before = Before::new(alloc, session)?;
-    let left = back_within(alloc, heap, session, hole)?;
-    if left == Ok(130) {
-        return Ok(Some(heap.used()));
-    }
-    expect(rt, left == Err(BackFault::OutOfMemory));
-    let same = before.expect_same(rt, session);
-    drop(before);
-    expect_back(rt, session, 10, 130);
-    same?;
-    Ok(None)
-}
-
-/// What going back by ten events answers where the heap is full but for a hole of so many bytes.
-fn back_within(
-    alloc: Global,
-    heap: &LocalHeap,
-    session: &mut Session<&LocalHeap>,
-    hole: usize,
-) -> Result<Result<u64, BackFault>, AllocError> {
     let blocks = fill_heap_but(alloc, heap, hole)?;
-    let left = session.back(10);
+    let answer = session.back(10);
     drop(blocks);
-    Ok(left)
+    match answer {
+        Ok(left) => {
+            assert_eq!(rt; left, 130);
+            Ok(Some(heap.used()))
+        }
+        Err(fault) => {
+            assert_eq!(rt; fault, BackFault::OutOfMemory);
+            before.expect_same(rt, session)?;
+            expect_back(rt, session, 10, 130);
+            Ok(None)
+        }
+    }
 }
 
 /// Goes back with so small a hole, and then on with room: the answers are the same, whichever copies were kept.
@@ -93,35 +80,28 @@ fn goes_back(rt: &impl Abort, alloc: Global, hole: usize) -> Result<Option<usize
     let heap = LocalHeap::new(alloc, HEAP)?;
     let mut session = open_session(&heap, 1, true)?;
     store_all(rt, &mut session);
-    let used = used_after(rt, alloc, &heap, &mut session, hole);
+    let used = used_after(rt, alloc, &heap, &mut session, hole)?;
     expect_back(rt, &mut session, 0, 130);
     expect_back(rt, &mut session, 10, 120);
     expect_back(rt, &mut session, 57, 63);
     drop(session);
-    used
-}
-
-/// How much memory is used after each hole in which going back is not refused.
-fn used_after_each(rt: &impl Abort, alloc: Global) -> Result<Vec<usize>, Fail> {
-    let mut used = Vec::new(alloc);
-    'holes: for hole in 0..HOLES {
-        if let Some(bytes) = goes_back(rt, alloc, hole * 16)? {
-            used.push(bytes)?;
-        }
-    }
     Ok(used)
 }
 
 #[test]
 fn copies_are_kept_as_far_as_there_is_memory(rt: HostRuntime) -> Result<(), Fail> {
-    let used = used_after_each(&rt, rt.alloc())?;
-    let played = used.len();
-    let least = used.iter().min().copied();
-    let most = used.iter().max().copied();
-    drop(used);
-    let least = least.ok_or("always refused")?;
-    let most = most.ok_or("always refused")?;
-    assert!(rt; played < HOLES - PAGE_BYTES / 16, "no world was refused");
+    let mut used = Vec::new(rt.alloc());
+    for hole in 0..HOLES {
+        if let Some(bytes) = goes_back(&rt, rt.alloc(), hole * 16)? {
+            used.push(bytes)?;
+        }
+    }
+    let least = *used.iter().min().ok_or("always refused")?;
+    let most = *used.iter().max().ok_or("always refused")?;
+    assert!(rt;
+        used.len() < HOLES - PAGE_BYTES / 16,
+        "no world was refused"
+    );
     assert!(rt;
         most > least && most - least > 2 * PAGE_BYTES,
         "no two copies were refused"

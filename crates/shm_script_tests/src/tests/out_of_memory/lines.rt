@@ -27,40 +27,16 @@ fn apply_at_last(
     event: &Event,
 ) -> Result<(usize, Answer), Fail> {
     let before = Before::new(alloc, session)?;
-    let applied = apply_after(rt, alloc, heap, session, event, &before);
-    drop(before);
-    applied
-}
-
-fn apply_after(
-    rt: &impl Abort,
-    alloc: Global,
-    heap: &LocalHeap,
-    session: &mut Session<&LocalHeap>,
-    event: &Event,
-    before: &Before,
-) -> Result<(usize, Answer), Fail> {
-    'tries: for tries in 0..TRIES {
-        if let Some(answer) = apply_within(alloc, heap, session, event, tries * 16)? {
+    for tries in 0..TRIES {
+        let blocks = fill_heap_but(alloc, heap, tries * 16)?;
+        let answer = session.apply(*event).ok();
+        drop(blocks);
+        if let Some(answer) = answer {
             return Ok((tries, answer));
         }
         before.expect_same(rt, session)?;
     }
     Err(Fail::new("no step was made"))
-}
-
-/// What the event is answered where the heap is full but for a hole of so many bytes. None: it is refused memory.
-fn apply_within(
-    alloc: Global,
-    heap: &LocalHeap,
-    session: &mut Session<&LocalHeap>,
-    event: &Event,
-    bytes: usize,
-) -> Result<Option<Answer>, AllocError> {
-    let blocks = fill_heap_but(alloc, heap, bytes)?;
-    let answer = session.apply(*event).ok();
-    drop(blocks);
-    Ok(answer)
 }
 
 /// How often going back is refused while the hole widens, and what it answers.
@@ -72,41 +48,17 @@ fn gone_back(
     count: u32,
 ) -> Result<(usize, Option<u64>), Fail> {
     let before = Before::new(alloc, session)?;
-    let gone = back_after(rt, alloc, heap, session, count, &before);
-    drop(before);
-    gone
-}
-
-fn back_after(
-    rt: &impl Abort,
-    alloc: Global,
-    heap: &LocalHeap,
-    session: &mut Session<&LocalHeap>,
-    count: u32,
-    before: &Before,
-) -> Result<(usize, Option<u64>), Fail> {
-    'tries: for tries in 0..TRIES {
-        match back_within(alloc, heap, session, count, tries * 16)? {
+    for tries in 0..TRIES {
+        let blocks = fill_heap_but(alloc, heap, tries * 16)?;
+        let answer = session.back(count);
+        drop(blocks);
+        match answer {
             Ok(left) => return Ok((tries, Some(left))),
             Err(BackFault::PastBeginning) => return Ok((tries, None)),
             Err(BackFault::OutOfMemory) => before.expect_same(rt, session)?,
         }
     }
     Err(Fail::new("the session didn't go back"))
-}
-
-/// What going back answers where the heap is full but for a hole of so many bytes.
-fn back_within(
-    alloc: Global,
-    heap: &LocalHeap,
-    session: &mut Session<&LocalHeap>,
-    count: u32,
-    bytes: usize,
-) -> Result<Result<u64, BackFault>, AllocError> {
-    let blocks = fill_heap_but(alloc, heap, bytes)?;
-    let answer = session.back(count);
-    drop(blocks);
-    Ok(answer)
 }
 
 /// How often a page is refused to be shown while the hole widens, and what is shown.
@@ -133,9 +85,9 @@ fn shown_within(
     bytes: usize,
 ) -> Result<Vec<u8>, AllocError> {
     let blocks = fill_heap_but(alloc, heap, bytes)?;
-    let text = session.show(*page);
+    let text = session.show(*page)?;
     drop(blocks);
-    text?.as_slice().to_vec(alloc)
+    text.as_slice().to_vec(alloc)
 }
 
 /// An event happens on a heap that is full at first. What is told of it joins the text. Answers how often it was refused.
@@ -217,28 +169,14 @@ fn refusals<'a>(
     script: &Script,
 ) -> Result<usize, Fail> {
     let mut text = b"1 ready\n".to_vec(alloc)?;
-    let most = play_lines(rt, alloc, heap, session, script, &mut text);
-    let is_told = text.as_slice() == script.text;
-    drop(text);
-    assert!(rt; is_told, "{}", script.name);
-    most
-}
-
-fn play_lines<'a>(
-    rt: &impl Abort,
-    alloc: Global,
-    heap: &'a LocalHeap,
-    session: &mut Session<&'a LocalHeap>,
-    script: &Script,
-    text: &mut Vec<u8>,
-) -> Result<usize, Fail> {
     let mut most = 0;
     let lines = script.input.split(is_line_feed).skip(1);
-    'lines: for (number, line) in (2..script.lines.saturating_add(1)).zip(lines) {
+    for (number, line) in (2..script.lines.saturating_add(1)).zip(lines) {
         let line = parse_line(line).ok().ok_or("a bad line")?;
-        let tries = play_line(rt, alloc, heap, session, (number, &line), text)?;
+        let tries = play_line(rt, alloc, heap, session, (number, &line), &mut text)?;
         most = most.max(tries);
     }
+    assert_eq!(rt; text.as_slice(), script.text, "{}", script.name);
     Ok(most)
 }
 
@@ -252,9 +190,9 @@ fn plays_in_little_memory(
 ) -> Result<usize, Fail> {
     let heap = LocalHeap::new(alloc, HEAP)?;
     let mut session = open_session(&heap, sites, preset)?;
-    let most = refusals(rt, alloc, &heap, &mut session, script);
+    let most = refusals(rt, alloc, &heap, &mut session, script)?;
     drop(session);
-    most
+    Ok(most)
 }
 
 #[test]

@@ -1,6 +1,6 @@
 use super::expect_bytes;
-use crate::tests::fill_heap::{Blocks, fill};
-use crate::tests::{expect, load, preset};
+use crate::tests::fill_heap::{Blocks, fill_heap};
+use crate::tests::{load, preset};
 use linked_list_allocator::LocalHeap;
 use shm_debug::tell_answer_line;
 use shm_model::Answer;
@@ -15,9 +15,9 @@ fn refusals<'a>(
     rt: &impl Abort,
     text: &mut Text<&'a LocalHeap>,
     world: &World<&'a LocalHeap>,
-    blocks: &mut Blocks<'a>,
+    mut blocks: Blocks<'a>,
 ) -> Option<usize> {
-    'tries: for tries in 0..100 {
+    for tries in 0..100 {
         if tell_answer_line(text, 2, &Answer::Fault, world, 0).is_ok() {
             return Some(tries);
         }
@@ -36,22 +36,28 @@ fn tries_of<'a>(
 ) -> Result<Option<usize>, AllocError> {
     world.step(load(1, 0, 0))?;
     let mut text = Text::new(heap, 8, 8)?;
-    expect(rt, text.tell(1, "ready").is_ok());
-    let mut blocks = Vec::new(alloc);
-    expect(rt, fill(heap, &mut blocks).is_ok());
-    let tries = refusals(rt, &mut text, world, &mut blocks);
+    let blocks = told_on_full_heap(alloc, heap, &mut text)?;
+    let tries = refusals(rt, &mut text, world, blocks);
     expect_bytes(rt, text.as_bytes(), "1 ready\n2 fault m0>0:Ask\n");
-    drop(blocks);
     drop(text);
     Ok(tries)
+}
+
+fn told_on_full_heap<'a>(
+    alloc: Global,
+    heap: &'a LocalHeap,
+    text: &mut Text<&'a LocalHeap>,
+) -> Result<Blocks<'a>, AllocError> {
+    text.tell(1, "ready")?;
+    fill_heap(alloc, heap)
 }
 
 #[test]
 fn a_refused_line_leaves_the_text(rt: HostRuntime) -> Result<(), Fail> {
     let heap = LocalHeap::new(rt.alloc(), 1 << 16)?;
     let mut world = preset(&heap, 2, 1)?;
-    let tries = tries_of(&rt, rt.alloc(), &heap, &mut world);
+    let tries = tries_of(&rt, rt.alloc(), &heap, &mut world)?;
     drop(world);
-    assert!(rt; tries? > Some(0));
+    assert!(rt; tries.ok_or("no line was told")? > 0);
     Ok(())
 }

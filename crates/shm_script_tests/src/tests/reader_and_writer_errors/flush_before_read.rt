@@ -3,7 +3,7 @@
 use super::failing_streams::Giver;
 use crate::tests::script_fixtures::Script;
 use crate::tests::script_fixtures::pages::{FIRST_READ_FAULT, QUEUED_READS_THEN_TWO_CLEARS};
-use crate::tests::{expect, first_lines, lines_within};
+use crate::tests::{first_lines, lines_within};
 use shm_debug::replay;
 use std::alloc::{AllocError, Global};
 use std::cell::Cell;
@@ -98,14 +98,6 @@ impl Write for Telling<'_> {
 /// A script is given in such pieces: at each read the text of the lines before is there. Answers how many reads there were.
 fn reads_of(rt: &impl Abort, alloc: Global, script: &[u8], text: &[u8], piece: Piece) -> usize {
     let seen = Seen::new();
-    expect(rt, plays_so(alloc, script, text, piece, &seen));
-    expect(rt, seen.wrong.get() == 0);
-    expect(rt, seen.flushed.get() == text.len());
-    seen.reads.get()
-}
-
-/// Whether the script plays, and this is its text.
-fn plays_so(alloc: Global, script: &[u8], text: &[u8], piece: Piece, seen: &Seen) -> bool {
     let mut reader = Watching {
         script,
         text,
@@ -116,15 +108,18 @@ fn plays_so(alloc: Global, script: &[u8], text: &[u8], piece: Piece, seen: &Seen
             kind: ErrorKind::Other,
         },
         piece,
-        seen,
+        seen: &seen,
     };
     let mut writer = Telling {
         text: Vec::new(alloc),
-        seen,
+        seen: &seen,
     };
     let result = replay(alloc, &mut reader, &mut writer);
-    let is_told = writer.text.as_slice() == text;
-    result.is_ok() && is_told
+    assert!(rt; result.is_ok());
+    assert!(rt; writer.text.as_slice() == text);
+    assert_eq!(rt; seen.wrong.get(), 0);
+    assert_eq!(rt; seen.flushed.get(), text.len());
+    seen.reads.get()
 }
 
 /// One line a read: each is answered before the next, and before the end.
@@ -152,16 +147,11 @@ fn each_piece_is_answered_at_once(rt: HostRuntime) {
 fn long_script(alloc: Global, lines: u64) -> Result<(Vec<u8>, String), AllocError> {
     let mut script = b"sites 1 preset 1\n".to_vec(alloc)?;
     let mut told = String::from_str(alloc, "1 ready\n")?;
-    push_loads(&mut script, &mut told, lines)?;
-    Ok((script, told))
-}
-
-fn push_loads(script: &mut Vec<u8>, told: &mut String, lines: u64) -> Result<(), AllocError> {
-    'lines: for number in 2..=lines {
+    for number in 2..=lines {
         script.extend_from_slice(b"load 0 0 4095\n".as_slice())?;
         writeln!(told, "{number} byte 0")?;
     }
-    Ok(())
+    Ok((script, told))
 }
 
 /// Also where a read gives as much as was asked for, which tells nothing of what is at hand.

@@ -2,8 +2,8 @@
 
 use super::failing_streams::{Failure, Giver, Taker};
 use crate::tests::script_fixtures::pages::FIRST_READ_FAULT;
-use crate::tests::{Ending, ending_with, first_lines, lines_within, summary_of};
-use shm_debug::{DebugFault, replay};
+use crate::tests::{first_lines, lines_within, summary_of};
+use shm_debug::{DebugFault, Summary, replay};
 use std::alloc::{AllocError, Global};
 use std::io::ErrorKind;
 use std::process::Abort;
@@ -19,21 +19,16 @@ struct Failing {
     flushes: Option<usize>,
 }
 
-/// What a replay answers, if the text was written that was to be, and how many bytes the reader has left.
-#[derive(Clone, Copy)]
+/// What a replay answers, what was written, and how many bytes the reader has left.
+#[derive(Drop)]
 struct Outcome {
-    ending: Option<Ending>,
+    result: Result<Summary, DebugFault>,
+    text: Vec<u8>,
     left: usize,
 }
 
-/// Replays a script of which each read gives so many bytes. This text is to be written.
-fn replay_script(
-    alloc: Global,
-    script: &[u8],
-    most: usize,
-    failing: Failing,
-    text: &[u8],
-) -> Outcome {
+/// Replays a script of which each read gives so many bytes.
+fn replay_script(alloc: Global, script: &[u8], most: usize, failing: Failing) -> Outcome {
     let mut reader = Giver {
         bytes: script,
         most,
@@ -48,31 +43,20 @@ fn replay_script(
         flushes: failing.flushes,
     };
     let result = replay(alloc, &mut reader, &mut writer);
-    let Taker { text: told, .. } = writer;
     Outcome {
-        ending: ending_with(result, told, text),
+        result,
+        text: writer.text,
         left: reader.bytes.len(),
     }
 }
 
-/// Stops the test where the replay didn't end by a write fault after so many lines were written and so many bytes read.
-fn expect_write_fault(
-    rt: &impl Abort,
-    alloc: Global,
-    failing: Failing,
-    lines: usize,
-    given: usize,
-) {
+/// The replay ended by a write fault after so many lines were written, and so many bytes read.
+fn expect_write_fault(rt: &impl Abort, outcome: &Outcome, lines: usize, given: usize) {
     let script = FIRST_READ_FAULT.input;
     let told = first_lines(FIRST_READ_FAULT.text, lines);
-    let outcome = replay_script(alloc, script, PIECE, failing, told);
-    assert_eq!(rt;
-        (outcome.ending, outcome.left),
-        (
-            Some(Err(DebugFault::WriteFault)),
-            script.len().saturating_sub(given)
-        )
-    );
+    assert_eq!(rt; outcome.result, Err(DebugFault::WriteFault));
+    assert_eq!(rt; outcome.text.as_slice(), told);
+    assert_eq!(rt; outcome.left, script.len().saturating_sub(given));
 }
 
 /// How many reads give a script in pieces.
@@ -89,8 +73,9 @@ fn one_flush_fails(rt: HostRuntime) {
             writes: None,
             flushes: Some(reads),
         };
+        let outcome = replay_script(rt.alloc(), script, PIECE, failing);
         let given = start.saturating_add(PIECE);
-        expect_write_fault(&rt, rt.alloc(), failing, lines_within(script, given), given);
+        expect_write_fault(&rt, &outcome, lines_within(script, given), given);
     }
 }
 
@@ -106,7 +91,8 @@ fn one_line_is_not_taken(rt: HostRuntime) {
                 writes: Some(lines),
                 flushes: None,
             };
-            expect_write_fault(&rt, rt.alloc(), failing, lines, given);
+            let outcome = replay_script(rt.alloc(), script, PIECE, failing);
+            expect_write_fault(&rt, &outcome, lines, given);
         }
     }
 }
@@ -124,8 +110,9 @@ fn the_last_flush_fails(rt: HostRuntime) {
                 writes: None,
                 flushes: Some(flushes),
             };
-            let outcome = replay_script(rt.alloc(), script, most, failing, FIRST_READ_FAULT.text);
-            assert_eq!(rt; outcome.ending, Some(result));
+            let outcome = replay_script(rt.alloc(), script, most, failing);
+            assert_eq!(rt; outcome.result, result);
+            assert_eq!(rt; outcome.text.as_slice(), FIRST_READ_FAULT.text);
         }
     }
 }
@@ -147,11 +134,12 @@ fn a_flush_fails_after_a_bad_line(rt: HostRuntime) -> Result<(), Fail> {
             writes: None,
             flushes: Some(flushes),
         };
-        let outcome = replay_script(rt.alloc(), &script, most, failing, FIRST_READ_FAULT.text);
+        let outcome = replay_script(rt.alloc(), &script, most, failing);
         assert_eq!(rt;
-            outcome.ending,
-            Some(Err(DebugFault::BadLine(FIRST_READ_FAULT.lines + 1)))
+            outcome.result,
+            Err(DebugFault::BadLine(FIRST_READ_FAULT.lines + 1))
         );
+        assert_eq!(rt; outcome.text.as_slice(), FIRST_READ_FAULT.text);
     }
     Ok(())
 }

@@ -2,20 +2,19 @@ ghost use Rattle.std.specs.Prelude.{◌<◌};
 
 use super::failing_streams::{Failure, Giver, Taker};
 use crate::tests::script_fixtures::pages::FIRST_READ_FAULT;
-use crate::tests::{Ending, ending_with, first_lines, lines_within, summary_of};
-use shm_debug::{DebugFault, replay};
+use crate::tests::{first_lines, lines_within, summary_of};
+use shm_debug::{DebugFault, Summary, replay};
 use std::alloc::Global;
 use std::io::ErrorKind;
 use std::process::Abort;
 
-/// What a script answers whose reader gives so many bytes a call, where one call fails so, if this is the text that it writes.
+/// What a script answers and writes whose reader gives so many bytes a call, where one call fails so.
 fn read_in_pieces(
     alloc: Global,
     most: usize,
     calls: Option<usize>,
     kind: ErrorKind,
-    text: &[u8],
-) -> Option<Ending> {
+) -> (Result<Summary, DebugFault>, Vec<u8>) {
     let mut reader = Giver {
         bytes: FIRST_READ_FAULT.input,
         most,
@@ -31,8 +30,7 @@ fn read_in_pieces(
         flushes: calls,
     };
     let result = replay(alloc, &mut reader, &mut writer);
-    let Taker { text: told, .. } = writer;
-    ending_with(result, told, text)
+    (result, writer.text)
 }
 
 /// Each read fails in turn: the script ends there, with the text of the lines before.
@@ -42,20 +40,21 @@ fn each_read_fails(rt: &impl Abort, alloc: Global, most: usize, kind: ErrorKind)
 {
     let script = FIRST_READ_FAULT.input;
     for (calls, given) in (0..script.len() + most).step_by(most).enumerate() {
-        let told = first_lines(FIRST_READ_FAULT.text, lines_within(script, given));
-        let ending = read_in_pieces(alloc, most, Some(calls), kind, told);
+        let (result, text) = read_in_pieces(alloc, most, Some(calls), kind);
         assert_eq!(rt;
-            ending,
-            Some(Err(DebugFault::ReadFault)),
+            result,
+            Err(DebugFault::ReadFault),
             "at read {calls} of {most} bytes"
         );
+        let told = first_lines(FIRST_READ_FAULT.text, lines_within(script, given));
+        assert_eq!(rt; text.as_slice(), told, "at read {calls} of {most} bytes");
     }
 }
 
 fn no_read_fails(rt: &impl Abort, alloc: Global, most: usize) {
-    let text = FIRST_READ_FAULT.text;
-    let ending = read_in_pieces(alloc, most, None, ErrorKind::Other, text);
-    assert_eq!(rt; ending, Some(Ok(summary_of(&FIRST_READ_FAULT))));
+    let (result, text) = read_in_pieces(alloc, most, None, ErrorKind::Other);
+    assert_eq!(rt; result, Ok(summary_of(&FIRST_READ_FAULT)));
+    assert_eq!(rt; text.as_slice(), FIRST_READ_FAULT.text);
 }
 
 #[test]

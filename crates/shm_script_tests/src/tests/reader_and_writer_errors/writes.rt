@@ -1,10 +1,9 @@
 ghost use Rattle.std.specs.Prelude.{◌<◌};
 
 use super::failing_streams::{Failure, Giver, Taker};
-use crate::tests::script_fixtures::Script;
 use crate::tests::script_fixtures::pages::FIRST_READ_FAULT;
-use crate::tests::{Ending, ending_with, summary_of};
-use shm_debug::{DebugFault, replay};
+use crate::tests::summary_of;
+use shm_debug::{DebugFault, Summary, replay};
 use std::alloc::{AllocError, Global};
 use std::io::{ErrorKind, Read};
 use std::process::Abort;
@@ -21,17 +20,9 @@ fn taker(alloc: Global, most: usize, calls: Option<usize>, failure: Failure) -> 
     }
 }
 
-fn written_to(alloc: Global, script: &[u8], writer: &mut Taker) -> Ending {
+fn written_to(alloc: Global, script: &[u8], writer: &mut Taker) -> Result<Summary, DebugFault> {
     let mut reader = script;
     replay(alloc, &mut reader, writer)
-}
-
-/// What a script answers, if the writer took this.
-fn ending_of(alloc: Global, script: &[u8], writer: Taker, text: &[u8]) -> Option<Ending> {
-    let mut writer = writer;
-    let result = written_to(alloc, script, &mut writer);
-    let Taker { text: told, .. } = writer;
-    ending_with(result, told, text)
 }
 
 /// Each write fails in turn: what was taken before is a front of the text, and the writer's fault goes before that of a line further on.
@@ -40,26 +31,16 @@ fn each_write_fails(rt: &impl Abort, alloc: Global, most: usize, failure: Failur
 {
     let text = FIRST_READ_FAULT.text;
     for (calls, taken) in (0..text.len()).step_by(most).enumerate() {
-        let writer = taker(alloc, most, Some(calls), failure);
-        let ending = match text.get(..taken) {
-            Some(front) => ending_before_nonsense(alloc, writer, front),
-            None => None,
-        };
+        let mut writer = taker(alloc, most, Some(calls), failure);
+        let mut reader = FIRST_READ_FAULT.input.chain(b"nonsense\n".as_slice());
+        let result = replay(alloc, &mut reader, &mut writer);
         assert_eq!(rt;
-            ending,
-            Some(Err(DebugFault::WriteFault)),
+            result,
+            Err(DebugFault::WriteFault),
             "at write {calls} of {most} bytes"
         );
+        assert_eq!(rt; Some(writer.text.as_slice()), text.get(..taken));
     }
-}
-
-/// What a replay answers of a script and a line behind it that is none, if the writer took this.
-fn ending_before_nonsense(alloc: Global, writer: Taker, text: &[u8]) -> Option<Ending> {
-    let mut writer = writer;
-    let mut reader = FIRST_READ_FAULT.input.chain(b"nonsense\n".as_slice());
-    let result = replay(alloc, &mut reader, &mut writer);
-    let Taker { text: told, .. } = writer;
-    ending_with(result, told, text)
 }
 
 #[test]
@@ -77,10 +58,10 @@ fn one_write_fails(rt: HostRuntime) {
 #[test]
 fn pieces_of_a_text(rt: HostRuntime) {
     for most in [1, 3] {
-        let writer = taker(rt.alloc(), most, None, Failure::TakesNothing);
-        let Script { input, text, .. } = FIRST_READ_FAULT;
-        let ending = ending_of(rt.alloc(), input, writer, text);
-        assert_eq!(rt; ending, Some(Ok(summary_of(&FIRST_READ_FAULT))));
+        let mut writer = taker(rt.alloc(), most, None, Failure::TakesNothing);
+        let result = written_to(rt.alloc(), FIRST_READ_FAULT.input, &mut writer);
+        assert_eq!(rt; result, Ok(summary_of(&FIRST_READ_FAULT)));
+        assert_eq!(rt; writer.text.as_slice(), FIRST_READ_FAULT.text);
     }
 }
 
@@ -95,44 +76,27 @@ fn a_write_fails_before_a_read(rt: HostRuntime) {
     };
     let mut writer = taker(rt.alloc(), 64, Some(0), Failure::TakesNothing);
     let result = replay(rt.alloc(), &mut reader, &mut writer);
-    let Taker { text: told, .. } = writer;
-    let ending = ending_with(result, told, b"");
-    assert_eq!(rt; ending, Some(Err(DebugFault::WriteFault)));
+    assert_eq!(rt; result, Err(DebugFault::WriteFault));
+    assert!(rt; writer.text.is_empty());
 }
 
 /// A script of many lines, and its text, which is more than is gathered before it is written.
 fn long_script(alloc: Global) -> Result<(Vec<u8>, String), AllocError> {
     let mut script = b"sites 16 preset 1\n".to_vec(alloc)?;
     let mut told = String::from_str(alloc, "1 ready\n")?;
-    'lines: for number in 2..500 {
-        push_shown(&mut script, &mut told, number)?;
+    for number in 2..500 {
+        script.extend_from_slice(b"show 0 0\n".as_slice())?;
+        write!(
+            told,
+            "{number} page 0:OwnWrite/0 1:Nil/0 2:Nil/0 3:Nil/0 4:Nil/0 5:Nil/0 6:Nil/0 7:Nil/0"
+        )?;
+        write!(
+            told,
+            " 8:Nil/0 9:Nil/0 10:Nil/0 11:Nil/0 12:Nil/0 13:Nil/0 14:Nil/0 15:Nil/0"
+        )?;
+        writeln!(told, " owner 0 copies - t 0 idle")?;
     }
     Ok((script, told))
-}
-
-/// The line that shows a page, and what it tells under its number.
-fn push_shown(script: &mut Vec<u8>, told: &mut String, number: u32) -> Result<(), AllocError> {
-    script.extend_from_slice(b"show 0 0\n".as_slice())?;
-    write!(
-        told,
-        "{number} page 0:OwnWrite/0 1:Nil/0 2:Nil/0 3:Nil/0 4:Nil/0 5:Nil/0 6:Nil/0 7:Nil/0"
-    )?;
-    write!(
-        told,
-        " 8:Nil/0 9:Nil/0 10:Nil/0 11:Nil/0 12:Nil/0 13:Nil/0 14:Nil/0 15:Nil/0"
-    )?;
-    writeln!(told, " owner 0 copies - t 0 idle")
-}
-
-/// Whether the replay ends with the write that fails, after a front of the text that is long enough.
-fn ends_with_write(alloc: Global, script: &[u8], text: &[u8], calls: usize) -> bool {
-    let mut writer = taker(alloc, 2000, Some(calls), Failure::TakesNothing);
-    let result = written_to(alloc, script, &mut writer);
-    let Taker { text: told, .. } = writer;
-    let is_long = told.len() > calls.saturating_mul(1000) || calls == 0;
-    let is_front = text.starts_with(told.as_slice());
-    drop(told);
-    result == Err(DebugFault::WriteFault) && is_front && is_long
 }
 
 /// Each write of a long text fails in turn, also while the script is being read. Where none fails it is written whole, byte by byte.
@@ -142,11 +106,14 @@ fn one_write_of_a_long_text_fails(rt: HostRuntime) -> Result<(), Fail> {
     let text = told.as_bytes();
     assert!(rt; text.len() > 1 << 16);
     for calls in 0..text.len() / 2000 {
-        let ends = ends_with_write(rt.alloc(), &script, text, calls);
-        assert!(rt; ends, "at write {calls}");
+        let mut writer = taker(rt.alloc(), 2000, Some(calls), Failure::TakesNothing);
+        let result = written_to(rt.alloc(), &script, &mut writer);
+        assert_eq!(rt; result, Err(DebugFault::WriteFault), "at write {calls}");
+        assert!(rt; text.starts_with(writer.text.as_slice()));
+        assert!(rt; writer.text.len() > calls * 1000 || calls == 0);
     }
-    let writer = taker(rt.alloc(), 1, None, Failure::TakesNothing);
-    let ending = ending_of(rt.alloc(), &script, writer, text);
-    assert!(rt; matches!(ending, Some(Ok(_))));
+    let mut writer = taker(rt.alloc(), 1, None, Failure::TakesNothing);
+    assert!(rt; written_to(rt.alloc(), &script, &mut writer).is_ok());
+    assert!(rt; writer.text.as_slice() == text);
     Ok(())
 }

@@ -1,6 +1,6 @@
-use super::{Picture, answers_to, events_of, picture_of};
+use super::{answers_to, events_of, picture_of};
+use crate::tests::preset;
 use crate::tests::script_fixtures::pages::READER_BECOMES_WRITER;
-use crate::tests::{expect, preset};
 use shm_world::Answer::{Byte, Stored, Waiting};
 use shm_world::{Event, World};
 use std::alloc::{AllocError, Global};
@@ -18,33 +18,17 @@ fn go_on_alone(
     events: &[Event],
 ) -> Result<(), AllocError> {
     let mut copy = world.copy()?;
-    let gone = go_on_beside(rt, alloc, world, &mut copy, events);
-    drop(copy);
-    gone
-}
-
-fn go_on_beside(
-    rt: &impl Abort,
-    alloc: Global,
-    world: &mut World,
-    copy: &mut World,
-    events: &[Event],
-) -> Result<(), AllocError> {
     let before = picture_of(world);
-    expect_pictures(rt, (before, picture_of(copy)), (before, before));
+    assert_eq!(rt; picture_of(&copy), before);
     let answers = answers_to(alloc, world, events)?;
+    assert_eq!(rt; answers.last(), Some(&Byte(9)));
     let after = picture_of(world);
-    expect(rt, after != before);
-    expect_pictures(rt, (after, picture_of(copy)), (after, before));
-    let same = answers_to(alloc, copy, events)?;
-    expect(rt, same == answers && answers.last() == Some(&Byte(9)));
-    expect_pictures(rt, (picture_of(world), picture_of(copy)), (after, after));
+    assert_ne!(rt; after, before);
+    assert_eq!(rt; picture_of(&copy), before);
+    assert_eq!(rt; answers_to(alloc, &mut copy, events)?, answers);
+    assert_eq!(rt; picture_of(&copy), after);
+    assert_eq!(rt; picture_of(world), after);
     Ok(())
-}
-
-/// Stops the test where a world and its copy show something else.
-fn expect_pictures(rt: &impl Abort, pictures: (Picture, Picture), expected: (Picture, Picture)) {
-    assert_eq!(rt; pictures, expected);
 }
 
 #[test]
@@ -53,21 +37,8 @@ fn a_world_and_its_copy_go_on_alone(rt: HostRuntime) -> Result<(), Fail> {
     let before = events.get(..BEFORE).ok_or("so many events")?;
     let further = events.get(BEFORE..).ok_or("so many events")?;
     let mut world = preset(rt.alloc(), 2, 1)?;
-    let told = run_before(&rt, rt.alloc(), &mut world, before);
-    let gone = go_on_alone(&rt, rt.alloc(), &mut world, further);
-    drop(world);
-    told?;
-    Ok(gone?)
-}
-
-/// Runs the events that come before the copy.
-fn run_before(
-    rt: &impl Abort,
-    alloc: Global,
-    world: &mut World,
-    events: &[Event],
-) -> Result<(), AllocError> {
-    let answers = answers_to(alloc, world, events)?;
-    expect(rt, answers.get(14..) == Some([Stored, Waiting].as_slice()));
+    let answers = answers_to(rt.alloc(), &mut world, before)?;
+    assert_eq!(rt; answers.get(14..), Some([Stored, Waiting].as_slice()));
+    go_on_alone(&rt, rt.alloc(), &mut world, further)?;
     Ok(())
 }

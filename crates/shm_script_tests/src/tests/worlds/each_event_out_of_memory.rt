@@ -4,7 +4,7 @@ ghost use Rattle.std.specs.Prelude.{◌≤◌};
 
 mod seen_world;
 
-use self::seen_world::{Seen, look};
+use self::seen_world::look;
 use crate::tests::fill_heap::fill_heap_but;
 use crate::tests::script_fixtures::{Script, losses, pages, purges, segments};
 use crate::tests::{is_line_feed, preset};
@@ -12,7 +12,7 @@ use linked_list_allocator::LocalHeap;
 use shm_debug::{Line, parse_line, print_answer};
 use shm_place::Sites;
 use shm_world::{Answer, Event, World};
-use std::alloc::{AllocError, Global};
+use std::alloc::Global;
 use std::process::Abort;
 use std::test::Fail;
 
@@ -32,59 +32,22 @@ fn refusals<'a>(
     event: &Event,
 ) -> Result<(usize, Answer), Fail> {
     let before = look(alloc, world)?;
-    let refused = refusals_after(rt, alloc, heap, world, event, &before);
-    drop(before);
-    refused
-}
-
-fn refusals_after<'a>(
-    rt: &impl Abort,
-    alloc: Global,
-    heap: &'a LocalHeap,
-    world: &mut World<&'a LocalHeap>,
-    event: &Event,
-    before: &Seen,
-) -> Result<(usize, Answer), Fail> {
     let mut hole = 0usize;
     'tries: for tries in 0..TRIES {
         let used = heap.used();
-        if let Some(answer) = step_within(alloc, heap, world, event, hole)? {
+        let blocks = fill_heap_but(alloc, heap, hole)?;
+        let made = world.step(*event);
+        drop(blocks);
+        if let Ok(answer) = made {
             return Ok((tries, answer));
         }
-        let same = looks_so(alloc, world, before)?;
-        assert!(rt; same, "{event:?}");
+        assert_eq!(rt; look(alloc, world)?, before, "{event:?}");
         hole = match heap.used() == used {
             true => hole.saturating_add(16),
             false => 0,
         };
     }
     Err(Fail::new("an event was never made"))
-}
-
-/// What the event is answered where the heap is full but for a hole of so many bytes. None: it is refused memory.
-fn step_within<'a>(
-    alloc: Global,
-    heap: &'a LocalHeap,
-    world: &mut World<&'a LocalHeap>,
-    event: &Event,
-    hole: usize,
-) -> Result<Option<Answer>, AllocError> {
-    let blocks = fill_heap_but(alloc, heap, hole)?;
-    let made = world.step(*event);
-    drop(blocks);
-    Ok(made.ok())
-}
-
-/// Whether this is all that can be seen of the world.
-fn looks_so<'a>(
-    alloc: Global,
-    world: &World<&'a LocalHeap>,
-    before: &Seen,
-) -> Result<bool, AllocError> {
-    let seen = look(alloc, world)?;
-    let same = seen == *before;
-    drop(seen);
-    Ok(same)
 }
 
 /// How often the event is refused in turn before it is told so. Before it the world becomes a copy, which has little room to spare.
@@ -97,19 +60,11 @@ fn refuse<'a>(
     told: &[u8],
 ) -> Result<usize, Fail> {
     let sent = world.sent();
-    become_copy(world)?;
+    *world = world.copy()?;
     let (tries, answer) = refusals(rt, alloc, heap, world, event)?;
     let line = print_answer(heap, number, &answer, world, sent)?;
-    let is_told = line.as_slice() == told;
-    drop(line);
-    assert!(rt; is_told, "{event:?}");
+    assert_eq!(rt; line.as_slice(), told, "{event:?}");
     Ok(tries)
-}
-
-fn become_copy<'a>(world: &mut World<&'a LocalHeap>) -> Result<(), AllocError> {
-    let copy = world.copy()?;
-    *world = copy;
-    Ok(())
 }
 
 /// Each event of the script is refused in turn and is then told so; some of them are refused.
@@ -146,9 +101,7 @@ fn refuse_all(
 {
     let heap = LocalHeap::new(alloc, HEAP)?;
     let mut world = preset(&heap, sites, pages)?;
-    let refused = refuse_each(rt, alloc, &heap, &mut world, script);
-    drop(world);
-    refused
+    refuse_each(rt, alloc, &heap, &mut world, script)
 }
 
 /// The same in a new world of so many sites, where no segment is made yet.
@@ -156,9 +109,7 @@ fn refuse_calls(rt: &impl Abort, alloc: Global, sites: u32, script: &Script) -> 
     let sites = Sites::new(sites).ok().ok_or("1 to 16 sites")?;
     let heap = LocalHeap::new(alloc, HEAP)?;
     let mut world = World::new(&heap, sites)?;
-    let refused = refuse_each(rt, alloc, &heap, &mut world, script);
-    drop(world);
-    refused
+    refuse_each(rt, alloc, &heap, &mut world, script)
 }
 
 #[test]

@@ -8,7 +8,7 @@ use std::alloc::{AllocError, Allocator, Global};
 /// The pages that are looked at, by their segments and indexes.
 const PAGES: [(u32, u32); 5] = [(0, 0), (0, 1), (1, 0), (2, 0), (3, 0)];
 
-#[derive(PartialEq, Eq, Drop)]
+#[derive(Debug, PartialEq, Eq, Drop)]
 pub(super) struct Seen {
     sent: u64,
     pages: Vec<SeenPage>,
@@ -16,14 +16,14 @@ pub(super) struct Seen {
 }
 
 /// A page's book, and what each site shows of the page.
-#[derive(PartialEq, Eq, Drop)]
+#[derive(Debug, PartialEq, Eq, Drop)]
 struct SeenPage {
     book: Option<SeenBook>,
     sites: Vec<(Option<Access>, Option<Shown>)>,
 }
 
 /// What a book shows. `copies` has a bit for each site.
-#[derive(Clone, Copy, PartialEq, Eq)]
+#[derive(Clone, Copy, Debug, PartialEq, Eq)]
 struct SeenBook {
     owner: SiteId,
     copies: u32,
@@ -31,7 +31,7 @@ struct SeenBook {
     running: Option<(Kind, SiteId)>,
 }
 
-#[derive(Clone, Copy, PartialEq, Eq)]
+#[derive(Clone, Copy, Debug, PartialEq, Eq)]
 struct SeenEnvelope {
     from: SiteId,
     to: SiteId,
@@ -39,7 +39,7 @@ struct SeenEnvelope {
 }
 
 /// A message. Of a page's bytes there is a sum.
-#[derive(Clone, Copy, PartialEq, Eq)]
+#[derive(Clone, Copy, Debug, PartialEq, Eq)]
 enum SeenMessage {
     Ask(PageId, u64, Kind),
     Clear(PageId, u64),
