@@ -1,16 +1,14 @@
 //! Runs over several sites that fail: their status and what is told of them.
-use super::{Ran, expect, expect_told, run_over, run_shown, status_of};
-use shm_command::workload_fault;
+use super::{expect, run_over};
+use shm_command::{Source, run_words, workload_fault};
 use shm_place::{SiteId, Sites};
 use shm_report::ReportFault;
 use shm_sites::AuditFault;
-use std::alloc::Global;
 use std::io::{self, Write};
-use std::process::Abort;
 use std::test::Fail;
 
 /// The words of a run over three sites.
-const WORDS: &[&str] = &["shmdbg", "run", "--sites", "3", "--seed", "2"];
+const WORDS: [&str; 6] = ["shmdbg", "run", "--sites", "3", "--seed", "2"];
 
 /// Takes nothing.
 #[derive(Drop)]
@@ -26,26 +24,24 @@ impl Write for Full {
     }
 }
 
-/// Workloads of three sites, and what is told of their faults.
-const BAD: [(&[u8], &[u8]); 3] = [
-    (b"preset 257\n", b"shmdbg: line 1: bad line\n"),
-    (
-        b"preset 1\nstore 0 0 1\nload 2 0\nload 3 0\n",
-        b"shmdbg: line 4: bad line\n",
-    ),
-    (
-        b"preset 1\nstore 0 0 1\nload 2 4096\nload 1 0\n",
-        b"shmdbg: line 3: bad line\n",
-    ),
-];
-
 /// A line that no workload of three sites has is told under its number, also behind lines of other sites; nothing is written.
 #[test]
 fn bad_lines_of_three_sites(rt: HostRuntime) {
-    for (workload, errors) in BAD {
+    let cases: [(&[u8], &[u8]); 3] = [
+        (b"preset 257\n", b"shmdbg: line 1: bad line\n"),
+        (
+            b"preset 1\nstore 0 0 1\nload 2 0\nload 3 0\n",
+            b"shmdbg: line 4: bad line\n",
+        ),
+        (
+            b"preset 1\nstore 0 0 1\nload 2 4096\nload 1 0\n",
+            b"shmdbg: line 3: bad line\n",
+        ),
+    ];
+    for (workload, errors) in cases {
         let mut reader = workload;
-        let ran = run_over(&rt, WORDS, &mut reader);
-        expect(&rt, ran, 1, b"", errors);
+        let ran = run_over(&rt, &WORDS, &mut reader);
+        expect(&rt, &ran, 1, b"", errors);
     }
 }
 
@@ -54,7 +50,7 @@ fn bad_lines_of_three_sites(rt: HostRuntime) {
 fn three_sites_and_no_room(rt: HostRuntime) {
     let mut reader = b"preset 2\nstore 0 4096 1\nload 1 4096\nload 2 0\n".as_slice();
     let mut errors = Vec::new(rt.alloc());
-    let status = status_of(&rt, WORDS, &mut reader, &mut Full, &mut errors);
+    let status = run_words(&rt, &WORDS, &mut reader, &mut Full, &mut errors);
     assert_eq!(rt; status, 3);
     assert_eq!(rt; errors.as_slice(), b"shmdbg: write fault\n".as_slice());
     assert_eq!(rt; reader, b"".as_slice());
@@ -77,7 +73,7 @@ fn three_sites_and_no_folder(rt: HostRuntime) {
     let ran = run_over(&rt, &words, &mut reader);
     expect(
         &rt,
-        ran,
+        &ran,
         3,
         b"",
         b"shmdbg: no folder/site-0.log: it can't be opened\n",
@@ -85,84 +81,72 @@ fn three_sites_and_no_folder(rt: HostRuntime) {
     assert_eq!(rt; reader, b"preset 1\n".as_slice());
 }
 
-/// Words, the input, and what is told first of its fault.
-const SHOWN: [(&[&str], &[u8], &[u8]); 2] = [
-    (
-        &["shmdbg", "replay"],
-        b"sites 1 preset 1\nload 0 0x 4\n",
-        b"shmdbg: line 2: bad line\nload 0 0x 4\n        ^ an attachment's number: ",
-    ),
-    (
-        WORDS,
-        b"preset 1\nload 0 4 4\n",
-        b"shmdbg: line 2: bad line\nload 0 4 4\n        ^ the end of the line\n",
-    ),
-];
-
-fn expect_shown(rt: &impl Abort, ran: Ran, errors: &[u8]) {
-    assert_eq!(rt; ran.status, 1);
-    assert!(rt; ran.errors.as_slice().starts_with(errors));
-}
-
 /// Wrong lines are shown where they are to be.
 #[test]
 fn wrong_lines_are_shown(rt: HostRuntime) {
-    for (words, input, errors) in SHOWN {
-        let ran = run_shown(&rt, words, input);
-        expect_shown(&rt, ran, errors);
+    let cases: [(&[&str], &[u8], &[u8]); 2] = [
+        (
+            &["shmdbg", "replay"],
+            b"sites 1 preset 1\nload 0 0x 4\n",
+            b"shmdbg: line 2: bad line\nload 0 0x 4\n        ^ an attachment's number: ",
+        ),
+        (
+            &WORDS,
+            b"preset 1\nload 0 4 4\n",
+            b"shmdbg: line 2: bad line\nload 0 4 4\n        ^ the end of the line\n",
+        ),
+    ];
+    for (words, input, errors) in cases {
+        let mut reader = Source::new(input, true, false);
+        let ran = run_over(&rt, words, &mut reader);
+        assert_eq!(rt; ran.status, 1);
+        assert!(rt; ran.errors.as_slice().starts_with(errors));
     }
-}
-
-/// The words of a replay.
-const REPLAY: &[&str] = &["shmdbg", "replay"];
-
-/// Words, the input, and what is told last of its fault.
-const NAMED: [(&[&str], &[u8], &[u8]); 8] = [
-    (REPLAY, b"sites 1\n\n", b"there are no blank lines\n"),
-    (REPLAY, b"# mine\n", b"there are no comments\n"),
-    (
-        REPLAY,
-        b"sites 1\r\n",
-        b"a line feed alone ends a line, without a carriage return\n",
-    ),
-    (
-        REPLAY,
-        b"sites 1\ntick 0",
-        b"a line feed ends the last line, too\n",
-    ),
-    (
-        REPLAY,
-        b"preset 1\n",
-        b"this is a workload's line, for `shmdbg run`\n",
-    ),
-    (
-        REPLAY,
-        b"sites 1\nsites 2\n",
-        b"`sites` begins a script and `preset` a workload, and nothing else does\n",
-    ),
-    (
-        WORDS,
-        b"sites 1\n",
-        b"this is a script's line, for `shmdbg replay`\n",
-    ),
-    (
-        WORDS,
-        b"preset 1\nload 0 4096\n",
-        b"the offset is beyond the segment, or no line feed ends the line\n",
-    ),
-];
-
-fn expect_named(rt: &impl Abort, ran: Ran, told: &[u8]) {
-    assert_eq!(rt; ran.status, 1);
-    assert!(rt; ran.errors.as_slice().ends_with(told));
 }
 
 /// What a wrong line seems to be is told last.
 #[test]
 fn wrong_lines_are_named(rt: HostRuntime) {
-    for (words, input, told) in NAMED {
-        let ran = run_shown(&rt, words, input);
-        expect_named(&rt, ran, told);
+    let replay: &[&str] = &["shmdbg", "replay"];
+    let cases: [(&[&str], &[u8], &[u8]); 8] = [
+        (replay, b"sites 1\n\n", b"there are no blank lines\n"),
+        (replay, b"# mine\n", b"there are no comments\n"),
+        (
+            replay,
+            b"sites 1\r\n",
+            b"a line feed alone ends a line, without a carriage return\n",
+        ),
+        (
+            replay,
+            b"sites 1\ntick 0",
+            b"a line feed ends the last line, too\n",
+        ),
+        (
+            replay,
+            b"preset 1\n",
+            b"this is a workload's line, for `shmdbg run`\n",
+        ),
+        (
+            replay,
+            b"sites 1\nsites 2\n",
+            b"`sites` begins a script and `preset` a workload, and nothing else does\n",
+        ),
+        (
+            &WORDS,
+            b"sites 1\n",
+            b"this is a script's line, for `shmdbg replay`\n",
+        ),
+        (
+            &WORDS,
+            b"preset 1\nload 0 4096\n",
+            b"the offset is beyond the segment, or no line feed ends the line\n",
+        ),
+    ];
+    for (words, input, told) in cases {
+        let mut reader = Source::new(input, true, false);
+        let ran = run_over(&rt, words, &mut reader);
+        assert_eq!(rt; ran.status, 1);
+        assert!(rt; ran.errors.as_slice().ends_with(told));
     }
 }
 
@@ -218,21 +202,15 @@ const TOLD: [(ReportFault, u8, &[u8]); 13] = [
     (ReportFault::TooManyLines, 1, b"shmdbg: too many lines\n"),
 ];
 
-/// The status that the fault has over four sites, and what is told of it.
-fn told_of(alloc: Global, fault: ReportFault) -> Result<(u8, Vec<u8>), Fail> {
-    let sites = Sites::new(4)?;
-    let reader = b"preset 1\n".as_slice();
-    let mut errors = Vec::new(alloc);
-    let status = workload_fault(fault, sites, &reader, &mut errors);
-    Ok((status, errors))
-}
-
 /// Each fault of a run has its status and its line.
 #[test]
 fn each_fault_is_told_in_a_line(rt: HostRuntime) -> Result<(), Fail> {
+    let sites = Sites::new(4)?;
+    let reader = b"preset 1\n".as_slice();
     'faults: for (fault, status, line) in TOLD {
-        let (told, errors) = told_of(rt.alloc(), fault)?;
-        assert_eq!(rt; (told, errors.as_slice()), (status, line));
+        let mut errors = Vec::new(rt.alloc());
+        assert_eq!(rt; workload_fault(fault, sites, &reader, &mut errors), status);
+        assert_eq!(rt; errors.as_slice(), line);
     }
     Ok(())
 }

@@ -1,11 +1,7 @@
-use super::{Ran, expect, run_over, status_of};
-use shm_command::{Lock, Recalls, script_fault};
+use super::{expect, run_over};
+use shm_command::{Recalls, run_words, script_fault};
 use shm_debug::DebugFault;
 use std::io::{self, ErrorKind, Read, Write};
-use std::process::Abort;
-use std::rt::{Clock, Files};
-use std::sync::Wait;
-use std::thread::Threads;
 
 const SCRIPT: &[u8] = b"sites 1 preset 1\nstore 0 0 7 9\nload 0 0 7\n";
 
@@ -87,61 +83,28 @@ impl Write for Narrow {
     }
 }
 
-/// Runs the program over a reader that gives these bytes one at a time, and then the end or an error.
-fn run_trickle<R: AllocGlobal + Clock + Files + Threads + Wait + Copy + Send + Sync + 'static>(
-    rt: &R,
-    words: &[&str],
-    bytes: &[u8],
-    end: Option<ErrorKind>,
-) -> Ran
-where
-    R::File: Lock,
-{
-    let mut reader = Trickle { rest: bytes, end };
-    run_over(rt, words, &mut reader)
-}
-
-/// Runs it to a writer that takes one byte at a time while there is room, and then none, or answers an error. `out` is what it took.
-fn run_narrow<
-    R: AllocGlobal + Clock + Files + Threads + Wait + Copy + Send + Sync + 'static,
-    I: Read + Recalls,
->(rt: &R, words: &[&str], reader: &mut I, room: usize, end: Option<ErrorKind>) -> Ran
-where
-    R::File: Lock,
-{
-    let mut errors = Vec::new(rt.alloc());
-    let mut out = Narrow {
-        taken: Vec::new(rt.alloc()),
-        room,
-        end,
-    };
-    let status = status_of(rt, words, reader, &mut out, &mut errors);
-    Ran {
-        status,
-        out: out.taken,
-        errors,
-    }
-}
-
-/// The call ends with this fault, and what was written is a front of this text.
-fn expect_front(rt: &impl Abort, ran: Ran, errors: &[u8], text: &[u8]) {
-    assert_eq!(rt; ran.status, 3);
-    assert_eq!(rt; ran.errors.as_slice(), errors);
-    assert!(rt; text.starts_with(ran.out.as_slice()));
-}
-
-const READ_FAULT: &[u8] = b"shmdbg: read fault\n";
-
-const WRITE_FAULT: &[u8] = b"shmdbg: write fault\n";
-
 #[test]
 fn a_byte_at_a_time(rt: HostRuntime) {
     let mut reader = Trickle {
         rest: SCRIPT,
         end: None,
     };
-    let ran = run_narrow(&rt, &["shmdbg", "replay"], &mut reader, 1000, None);
-    expect(&rt, ran, 0, TEXT, b"");
+    let mut out = Narrow {
+        taken: Vec::new(rt.alloc()),
+        room: 1000,
+        end: None,
+    };
+    let mut errors = Vec::new(rt.alloc());
+    let status = run_words(
+        &rt,
+        &["shmdbg", "replay"],
+        &mut reader,
+        &mut out,
+        &mut errors,
+    );
+    assert_eq!(rt; status, 0);
+    assert_eq!(rt; out.taken.as_slice(), TEXT);
+    assert_eq!(rt; errors.as_slice(), b"".as_slice());
 }
 
 /// Reading fails before each byte of the script, and after the last; an interruption is a failure too.
@@ -149,9 +112,14 @@ fn a_byte_at_a_time(rt: HostRuntime) {
 fn readers_that_fail(rt: HostRuntime) {
     for kind in [ErrorKind::Other, ErrorKind::Interrupted] {
         for end in 0..=SCRIPT.len() {
-            let words = ["shmdbg", "replay"];
-            let ran = run_trickle(&rt, &words, &SCRIPT[..end], Some(kind));
-            expect_front(&rt, ran, READ_FAULT, TEXT);
+            let mut reader = Trickle {
+                rest: &SCRIPT[..end],
+                end: Some(kind),
+            };
+            let ran = run_over(&rt, &["shmdbg", "replay"], &mut reader);
+            assert_eq!(rt; ran.status, 3);
+            assert_eq!(rt; ran.errors.as_slice(), b"shmdbg: read fault\n".as_slice());
+            assert!(rt; TEXT.starts_with(ran.out.as_slice()));
         }
     }
 }
@@ -162,8 +130,17 @@ fn writers_that_fail(rt: HostRuntime) {
     for end in [Some(ErrorKind::Other), Some(ErrorKind::Interrupted), None] {
         for room in 0..TEXT.len() {
             let mut reader = SCRIPT;
-            let ran = run_narrow(&rt, &["shmdbg", "replay"], &mut reader, room, end);
-            expect(&rt, ran, 3, &TEXT[..room], WRITE_FAULT);
+            let mut out = Narrow {
+                taken: Vec::new(rt.alloc()),
+                room,
+                end,
+            };
+            let mut errors = Vec::new(rt.alloc());
+            let words = ["shmdbg", "replay"];
+            let status = run_words(&rt, &words, &mut reader, &mut out, &mut errors);
+            assert_eq!(rt; status, 3);
+            assert_eq!(rt; errors.as_slice(), b"shmdbg: write fault\n".as_slice());
+            assert_eq!(rt; out.taken.as_slice(), &TEXT[..room]);
         }
     }
 }
@@ -173,16 +150,14 @@ fn writers_that_fail(rt: HostRuntime) {
 fn runs_with_readers_that_fail(rt: HostRuntime) {
     for kind in [ErrorKind::Other, ErrorKind::Interrupted] {
         for end in 0..=WORKLOAD.len() {
-            let ran = run_trickle(&rt, &RUN, &WORKLOAD[..end], Some(kind));
-            expect(&rt, ran, 3, b"", READ_FAULT);
+            let mut reader = Trickle {
+                rest: &WORKLOAD[..end],
+                end: Some(kind),
+            };
+            let ran = run_over(&rt, &RUN, &mut reader);
+            expect(&rt, &ran, 3, b"", b"shmdbg: read fault\n");
         }
     }
-}
-
-/// The call ends with a write fault, and the report's first bytes were written, as many as there was room for.
-fn expect_cut_report(rt: &impl Abort, ran: Ran, room: usize) {
-    assert_eq!(rt; ran.out.len(), room);
-    expect_front(rt, ran, WRITE_FAULT, REPORT);
 }
 
 /// The same of a run's writer: before the first line, amid a line, and amid what the audit found.
@@ -191,24 +166,34 @@ fn runs_with_writers_that_fail(rt: HostRuntime) {
     for end in [Some(ErrorKind::Other), Some(ErrorKind::Interrupted), None] {
         for room in [0, 12, 30] {
             let mut reader = WORKLOAD;
-            let ran = run_narrow(&rt, &RUN, &mut reader, room, end);
-            expect_cut_report(&rt, ran, room);
+            let mut out = Narrow {
+                taken: Vec::new(rt.alloc()),
+                room,
+                end,
+            };
+            let mut errors = Vec::new(rt.alloc());
+            let status = run_words(&rt, &RUN, &mut reader, &mut out, &mut errors);
+            assert_eq!(rt; status, 3);
+            assert_eq!(rt; errors.as_slice(), b"shmdbg: write fault\n".as_slice());
+            assert_eq!(rt; out.taken.len(), room);
+            assert!(rt; REPORT.starts_with(out.taken.as_slice()));
         }
     }
-}
-
-/// The call ends with a read fault. What was asked before is told; all of it, if all was read.
-fn expect_told_before(rt: &impl Abort, ran: Ran, is_whole: bool) {
-    assert_eq!(rt; is_whole, ran.out.as_slice() == TOLD);
-    expect_front(rt, ran, READ_FAULT, TOLD);
 }
 
 /// The same of a site: what was asked before is told.
 #[test]
 fn sites_with_readers_that_fail(rt: HostRuntime) {
     for end in [0, 12, 30, ASKS.len()] {
-        let ran = run_trickle(&rt, &SITE, &ASKS[..end], Some(ErrorKind::Other));
-        expect_told_before(&rt, ran, end == ASKS.len());
+        let mut reader = Trickle {
+            rest: &ASKS[..end],
+            end: Some(ErrorKind::Other),
+        };
+        let ran = run_over(&rt, &SITE, &mut reader);
+        assert_eq!(rt; ran.status, 3);
+        assert_eq!(rt; ran.errors.as_slice(), b"shmdbg: read fault\n".as_slice());
+        assert!(rt; TOLD.starts_with(ran.out.as_slice()));
+        assert_eq!(rt; end == ASKS.len(), ran.out.as_slice() == TOLD);
     }
 }
 
@@ -218,8 +203,16 @@ fn sites_with_writers_that_fail(rt: HostRuntime) {
     for end in [Some(ErrorKind::Other), None] {
         for room in [0, 7, 20] {
             let mut reader = ASKS;
-            let ran = run_narrow(&rt, &SITE, &mut reader, room, end);
-            expect(&rt, ran, 3, &TOLD[..room], WRITE_FAULT);
+            let mut out = Narrow {
+                taken: Vec::new(rt.alloc()),
+                room,
+                end,
+            };
+            let mut errors = Vec::new(rt.alloc());
+            let status = run_words(&rt, &SITE, &mut reader, &mut out, &mut errors);
+            assert_eq!(rt; status, 3);
+            assert_eq!(rt; errors.as_slice(), b"shmdbg: write fault\n".as_slice());
+            assert_eq!(rt; out.taken.as_slice(), &TOLD[..room]);
         }
     }
 }
@@ -228,17 +221,25 @@ fn sites_with_writers_that_fail(rt: HostRuntime) {
 #[test]
 fn write_fault_first(rt: HostRuntime) {
     let mut reader = b"sites 1 preset 1\nnonsense\n".as_slice();
-    let ran = run_narrow(&rt, &["shmdbg", "replay"], &mut reader, 3, None);
-    expect_front(&rt, ran, WRITE_FAULT, b"1 ready\n");
+    let mut out = Narrow {
+        taken: Vec::new(rt.alloc()),
+        room: 3,
+        end: None,
+    };
+    let mut errors = Vec::new(rt.alloc());
+    let status = run_words(
+        &rt,
+        &["shmdbg", "replay"],
+        &mut reader,
+        &mut out,
+        &mut errors,
+    );
+    assert_eq!(rt; status, 3);
+    assert_eq!(rt; errors.as_slice(), b"shmdbg: write fault\n".as_slice());
 }
 
-/// The status with these words, where nothing can be told of a fault.
-fn status_without_errors<
-    R: AllocGlobal + Clock + Files + Threads + Wait + Copy + Send + Sync + 'static,
->(rt: &R, words: &[&str]) -> u8
-where
-    R::File: Lock,
-{
+#[test]
+fn standard_error_that_fails(rt: HostRuntime) {
     let mut errors = Narrow {
         taken: Vec::new(rt.alloc()),
         room: 0,
@@ -246,13 +247,22 @@ where
     };
     let mut out = Vec::new(rt.alloc());
     let mut reader = b"nonsense\n".as_slice();
-    status_of(rt, words, &mut reader, &mut out, &mut errors)
-}
-
-#[test]
-fn standard_error_that_fails(rt: HostRuntime) {
-    assert_eq!(rt; status_without_errors(&rt, &["shmdbg", "replay"]), 1);
-    assert_eq!(rt; status_without_errors(&rt, &["shmdbg", "nonsense"]), 2);
+    let status = run_words(
+        &rt,
+        &["shmdbg", "replay"],
+        &mut reader,
+        &mut out,
+        &mut errors,
+    );
+    assert_eq!(rt; status, 1);
+    let status = run_words(
+        &rt,
+        &["shmdbg", "nonsense"],
+        &mut reader,
+        &mut out,
+        &mut errors,
+    );
+    assert_eq!(rt; status, 2);
 }
 
 #[test]

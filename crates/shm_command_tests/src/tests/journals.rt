@@ -1,8 +1,8 @@
 //! Journals in files, in the folder that the tests run in.
-use super::marked_journals::{expect_kept, expect_marked, marked_before};
-use super::{Ran, expect, expect_told, run_over};
+use super::{expect, run_over};
+use crate::tests::Ran;
+use crate::tests::marked_journals::marked;
 use shm_command::Lock;
-use std::alloc::{AllocError, Global};
 use std::fs;
 use std::process::Abort;
 use std::rt::{Clock, Files};
@@ -87,7 +87,7 @@ where
 }
 
 /// A site stored one byte in a journal that it began, and tells its counts at the end.
-fn expect_stored(rt: &impl Abort, ran: Ran) {
+fn expect_stored(rt: &impl Abort, ran: &Ran) {
     let counts =
         b"shmdbg: health steps 1 clock 1 taken 1 passed 0 waiting 0 received 0 sent 0 journal 41 since ";
     assert_eq!(rt; ran.status, 0);
@@ -96,17 +96,6 @@ fn expect_stored(rt: &impl Abort, ran: Ran) {
     assert!(rt;
         ran.errors.as_slice().ends_with(b" other-cluster 0 no-digest 0 wrong-digest 0\n".as_slice())
     );
-}
-
-/// A site that begins its journal in this file stores one byte in it.
-fn expect_begun<
-    R: AllocGlobal + Abort + Clock + Files + Threads + Wait + Copy + Send + Sync + 'static,
->(rt: &R, name: &str) -> Result<(), Fail>
-where
-    R::File: Lock,
-{
-    expect_stored(rt, site_kept(rt, true, name, b"ask 0 a store 0 5 7\n"));
-    expect_kept(rt, name, STORED)
 }
 
 /// A site with this journal tells nothing but why it is refused. The file stays as it was.
@@ -118,174 +107,148 @@ where
 {
     fs::write(rt, name, bytes)?;
     let ran = site_kept(rt, begins, name, b"ask 0 a tick\n");
-    expect(rt, ran, 1, b"", errors);
-    expect_kept(rt, name, bytes)
-}
-
-/// The batches once a site has gone on from its journal.
-const WHOLE: [&[u8]; 4] = [
-    HEADER,
-    STORE,
-    b"step 2 restart\n",
-    b"step 3 ask 0 b load 0 5\n",
-];
-
-/// What is told of the steps that are taken again, and of how many bytes are cut off.
-fn told_again(alloc: Global, count: &str) -> Result<String, AllocError> {
-    format!(in alloc;
-        "shmdbg: journal: steps taken again: 1, clock: 1, batches: 2, cut off {count} bytes that were never durable, in "
-    )
-}
-
-/// A site goes on from its journal, behind whose last whole batch this stands, of so many bytes.
-fn expect_cut_off<
-    R: AllocGlobal + Abort + Clock + Files + Threads + Wait + Copy + Send + Sync + 'static,
->(rt: &R, behind: &[u8], count: &str) -> Result<(), Fail>
-where
-    R::File: Lock,
-{
-    keep_broken(rt, behind)?;
-    let told = told_again(rt.alloc(), count)?;
-    let ran = site_kept(rt, false, JOURNAL, b"ask 0 b load 0 5\n");
-    expect_gone_on(rt, ran, told.as_bytes());
-    expect_marked(rt, JOURNAL, &WHOLE)
-}
-
-/// Writes the journal with this behind it.
-fn keep_broken<R: AllocGlobal + Files>(rt: &R, behind: &[u8]) -> Result<(), Fail> {
-    let mut broken = Vec::from_slice(rt.alloc(), STORED)?;
-    broken.extend_from_slice(behind)?;
-    fs::write(rt, JOURNAL, broken.as_slice())?;
+    expect(rt, &ran, 1, b"", errors);
+    let kept = fs::read(rt, name)?;
+    assert_eq!(rt; kept.as_slice(), bytes);
     Ok(())
 }
-
-fn expect_gone_on(rt: &impl Abort, ran: Ran, told: &[u8]) {
-    assert_eq!(rt; ran.out.as_slice(), b"tell 0 b byte 7\n".as_slice());
-    assert!(rt; ran.errors.as_slice().starts_with(told), "{told:?}");
-}
-
-/// A front of a batch, zeros, and a mark of other lines; and how many bytes that is.
-const BEHIND: [(&[u8], &str); 3] = [
-    (b"step 2 restart\nstep 3 ask 0 b lo", "32"),
-    (&[0; 100], "100"),
-    (b"step 2 restart\ndurable 3 0 0\nstep 3 restart\n", "44"),
-];
 
 /// What is stored outlives the process. Whatever stands behind the last whole batch is cut off: a front of a batch, zeros, more of them than a
 /// line has, a mark of other lines. An audit accepts the journal.
 #[test]
 fn a_site_goes_on_from_its_journal(rt: HostRuntime) -> Result<(), Fail> {
     let _ = fs::remove_file(&rt, JOURNAL);
-    expect_begun(&rt, JOURNAL)?;
-    for (behind, count) in BEHIND {
-        expect_cut_off(&rt, behind, count)?;
-    }
+    let ran = site_kept(&rt, true, JOURNAL, b"ask 0 a store 0 5 7\n");
+    expect_stored(&rt, &ran);
+    let kept = fs::read(&rt, JOURNAL)?;
+    assert_eq!(rt; kept.as_slice(), STORED);
     let zeros = vec![in rt.alloc(); 0u8; 9000]?;
-    expect_cut_off(&rt, zeros.as_slice(), "9000")?;
+    let batches = [
+        HEADER,
+        STORE,
+        b"step 2 restart\n",
+        b"step 3 ask 0 b load 0 5\n",
+    ];
+    let whole = marked(rt.alloc(), &batches)?;
+    let cases: [(&[u8], &str); 4] = [
+        (b"step 2 restart\nstep 3 ask 0 b lo", "32"),
+        (&zeros[..100], "100"),
+        (zeros.as_slice(), "9000"),
+        (b"step 2 restart\ndurable 3 0 0\nstep 3 restart\n", "44"),
+    ];
+    for (behind, count) in cases {
+        let mut broken = Vec::from_slice(rt.alloc(), STORED)?;
+        broken.extend_from_slice(behind)?;
+        fs::write(&rt, JOURNAL, broken.as_slice())?;
+        let ran = site_kept(&rt, false, JOURNAL, b"ask 0 b load 0 5\n");
+        let again = format!(in rt.alloc();
+            "shmdbg: journal: steps taken again: 1, clock: 1, batches: 2, cut off {count} bytes that were never durable, in "
+        )?;
+        assert_eq!(rt; ran.out.as_slice(), b"tell 0 b byte 7\n".as_slice());
+        assert!(rt;
+            ran.errors.as_slice().starts_with(again.as_bytes()),
+            "{count}"
+        );
+        let kept = fs::read(&rt, JOURNAL)?;
+        assert_eq!(rt; kept.as_slice(), whole.as_slice());
+    }
     let ran = audit_alone(&rt, "1", JOURNAL);
     let text = b"audit yes\nsteps 3\naccesses 2\nenvelopes 0\n";
-    expect(&rt, ran, 0, text, b"");
+    expect(&rt, &ran, 0, text, b"");
     fs::remove_file(&rt, JOURNAL)?;
     Ok(())
 }
-
-const NO_ENTRY: &[u8] = b"shmdbg: journal: line 1: no entry of this site\n";
-
-/// A journal's batches, what stands behind them, whether the site begins it, and why it is refused.
-const REFUSED: [(&[&[u8]], &[u8], bool, &[u8]); 9] = [
-    (
-        &[b"journal 1 0 2\n"],
-        b"",
-        false,
-        b"shmdbg: journal: of another site, number of sites, opening or cluster\n",
-    ),
-    (
-        &[HEADER, b"step 1 tock\n"],
-        b"",
-        false,
-        b"shmdbg: journal: line 2: no entry of this site\n",
-    ),
-    (&[b"nonsense\n"], b"torn", true, NO_ENTRY),
-    (&[], b"nonsense\n", true, NO_ENTRY),
-    (&[], b"journal 2", true, NO_ENTRY),
-    (&[HEADER, STORE], b"", true, EXISTING),
-    (&[HEADER], b"torn", true, EXISTING),
-    (&[], b"", false, BLANK),
-    (&[], b"journal 1 0 1\n", false, BLANK),
-];
 
 /// A journal that isn't this site's, and files that are none: nothing is told, and the file stays as it was.
 #[test]
 fn journals_that_are_refused(rt: HostRuntime) -> Result<(), Fail> {
     let name = "refused.journal";
-    for (batches, behind, begins, errors) in REFUSED {
-        let bytes = marked_before(rt.alloc(), batches, behind)?;
+    let none = b"shmdbg: journal: line 1: no entry of this site\n".as_slice();
+    let cases: [(&[&[u8]], &[u8], bool, &[u8]); 9] = [
+        (
+            &[b"journal 1 0 2\n"],
+            b"",
+            false,
+            b"shmdbg: journal: of another site, number of sites, opening or cluster\n",
+        ),
+        (
+            &[HEADER, b"step 1 tock\n"],
+            b"",
+            false,
+            b"shmdbg: journal: line 2: no entry of this site\n",
+        ),
+        (&[b"nonsense\n"], b"torn", true, none),
+        (&[], b"nonsense\n", true, none),
+        (&[], b"journal 2", true, none),
+        (&[HEADER, STORE], b"", true, EXISTING),
+        (&[HEADER], b"torn", true, EXISTING),
+        (&[], b"", false, BLANK),
+        (&[], b"journal 1 0 1\n", false, BLANK),
+    ];
+    for (batches, behind, begins, errors) in cases {
+        let mut bytes = marked(rt.alloc(), batches)?;
+        bytes.extend_from_slice(behind)?;
         expect_refused(&rt, name, bytes.as_slice(), begins, errors)?;
     }
     fs::remove_file(&rt, name)?;
     Ok(())
 }
 
-const DAMAGED_FILE: &str = "damaged.journal";
-
-/// A site with this journal is refused, whether it begins it or not, and so is an audit.
-fn expect_damaged<
-    R: AllocGlobal + Abort + Clock + Files + Threads + Wait + Copy + Send + Sync + 'static,
->(rt: &R, bytes: &[u8], text: &str) -> Result<(), Fail>
-where
-    R::File: Lock,
-{
-    let told = format!(in rt.alloc(); "shmdbg: journal: {text}\n")?;
-    for begins in [false, true] {
-        expect_refused(rt, DAMAGED_FILE, bytes, begins, told.as_bytes())?;
-    }
-    let told = format!(in rt.alloc(); "shmdbg: {DAMAGED_FILE}: {text}\n")?;
-    let ran = audit_alone(rt, "1", DAMAGED_FILE);
-    expect(rt, ran, 1, b"", told.as_bytes());
-    Ok(())
-}
-
-/// The journal twice, and between a mark of other lines.
-fn stored_twice(alloc: Global) -> Result<Vec<u8>, AllocError> {
-    let mut twice = Vec::from_slice(alloc, STORED)?;
-    twice.extend_from_slice(b"torn\ndurable 3 0 0\n")?;
-    twice.extend_from_slice(STORED)?;
-    Ok(twice)
-}
-
 /// A journal in which a whole batch stands behind a broken one, and one that an earlier version kept: neither is begun or gone on with. An audit
 /// refuses them too.
 #[test]
 fn journals_that_are_damaged_or_unmarked(rt: HostRuntime) -> Result<(), Fail> {
-    let text = "damaged behind its first 154 bytes: a whole batch stands behind a broken one";
-    expect_damaged(&rt, DAMAGED, text)?;
-    let unmarked = b"journal 1 0 1\nstep 1 ask 0 a store 0 5 7\n";
-    let text = "its batches have no marks: an earlier version kept it";
-    expect_damaged(&rt, unmarked, text)?;
-    let twice = stored_twice(rt.alloc())?;
-    let text = "damaged behind its first 321 bytes: a whole batch stands behind a broken one";
-    expect_damaged(&rt, twice.as_slice(), text)?;
-    fs::remove_file(&rt, DAMAGED_FILE)?;
+    let name = "damaged.journal";
+    let mut twice = Vec::from_slice(rt.alloc(), STORED)?;
+    twice.extend_from_slice(b"torn\ndurable 3 0 0\n")?;
+    twice.extend_from_slice(STORED)?;
+    let unmarked = b"journal 1 0 1\nstep 1 ask 0 a store 0 5 7\n".as_slice();
+    let cases: [(&[u8], &str); 3] = [
+        (
+            DAMAGED,
+            "damaged behind its first 154 bytes: a whole batch stands behind a broken one",
+        ),
+        (
+            twice.as_slice(),
+            "damaged behind its first 321 bytes: a whole batch stands behind a broken one",
+        ),
+        (
+            unmarked,
+            "its batches have no marks: an earlier version kept it",
+        ),
+    ];
+    for (bytes, text) in cases {
+        let told = format!(in rt.alloc(); "shmdbg: journal: {text}\n")?;
+        for begins in [false, true] {
+            expect_refused(&rt, name, bytes, begins, told.as_bytes())?;
+        }
+        let ran = audit_alone(&rt, "1", name);
+        let told = format!(in rt.alloc(); "shmdbg: {name}: {text}\n")?;
+        expect(&rt, &ran, 1, b"", told.as_bytes());
+    }
+    fs::remove_file(&rt, name)?;
     Ok(())
 }
-
-/// What a crash left before the first batch was whole.
-const FRONTS: [&[u8]; 5] = [
-    b"",
-    b"jour",
-    HEADER,
-    b"journal 1 0 1\ndurable 1 000",
-    b"\0\0\0\0nal 1 0\0\0",
-];
 
 /// A journal that a crash left before its first batch was whole is begun.
 #[test]
 fn a_journal_is_begun_again(rt: HostRuntime) -> Result<(), Fail> {
-    for front in FRONTS {
-        fs::write(&rt, "front.journal", front)?;
-        expect_begun(&rt, "front.journal")?;
+    let name = "front.journal";
+    let fronts: [&[u8]; 5] = [
+        b"",
+        b"jour",
+        HEADER,
+        b"journal 1 0 1\ndurable 1 000",
+        b"\0\0\0\0nal 1 0\0\0",
+    ];
+    for front in fronts {
+        fs::write(&rt, name, front)?;
+        let ran = site_kept(&rt, true, name, b"ask 0 a store 0 5 7\n");
+        expect_stored(&rt, &ran);
+        let kept = fs::read(&rt, name)?;
+        assert_eq!(rt; kept.as_slice(), STORED);
     }
-    fs::remove_file(&rt, "front.journal")?;
+    fs::remove_file(&rt, name)?;
     Ok(())
 }
 
@@ -293,7 +256,7 @@ fn a_journal_is_begun_again(rt: HostRuntime) -> Result<(), Fail> {
 #[test]
 fn journals_that_are_no_files(rt: HostRuntime) -> Result<(), Fail> {
     let ran = site_kept(&rt, false, "missing.journal", b"ask 0 a tick\n");
-    expect(&rt, ran, 1, b"", MISSING);
+    expect(&rt, &ran, 1, b"", MISSING);
     assert!(rt; !fs::exists(&rt, "missing.journal")?);
     for (name, begins) in [
         (".", false),
@@ -302,7 +265,7 @@ fn journals_that_are_no_files(rt: HostRuntime) -> Result<(), Fail> {
         ("/dev/null", true),
     ] {
         let ran = site_kept(&rt, begins, name, b"ask 0 a tick\n");
-        expect(&rt, ran, 1, b"", NO_FILE);
+        expect(&rt, &ran, 1, b"", NO_FILE);
     }
     Ok(())
 }
@@ -312,61 +275,61 @@ fn journals_that_are_no_files(rt: HostRuntime) -> Result<(), Fail> {
 fn journals_that_cannot_be_opened(rt: HostRuntime) {
     let name = "no folder/journal";
     let ran = site_kept(&rt, true, name, b"ask 0 a tick\n");
-    expect(&rt, ran, 3, b"", b"shmdbg: journal: it can't be opened\n");
+    expect(&rt, &ran, 3, b"", b"shmdbg: journal: it can't be opened\n");
     let ran = audit_alone(&rt, "1", name);
     expect(
         &rt,
-        ran,
+        &ran,
         3,
         b"",
         b"shmdbg: no folder/journal: it can't be opened\n",
     );
 }
 
-/// What an audit tells of one step.
-const YES: &[u8] = b"audit yes\nsteps 1\naccesses 1\nenvelopes 0\n";
-
-/// How many sites are named, a journal's batches, and the status, the text and the fault of an audit.
-const AUDITS: [(&str, &[&[u8]], u8, &[u8], &[u8]); 4] = [
-    ("1", &[HEADER, STORE], 0, YES, b""),
-    (
-        "2",
-        &[HEADER, STORE],
-        1,
-        b"",
-        b"shmdbg: not one set of journals\n",
-    ),
-    (
-        "1",
-        &[HEADER, b"step 2 ask 0 a store 0 5 7\n"],
-        1,
-        b"",
-        b"shmdbg: audited.journal: line 2: bad line\n",
-    ),
-    (
-        "1",
-        &[
-            HEADER,
-            b"step 1 ask 0 a tick\n",
-            b"step 2 env 0 0 1 0 0 ask 0 0 1 read\n",
-        ],
-        4,
-        b"",
-        b"shmdbg: audit no: ",
-    ),
-];
-
 /// Journals that an audit takes or doesn't: one with garbage behind its last whole batch; of too few sites, of a wrong line, and of a site that
 /// was handed what nobody sent. Marks don't count as lines.
 #[test]
 fn journals_that_are_audited(rt: HostRuntime) -> Result<(), Fail> {
-    let garbage = b"\0\xff\0garbage\n\ndurable 9 torn";
-    for (sites, batches, status, out, errors) in AUDITS {
-        let bytes = marked_before(rt.alloc(), batches, garbage)?;
-        fs::write(&rt, "audited.journal", bytes.as_slice())?;
-        let ran = audit_alone(&rt, sites, "audited.journal");
-        expect_told(&rt, ran, status, out, errors);
+    let name = "audited.journal";
+    let cases: [(&str, &[&[u8]], u8, &[u8]); 4] = [
+        ("1", &[HEADER, STORE], 0, b""),
+        (
+            "2",
+            &[HEADER, STORE],
+            1,
+            b"shmdbg: not one set of journals\n",
+        ),
+        (
+            "1",
+            &[HEADER, b"step 2 ask 0 a store 0 5 7\n"],
+            1,
+            b"shmdbg: audited.journal: line 2: bad line\n",
+        ),
+        (
+            "1",
+            &[
+                HEADER,
+                b"step 1 ask 0 a tick\n",
+                b"step 2 env 0 0 1 0 0 ask 0 0 1 read\n",
+            ],
+            4,
+            b"shmdbg: audit no: ",
+        ),
+    ];
+    for (sites, batches, status, errors) in cases {
+        let mut bytes = marked(rt.alloc(), batches)?;
+        bytes.extend_from_slice(b"\0\xff\0garbage\n\ndurable 9 torn")?;
+        fs::write(&rt, name, bytes.as_slice())?;
+        let ran = audit_alone(&rt, sites, name);
+        let text = if status == 0 {
+            b"audit yes\nsteps 1\naccesses 1\nenvelopes 0\n".as_slice()
+        } else {
+            b""
+        };
+        assert_eq!(rt; ran.status, status);
+        assert_eq!(rt; ran.out.as_slice(), text);
+        assert!(rt; ran.errors.as_slice().starts_with(errors), "{errors:?}");
     }
-    fs::remove_file(&rt, "audited.journal")?;
+    fs::remove_file(&rt, name)?;
     Ok(())
 }

@@ -1,5 +1,4 @@
-use super::{expect, replay_bytes, with_letters};
-use std::alloc::{AllocError, Global};
+use super::{expect, replay_bytes};
 use std::test::Fail;
 
 const BOUNDARIES: &[u8] = b"sites 2 preset 2
@@ -27,17 +26,7 @@ const SMALLEST: &[u8] = b"sites 1 preset 1\nload 0 0 0\n";
 #[test]
 fn where_pages_begin_and_end(rt: HostRuntime) {
     let ran = replay_bytes(&rt, BOUNDARIES);
-    expect(&rt, ran, 0, BOUNDARIES_TEXT, b"");
-}
-
-/// What comes of the smallest world up to a byte.
-fn told_up_to(end: usize) -> (u8, &'static [u8], &'static [u8]) {
-    match end {
-        0..=16 => (1, b"", b"shmdbg: line 1: bad line\n"),
-        17 => (0, b"1 ready\n", b""),
-        18..=27 => (1, b"1 ready\n", b"shmdbg: line 2: bad line\n"),
-        _ => (0, b"1 ready\n2 byte 0\n", b""),
-    }
+    expect(&rt, &ran, 0, BOUNDARIES_TEXT, b"");
 }
 
 /// The smallest world, cut off after each of its bytes.
@@ -45,63 +34,54 @@ fn told_up_to(end: usize) -> (u8, &'static [u8], &'static [u8]) {
 fn cut_off(rt: HostRuntime) {
     for end in 0..=SMALLEST.len() {
         let ran = replay_bytes(&rt, &SMALLEST[..end]);
-        let (status, out, errors) = told_up_to(end);
-        expect(&rt, ran, status, out, errors);
+        match end {
+            0..=16 => expect(&rt, &ran, 1, b"", b"shmdbg: line 1: bad line\n"),
+            17 => expect(&rt, &ran, 0, b"1 ready\n", b""),
+            18..=27 => expect(&rt, &ran, 1, b"1 ready\n", b"shmdbg: line 2: bad line\n"),
+            _ => expect(&rt, &ran, 0, b"1 ready\n2 byte 0\n", b""),
+        }
     }
 }
 
 #[test]
 fn too_many_sites(rt: HostRuntime) {
     let ran = replay_bytes(&rt, b"sites 17\n");
-    expect(&rt, ran, 1, b"", b"shmdbg: line 1: bad line\n");
+    expect(&rt, &ran, 1, b"", b"shmdbg: line 1: bad line\n");
 }
-
-/// How many letters the second line has, what ends it, and what is told of it.
-const LONG: [(usize, &str, &[u8]); 4] = [
-    (200, "", b"shmdbg: line 2: bad line\n"),
-    (200, "\n", b"shmdbg: line 2: bad line\n"),
-    (201, "", b"shmdbg: line 2: too long\n"),
-    (201, "\n", b"shmdbg: line 2: too long\n"),
-];
 
 /// A line of 200 bytes is read and then refused; at 201 the next byte is refused at once, also at the end.
 #[test]
 fn long_lines(rt: HostRuntime) -> Result<(), Fail> {
-    for (count, end, errors) in LONG {
-        let script = with_letters(rt.alloc(), "sites 1 preset 1\n", count, end)?;
+    for (count, end, errors) in [
+        (200, "", b"shmdbg: line 2: bad line\n".as_slice()),
+        (200, "\n", b"shmdbg: line 2: bad line\n".as_slice()),
+        (201, "", b"shmdbg: line 2: too long\n".as_slice()),
+        (201, "\n", b"shmdbg: line 2: too long\n".as_slice()),
+    ] {
+        let mut script = String::from_str(rt.alloc(), "sites 1 preset 1\n")?;
+        for _ in 0..count {
+            script.push('a')?;
+        }
+        script.push_str(end)?;
         let ran = replay_bytes(&rt, script.as_bytes());
-        expect(&rt, ran, 1, b"1 ready\n", errors);
+        expect(&rt, &ran, 1, b"1 ready\n", errors);
     }
     Ok(())
-}
-
-/// A script of 100,000 lines.
-fn longest(alloc: Global) -> Result<String, AllocError> {
-    let mut script = String::from_str(alloc, "sites 1 preset 1\n")?;
-    for _ in 2..=100_000 {
-        script.push_str("load 0 0 0\n")?;
-    }
-    Ok(script)
-}
-
-/// What its lines are answered.
-fn answers_of_longest(alloc: Global) -> Result<String, AllocError> {
-    let mut text = String::from_str(alloc, "1 ready\n")?;
-    for line in 2..=100_000 {
-        writeln!(text, "{line} byte 0")?;
-    }
-    Ok(text)
 }
 
 /// 100,000 lines are read to their end; one byte more is refused, whatever it is.
 #[test]
 fn as_many_lines_as_may_be(rt: HostRuntime) -> Result<(), Fail> {
-    let text = answers_of_longest(rt.alloc())?;
-    let mut script = longest(rt.alloc())?;
+    let mut script = String::from_str(rt.alloc(), "sites 1 preset 1\n")?;
+    let mut text = String::from_str(rt.alloc(), "1 ready\n")?;
+    for line in 2..=100_000 {
+        script.push_str("load 0 0 0\n")?;
+        writeln!(text, "{line} byte 0")?;
+    }
     let ran = replay_bytes(&rt, script.as_bytes());
-    expect(&rt, ran, 0, text.as_bytes(), b"");
+    expect(&rt, &ran, 0, text.as_bytes(), b"");
     script.push('x')?;
     let ran = replay_bytes(&rt, script.as_bytes());
-    expect(&rt, ran, 1, text.as_bytes(), b"shmdbg: too many lines\n");
+    expect(&rt, &ran, 1, text.as_bytes(), b"shmdbg: too many lines\n");
     Ok(())
 }

@@ -39,52 +39,35 @@ impl SaveFile for Shelf {
     }
 }
 
-/// Whether the site asks for the page, and ticks.
-fn takes_both(held: &mut SiteBox) -> bool {
+/// Site 1 of two asks for the page, and ticks.
+fn log(alloc: Global) -> Result<SiteLog, Fail> {
+    let mut held = SiteBox::new(alloc, Sites::new(2)?, SiteId(1), 1)?;
     let store = Input::Store {
         at: 0,
         offset: 5,
         byte: 7,
     };
-    held.take(store, Stamp::NONE).is_ok() && held.take(Input::Tick, Stamp::NONE).is_ok()
+    let told = held.take(store, Stamp::NONE);
+    let ticked = held.take(Input::Tick, Stamp::NONE);
+    told.ok().ok_or("not taken")?;
+    ticked.ok().ok_or("not taken")?;
+    Ok(held.into_log())
 }
-
-/// Whether the site does both, and its log.
-fn logged(held: SiteBox) -> (bool, SiteLog) {
-    let mut held = held;
-    let is_taken = takes_both(&mut held);
-    (is_taken, held.into_log())
-}
-
-/// The log of site 1 of two, and whether it took both.
-fn push_log(alloc: Global, logs: &mut Vec<SiteLog>) -> Result<bool, Fail> {
-    let (is_taken, log) = logged(SiteBox::new(alloc, Sites::new(2)?, SiteId(1), 1)?);
-    logs.push(log)?;
-    Ok(is_taken)
-}
-
-/// What saving the logs comes to, in this folder, and what is on the shelf then.
-fn saved_in(alloc: Global, folder: &str, logs: &[SiteLog]) -> (Result<(), ReportFault>, Vec<u8>) {
-    let mut shelf = Shelf {
-        alloc,
-        saved: Vec::new(alloc),
-    };
-    let saved = save_logs(alloc, folder, logs, &mut shelf);
-    (saved, shelf.saved)
-}
-
-const TEXT: &str =
-    "a b/site-1.log:\n1 store 1 0 5 7 > fault | env 1 0 1 0 0 ask 0 0 1 write\n2 tick 1 > took | env 1 0 2 1 0 ask 0 0 1 write\n";
 
 /// Each step has its line: the input as in a script, and what was sent as on a stream.
 #[test]
 fn a_log_is_saved(rt: HostRuntime) -> Result<(), Fail> {
-    let mut logs = Vec::new(rt.alloc());
-    assert!(rt; push_log(rt.alloc(), &mut logs)?);
-    let (saved, text) = saved_in(rt.alloc(), "a b", logs.as_slice());
+    let mut shelf = Shelf {
+        alloc: rt.alloc(),
+        saved: Vec::new(rt.alloc()),
+    };
+    let logs = [log(rt.alloc())?];
+    let saved = save_logs(rt.alloc(), "a b", logs.as_slice(), &mut shelf);
     assert_eq!(rt; saved, Ok(()));
-    assert_eq!(rt; std::str::from_utf8(text.as_slice()), Ok(TEXT));
-    let (saved, _text) = saved_in(rt.alloc(), "full", logs.as_slice());
+    let text =
+        "a b/site-1.log:\n1 store 1 0 5 7 > fault | env 1 0 1 0 0 ask 0 0 1 write\n2 tick 1 > took | env 1 0 2 1 0 ask 0 0 1 write\n";
+    assert_eq!(rt; std::str::from_utf8(shelf.saved.as_slice()), Ok(text));
+    let saved = save_logs(rt.alloc(), "full", logs.as_slice(), &mut shelf);
     assert_eq!(rt; saved, Err(ReportFault::WriteFault));
     Ok(())
 }

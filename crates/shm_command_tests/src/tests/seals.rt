@@ -38,53 +38,45 @@ ask 0 d store 0 5 9
         &["--cluster=north", "--key=cluster.key"],
         lines.as_slice(),
     )?;
+    fs::remove_file(&rt, "cluster.key")?;
     expect(
         &rt,
-        ran,
+        &ran,
         0,
         b"tell 0 a stored @north 22adcb8905e9268b62f9a477cd5e201ab94eafc6666676874e2d5161a21c0f9f\n",
         b"shmdbg: lines passed over: 1 of another cluster, 1 without a digest, 1 with a wrong digest\n",
     );
-    fs::remove_file(&rt, "cluster.key")?;
     Ok(())
 }
-
-/// Options for a seal, the status, and what is told of the fault.
-const REFUSED: [(&[&str], u8, &[u8]); 5] = [
-    (
-        &["--cluster=a b"],
-        1,
-        b"shmdbg: cluster: a name has 1 to 32 bytes of printable ASCII, and no blank\n",
-    ),
-    (
-        &["--cluster=a-name-that-has-thirty-three-byte"],
-        1,
-        b"shmdbg: cluster: a name has 1 to 32 bytes of printable ASCII, and no blank\n",
-    ),
-    (
-        &["--key=none.key"],
-        1,
-        b"shmdbg: key: it needs a cluster's name: --cluster NAME\n",
-    ),
-    (
-        &["--cluster=north", "--key=none.key"],
-        3,
-        b"shmdbg: key: there is no such file\n",
-    ),
-    (
-        &["--cluster=north", "--key=empty.key"],
-        1,
-        b"shmdbg: key: its file is empty\n",
-    ),
-];
 
 /// Names and keys that can't be; nothing is told.
 #[test]
 fn seals_that_are_refused(rt: HostRuntime) -> Result<(), Fail> {
     fs::write(&rt, "empty.key", b"\n")?;
-    for (options, status, errors) in REFUSED {
+    let name =
+        b"shmdbg: cluster: a name has 1 to 32 bytes of printable ASCII, and no blank\n".as_slice();
+    let cases: [(&[&str], u8, &[u8]); 5] = [
+        (&["--cluster=a b"], 1, name),
+        (&["--cluster=a-name-that-has-thirty-three-byte"], 1, name),
+        (
+            &["--key=none.key"],
+            1,
+            b"shmdbg: key: it needs a cluster's name: --cluster NAME\n",
+        ),
+        (
+            &["--cluster=north", "--key=none.key"],
+            3,
+            b"shmdbg: key: there is no such file\n",
+        ),
+        (
+            &["--cluster=north", "--key=empty.key"],
+            1,
+            b"shmdbg: key: its file is empty\n",
+        ),
+    ];
+    for (options, status, errors) in cases {
         let ran = run_site(&rt, options, b"ask 0 a tick\n")?;
-        expect(&rt, ran, status, b"", errors);
+        expect(&rt, &ran, status, b"", errors);
     }
     fs::remove_file(&rt, "empty.key")?;
     Ok(())

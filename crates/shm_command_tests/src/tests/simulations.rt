@@ -1,13 +1,12 @@
 //! Simulations: their words, what they tell, and the scripts that they keep.
-use super::marked_journals::expect_kept;
-use super::{expect, expect_task, expect_told, run_over, run_shown, status_of};
-use shm_command::{Simulation, Task, save_outcome_scripts};
+use super::{expect, run_over};
+use shm_command::{Simulation, Source, Task, parse_words, run_words, save_outcome_scripts};
 use shm_lines::parse_workload;
 use shm_place::Sites;
 use shm_prompt::{ReadRefusal, SaveFile};
 use shm_report::ReportFault;
-use shm_simulate::{Gave, Odds, Outcome, Tally, simulate};
-use std::alloc::{AllocError, Allocator, Global};
+use shm_simulate::{Odds, simulate};
+use std::alloc::Allocator;
 use std::fs;
 use std::io::{self, ErrorKind, Write};
 use std::test::Fail;
@@ -29,40 +28,33 @@ const TEXT: &str = "runs 3\noutcome 1 count 3 seed 1\nline 3 byte 7\n\
 fn what_one_site_stores_it_loads_in_each_run(rt: HostRuntime) {
     let mut reader = WORKLOAD;
     let ran = run_over(&rt, &WORDS, &mut reader);
-    expect(&rt, ran, 0, TEXT.as_bytes(), b"");
+    expect(&rt, &ran, 0, TEXT.as_bytes(), b"");
 }
 
-/// The words of three runs, and this option.
-fn with_option<'a>(alloc: Global, option: &'a str) -> Result<Vec<&'a str>, AllocError> {
-    let mut words = WORDS.to_vec(alloc)?;
-    words.push(option)?;
-    Ok(words)
-}
-
-/// A further word that is refused, and what the parser's text begins with.
-const REFUSED: [(&str, &[u8]); 6] = [
-    ("--lose=101", b"error: invalid value '101' for '--lose <P>'"),
-    ("--repeat=-1", b"error: "),
-    (
-        "--restart=05",
-        b"error: invalid value '05' for '--restart': ",
-    ),
-    (
-        "--runs=4",
-        b"error: the argument '--runs <M>' cannot be used multiple times",
-    ),
-    ("--log=.", b"error: unexpected argument '--log' found"),
-    ("more", b"error: unexpected argument 'more' found"),
-];
-
-/// Of such words nothing is read.
+/// Words that are refused, and what the parser's text begins with; nothing is read.
 #[test]
 fn refused_words(rt: HostRuntime) -> Result<(), Fail> {
-    for (word, text) in REFUSED {
-        let words = with_option(rt.alloc(), word)?;
+    let cases: [(&str, &[u8]); 6] = [
+        ("--lose=101", b"error: invalid value '101' for '--lose <P>'"),
+        ("--repeat=-1", b"error: "),
+        (
+            "--restart=05",
+            b"error: invalid value '05' for '--restart': ",
+        ),
+        (
+            "--runs=4",
+            b"error: the argument '--runs <M>' cannot be used multiple times",
+        ),
+        ("--log=.", b"error: unexpected argument '--log' found"),
+        ("more", b"error: unexpected argument 'more' found"),
+    ];
+    for (word, text) in cases {
+        let mut words = WORDS.to_vec(rt.alloc())?;
+        words.push(word)?;
         let mut reader = WORKLOAD;
         let ran = run_over(&rt, words.as_slice(), &mut reader);
-        expect_told(&rt, ran, 2, b"", text);
+        assert_eq!(rt; (ran.status, ran.out.as_slice()), (2, b"".as_slice()));
+        assert!(rt; ran.errors.as_slice().starts_with(text), "{word}");
         assert_eq!(rt; reader, WORKLOAD);
     }
     Ok(())
@@ -74,56 +66,55 @@ fn no_runs(rt: HostRuntime) {
     let words = ["shmdbg", "simulate", "--sites=1", "--seed=1", "--runs=0"];
     let mut reader = WORKLOAD;
     let ran = run_over(&rt, &words, &mut reader);
-    let text = b"error: invalid value '0' for '--runs <M>'";
-    expect_told(&rt, ran, 2, b"", text);
+    assert_eq!(rt; ran.status, 2);
+    let text = b"error: invalid value '0' for '--runs <M>'".as_slice();
+    assert!(rt; ran.errors.as_slice().starts_with(text));
 }
-
-/// Options, and what they say: how often what goes wrong, and where scripts are kept.
-const OPTIONS: [(&[&str], [u32; 3], Option<&str>); 3] = [
-    (&[], [0, 0, 0], None),
-    (&["--lose=10", "--keep", "a b"], [10, 0, 0], Some("a b")),
-    (&["--restart=100", "--repeat=0"], [0, 0, 100], None),
-];
 
 /// What the options say; nothing goes wrong where nothing is said of it.
 #[test]
 fn options_of_a_simulation(rt: HostRuntime) -> Result<(), Fail> {
-    for (options, [lose, repeat, restart], keep) in OPTIONS {
-        let sites = Sites::new(1)?;
+    let cases: [(&[&str], [u32; 3], Option<&str>); 3] = [
+        (&[], [0, 0, 0], None),
+        (&["--lose=10", "--keep", "a b"], [10, 0, 0], Some("a b")),
+        (&["--restart=100", "--repeat=0"], [0, 0, 100], None),
+    ];
+    for (options, [lose, repeat, restart], keep) in cases {
         let mut words = WORDS.to_vec(rt.alloc())?;
         words.extend_from_slice(options)?;
+        let task = parse_words(rt.alloc(), words.as_slice())?;
         let odds = Odds {
             lose,
             repeat,
             restart,
         };
         let asked = Simulation {
-            sites,
+            sites: Sites::new(1)?,
             seed: 1,
             runs: 3,
             odds,
             keep,
         };
-        expect_task(&rt, rt.alloc(), words.as_slice(), Task::Simulate(asked))?;
+        assert_eq!(rt; task, Task::Simulate(asked));
     }
     Ok(())
 }
 
-/// Workloads, and what is told of their faults.
-const WRONG: [(&[u8], &[u8]); 2] = [
-    (b"sites 1\n", b"shmdbg: line 1: bad line\nsites 1\n"),
-    (
-        b"preset 1\nload 0 0 0\n",
-        b"shmdbg: line 2: bad line\nload 0 0 0\n",
-    ),
-];
-
 /// A wrong line is told, and shown, as by a run; nothing is written.
 #[test]
 fn wrong_workloads(rt: HostRuntime) {
-    for (workload, errors) in WRONG {
-        let ran = run_shown(&rt, &WORDS, workload);
-        expect_told(&rt, ran, 1, b"", errors);
+    let cases: [(&[u8], &[u8]); 2] = [
+        (b"sites 1\n", b"shmdbg: line 1: bad line\nsites 1\n"),
+        (
+            b"preset 1\nload 0 0 0\n",
+            b"shmdbg: line 2: bad line\nload 0 0 0\n",
+        ),
+    ];
+    for (workload, errors) in cases {
+        let mut reader = Source::new(workload, true, false);
+        let ran = run_over(&rt, &WORDS, &mut reader);
+        assert_eq!(rt; (ran.status, ran.out.as_slice()), (1, b"".as_slice()));
+        assert!(rt; ran.errors.as_slice().starts_with(errors));
     }
 }
 
@@ -145,7 +136,7 @@ impl Write for Full {
 fn a_text_that_can_not_be_written(rt: HostRuntime) {
     let mut reader = WORKLOAD;
     let mut errors = Vec::new(rt.alloc());
-    let status = status_of(&rt, &WORDS, &mut reader, &mut Full, &mut errors);
+    let status = run_words(&rt, &WORDS, &mut reader, &mut Full, &mut errors);
     assert_eq!(rt; status, 3);
     assert_eq!(rt; errors.as_slice(), b"shmdbg: write fault\n".as_slice());
 }
@@ -159,14 +150,16 @@ fn a_kept_script_is_replayed(rt: HostRuntime) -> Result<(), Fail> {
         name,
         b"old\nold\nold\nold\nold\nold\nold\nold\nold\nold\nold\n",
     )?;
-    let words = with_option(rt.alloc(), "--keep=.")?;
+    let mut words = WORDS.to_vec(rt.alloc())?;
+    words.push("--keep=.")?;
     let mut reader = WORKLOAD;
     let ran = run_over(&rt, words.as_slice(), &mut reader);
-    expect(&rt, ran, 0, TEXT.as_bytes(), b"");
-    let script = b"sites 1 preset 1\nstore 0 0 0 7\nload 0 0 0\n";
-    expect_kept(&rt, name, script)?;
+    expect(&rt, &ran, 0, TEXT.as_bytes(), b"");
+    let kept = fs::read(&rt, name)?;
+    let script = b"sites 1 preset 1\nstore 0 0 0 7\nload 0 0 0\n".as_slice();
+    assert_eq!(rt; kept.as_slice(), script);
     let ran = run_over(&rt, &["shmdbg", "replay", name], &mut reader);
-    expect(&rt, ran, 0, b"1 ready\n2 stored\n3 byte 7\n", b"");
+    expect(&rt, &ran, 0, b"1 ready\n2 stored\n3 byte 7\n", b"");
     fs::remove_file(&rt, name)?;
     Ok(())
 }
@@ -174,11 +167,12 @@ fn a_kept_script_is_replayed(rt: HostRuntime) -> Result<(), Fail> {
 /// The scripts have no folder: nothing is read, and nothing is run.
 #[test]
 fn scripts_without_a_folder(rt: HostRuntime) -> Result<(), Fail> {
-    let words = with_option(rt.alloc(), "--keep=no folder")?;
+    let mut words = WORDS.to_vec(rt.alloc())?;
+    words.push("--keep=no folder")?;
     let mut reader = WORKLOAD;
     let ran = run_over(&rt, words.as_slice(), &mut reader);
     let told = b"shmdbg: no folder/outcome-1.shm: it can't be opened\n";
-    expect(&rt, ran, 3, b"", told);
+    expect(&rt, &ran, 3, b"", told);
     assert_eq!(rt; reader, WORKLOAD);
     Ok(())
 }
@@ -209,81 +203,52 @@ impl SaveFile for Counter {
     }
 }
 
-/// What comes of so many runs of a workload over two sites.
-fn tally_of(alloc: Global, lines: &[u8], odds: Odds, seed: u32, runs: u32) -> Result<Tally, Fail> {
-    let sites = Sites::new(2)?;
-    let workload = parse_workload(alloc, sites, lines)?;
-    Ok(simulate(alloc, sites, &workload, odds, seed, runs)?)
-}
-
-/// What a saving comes to, and how often something has been saved by then.
-type Saved = (Result<(), ReportFault>, usize);
-
-/// What saving these outcomes in a folder comes to, and in one that is refused after it.
-fn save_twice(alloc: Global, outcomes: &[Outcome]) -> Result<(Saved, Saved), Fail> {
-    let sites = Sites::new(2)?;
-    let mut files = Counter { saved: 0 };
-    let saved = save_outcome_scripts(alloc, "a b", sites, 1, outcomes, &mut files);
-    let first = (saved, files.saved);
-    let refused = save_outcome_scripts(alloc, "full", sites, 1, outcomes, &mut files);
-    Ok((first, (refused, files.saved)))
-}
-
 /// Each outcome is saved once, or none where the first is refused.
 #[test]
 fn each_outcome_is_saved(rt: HostRuntime) -> Result<(), Fail> {
+    let alloc = rt.alloc();
+    let sites = Sites::new(2)?;
+    let lines = b"preset 1\nstore 0 0 1\nload 1 0\n";
+    let workload = parse_workload(alloc, sites, lines)?;
     let odds = Odds {
         lose: 0,
         repeat: 0,
         restart: 0,
     };
-    let lines = b"preset 1\nstore 0 0 1\nload 1 0\n";
-    let tally = tally_of(rt.alloc(), lines, odds, 1, 50)?;
-    let (saved, refused) = save_twice(rt.alloc(), tally.outcomes.as_slice())?;
-    assert_eq!(rt; tally.outcomes.len(), 2);
-    assert_eq!(rt; saved, (Ok(()), 2));
-    assert_eq!(rt; refused, (Err(ReportFault::WriteFault), 2));
+    let tally = simulate(alloc, sites, &workload, odds, 1, 50)?;
+    let outcomes = tally.outcomes.as_slice();
+    assert_eq!(rt; outcomes.len(), 2);
+    let mut files = Counter { saved: 0 };
+    let saved = save_outcome_scripts(alloc, "a b", sites, 1, outcomes, &mut files);
+    assert_eq!(rt; (saved, files.saved), (Ok(()), 2));
+    let refused = save_outcome_scripts(alloc, "full", sites, 1, outcomes, &mut files);
+    assert_eq!(rt; (refused, files.saved), (Err(ReportFault::WriteFault), 2));
     Ok(())
 }
 
 /// Each of two sites stores a byte, and loads that of the other.
 const STORE_BUFFERING: &[u8] = b"preset 2\nstore 0 0 1\nload 0 4096\nstore 1 4096 1\nload 1 0\n";
 
-const ODDS: Odds = Odds {
-    lose: 10,
-    repeat: 10,
-    restart: 5,
-};
-
-/// Whether the first run from this seed gives this.
-fn gives(alloc: Global, seed: u32, given: &[Gave]) -> Result<bool, Fail> {
-    let one = tally_of(alloc, STORE_BUFFERING, ODDS, seed, 1)?;
-    match one.outcomes.first() {
-        Some(again) => Ok(again.given.as_slice() == given),
-        None => Ok(false),
-    }
-}
-
-/// The number of the first of these outcomes that its own seed doesn't give again; the first run's seed is this.
-fn first_other(alloc: Global, seed: u32, outcomes: &[Outcome]) -> Result<Option<usize>, Fail> {
-    for (number, outcome) in outcomes.iter().enumerate() {
-        if !gives(
-            alloc,
-            seed.wrapping_add(outcome.run),
-            outcome.given.as_slice(),
-        )? {
-            return Ok(Some(number));
-        }
-    }
-    Ok(None)
-}
-
 /// The run of that number has the first one's seed and its number, up to 2^32.
 #[test]
 fn a_told_seed_gives_its_outcome_again(rt: HostRuntime) -> Result<(), Fail> {
-    let many = tally_of(rt.alloc(), STORE_BUFFERING, ODDS, 7, 60)?;
-    let other = first_other(rt.alloc(), many.seed, many.outcomes.as_slice())?;
+    let alloc = rt.alloc();
+    let sites = Sites::new(2)?;
+    let workload = parse_workload(alloc, sites, STORE_BUFFERING)?;
+    let odds = Odds {
+        lose: 10,
+        repeat: 10,
+        restart: 5,
+    };
+    let many = simulate(alloc, sites, &workload, odds, 7, 60)?;
     assert!(rt; many.outcomes.len() > 1);
-    assert_eq!(rt; other, None);
+    for outcome in &many.outcomes {
+        let seed = many.seed.wrapping_add(outcome.run);
+        let one = simulate(alloc, sites, &workload, odds, seed, 1)?;
+        let Some(again) = one.outcomes.first() else {
+            return Err("an outcome".into());
+        };
+        assert_eq!(rt; again.given.as_slice(), outcome.given.as_slice());
+    }
     Ok(())
 }
