@@ -1,11 +1,15 @@
 -- The attachments of a site, as a list of what stands at each of 64 numbers.
-use Rattle.std.specs.Prelude.{ℕ, List, Option, Some, None, slice_index_or}
+use Rattle.std.specs.Prelude.{ℕ, Bool, List, Option, Some, None, slice_index_or}
 use Rattle.shm_model.specs.Calls.{Attachment}
 use Rattle.shm_model.specs.Site.{Site}
 use Rattle.shm_model.specs.Basics.{at}
 
 abbrev pub attachments_of : List (Option Attachment) → ℕ → Option Attachment
 attachments_of slots number = slice_index_or slots number None
+
+-- an attachment, as its segment, its size and whether only to read
+abbrev pub attachment_from : ℕ × (ℕ × Bool) → Attachment
+attachment_from read = record { id = read.0; size = read.1.0; ro = read.1.1 }
 
 -- the segment that an attachment names
 abbrev pub segment_of : Option Attachment → Option ℕ

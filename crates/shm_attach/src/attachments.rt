@@ -1,8 +1,8 @@
-ghost use Rattle.std.specs.Prelude.{◌≡◌, ℕ, ◌<◌, false, IfSome, is_none, length};
+ghost use Rattle.std.specs.Prelude.{◌≡◌, ℕ, ◌<◌, false, Some, IfSome, is_none, length, option_map};
 ghost use Rattle.std.specs.List.{list_any, position_from};
 ghost use Rattle.shm_model.specs.Basics.{at};
 ghost use Rattle.shm_model.specs.Site.{Site, is_attached, is_attachment_of, least_free};
-ghost use Rattle.shm_attach.specs.Attachments.{attachments_of, put_at, segment_of, with_attachments};
+ghost use Rattle.shm_attach.specs.Attachments.{attachment_from, attachments_of, put_at, segment_of, with_attachments};
 
 use shm_place::SegId;
 use std::marker::Model;
@@ -65,6 +65,14 @@ impl Attachments {
         Some(number as u32)
     }
 
+    /// Attaches the segment at this number, in place of what was attached there.
+    pub fn restore(&mut self, number: u32, id: SegId, size: u32, ro: bool)
+        requires { number < MAX_ATTACHMENTS }
+        ensures { attachments_of self.new ≡ at (attachments_of self.old) number (Some (record { id = id; size = size; ro = ro })) }
+    {
+        self.slots[number as usize] = Some(Attachment { id, size, ro });
+    }
+
     /// The least number at which nothing is attached.
     fn least_free(&self) -> Option<usize>
         ensures number { result ≡ least_free (attachments_of self.now) }
@@ -90,6 +98,14 @@ impl Attachments {
             return self.slots[index];
         }
         None
+    }
+
+    /// What is attached at the number: the segment, its size as it was asked, and whether only to read.
+    pub fn get(&self, number: u32) -> Option<(SegId, (u32, bool))>
+        ensures { option_map attachment_from result ≡ attachments_of self.now number }
+    {
+        let attachment = self.at(number)?;
+        Some((attachment.id, (attachment.size, attachment.ro)))
     }
 
     /// The segment that is attached at the number.

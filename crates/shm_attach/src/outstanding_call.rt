@@ -36,6 +36,20 @@ impl CallBook {
         }
     }
 
+    /// So many calls so far, of which this one, if any, is outstanding.
+    pub fn restored(begun: Number, outstanding: Option<(Number, Op)>) -> CallBook
+        ensures { result ≡ record { begun = begun; outstanding = outstanding_of outstanding } }
+    {
+        CallBook { begun, outstanding }
+    }
+
+    /// How many calls the site has begun.
+    pub fn begun(&self) -> Number
+        ensures { result ≡ self.now.begun }
+    {
+        self.begun
+    }
+
     /// The number that `begin` would give a call now, or why it would begin none.
     pub fn next_number(&self) -> Result<Number, BeginFault>
         ensures { result ≡ begun_number self.now }

@@ -42,6 +42,27 @@ impl<A: Allocator + Copy> Home<A> {
         }
     }
 
+    /// The home that keeps this table, and these as its last replies.
+    pub fn restored(table: SegTable<A>, kept: KeptReply<Reply>) -> Home<A>
+        ensures { result ≡ record { table = table; kept = kept } }
+    {
+        Self { table, kept }
+    }
+
+    /// The home's table.
+    pub fn table(&self) -> &SegTable<A>
+        ensures { result.now ≡ self.now.table }
+    {
+        &self.table
+    }
+
+    /// The last reply to each site.
+    pub fn kept(&self) -> &KeptReply<Reply>
+        ensures { result.now ≡ self.now.kept }
+    {
+        &self.kept
+    }
+
     /// All segments that the home ever made, the destroyed ones too, in the order of making.
     pub fn segments(&self) -> &[Segment]
         ensures { result.now ≡ self.now.table.segments }

@@ -54,7 +54,7 @@ make_new home sites cred key size mode s live n counted some small few fewer =
 pub next : (home sites : ℕ) (s : List Segment) → IsNumbered home sites s → next_id sites home s ≡ length s * sites + home
 next home sites s n = ap (λ m. m * sites + home) (made home sites s n)
 
-none_pass : (p : Segment → Bool) (s : List Segment) → find p s ≡ None → (k : ℕ) (d : Segment) → k < length s → p (get_or s k d) ≡ false
+pub none_pass : (p : Segment → Bool) (s : List Segment) → find p s ≡ None → (k : ℕ) (d : Segment) → k < length s → p (get_or s k d) ≡ false
 none_pass p s none k d lt =
     let first : ℕ = position_or_len p s in
     ⊎_elim (λ (w : first < length s). absurd (none-some (get_or s first d) (sym none ∙ find_at p s ∙ slice_get-get_or s first d w)))
@@ -84,7 +84,7 @@ place_cases new place places key at h =
     (cases_eq new key))
     (cases_eq new 0)
 
-indexed-push : (s : List Segment) (places later : ℕ → Option ℕ) (new : Segment) → IsIndexed s places → (new.key ≢ 0 → with_key new.key s ≡ None)
+pub indexed-push : (s : List Segment) (places later : ℕ → Option ℕ) (new : Segment) → IsIndexed s places → (new.key ≢ 0 → with_key new.key s ≡ None)
     → ((key : ℕ) → later key ≡ with_place new.key (length s) places key) → IsIndexed (s ++ (new ∷ [])) later
 indexed-push s places later new index absent more = record {
   keyed = λ k d inside has_key.
@@ -113,7 +113,7 @@ indexed-push s places later new index absent more = record {
       (place_cases new.key (length s) places key k (sym (more key) ∙ h));
 }
 
-stays_destroyed : (o more : Option Segment) → is_destroyed o ≡ true → is_destroyed (option_or o more) ≡ true
+pub stays_destroyed : (o more : Option Segment) → is_destroyed o ≡ true → is_destroyed (option_or o more) ≡ true
 stays_destroyed None more h = absurd (false≢true h)
 stays_destroyed (Some g) more h = h
 

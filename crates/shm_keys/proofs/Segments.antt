@@ -26,7 +26,7 @@ find_here : (p : Segment → Bool) (s : List Segment) (place : ℕ) (d : Segment
 find_here p s place d lt before here =
     find_at p s ∙ ap (λ n. slice_get s n) (position_or_len_is p s place d (omega arith) before (λ _. here)) ∙ slice_get-get_or s place d lt
 
-find_nowhere : (p : Segment → Bool) (s : List Segment) (d : Segment) → ((k : ℕ) → k < length s → p (get_or s k d) ≡ false) → find p s ≡ None
+pub find_nowhere : (p : Segment → Bool) (s : List Segment) (d : Segment) → ((k : ℕ) → k < length s → p (get_or s k d) ≡ false) → find p s ≡ None
 find_nowhere p s d none =
     find_at p s ∙ ap (λ n. slice_get s n) (position_or_len_is p s (length s) d (omega arith) none (λ lt. absurd (omega arith))) ∙ slice_get_past s (length s) (omega arith)
 
@@ -44,7 +44,7 @@ with_id_found home sites s id d n e lt =
     (λ k before. ne_eqb id (get_or s k d).id (apart_by_place home sites s id k d n e (omega arith) (λ h. absurd (omega arith))))
     (eq-eqb id (get_or s (id / sites) d).id (place_of_id id sites home e n.below ∙ sym (n.each (id / sites) d lt)))
 
-nobody : Segment
+pub nobody : Segment
 nobody = record { id = 0; key = 0; uid = 0; gid = 0; cuid = 0; cgid = 0; mode = 0; size = 0; nattch = 0; marked = false }
 
 pub with_id_missing : (home sites : ℕ) (s : List Segment) (id : ℕ) → IsNumbered home sites s → id % sites ≡ home → length s ≤ id / sites → with_id id s ≡ None

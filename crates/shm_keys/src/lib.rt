@@ -8,6 +8,7 @@ mod permission;
 mod preset_segment;
 mod purge_messages;
 mod replace_segment;
+mod restored_table;
 mod segment_calls;
 mod segment_record;
 mod segment_table;

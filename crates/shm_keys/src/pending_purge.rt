@@ -1,5 +1,6 @@
 ghost use Rattle.std.specs.Prelude.{◌≡◌, ℕ, ◌+◌, ◌<◌, ◌≤◌, ◌==◌, ◌&&◌, ◌||◌, Bool, true, false, not, nat_lt, length, slice_index_or, vec_len, vec_capacity};
 ghost use Rattle.shm_keys.specs.Purge.{missing_in, AllMissing, AllPass, IsRising};
+ghost use Rattle.shm_keys.specs.Restored.{is_above_all};
 ghost use Rattle.shm_keys.specs.declared.pending_purge.Purge.{Purge as Record};
 
 use shm_place::{SegId, SiteId, SiteSet, Sites};
@@ -20,6 +21,15 @@ pub(crate) fn place_of(purges: &[Purge], id: u64) -> usize
     ensures above { (k : ℕ) (d : Record) → result ≤ k → k < length purges.now → id ≤ (slice_index_or purges.now k d).id }
 {
     purges.partition_point(|purge| (purge.id.0 as u64) < id)
+}
+
+/// Checks that the identifier is above all that stand there.
+pub(crate) fn is_above_all(purges: &[Purge], id: SegId) -> bool
+    requires { IsRising purges.now }
+    ensures { result ≡ is_above_all purges.now id }
+{
+    let place = place_of(purges, id.0 as u64);
+    place == purges.len()
 }
 
 /// All sites have yet to purge the segment, which was destroyed.

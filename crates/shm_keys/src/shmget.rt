@@ -42,7 +42,7 @@ impl Numbered for GetFault {
 }
 
 /// Makes the room that a further segment needs, also for when it is destroyed.
-fn reserve<A: Allocator + Copy>(
+pub(crate) fn reserve<A: Allocator + Copy>(
     segments: &mut Vec<Segment, A>,
     keys: &mut IndexMap<u32, usize, BuildHasherDefault<FoldHasher>, A>,
     purges: &mut Vec<Purge, A>,
@@ -64,7 +64,7 @@ fn reserve<A: Allocator + Copy>(
 }
 
 /// A new segment's key leads to its place.
-fn index_key<A: Allocator + Copy>(
+pub(crate) fn index_key<A: Allocator + Copy>(
     keys: &mut IndexMap<u32, usize, BuildHasherDefault<FoldHasher>, A>,
     key: Key,
     place: usize,
@@ -109,7 +109,7 @@ impl<A: Allocator + Copy> SegTable<A> {
     }
 
     /// The segment that has the key.
-    fn with_key(&self, key: Key) -> Option<Segment>
+    pub(crate) fn with_key(&self, key: Key) -> Option<Segment>
         requires { key ≢ 0 }
         ensures { result ≡ with_key key self.now.segments }
     {
@@ -153,7 +153,7 @@ impl<A: Allocator + Copy> SegTable<A> {
 }
 
 /// The identifier that a home gives at a place in the order of making.
-fn id_at(place: usize, sites: Sites, home: SiteId) -> SegId
+pub(crate) fn id_at(place: usize, sites: Sites, home: SiteId) -> SegId
     requires place { place < SEGMENTS_OF_A_HOME }
     requires home { home < sites }
     ensures { result ≡ place * sites + home }

@@ -6,6 +6,7 @@ mod book;
 mod manager_messages;
 mod request_decision;
 mod request_queue;
+mod restored_book;
 mod transaction_rows;
 mod waiting_request;
 

@@ -51,6 +51,13 @@ impl Counter {
         Counter { last }
     }
 
+    /// The number that was given last; 0 before the first.
+    pub fn last(&self) -> Number
+        ensures { result ≡ self.now }
+    {
+        self.last
+    }
+
     /// The number after the last one.
     pub fn next(&mut self) -> Result<Number, UsedUp>
         ensures number { result ≡ (if nat_lt self.old u64.MAX then Ok (self.old + 1) else Err (record {})) }

@@ -42,6 +42,30 @@ impl<R: Copy> KeptReply<R> {
         KeptReply { kept: [None; 16] }
     }
 
+    /// What is kept for each site, in the order of the sites, is this.
+    pub fn restored(kept: [Option<(Number, R)>; 16]) -> KeptReply<R>
+        ensures { result ≡ kept }
+    {
+        KeptReply { kept }
+    }
+
+    /// The number of the site's last call, and the reply to it. None: nothing is kept for the site.
+    pub fn last(&self, site: SiteId) -> Option<(Number, R)>
+        requires { site < 16 }
+        ensures { result ≡ kept_at self.now site }
+    {
+        self.kept[site.0 as usize]
+    }
+
+    /// What is kept for each site, in the order of the sites.
+    pub fn replies(&self) -> [Option<(Number, R)>; 16]
+        ensures { result ≡ self.now }
+    {
+        let mut replies = [None; 16];
+        replies.copy_from_slice(&self.kept);
+        replies
+    }
+
     /// Looks the number of a call from `site` up. Where nothing is kept, the last number counts as 0.
     pub fn ask(&self, site: SiteId, number: Number) -> Recall<'_, R>
         requires { site < 16 }

@@ -31,6 +31,28 @@ impl Served {
         Served { greatest: [0; 16] }
     }
 
+    /// The record that has these numbers, in the order of the sites.
+    pub fn restored(greatest: [Number; 16]) -> Served
+        ensures { result ≡ greatest }
+    {
+        Served { greatest }
+    }
+
+    /// The greatest number that was served of each site, in the order of the sites.
+    pub fn numbers(&self) -> [Number; 16]
+        ensures { result ≡ self.now }
+    {
+        self.greatest
+    }
+
+    /// The greatest number that was served of the site; 0 where none was.
+    pub fn greatest(&self, site: SiteId) -> Number
+        requires { site < 16 }
+        ensures { result ≡ served_of self.now site }
+    {
+        self.greatest[site.0 as usize]
+    }
+
     /// Checks that the number is above all that were served of the site.
     pub fn fresh(&self, site: SiteId, number: Number) -> bool
         requires { site < 16 }

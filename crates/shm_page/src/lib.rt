@@ -21,6 +21,7 @@ mod on_page_write;
 mod outgoing_message;
 mod own_read_page;
 mod own_write_page;
+mod restored_entry;
 mod share_bytes;
 
 pub use copy_page::CopyPage;

@@ -56,7 +56,7 @@ same_rows (x ∷ xs) (y ∷ ys) s t h = by (nat_cmp x.0 y.0) refl (same_rows xs 
 apart_both : (n m k : ℕ) → m < n → is_at (nat_cmp n) k ≡ true → is_at (nat_cmp m) k ≡ true → true ≡ false
 apart_both n m k lt h i = absurd (let here = at-same n k h in let there = at-same m k i in omega (arith, lt, here, there))
 
-turned : (rows : List Row) (n m : ℕ) (p q : PageId) → m < n → IsStrictlySortedBy nat_cmp (keys_of rows)
+pub turned : (rows : List Row) (n m : ℕ) (p q : PageId) → m < n → IsStrictlySortedBy nat_cmp (keys_of rows)
     → insert_entry nat_cmp (insert_entry nat_cmp rows n p) m q ≡ insert_entry nat_cmp (insert_entry nat_cmp rows m q) n p
 turned rows n m p q lt s =
     same_rows (insert_entry nat_cmp (insert_entry nat_cmp rows n p) m q) (insert_entry nat_cmp (insert_entry nat_cmp rows m q) n p)

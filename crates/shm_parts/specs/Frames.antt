@@ -1,5 +1,5 @@
 -- Frames, as the definitions speak of them.
-use Rattle.std.specs.Prelude.{◌≡◌, Bool, true, ◌&&◌, List, [], ◌∷◌, ◌++◌, Option, Some, None, is_some, not, nat_lt, if◌then◌else◌, length, ⊤}
+use Rattle.std.specs.Prelude.{◌≡◌, Bool, true, false, ◌&&◌, List, [], ◌∷◌, ◌++◌, Option, Some, None, is_some, not, nat_lt, if◌then◌else◌, length, ⊤}
 use Rattle.std.specs.Map.{keys_of, lookup}
 use Rattle.shm_place.specs.declared.page_id.PageId.{PageId}
 use Rattle.shm_place.specs.Page.{same_page}
@@ -12,6 +12,11 @@ use Rattle.shm_parts.specs.declared.frame_order.Frames.{Frames}
 abbrev pub counted : Option PageId → List PageId → List PageId
 counted None pages = pages
 counted (Some awaited) pages = without_page awaited pages
+
+-- room was made for this page, which is no copy yet
+abbrev pub is_awaited : PageId → Option PageId → Bool
+is_awaited page None = false
+is_awaited page (Some awaited) = same_page awaited page
 
 -- the copies, the next to go first
 unfoldable pub copies_in : {A : Type 0} → Frames A → List PageId

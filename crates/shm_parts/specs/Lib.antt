@@ -13,3 +13,5 @@ pub mod Reach
 pub mod Reached
 pub mod Entries
 pub mod OrderedPages
+pub mod Listed
+pub mod Restored

@@ -1,5 +1,5 @@
 //! Attachments, and the pages that they reach.
-ghost use Rattle.std.specs.Prelude.{◌≡◌, ℕ, ◌+◌, ◌%◌, ◌<◌, None, false, true, is_none, IfOk, OnOk, OnErr};
+ghost use Rattle.std.specs.Prelude.{◌≡◌, ℕ, ◌+◌, ◌%◌, ◌<◌, None, Some, false, true, is_none, IfOk, OnOk, OnErr};
 ghost use Rattle.shm_place.specs.declared.page_id.PageId.{PageId as Page};
 ghost use Rattle.shm_place.specs.Page as place;
 ghost use Rattle.shm_model.specs.Basics.{at};
@@ -9,6 +9,7 @@ ghost use Rattle.shm_parts.specs.Entries.{entries_of, is_stored};
 ghost use Rattle.shm_parts.specs.Holdings.{SameSeat, with_holdings};
 ghost use Rattle.shm_parts.specs.Purged.{purged_of};
 ghost use Rattle.shm_parts.specs.Reach.{manages};
+ghost use Rattle.shm_parts.specs.Restored.{StillStored};
 
 use crate::holdings::Holdings;
 use crate::page_entries::Entries;
@@ -43,6 +44,45 @@ impl<A: Allocator + Copy> Holdings<A> {
                 let number = self.attachments.put(id, size, ro);
                 self.first_places.note(number, first);
                 Ok(number)
+            }
+        }
+    }
+
+    /// Attaches the segment at this number, in place of what was attached there. First it stores entries as [`Holdings::attach`] does. Where
+    /// memory is refused nothing changes.
+    pub fn restore_attachment(
+        &mut self,
+        number: u32,
+        id: SegId,
+        size: u32,
+        ro: bool,
+    ) -> Result<(), AllocError>
+        requires number { number < 64 }
+        requires alive { purged_of self.old.purged id ≡ false }
+        ensures after { OnOk result ((site : Site)
+            → with_holdings self.old.sites self.old.me self.new site
+            ≡ with_attachments (at (attachments_of self.old.attachments) number (Some (record { id = id; size = size; ro = ro })))
+            (with_holdings self.old.sites self.old.me self.old site)) }
+        ensures refused { OnErr result ((site : Site) → with_holdings self.old.sites self.old.me self.new site
+            ≡ with_holdings self.old.sites self.old.me self.old site) }
+        ensures stays { StillStored self.old self.new }
+        ensures seat { SameSeat self.old self.new }
+    {
+        let bytes = rounded(size);
+        let pages = (bytes / PAGE_BYTES as u64) as u32;
+        match store_pages(
+            &mut self.entries,
+            self.alloc,
+            self.sites,
+            self.me,
+            id,
+            pages,
+        ) {
+            Err(error) => Err(error),
+            Ok(first) => {
+                self.attachments.restore(number, id, size, ro);
+                self.first_places.note(Some(number), first);
+                Ok(())
             }
         }
     }

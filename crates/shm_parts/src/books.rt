@@ -1,11 +1,13 @@
 //! A manager's books: their changes at each message, at a restart and at a purge.
-ghost use Rattle.std.specs.Prelude.{◌≡◌, ℕ, ◌<◌, ◌≤◌, ◌==◌, false, true, cond, [], length, None, option_copied, IfNone, IfOk, IfSome, OnErr};
+ghost use Rattle.std.specs.Prelude.{◌≡◌, ℕ, ◌<◌, ◌≤◌, ◌==◌, false, true, cond, if◌then◌else◌, not, [], ◌∷◌, ◌++◌, length, None, option_copied, IfNone, IfOk, IfSome, OnErr, OnOk};
 ghost use Rattle.shm_parts.specs.Booked.{IsBooked};
+ghost use Rattle.std.specs.List.{AllByRecursion, IsDistinct, list_any};
 ghost use Rattle.std.specs.Map.{lookup};
 ghost use Rattle.shm_place.specs.declared.page_id.PageId.{PageId as Page};
 ghost use Rattle.shm_place.specs.Limits.{pages};
 ghost use Rattle.shm_place.specs.Page.{same_page};
 ghost use Rattle.shm_manager.specs.Book.{book_of, due_of, is_ignored, starts};
+ghost use Rattle.shm_model.specs.Basics.{at_page};
 ghost use Rattle.shm_model.specs.Book as model;
 ghost use Rattle.shm_model.specs.SegmentCalls.{of_segment, without_segment};
 ghost use Rattle.shm_model.specs.Site.{Site};
@@ -34,6 +36,7 @@ pub struct Books<A: Allocator + Copy = Global> {
 }
 
 impl<A: Allocator + Copy> Books<A> {
+    ghost use Rattle.shm_parts.specs.Listed.{booked_list, filled};
     ghost use Rattle.shm_parts.specs.Books.{book_or, booked_after, booked_of, booked_step, books_of, orders_in, with_books, AllIdle, HasRoom, IsNextRunning};
 
     /// No page was asked for.
@@ -213,6 +216,56 @@ impl<A: Allocator + Copy> Books<A> {
             unreachable!()
         };
         Some((place, page, &stored.book))
+    }
+
+    /// How many pages have books.
+    pub fn count(&self) -> usize
+        ensures count { result ≡ length self.now.map.entries }
+        ensures listed { (me : ℕ) → filled (λ _. model.untouched_book me) (booked_list me self.now) ≡ (λ page. model.without_volatile (books_of me self.now page)) }
+        ensures apart { IsDistinct same_page (booked_of self.now) }
+        ensures within { AllByRecursion (λ page. page.index < pages) (booked_of self.now) }
+    {
+        self.map.len()
+    }
+
+    /// The pages that have books, in the order of their first transactions.
+    pub fn list(&self) -> Result<Vec<PageId, A>, AllocError>
+        ensures { IfOk result (λ list. list.items ≡ booked_of self.now) }
+    {
+        self.bookings.list()
+    }
+
+    /// Gives a page without a book this one, as the last in the order of the first transactions. Ok(false): it has a book, and nothing
+    /// changes. An error: memory is refused, or pages joined 2^64 - 1 times; then nothing changes either.
+    pub fn restore(&mut self, page: PageId, book: Book<A>) -> Result<bool, AllocError>
+        requires { page.index < pages }
+        ensures joins { IfOk result (λ joins. joins ≡ not (list_any (same_page page) (booked_of self.old))) }
+        ensures books { IfOk result (λ joins. (me : ℕ) → books_of me self.new
+            ≡ (if joins then at_page (books_of me self.old) page (book_of book) else books_of me self.old)) }
+        ensures booked { IfOk result (λ joins. booked_of self.new ≡ (if joins then booked_of self.old ++ page ∷ [] else booked_of self.old)) }
+        ensures refused { OnErr result (((me : ℕ) → books_of me self.new ≡ books_of me self.old) × (booked_of self.new ≡ booked_of self.old)) }
+    {
+        if self.map.contains_key(&page) {
+            return Ok(false);
+        }
+        match self.join(page, book) {
+            Err(error) => Err(error),
+            Ok(()) => Ok(true),
+        }
+    }
+
+    /// Gives a page without a book this one. Memory comes first.
+    fn join(&mut self, page: PageId, book: Book<A>) -> Result<(), AllocError>
+        requires index { page.index < pages }
+        requires absent { lookup (same_page page) self.old.map.entries ≡ None }
+        ensures books { OnOk result ((me : ℕ) → books_of me self.new ≡ at_page (books_of me self.old) page (book_of book)) }
+        ensures booked { OnOk result (booked_of self.new ≡ booked_of self.old ++ page ∷ []) }
+        ensures refused { OnErr result ((self.new.map.entries ≡ self.old.map.entries) × (booked_of self.new ≡ booked_of self.old)) }
+    {
+        self.map.reserve(1)?;
+        self.bookings.add(&page)?;
+        put(&mut self.map, page, StoredBook { book });
+        Ok(())
     }
 
     /// Equal books in equal order.

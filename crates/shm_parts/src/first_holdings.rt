@@ -26,6 +26,16 @@ impl<A: Allocator + Copy> Holdings<A> {
         Holdings::empty(alloc, sites, me, None)
     }
 
+    /// Nothing is attached, purged or counted, and every page is untouched. `limit`: the most copies that the site may have, if there is a
+    /// limit.
+    pub fn limited(alloc: A, sites: Sites, me: SiteId, limit: Option<u32>) -> Holdings<A>
+        ensures held { (site : Site) → with_holdings sites me result site
+            ≡ record site { entries = untouched sites me; attachments = λ _. None; purged = λ _. false; frames = option_map framed limit } }
+        ensures seat { (result.sites ≡ sites) × (result.me ≡ me) }
+    {
+        Holdings::empty(alloc, sites, me, limit)
+    }
+
     /// Segment 0 with this number of pages is attached as attachment 0, to read and write. The entries of the pages that the site manages
     /// are stored. `limit`: the most copies that the site may have, if there is a limit.
     pub fn preset(

@@ -1,5 +1,7 @@
 //! The order in which the site gives copies up.
-ghost use Rattle.std.specs.Prelude.{◌≡◌, [], None, true, IfOk, OnOk};
+ghost use Rattle.std.specs.Prelude.{◌≡◌, [], ◌∷◌, ◌++◌, None, length, not, true, if◌then◌else◌, IfOk, OnErr, OnOk};
+ghost use Rattle.std.specs.List.{IsDistinct, list_any};
+ghost use Rattle.shm_place.specs.Page.{same_page};
 ghost use Rattle.shm_model.specs.SegmentCalls.{without_segment};
 
 use crate::entry_change::Change;
@@ -18,7 +20,7 @@ pub struct Frames<A: Allocator + Copy = Global> {
 }
 
 impl<A: Allocator + Copy> Frames<A> {
-    ghost use Rattle.shm_parts.specs.Frames.{arranged_by, frames_of, has_room, installs, overflowed};
+    ghost use Rattle.shm_parts.specs.Frames.{arranged_by, frames_of, has_room, installs, is_awaited, overflowed};
 
     /// No copies, and at most `limit` from now on.
     #[tactic(auto, unfolding(crate::specs::Frames::copies_in))]
@@ -93,6 +95,59 @@ impl<A: Allocator + Copy> Frames<A> {
     {
         self.let_go();
         self.pages.remove_segment(id);
+    }
+
+    /// How many copies there may be.
+    pub fn limit(&self) -> u32
+        ensures { result ≡ (frames_of self.now).limit }
+    {
+        self.limit
+    }
+
+    /// How many pages stand here, with the one for which room was made. Each copy stands here once.
+    #[tactic(auto, unfolding(crate::specs::Frames::copies_in))]
+    pub(crate) fn standing_count(&self) -> usize
+        ensures count { result ≡ length self.now.pages }
+        ensures apart { IsDistinct same_page (frames_of self.now).copies }
+    {
+        self.pages.count()
+    }
+
+    /// The copies, the next to go first.
+    #[tactic(auto, using(crate::proofs::FrameRestoring::counted_left), unfolding(crate::specs::Frames::copies_in))]
+    pub fn copies(&self, alloc: A) -> Result<Vec<PageId, A>, AllocError>
+        ensures { IfOk result (λ copies. copies.items ≡ (frames_of self.now).copies) }
+    {
+        let mut copies = Vec::new(alloc);
+        'pages: for (page, _) in self.pages.iter() {
+            if self.awaits(page) {
+                continue;
+            }
+            copies.push(*page)?;
+        }
+        Ok(copies)
+    }
+
+    /// Checks that room was made for the page and not used.
+    fn awaits(&self, page: &PageId) -> bool
+        ensures { result ≡ is_awaited page.now self.now.awaited }
+    {
+        match &self.awaited {
+            None => false,
+            Some(awaited) => *awaited == *page,
+        }
+    }
+
+    /// Puts the page behind the copies, as the last to go, unless it is one. Answers whether it did. Where memory is refused nothing
+    /// changes.
+    pub fn restore(&mut self, page: &PageId) -> Result<bool, AllocError>
+        ensures joins { IfOk result (λ joins. joins ≡ not (list_any (same_page page.now) (frames_of self.old).copies)) }
+        ensures after { IfOk result (λ joins. frames_of self.new ≡ (if joins
+            then record (frames_of self.old) { copies = (frames_of self.old).copies ++ page.now ∷ [] } else frames_of self.old)) }
+        ensures refused { OnErr result (frames_of self.new ≡ frames_of self.old) }
+    {
+        self.let_go();
+        self.pages.put(*page, ())
     }
 
     /// An equal limit, and equal copies in equal order.

@@ -31,6 +31,8 @@ mod pending_requests;
 mod purge_segment;
 mod purged_segments;
 mod reached_segment_and_page;
+mod read_holdings;
+mod restore_holdings;
 mod stored_entry_and_book;
 
 pub use access_outcome::{LoadOutcome, StoreOutcome};

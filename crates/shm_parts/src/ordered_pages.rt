@@ -1,6 +1,7 @@
 //! Pages in the order in which they joined, each with a value.
 ghost use Rattle.std.specs.Prelude.{◌≡◌, ◌++◌, [], ◌∷◌, Some, drop, is_some, length, not, option_copied, IfOk, OnOk, OnErr};
-ghost use Rattle.std.specs.Map.{lookup, remove_entry};
+ghost use Rattle.std.specs.List.{IsDistinct};
+ghost use Rattle.std.specs.Map.{keys_of, lookup, remove_entry};
 ghost use Rattle.indexmap.specs.IndexMap.{insert_entry};
 ghost use Rattle.shm_place.specs.Page.{same_page};
 ghost use Rattle.shm_parts.specs.OrderedPages.{first_page, moved_last, without, without_pages_of};
@@ -57,6 +58,14 @@ impl<V: Drop, A: Allocator + Copy> OrderedPages<V, A> {
     /// How many pages there are.
     pub fn len(&self) -> usize
         ensures { result ≡ length self.now }
+    {
+        self.places.len()
+    }
+
+    /// How many pages there are, each once.
+    pub fn count(&self) -> usize
+        ensures count { result ≡ length self.now }
+        ensures apart { IsDistinct same_page (keys_of self.now) }
     {
         self.places.len()
     }

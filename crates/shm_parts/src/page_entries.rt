@@ -1,11 +1,15 @@
 //! The entries that a site has stored, and their changes.
-ghost use Rattle.std.specs.Prelude.{◌≡◌, ℕ, ◌+◌, ◌<◌, ◌≤◌, ◌==◌, true, false, if◌then◌else◌, None, Some, option_copied, IfOk, IfErr, OnOk, OnErr};
+ghost use Rattle.std.specs.Prelude.{◌≡◌, ℕ, ◌+◌, ◌<◌, ◌≤◌, ◌==◌, true, false, if◌then◌else◌, length, None, Some, option_copied, slice_get, IfOk, IfErr, IfNone, IfSome, OnOk, OnErr};
 ghost use Rattle.shm_place.specs.declared.page_id.PageId.{PageId as Page};
+ghost use Rattle.std.specs.List.{list_any};
+ghost use Rattle.std.specs.Map.{keys_of};
 ghost use Rattle.shm_place.specs.Limits.{page_bytes, pages};
+ghost use Rattle.shm_place.specs.Page.{same_page};
 ghost use Rattle.shm_model.specs.Access.{stored_entry};
 ghost use Rattle.shm_model.specs.Entry as model;
 ghost use Rattle.shm_model.specs.Basics.{at_page};
 ghost use Rattle.shm_model.specs.Site.{untouched};
+ghost use Rattle.shm_page.specs.Entry.{entry_of};
 ghost use Rattle.shm_page.specs.Out.{out_of};
 
 use crate::change_one_entry::{forget_in, open, store_in, turn_in};
@@ -27,6 +31,7 @@ pub struct Entries<A: Allocator + Copy = Global> {
 
 impl<A: Allocator + Copy> Entries<A> {
     ghost use Rattle.shm_parts.specs.Entries.{StandsAt, change_of, entries_of, is_stored, row, stored_at};
+    ghost use Rattle.shm_parts.specs.Listed.{filled, stored_list};
     ghost use Rattle.shm_parts.specs.Message.{entry_note_of};
 
     /// Nothing is stored.
@@ -60,6 +65,39 @@ impl<A: Allocator + Copy> Entries<A> {
             return Some(&stored.entry);
         }
         self.get(page)
+    }
+
+    /// How many entries are stored.
+    pub fn count(&self) -> usize
+        ensures count { result ≡ length (stored_list self.now) }
+        ensures listed { (rest : Page → model.Entry) → entries_of rest self.now ≡ filled rest (stored_list self.now) }
+        ensures stored { is_stored self.now ≡ (λ page. list_any (same_page page) (keys_of (stored_list self.now))) }
+    {
+        self.map.len()
+    }
+
+    /// The entry in this place among those that are stored, and its page. None: not so many are stored.
+    pub fn at_place(&self, place: usize) -> Option<(PageId, &Entry<A>)>
+        ensures found { IfSome result (λ r. slice_get (stored_list self.now) place ≡ Some (r.0, entry_of r.1.now)) }
+        ensures none { IfNone result (slice_get (stored_list self.now) place ≡ None) }
+    {
+        let Some((page, stored)) = self.map.get_index(place) else {
+            return None;
+        };
+        Some((*page, &stored.entry))
+    }
+
+    /// Stores this entry of the page, in place of what was stored of it. Where memory is refused nothing changes.
+    pub fn restore(&mut self, page: PageId, entry: Entry<A>) -> Result<(), AllocError>
+        ensures entries { OnOk result ((rest : Page → model.Entry) → entries_of rest self.new ≡ at_page (entries_of rest self.old) page (entry_of entry)) }
+        ensures stored { OnOk result (is_stored self.new ≡ at_page (is_stored self.old) page true) }
+        ensures refused { OnErr result ((rest : Page → model.Entry) → entries_of rest self.new ≡ entries_of rest self.old) }
+        ensures same { OnErr result (is_stored self.new ≡ is_stored self.old) }
+    {
+        match self.map.insert(page, StoredEntry { entry }) {
+            Ok(_) => Ok(()),
+            Err(_) => Err(AllocError),
+        }
     }
 
     /// Stores the entry of an untouched page, unless its entry is stored already, and answers its place. As the definitions see it, nothing

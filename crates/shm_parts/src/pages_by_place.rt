@@ -2,7 +2,7 @@
 ghost use Rattle.std.specs.Prelude.{◌≡◌, ◌≤◌, ◌<◌, ℕ, [], not, None, Some, cond, is_some, length, nat_le, nat_lt, IfNone, IfOk, IfSome, OnErr, OnOk, true};
 ghost use Rattle.std.specs.BTreeMap as tree;
 ghost use Rattle.std.specs.List.Sorted.{IsStrictlySortedBy};
-ghost use Rattle.std.specs.Map.{keys_of, remove_entry};
+ghost use Rattle.std.specs.Map.{keys_of, remove_entry, values_of};
 ghost use Rattle.std.specs.Ordering.{nat_cmp};
 ghost use Rattle.shm_parts.specs.Places.{is_behind, leading, page_at};
 
@@ -83,6 +83,18 @@ impl<A: Allocator + Copy> RisingPlaces<A> {
             return None;
         }
         Some(self.pages[index])
+    }
+
+    /// The pages, in the order of their places.
+    pub(crate) fn list(&self) -> Result<Vec<PageId, A>, AllocError>
+        ensures { IfOk result (λ list. list.items ≡ values_of self.now) }
+    {
+        let mut list = Vec::new(*self.pages.allocator());
+        let pairs = self.pages.as_slice();
+        'pairs: for pair in pairs {
+            list.push(pair.1)?;
+        }
+        Ok(list)
     }
 
     /// Equal pages at equal places.

@@ -111,6 +111,29 @@ impl<A: Allocator + Copy> Bookings<A> {
         self.marked.first_after(last)
     }
 
+    /// The pages, in their order.
+    pub(crate) fn list(&self) -> Result<Vec<PageId, A>, AllocError>
+        ensures { IfOk result (λ list. list.items ≡ listed_of self.now) }
+    {
+        let rising = self.by_place()?;
+        rising.list()
+    }
+
+    /// The pages at their places.
+    fn by_place(&self) -> Result<RisingPlaces<A>, AllocError>
+        ensures { IfOk result (λ rising. rising ≡ in_order self.now.places.entries) }
+    {
+        let mut rising = RisingPlaces::new(*self.places.allocator());
+        let count = self.places.len();
+        'places: for index in 0..count {
+            let Some((page, place)) = self.places.get_index(index) else {
+                unreachable!()
+            };
+            rising.put_at(*place, *page)?;
+        }
+        Ok(rising)
+    }
+
     /// Equal pages in equal order, with equal marks.
     pub(crate) fn copy(&self) -> Result<Bookings<A>, AllocError>
         ensures listed { IfOk result (λ copy. listed_of copy ≡ listed_of self.now) }

@@ -1,5 +1,5 @@
 //! The segments that a site has purged.
-ghost use Rattle.std.specs.Prelude.{◌≡◌, false, true, IfOk, OnOk, OnErr};
+ghost use Rattle.std.specs.Prelude.{◌≡◌, false, true, length, slice_get, IfOk, OnOk, OnErr};
 ghost use Rattle.shm_model.specs.Basics.{at};
 
 use indexmap::IndexMap;
@@ -14,6 +14,7 @@ pub struct Purged<A: Allocator + Copy = Global> {
 }
 
 impl<A: Allocator + Copy> Purged<A> {
+    ghost use Rattle.shm_parts.specs.Listed.{purged_in, purged_list};
     ghost use Rattle.shm_parts.specs.Purged.{purged_of};
 
     /// No segment was purged.
@@ -30,6 +31,24 @@ impl<A: Allocator + Copy> Purged<A> {
         ensures { result ≡ purged_of self.now id }
     {
         self.map.contains_key(&id.0)
+    }
+
+    /// How many segments were purged.
+    pub fn count(&self) -> usize
+        ensures count { result ≡ length (purged_list self.now) }
+        ensures listed { purged_of self.now ≡ purged_in (purged_list self.now) }
+    {
+        self.map.len()
+    }
+
+    /// The purged segment in this place of the order in which they were noted. None: not so many were.
+    pub fn at_place(&self, place: usize) -> Option<SegId>
+        ensures { result ≡ slice_get (purged_list self.now) place }
+    {
+        let Some((id, _)) = self.map.get_index(place) else {
+            return None;
+        };
+        Some(SegId(*id))
     }
 
     /// Notes the segment as purged. Where memory is refused nothing changes.

@@ -3,6 +3,7 @@ pub mod CallSteps
 pub mod Orders
 pub mod Seats
 pub mod SiteParts
+pub mod Stated
 pub mod Steps
 pub mod Stores
 pub mod Ticks

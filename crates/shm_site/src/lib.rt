@@ -20,6 +20,7 @@ mod send_page_orders;
 mod serve_segment_call;
 mod site;
 mod site_input;
+mod site_state;
 mod step;
 mod step_error;
 mod step_fault_numbers;

@@ -9,6 +9,7 @@ mod merge;
 mod network;
 mod owner_lends_or_hands_over;
 mod page;
+mod restored_parts;
 mod site;
 mod write_grant;
 
