@@ -1,4 +1,4 @@
-//! Tests of a site as a process: what it tells and records of accesses, of blocks and of mapped pages, and what it does where memory is refused.
+//! Tests of sites as processes: their lines, their desks, what they tell and record, and the journals that they keep.
 #![tactic(auto)]
 
 #[cfg(test)]

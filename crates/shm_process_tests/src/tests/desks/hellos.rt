@@ -1,5 +1,5 @@
 //! What a site says of how it was begun, and what it makes of what others say.
-use crate::tests::{greeting_desk, silent_desk};
+use crate::tests::desks::{greeting_desk, silent_desk};
 use shm_process::Desk;
 use shm_seal::{ClusterName, Key, Seal};
 use std::alloc::{AllocError, Global};

@@ -1,9 +1,9 @@
 //! Two nodes that a test carries lines between.
-use crate::tests::exchanges::{
+use crate::tests::sites::exchanges::{
     Exchange, Records, asks_waiting, counts, first_astray, new_desks, page_line,
 };
-use crate::tests::fill_heap::{Filling, TRIES, fill_heap};
-use crate::tests::{
+use crate::tests::sites::fill_heap::{Filling, TRIES, fill_heap};
+use crate::tests::sites::{
     Counted, counts_of, new_node, new_nodes, said_again, take_line, tells, tells_nobody,
 };
 use linked_list_allocator::LocalHeap;

@@ -1,5 +1,5 @@
 //! What a site makes of its own envelopes: it notes the first of a step that it doesn't have.
-use crate::tests::silent_desk;
+use crate::tests::desks::silent_desk;
 use shm_process::Desk;
 use std::alloc::AllocError;
 use std::test::Fail;

@@ -1,5 +1,5 @@
 //! Blocks that are stored: many stores that one caller asks for at once, and is told of once.
-use crate::tests::exchanges::{
+use crate::tests::sites::exchanges::{
     Exchange, Records, answers, asks_waiting, counts, first_astray, new_desks, page_line,
 };
 use shm_process::Desk;

@@ -1,5 +1,6 @@
 //! Desks that a test carries lines between, by a table.
-use crate::tests::{Counted, counts_of, new_node};
+use crate::tests::new_node;
+use crate::tests::sites::{Counted, counts_of};
 use shm_process::Desk;
 use std::alloc::{AllocError, Global};
 

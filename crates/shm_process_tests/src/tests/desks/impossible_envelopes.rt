@@ -1,5 +1,5 @@
 //! Envelopes that no site can have sent: from too far ahead, or with a number above the clock of their step.
-use crate::tests::silent_desk;
+use crate::tests::desks::silent_desk;
 use shm_process::Desk;
 use std::alloc::{AllocError, Global};
 use std::test::Fail;

@@ -1,5 +1,7 @@
 //! Pages that a site's machine maps: what is kept back meanwhile, and what is given up.
-use crate::tests::exchanges::{Exchange, Records, counts, first_astray, new_desks, page_line};
+use crate::tests::sites::exchanges::{
+    Exchange, Records, counts, first_astray, new_desks, page_line,
+};
 use std::test::Fail;
 
 /// Site 0 maps page 0 to write, which has a 5. A Hand is kept back until the mapping is turned into one to read, and brings 7 and 8.

@@ -3,18 +3,10 @@ mod hellos;
 mod impossible_envelopes;
 mod later_steps;
 
-use shm_place::{SiteId, Sites};
-use shm_process::{Desk, Node, Opening, Start};
+use crate::tests::new_node;
+use shm_process::{Desk, Opening, Start};
 use shm_seal::Seal;
 use std::alloc::{AllocError, Global};
-
-/// A site of so many, where segment 0 has 4 pages and is attached.
-fn new_node(alloc: Global, sites: u32, me: u32) -> Result<Node, AllocError> {
-    match Sites::new(sites) {
-        Ok(sites) if me < sites.count() => Node::new(alloc, sites, SiteId(me), 4),
-        _ => Err(AllocError),
-    }
-}
 
 /// The desk of such a site that says how it was begun; its journal has 100 bytes.
 fn greeting_desk(

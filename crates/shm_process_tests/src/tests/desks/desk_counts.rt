@@ -1,5 +1,5 @@
 //! What a desk counts, as a site's caller is told it.
-use crate::tests::greeting_desk;
+use crate::tests::desks::greeting_desk;
 use shm_process::Desk;
 use shm_seal::Seal;
 use std::alloc::AllocError;

@@ -1,7 +1,10 @@
 //! Blocks: many loads that one caller asks for at once, and is told of once.
-use crate::tests::exchanges::{Exchange, Records, counts, first_astray, new_desks, page_line};
-use crate::tests::fill_heap::{Filling, TRIES, fill_heap};
-use crate::tests::{Counted, counts_of, new_node, new_nodes, said_again, take_line, tells};
+use crate::tests::new_node;
+use crate::tests::sites::exchanges::{
+    Exchange, Records, counts, first_astray, new_desks, page_line,
+};
+use crate::tests::sites::fill_heap::{Filling, TRIES, fill_heap};
+use crate::tests::sites::{Counted, counts_of, new_nodes, said_again, take_line, tells};
 use linked_list_allocator::LocalHeap;
 use shm_model::Answer;
 use shm_process::{Counts, Node, Unopened};
