@@ -16,26 +16,33 @@ TellsPlain text text' = (more : List ℕ) × (text' ≡ text ++ more) × (list_a
 
 -- ---- how the commands are typed that are no lines of a script
 
-abbrev pub later_form_of : List ℕ → Option (List ℕ)
-later_form_of verb =
+-- of those that keep something: scripts in files, and notes
+abbrev pub kept_form_of : List ℕ → Option (List ℕ)
+kept_form_of verb =
     if bytes_eq verb (codes "save") then Some (codes "save FILE, where FILE is one word")
     else if bytes_eq verb (codes "open") then Some (codes "open FILE, where FILE is one word")
     else if bytes_eq verb (codes "note") then Some (codes "note TEXT")
     else if bytes_eq verb (codes "notes") then Some (codes "notes FILE, where FILE is one word")
-    else if bytes_eq verb (codes "quit") then Some (codes "quit")
-    else if bytes_eq verb (codes "exit") then Some (codes "quit")
     else None
 
-abbrev pub form_of : List ℕ → Option (List ℕ)
-form_of verb =
+-- of those that show a table, and of the former
+abbrev pub shown_form_of : List ℕ → Option (List ℕ)
+shown_form_of verb =
     if bytes_eq verb (codes "flight") then Some (codes "flight")
     else if bytes_eq verb (codes "book") then Some (codes "book SEGMENT PAGE")
     else if bytes_eq verb (codes "segments") then Some (codes "segments")
-    else if bytes_eq verb (codes "run") then Some (codes "run, or run N with N from 0 to 4294967295, with no zero before other digits")
+    else kept_form_of verb
+
+-- of any
+abbrev pub form_of : List ℕ → Option (List ℕ)
+form_of verb =
+    if bytes_eq verb (codes "run") then Some (codes "run, or run N with N from 0 to 4294967295, with no zero before other digits")
     else if bytes_eq verb (codes "undo") then Some (codes "undo")
     else if bytes_eq verb (codes "help") then Some (codes "help")
     else if bytes_eq verb (codes "?") then Some (codes "help")
-    else later_form_of verb
+    else if bytes_eq verb (codes "quit") then Some (codes "quit")
+    else if bytes_eq verb (codes "exit") then Some (codes "quit")
+    else shown_form_of verb
 
 abbrev pub verb_among : List (List ℕ) → List ℕ
 verb_among [] = []

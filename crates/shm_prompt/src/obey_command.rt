@@ -32,7 +32,7 @@ impl<A: Allocator + Copy> Dialog<A> {
     /// wrong line shows where it goes wrong and what could stand there.
     ///
     /// `save` writes the whole script under the name in the line, or nothing, and `notes` all notes; each says whether it did, and writes
-    /// nothing else where memory is refused. No clause says what the tables and hints print.
+    /// nothing else where memory is refused. Which printable characters a table or a wrong place's hint has, no clause says.
     pub fn obey<S: SaveFile>(
         &mut self,
         typed: &[u8],

@@ -53,15 +53,6 @@ fn verb_among(typed: &[u8]) -> &[u8]
 fn form_of(verb: &[u8]) -> Option<&'static str>
     ensures { option_map (λ form. form.now) result ≡ told.form_of verb.now }
 {
-    if verb == b"flight".as_slice() {
-        return Some("flight");
-    }
-    if verb == b"book".as_slice() {
-        return Some("book SEGMENT PAGE");
-    }
-    if verb == b"segments".as_slice() {
-        return Some("segments");
-    }
     if verb == b"run".as_slice() {
         return Some("run, or run N with N from 0 to 4294967295, with no zero before other digits");
     }
@@ -74,11 +65,34 @@ fn form_of(verb: &[u8]) -> Option<&'static str>
     if verb == b"?".as_slice() {
         return Some("help");
     }
-    later_form_of(verb)
+    if verb == b"quit".as_slice() {
+        return Some("quit");
+    }
+    if verb == b"exit".as_slice() {
+        return Some("quit");
+    }
+    shown_form_of(verb)
 }
 
-fn later_form_of(verb: &[u8]) -> Option<&'static str>
-    ensures { option_map (λ form. form.now) result ≡ told.later_form_of verb.now }
+/// The form of a command that shows a table, or keeps something.
+fn shown_form_of(verb: &[u8]) -> Option<&'static str>
+    ensures { option_map (λ form. form.now) result ≡ told.shown_form_of verb.now }
+{
+    if verb == b"flight".as_slice() {
+        return Some("flight");
+    }
+    if verb == b"book".as_slice() {
+        return Some("book SEGMENT PAGE");
+    }
+    if verb == b"segments".as_slice() {
+        return Some("segments");
+    }
+    kept_form_of(verb)
+}
+
+/// The form of a command that keeps something: a script in a file, or a note.
+fn kept_form_of(verb: &[u8]) -> Option<&'static str>
+    ensures { option_map (λ form. form.now) result ≡ told.kept_form_of verb.now }
 {
     if verb == b"save".as_slice() {
         return Some("save FILE, where FILE is one word");
@@ -91,12 +105,6 @@ fn later_form_of(verb: &[u8]) -> Option<&'static str>
     }
     if verb == b"notes".as_slice() {
         return Some("notes FILE, where FILE is one word");
-    }
-    if verb == b"quit".as_slice() {
-        return Some("quit");
-    }
-    if verb == b"exit".as_slice() {
-        return Some("quit");
     }
     None
 }
