@@ -131,6 +131,11 @@ refused:
 test: refused
 	RT_JOBS=$${RT_JOBS:-$$(gate/lanes)} rt ci 2>&1
 
+# Tries the wrong bodies of one crate, many in one check, in a clone of the last commit: `make tries CRATE=shm_number`. Needs Python 3.
+.PHONY: tries
+tries:
+	@gate/tries $(CRATE)
+
 # The wrong bodies that the gate leaves out for its time: the prover must refuse each of these, too. Tried in a clone of the last commit,
 # four crates at a time.
 wrong-bodies:
