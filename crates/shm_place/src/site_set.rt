@@ -52,6 +52,20 @@ impl SiteSet {
         SiteSet { members }
     }
 
+    /// The set of these sites: of each of the 16 that there can be, whether it is in it.
+    pub fn restored(members: [bool; 16]) -> SiteSet
+        ensures { result ≡ members }
+    {
+        SiteSet { members }
+    }
+
+    /// Of each of the 16 sites that there can be, whether it is in the set.
+    pub fn members(&self) -> [bool; 16]
+        ensures { result ≡ self.now }
+    {
+        self.members
+    }
+
     /// Checks that the site is in the set.
     pub fn contains(&self, site: SiteId) -> bool
         ensures { result ≡ has self.now site }

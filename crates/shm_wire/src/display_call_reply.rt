@@ -65,7 +65,7 @@ impl fmt::Display for StatWords {
 
 /// The word that says whether a segment is marked to be destroyed.
 #[derive(Clone, Copy)]
-struct StandingWord(bool);
+pub struct StandingWord(pub bool);
 
 impl fmt::Display for StandingWord {
     ghost use Rattle.std.specs.Prelude.{Some};

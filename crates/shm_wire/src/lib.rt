@@ -30,6 +30,7 @@ mod sent_envelope;
 mod stream_line;
 mod stream_line_parser;
 mod unmap_ask;
+pub mod words;
 
 pub use answer_line::{BlockText, TellLine};
 pub use block_write::WriteAsk;

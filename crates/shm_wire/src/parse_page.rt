@@ -47,7 +47,10 @@ pub fn page<A: Allocator + Copy>(
 }
 
 /// The bytes of a page that the word is the base64 of.
-fn page_bytes<A: Allocator + Copy>(alloc: A, word: &[u8]) -> Result<Option<Vec<u8, A>>, AllocError>
+pub fn page_bytes<A: Allocator + Copy>(
+    alloc: A,
+    word: &[u8],
+) -> Result<Option<Vec<u8, A>>, AllocError>
     ensures bytes { IfOk result (λ bytes. option_map (λ v. v.items) bytes ≡ page_bytes_of word.now) }
     ensures whole { IfOk result (λ bytes. IfSome bytes (λ v. length v.items ≡ limits.page_bytes)) }
 {

@@ -25,7 +25,7 @@ pub fn kind(words: Words<'_>) -> Option<(Kind, Words<'_>)>
     Some((value, words))
 }
 
-fn kind_named(word: &[u8]) -> Option<Kind>
+pub fn kind_named(word: &[u8]) -> Option<Kind>
     ensures { result ≡ kind_of word.now }
 {
     if word == b"read".as_slice() {

@@ -1,0 +1,8 @@
+pub mod SetWords
+pub mod EntryWords
+pub mod ServedWords
+pub mod BookWords
+pub mod BookTexts
+pub mod PlainWords
+pub mod PartWords
+pub mod SpelledParts

@@ -1,0 +1,20 @@
+//! A site's state as lines of text: `state`, what the part is, and its fields. A page's bytes are base64.
+//!
+//! Each part has one spelling: what is printed is read back equal, and nothing else is read. A line stands without its line feed, and none is
+//! also a line of the stream.
+#![tactic(auto)]
+
+mod display_book;
+mod display_entry;
+mod display_part;
+mod display_set;
+pub mod laws;
+mod parse_book;
+mod parse_entry;
+mod parse_plain_part;
+mod parse_set;
+mod part;
+mod part_line_parser;
+
+pub use part::{BookPart, EntryPart, Part};
+pub use part_line_parser::parse_part;
