@@ -92,6 +92,7 @@ impl Attachments {
     pub(crate) fn at(&self, number: u32) -> Option<Attachment>
         ensures attachment { result ≡ attachments_of self.now number }
         ensures below { IfSome result (λ _. number < MAX_ATTACHMENTS) }
+        ensures numbers { length self.now ≡ 64 }
     {
         let index = number as usize;
         if index < self.slots.len() {
@@ -102,7 +103,8 @@ impl Attachments {
 
     /// What is attached at the number: the segment, its size as it was asked, and whether only to read.
     pub fn get(&self, number: u32) -> Option<(SegId, (u32, bool))>
-        ensures { option_map attachment_from result ≡ attachments_of self.now number }
+        ensures attachment { option_map attachment_from result ≡ attachments_of self.now number }
+        ensures numbers { length self.now ≡ 64 }
     {
         let attachment = self.at(number)?;
         Some((attachment.id, (attachment.size, attachment.ro)))

@@ -1,5 +1,5 @@
 //! A table that is made anew from what was read of it: its segments one after another, and then its pending purges.
-ghost use Rattle.std.specs.Prelude.{◌≡◌, ◌≤◌, ◌++◌, ◌∷◌, [], true, IfOk, IfSome, OnOk, OnErr, option_map, slice_get, take, if◌then◌else◌};
+ghost use Rattle.std.specs.Prelude.{◌≡◌, ◌≤◌, ◌++◌, ◌∷◌, [], true, IfOk, IfSome, OnOk, OnErr, length, option_map, slice_get, take, if◌then◌else◌};
 ghost use Rattle.shm_model.specs.Permission.{destroyed};
 ghost use Rattle.shm_keys.specs.Restored.{is_free_key, is_next_purge, is_next_segment, purge_from};
 
@@ -140,6 +140,13 @@ impl<A: Allocator + Copy> SegTable<A> {
         }
         let segment = self.segments[place];
         Some(segment)
+    }
+
+    /// How many purges are pending.
+    pub fn pending_count(&self) -> usize
+        ensures { result ≡ length self.now.missing }
+    {
+        self.purges.len()
     }
 
     /// The pending purge in this place, that of the least identifier in place 0: the destroyed segment, and the sites that have yet to

@@ -1,4 +1,5 @@
-ghost use Rattle.std.specs.Prelude.{◌≡◌, ◌<◌, slice_index, IfOk, IfErr};
+ghost use Rattle.std.specs.Prelude.{◌≡◌, ◌<◌, length, slice_index, IfOk, IfErr};
+ghost use Rattle.shm_place.specs.Limits.{page_bytes};
 ghost use Rattle.shm_page.specs.State.{nil_of, page_of};
 
 use crate::handed_page::WriteGrant;
@@ -58,7 +59,8 @@ impl<A: Allocator + Copy> CopyPage<A> {
 
     /// The page's bytes, copied.
     pub fn bytes(&self, alloc: A) -> Result<Vec<u8, A>, AllocError>
-        ensures { IfOk result (λ bytes. bytes.items ≡ self.now.bytes) }
+        ensures bytes { IfOk result (λ bytes. bytes.items ≡ self.now.bytes) }
+        ensures whole { IfOk result (λ bytes. length bytes.items ≡ page_bytes) }
     {
         Vec::from_slice(alloc, self.bytes.as_slice())
     }

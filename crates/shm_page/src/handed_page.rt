@@ -108,7 +108,8 @@ impl<A: Allocator + Copy> HandedPage<A> {
 
     /// The kept bytes, copied.
     pub fn bytes(&self, alloc: A) -> Result<Vec<u8, A>, AllocError>
-        ensures { IfOk result (λ bytes. bytes.items ≡ self.now.bytes) }
+        ensures bytes { IfOk result (λ bytes. bytes.items ≡ self.now.bytes) }
+        ensures whole { IfOk result (λ bytes. length bytes.items ≡ page_bytes) }
     {
         Vec::from_slice(alloc, self.bytes.as_slice())
     }

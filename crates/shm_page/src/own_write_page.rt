@@ -70,7 +70,8 @@ impl<A: Allocator + Copy> OwnWritePage<A> {
 
     /// The page's bytes, copied.
     pub fn bytes(&self, alloc: A) -> Result<Vec<u8, A>, AllocError>
-        ensures { IfOk result (λ bytes. bytes.items ≡ self.now.bytes) }
+        ensures bytes { IfOk result (λ bytes. bytes.items ≡ self.now.bytes) }
+        ensures whole { IfOk result (λ bytes. length bytes.items ≡ page_bytes) }
     {
         if !self.own.is_empty() {
             return Vec::from_slice(alloc, self.own.as_slice());

@@ -41,6 +41,7 @@ mod node_retries;
 mod node_takes_line;
 mod process_counts;
 mod recorded_steps;
+mod restored_node;
 mod retried_step;
 mod site_opening;
 mod step_cause;
