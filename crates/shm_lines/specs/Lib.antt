@@ -6,3 +6,4 @@ pub mod Limits
 pub mod Workload
 pub mod WorkloadFaults
 pub mod Remarks
+pub mod Hints

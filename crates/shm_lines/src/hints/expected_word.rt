@@ -1,3 +1,6 @@
+ghost use Rattle.std.specs.Prelude.{◌≡◌};
+ghost use Rattle.shm_lines.specs.Hints.{limit_of, word_front};
+
 use std::fmt;
 
 /// The meaning of a word in a line.
@@ -50,7 +53,10 @@ pub enum Expected {
 }
 
 impl Word {
-    fn text(&self) -> &'static str {
+    /// What stands for it, up to its limit, if it has one.
+    fn text(&self) -> &'static str
+        ensures { result.now ≡ word_front self.now }
+    {
         match self {
             Word::Verb => "a verb, such as load, store, deliver, tick or show",
             Word::Site => "a site's number: digits, with no zero before others",
@@ -62,12 +68,6 @@ impl Word {
             Word::Group => "a group's number: digits, with no zero before others",
             Word::Key => "a key: digits, with no zero before others",
             Word::Size => "a size in bytes: digits, with no zero before others",
-            other => other.rarer(),
-        }
-    }
-
-    fn rarer(&self) -> &'static str {
-        match self {
             Word::Mode => "a mode: three octal digits",
             Word::Flags => "flags: c, x, cx or -",
             Word::Access => "ro or rw",
@@ -78,23 +78,45 @@ impl Word {
             Word::Preset => "the word preset",
             Word::Pages => "how many pages: a number from 1 to 256",
             Word::Frames => "the word frames",
+            Word::Limit => "how many frames: a number from 1 to 65536",
             Word::AccessVerb => "load or store",
-            _ => "how many frames: a number from 1 to 65536",
+            Word::SiteBelow(_) => "a site's number below ",
+            Word::OffsetBelow(_) => "an offset below ",
+        }
+    }
+
+    /// What it is below.
+    fn limit(&self) -> Option<u32>
+        ensures { result ≡ limit_of self.now }
+    {
+        match self {
+            Word::SiteBelow(limit) | Word::OffsetBelow(limit) => Some(*limit),
+            _ => None,
         }
     }
 }
 
 impl fmt::Display for Word {
+    ghost use Rattle.std.specs.Prelude.{Some};
+    ghost use Rattle.shm_lines.specs.Hints.{word_text};
+
+    ghost output = { λ word. Some (word_text word) };
+
     fn fmt<W: fmt::Write>(&self, f: &mut fmt::Formatter<W>) -> fmt::Result {
-        match self {
-            Word::SiteBelow(limit) => write!(f, "a site's number below {limit}"),
-            Word::OffsetBelow(limit) => write!(f, "an offset below {limit}"),
-            word => write!(f, "{}", word.text()),
+        let text = self.text();
+        match self.limit() {
+            Some(limit) => write!(f, "{text}{limit}"),
+            None => write!(f, "{text}"),
         }
     }
 }
 
 impl fmt::Display for Expected {
+    ghost use Rattle.std.specs.Prelude.{Some};
+    ghost use Rattle.shm_lines.specs.Hints.{expected_text};
+
+    ghost output = { λ expected. Some (expected_text expected) };
+
     fn fmt<W: fmt::Write>(&self, f: &mut fmt::Formatter<W>) -> fmt::Result {
         match self {
             Expected::Word(word) => write!(f, "{word}"),
