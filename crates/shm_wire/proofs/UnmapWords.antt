@@ -1,6 +1,6 @@
 -- Mappings that are given up, or whose bytes are brought: each that is read is spelled so, and each that is spelled so is read.
 use Rattle.std.proofs.Common.{◌≡◌, ℕ, Bool, true, false, List, [], ◌∷◌, All, Option, Some, None, cond, length, map, refl, sym, ap, subst, ◌∙◌, ◌++◌, append_assoc}
-use Rattle.std.specs.Prelude.{codes, option_map, ⊤}
+use Rattle.std.specs.Prelude.{codes, is_some, option_map, ⊤}
 use Rattle.std.specs.Fmt.{decimal}
 use Rattle.std.specs.Str.{bytes_eq}
 use Rattle.std.proofs.lemmas.List.{map-append}
@@ -17,6 +17,7 @@ use Rattle.shm_wire.proofs.NameWords.{named-is}
 use Rattle.shm_wire.proofs.Reading.{cond-of, prints, took, Reads, Spelled}
 use Rattle.shm_wire.proofs.SpelledAsks.{behind}
 use Rattle.shm_wire.specs.Asks.{is_block}
+use Rattle.shm_wire.specs.Brought.{run_brings}
 use Rattle.shm_wire.specs.BytesWord.{bytes_word}
 use Rattle.shm_wire.specs.Line.{Line, Unmap}
 use Rattle.shm_wire.specs.Tag.{IsTag}
@@ -37,6 +38,12 @@ next_run-is words next h =
     let run : Run = record { offset = o.value; bytes = b.value } in
     let c = cond-of (is_block o.value (length b.value)) (Some (run, b.others)) next b.gives in
     subst (TookRun words) (some-is (run, b.others) next c.1) (record { is = (o.is, c.0, b.is); are = onto o.are b.are })
+
+-- it has a word of bytes
+pub next_run-brings : (words : List (List ℕ)) (next : Run × List (List ℕ)) → next_run words ≡ Some next → is_some (run_brings words) ≡ true
+next_run-brings words next h =
+    let t = next_run-is words next h in
+    ap (λ l. is_some (run_brings l)) t.are ∙ rw (prints number next.0.offset (bytes_word next.0.bytes ∷ next.1) t.is.0) refl
 
 pub runs-are : (words : List (List ℕ)) (runs : List Run) → runs_of words ≡ Some runs → All IsRun runs × (words ≡ run_words runs)
 runs-are [] runs h = subst (λ (rs : List Run). All IsRun rs × ([] ≡ run_words rs)) (some-is [] runs h) (All-nil IsRun, refl)

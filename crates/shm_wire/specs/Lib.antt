@@ -12,6 +12,7 @@ pub mod Writes
 pub mod WriteOf
 pub mod Unmaps
 pub mod UnmapOf
+pub mod Brought
 pub mod Line
 pub mod LineOf
 pub mod Answers

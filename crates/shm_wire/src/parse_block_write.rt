@@ -1,5 +1,6 @@
 //! How bytes that a caller asks to be stored are read.
-ghost use Rattle.std.specs.Prelude.{◌≡◌, option_map, IfOk};
+ghost use Rattle.std.specs.Prelude.{◌≡◌, true, is_some, option_map, IfOk, OnErr};
+ghost use Rattle.shm_wire.specs.Brought.{write_brings};
 ghost use Rattle.shm_wire.specs.TagOf.{tag_text};
 ghost use Rattle.shm_wire.specs.WriteOf.{write_of};
 ghost use Rattle.shm_wire.specs.Writes.{stores_of};
@@ -19,7 +20,8 @@ pub fn stores<A: Allocator + Copy>(
     tag: Tag,
     words: Words<'_>,
 ) -> Result<Option<WriteAsk<A>>, AllocError>
-    ensures { IfOk result (λ write. option_map write_of write ≡ stores_of site (tag_text tag) words.entry) }
+    ensures read { IfOk result (λ write. option_map write_of write ≡ stores_of site (tag_text tag) words.entry) }
+    ensures memory { OnErr result (is_some (write_brings words.entry) ≡ true) }
 {
     let Some((at, words)) = words.number() else {
         return Ok(None);

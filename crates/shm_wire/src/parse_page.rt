@@ -1,9 +1,10 @@
 //! How a page's bytes are read, and the note that brings them.
-ghost use Rattle.std.specs.Prelude.{◌≡◌, ◌<◌, length, option_map, IfOk, IfSome};
+ghost use Rattle.std.specs.Prelude.{◌≡◌, ◌<◌, true, is_some, length, option_map, IfOk, IfSome, OnErr};
 ghost use Rattle.shm_place.specs.Limits as limits;
 ghost use Rattle.shm_model.specs.Entry as note;
 ghost use Rattle.shm_page.specs.State as state;
 ghost use Rattle.shm_parts.specs.Message.{message_of, note_of};
+ghost use Rattle.shm_wire.specs.Brought.{page_brings};
 ghost use Rattle.shm_wire.specs.Messages.{page_of};
 ghost use Rattle.shm_wire.specs.PageWord.{page_bytes_of};
 
@@ -22,7 +23,8 @@ pub fn page<A: Allocator + Copy>(
     alloc: A,
     words: Words<'_>,
 ) -> Result<Option<Message<A>>, AllocError>
-    ensures { IfOk result (λ message. option_map message_of message ≡ page_of words.entry) }
+    ensures read { IfOk result (λ message. option_map message_of message ≡ page_of words.entry) }
+    ensures memory { OnErr result (is_some (page_brings words.entry) ≡ true) }
 {
     let Some((page, words)) = page_id(words) else {
         return Ok(None);

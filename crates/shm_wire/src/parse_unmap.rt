@@ -1,6 +1,7 @@
 //! How a mapping that a caller gives up, or whose bytes it brings, is read.
-ghost use Rattle.std.specs.Prelude.{◌≡◌, ◌<◌, length, map, option_map, IfOk, IfSome, IfNone, Some, None};
+ghost use Rattle.std.specs.Prelude.{◌≡◌, ◌<◌, true, is_some, length, map, option_map, IfOk, IfSome, IfNone, OnErr, Some, None};
 ghost use Rattle.shm_model.specs.declared.request_kind.Kind.TheVariants.{Write};
+ghost use Rattle.shm_wire.specs.Brought.{run_brings, sync_brings, unmap_brings};
 ghost use Rattle.shm_wire.specs.TagOf.{tag_text};
 ghost use Rattle.shm_wire.specs.UnmapOf.{run_in, unmap_in};
 ghost use Rattle.shm_wire.specs.Unmaps as said;
@@ -21,7 +22,8 @@ pub fn unmap<A: Allocator + Copy>(
     tag: Tag,
     words: Words<'_>,
 ) -> Result<Option<UnmapAsk<A>>, AllocError>
-    ensures { IfOk result (λ unmap. option_map unmap_in unmap ≡ said.unmap_of site (tag_text tag) words.entry) }
+    ensures read { IfOk result (λ unmap. option_map unmap_in unmap ≡ said.unmap_of site (tag_text tag) words.entry) }
+    ensures memory { OnErr result (is_some (unmap_brings words.entry) ≡ true) }
 {
     let Some((at, words)) = words.number() else {
         return Ok(None);
@@ -52,7 +54,8 @@ pub fn sync<A: Allocator + Copy>(
     tag: Tag,
     words: Words<'_>,
 ) -> Result<Option<UnmapAsk<A>>, AllocError>
-    ensures { IfOk result (λ sync. option_map unmap_in sync ≡ said.sync_of site (tag_text tag) words.entry) }
+    ensures read { IfOk result (λ sync. option_map unmap_in sync ≡ said.sync_of site (tag_text tag) words.entry) }
+    ensures memory { OnErr result (is_some (sync_brings words.entry) ≡ true) }
 {
     let Some((at, words)) = words.number() else {
         return Ok(None);
@@ -99,7 +102,8 @@ fn runs<A: Allocator + Copy>(
     alloc: A,
     words: Words<'_>,
 ) -> Result<Option<Vec<Run<A>, A>>, AllocError>
-    ensures { IfOk result (λ runs. option_map (λ v. map run_in v.items) runs ≡ said.runs_of words.entry) }
+    ensures read { IfOk result (λ runs. option_map (λ v. map run_in v.items) runs ≡ said.runs_of words.entry) }
+    ensures memory { OnErr result (is_some (run_brings words.entry) ≡ true) }
 {
     let mut runs = Vec::new(alloc);
     let mut words = words;
@@ -120,6 +124,7 @@ fn next_run<A: Allocator + Copy>(
 ) -> Result<Option<(Run<A>, Words<'_>)>, AllocError>
     ensures some { IfOk result (λ next. IfSome next (λ r. said.next_run words.entry ≡ Some (run_in r.0, r.1))) }
     ensures none { IfOk result (λ next. IfNone next (said.next_run words.entry ≡ None)) }
+    ensures memory { OnErr result (is_some (run_brings words.entry) ≡ true) }
 {
     let Some((offset, words)) = words.number() else {
         return Ok(None);

@@ -1,9 +1,10 @@
 //! How a line of the stream is read: its first word says whether it is an envelope or what a caller asks.
-ghost use Rattle.std.specs.Prelude.{◌≡◌, Some, None, IfOk, IfSome, IfNone, option_map};
+ghost use Rattle.std.specs.Prelude.{◌≡◌, true, Some, None, IfOk, IfSome, IfNone, OnErr, is_some, option_map};
 ghost use Rattle.shm_parts.specs.Message as parts;
 ghost use Rattle.shm_wire.specs.Sent.{next_stamp};
 ghost use Rattle.shm_wire.specs.Sent as said;
 ghost use Rattle.shm_wire.specs.Asks.{ask_under};
+ghost use Rattle.shm_wire.specs.Brought.{ask_brings, envelope_brings, may_grow, message_brings, sync_brings, unmap_brings, words_bring, write_brings};
 ghost use Rattle.shm_wire.specs.Line as stream;
 ghost use Rattle.shm_wire.specs.Line.{IsLine, asked_of, line_of_words, line_text, read_line};
 ghost use Rattle.shm_wire.specs.LineOf.{line_of};
@@ -32,12 +33,14 @@ use std::alloc::{AllocError, Allocator};
 pub fn parse_line<A: Allocator + Copy>(alloc: A, line: &[u8]) -> Result<Option<Line<A>>, AllocError>
     ensures read { IfOk result (λ read. option_map line_of read ≡ read_line line.now) }
     ensures spelled { IfOk result (λ read. IfSome read (λ is. IsLine (line_of is) × (line.now ≡ line_text (line_of is)))) }
+    ensures memory { OnErr result (may_grow line.now ≡ true) }
 {
     read(alloc, Words::of(line))
 }
 
 fn read<A: Allocator + Copy>(alloc: A, words: Words<'_>) -> Result<Option<Line<A>>, AllocError>
-    ensures { IfOk result (λ read. option_map line_of read ≡ line_of_words words.entry) }
+    ensures read { IfOk result (λ read. option_map line_of read ≡ line_of_words words.entry) }
+    ensures memory { OnErr result (is_some (words_bring words.entry) ≡ true) }
 {
     let Some((verb, words)) = words.word() else {
         return Ok(None);
@@ -52,7 +55,8 @@ fn read<A: Allocator + Copy>(alloc: A, words: Words<'_>) -> Result<Option<Line<A
 }
 
 fn asked<A: Allocator + Copy>(alloc: A, words: Words<'_>) -> Result<Option<Line<A>>, AllocError>
-    ensures { IfOk result (λ read. option_map line_of read ≡ asked_of words.entry) }
+    ensures read { IfOk result (λ read. option_map line_of read ≡ asked_of words.entry) }
+    ensures memory { OnErr result (is_some (ask_brings words.entry) ≡ true) }
 {
     let Some((site, words)) = words.number() else {
         return Ok(None);
@@ -85,7 +89,8 @@ fn write_of_words<A: Allocator + Copy>(
     tag: Tag,
     words: Words<'_>,
 ) -> Result<Option<Line<A>>, AllocError>
-    ensures { IfOk result (λ read. option_map line_of read ≡ option_map stream.Write (stores_of site (tag_text tag) words.entry)) }
+    ensures read { IfOk result (λ read. option_map line_of read ≡ option_map stream.Write (stores_of site (tag_text tag) words.entry)) }
+    ensures memory { OnErr result (is_some (write_brings words.entry) ≡ true) }
 {
     match stores(alloc, site, tag, words)? {
         Some(write) => Ok(Some(Line::Write(write))),
@@ -99,7 +104,8 @@ fn unmap_of_words<A: Allocator + Copy>(
     tag: Tag,
     words: Words<'_>,
 ) -> Result<Option<Line<A>>, AllocError>
-    ensures { IfOk result (λ read. option_map line_of read ≡ option_map stream.Unmap (unmap_of site (tag_text tag) words.entry)) }
+    ensures read { IfOk result (λ read. option_map line_of read ≡ option_map stream.Unmap (unmap_of site (tag_text tag) words.entry)) }
+    ensures memory { OnErr result (is_some (unmap_brings words.entry) ≡ true) }
 {
     match unmap(alloc, site, tag, words)? {
         Some(unmap) => Ok(Some(Line::Unmap(unmap))),
@@ -113,7 +119,8 @@ fn sync_of_words<A: Allocator + Copy>(
     tag: Tag,
     words: Words<'_>,
 ) -> Result<Option<Line<A>>, AllocError>
-    ensures { IfOk result (λ read. option_map line_of read ≡ option_map stream.Unmap (sync_of site (tag_text tag) words.entry)) }
+    ensures read { IfOk result (λ read. option_map line_of read ≡ option_map stream.Unmap (sync_of site (tag_text tag) words.entry)) }
+    ensures memory { OnErr result (is_some (sync_brings words.entry) ≡ true) }
 {
     match sync(alloc, site, tag, words)? {
         Some(sync) => Ok(Some(Line::Unmap(sync))),
@@ -134,7 +141,8 @@ fn ask_of_words<A: Allocator + Copy>(
 }
 
 fn sent<A: Allocator + Copy>(alloc: A, words: Words<'_>) -> Result<Option<Line<A>>, AllocError>
-    ensures { IfOk result (λ read. option_map line_of read ≡ option_map stream.Envelope (said.sent_of words.entry)) }
+    ensures read { IfOk result (λ read. option_map line_of read ≡ option_map stream.Envelope (said.sent_of words.entry)) }
+    ensures memory { OnErr result (is_some (envelope_brings words.entry) ≡ true) }
 {
     match envelope_of_words(alloc, words)? {
         Some(sent) => Ok(Some(Line::Envelope(sent))),
@@ -146,7 +154,8 @@ fn envelope_of_words<A: Allocator + Copy>(
     alloc: A,
     words: Words<'_>,
 ) -> Result<Option<Sent<A>>, AllocError>
-    ensures { IfOk result (λ sent. option_map sent_of sent ≡ said.sent_of words.entry) }
+    ensures read { IfOk result (λ sent. option_map sent_of sent ≡ said.sent_of words.entry) }
+    ensures memory { OnErr result (is_some (envelope_brings words.entry) ≡ true) }
 {
     let Some((from, words)) = words.number() else {
         return Ok(None);
@@ -187,7 +196,8 @@ fn message<A: Allocator + Copy>(
     alloc: A,
     words: Words<'_>,
 ) -> Result<Option<Message<A>>, AllocError>
-    ensures { IfOk result (λ message. option_map parts.message_of message ≡ message_of words.entry) }
+    ensures read { IfOk result (λ message. option_map parts.message_of message ≡ message_of words.entry) }
+    ensures memory { OnErr result (is_some (message_brings words.entry) ≡ true) }
 {
     let Some((verb, words)) = words.word() else {
         return Ok(None);

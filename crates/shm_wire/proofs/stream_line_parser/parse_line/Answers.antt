@@ -10,4 +10,4 @@ pub returns-clause-spelled : goal.returns-clause-spelled
 returns-clause-spelled g c =
     let bytes = c.args.line.now in
     IfOk-weaker c.read.result _ (λ read. IfSome read (λ is. IsLine (line_of is) × (bytes ≡ line_text (line_of is))))
-    (λ read h. read_proper line_of bytes read (h ∙ ap line_of_words c.of.ensures)) c.read.ensures
+    (λ read h. read_proper line_of bytes read (h ∙ ap line_of_words c.of.ensures)) c.read.ensures.read
