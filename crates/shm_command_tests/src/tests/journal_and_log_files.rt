@@ -50,6 +50,9 @@ fn a_cause_behind_a_block_is_told_with_its_line(rt: HostRuntime) -> Result<(), F
     Ok(())
 }
 
+/// The second journal as one of a cluster with a name.
+const NAMED: [&[u8]; 1] = [b"journal 2 1 1 @plant-7\n"];
+
 /// Each journal is read, in its turn, and stays as it was. A cause is told with the file and the line in which it stands. Site 0 lacks no step: it
 /// has one of that clock, which sent nothing.
 #[test]
@@ -59,7 +62,8 @@ fn two_journals_are_audited(rt: HostRuntime) -> Result<(), Fail> {
     let yes = "audit yes\nsteps 2\naccesses 1\nenvelopes 0\n";
     let no = "shmdbg: audit no: unsent 1 1: second.journal: line 3\n";
     let order = "shmdbg: not one set of journals\n";
-    let cases: [(&[&[u8]], &str, &str, u8, &str, &str); 3] = [
+    let cluster = "shmdbg: second.journal: of another cluster than the first journal\n";
+    let cases: [(&[&[u8]], &str, &str, u8, &str, &str); 4] = [
         (&SECOND[..2], "first.journal", "second.journal", 0, yes, ""),
         (
             &SECOND[..2],
@@ -70,6 +74,7 @@ fn two_journals_are_audited(rt: HostRuntime) -> Result<(), Fail> {
             order,
         ),
         (&SECOND, "first.journal", "second.journal", 4, "", no),
+        (&NAMED, "first.journal", "second.journal", 1, "", cluster),
     ];
     for (batches, one, other, status, told, errors) in cases {
         let second = marked(rt.alloc(), batches)?;
@@ -83,6 +88,8 @@ fn two_journals_are_audited(rt: HostRuntime) -> Result<(), Fail> {
         expect(&rt, &ran, status, told.as_bytes(), errors.as_bytes());
         let left = fs::read(&rt, "second.journal")?;
         assert_eq!(rt; left.as_slice(), second.as_slice());
+        let left = fs::read(&rt, "first.journal")?;
+        assert_eq!(rt; left.as_slice(), first.as_slice());
     }
     fs::remove_file(&rt, "first.journal")?;
     fs::remove_file(&rt, "second.journal")?;
