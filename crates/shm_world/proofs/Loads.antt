@@ -1,5 +1,5 @@
 -- What a run answers, and where it leads: each byte is that of the last store to its place, since the run's account is legal.
-use Rattle.std.proofs.Common.{◌≡◌, ◌∙◌, ℕ, ◌+◌, ◌≤◌, Bool, true, false, List, [], ◌∷◌, ◌++◌, Option, Some, None, ap, if◌then◌else◌, length, refl, slice_get, subst, suc, sym, take, zero, arith, length-append, ◌<◌}
+use Rattle.std.proofs.Common.{◌≡◌, ◌∙◌, ℕ, ◌+◌, Bool, true, false, List, [], ◌∷◌, ◌++◌, Option, Some, None, ap, if◌then◌else◌, length, refl, slice_get, subst, suc, sym, take, zero, arith, length-append, ◌<◌}
 use Rattle.std.proofs.lemmas.List.{length-take-le}
 use Rattle.std.proofs.lemmas.Option.{same_Some, slice_get_within}
 use Rattle.shm_laws.proofs.Log.Lists.{slice_get-append_right}
@@ -99,7 +99,7 @@ module _ (promised : (o : model.Opening) (events : List Event) → model.IsOpeni
   }
 
   -- and where it is stopped, those of its events that were answered
-  pub led-partway : {A : Type 0} (old new : World A) (told out : List Answer) (o : model.Opening) (before events : List Event) (i : ℕ) → i ≤ length events
+  pub led-partway : {A : Type 0} (old new : World A) (told out : List Answer) (o : model.Opening) (before events : List Event) (i : ℕ) → i < length events
       → Ran old told out (model.run o before).world (take i events) → StandsFor new (after (model.run o before).world (take i events)) → LedPartway o before events new told out
   led-partway old new told out o before events i within ran stands = record {
     count = i;
@@ -122,6 +122,6 @@ partway-gives-last new told out o before events partway opening = λ k e answer 
     let within = slice_get_within out (length told + k) answer joined in
     let count = ap length partway.led.answered ∙ length-append told (answers w (take partway.count events)) in
     let each = length-answers w (take partway.count events) in
-    let most = length-take-le partway.count events partway.within in
+    let most = length-take-le partway.count events (omega (arith, partway.within)) in
     let front = get-front events partway.count k e (omega (arith, within, count, each, most)) here in
     subst (λ es. GivesLast o (before ++ es) e answer) front.1 (partway.led.last opening k e answer front.0 joined)

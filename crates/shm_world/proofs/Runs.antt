@@ -48,7 +48,7 @@ ran-more {A} old new told out later answer w events i e below here joined ran we
 pub ran-all : {A : Type 0} (new : World A) (told out : List Answer) (w : model.World) (events : List Event) (i : ℕ) → length events ≤ i → Ran new told out w (take i events) → Ran new told out w events
 ran-all {A} new told out w events i all ran = subst (λ (xs : List Event). Ran {A = A} new told out w xs) (take_all i events all) ran
 
-pub ran-some : {A X E : Type 0} (result : Result X E) (old new : World A) (told out : List Answer) (w : model.World) (events : List Event) (i : ℕ) → i ≤ length events
+pub ran-some : {A X E : Type 0} (result : Result X E) (old new : World A) (told out : List Answer) (w : model.World) (events : List Event) (i : ℕ) → i < length events
     → Ran old told out w (take i events) → StandsFor new (after w (take i events)) → OnErr result (AnsweredSome new told out w events)
 ran-some (Ok x) old new told out w events i within ran stands = tt
 ran-some (Err e) old new told out w events i within ran stands = record { count = i; within = within; stands = stands; answered = ran.answered }

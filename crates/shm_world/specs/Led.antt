@@ -1,7 +1,7 @@
 -- Where events lead a world, and what it answers to them: both are those of one run from an opening, of which the promise holds.
 --
 -- `before` are the events that led from the opening to the world as it was. The promise is that of openings within their limits.
-use Rattle.std.specs.Prelude.{◌≡◌, ℕ, ◌≤◌, List, [], ◌∷◌, ◌++◌, length, take}
+use Rattle.std.specs.Prelude.{◌≡◌, ℕ, ◌<◌, List, [], ◌∷◌, ◌++◌, length, take}
 use Rattle.shm_model.specs.declared.answer.Answer.{Answer}
 use Rattle.shm_model.specs.declared.event.Event.{Event}
 use Rattle.shm_model.specs.Promise.{EachGivesLast, GivesLast, Promised}
@@ -25,8 +25,8 @@ pub record LedAlong {A : Type 0} (o : Opening) (before events : List Event) (new
   pub promised : IsOpening o → Promised o (before ++ events)
   pub last : IsOpening o → EachGivesLast o before events (length told) out
 
--- the same of the first so many of these events, where memory stopped the run
+-- the same of the first so many of these events, where memory stopped the run at the next one
 pub record LedPartway {A : Type 0} (o : Opening) (before events : List Event) (new : World A) (told out : List Answer) : Type 0 where
   pub count : ℕ
-  pub within : count ≤ length events
+  pub within : count < length events
   pub led : LedAlong o before (take count events) new told out

@@ -1,5 +1,5 @@
 -- A world of the code against one of the definitions; and what a list of events makes of a world.
-use Rattle.std.specs.Prelude.{◌≡◌, ℕ, ◌+◌, ◌≤◌, Bool, false, true, not, List, [], ◌∷◌, ◌++◌, Some, length, slice_get, take}
+use Rattle.std.specs.Prelude.{◌≡◌, ℕ, ◌+◌, ◌<◌, ◌≤◌, Bool, false, true, not, List, [], ◌∷◌, ◌++◌, Some, length, slice_get, take}
 use Rattle.shm_model.specs.declared.answer.Answer.{Answer}
 use Rattle.shm_model.specs.declared.event.Event.{Event}
 use Rattle.shm_model.specs.declared.event.Event.TheVariants as event
@@ -45,10 +45,10 @@ may_grow (event.Deliver _) answer = not (is_refused answer)
 may_grow (event.Repeat _) answer = not (is_refused answer)
 may_grow (event.Lose _) answer = false
 
--- of these events the first so many were answered, and the world stands after them
+-- of these events the first so many were answered, and the world stands after them; the next one was refused
 pub record AnsweredSome {A : Type 0} (new : World A) (told out : List Answer) (w : model.World) (events : List Event) : Type 0 where
   pub count : ℕ
-  pub within : count ≤ length events
+  pub within : count < length events
   pub stands : StandsFor new (after w (take count events))
   pub answered : out ≡ told ++ answers w (take count events)
 

@@ -15,7 +15,7 @@ events-init g c = record {
 pub returns-in_err-answer-clause-part : goal.returns-in_err-answer-clause-part
 returns-in_err-answer-clause-part g c = λ w stands.
     let ran = c.events.invariant.ran w stands in
-    ran-some c.from_residual-in_err-answer.result _ _ _ _ w c.args.events.now c.events.event-index c.events.auto.event-index-end ran
+    ran-some c.from_residual-in_err-answer.result _ _ _ _ w c.args.events.now c.events.event-index c.events-test.true ran
     (c.in_err-answer.ensures.refused _ ran.stands)
 
 pub returns-in_err-answer-clause-memory : goal.returns-in_err-answer-clause-memory
@@ -30,7 +30,7 @@ returns-in_err-answer-clause-headline g c = λ o before stands.
     let ran = c.events.invariant.ran (model.run o before).world stands in
     MatchResult-from_err c.from_residual-in_err-answer.result _ _ c.from_residual-in_err-answer.ensures.0
     (λ e. led-partway c.every_run_keeps_the_promise.ensures c.events.self c.apply.new.self c.args.out.now.items c.events.out.items o before c.args.events.now c.events.event-index
-    c.events.auto.event-index-end ran (c.in_err-answer.ensures.refused _ ran.stands))
+    c.events-test.true ran (c.in_err-answer.ensures.refused _ ran.stands))
 
 pub push_reserved-requires : goal.push_reserved-requires
 push_reserved-requires g c = omega (arith, c.events.invariant.room, c.events-test.true)
