@@ -130,7 +130,7 @@ pub record Follows (box : Box) (entries : List Entry) (final : Node) (pages : �
   pub goes : box_after_all box entries ≡ Some (box_at final pages (log ++ logged))
   pub tells : map told_by_step logged ≡ told
 
-told_first : Option Said → List ToldStep → List ToldStep
+abbrev told_first : Option Said → List ToldStep → List ToldStep
 told_first None told = told
 told_first (Some said) told = told_by_said said ∷ told
 
