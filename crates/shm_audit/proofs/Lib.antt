@@ -9,3 +9,5 @@ pub mod LoadedBlocks
 pub mod ToldBlocks
 pub mod StoredBlocks
 pub mod Clocked
+pub mod Lived
+pub mod LivesFound

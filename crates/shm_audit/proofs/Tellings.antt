@@ -1,5 +1,5 @@
 -- What a process says of its steps, and what the log of a box tells that takes them.
-use Rattle.std.proofs.Common.{◌≡◌, ℕ, ◌==◌, ◌||◌, Bool, true, false, List, [], ◌∷◌, ◌++◌, Some, None, cond, refl, ap, sym, subst, ◌∙◌, append-nil, arith, map}
+use Rattle.std.proofs.Common.{◌≡◌, ℕ, ◌==◌, ◌||◌, Bool, true, false, List, [], ◌∷◌, ◌++◌, Some, None, cond, refl, ap, sym, subst, ◌∙◌, append-nil, append_assoc, arith, map}
 use Rattle.std.specs.List.{position_from}
 use Rattle.std.specs.Prelude.{Option, IfSome, option_and_then, option_map, unwrap_or}
 use Rattle.std.specs.Option.{option_map_or}
@@ -12,7 +12,7 @@ use Rattle.shm_process.specs.Cause.{Cause, OfLine, OfRestart}
 use Rattle.shm_process.specs.Mapped.{byte_place, page_at}
 use Rattle.shm_process.specs.Node.{Node, Heard, Said, asked_under, heard, input_asked, is_beyond, is_late, new_node, next_clock, remapped_by, says, stepped, unmap_input, waits_for}
 use Rattle.shm_process.specs.Remaps.{first_load, is_empty, unmapped_to}
-use Rattle.shm_process.specs.Recorded.{Entry, Event, Line, TooLong, Again, Restarted, after_event, all_steps, entries_of, recorded, said_at, steps_of}
+use Rattle.shm_process.specs.Recorded.{Entry, Event, Line, TooLong, Again, Restarted, after_event, after_events, all_steps, entries_of, recorded, said_at, steps_of}
 use Rattle.shm_process.specs.Waiting.{after_heard, after_read, after_unheard, again_at, can_be_made, joining, joins, next_heard, next_line, ready, restarting, said_read, said_restart, after_restart, says_at}
 use Rattle.shm_process.specs.WaitingAsks.{WaitingAsk, ask_in}
 use Rattle.shm_process.proofs.Replays.{hear-next}
@@ -30,7 +30,7 @@ use Rattle.shm_audit.specs.Entered.{Handed, at_clock, box_after, box_after_all, 
 use Rattle.shm_audit.specs.Told.{ToldStep, told_at, told_by_log, told_by_said, told_by_step, all_said, said_first}
 
 -- the box of a node's site, which has this log
-abbrev box_at : Node → ℕ → List Logged → Box
+abbrev pub box_at : Node → ℕ → List Logged → Box
 box_at node pages log = record { sites = node.sites; me = node.me; pages = pages; site = node.site; log = log; clock = node.clock }
 
 -- the box takes what a node heard, and tells of its step what the node says
@@ -124,12 +124,11 @@ line_taken node pages log (stream.Unmap unmap) h e =
 
 -- ---- one step after another
 
-map_more : (log : List Logged) (l : Logged) (rest : List ToldStep) → map told_by_step (log ++ l ∷ []) ++ rest ≡ map told_by_step log ++ (told_by_step l ∷ rest)
-map_more [] l rest = refl
-map_more (x ∷ log) l rest = ap (λ ts. told_by_step x ∷ ts) (map_more log l rest)
-
-abbrev Follows : Box → List Entry → List Logged → List ToldStep → Type 0
-Follows box entries log told = option_map told_by_log (box_after_all box entries) ≡ Some (map told_by_step log ++ told)
+-- these steps lead the box to that of this node, and what is logged of them tells this
+pub record Follows (box : Box) (entries : List Entry) (final : Node) (pages : ℕ) (log : List Logged) (told : List ToldStep) : Type 0 where
+  pub logged : List Logged
+  pub goes : box_after_all box entries ≡ Some (box_at final pages (log ++ logged))
+  pub tells : map told_by_step logged ≡ told
 
 abbrev told_first : Option Said → List ToldStep → List ToldStep
 told_first None told = told
@@ -139,72 +138,91 @@ told_more : (said : Option Said) (all : List Said) → map told_by_said (said_fi
 told_more None all = refl
 told_more (Some said) all = refl
 
-one_step : (node : Node) (pages : ℕ) (log : List Logged) (cause : Cause) (h : Heard) (entries : List Entry) (told : List ToldStep)
-    → (t : Takes node pages log cause h (handed node.me cause)) → Follows (box_at (stepped node h) pages (log ++ t.logged ∷ [])) entries (log ++ t.logged ∷ []) told
-    → Follows (box_at node pages log) (record { clock = next_clock node h.source; cause = cause } ∷ entries) log (told_by_said (says node cause h false) ∷ told)
-one_step node pages log cause h entries told t rest =
-    ap (λ o. option_map told_by_log (option_and_then (λ next. box_after_all next entries) o)) t.goes
-    ∙ rest
-    ∙ ap Some (map_more log t.logged told ∙ ap (λ x. map told_by_step log ++ (x ∷ told)) t.tells)
+one_step : (node final : Node) (pages : ℕ) (log : List Logged) (cause : Cause) (h : Heard) (entries : List Entry) (told : List ToldStep)
+    → (t : Takes node pages log cause h (handed node.me cause))
+    → Follows (box_at (stepped node h) pages (log ++ t.logged ∷ [])) entries final pages (log ++ t.logged ∷ []) told
+    → Follows (box_at node pages log) (record { clock = next_clock node h.source; cause = cause } ∷ entries) final pages log
+    (told_by_said (says node cause h false) ∷ told)
+one_step node final pages log cause h entries told t rest = record {
+  logged = t.logged ∷ rest.logged;
+  goes =
+      ap (option_and_then (λ next. box_after_all next entries)) t.goes ∙ rest.goes
+      ∙ ap (λ l. Some (box_at final pages l)) (append_assoc log (t.logged ∷ []) rest.logged);
+  tells = ap (λ x. x ∷ map told_by_step rest.logged) t.tells ∙ ap (λ ts. told_by_said (says node cause h false) ∷ ts) rest.tells;
+}
 
 -- a block that joins those that wait, and a line that is passed over, leave the box as it is
 unheard_box : (node : Node) (pages : ℕ) (log : List Logged) (block : Option WaitingAsk) → box_at (after_unheard node block) pages log ≡ box_at node pages log
 unheard_box node pages log None = refl
 unheard_box node pages log (Some block) = refl
 
-line_law : (node : Node) (pages : ℕ) (log : List Logged) (line : stream.Line) (entries : List Entry) (told : List ToldStep) (o : Option Heard) → heard node line ≡ o
-    → ((log : List Logged) → Follows (box_at (after_heard node (joining node line) o) pages log) entries log told)
-    → Follows (box_at node pages log) (recorded (option_map (λ h. says node (OfLine line) h (joins node h)) o) entries) log
+line_law : (node final : Node) (pages : ℕ) (log : List Logged) (line : stream.Line) (entries : List Entry) (told : List ToldStep) (o : Option Heard)
+    → heard node line ≡ o
+    → ((log : List Logged) → Follows (box_at (after_heard node (joining node line) o) pages log) entries final pages log told)
+    → Follows (box_at node pages log) (recorded (option_map (λ h. says node (OfLine line) h (joins node h)) o) entries) final pages log
     (told_first (option_map (λ h. says node (OfLine line) h (joins node h)) o) told)
-line_law node pages log line entries told None e rest =
-    subst (λ box. Follows box entries log told) (unheard_box node pages log (joining node line)) (rest log)
-line_law node pages log line entries told (Some h) e rest =
-    let t = line_taken node pages log line h e in one_step node pages log (OfLine line) h entries told t (rest (log ++ t.logged ∷ []))
+line_law node final pages log line entries told None e rest =
+    subst (λ box. Follows box entries final pages log told) (unheard_box node pages log (joining node line)) (rest log)
+line_law node final pages log line entries told (Some h) e rest =
+    let t = line_taken node pages log line h e in one_step node final pages log (OfLine line) h entries told t (rest (log ++ t.logged ∷ []))
 
-read_law : (node : Node) (pages : ℕ) (log : List Logged) (read : Option stream.Line) (entries : List Entry) (told : List ToldStep)
-    → ((log : List Logged) → Follows (box_at (after_read node read) pages log) entries log told)
-    → Follows (box_at node pages log) (recorded (said_read node read) entries) log (told_first (said_read node read) told)
-read_law node pages log None entries told rest = rest log
-read_law node pages log (Some line) entries told rest = line_law node pages log line entries told (heard node line) refl rest
+read_law : (node final : Node) (pages : ℕ) (log : List Logged) (read : Option stream.Line) (entries : List Entry) (told : List ToldStep)
+    → ((log : List Logged) → Follows (box_at (after_read node read) pages log) entries final pages log told)
+    → Follows (box_at node pages log) (recorded (said_read node read) entries) final pages log (told_first (said_read node read) told)
+read_law node final pages log None entries told rest = rest log
+read_law node final pages log (Some line) entries told rest = line_law node final pages log line entries told (heard node line) refl rest
 
-again_law : (node : Node) (pages : ℕ) (log : List Logged) (entries : List Entry) (told : List ToldStep) (p : Option ℕ) → ready node ≡ p
-    → ((log : List Logged) → Follows (box_at (option_map_or (again_at node) p node) pages log) entries log told)
-    → Follows (box_at node pages log) (recorded (option_map (says_at node) p) entries) log (told_first (option_map (says_at node) p) told)
-again_law node pages log entries told None e rest = rest log
-again_law node pages log entries told (Some at) e rest =
+again_law : (node final : Node) (pages : ℕ) (log : List Logged) (entries : List Entry) (told : List ToldStep) (p : Option ℕ) → ready node ≡ p
+    → ((log : List Logged) → Follows (box_at (option_map_or (again_at node) p node) pages log) entries final pages log told)
+    → Follows (box_at node pages log) (recorded (option_map (says_at node) p) entries) final pages log (told_first (option_map (says_at node) p) told)
+again_law node final pages log entries told None e rest = rest log
+again_law node final pages log entries told (Some at) e rest =
     let ask = ask_in node.waiting at in
     let early = (unless-some (is_late node 0) (position_from (can_be_made node) 0 node.waiting) at e).0 in
     let t = line_taken node pages log (next_line node.me ask) (next_heard ask) (hear-next node ask early) in
-    one_step node pages log (OfLine (next_line node.me ask)) (next_heard ask) entries told t (rest (log ++ t.logged ∷ []))
+    one_step node final pages log (OfLine (next_line node.me ask)) (next_heard ask) entries told t (rest (log ++ t.logged ∷ []))
 
-restart_law : (node : Node) (pages : ℕ) (log : List Logged) (entries : List Entry) (told : List ToldStep) (late : Bool) → is_late node 0 ≡ late
-    → ((log : List Logged) → Follows (box_at (cond late node (after_restart node)) pages log) entries log told)
-    → Follows (box_at node pages log) (recorded (cond late None (Some (said_restart node))) entries) log
+restart_law : (node final : Node) (pages : ℕ) (log : List Logged) (entries : List Entry) (told : List ToldStep) (late : Bool) → is_late node 0 ≡ late
+    → ((log : List Logged) → Follows (box_at (cond late node (after_restart node)) pages log) entries final pages log told)
+    → Follows (box_at node pages log) (recorded (cond late None (Some (said_restart node))) entries) final pages log
     (told_first (cond late None (Some (said_restart node))) told)
-restart_law node pages log entries told true e rest = rest log
-restart_law node pages log entries told false e rest =
+restart_law node final pages log entries told true e rest = rest log
+restart_law node final pages log entries told false e rest =
     let t : Takes node pages log OfRestart restarting (handed node.me OfRestart) = takes node pages log OfRestart Restart no_stamp None None None refl e in
-    one_step node pages log OfRestart restarting entries told t (rest (log ++ t.logged ∷ []))
+    one_step node final pages log OfRestart restarting entries told t (rest (log ++ t.logged ∷ []))
 
-follows : (node : Node) (pages : ℕ) (log : List Logged) (events : List Event) → Follows (box_at node pages log) (entries_of node events) log (told_at node events)
-follows node pages log [] = ap Some (sym (append-nil (map told_by_step log)))
+-- what the process said, one after another
+as-said : (node : Node) (pages : ℕ) (log : List Logged) (event : Event) (events : List Event)
+    → Follows (box_at node pages log) (entries_of node (event ∷ events)) (after_events node (event ∷ events)) pages log
+    (told_first (said_at node event) (told_at (after_event node event) events))
+    → Follows (box_at node pages log) (entries_of node (event ∷ events)) (after_events node (event ∷ events)) pages log (told_at node (event ∷ events))
+as-said node pages log event events f =
+    subst (Follows (box_at node pages log) (entries_of node (event ∷ events)) (after_events node (event ∷ events)) pages log)
+    (sym (told_more (said_at node event) (all_said (after_event node event) events))) f
+
+pub follows : (node : Node) (pages : ℕ) (log : List Logged) (events : List Event)
+    → Follows (box_at node pages log) (entries_of node events) (after_events node events) pages log (told_at node events)
+follows node pages log [] = record { logged = []; goes = ap (λ l. Some (box_at node pages l)) (sym (append-nil log)); tells = refl }
 follows node pages log (Line line ∷ events) =
-    subst (Follows (box_at node pages log) (entries_of node (Line line ∷ events)) log) (sym (told_more (said_at node (Line line)) (all_said (after_event node (Line line)) events)))
-    (read_law node pages log (read_line line) (entries_of (after_event node (Line line)) events) (told_at (after_event node (Line line)) events)
-    (λ log. follows (after_event node (Line line)) pages log events))
+    let next = after_event node (Line line) in
+    as-said node pages log (Line line) events
+    (read_law node (after_events next events) pages log (read_line line) (entries_of next events) (told_at next events)
+    (λ log. follows next pages log events))
 follows node pages log (TooLong ∷ events) = follows (after_event node TooLong) pages log events
 follows node pages log (Again ∷ events) =
-    subst (Follows (box_at node pages log) (entries_of node (Again ∷ events)) log) (sym (told_more (said_at node Again) (all_said (after_event node Again) events)))
-    (again_law node pages log (entries_of (after_event node Again) events) (told_at (after_event node Again) events) (ready node) refl
-    (λ log. follows (after_event node Again) pages log events))
+    let next = after_event node Again in
+    as-said node pages log Again events
+    (again_law node (after_events next events) pages log (entries_of next events) (told_at next events) (ready node) refl (λ log. follows next pages log events))
 follows node pages log (Restarted ∷ events) =
-    subst (Follows (box_at node pages log) (entries_of node (Restarted ∷ events)) log) (sym (told_more (said_at node Restarted) (all_said (after_event node Restarted) events)))
-    (restart_law node pages log (entries_of (after_event node Restarted) events) (told_at (after_event node Restarted) events) (is_late node 0) refl
-    (λ log. follows (after_event node Restarted) pages log events))
+    let next = after_event node Restarted in
+    as-said node pages log Restarted events
+    (restart_law node (after_events next events) pages log (entries_of next events) (told_at next events) (is_late node 0) refl
+    (λ log. follows next pages log events))
 
 pub logs_tell : (sites me pages : ℕ) (events : List Event)
     → option_map told_by_log (box_after_all (new_box sites me pages) (entries_of (new_node sites me pages) events)) ≡ Some (told_at (new_node sites me pages) events)
-logs_tell sites me pages events = follows (new_node sites me pages) pages [] events
+logs_tell sites me pages events =
+    let f = follows (new_node sites me pages) pages [] events in ap (option_map told_by_log) f.goes ∙ ap Some f.tells
 
 -- ---- entries of many steps
 
@@ -216,7 +234,7 @@ then-both : (xs ys : List Entry) (o : Option Box)
 then-both xs ys None both = refl
 then-both xs ys (Some next) both = both next
 
-after-both : (xs ys : List Entry) (box : Box) → box_after_all box (xs ++ ys) ≡ option_and_then (λ next. box_after_all next ys) (box_after_all box xs)
+pub after-both : (xs ys : List Entry) (box : Box) → box_after_all box (xs ++ ys) ≡ option_and_then (λ next. box_after_all next ys) (box_after_all box xs)
 after-both [] ys box = refl
 after-both (x ∷ xs) ys box = then-both xs ys (box_after box x) (λ next. after-both xs ys next)
 
@@ -226,7 +244,7 @@ then-entries entries None are = refl
 then-entries entries (Some next) are = are next
 
 -- entries lead where all their steps do
-entries-are : (entries : List Entry) (box : Box) → box_after_entries box entries ≡ box_after_all box (all_steps entries)
+pub entries-are : (entries : List Entry) (box : Box) → box_after_entries box entries ≡ box_after_all box (all_steps entries)
 entries-are [] box = refl
 entries-are (entry ∷ entries) box =
     then-entries entries (box_after_entry box entry) (λ next. entries-are entries next) ∙ sym (after-both (steps_of entry) (all_steps entries) box)

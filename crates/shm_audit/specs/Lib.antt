@@ -8,3 +8,4 @@ pub mod Missing
 pub mod Told
 pub mod Loads
 pub mod Stores
+pub mod Lived
