@@ -18,7 +18,7 @@ use Rattle.shm_wire.proofs.ReplyWords.{reply-is}
 use Rattle.shm_wire.specs.Answers.{read_tell_line, tell_line_of_words}
 use Rattle.shm_wire.specs.Line.{line_of_words, read_line}
 use Rattle.shm_wire.specs.Replies.{reply_of}
-use Rattle.shm_wire.specs.Words.{by_verb, ended, nothing}
+use Rattle.shm_wire.specs.Words.{by_verb, nothing}
 use Rattle.shm_state.proofs.BookWords.{book-is}
 use Rattle.shm_state.proofs.EntryWords.{entry-is}
 use Rattle.shm_state.proofs.SetWords.{set}
