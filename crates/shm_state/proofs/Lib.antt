@@ -6,3 +6,5 @@ pub mod BookTexts
 pub mod PlainWords
 pub mod PartWords
 pub mod SpelledParts
+pub mod Taken
+pub mod ToldSteps

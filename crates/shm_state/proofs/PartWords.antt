@@ -18,14 +18,14 @@ use Rattle.shm_wire.proofs.ReplyWords.{reply-is}
 use Rattle.shm_wire.specs.Answers.{read_tell_line, tell_line_of_words}
 use Rattle.shm_wire.specs.Line.{line_of_words, read_line}
 use Rattle.shm_wire.specs.Replies.{reply_of}
-use Rattle.shm_wire.specs.Words.{by_verb, ended, nothing}
+use Rattle.shm_wire.specs.Words.{by_verb, nothing}
 use Rattle.shm_state.proofs.BookWords.{book-is}
 use Rattle.shm_state.proofs.EntryWords.{entry-is}
 use Rattle.shm_state.proofs.SetWords.{set}
 use Rattle.shm_state.specs.BookWords as books
 use Rattle.shm_state.specs.EntryWords as entries
-use Rattle.shm_state.specs.Part.{Part, Requests, Calls, Outstanding, Segment, Missing, Kept, Entry, Purged, Attachment, Book, Frames, Copy}
-use Rattle.shm_state.specs.PartWords.{IsPart, attachment_of, book_of, copy_of, counted_of, entry_of, kept_of, missing_of, numbered_of, outstanding_of, part_line, part_of, part_words, of_calls, of_pages, pages_of, plain_of, read_part, segment_of, told_of, told_words}
+use Rattle.shm_state.specs.Part.{Part, Requests, Calls, Outstanding, Segment, Missing, Kept, Entry, Purged, Attachment, Book}
+use Rattle.shm_state.specs.PartWords.{IsPart, attachment_of, book_of, counted_of, entry_of, kept_of, missing_of, outstanding_of, part_line, part_of, part_words, of_calls, of_pages, pages_of, plain_of, purged_of, read_part, segment_of, told_of, told_words}
 
 abbrev ReadsTold : List (List ℕ) → Part → Type 0
 ReadsTold words part = Reads IsPart told_words words part
@@ -95,7 +95,7 @@ module _ (words : List (List ℕ)) (part : Part) where
       subst (ReadsTold (codes "kept" ∷ words)) (some-is (Kept t.value n.value s.value) part s.gives)
       ((t.is, n.is, r.0), ap (λ l. codes "kept" ∷ l) (onto t.are (onto n.are r.1)))
 
-  purged-is : numbered_of Purged words ≡ Some part → ReadsTold (codes "purged" ∷ words) part
+  purged-is : purged_of words ≡ Some part → ReadsTold (codes "purged" ∷ words) part
   purged-is h =
       let i = took number words _ part h in
       let e = ended-is (Purged i.value) part i.others i.gives in
@@ -125,23 +125,11 @@ module _ (words : List (List ℕ)) (part : Part) where
       let r = book-is p.others s.value s.gave in
       subst (ReadsTold (codes "book" ∷ words)) (some-is (Book p.value s.value) part s.gives) ((p.is, r.0), ap (λ l. codes "book" ∷ l) (onto2 p.are r.1))
 
-  frames-is : numbered_of Frames words ≡ Some part → ReadsTold (codes "frames" ∷ words) part
-  frames-is h =
-      let n = took number words _ part h in
-      let e = ended-is (Frames n.value) part n.others n.gives in
-      subst (ReadsTold (codes "frames" ∷ words)) e.1 (n.is, ap (λ l. codes "frames" ∷ l) (onto n.are e.0))
-
-  copy-is : copy_of words ≡ Some part → ReadsTold (codes "copy" ∷ words) part
-  copy-is h =
-      let p = took_page words _ part h in
-      let e = ended-is (Copy p.value) part p.others p.gives in
-      subst (ReadsTold (codes "copy" ∷ words)) e.1 (p.is, ap (λ l. codes "copy" ∷ l) (onto2 p.are e.0))
-
 sound_calls : Sound IsPart told_words of_calls
 sound_calls = (requests-is, (calls-is, (outstanding-is, (segment-is, (missing-is, (kept-is, tt))))))
 
 sound_pages : Sound IsPart told_words of_pages
-sound_pages = (purged-is, (attachment-is, (book-part-is, (frames-is, (copy-is, tt)))))
+sound_pages = (purged-is, (attachment-is, (book-part-is, tt)))
 
 pages-is : SoundReader IsPart told_words pages_of
 pages-is = by_verb-is IsPart told_words of_pages nothing sound_pages (nothing-is IsPart told_words)

@@ -22,7 +22,7 @@ use Rattle.shm_state.proofs.EntryWords.{entry-spelled}
 use Rattle.shm_state.proofs.SetWords.{set}
 use Rattle.shm_state.specs.BookWords.{book_words}
 use Rattle.shm_state.specs.EntryWords.{entry_words}
-use Rattle.shm_state.specs.Part.{Part, Requests, Calls, Outstanding, Segment, Missing, Kept, Entry, Purged, Attachment, Book, Frames, Copy}
+use Rattle.shm_state.specs.Part.{Part, Requests, Calls, Outstanding, Segment, Missing, Kept, Entry, Purged, Attachment, Book}
 use Rattle.shm_state.specs.PartWords.{IsPart, of_page, part_line, part_of, read_part, told_of, told_words}
 use Rattle.shm_state.specs.SetWord.{set_word}
 
@@ -110,8 +110,6 @@ told-spelled (Book page book) h =
       unparted = (NoBlank-test (codes "book") refl, unparted_page page (book_words book) h.0 s.unparted);
       back = rw (prints_page page (book_words book) h.0, s.back) refl;
     }
-told-spelled (Frames n) h = record { unparted = (NoBlank-test (codes "frames") refl, (number.unparted n h, tt)); back = rw (prints number n [] h) refl }
-told-spelled (Copy page) h = record { unparted = (NoBlank-test (codes "copy") refl, unparted_page page [] h tt); back = rw (prints_page page [] h) refl }
 
 pub part-is_read : (part : Part) → IsPart part → read_part (part_line part) ≡ Some part
 part-is_read part h =

@@ -4,3 +4,6 @@ pub mod SetWord
 pub mod EntryWords
 pub mod BookWords
 pub mod PartWords
+pub mod Stage
+pub mod Told
+pub mod ToldOf

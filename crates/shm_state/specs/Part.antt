@@ -1,4 +1,4 @@
--- The parts of a site's state. Each is told on a line of its own.
+-- The parts of a site's state. Each is told on a line of its own. A site that may hold only so many copies has more than these say.
 use Rattle.std.specs.Prelude.{ℕ, Bool, List, Option}
 use Rattle.shm_place.specs.declared.page_id.PageId.{PageId}
 use Rattle.shm_model.specs.Book.{Running}
@@ -20,7 +20,7 @@ pub record BookPart : Type 0 where
 
 -- the number of the last request; how many calls were begun; the call that is outstanding; a segment that the home made; the sites that have yet
 -- to purge a destroyed one; the last reply to a site, under its call's number; what there is of a page; a segment that was purged; what is
--- attached at a number; a page's book; how many copies there may be; and a page that is one, the next to go first
+-- attached at a number; and a page's book
 pub data Part : Type 0 where
   Requests : ℕ → Part
   Calls : ℕ → Part
@@ -32,5 +32,3 @@ pub data Part : Type 0 where
   Purged : ℕ → Part
   Attachment : ℕ → model.Attachment → Part
   Book : PageId → BookPart → Part
-  Frames : ℕ → Part
-  Copy : PageId → Part

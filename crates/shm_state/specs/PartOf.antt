@@ -29,5 +29,3 @@ part_in (code.Entry page entry) = state.Entry page (entry_in entry)
 part_in (code.Purged id) = state.Purged id
 part_in (code.Attachment number id size ro) = state.Attachment number (record { id = id; size = size; ro = ro })
 part_in (code.Book page book) = state.Book page (book_in book)
-part_in (code.Frames limit) = state.Frames limit
-part_in (code.Copy page) = state.Copy page

@@ -15,7 +15,7 @@ use Rattle.shm_state.specs.BookWords as books
 use Rattle.shm_state.specs.BookWords.{IsBook, book_words}
 use Rattle.shm_state.specs.EntryWords as entries
 use Rattle.shm_state.specs.EntryWords.{IsEntry, entry_words}
-use Rattle.shm_state.specs.Part.{Part, Requests, Calls, Outstanding, Segment, Missing, Kept, Entry, Purged, Attachment, Book, Frames, Copy}
+use Rattle.shm_state.specs.Part.{Part, Requests, Calls, Outstanding, Segment, Missing, Kept, Entry, Purged, Attachment, Book}
 use Rattle.shm_state.specs.SetWord.{IsSet, set_of, set_word}
 
 -- ---- the parts that have words
@@ -35,8 +35,6 @@ IsPart (Entry page entry) = IsPageId page × IsEntry entry
 IsPart (Purged id) = IsNumber id
 IsPart (Attachment number a) = IsNumber number × IsNumber a.id × IsNumber a.size
 IsPart (Book page book) = IsPageId page × IsBook book
-IsPart (Frames limit) = IsNumber limit
-IsPart (Copy page) = IsPageId page
 
 -- ---- their words
 
@@ -60,8 +58,6 @@ told_words (Entry page entry) = codes "entry" ∷ of_page page (entry_words entr
 told_words (Purged id) = codes "purged" ∷ decimal id ∷ []
 told_words (Attachment number a) = codes "attachment" ∷ decimal number ∷ decimal a.id ∷ decimal a.size ∷ access_word a.ro ∷ []
 told_words (Book page book) = codes "book" ∷ of_page page (book_words book)
-told_words (Frames limit) = codes "frames" ∷ decimal limit ∷ []
-told_words (Copy page) = codes "copy" ∷ of_page page []
 
 abbrev pub part_words : Part → List (List ℕ)
 part_words part = codes "state" ∷ told_words part
@@ -77,11 +73,11 @@ counted_of part words = do
   (number, words) ← next_of wide_of words
   ended (part number) words
 
--- `purged id`; `frames` alike
-abbrev pub numbered_of : (ℕ → Part) → List (List ℕ) → Option Part
-numbered_of part words = do
-  (number, words) ← next_number words
-  ended (part number) words
+-- `purged id`
+abbrev pub purged_of : List (List ℕ) → Option Part
+purged_of words = do
+  (id, words) ← next_number words
+  ended (Purged id) words
 
 -- `outstanding number call`
 abbrev pub outstanding_of : List (List ℕ) → Option Part
@@ -152,12 +148,6 @@ book_of words = do
   book ← books.book_of words
   Some (Book page book)
 
--- `copy seg index`
-abbrev pub copy_of : List (List ℕ) → Option Part
-copy_of words = do
-  (page, words) ← next_page words
-  ended (Copy page) words
-
 -- what a site keeps of its requests and calls, and as a home
 abbrev pub of_calls : Verbs Part
 of_calls =
@@ -167,8 +157,7 @@ of_calls =
 -- what it keeps of pages, without their bytes
 abbrev pub of_pages : Verbs Part
 of_pages =
-    (codes "purged", numbered_of Purged) ∷ (codes "attachment", attachment_of) ∷ (codes "book", book_of) ∷ (codes "frames", numbered_of Frames)
-    ∷ (codes "copy", copy_of) ∷ []
+    (codes "purged", purged_of) ∷ (codes "attachment", attachment_of) ∷ (codes "book", book_of) ∷ []
 
 abbrev pub pages_of : List ℕ → List (List ℕ) → Option Part
 pages_of = by_verb of_pages nothing

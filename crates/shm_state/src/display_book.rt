@@ -16,7 +16,7 @@ impl fmt::Display for BookPart {
     /// The words behind the page.
     fn fmt<W: fmt::Write>(&self, f: &mut fmt::Formatter<W>) -> fmt::Result {
         let owner = self.owner.0;
-        let copies = SetWord(&self.copies);
+        let copies = SetWord(self.copies);
         let number = self.number;
         let served = NumbersText(&self.served);
         match self.running {

@@ -24,7 +24,7 @@ impl<A: Allocator + Copy> fmt::Display for Part<A> {
             }
             Part::Segment(segment) => write!(f, "state segment {}", SegmentWords(segment)),
             Part::Missing { id, missing } => {
-                write!(f, "state missing {} {}", id.0, SetWord(missing))
+                write!(f, "state missing {} {}", id.0, SetWord(*missing))
             }
             Part::Kept {
                 site,
@@ -49,8 +49,6 @@ impl<A: Allocator + Copy> fmt::Display for Part<A> {
             Part::Book { page, book } => {
                 write!(f, "state book {} {} {book}", page.seg.0, page.index)
             }
-            Part::Frames(limit) => write!(f, "state frames {limit}"),
-            Part::Copy(page) => write!(f, "state copy {} {}", page.seg.0, page.index),
         }
     }
 }

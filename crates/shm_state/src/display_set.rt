@@ -1,18 +1,20 @@
 //! How a set of sites is spelled.
+use shm_place::SiteSet;
 use std::fmt;
 
 /// A set of sites as a word: a digit for each site.
 #[derive(Clone, Copy)]
-pub struct SetWord<'a>(pub &'a [bool]);
+pub struct SetWord(pub SiteSet);
 
-impl<'a> fmt::Display for SetWord<'a> {
+impl fmt::Display for SetWord {
     ghost use Rattle.std.specs.Prelude.{Some};
     ghost use Rattle.shm_state.specs.SetWord.{set_word};
 
-    ghost output = { λ word. Some (set_word word.0.now) };
+    ghost output = { λ word. Some (set_word word.0) };
 
     fn fmt<W: fmt::Write>(&self, f: &mut fmt::Formatter<W>) -> fmt::Result {
-        'members: for member in self.0 {
+        let members = self.0.members();
+        'members: for member in &members {
             write!(f, "{}", MemberDigit(*member))?;
         }
         Ok(())

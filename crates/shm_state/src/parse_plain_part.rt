@@ -1,8 +1,8 @@
 //! Reads the parts of a site's state, except a page's bytes.
 ghost use Rattle.std.specs.Prelude.{◌≡◌, option_map};
-ghost use Rattle.shm_state.specs.Part.{Calls, Frames, Purged, Requests};
+ghost use Rattle.shm_state.specs.Part.{Calls, Requests};
 ghost use Rattle.shm_state.specs.PartOf.{part_in};
-ghost use Rattle.shm_state.specs.PartWords.{attachment_of, book_of, copy_of, counted_of, kept_of, missing_of, numbered_of, outstanding_of, pages_of, plain_of, segment_of};
+ghost use Rattle.shm_state.specs.PartWords.{attachment_of, book_of, counted_of, kept_of, missing_of, outstanding_of, pages_of, plain_of, purged_of, segment_of};
 
 use crate::parse_book::book;
 use crate::parse_set::sites;
@@ -50,12 +50,6 @@ fn pages<A: Allocator + Copy>(verb: &[u8], words: Words<'_>) -> Option<Part<A>>
     }
     if verb == b"book".as_slice() {
         return book_part(words);
-    }
-    if verb == b"frames".as_slice() {
-        return frames(words);
-    }
-    if verb == b"copy".as_slice() {
-        return copy(words);
     }
     None
 }
@@ -142,7 +136,7 @@ fn kept<A: Allocator + Copy>(words: Words<'_>) -> Option<Part<A>>
 }
 
 fn purged<A: Allocator + Copy>(words: Words<'_>) -> Option<Part<A>>
-    ensures { option_map part_in result ≡ numbered_of Purged words.entry }
+    ensures { option_map part_in result ≡ purged_of words.entry }
 {
     let (id, words) = words.number()?;
     if !words.is_empty() {
@@ -175,24 +169,4 @@ fn book_part<A: Allocator + Copy>(words: Words<'_>) -> Option<Part<A>>
     let (page, words) = page_id(words)?;
     let book = book(words)?;
     Some(Part::Book { page, book })
-}
-
-fn frames<A: Allocator + Copy>(words: Words<'_>) -> Option<Part<A>>
-    ensures { option_map part_in result ≡ numbered_of Frames words.entry }
-{
-    let (limit, words) = words.number()?;
-    if !words.is_empty() {
-        return None;
-    }
-    Some(Part::Frames(limit))
-}
-
-fn copy<A: Allocator + Copy>(words: Words<'_>) -> Option<Part<A>>
-    ensures { option_map part_in result ≡ copy_of words.entry }
-{
-    let (page, words) = page_id(words)?;
-    if !words.is_empty() {
-        return None;
-    }
-    Some(Part::Copy(page))
 }

@@ -5,9 +5,10 @@ ghost use Rattle.shm_lines.specs.Words.{next_of};
 ghost use Rattle.shm_state.specs.SetWord.{is_one, is_set, is_zero_or_one, set_of};
 
 use shm_lines::Words;
+use shm_place::SiteSet;
 
 /// The next word as a set of sites, and those after it.
-pub fn sites(words: Words<'_>) -> Option<([bool; 16], Words<'_>)>
+pub fn sites(words: Words<'_>) -> Option<(SiteSet, Words<'_>)>
     ensures { result ≡ next_of set_of words.entry }
 {
     let (word, words) = words.word()?;
@@ -15,13 +16,13 @@ pub fn sites(words: Words<'_>) -> Option<([bool; 16], Words<'_>)>
     Some((members, words))
 }
 
-fn members(word: &[u8]) -> Option<[bool; 16]>
+fn members(word: &[u8]) -> Option<SiteSet>
     ensures { result ≡ set_of word.now }
 {
     if !is_set(word) {
         return None;
     }
-    Some(marked(word))
+    Some(SiteSet::restored(marked(word)))
 }
 
 /// Checks that the word has a digit, 0 or 1, for each of 16 sites.

@@ -2,7 +2,7 @@
 use shm_keys::Segment;
 use shm_model::{Kind, Op, Reply};
 use shm_number::Number;
-use shm_place::{PageId, SegId, SiteId};
+use shm_place::{PageId, SegId, SiteId, SiteSet};
 use std::alloc::{Allocator, Global};
 
 /// What a restart leaves of a page's book.
@@ -10,8 +10,8 @@ use std::alloc::{Allocator, Global};
 pub struct BookPart {
     /// The site that owns the page.
     pub owner: SiteId,
-    /// Whether a site may have a copy beside the owner's: of each of 16 sites, in their order.
-    pub copies: [bool; 16],
+    /// The sites that may have a copy beside the owner's.
+    pub copies: SiteSet,
     /// The number of the last transaction that started; 0 before the first.
     pub number: Number,
     /// What the running transaction gives, and to which site.
@@ -65,10 +65,10 @@ pub enum Part<A: Allocator + Copy = Global> {
     },
     /// A segment that the site made as a home.
     Segment(Segment),
-    /// A destroyed segment that sites have yet to purge: which of 16 sites, in their order.
+    /// A destroyed segment, and the sites that have yet to purge it.
     Missing {
         id: SegId,
-        missing: [bool; 16],
+        missing: SiteSet,
     },
     /// The last reply that the home gave to the site, and the number of its call.
     Kept {
@@ -95,8 +95,4 @@ pub enum Part<A: Allocator + Copy = Global> {
         page: PageId,
         book: BookPart,
     },
-    /// How many copies the site may have at most.
-    Frames(u32),
-    /// A page that the site has as a copy. Those told before it go first.
-    Copy(PageId),
 }

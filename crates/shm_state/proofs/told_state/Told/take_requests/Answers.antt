@@ -1,0 +1,10 @@
+use Rattle.std.proofs.Common.{None, refl}
+use Rattle.shm_state.proofs.Taken.{taken}
+use Rattle.shm_state.proofs.ToldSteps.{requests-told, says, seen, tells}
+use Rattle.shm_state.specs.Part.{Requests}
+use Rattle.shm_state.proofs.told_state.Told.take_requests.Goals as goal
+
+pub returns-clause-told : goal.returns-clause-told
+returns-clause-told g c = λ said h.
+    let old = c.args.self.now in
+    taken (Requests c.args.number) said _ None _ refl (tells _ _ (requests-told (seen old) said (says old said h) c.args.number))
