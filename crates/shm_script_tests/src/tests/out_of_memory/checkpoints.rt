@@ -12,10 +12,35 @@ use std::process::Abort;
 use std::test::Fail;
 
 /// How many bytes of memory a session has here.
-const HEAP: usize = 1 << 17;
+const HEAP: usize = 1 << 19;
 
-/// How often a hole is widened: for the world and two copies of it.
-const HOLES: usize = 1200;
+/// A hole in which going back finds all the memory that it asks for: for the world, and for each copy of it that is kept.
+const ENOUGH: usize = 1 << 17;
+
+/// Going back once: how many events, how many are left, and the byte that was stored last before and after it.
+#[derive(Clone, Copy)]
+struct Back {
+    count: u32,
+    left: u64,
+    before: u8,
+    after: u8,
+}
+
+/// Over most of the copies that are kept on the way.
+const FAR: Back = Back {
+    count: 50,
+    left: 1150,
+    before: 176,
+    after: 126,
+};
+
+/// The load that comes between is taken back, too.
+const FARTHER: Back = Back {
+    count: 1051,
+    left: 100,
+    before: 126,
+    after: 100,
+};
 
 fn store(byte: u8) -> Event {
     Event::Store {
@@ -34,77 +59,105 @@ fn load() -> Event {
     }
 }
 
-/// 140 stores, each of its number from 1.
+/// 1,200 stores, each of its number's last eight bits.
 fn store_all(rt: &impl Abort, session: &mut Session<&LocalHeap>) {
-    for byte in 1..=140u8 {
-        assert_eq!(rt; session.apply(store(byte)), Ok(Answer::Stored));
+    for number in 1..1201u32 {
+        assert_eq!(rt;
+            session.apply(store((number % 256) as u8)),
+            Ok(Answer::Stored)
+        );
     }
 }
 
-/// Goes back, and expects so many events to stand, of which the last stored this byte.
-fn expect_back(rt: &impl Abort, session: &mut Session<&LocalHeap>, count: u32, left: u8) {
-    assert_eq!(rt; session.back(count), Ok(left as u64));
-    assert_eq!(rt; session.apply(load()), Ok(Answer::Byte(left)));
-    assert_eq!(rt; session.back(1), Ok(left as u64));
-    assert_eq!(rt; session.len(), left as u64);
+/// The byte that was stored last is there still. The load that tells so is taken back.
+fn expect_byte(rt: &impl Abort, session: &mut Session<&LocalHeap>, byte: u8) {
+    let standing = session.len();
+    assert_eq!(rt; session.apply(load()), Ok(Answer::Byte(byte)));
+    assert_eq!(rt; session.back(1), Ok(standing));
 }
 
-/// Goes back on a heap with so small a hole; how much memory is used then. None: it was refused memory, and nothing changed.
-fn used_after(
+/// Goes back on a heap that is full but for so small a hole; how much memory is used then. None: it was refused memory, and nothing
+/// changed; with memory it goes back.
+fn goes_back(
     rt: &impl Abort,
     alloc: Global,
     heap: &LocalHeap,
     session: &mut Session<&LocalHeap>,
     hole: usize,
+    back: &Back,
 ) -> Result<Option<usize>, Fail> {
     let before = Before::new(alloc, session)?;
     let blocks = fill_heap_but(alloc, heap, hole)?;
-    let answer = session.back(10);
+    let answer = session.back(back.count);
     drop(blocks);
     match answer {
         Ok(left) => {
-            assert_eq!(rt; left, 130);
+            assert_eq!(rt; left, back.left);
             Ok(Some(heap.used()))
         }
         Err(fault) => {
             assert_eq!(rt; fault, BackFault::OutOfMemory);
             before.expect_same(rt, session)?;
-            expect_back(rt, session, 10, 130);
+            expect_byte(rt, session, back.before);
+            assert_eq!(rt; session.back(back.count), Ok(back.left));
             Ok(None)
         }
     }
 }
 
-/// Goes back with so small a hole, and then on with room: the answers are the same, whichever copies were kept.
-fn goes_back(rt: &impl Abort, alloc: Global, hole: usize) -> Result<Option<usize>, Fail> {
+/// How much memory is used each time that a session has gone back; none where it was refused.
+#[derive(Clone, Copy, PartialEq, Eq)]
+struct Used {
+    far: Option<usize>,
+    farther: Option<usize>,
+}
+
+/// Goes back twice, each time with so small a hole and then a load. The answers are the same, whatever was refused.
+fn goes_back_twice(
+    rt: &impl Abort,
+    alloc: Global,
+    heap: &LocalHeap,
+    session: &mut Session<&LocalHeap>,
+    hole: usize,
+) -> Result<Used, Fail> {
+    store_all(rt, session);
+    let far = goes_back(rt, alloc, heap, session, hole, &FAR)?;
+    assert_eq!(rt; session.apply(load()), Ok(Answer::Byte(FAR.after)));
+    let farther = goes_back(rt, alloc, heap, session, hole, &FARTHER)?;
+    assert_eq!(rt; session.apply(load()), Ok(Answer::Byte(FARTHER.after)));
+    Ok(Used { far, farther })
+}
+
+/// The same in a new session.
+fn used_with(rt: &impl Abort, alloc: Global, hole: usize) -> Result<Used, Fail> {
     let heap = LocalHeap::new(alloc, HEAP)?;
     let mut session = open_session(&heap, 1, true)?;
-    store_all(rt, &mut session);
-    let used = used_after(rt, alloc, &heap, &mut session, hole)?;
-    expect_back(rt, &mut session, 0, 130);
-    expect_back(rt, &mut session, 10, 120);
-    expect_back(rt, &mut session, 57, 63);
+    let used = goes_back_twice(rt, alloc, &heap, &mut session, hole);
     drop(session);
-    Ok(used)
+    used
+}
+
+/// In how many holes, each 16 bytes wider than the one before, there wasn't room for the world, and in how many more not for each copy of
+/// it that is kept where there is room for all.
+fn holes_too_small(rt: &impl Abort, alloc: Global, all: Used) -> Result<(usize, usize), Fail> {
+    let mut refused = 0usize;
+    for tries in 0..ENOUGH / 16 {
+        let used = used_with(rt, alloc, tries * 16)?;
+        if used == all {
+            return Ok((refused, tries.saturating_sub(refused)));
+        }
+        if used.far.is_none() {
+            refused = refused.saturating_add(1);
+        }
+    }
+    Err(Fail::new("memory was refused in each hole"))
 }
 
 #[test]
 fn copies_are_kept_as_far_as_there_is_memory(rt: HostRuntime) -> Result<(), Fail> {
-    let mut used = Vec::new(rt.alloc());
-    for hole in 0..HOLES {
-        if let Some(bytes) = goes_back(&rt, rt.alloc(), hole * 16)? {
-            used.push(bytes)?;
-        }
-    }
-    let least = *used.iter().min().ok_or("always refused")?;
-    let most = *used.iter().max().ok_or("always refused")?;
-    assert!(rt;
-        used.len() < HOLES - PAGE_BYTES / 16,
-        "no world was refused"
-    );
-    assert!(rt;
-        most > least && most - least > 2 * PAGE_BYTES,
-        "no two copies were refused"
-    );
+    let all = used_with(&rt, rt.alloc(), ENOUGH)?;
+    let (worlds, copies) = holes_too_small(&rt, rt.alloc(), all)?;
+    assert!(rt; worlds >= PAGE_BYTES / 16, "no world was refused");
+    assert!(rt; copies > 4 * PAGE_BYTES / 16, "no five copies were refused");
     Ok(())
 }
