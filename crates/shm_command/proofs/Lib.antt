@@ -3,6 +3,7 @@ mod Plain
 mod Wrong
 mod Numbers
 mod Streaming
+mod Forgotten
 mod NotAccepted
 mod SimulationLemmas
 mod KeptLemmas

@@ -7,6 +7,7 @@ pub mod Status
 pub mod Simulated
 pub mod Kept
 pub mod Done
+pub mod Prompted
 pub mod FileSummary
 pub mod Commands
 pub mod Words
