@@ -9,5 +9,6 @@ mod SimulationLemmas
 mod KeptLemmas
 mod PlayedLemmas
 mod Unbegun
+mod Refusing
 mod Unsealed
 pub mod Untold
