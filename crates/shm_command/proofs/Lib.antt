@@ -9,6 +9,8 @@ mod SimulationLemmas
 mod KeptLemmas
 mod PlayedLemmas
 mod Unbegun
+mod FirstLemmas
+mod Unmarked
 mod Refusing
 mod Unsealed
 pub mod Untold

@@ -1,6 +1,7 @@
 pub mod Audited
 pub mod Around
 pub mod Begun
+pub mod First
 pub mod Served
 pub mod Sealed
 pub mod Status

@@ -1,5 +1,5 @@
 //! A site as a process, with a journal or without.
-ghost use Rattle.std.specs.Prelude.{◌≡◌, ◌≤◌, ◌<◌, None, Some, IfOk};
+ghost use Rattle.std.specs.Prelude.{◌≡◌, ◌≤◌, ◌<◌, None, Some, IfErr, IfOk};
 ghost use Rattle.shm_journal.specs.DeskFrom.{opening_of};
 ghost use Rattle.shm_process.specs.Desk.{greeting_at};
 ghost use Rattle.shm_process.specs.DeskOf.{desk_of};
@@ -8,7 +8,7 @@ ghost use Rattle.shm_seal.specs.Seal.{cluster_of};
 ghost use Rattle.shm_seal.specs.SealOf.{seal_of};
 ghost use Rattle.shm_command.specs.Around.{streams};
 ghost use Rattle.shm_command.specs.Begun.{header_at, start_at};
-ghost use Rattle.shm_command.specs.Served.{IsServed, ServesFrom};
+ghost use Rattle.shm_command.specs.Served.{IsServed, IsUnbegun, ServesFrom};
 
 use crate::elapsed_time::{milliseconds_since, seconds_since_1970};
 use crate::error_text_and_status;
@@ -16,6 +16,7 @@ use crate::journal_backends::{JournalFile, NoJournal};
 use crate::journal_startup::{Begun, Kept, Lock, begin_kept, open_journal};
 use crate::site_error::SiteFault;
 use crate::whole_journal::{WholeJournal, may_begin, open_whole};
+use shm_batches::Extent;
 use shm_journal::{Header, ProcessFault, RecoveryFault, serve};
 use shm_place::{PAGES, SiteId, Sites};
 use shm_process::{Desk, Node, Start};
@@ -97,8 +98,9 @@ where
         pages,
         cluster: seal.name(),
     };
-    if kept.begins && extent.chain.number() == 0 && !may_begin(rt, kept.name, header) {
-        return Err(SiteFault::Unrecovered(RecoveryFault::BadLine(1)));
+    match check_front(rt, kept, header, extent) {
+        Ok(()) => {}
+        Err(fault) => return Err(fault),
     }
     match begin_kept(
         rt, sites, me, pages, seal, kept, since, extent, &mut lines, &file,
@@ -122,6 +124,25 @@ where
             )
         }
         Err(fault) => Err(fault),
+    }
+}
+
+/// Checks that a file without a whole batch, in which a journal is to be begun, has no more than what a crash may leave of the first.
+fn check_front<R: AllocGlobal + Files>(
+    rt: &R,
+    kept: Kept<'_>,
+    header: Header,
+    extent: Extent,
+) -> Result<(), SiteFault>
+    ensures { IfErr result IsUnbegun }
+{
+    if !kept.begins || extent.chain.number() > 0 {
+        return Ok(());
+    }
+    match may_begin(rt, kept.name, header) {
+        Ok(true) => Ok(()),
+        Ok(false) => Err(SiteFault::Unrecovered(RecoveryFault::BadLine(1))),
+        Err(unwhole) => Err(unwhole.of_site()),
     }
 }
 
