@@ -33,9 +33,12 @@ mod whole_journal;
 
 pub use args::{SealWords, Simulation, Task, parse_words};
 pub use dispatch_command::run_words;
+pub use journal_backends::JournalFile;
 pub use journal_startup::Lock;
 pub use outcome_scripts::save_outcome_scripts;
 pub use process_entry::run_process;
 pub use recalling_input::{Recalls, Source};
 pub use save_run_logs::save_logs;
+pub use serve_site::serve_kept;
 pub use show_wrong_line::{script_fault, workload_fault};
+pub use site_error::SiteFault;

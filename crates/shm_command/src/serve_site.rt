@@ -1,5 +1,7 @@
 //! A site as a process, with a journal or without.
-ghost use Rattle.std.specs.Prelude.{◌≡◌, ◌≤◌, ◌<◌, None, Some, IfErr, IfOk};
+ghost use Rattle.std.specs.Prelude.{◌≡◌, ◌≤◌, ◌<◌, None, Some, IfErr, IfOk, OnOk};
+ghost use Rattle.std.specs.Io.KnownBytes.{IsAtEnd};
+ghost use Rattle.shm_journal.specs.Acts.{Served, around};
 ghost use Rattle.shm_journal.specs.DeskFrom.{opening_of};
 ghost use Rattle.shm_process.specs.Desk.{greeting_at};
 ghost use Rattle.shm_process.specs.DeskOf.{desk_of};
@@ -17,7 +19,7 @@ use crate::journal_startup::{Begun, Kept, Lock, begin_kept, open_journal};
 use crate::site_error::SiteFault;
 use crate::whole_journal::{WholeJournal, may_begin, open_whole};
 use shm_batches::Extent;
-use shm_journal::{Header, ProcessFault, RecoveryFault, serve};
+use shm_journal::{Header, Journal, ProcessFault, RecoveryFault, serve};
 use shm_place::{PAGES, SiteId, Sites};
 use shm_process::{Desk, Node, Start};
 use shm_seal::Seal;
@@ -173,7 +175,7 @@ fn begin(
 }
 
 /// Serves the input and the output, and keeps what is recorded in a file. Where that fails, what isn't durable is cut off again.
-fn serve_kept<I: Read, O: Write, F: Write + OpenFile + Drop, E: Write>(
+pub fn serve_kept<I: Read, O: Write, F: Write + OpenFile + Drop, E: Write>(
     desk: Desk,
     reader: &mut I,
     out: &mut O,
@@ -184,12 +186,7 @@ fn serve_kept<I: Read, O: Write, F: Write + OpenFile + Drop, E: Write>(
         (streams (I.remaining reader.new) (O.contents out.new)) }
 {
     let mut journal = journal;
-    let mut desk = desk;
-    let ended = serve(&mut desk, reader, out, errors, &mut journal);
-    error_text_and_status::unopened(desk.counts().unopened, errors);
-    error_text_and_status::health(desk.node().health(desk.counts()), errors);
-    drop(desk);
-    match ended {
+    match serve_counted(desk, reader, out, &mut journal, errors) {
         Ok(()) => Ok(()),
         Err(ProcessFault::JournalFault) => match journal.cut_back() {
             Ok(()) => Err(SiteFault::Ended(ProcessFault::JournalFault)),
@@ -197,4 +194,23 @@ fn serve_kept<I: Read, O: Write, F: Write + OpenFile + Drop, E: Write>(
         },
         Err(fault) => Err(SiteFault::Ended(fault)),
     }
+}
+
+/// Serves the input and the output, and keeps what is recorded in this journal. Then it tells what the site counted.
+fn serve_counted<I: Read, O: Write, J: Journal, E: Write>(
+    desk: Desk,
+    reader: &mut I,
+    out: &mut O,
+    journal: &mut J,
+    errors: &mut E,
+) -> Result<(), ProcessFault>
+    ensures served { Served (desk_of desk) (around (I.remaining reader.old) (O.contents out.old) (J.acts journal.old))
+        (around (I.remaining reader.new) (O.contents out.new) (J.acts journal.new)) result }
+    ensures end { OnOk result (IsAtEnd (I.remaining reader.new)) }
+{
+    let mut desk = desk;
+    let ended = serve(&mut desk, reader, out, errors, journal);
+    error_text_and_status::unopened(desk.counts().unopened, errors);
+    error_text_and_status::health(desk.node().health(desk.counts()), errors);
+    ended
 }
