@@ -5,6 +5,7 @@ mod Numbers
 mod Streaming
 mod Forgotten
 mod NotAccepted
+mod Zipped
 mod SimulationLemmas
 mod KeptLemmas
 mod PlayedLemmas

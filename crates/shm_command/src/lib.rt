@@ -15,6 +15,7 @@ mod journal_backends;
 mod journal_startup;
 mod journal_summary;
 mod line_of_step;
+mod log_source;
 mod outcome_scripts;
 mod process_entry;
 mod read_seal;
