@@ -3,10 +3,15 @@ mod Plain
 mod Wrong
 mod Numbers
 mod Streaming
+mod Forgotten
 mod NotAccepted
+mod Zipped
 mod SimulationLemmas
 mod KeptLemmas
 mod PlayedLemmas
 mod Unbegun
+mod FirstLemmas
+mod Unmarked
+mod Refusing
 mod Unsealed
 pub mod Untold

@@ -6,6 +6,7 @@ use Rattle.shm_draw.specs.Captions.{Beside, captions_in}
 use Rattle.shm_journal.specs.Acts.{Around, Did}
 use Rattle.shm_place.specs.declared.page_id.PageId.{PageId}
 use Rattle.shm_command.specs.Audited.{FailsAudit, TellsAudit}
+use Rattle.shm_command.specs.Prompted.{Prompts}
 use Rattle.shm_command.specs.Sealed.{IsSealedSite}
 use Rattle.shm_command.specs.Simulated.{Simulates}
 use Rattle.shm_command.specs.Summarized.{Summarizes}
@@ -47,16 +48,16 @@ PicturesNoted (Some notes) file steps page status old new =
     ((bytes : List ℕ) × (besides : List Beside) × (captions_in bytes ≡ Ok besides) × PicturesFrom file steps page besides status old new)
     ⊎ (HasNoCaptions status × Did old new [])
 
--- this was done, to an end of this status
-abbrev pub Does : Task → ℕ → Around → Around → Type 0
-Does (Replay file) status old new = ReplaysFrom file status old new
-Does (Run sites seed summary log) status old new = Runs sites summary status old new
-Does (Simulate asked) status old new = Simulates asked status old new
-Does Prompt status old new = (status ≡ 0) ⊎ (status ≡ 3)
-Does (Draw page steps notes file) status old new = PicturesNoted notes file steps page status old new
-Does (Site sites me pages journal begins seal) status old new = IsSealedSite seal (option_map (λ file. begins) journal) sites me pages status old new
-Does (Audit sites journals) status old new = Audits (length journals.items) sites status old new
-Does (Journal file) status old new = Summarizes status old.contents new.contents
+-- this was done, to an end of this status, where a person at a terminal typed or none did
+abbrev pub Does : Bool → Task → ℕ → Around → Around → Type 0
+Does typed (Replay file) status old new = ReplaysFrom file status old new
+Does typed (Run sites seed summary log) status old new = Runs sites summary status old new
+Does typed (Simulate asked) status old new = Simulates asked status old new
+Does typed Prompt status old new = Prompts typed status old new
+Does typed (Draw page steps notes file) status old new = PicturesNoted notes file steps page status old new
+Does typed (Site sites me pages journal begins seal) status old new = IsSealedSite seal (option_map (λ file. begins) journal) sites me pages status old new
+Does typed (Audit sites journals) status old new = Audits (length journals.items) sites status old new
+Does typed (Journal file) status old new = Summarizes status old.contents new.contents
 
 -- an audit judges its end
 abbrev pub has_audit : Task → Bool
@@ -70,5 +71,5 @@ is_simulation (Simulate asked) = true
 is_simulation _ = false
 
 -- What the words ask for was done. Or memory was refused while they were read, and nothing was.
-abbrev pub IsDone : List Text → ℕ → Around → Around → Type 0
-IsDone words status old new = ((task : Task) × AskFor words task × Does task status old new) ⊎ ((status ≡ 3) × Did old new [])
+abbrev pub IsDone : List Text → Bool → ℕ → Around → Around → Type 0
+IsDone words typed status old new = ((task : Task) × AskFor words task × Does typed task status old new) ⊎ ((status ≡ 3) × Did old new [])

@@ -1,12 +1,14 @@
 pub mod Audited
 pub mod Around
 pub mod Begun
+pub mod First
 pub mod Served
 pub mod Sealed
 pub mod Status
 pub mod Simulated
 pub mod Kept
 pub mod Done
+pub mod Prompted
 pub mod FileSummary
 pub mod Commands
 pub mod Words

@@ -1,5 +1,6 @@
 -- The seal that the words of a site ask for.
-use Rattle.std.specs.Prelude.{⊤, ◌≡◌, ◌<◌, ◌⊎◌, ℕ, Bool, List, [], length, is_none, is_some, None, Option, Some, option_map, false, true}
+use Rattle.std.specs.Prelude.{⊤, ◌≡◌, ◌<◌, ◌⊎◌, ℕ, ◌-◌, Bool, List, [], ◌∷◌, drop, if◌then◌else◌, length, take, is_none, is_some, None, Option, Some, option_map, false, true}
+use Rattle.std.specs.Str.{bytes_eq}
 use Rattle.shm_journal.specs.Acts.{Around, Did}
 use Rattle.shm_seal.specs.Hmac.{block_of}
 use Rattle.shm_seal.specs.Name.{is_name}
@@ -10,9 +11,13 @@ use Rattle.shm_command.specs.declared.seal_error.SealFault.{SealFault}
 use Rattle.shm_command.specs.declared.seal_error.SealFault.TheVariants as fault
 use Rattle.shm_command.specs.declared.args.seal_words.SealWords.{SealWords}
 
--- the block of a key that has some bytes
+-- without a line feed at the end
+abbrev pub unfed : List ℕ → List ℕ
+unfed bytes = if bytes_eq (drop (length bytes - 1) bytes) (10 ∷ []) then take (length bytes - 1) bytes else bytes
+
+-- the block of a key that lies in a file, and has some bytes
 abbrev pub IsKey : List ℕ → Type 0
-IsKey block = (bytes : List ℕ) × (0 < length bytes) × (block ≡ block_of bytes)
+IsKey block = (file : List ℕ) × (0 < length (unfed file)) × (block ≡ block_of (unfed file))
 
 -- with the name that was given, and a key exactly where a file was named
 abbrev pub IsSealOf : SealWords → Seal → Type 0

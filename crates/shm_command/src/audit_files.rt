@@ -1,15 +1,17 @@
 //! The audit of journals that lie in files.
 ghost use Rattle.std.specs.Prelude.{◌≡◌, ◌≢◌, ◌<◌, ◌⊎◌, length, IfErr, IfOk, OnOk};
 ghost use Rattle.std.specs.Io.KnownBytes.{Appends};
+ghost use Rattle.std.specs.List.{AllZip};
 ghost use Rattle.shm_logs.specs.Auditing.Logs.{logs_of};
 ghost use Rattle.shm_command.specs.Audited.{IsOfSites, IsUnread, IsCauseOf, IsWhyNot, FailsAudit, TellsAudit, audit_text, missing_in};
 ghost use Rattle.shm_command.specs.declared.audit_failure.Unaudited.TheVariants as cause;
 
 use crate::audit_failure::Unaudited;
+use crate::disk_save_file::Disk;
 use crate::error_text_and_status;
 use crate::line_of_step::wrong_line;
-use crate::whole_journal::open_whole;
-use shm_audit::{JournalsFault, MissingStep, Totals, audit_journals, missing_step, read_log};
+use crate::log_source::LogSource;
+use shm_audit::{JournalsFault, MissingStep, Totals, audit_journals, missing_step};
 use shm_journal::{Lines, Taken, parse_header};
 use shm_place::Sites;
 use shm_seal::ClusterName;
@@ -88,7 +90,7 @@ fn read_set<R: AllocGlobal + Files>(rt: &R, journals: &[&str]) -> Result<Vec<Sit
     ensures each { IfOk result (λ logs. length logs.items ≡ length journals.now) }
     ensures unread { IfErr result IsUnread }
 {
-    let logs = match read_logs(rt, journals) {
+    let logs = match read_logs(rt.alloc(), &Disk { rt }, journals) {
         Ok(logs) => logs,
         Err(fault) => return Err(fault),
     };
@@ -119,37 +121,28 @@ fn cluster_in<R: AllocGlobal + Files>(rt: &R, name: &str) -> Option<ClusterName>
     }
 }
 
-/// The logs that the journals of these names lead to.
-fn read_logs<R: AllocGlobal + Files>(rt: &R, journals: &[&str]) -> Result<Vec<SiteLog>, Unaudited>
+/// The logs that the journals of these names lead to, one for each, in their order.
+fn read_logs<S: LogSource>(
+    alloc: Global,
+    source: &S,
+    journals: &[&str],
+) -> Result<Vec<SiteLog>, Unaudited>
+    ensures of { IfOk result (λ logs. AllZip (λ name log. S.leads source.now name.now log) journals.now logs.items) }
     ensures each { IfOk result (λ logs. length logs.items ≡ length journals.now) }
     ensures unread { IfErr result IsUnread }
 {
-    let mut logs = Vec::new(rt.alloc());
+    let mut logs = Vec::new(alloc);
     'journals: for (at, name) in journals.iter().enumerate() {
-        let log = match read_journal(rt, at, name) {
+        let log = match source.log_of(at, name) {
             Ok(log) => log,
             Err(fault) => return Err(fault),
         };
-        if logs.push(log).is_err() {
-            return Err(Unaudited::OutOfMemory);
+        match logs.push(log) {
+            Ok(()) => {}
+            Err(_) => return Err(Unaudited::OutOfMemory),
         }
     }
     Ok(logs)
-}
-
-/// The log that the journal of this name leads to.
-fn read_journal<R: AllocGlobal + Files>(rt: &R, at: usize, name: &str) -> Result<SiteLog, Unaudited>
-    ensures { IfErr result IsUnread }
-{
-    let whole = match open_whole(rt, name) {
-        Ok(whole) => whole,
-        Err(unwhole) => return Err(unwhole.of_audit(at)),
-    };
-    let mut lines = whole.lines;
-    match read_log(rt.alloc(), &mut lines) {
-        Ok(log) => Ok(log),
-        Err(fault) => Err(Unaudited::Unread { at, fault }),
-    }
 }
 
 /// Counts the logs, if they are those of these sites with one plain memory.

@@ -7,6 +7,7 @@ ghost use Rattle.shm_command.specs.Begun.{header_at};
 ghost use Rattle.shm_command.specs.Done.{Does, IsDone, IsUnrun, PicturesFrom, PicturesNoted, ReplaysFrom, has_audit, is_simulation};
 ghost use Rattle.shm_seal.specs.Seal.{cluster_of};
 ghost use Rattle.shm_seal.specs.SealOf.{seal_of};
+ghost use Rattle.shm_command.specs.Prompted.{Prompts};
 ghost use Rattle.shm_command.specs.Sealed.{IsSealedSite};
 ghost use Rattle.shm_command.specs.Served.{site_status, IsSite};
 ghost use Rattle.shm_command.specs.Status.{Asks, AsksForAudit, DrawsAs, Pictures, PicturesFile, Replays, ReplaysFile, Reports, Takes};
@@ -58,7 +59,7 @@ where
     ensures asked { result < 2 → Takes (map S.text words.now) }
     ensures taken { Takes (map S.text words.now) → result ≢ 2 }
     ensures plain { (name : List ℕ) → map S.text words.now ≡ name ∷ codes "replay" ∷ [] → result ≢ 2 }
-    ensures done { Takes (map S.text words.now) → IsDone (map S.text words.now) result
+    ensures done { Takes (map S.text words.now) → IsDone (map S.text words.now) (I.typed reader.old) result
         (streams (I.remaining reader.old) (O.contents out.old)) (streams (I.remaining reader.new) (O.contents out.new)) }
     ensures audit { result ≡ 4 → AsksForAudit (map S.text words.now) }
     ensures quiet { AsksForAudit (map S.text words.now) → (result ≡ 1) ⊎ (result ≡ 4) → out.new ≡ out.old }
@@ -85,7 +86,7 @@ where
     requires among { IsOneOfSites task }
     ensures range { result < 5 }
     ensures taken { result ≢ 2 }
-    ensures done { Does task.entry result (streams (I.remaining reader.old) (O.contents out.old)) (streams (I.remaining reader.new) (O.contents out.new)) }
+    ensures done { Does (I.typed reader.old) task.entry result (streams (I.remaining reader.old) (O.contents out.old)) (streams (I.remaining reader.new) (O.contents out.new)) }
     ensures audit { result ≡ 4 → has_audit task.entry ≡ true }
     ensures quiet { has_audit task.entry ≡ true → (result ≡ 1) ⊎ (result ≡ 4) → out.new ≡ out.old }
     ensures unsimulated { is_simulation task.entry ≡ true → result ≡ 1 → out.new ≡ out.old }
@@ -367,6 +368,7 @@ fn talk<R: AllocGlobal + Files, I: Read + Recalls, O: Write, E: Write>(
     errors: &mut E,
 ) -> u8
     ensures status { (result ≡ 0) ⊎ (result ≡ 3) }
+    ensures prompted { Prompts (I.typed reader.old) result (streams (I.remaining reader.old) (O.contents out.old)) (streams (I.remaining reader.new) (O.contents out.new)) }
 {
     let is_terminal = reader.is_terminal();
     match prompt(rt.alloc(), reader, out, &mut Disk { rt }, is_terminal) {

@@ -1,6 +1,6 @@
 //! The journals that a site's process may have: a file, or none.
 ghost use Rattle.std.specs.Io.KnownBytes.{Appends};
-ghost use Rattle.std.specs.Prelude.{ℕ, OnErr, OnOk, take};
+ghost use Rattle.std.specs.Prelude.{◌≡◌, ℕ, OnErr, OnOk, take};
 
 use crate::journal_startup::cut;
 use shm_batches::{Chain, write_batch};
@@ -42,7 +42,7 @@ impl Journal for NoJournal {
 
 /// A file, at whose end batches are written.
 #[derive(Drop)]
-pub(crate) struct JournalFile<F> {
+pub struct JournalFile<F> {
     alloc: Global,
     file: F,
     chain: Chain,
@@ -52,7 +52,12 @@ pub(crate) struct JournalFile<F> {
 
 impl<F: OpenFile> JournalFile<F> {
     /// A file of these batches in this many bytes, all of them durable.
-    pub(crate) fn new(alloc: Global, file: F, chain: Chain, durable: u64) -> JournalFile<F> {
+    pub fn new(alloc: Global, file: F, chain: Chain, durable: u64) -> JournalFile<F>
+        ensures file { result.file ≡ file }
+        ensures chain { result.chain ≡ chain }
+        ensures durable { result.durable ≡ durable }
+        ensures loose { result.loose ≡ 0 }
+    {
         JournalFile {
             alloc,
             file,
@@ -63,7 +68,9 @@ impl<F: OpenFile> JournalFile<F> {
     }
 
     /// How many of its bytes are durable.
-    pub(crate) fn durable(&self) -> u64 {
+    pub(crate) fn durable(&self) -> u64
+        ensures { result ≡ self.now.durable }
+    {
         self.durable
     }
 
@@ -74,7 +81,9 @@ impl<F: OpenFile> JournalFile<F> {
 }
 
 impl<F: Write + OpenFile> Journal for JournalFile<F> {
-    ghost use Rattle.std.specs.Prelude.{None};
+    ghost use Rattle.std.specs.Prelude.{◌+◌, ◌-◌, ◌^◌, None, length, min};
+    ghost use Rattle.shm_batches.specs.Chain.{batch_text, with_batch};
+    ghost use Rattle.shm_batches.specs.ChainOf.{chain_of};
 
     ghost acts = { λ _. None };
 
@@ -86,7 +95,15 @@ impl<F: Write + OpenFile> Journal for JournalFile<F> {
         }
     }
 
-    fn append(&mut self, text: &[u8]) -> Result<(), Failed> {
+    /// Appends a batch of these lines.
+    fn append(&mut self, text: &[u8]) -> Result<(), Failed>
+        ensures batch { OnOk result (Appends (F.contents self.old.file) (F.contents self.new.file) (batch_text (chain_of self.old.chain) text.now)) }
+        ensures chain { OnOk result (chain_of self.new.chain ≡ with_batch (chain_of self.old.chain) text.now) }
+        ensures counted { OnOk result (self.new.loose ≡ min (self.old.loose + length (batch_text (chain_of self.old.chain) text.now)) (2 ^ 64 - 1)) }
+        ensures front { OnErr result ((n : ℕ) × Appends (F.contents self.old.file) (F.contents self.new.file) (take n (batch_text (chain_of self.old.chain) text.now))) }
+        ensures uncounted { OnErr result ((self.new.chain ≡ self.old.chain) × (self.new.loose ≡ self.old.loose)) }
+        ensures durable { self.new.durable ≡ self.old.durable }
+    {
         match write_batch(self.alloc, &mut self.file, &mut self.chain, text) {
             Ok(count) => {
                 self.loose = self.loose.saturating_add(count);
@@ -96,7 +113,14 @@ impl<F: Write + OpenFile> Journal for JournalFile<F> {
         }
     }
 
-    fn sync(&mut self) -> Result<(), Failed> {
+    /// Makes durable what was appended. Where that fails nothing counts as durable that didn't before.
+    fn sync(&mut self) -> Result<(), Failed>
+        ensures durable { OnOk result (self.new.durable ≡ min (self.old.durable + self.old.loose) (2 ^ 64 - 1)) }
+        ensures none_loose { OnOk result (self.new.loose ≡ 0) }
+        ensures undurable { OnErr result ((self.new.durable ≡ self.old.durable) × (self.new.loose ≡ self.old.loose)) }
+        ensures file { self.new.file ≡ self.old.file }
+        ensures chain { self.new.chain ≡ self.old.chain }
+    {
         match self.file.sync_data() {
             Ok(()) => {
                 self.durable = self.durable.saturating_add(self.loose);

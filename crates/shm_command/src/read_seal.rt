@@ -1,9 +1,10 @@
 //! The seal that the words of a site ask for.
-ghost use Rattle.std.specs.Prelude.{ℕ, List, ◌≡◌, ◌<◌, length, IfErr, IfOk};
+ghost use Rattle.std.specs.Prelude.{ℕ, List, [], ◌≡◌, ◌<◌, length, IfErr, IfOk, OnOk};
 ghost use Rattle.shm_seal.specs.Hmac.{block_of};
 ghost use Rattle.shm_seal.specs.KeyOf.{key_of};
 ghost use Rattle.shm_seal.specs.SealOf.{seal_of};
-ghost use Rattle.shm_command.specs.Sealed.{IsKey, IsKeyFault, IsSealOf, IsUnsealed};
+ghost use Rattle.shm_command.specs.Sealed.{IsKey, IsKeyFault, IsSealOf, IsUnsealed, unfed};
+ghost use Rattle.shm_command.specs.declared.seal_error.SealFault.TheVariants.{NoKey};
 
 use crate::args::SealWords;
 use crate::script_file::read_script_file;
@@ -38,21 +39,25 @@ pub(crate) fn read_seal<R: AllocGlobal + Files>(
     }
 }
 
-/// The key that lies in the file of this name: its bytes, less a line feed at their end.
+/// The key that lies in the file of this name.
 fn read_key<R: AllocGlobal + Files>(rt: &R, name: &str) -> Result<Key, SealFault>
     ensures ok { IfOk result (λ key. IsKey (key_of key)) }
     ensures err { IfErr result IsKeyFault }
 {
     match read_script_file(rt, name) {
-        Ok(bytes) => key_of_bytes(without_feed(bytes.as_slice())),
+        Ok(bytes) => key_of_file(bytes.as_slice()),
         Err(fault) => Err(SealFault::Unread(fault)),
     }
 }
 
-fn key_of_bytes(bytes: &[u8]) -> Result<Key, SealFault>
-    ensures ok { IfOk result (λ key. (0 < length bytes.now) × (key_of key ≡ block_of bytes.now)) }
+/// The key of a file that has these bytes: they, less a line feed at their end.
+fn key_of_file(bytes: &[u8]) -> Result<Key, SealFault>
+    ensures ok { IfOk result (λ key. key_of key ≡ block_of (unfed bytes.now)) }
+    ensures some { OnOk result (0 < length (unfed bytes.now)) }
+    ensures none { IfErr result (λ fault. (fault ≡ NoKey) × (unfed bytes.now ≡ [])) }
     ensures err { IfErr result IsKeyFault }
 {
+    let bytes = without_feed(bytes);
     if bytes.is_empty() {
         return Err(SealFault::NoKey);
     }
@@ -60,9 +65,11 @@ fn key_of_bytes(bytes: &[u8]) -> Result<Key, SealFault>
 }
 
 /// The bytes, less a line feed at their end.
-fn without_feed(bytes: &[u8]) -> &[u8] {
-    match bytes {
-        [front @ .., b'\n'] => front,
-        _ => bytes,
+fn without_feed(bytes: &[u8]) -> &[u8]
+    ensures { result.now ≡ unfed bytes.now }
+{
+    match bytes.strip_suffix(b"\n".as_slice()) {
+        Some(front) => front,
+        None => bytes,
     }
 }

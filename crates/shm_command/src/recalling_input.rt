@@ -3,15 +3,25 @@ use std::io::{self, Read};
 
 /// A reader that remembers the lines that it gave last, so that a wrong one can be shown.
 pub trait Recalls {
+    ghost use Rattle.std.specs.Prelude.{◌≡◌, Bool};
+
+    /// Whether a person types the lines, and sees what is answered.
+    ghost typed: { Self → Bool };
+
     /// The beginning of the line of this number, from 1; `None`: it isn't to be shown, is no longer kept, or wasn't read.
     fn recall(&self, number: u64) -> Option<&[u8]>;
 
     /// Checks that a person types the lines, and sees what is answered.
-    fn is_terminal(&self) -> bool;
+    fn is_terminal(&self) -> bool
+        ensures { result ≡ typed self.now };
 }
 
 /// Bytes in memory: none of their lines is shown, and nobody types them.
 impl Recalls for &[u8] {
+    ghost use Rattle.std.specs.Prelude.{false};
+
+    ghost typed = { λ _. false };
+
     fn recall(&self, _number: u64) -> Option<&[u8]> {
         None
     }
@@ -47,6 +57,8 @@ impl<R: Read> Read for Source<R> {
 }
 
 impl<R> Recalls for Source<R> {
+    ghost typed = { λ source. source.is_terminal };
+
     fn recall(&self, number: u64) -> Option<&[u8]> {
         if self.shows {
             self.reader.line(number)

@@ -23,6 +23,10 @@ pub(crate) struct WholeScript<'a> {
 }
 
 impl Recalls for WholeScript<'_> {
+    ghost use Rattle.std.specs.Prelude.{false};
+
+    ghost typed = { λ _. false };
+
     fn recall(&self, number: u64) -> Option<&[u8]> {
         let before = number.checked_sub(1)?;
         self.bytes.split(|byte| *byte == b'\n').nth(before as usize)

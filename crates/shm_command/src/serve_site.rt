@@ -1,5 +1,7 @@
 //! A site as a process, with a journal or without.
-ghost use Rattle.std.specs.Prelude.{◌≡◌, ◌≤◌, ◌<◌, None, Some, IfOk};
+ghost use Rattle.std.specs.Prelude.{◌≡◌, ◌≤◌, ◌<◌, None, Some, IfErr, IfOk, OnOk};
+ghost use Rattle.std.specs.Io.KnownBytes.{IsAtEnd};
+ghost use Rattle.shm_journal.specs.Acts.{Served, around};
 ghost use Rattle.shm_journal.specs.DeskFrom.{opening_of};
 ghost use Rattle.shm_process.specs.Desk.{greeting_at};
 ghost use Rattle.shm_process.specs.DeskOf.{desk_of};
@@ -8,7 +10,7 @@ ghost use Rattle.shm_seal.specs.Seal.{cluster_of};
 ghost use Rattle.shm_seal.specs.SealOf.{seal_of};
 ghost use Rattle.shm_command.specs.Around.{streams};
 ghost use Rattle.shm_command.specs.Begun.{header_at, start_at};
-ghost use Rattle.shm_command.specs.Served.{IsServed, ServesFrom};
+ghost use Rattle.shm_command.specs.Served.{IsServed, IsUnbegun, ServesFrom};
 
 use crate::elapsed_time::{milliseconds_since, seconds_since_1970};
 use crate::error_text_and_status;
@@ -16,7 +18,8 @@ use crate::journal_backends::{JournalFile, NoJournal};
 use crate::journal_startup::{Begun, Kept, Lock, begin_kept, open_journal};
 use crate::site_error::SiteFault;
 use crate::whole_journal::{WholeJournal, may_begin, open_whole};
-use shm_journal::{Header, ProcessFault, RecoveryFault, serve};
+use shm_batches::Extent;
+use shm_journal::{Header, Journal, ProcessFault, RecoveryFault, serve};
 use shm_place::{PAGES, SiteId, Sites};
 use shm_process::{Desk, Node, Start};
 use shm_seal::Seal;
@@ -97,8 +100,9 @@ where
         pages,
         cluster: seal.name(),
     };
-    if kept.begins && extent.chain.number() == 0 && !may_begin(rt, kept.name, header) {
-        return Err(SiteFault::Unrecovered(RecoveryFault::BadLine(1)));
+    match check_front(rt, kept, header, extent) {
+        Ok(()) => {}
+        Err(fault) => return Err(fault),
     }
     match begin_kept(
         rt, sites, me, pages, seal, kept, since, extent, &mut lines, &file,
@@ -122,6 +126,25 @@ where
             )
         }
         Err(fault) => Err(fault),
+    }
+}
+
+/// Checks that a file without a whole batch, in which a journal is to be begun, has no more than what a crash may leave of the first.
+fn check_front<R: AllocGlobal + Files>(
+    rt: &R,
+    kept: Kept<'_>,
+    header: Header,
+    extent: Extent,
+) -> Result<(), SiteFault>
+    ensures { IfErr result IsUnbegun }
+{
+    if !kept.begins || extent.chain.number() > 0 {
+        return Ok(());
+    }
+    match may_begin(rt, kept.name, header) {
+        Ok(true) => Ok(()),
+        Ok(false) => Err(SiteFault::Unrecovered(RecoveryFault::BadLine(1))),
+        Err(unwhole) => Err(unwhole.of_site()),
     }
 }
 
@@ -152,7 +175,7 @@ fn begin(
 }
 
 /// Serves the input and the output, and keeps what is recorded in a file. Where that fails, what isn't durable is cut off again.
-fn serve_kept<I: Read, O: Write, F: Write + OpenFile + Drop, E: Write>(
+pub fn serve_kept<I: Read, O: Write, F: Write + OpenFile + Drop, E: Write>(
     desk: Desk,
     reader: &mut I,
     out: &mut O,
@@ -163,12 +186,7 @@ fn serve_kept<I: Read, O: Write, F: Write + OpenFile + Drop, E: Write>(
         (streams (I.remaining reader.new) (O.contents out.new)) }
 {
     let mut journal = journal;
-    let mut desk = desk;
-    let ended = serve(&mut desk, reader, out, errors, &mut journal);
-    error_text_and_status::unopened(desk.counts().unopened, errors);
-    error_text_and_status::health(desk.node().health(desk.counts()), errors);
-    drop(desk);
-    match ended {
+    match serve_counted(desk, reader, out, &mut journal, errors) {
         Ok(()) => Ok(()),
         Err(ProcessFault::JournalFault) => match journal.cut_back() {
             Ok(()) => Err(SiteFault::Ended(ProcessFault::JournalFault)),
@@ -176,4 +194,23 @@ fn serve_kept<I: Read, O: Write, F: Write + OpenFile + Drop, E: Write>(
         },
         Err(fault) => Err(SiteFault::Ended(fault)),
     }
+}
+
+/// Serves the input and the output, and keeps what is recorded in this journal. Then it tells what the site counted.
+fn serve_counted<I: Read, O: Write, J: Journal, E: Write>(
+    desk: Desk,
+    reader: &mut I,
+    out: &mut O,
+    journal: &mut J,
+    errors: &mut E,
+) -> Result<(), ProcessFault>
+    ensures served { Served (desk_of desk) (around (I.remaining reader.old) (O.contents out.old) (J.acts journal.old))
+        (around (I.remaining reader.new) (O.contents out.new) (J.acts journal.new)) result }
+    ensures end { OnOk result (IsAtEnd (I.remaining reader.new)) }
+{
+    let mut desk = desk;
+    let ended = serve(&mut desk, reader, out, errors, journal);
+    error_text_and_status::unopened(desk.counts().unopened, errors);
+    error_text_and_status::health(desk.node().health(desk.counts()), errors);
+    ended
 }

@@ -1,7 +1,11 @@
 //! The whole batches of a journal that lies in a file.
-ghost use Rattle.std.specs.Prelude.{◌≡◌, ℕ, List, IfErr, IfOk};
+ghost use Rattle.std.specs.Prelude.{◌≡◌, ◌↔◌, ℕ, IsTrue, List, IfErr, IfOk, IfSome};
 ghost use Rattle.shm_batches.specs.Extent.{IsExtent};
+ghost use Rattle.shm_journal.specs.Found.{lines_of};
+ghost use Rattle.shm_journal.specs.HeaderOf.{header_of};
 ghost use Rattle.shm_command.specs.Audited.{IsUnread};
+ghost use Rattle.shm_command.specs.First as first;
+ghost use Rattle.shm_command.specs.First.{IsLeftOf, first_batch};
 ghost use Rattle.shm_command.specs.Served.{IsUnbegun};
 ghost use Rattle.shm_command.specs.Summarized.{IsUntold};
 
@@ -55,8 +59,11 @@ where
     if extent.is_damaged {
         return Err(Unwhole::Damaged(extent.bytes));
     }
-    if extent.chain.number() == 0 && has_entry(rt, name) {
-        return Err(Unwhole::Unmarked);
+    if extent.chain.number() == 0 {
+        match look_for_lines(rt, name) {
+            Ok(()) => {}
+            Err(unwhole) => return Err(unwhole),
+        }
     }
     let Ok(file) = File::open(rt, name) else {
         return Err(Unwhole::Unopened);
@@ -89,53 +96,127 @@ where
     }
 }
 
-/// Checks that the file of this name begins with a journal's header and an entry: an earlier version wrote no marks.
-fn has_entry<R: AllocGlobal + Files>(rt: &R, name: &str) -> bool {
-    let Ok(file) = File::open(rt, name) else {
-        return false;
-    };
-    let mut file = file;
-    let mut lines = Lines::new(rt.alloc());
-    match lines.take(&mut file) {
-        Ok(Taken::Whole) if parse_header(lines.line()).is_some() => {}
-        _ => return false,
-    }
-    match lines.take(&mut file) {
-        Ok(Taken::Whole) => lines.line().starts_with(b"step ".as_slice()),
-        _ => false,
-    }
-}
-
-/// Checks that the file of this name has no more than what a crash may leave of its first batch: each byte is that batch's at its place, or
-/// zero. So no other file is taken for a journal that may be begun.
-pub(crate) fn may_begin<R: AllocGlobal + Files>(rt: &R, name: &str, header: Header) -> bool
+/// Looks whether the file of this name, which has no whole batch, has lines without a mark.
+fn look_for_lines<R: AllocGlobal + Files>(rt: &R, name: &str) -> Result<(), Unwhole>
 where
     R::File: Drop,
 {
     let Ok(file) = File::open(rt, name) else {
-        return false;
+        return Err(Unwhole::Unopened);
     };
-    let mut bytes = Vec::new(rt.alloc());
-    match file.take(FIRST_BATCH_BYTES).read_to_end(&mut bytes) {
-        Ok(_) => is_first_front(rt.alloc(), header, bytes.as_slice()),
-        Err(_) => false,
+    let mut file = file;
+    match begins_unmarked(rt.alloc(), &mut file) {
+        Ok(true) => Err(Unwhole::Unmarked),
+        Ok(false) => Ok(()),
+        Err(fault) => Err(Unwhole::Unread(as_batch_fault(fault))),
     }
 }
 
-/// Checks that each of these bytes is that of the first batch of this header's journal at its place, or zero.
-fn is_first_front(alloc: Global, header: Header, bytes: &[u8]) -> bool {
+/// Checks that what the reader gives begins with a journal's header and an entry: an earlier version wrote no marks.
+fn begins_unmarked<I: Read>(alloc: Global, reader: &mut I) -> Result<bool, JournalFault>
+    ensures { IfOk result (λ is. IfSome (I.remaining reader.old) (λ file. is ≡ first.begins_unmarked (lines_of file).whole)) }
+{
+    let mut lines = Lines::new(alloc);
+    match lines.take(reader) {
+        Ok(Taken::Whole) => {}
+        Ok(Taken::Torn) => return Ok(false),
+        Ok(Taken::TooLong) => return Ok(false),
+        Err(fault) => return Err(fault),
+    }
+    if parse_header(lines.line()).is_none() {
+        return Ok(false);
+    }
+    match lines.take(reader) {
+        Ok(Taken::Whole) => Ok(lines.line().starts_with(b"step ".as_slice())),
+        Ok(Taken::Torn) => Ok(false),
+        Ok(Taken::TooLong) => Ok(false),
+        Err(fault) => Err(fault),
+    }
+}
+
+/// The fault of a line that couldn't be taken, as one of a batch.
+fn as_batch_fault(fault: JournalFault) -> BatchFault {
+    match fault {
+        JournalFault::OutOfMemory => BatchFault::OutOfMemory,
+        JournalFault::ReadFault | JournalFault::BadLine(_) => BatchFault::ReadFault,
+    }
+}
+
+/// Checks that the file of this name has no more than what a crash may leave of its first batch: so no other file is taken for a journal that
+/// may be begun.
+pub(crate) fn may_begin<R: AllocGlobal + Files>(
+    rt: &R,
+    name: &str,
+    header: Header,
+) -> Result<bool, Unwhole>
+where
+    R::File: Drop,
+{
+    let Ok(file) = File::open(rt, name) else {
+        return Err(Unwhole::Unopened);
+    };
+    match may_be_begun(rt.alloc(), header, file) {
+        Ok(may) => Ok(may),
+        Err(fault) => Err(Unwhole::Unread(fault)),
+    }
+}
+
+/// Checks that what the reader gives is no more than what a crash may leave of the first batch of this header's journal.
+fn may_be_begun<I: Read + Drop>(
+    alloc: Global,
+    header: Header,
+    reader: I,
+) -> Result<bool, BatchFault>
+    ensures { IfOk result (λ may. IfSome (I.remaining reader) (λ file. IsTrue may ↔ IsLeftOf (first_batch (header_of header)) file)) }
+{
+    let mut bytes = Vec::new(alloc);
+    match reader.take(FIRST_BATCH_BYTES).read_to_end(&mut bytes) {
+        Ok(_) => {}
+        Err(_) => return Err(BatchFault::ReadFault),
+    }
+    match first_batch(alloc, header) {
+        Ok(batch) => Ok(is_left_of(batch.as_slice(), bytes.as_slice())),
+        Err(fault) => Err(fault),
+    }
+}
+
+/// The first batch of this header's journal.
+fn first_batch(alloc: Global, header: Header) -> Result<Vec<u8>, BatchFault>
+    ensures { IfOk result (λ batch. batch.items ≡ first.first_batch (header_of header)) }
+{
     let Ok(text) = format!(in alloc; "{header}\n") else {
-        return false;
+        return Err(BatchFault::OutOfMemory);
     };
     let mut batch = Vec::new(alloc);
-    if write_batch(alloc, &mut batch, &mut Chain::new(), text.as_bytes()).is_err() {
+    match write_batch(alloc, &mut batch, &mut Chain::new(), text.as_bytes()) {
+        Ok(_) => Ok(batch),
+        Err(fault) => Err(fault),
+    }
+}
+
+/// Checks that each byte is that of the batch at its place, or zero, and that there are fewer than any file has that is worth keeping.
+fn is_left_of(batch: &[u8], bytes: &[u8]) -> bool
+    ensures { IsTrue result ↔ IsLeftOf batch.now bytes.now }
+{
+    if bytes.len() as u64 >= FIRST_BATCH_BYTES {
         return false;
     }
-    let is_left = bytes
-        .iter()
-        .enumerate()
-        .all(|(at, byte)| *byte == 0 || batch.get(at) == Some(byte));
-    is_left && (bytes.len() as u64) < FIRST_BATCH_BYTES
+    'bytes: for (at, byte) in bytes.iter().enumerate() {
+        if !may_stand(batch, at, *byte) {
+            return false;
+        }
+    }
+    true
+}
+
+/// Checks that this byte is that of the batch at this place, or zero.
+fn may_stand(batch: &[u8], at: usize, byte: u8) -> bool
+    ensures { result ≡ first.may_stand batch.now at byte }
+{
+    match batch.get(at) {
+        Some(own) => byte == 0 || byte == *own,
+        None => byte == 0,
+    }
 }
 
 impl Unwhole {

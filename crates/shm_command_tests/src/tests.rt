@@ -1,6 +1,7 @@
 mod captions;
 mod command_line_words;
 mod failed_runs;
+mod failing_journals;
 mod failing_streams;
 mod journal_and_log_files;
 mod journal_summaries;

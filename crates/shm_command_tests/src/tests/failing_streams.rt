@@ -46,6 +46,10 @@ impl Read for Trickle<'_> {
 }
 
 impl Recalls for Trickle<'_> {
+    ghost use Rattle.std.specs.Prelude.{false};
+
+    ghost typed = { λ _. false };
+
     fn recall(&self, _number: u64) -> Option<&[u8]> {
         None
     }

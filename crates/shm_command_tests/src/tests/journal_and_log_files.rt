@@ -63,7 +63,8 @@ fn two_journals_are_audited(rt: HostRuntime) -> Result<(), Fail> {
     let no = "shmdbg: audit no: unsent 1 1: second.journal: line 3\n";
     let order = "shmdbg: not one set of journals\n";
     let cluster = "shmdbg: second.journal: of another cluster than the first journal\n";
-    let cases: [(&[&[u8]], &str, &str, u8, &str, &str); 4] = [
+    let unnamed = "shmdbg: first.journal: of another cluster than the first journal\n";
+    let cases: [(&[&[u8]], &str, &str, u8, &str, &str); 5] = [
         (&SECOND[..2], "first.journal", "second.journal", 0, yes, ""),
         (
             &SECOND[..2],
@@ -75,6 +76,7 @@ fn two_journals_are_audited(rt: HostRuntime) -> Result<(), Fail> {
         ),
         (&SECOND, "first.journal", "second.journal", 4, "", no),
         (&NAMED, "first.journal", "second.journal", 1, "", cluster),
+        (&NAMED, "second.journal", "first.journal", 1, "", unnamed),
     ];
     for (batches, one, other, status, told, errors) in cases {
         let second = marked(rt.alloc(), batches)?;

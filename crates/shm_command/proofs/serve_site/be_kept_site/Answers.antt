@@ -3,8 +3,6 @@ use Rattle.shm_seal.specs.Seal.{cluster_of}
 use Rattle.shm_seal.specs.SealOf.{seal_of}
 use Rattle.shm_command.proofs.Unbegun.{unbegun}
 use Rattle.shm_command.specs.Begun.{header_at}
-use Rattle.shm_command.specs.declared.site_error.SiteFault.TheVariants as fault
-use Rattle.shm_journal.specs.declared.recovery_error.RecoveryFault.TheVariants as recovery
 use Rattle.shm_command.proofs.serve_site.be_kept_site.Goals as goal
 
 pub returns-in-Err : goal.returns-in-Err
@@ -21,7 +19,7 @@ returns-in-Err-open_whole g c =
     unbegun (Some c.args.kept.begins) (seal_of c.args.seal) (header_at c.args.sites c.args.me c.args.pages (cluster_of (seal_of c.args.seal))) c.of_site.result (g.I.Read.remaining c.args.reader.now) (g.O.Write.contents c.args.out.now)
     c.of_site.ensures
 
-pub returns-then-not-may_begin : goal.returns-then-not-may_begin
-returns-then-not-may_begin g c =
-    unbegun (Some c.args.kept.begins) (seal_of c.args.seal) (header_at c.args.sites c.args.me c.args.pages (cluster_of (seal_of c.args.seal))) (fault.Unrecovered (recovery.BadLine 1)) (g.I.Read.remaining c.args.reader.now) (g.O.Write.contents c.args.out.now)
-    tt
+pub returns-in-Err-check_front : goal.returns-in-Err-check_front
+returns-in-Err-check_front g c =
+    unbegun (Some c.args.kept.begins) (seal_of c.args.seal) (header_at c.args.sites c.args.me c.args.pages (cluster_of (seal_of c.args.seal))) c.in-Err-check_front.fault (g.I.Read.remaining c.args.reader.now) (g.O.Write.contents c.args.out.now)
+    c.in-Err-check_front.ensures
