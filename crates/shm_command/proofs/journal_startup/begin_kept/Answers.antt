@@ -1,15 +1,12 @@
-use Rattle.std.proofs.Common.{rules, ap, ◌≡◌, ◌∙◌, ℕ, Bool, List, Ok, Option, false, if◌then◌else◌, not, refl, subst, sym, true}
+use Rattle.std.proofs.Common.{rules, ap, ◌≡◌, ◌∙◌, ℕ, Bool, List, Option, false, if◌then◌else◌, not, refl, subst, sym, true}
 use Rattle.shm_process.specs.Desk.{Desk}
 use Rattle.shm_process.specs.DeskOf.{desk_of}
 use Rattle.shm_process.specs.NodeOf.{node_of}
 use Rattle.shm_journal.specs.DeskFrom.{desk_from}
 use Rattle.shm_journal.specs.Found.{Sound, bytes_of_lines, found as found_at, is_empty, lines_of}
-use Rattle.shm_journal.specs.Recovers.{Recovers}
-use Rattle.shm_journal.specs.declared.recovered_site.Recovered.{Recovered}
 use Rattle.shm_seal.specs.Seal.{cluster_of}
 use Rattle.shm_seal.specs.SealOf.{seal_of}
 use Rattle.shm_command.specs.Begun.{header_at, start_at}
-use Rattle.shm_command.proofs.Refusing.{blank, existing, uncut, unlisted, unopenable}
 use Rattle.shm_command.proofs.journal_startup.begin_kept.Goals as goal
 
 -- a journal that is as it was asked for is new exactly where it is to be begun
@@ -51,33 +48,3 @@ returns-in-Ok-open_desk-clause-again g c =
       steps = c.steps.ensures;
       clock = c.clock.ensures;
     }
-
--- what was recovered, by the cluster's name under the seal
-named : {A : Type 0} (sites me pages : ℕ) (name cluster : Option (List ℕ)) (remaining : Option (List ℕ)) (r : Recovered A) → name ≡ cluster
-    → Recovers (header_at sites me pages name) remaining (Ok r) → Recovers (header_at sites me pages cluster) remaining (Ok r)
-named sites me pages name cluster remaining r e h = subst (λ (n : Option (List ℕ)). Recovers (header_at sites me pages n) remaining (Ok r)) e h
-
-pub returns-then-kept-clause-refused : goal.returns-then-kept-clause-refused
-returns-then-kept-clause-refused g c =
-    let found = named c.args.sites c.args.me c.args.pages _ _ (g.J.Read.remaining c.args.lines.now) c.in-Ok.found c.name-cluster.ensures c.in-Ok.ensures.found in
-    existing c.args.kept.begins _ _ c.in-Ok.found found (search rules) (search rules)
-
-pub returns-then-not-is_as_asked-clause-refused : goal.returns-then-not-is_as_asked-clause-refused
-returns-then-not-is_as_asked-clause-refused g c =
-    let found = named c.args.sites c.args.me c.args.pages _ _ (g.J.Read.remaining c.args.lines.now) c.in-Ok.found c.name-cluster.ensures c.in-Ok.ensures.found in
-    blank c.args.kept.begins _ _ c.in-Ok.found found (search rules) (search rules)
-
-pub returns-then-is_err-clause-refused : goal.returns-then-is_err-clause-refused
-returns-then-is_err-clause-refused g c =
-    let found = named c.args.sites c.args.me c.args.pages _ _ (g.J.Read.remaining c.args.lines.now) c.in-Ok.found c.name-cluster.ensures c.in-Ok.ensures.found in
-    uncut c.args.kept.begins _ _ c.in-Ok.found found (search rules)
-
-pub returns-then-is_err-2-clause-refused : goal.returns-then-is_err-2-clause-refused
-returns-then-is_err-2-clause-refused g c =
-    let found = named c.args.sites c.args.me c.args.pages _ _ (g.J.Read.remaining c.args.lines.now) c.in-Ok.found c.name-cluster.ensures c.in-Ok.ensures.found in
-    unlisted c.args.kept.begins _ _ c.in-Ok.found found (search rules) (search rules)
-
-pub returns-in-Err-open_desk-clause-refused : goal.returns-in-Err-open_desk-clause-refused
-returns-in-Err-open_desk-clause-refused g c =
-    let found = named c.args.sites c.args.me c.args.pages _ _ (g.J.Read.remaining c.args.lines.now) c.in-Ok.found c.name-cluster.ensures c.in-Ok.ensures.found in
-    unopenable c.args.kept.begins _ _ c.in-Ok.found c.in-Err-open_desk.fault found (search rules) c.in-Err-open_desk.ensures.fault
