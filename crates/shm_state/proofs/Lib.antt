@@ -8,3 +8,6 @@ pub mod PartWords
 pub mod SpelledParts
 pub mod Taken
 pub mod ToldSteps
+pub mod Tellings
+pub mod InOrder
+pub mod ToldSame
