@@ -129,6 +129,16 @@ fn made_again(alloc: Global, site: &Site) -> Result<Site, AllocError> {
     }
 }
 
+/// Checks that each of the parts is among the lines.
+fn are_all_told(lines: &[String]) -> bool {
+    for part in PARTS {
+        if !lines.iter().any(|line| line.as_str() == part) {
+            return false;
+        }
+    }
+    true
+}
+
 // The attached segment's first page is stored too, untouched: one part more.
 #[test]
 fn a_site_tells_the_parts_of_which_it_was_made(rt: HostRuntime) -> Result<(), Fail> {
@@ -136,12 +146,7 @@ fn a_site_tells_the_parts_of_which_it_was_made(rt: HostRuntime) -> Result<(), Fa
     let first = lines_of(rt.alloc(), &site)?;
     let again = made_again(rt.alloc(), &site)?;
     let second = lines_of(rt.alloc(), &again)?;
-    for part in PARTS {
-        assert!(rt;
-            first.as_slice().iter().any(|line| line.as_str() == part),
-            "at {part}"
-        );
-    }
+    assert!(rt; are_all_told(first.as_slice()));
     assert_eq!(rt; first, second);
     Ok(())
 }
