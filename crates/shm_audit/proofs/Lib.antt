@@ -11,3 +11,4 @@ pub mod StoredBlocks
 pub mod Clocked
 pub mod Lived
 pub mod LivesFound
+pub mod Cutting

@@ -8,3 +8,5 @@ pub mod PartWords
 pub mod SpelledParts
 pub mod Taken
 pub mod ToldSteps
+pub mod Tellings
+pub mod ToldSame

@@ -53,7 +53,7 @@ module _ {X : Type 0} where
   chosen : (b c : Bool) (x rest : Option X) → b ≡ c → (if c then x else rest) ≡ (if b then x else rest)
   chosen b c x rest same = ap (λ a. if a then x else rest) (sym same)
 
-  put-at : (n : ℕ) (x : X) (xs : List (Option X)) (j : ℕ) → slice_index_or (put n x xs) j None ≡ (if n == j then Some x else slice_index_or xs j None)
+  pub put-at : (n : ℕ) (x : X) (xs : List (Option X)) (j : ℕ) → slice_index_or (put n x xs) j None ≡ (if n == j then Some x else slice_index_or xs j None)
   put-at zero x [] zero = refl
   put-at zero x [] (suc j) = chosen (0 == suc j) false (Some x) None (apart j)
   put-at zero x (y ∷ ys) zero = refl

@@ -7,3 +7,4 @@ pub mod PartWords
 pub mod Stage
 pub mod Told
 pub mod ToldOf
+pub mod Telling

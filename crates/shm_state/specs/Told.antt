@@ -129,3 +129,14 @@ takes_memory part = true
 abbrev pub IsWhy : Part → TakeFault → Option TakeFault → Type 0
 IsWhy part OutOfMemory found = takes_memory part ≡ true
 IsWhy part fault found = found ≡ Some fault
+
+-- ---- many parts
+
+-- with all these parts, one after another
+unfoldable pub told_all : List Part → Told → Told
+told_all [] told = told
+told_all (part ∷ parts) told = told_all parts (told_with part told)
+
+-- the state that these parts make
+abbrev pub state_told : List Part → State
+state_told parts = (told_all parts told_nothing).state

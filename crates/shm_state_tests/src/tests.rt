@@ -1,0 +1,130 @@
+use shm_place::{SegId, SiteId, Sites};
+use shm_site::Site;
+use shm_state::{TakeFault, Told, parse_part};
+use std::alloc::{AllocError, Global};
+use std::test::Fail;
+
+/// Parts of site 0 of one, in their order.
+const PARTS: [&str; 10] = [
+    "state requests 7",
+    "state calls 3",
+    "state outstanding 3 detach id 0",
+    "state segment 0 5 4096 600 1 1 1 1 0 marked",
+    "state missing 0 1000000000000000",
+    "state kept 0 2 refused einval",
+    "state purged 3",
+    "state entry 0 1 gone 4",
+    "state attachment 2 0 4096 rw",
+    "state book 0 1 0 0000000000000000 4 write 0 7 0 0 0 0 0 0 0 0 0 0 0 0 0 0 0",
+];
+
+/// None of these: a word too few and one too many, a set of 15 sites, a page of three bytes, and a line of the stream.
+const NO_PARTS: [&str; 5] = [
+    "state requests",
+    "state calls 3 4",
+    "state missing 0 100000000000000",
+    "state entry 0 1 copy 4 AQID",
+    "ask 0 a tick",
+];
+
+/// What the line is printed as, if it is a part's.
+fn printed(alloc: Global, line: &str) -> Result<Option<String>, AllocError> {
+    match parse_part(alloc, line.as_bytes())? {
+        Some(part) => Ok(Some(format!(in alloc; "{part}")?)),
+        None => Ok(None),
+    }
+}
+
+#[test]
+fn parts_are_printed_as_they_were_read(rt: HostRuntime) -> Result<(), Fail> {
+    for line in PARTS {
+        let printed = printed(rt.alloc(), line)?;
+        assert_eq!(rt; printed.as_deref(), Some(line));
+    }
+    Ok(())
+}
+
+#[test]
+fn other_lines_are_no_parts(rt: HostRuntime) -> Result<(), Fail> {
+    for line in NO_PARTS {
+        assert!(rt;
+            parse_part(rt.alloc(), line.as_bytes())?.is_none(),
+            "at {line}"
+        );
+    }
+    Ok(())
+}
+
+/// Site 0 of one, of which nothing was told.
+fn nothing(alloc: Global) -> Result<Told, AllocError> {
+    match Sites::new(1) {
+        Ok(sites) => Ok(Told::new(alloc, sites, SiteId(0))),
+        Err(_) => Err(AllocError),
+    }
+}
+
+/// Tells the part of the line.
+fn tell(alloc: Global, told: &mut Told, line: &str) -> Result<Result<(), TakeFault>, AllocError> {
+    match parse_part(alloc, line.as_bytes())? {
+        Some(part) => Ok(told.take(part)),
+        None => Err(AllocError),
+    }
+}
+
+/// The site of which all parts were told.
+fn site_of_all(alloc: Global) -> Result<Site, AllocError> {
+    let mut told = nothing(alloc)?;
+    for line in PARTS {
+        if tell(alloc, &mut told, line)?.is_err() {
+            return Err(AllocError);
+        }
+    }
+    match told.into_site() {
+        Ok(site) => Ok(site),
+        Err(_) => Err(AllocError),
+    }
+}
+
+#[test]
+fn a_site_is_made_of_what_was_told(rt: HostRuntime) -> Result<(), Fail> {
+    let site = site_of_all(rt.alloc())?;
+    let counted = (site.requests().last(), site.calls().begun());
+    let listed = (site.books().count(), site.home().segments().len());
+    let purged = site.holdings().purged().at_place(0);
+    let attached = site.holdings().attachments().get(2);
+    drop(site);
+    assert_eq!(rt; counted, (7, 3));
+    assert_eq!(rt; listed, (1, 1));
+    assert_eq!(rt; purged, Some(SegId(3)));
+    assert_eq!(rt; attached, Some((SegId(0), (4096, false))));
+    Ok(())
+}
+
+/// What a part is answered behind another.
+fn behind(alloc: Global, lines: &[&str], last: &str) -> Result<Result<(), TakeFault>, AllocError> {
+    let mut told = nothing(alloc)?;
+    for line in lines {
+        let _ = tell(alloc, &mut told, line)?;
+    }
+    tell(alloc, &mut told, last)
+}
+
+#[test]
+fn parts_that_are_not_taken(rt: HostRuntime) -> Result<(), Fail> {
+    let counters = ["state requests 7", "state calls 3", "state purged 3"];
+    let early = behind(rt.alloc(), &[], "state calls 3")?;
+    let again = behind(rt.alloc(), &counters, "state purged 3")?;
+    let gone = behind(rt.alloc(), &counters, "state entry 3 0 gone 4")?;
+    assert_eq!(rt; early, Err(TakeFault::OutOfOrder));
+    assert_eq!(rt; again, Err(TakeFault::Twice));
+    assert_eq!(rt; gone, Err(TakeFault::Unfit));
+    Ok(())
+}
+
+#[test]
+fn a_state_without_its_calls_makes_no_site(rt: HostRuntime) -> Result<(), Fail> {
+    let mut told = nothing(rt.alloc())?;
+    let _ = tell(rt.alloc(), &mut told, "state requests 7")?;
+    assert!(rt; told.into_site().is_err());
+    Ok(())
+}
