@@ -2,6 +2,7 @@
 //! process that keeps it.
 #![tactic(auto)]
 
+mod display_state_line;
 mod journal_entry;
 mod journal_error;
 mod journal_header;
