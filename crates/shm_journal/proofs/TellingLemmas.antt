@@ -1,8 +1,7 @@
 -- A state that is told line by line, as the code has it and as the definitions do.
-use Rattle.std.proofs.Common.{◌≡◌, ◌∙◌, ℕ, true, false, List, [], Option, None, Some, cond, refl, ap, sym, subst}
+use Rattle.std.proofs.Common.{◌≡◌, ◌∙◌, ℕ, true, false, List, [], None, Some, cond, refl, ap, sym, subst}
 use Rattle.std.specs.Prelude.{◌++◌, ◌∷◌, option_map}
 use Rattle.shm_model.specs.Site.{Site}
-use Rattle.shm_process.specs.Node as process
 use Rattle.shm_process.specs.NodeOf.{node_of}
 use Rattle.shm_process.specs.declared.node.Node.{Node}
 use Rattle.shm_site.specs.State.{site_from}
