@@ -120,6 +120,12 @@ pub further_stands : {A : Type 0} → (node : Node) (within : Bool) (code : Code
 further_stands node true code stage inside h = h
 further_stands node false code stage inside h = absurd (cc)
 
+-- the site goes on from its end
+pub resumed_stands : {A : Type 0} → (node : Node) (within : Bool) (telling : Option (Code A)) (stage : Stage) → telling ≡ None → stage ≡ Open node
+    → StandsAt node within telling stage
+resumed_stands node within None stage none h = h
+resumed_stands node within (Some code) stage none h = absurd (cc)
+
 -- ---- the end
 
 pub open_site : {A : Type 0} → (node : Node) (within : Bool) (telling : Option (Code A)) (stage : Stage) → (within && is_some telling) ≡ false

@@ -81,18 +81,15 @@ impl<A: Allocator + Copy> Reading<A> {
         Ok(true)
     }
 
+    /// Stands where a line of a state led, whose telling was taken.
     fn go_on(&mut self, onward: Onward<A>)
-        requires { self.old.in_state ≡ true }
+        requires inside { self.old.in_state ≡ true }
+        requires taken { self.old.telling ≡ None }
         ensures { (stage : Stage) → IsOnward onward stage → Stands self.new stage }
     {
         match onward {
-            Onward::Further(telling) => {
-                self.telling = Some(telling);
-            }
-            Onward::Resumed(node) => {
-                self.node = node;
-                self.telling = None;
-            }
+            Onward::Further(telling) => self.telling = Some(telling),
+            Onward::Resumed(node) => self.node = node,
         }
     }
 }
