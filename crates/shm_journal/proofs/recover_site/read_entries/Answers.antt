@@ -9,14 +9,14 @@ returns-in-Ok-clause-whole g c = λ stage at.
     let remaining = g.R.Read.remaining in
     let led = c.in-Ok.ensures.whole stage at in
     site_read (rest_found stage) (left_of c.args.lines (remaining c.args.reader.now)) (remaining c.replay_rest.new.reader) led.1 led.0
-    c.recovered.result c.args.lines.whole led.4 (c.recovered.ensures.node led.1 led.3) (whole_is c.recovered.result (c.whole.ensures ∙ led.2) c.recovered.ensures.whole)
+    c.recovered.result c.args.lines.whole led.4.0 (c.recovered.ensures.node led.1 led.3) (whole_is c.recovered.result (c.whole.ensures ∙ led.2) c.recovered.ensures.whole)
 
 pub returns-in-Ok-clause-left : goal.returns-in-Ok-clause-left
 returns-in-Ok-clause-left g c = λ stage at.
     let remaining = g.R.Read.remaining in
     let led = c.in-Ok.ensures.whole stage at in
     unended_read stage (left_of c.args.lines (remaining c.args.reader.now)) (remaining c.replay_rest.new.reader) led.1 led.0
-    c.recovered.result led.4 c.recovered.ensures.fault (c.recovered.ensures.unended led.1 led.3)
+    c.recovered.result led.4.0 c.recovered.ensures.fault (c.recovered.ensures.unended led.1 led.3)
 
 pub returns-in-Err-clause-left : goal.returns-in-Err-clause-left
 returns-in-Err-clause-left g c = λ stage at.

@@ -56,8 +56,7 @@ returns-in-Ok-Torn-clause-whole g c = λ state at.
       i.1,
       count_torn o.field-0 lines.whole c.lines.lines.whole line o.field-0-is o.ensures.whole ∙ i.2,
       i.3,
-      all.0,
-      all.1,
+      (all.0, all.1),
     )
 
 pub returns-in-Ok-TooLong-clause-left : goal.returns-in-Ok-TooLong-clause-left

@@ -15,7 +15,7 @@ returns-clause-ok g c =
       last = read.1;
       after = node_of c.in-Some-2.node;
       more = read.0;
-      rest = read.4;
+      rest = read.4.0;
       led = c.in-Some-2.ensures.some read.1 read.3;
       site = refl;
       sites = refl;
@@ -23,6 +23,6 @@ returns-clause-ok g c =
       cluster = refl;
       steps = c.steps.ensures;
       clock = c.clock.ensures;
-      torn = ap length (c.line.ensures ∙ read.5);
+      torn = ap length (c.line.ensures ∙ read.4.1);
       bytes = bytes;
     }
