@@ -85,11 +85,7 @@ fn tell_mapping<A: Allocator + Copy>(
 }
 
 /// The site that goes on from what was told, if that is enough.
-fn resume<A: Allocator + Copy>(
-    alloc: A,
-    telling: Telling<A>,
-    ending: Ending,
-) -> Option<Onward<A>>
+fn resume<A: Allocator + Copy>(alloc: A, telling: Telling<A>, ending: Ending) -> Option<Onward<A>>
     ensures { (t : Said) → IsTelling telling t → IsTold result (tells t (OfEnding (ending_in ending))) }
 {
     let Telling { told, mapped } = telling;
