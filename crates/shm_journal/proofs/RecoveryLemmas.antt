@@ -1,6 +1,6 @@
 -- What is answered of a site's own journal.
 use Rattle.std.proofs.Common.{◌≡◌, ◌≤◌, ◌<◌, inl, inr, ℕ, ◌+◌, ◌==◌, Bool, true, false, List, [], ◌∷◌, ◌++◌, Option, None, Some, Ok, Err, cond, length, take, refl, sym, ap, ap₂, subst, ◌∙◌, append_assoc, arith}
-use Rattle.std.specs.Prelude.{Result, IfErr, IfOk, OnOk, is_some}
+use Rattle.std.specs.Prelude.{Result, IfErr, IfOk, OnOk}
 use Rattle.std.specs.Str.{bytes_eq}
 use Rattle.std.specs.Io.KnownBytes.{Consumes, IsAtEnd}
 use Rattle.std.proofs.KnownBytes.{Consumes-nil}
@@ -15,7 +15,6 @@ use Rattle.shm_journal.specs.LinesOf.{Unended}
 use Rattle.shm_journal.specs.Lines.{Header, header_line, read_header}
 use Rattle.shm_journal.specs.ReadUpTo.{BreaksAt, EndsInState, LacksLine, ReadsSite, ReadsToLine, ReadsWhole, StopsAt}
 use Rattle.shm_journal.specs.Recovers.{EntriesReadUpTo, ReadsAll, ReadsUpTo, Recovers, as_recovery, front_checked, header_checked, other_header}
-use Rattle.shm_journal.specs.Replaying.{IsNext}
 use Rattle.shm_journal.specs.Stages.{Stage, InState, Telling, begun, next_stage}
 use Rattle.shm_journal.specs.Taking.{BreaksOff, most_at_once}
 use Rattle.shm_journal.specs.declared.journal_error.JournalFault.{JournalFault}
@@ -23,18 +22,6 @@ use Rattle.shm_journal.specs.declared.journal_error.JournalFault.TheVariants as 
 use Rattle.shm_journal.specs.declared.recovered_site.Recovered.{Recovered}
 use Rattle.shm_journal.specs.declared.recovery_error.RecoveryFault.{RecoveryFault}
 use Rattle.shm_journal.specs.declared.recovery_error.RecoveryFault.TheVariants as fault
-
--- ---- the steps of a line
-
-is_next : {T : Type 0} → (made : Bool) (after : Option T) (now : T) → made ≡ is_some after → (made ≡ true → Some now ≡ after) → IsNext made after now
-is_next true after now m n = sym (n refl)
-is_next false None now m n = refl
-is_next false (Some x) now m n = absurd (cc)
-
-pub made_next : {T E : Type 0} → (r : Result Bool E) (after : Option T) (now : T) → IfOk r (λ made. made ≡ is_some after) → IfOk r (λ made. made ≡ true → Some now ≡ after)
-    → IfOk r (λ made. IsNext made after now)
-made_next (Ok made) after now m n = is_next made after now m n
-made_next (Err e) after now m n = tt
 
 -- ---- a whole journal
 
@@ -194,31 +181,28 @@ breaks_first header before now journal.BeginsWithState b = absurd b.other
 
 -- ---- the header, and what stands behind it
 
--- so far, the lines lead on from the stage; and so does the whole
-pub read_on : {A : Type 0} → (header : Header) (all before left now : Option (List ℕ)) (stage : Stage) (count : ℕ) (r : Result (Recovered A) RecoveryFault) → before ≡ all → stage ≡ begun header
+pub read_on : {A : Type 0} → (header : Header) (all before left now : Option (List ℕ)) (count : ℕ) (r : Result (Recovered A) RecoveryFault) → before ≡ all
     → Leads next_stage (reached header) before left 2 (begun header) count
-    → IfOk r (λ r. (more : ℕ) × (r.whole ≡ count + more) × ReadsSite (rest_found stage) left now (node_of r.node) more)
+    → IfOk r (λ r. (more : ℕ) × (r.whole ≡ count + more) × ReadsSite (rest_found (begun header)) left now (node_of r.node) more)
     → IfOk r (λ r. ReadsSite (reached header) all now (node_of r.node) r.whole)
-read_on header all before left now stage count (Ok x) same begins l (more, counted, (last, w, site)) =
-    subst (λ n. ReadsSite (reached header) all now (node_of x.node) n) (sym counted)
-    (
-    last,
-    subst (λ a. ReadsWhole (reached header) a now last (count + more)) same
-    (joined_whole next_stage (reached header) before left now (begun header) last count more l
-    (subst (λ s. ReadsWhole (rest_found s) left now last more) begins w)),
-    site
-    )
-read_on header all before left now stage count (Err f) same begins l w = tt
+read_on header all before left now count (Ok x) same l (more, counted, (last, w, site)) = (
+  last,
+  subst (λ a. ReadsWhole (reached header) a now last x.whole) same
+      (subst (λ n. ReadsWhole (reached header) before now last n) (sym counted)
+      (joined_whole next_stage (reached header) before left now (begun header) last count more l w)),
+  site,
+)
+read_on header all before left now count (Err f) same l w = tt
 
 some-bytes : (n count more : ℕ) → 0 < count → n ≡ count + more → false ≡ (n == 0)
 some-bytes n count more some e = grind (arith, nat_tests)
 
 -- there is a header
-pub not_new : {A : Type 0} → (left now : Option (List ℕ)) (stage : Stage) (count : ℕ) (r : Result (Recovered A) RecoveryFault) → 0 < count → IfOk r (λ r. r.is_new ≡ false)
-    → IfOk r (λ r. (more : ℕ) × (r.whole ≡ count + more) × ReadsSite (rest_found stage) left now (node_of r.node) more)
+pub not_new : {A : Type 0} → (says : List ℕ → Found Stage) (left now : Option (List ℕ)) (count : ℕ) (r : Result (Recovered A) RecoveryFault) → 0 < count → IfOk r (λ r. r.is_new ≡ false)
+    → IfOk r (λ r. (more : ℕ) × (r.whole ≡ count + more) × ReadsSite says left now (node_of r.node) more)
     → IfOk r (λ r. r.is_new ≡ (r.whole == 0))
-not_new left now stage count (Ok x) some old w = old ∙ some-bytes x.whole count w.0 some w.1
-not_new left now stage count (Err f) some old w = tt
+not_new says left now count (Ok x) some old w = old ∙ some-bytes x.whole count w.0 some w.1
+not_new says left now count (Err f) some old w = tt
 
 joined-within : (header : Header) (before left now : Option (List ℕ)) (count : ℕ) → Leads next_stage (reached header) before left 2 (begun header) count
     → EndsInState (rest_found (begun header)) left now → EndsInState (reached header) before now
@@ -236,15 +220,13 @@ joined-up header before left now count (journal.BadLine number) l h =
     as_start header before now (journal.BadLine number) (joined_fault next_stage (reached header) before left now (begun header) count (journal.BadLine number) l h)
 joined-up header before left now count journal.BeginsWithState l h = absurd h
 
-pub left_on : {A : Type 0} → (header : Header) (all before left now : Option (List ℕ)) (stage : Stage) (count : ℕ) (r : Result (Recovered A) RecoveryFault) → before ≡ all → stage ≡ begun header
+pub left_on : {A : Type 0} → (header : Header) (all before left now : Option (List ℕ)) (count : ℕ) (r : Result (Recovered A) RecoveryFault) → before ≡ all
     → Leads next_stage (reached header) before left 2 (begun header) count
-    → IfErr r (λ f. (why : JournalFault) × (f ≡ as_recovery why) × EntriesReadUpTo stage left now why)
+    → IfErr r (λ f. (why : JournalFault) × (f ≡ as_recovery why) × EntriesReadUpTo (begun header) left now why)
     → IfErr r (ReadsUpTo header all now)
-left_on header all before left now stage count (Ok x) same begins l h = tt
-left_on header all before left now stage count (Err f) same begins l h =
-    subst (ReadsUpTo header all now) (sym h.1)
-    (subst (λ a. ReadsUpTo header a now (as_recovery h.0)) same
-    (joined-up header before left now count h.0 l (subst (λ s. EntriesReadUpTo s left now h.0) begins h.2)))
+left_on header all before left now count (Ok x) same l h = tt
+left_on header all before left now count (Err f) same l (why, is, h) =
+    subst (ReadsUpTo header all now) (sym is) (subst (λ a. ReadsUpTo header a now (as_recovery why)) same (joined-up header before left now count why l h))
 
 pub whole_is : {A : Type 0} {n m : ℕ} → (r : Result (Recovered A) RecoveryFault) → n ≡ m → IfOk r (λ r. r.whole ≡ n) → IfOk r (λ r. r.whole ≡ m)
 whole_is (Ok x) e h = h ∙ e
@@ -257,12 +239,16 @@ pub site_read : {A : Type 0} → (says : List ℕ → Found Stage) (left now : O
 site_read says left now stage more (Ok x) before w site counted = (more, counted, (stage, w, site))
 site_read says left now stage more (Err f) before w site counted = tt
 
+-- all was read, and the state hasn't ended
+pub ends_within : (says : List ℕ → Found Stage) (old new : Option (List ℕ)) (last : Stage) (more : ℕ) → ReadsWhole says old new last more
+    → (telling : Telling) × (last ≡ InState telling) → EndsInState says old new
+ends_within says old new last more w (telling, is) = (telling, more, subst (λ s. ReadsWhole says old new s more) is w)
+
 pub unended_read : {A : Type 0} → (stage : Stage) (left now : Option (List ℕ)) (last : Stage) (more : ℕ) (r : Result (Recovered A) RecoveryFault)
     → ReadsWhole (rest_found stage) left now last more → IfErr r (λ f. f ≡ fault.UnendedState) → IfErr r (λ f. (telling : Telling) × (last ≡ InState telling))
     → IfErr r (λ f. (why : JournalFault) × (f ≡ as_recovery why) × EntriesReadUpTo stage left now why)
 unended_read stage left now last more (Ok x) w is t = tt
-unended_read stage left now last more (Err f) w is t =
-    (journal.UnendedState, is, (t.0, more, subst (λ s. ReadsWhole (rest_found stage) left now s more) t.1 w))
+unended_read stage left now last more (Err f) w is t = (journal.UnendedState, is, ends_within (rest_found stage) left now last more w t)
 
 pub entries_left : (stage : Stage) (left now : Option (List ℕ)) (why : JournalFault) → ReadsToLine (rest_found stage) left now why → EntriesReadUpTo stage left now why
 entries_left stage left now journal.OutOfMemory h = h

@@ -14,7 +14,6 @@ use Rattle.shm_journal.specs.Lines.{Header, header_line, read_header}
 use Rattle.shm_journal.specs.LinesOf.{Unended}
 use Rattle.shm_journal.specs.ReadUpTo.{ReadsToLine}
 use Rattle.shm_journal.specs.Recovers.{ReadsAll}
-use Rattle.shm_journal.specs.StageOf.{stage_of}
 use Rattle.shm_journal.specs.Stages.{Stage, Opened, InState, Open, begun, next_stage}
 use Rattle.shm_journal.specs.Summed.{IsSummary, NamesFirst, RestReadsUpTo, SummaryReadsUpTo, SumsRest, SumsUpKnown, any, begun_if, entries_in, first_found, found_any, in_limits, reached_any, stage_named, steps_in}
 use Rattle.shm_journal.specs.Taking.{BreaksOff, most_at_once}
@@ -67,26 +66,23 @@ any-first : (header : Header) (line : List ℕ) → read_header line ≡ Some he
 any-first header line h limits =
     ap (λ o. first_found (option_and_then begun_if o)) h ∙ ap (λ b. first_found (cond b (Some (begun header)) None)) limits
 
-named-first : (before left : Option (List ℕ)) (line : List ℕ) (count : ℕ) (header : Header) (stage : Stage) → Consumes before left (line ++ 10 ∷ []) → Unended line
-    → length line ≤ max_journal_line → count ≡ length line + 1 → read_header line ≡ Some header → in_limits header ≡ true → stage ≡ begun header
-    → NamesFirst before left header stage count
-named-first before left line count header stage taken h short e read limits begins =
-    subst (λ n. NamesFirst before left header n count) (sym begins)
-    (subst (λ c. NamesFirst before left header (begun header) c) (sym e)
+named-first : (before left : Option (List ℕ)) (line : List ℕ) (count : ℕ) (header : Header) → Consumes before left (line ++ 10 ∷ []) → Unended line
+    → length line ≤ max_journal_line → count ≡ length line + 1 → read_header line ≡ Some header → in_limits header ≡ true → NamesFirst before left header count
+named-first before left line count header taken h short e read limits =
+    subst (λ c. NamesFirst before left header c) (sym e)
     (record {
       limits = limits;
-      begins = refl;
       some = omega arith;
       as_own = first_leads (own header) before left (begun header) line taken h short (own-first header line read);
       as_any = first_leads any before left (begun header) line taken h short (any-first header line read limits);
-    }))
+    })
 
 pub names_first : {A : Type 0} → (before left : Option (List ℕ)) (line seen : List ℕ) (count : ℕ) (r : Result (Named A) JournalFault) → Consumes before left (line ++ 10 ∷ []) → Unended line
     → length line ≤ max_journal_line → seen ≡ line → count ≡ length line + 1 → IfOk r (λ n. read_header seen ≡ Some (header_of n.header)) → IfOk r (λ n. in_limits (header_of n.header) ≡ true)
-    → IfOk r (λ n. stage_of n.site ≡ begun (header_of n.header)) → IfOk r (λ n. NamesFirst before left (header_of n.header) (stage_of n.site) count)
-names_first before left line seen count (Ok n) taken h short same e read limits begins =
-    named-first before left line count (header_of n.header) (stage_of n.site) taken h short e (ap read_header (sym same) ∙ read) limits begins
-names_first before left line seen count (Err f) taken h short same e read limits begins = tt
+    → IfOk r (λ n. NamesFirst before left (header_of n.header) count)
+names_first before left line seen count (Ok n) taken h short same e read limits =
+    named-first before left line count (header_of n.header) taken h short e (ap read_header (sym same) ∙ read) limits
+names_first before left line seen count (Err f) taken h short same e read limits = tt
 
 opens-not : (before now : Option (List ℕ)) (line over : List ℕ) (f : JournalFault) → Consumes before now ((line ++ 10 ∷ []) ++ over) → Unended line → length line ≤ max_journal_line
     → length over < most_at_once → (f ≡ fault.OutOfMemory) ⊎ ((f ≡ fault.BadLine 1) × (stage_named line ≡ None)) → SummaryReadsUpTo before now f
@@ -122,28 +118,29 @@ breaks_first before now fault.BeginsWithState b = absurd b.other
 
 -- ---- the rest
 
-pub as_rest : (stage : Stage) (old new : Option (List ℕ)) (why : JournalFault) → ReadsToLine (rest_found stage) old new why → RestReadsUpTo stage old new why
-as_rest stage old new fault.OutOfMemory h = h
-as_rest stage old new fault.ReadFault h = inl h
-as_rest stage old new (fault.BadLine number) h = h
-as_rest stage old new fault.UnendedState h = absurd h
-as_rest stage old new fault.BeginsWithState h = absurd h
+pub as_rest : (header : Header) (old new : Option (List ℕ)) (why : JournalFault) → ReadsToLine (rest_found (begun header)) old new why → RestReadsUpTo header old new why
+as_rest header old new fault.OutOfMemory h = h
+as_rest header old new fault.ReadFault h = inl h
+as_rest header old new (fault.BadLine number) h = h
+as_rest header old new fault.UnendedState h = absurd h
+as_rest header old new fault.BeginsWithState h = absurd h
 
-rest-not : (before left now : Option (List ℕ)) (header : Header) (stage : Stage) (count : ℕ) (f : JournalFault) → NamesFirst before left header stage count → RestReadsUpTo stage left now f
+rest-not : (before left now : Option (List ℕ)) (header : Header) (count : ℕ) (f : JournalFault) → NamesFirst before left header count → RestReadsUpTo header left now f
     → SummaryReadsUpTo before now f
-rest-not before left now header stage count fault.OutOfMemory n h = joined_fault next_stage reached_any before left now stage count fault.OutOfMemory n.as_any h
-rest-not before left now header stage count fault.ReadFault n (inl h) = inl (joined_fault next_stage reached_any before left now stage count fault.ReadFault n.as_any h)
-rest-not before left now header stage count fault.ReadFault n (inr all) =
+rest-not before left now header count fault.OutOfMemory n h = joined_fault next_stage reached_any before left now (begun header) count fault.OutOfMemory n.as_any h
+rest-not before left now header count fault.ReadFault n (inl h) = inl (joined_fault next_stage reached_any before left now (begun header) count fault.ReadFault n.as_any h)
+rest-not before left now header count fault.ReadFault n (inr all) =
     inr (n.as_any.bytes ++ all.0, Consumes-trans before left now n.as_any.bytes all.0 n.as_any.taken all.1, all.2)
-rest-not before left now header stage count (fault.BadLine number) n h = inl (joined_fault next_stage reached_any before left now stage count (fault.BadLine number) n.as_any h)
-rest-not before left now header stage count fault.UnendedState n (telling, more, w) =
-    (telling, count + more, joined_whole next_stage reached_any before left now stage (InState telling) count more n.as_any w)
-rest-not before left now header stage count fault.BeginsWithState n h = absurd h
+rest-not before left now header count (fault.BadLine number) n h =
+    inl (joined_fault next_stage reached_any before left now (begun header) count (fault.BadLine number) n.as_any h)
+rest-not before left now header count fault.UnendedState n (telling, more, w) =
+    (telling, count + more, joined_whole next_stage reached_any before left now (begun header) (InState telling) count more n.as_any w)
+rest-not before left now header count fault.BeginsWithState n h = absurd h
 
-pub fault_led : (all before left now : Option (List ℕ)) (header : Header) (stage : Stage) (count : ℕ) (r : Result Summary JournalFault) → before ≡ all → NamesFirst before left header stage count
-    → IfErr r (RestReadsUpTo stage left now) → IfErr r (SummaryReadsUpTo all now)
-fault_led all before left now header stage count (Ok s) same n h = tt
-fault_led all before left now header stage count (Err f) same n h = subst (λ a. SummaryReadsUpTo a now f) same (rest-not before left now header stage count f n h)
+pub fault_led : (all before left now : Option (List ℕ)) (header : Header) (count : ℕ) (r : Result Summary JournalFault) → before ≡ all → NamesFirst before left header count
+    → IfErr r (RestReadsUpTo header left now) → IfErr r (SummaryReadsUpTo all now)
+fault_led all before left now header count (Ok s) same n h = tt
+fault_led all before left now header count (Err f) same n h = subst (λ a. SummaryReadsUpTo a now f) same (rest-not before left now header count f n h)
 
 -- ---- a whole journal
 
@@ -186,9 +183,9 @@ site-steps (Opened first telling) node h = let same : first ≡ node = cc in sym
 site-steps (InState telling) node h = absurd (cc)
 site-steps (Open first) node h = let same : first ≡ node = cc in sym (ap (λ (n : Node). n.steps) same)
 
-sums-all : (before left now : Option (List ℕ)) (header : Header) (stage : Stage) (count : ℕ) (summary : Summary) → NamesFirst before left header stage count
-    → SumsRest stage left now header count summary → SumsAll before now summary
-sums-all before left now header stage count summary n s =
+sums-all : (before left now : Option (List ℕ)) (header : Header) (count : ℕ) (summary : Summary) → NamesFirst before left header count
+    → SumsRest header left now count summary → SumsAll before now summary
+sums-all before left now header count summary n s =
     let l = n.as_own in
     let r = s.rest in
     let file = l.bytes ++ r.bytes in
@@ -215,10 +212,10 @@ sums-all before left now header stage count summary n s =
       };
     }
 
-pub summary_led : (all before left now : Option (List ℕ)) (header : Header) (stage : Stage) (count : ℕ) (r : Result Summary JournalFault) → before ≡ all → NamesFirst before left header stage count
-    → IfOk r (SumsRest stage left now header count) → IfOk r (SumsAll all now)
-summary_led all before left now header stage count (Ok s) same n h = subst (λ a. SumsAll a now s) same (sums-all before left now header stage count s n h)
-summary_led all before left now header stage count (Err f) same n h = tt
+pub summary_led : (all before left now : Option (List ℕ)) (header : Header) (count : ℕ) (r : Result Summary JournalFault) → before ≡ all → NamesFirst before left header count
+    → IfOk r (SumsRest header left now count) → IfOk r (SumsAll all now)
+summary_led all before left now header count (Ok s) same n h = subst (λ a. SumsAll a now s) same (sums-all before left now header count s n h)
+summary_led all before left now header count (Err f) same n h = tt
 
 pub summary_end : (old new : Option (List ℕ)) (r : Result Summary JournalFault) → IfOk r (SumsAll old new) → OnOk r (IsAtEnd new)
 summary_end old new (Ok s) h = h.end

@@ -127,19 +127,18 @@ SummaryReadsUpTo old new fault.UnendedState = EndsInState reached_any old new
 SummaryReadsUpTo old new fault.BeginsWithState = ⊥
 
 -- the first line is this header, and what follows leads on from the site that it names
-pub record NamesFirst (before left : Option (List ℕ)) (header : Header) (stage : Stage) (whole : ℕ) : Type 0 where
+pub record NamesFirst (before left : Option (List ℕ)) (header : Header) (whole : ℕ) : Type 0 where
   pub limits : in_limits header ≡ true
-  pub begins : stage ≡ begun header
   pub some : 0 < whole
-  pub as_own : Leads next_stage (reached header) before left 2 stage whole
-  pub as_any : Leads next_stage reached_any before left 2 stage whole
+  pub as_own : Leads next_stage (reached header) before left 2 (begun header) whole
+  pub as_any : Leads next_stage reached_any before left 2 (begun header) whole
 
--- all that was left behind the first line, of so many bytes, is summed up
-pub record SumsRest (stage : Stage) (old new : Option (List ℕ)) (header : Header) (first : ℕ) (summary : Summary) : Type 0 where
+-- all that was left behind the first line, which is this header and has so many bytes, is summed up
+pub record SumsRest (header : Header) (old new : Option (List ℕ)) (first : ℕ) (summary : Summary) : Type 0 where
   pub last : Stage
   pub after : Node
   pub more : ℕ
-  pub rest : ReadsWhole (rest_found stage) old new last more
+  pub rest : ReadsWhole (rest_found (begun header)) old new last more
   pub led : site_in (Sound last) ≡ Sound after
   pub site : summary.site ≡ header.me
   pub sites : summary.sites ≡ header.sites
@@ -150,10 +149,10 @@ pub record SumsRest (stage : Stage) (old new : Option (List ℕ)) (header : Head
   pub torn : summary.torn ≡ length (lines_of rest.bytes).torn
   pub bytes : summary.bytes ≡ first + more + summary.torn
 
--- what was read of the rest where it isn't: up to a fault, or all of it
-abbrev pub RestReadsUpTo : Stage → Option (List ℕ) → Option (List ℕ) → JournalFault → Type 0
-RestReadsUpTo stage old new fault.OutOfMemory = BreaksAt (rest_found stage) old new
-RestReadsUpTo stage old new fault.ReadFault = BreaksAt (rest_found stage) old new ⊎ ReadsAll old new
-RestReadsUpTo stage old new (fault.BadLine number) = StopsAt (rest_found stage) old new (Bad number)
-RestReadsUpTo stage old new fault.UnendedState = EndsInState (rest_found stage) old new
-RestReadsUpTo stage old new fault.BeginsWithState = ⊥
+-- what was read behind this header where it isn't: up to a fault, or all of it
+abbrev pub RestReadsUpTo : Header → Option (List ℕ) → Option (List ℕ) → JournalFault → Type 0
+RestReadsUpTo header old new fault.OutOfMemory = BreaksAt (rest_found (begun header)) old new
+RestReadsUpTo header old new fault.ReadFault = BreaksAt (rest_found (begun header)) old new ⊎ ReadsAll old new
+RestReadsUpTo header old new (fault.BadLine number) = StopsAt (rest_found (begun header)) old new (Bad number)
+RestReadsUpTo header old new fault.UnendedState = EndsInState (rest_found (begun header)) old new
+RestReadsUpTo header old new fault.BeginsWithState = ⊥

@@ -1,5 +1,5 @@
 //! A site's process reads its journal: the state that it begins with, and the steps that it records, which are made again.
-ghost use Rattle.std.specs.Prelude.{◌≡◌, ◌<◌, is_some, true, false, IfNone, IfOk, IfSome, None, Some};
+ghost use Rattle.std.specs.Prelude.{◌≡◌, ◌<◌, is_none, is_some, true, false, IfNone, IfOk, IfSome, None, Some};
 ghost use Rattle.shm_journal.specs.Found.{Sound, site_in};
 ghost use Rattle.shm_journal.specs.Replaying.{IsNext};
 ghost use Rattle.shm_journal.specs.StageOf.{IsOnward, Stands};
@@ -39,8 +39,8 @@ impl<A: Allocator + Copy> Reading<A> {
 
     /// The site that all lines lead to. `None`: they end within a state.
     pub(crate) fn into_node(self) -> Option<Node<A>>
-        ensures some { IfSome result (λ node. (stage : Stage) → Stands self stage → site_in (Sound stage) ≡ Sound (node_of node)) }
-        ensures none { IfNone result ((stage : Stage) → Stands self stage → (telling : Told) × (stage ≡ InState telling)) }
+        ensures some { (stage : Stage) → Stands self stage → IfSome result (λ node. site_in (Sound stage) ≡ Sound (node_of node)) }
+        ensures none { (stage : Stage) → Stands self stage → IfNone result ((telling : Told) × (stage ≡ InState telling)) }
     {
         if self.in_state && self.telling.is_some() {
             return None;
@@ -50,7 +50,8 @@ impl<A: Allocator + Copy> Reading<A> {
 
     /// Reads the first line behind the header: an entry, or a state's first line. `false`: it can be neither.
     fn read_first(&mut self, alloc: A, line: &[u8]) -> Result<bool, AllocError>
-        requires { self.old.in_state ≡ false }
+        requires told { is_none self.old.telling ≡ false }
+        requires outside { self.old.in_state ≡ false }
         ensures { (stage : Stage) → Stands self.old stage → IfOk result (λ made. IsNext made (next_stage stage line.now) (Stands self.new)) }
     {
         let Some(Entry { clock, cause }) = parse_entry(alloc, line)? else {
@@ -80,18 +81,15 @@ impl<A: Allocator + Copy> Reading<A> {
         Ok(true)
     }
 
+    /// Stands where a line of a state led, whose telling was taken.
     fn go_on(&mut self, onward: Onward<A>)
-        requires { self.old.in_state ≡ true }
+        requires inside { self.old.in_state ≡ true }
+        requires taken { self.old.telling ≡ None }
         ensures { (stage : Stage) → IsOnward onward stage → Stands self.new stage }
     {
         match onward {
-            Onward::Further(telling) => {
-                self.telling = Some(telling);
-            }
-            Onward::Resumed(node) => {
-                self.node = node;
-                self.telling = None;
-            }
+            Onward::Further(telling) => self.telling = Some(telling),
+            Onward::Resumed(node) => self.node = node,
         }
     }
 }

@@ -7,8 +7,8 @@ ghost use Rattle.shm_journal.specs.Leading.{Leads};
 ghost use Rattle.shm_journal.specs.LinesOf.{left_of};
 ghost use Rattle.shm_journal.specs.ReadUpTo.{ReadsSite, ReadsWhole};
 ghost use Rattle.shm_journal.specs.Recovers.{EntriesReadUpTo, ReadsAll, ReadsUpTo, Recovers, as_recovery, front_checked, header_checked};
-ghost use Rattle.shm_journal.specs.StageOf.{stage_of};
-ghost use Rattle.shm_journal.specs.Stages.{InState, Telling, begun, next_stage};
+ghost use Rattle.shm_journal.specs.StageOf.{Stands};
+ghost use Rattle.shm_journal.specs.Stages.{InState, Stage, Telling, begun, next_stage};
 ghost use Rattle.shm_journal.specs.declared.journal_error.JournalFault.{JournalFault as Fault};
 ghost use Rattle.shm_journal.specs.declared.recovery_error.RecoveryFault.TheVariants as recovery;
 ghost use Rattle.shm_process.specs.NodeOf.{node_of};
@@ -30,9 +30,10 @@ use std::alloc::Allocator;
 use std::io::Read;
 
 /// Recovers the site after the steps that its journal records; one of these sites, where segment 0 began with this number of pages, in the
-/// cluster of this name, or in one without a name. A journal that begins with a state leads on from there. What stands behind the last line feed is torn: it counts for nothing, unless it is too long
-/// for a line, or stands alone and is no front of the header. At most one line of the journal is held at once. After a fault the reader stands
-/// a little behind the wrong line.
+/// cluster of this name, or in one without a name. A journal that begins with a state leads on from there. What stands behind the last line
+/// feed is torn: it counts for nothing, unless it is too long for a line, or stands alone and is no front of the header. At most one line of
+/// the journal is held at once, and what its state has told. After a fault the reader stands a little behind the wrong line, or at the end
+/// where the state's own end is missing.
 pub fn recover<A: Allocator + Copy, R: Read>(
     alloc: A,
     sites: Sites,
@@ -69,7 +70,7 @@ fn read_journal<A: Allocator + Copy, R: Read>(
     site: Reading<A>,
     reader: &mut R,
 ) -> Result<Recovered<A>, RecoveryFault>
-    requires { stage_of site ≡ begun (header_of header) }
+    requires { Stands site (begun (header_of header)) }
     ensures whole { IfOk result (λ r. ReadsSite (reached (header_of header)) (R.remaining reader.old) (R.remaining reader.new) (node_of r.node) r.whole) }
     ensures new { IfOk result (λ r. r.is_new ≡ (r.whole == 0)) }
     ensures left { IfErr result (ReadsUpTo (header_of header) (R.remaining reader.old) (R.remaining reader.new)) }
@@ -143,10 +144,10 @@ fn read_entries<A: Allocator + Copy, R: Read>(
     site: Reading<A>,
     reader: &mut R,
 ) -> Result<Recovered<A>, RecoveryFault>
-    ensures whole { IfOk result (λ r. (more : ℕ) × (r.whole ≡ lines.whole + more) × ReadsSite (rest_found (stage_of site))
+    ensures whole { (stage : Stage) → Stands site stage → IfOk result (λ r. (more : ℕ) × (r.whole ≡ lines.whole + more) × ReadsSite (rest_found stage)
         (left_of lines (R.remaining reader.old)) (R.remaining reader.new) (node_of r.node) more) }
     ensures old { IfOk result (λ r. r.is_new ≡ false) }
-    ensures left { IfErr result (λ f. (why : Fault) × (f ≡ as_recovery why) × EntriesReadUpTo (stage_of site)
+    ensures left { (stage : Stage) → Stands site stage → IfErr result (λ f. (why : Fault) × (f ≡ as_recovery why) × EntriesReadUpTo stage
         (left_of lines (R.remaining reader.old)) (R.remaining reader.new) why) }
 {
     let mut lines = lines;
@@ -162,11 +163,11 @@ fn recovered<A: Allocator + Copy>(
     site: Reading<A>,
     whole: u64,
 ) -> Result<Recovered<A>, RecoveryFault>
-    ensures node { IfOk result (λ r. site_in (Sound (stage_of site)) ≡ Sound (node_of r.node)) }
+    ensures node { (stage : Stage) → Stands site stage → IfOk result (λ r. site_in (Sound stage) ≡ Sound (node_of r.node)) }
     ensures whole { IfOk result (λ r. r.whole ≡ whole) }
     ensures old { IfOk result (λ r. r.is_new ≡ false) }
     ensures fault { IfErr result (λ f. f ≡ recovery.UnendedState) }
-    ensures unended { IfErr result (λ f. (telling : Telling) × (stage_of site ≡ InState telling)) }
+    ensures unended { (stage : Stage) → Stands site stage → IfErr result (λ f. (telling : Telling) × (stage ≡ InState telling)) }
 {
     let Some(node) = site.into_node() else {
         return Err(RecoveryFault::UnendedState);

@@ -5,7 +5,7 @@ ghost use Rattle.shm_journal.specs.HeaderOf.{header_of};
 ghost use Rattle.shm_journal.specs.Lines.{read_header};
 ghost use Rattle.shm_journal.specs.LinesOf.{left_of};
 ghost use Rattle.shm_journal.specs.Recovers.{ReadsAll};
-ghost use Rattle.shm_journal.specs.StageOf.{stage_of};
+ghost use Rattle.shm_journal.specs.StageOf.{Stands};
 ghost use Rattle.shm_journal.specs.Stages.{begun};
 ghost use Rattle.shm_journal.specs.Summed.{NamesFirst, RestReadsUpTo, SummaryReadsUpTo, SumsRest, SumsUpKnown, in_limits, stage_named};
 ghost use Rattle.shm_journal.specs.declared.journal_error.JournalFault.TheVariants as fault;
@@ -31,8 +31,8 @@ struct Named<A: Allocator + Copy = Global> {
 }
 
 /// Reads the summary of this journal, whichever site's it is: it makes each of its steps again, as at its site's start, from the state that it
-/// begins with, if there is one. At most one line of
-/// it is held at once. After a fault the reader stands a little behind the wrong line.
+/// begins with, if there is one. At most one line of it is held at once, and what its state has told. After a fault the reader stands a little
+/// behind the wrong line, or at the end where the state's own end is missing.
 pub fn read_summary<A: Allocator + Copy, R: Read>(
     alloc: A,
     reader: &mut R,
@@ -57,7 +57,8 @@ fn read_named<A: Allocator + Copy, R: Read>(
 ) -> Result<Named<A>, JournalFault>
     requires { lines.old.whole ≡ 0 }
     ensures ok { IfOk result (λ n. NamesFirst (left_of lines.old (R.remaining reader.old)) (left_of lines.new (R.remaining reader.new))
-        (header_of n.header) (stage_of n.site) lines.new.whole) }
+        (header_of n.header) lines.new.whole) }
+    ensures begins { IfOk result (λ n. Stands n.site (begun (header_of n.header))) }
     ensures left { IfErr result (SummaryReadsUpTo (left_of lines.old (R.remaining reader.old)) (R.remaining reader.new)) }
 {
     match lines.take(reader) {
@@ -72,7 +73,7 @@ fn read_named<A: Allocator + Copy, R: Read>(
 fn open_named<A: Allocator + Copy>(alloc: A, line: &[u8]) -> Result<Named<A>, JournalFault>
     ensures read { IfOk result (λ n. read_header line.now ≡ Some (header_of n.header)) }
     ensures limits { IfOk result (λ n. in_limits (header_of n.header) ≡ true) }
-    ensures begins { IfOk result (λ n. stage_of n.site ≡ begun (header_of n.header)) }
+    ensures begins { IfOk result (λ n. Stands n.site (begun (header_of n.header))) }
     ensures err { IfErr result (λ f. (f ≡ fault.OutOfMemory) ⊎ ((f ≡ fault.BadLine 1) × (stage_named line.now ≡ None))) }
 {
     let Some(header) = parse_header(line) else {
@@ -101,9 +102,9 @@ fn sum_rest<A: Allocator + Copy, R: Read>(
     named: Named<A>,
     reader: &mut R,
 ) -> Result<Summary, JournalFault>
-    ensures ok { IfOk result (SumsRest (stage_of named.site) (left_of lines (R.remaining reader.old)) (R.remaining reader.new)
-        (header_of named.header) lines.whole) }
-    ensures left { IfErr result (RestReadsUpTo (stage_of named.site) (left_of lines (R.remaining reader.old)) (R.remaining reader.new)) }
+    requires { Stands named.site (begun (header_of named.header)) }
+    ensures ok { IfOk result (SumsRest (header_of named.header) (left_of lines (R.remaining reader.old)) (R.remaining reader.new) lines.whole) }
+    ensures left { IfErr result (RestReadsUpTo (header_of named.header) (left_of lines (R.remaining reader.old)) (R.remaining reader.new)) }
 {
     let mut lines = lines;
     let Named { header, site } = named;

@@ -3,7 +3,8 @@ use Rattle.std.specs.Prelude.{IfErr, IfOk, option_map}
 use Rattle.shm_process.specs.NodeOf.{node_of}
 use Rattle.shm_journal.specs.Found.{reached}
 use Rattle.shm_journal.specs.ReadUpTo.{ReadsSite}
-use Rattle.shm_journal.specs.Stages.{Opened, begun, opened, telling_nothing}
+use Rattle.shm_journal.specs.StageOf.{Stands}
+use Rattle.shm_journal.specs.Stages.{Opened, begun, telling_nothing}
 use Rattle.shm_journal.specs.Recovers.{ReadsUpTo}
 use Rattle.shm_journal.proofs.Fronts.{any_file}
 use Rattle.shm_journal.proofs.RecoveryLemmas.{nothing_read, of_numbers, whole_all, whole_end, whole_found}
@@ -13,7 +14,7 @@ use Rattle.shm_journal.proofs.recover_site.recover.Goals as goal
 pub read_journal-requires : goal.read_journal-requires
 read_journal-requires g c =
     let same = ap₂ (λ sites me. of_numbers sites me c.args.pages (option_map name_of c.args.cluster)) c.count.ensures.value c.me.view_is in
-    c.new-site.ensures ∙ ap (λ n. Opened n (telling_nothing c.args.sites c.args.me)) c.in-Ok.ensures ∙ sym (ap begun same)
+    subst (Stands c.new-site.result) (ap (λ n. Opened n (telling_nothing c.args.sites c.args.me)) c.in-Ok.ensures ∙ sym (ap begun same)) c.new-site.ensures
 
 pub returns-clause-end : goal.returns-clause-end
 returns-clause-end g c =

@@ -4,8 +4,17 @@ use Rattle.shm_journal.specs.Found.{found_behind}
 use Rattle.shm_journal.specs.LinesOf.{behind, left_of, line_in}
 use Rattle.shm_journal.specs.declared.journal_error.JournalFault.TheVariants as fault
 use Rattle.shm_journal.proofs.Gathering.{count_torn, count_whole, taken_too_long, taken_torn, taken_whole, through, through_end, unread}
-use Rattle.shm_journal.proofs.Leading.{breaks, broken, ended, next_none, next_some, one_more, overruns, stops}
+use Rattle.shm_journal.proofs.Leading.{begun, breaks, broken, ended, next_none, next_some, one_more, overruns, stops}
 use Rattle.shm_journal.proofs.replay_lines.replay_rest.Goals as goal
+
+pub lines-init : goal.lines-init
+lines-init g c = λ state at. (
+  0,
+  state,
+  omega arith,
+  at,
+  begun g.T.Replay.next (left_of c.args.lines.now (g.R.Read.remaining c.args.reader.now)) 2 state,
+)
 
 pub lines-preserved : goal.lines-preserved
 lines-preserved g c = λ state at.
@@ -47,8 +56,7 @@ returns-in-Ok-Torn-clause-whole g c = λ state at.
       i.1,
       count_torn o.field-0 lines.whole c.lines.lines.whole line o.field-0-is o.ensures.whole ∙ i.2,
       i.3,
-      all.0,
-      all.1,
+      (all.0, all.1),
     )
 
 pub returns-in-Ok-TooLong-clause-left : goal.returns-in-Ok-TooLong-clause-left
