@@ -16,6 +16,7 @@ pub mod BytesFit
 pub mod RowsFit
 pub mod EntriesFit
 pub mod StateWords
+pub mod StateFits
 pub mod StateLeads
 pub mod Beginnings
 pub mod Lives
