@@ -14,9 +14,9 @@ pub mod SummaryLemmas
 pub mod Fits
 pub mod BytesFit
 pub mod RowsFit
+pub mod StateFits
 pub mod EntriesFit
 pub mod StateWords
-pub mod StateFits
 pub mod StateLeads
 pub mod Beginnings
 pub mod Lives
