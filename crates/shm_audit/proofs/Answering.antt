@@ -1,8 +1,8 @@
 -- What is answered of a journal.
-use Rattle.std.proofs.Common.{◌≡◌, ◌≤◌, ◌<◌, ◌⊎◌, inl, inr, ℕ, ◌+◌, Bool, false, List, [], ◌∷◌, ◌++◌, Option, None, Some, Ok, Err, length, refl, sym, ap, subst, ◌∙◌, append_assoc, arith}
+use Rattle.std.proofs.Common.{◌≡◌, ◌≤◌, ◌<◌, ◌⊎◌, inl, inr, ℕ, ◌+◌, List, [], ◌∷◌, ◌++◌, Option, None, Some, Ok, Err, length, refl, sym, ap, subst, ◌∙◌, append_assoc, arith}
 use Rattle.std.specs.Prelude.{⊤, Result, IfErr, IfOk, IfSome, OnOk}
 use Rattle.std.specs.Io.KnownBytes.{Consumes, IsAtEnd}
-use Rattle.shm_journal.specs.Found.{Bad, Partial, found_behind, max_journal_line}
+use Rattle.shm_journal.specs.Found.{Bad, Partial, max_journal_line}
 use Rattle.shm_journal.specs.Leading.{Leads}
 use Rattle.shm_journal.specs.LinesOf.{Unended}
 use Rattle.shm_journal.specs.ReadUpTo.{ReadsToLine, ReadsWhole}
@@ -17,7 +17,6 @@ use Rattle.shm_logs.specs.Boxes.SiteBox.{box_of}
 use Rattle.shm_logs.specs.declared.site_boxes.site_box.SiteBox.{SiteBox}
 use Rattle.shm_logs.specs.declared.site_boxes.site_log.SiteLog.{SiteLog}
 use Rattle.shm_audit.specs.Found.{Cut, EntriesReadUpTo, HasLog, IsFault, IsLed, LeadsToLog, Log, Reading, ReadsUpTo, TellsLog, any, first_found, found, next_reading, opened, reached, rest_found, whole_log}
-use Rattle.shm_audit.specs.ReadingOf.{reading_at}
 use Rattle.shm_audit.specs.declared.box_replay.Audited.{Audited}
 
 -- memory and the reader say nothing
@@ -32,7 +31,8 @@ fault_known old new (fault.BadLine number) (inl s) =
     of_front old new (s.before ++ (s.line ++ s.over)) (λ file. found file ≡ Bad number) s.taken
     (λ more. ap found (append_assoc s.before (s.line ++ s.over) more ∙ ap (λ l. s.before ++ l) (append_assoc s.line s.over more)) ∙ ap whole_log (s.bad (s.over ++ more)))
 fault_known old new (fault.BadLine number) (inr l) = of_all old new l.bytes (λ file. found file ≡ Bad number) l.taken l.end (ap whole_log l.bad)
-fault_known old new fault.BeginsWithState (whole, w) = of_all old new w.bytes (λ file. found file ≡ Partial) w.taken w.end (ap whole_log w.sound)
+fault_known old new fault.BeginsWithState h =
+    let w = h.1 in of_all old new w.bytes (λ file. found file ≡ Partial) w.taken w.end (ap whole_log w.sound)
 fault_known old new fault.UnendedState h = absurd h
 
 pub as_any : (old new : Option (List ℕ)) (why : JournalFault) → ReadsToLine reached old new why → ReadsUpTo old new why
@@ -95,13 +95,14 @@ breaks_first before now fault.UnendedState b = absurd b.other
 
 pub log_led : {A : Type 0} → (all before left now : Option (List ℕ)) (box : Box) (count : ℕ) (r : Result (SiteLog A) JournalFault) → before ≡ all
     → Leads next_reading reached before left 2 (Log box) count → IfOk r (λ log. LeadsToLog (rest_found box) left now log) → IfOk r (λ log. LeadsToLog reached all now log)
-log_led all before left now box count (Ok log) same l (after, more, (w, has)) =
-    (after, count + more, (subst (λ a. ReadsWhole reached a now (Log after) (count + more)) same (joined_whole next_reading reached before left now (Log box) (Log after) count more l w), has))
+log_led all before left now box count (Ok log) same l w =
+    let read = joined_whole next_reading reached before left now (Log box) (Log w.0) count w.1 l w.2 in
+    (w.0, count + w.1, subst (λ a. ReadsWhole reached a now (Log w.0) (count + w.1)) same read, w.3)
 log_led all before left now box count (Err f) same l w = tt
 
 joined-up : (before left now : Option (List ℕ)) (box : Box) (count : ℕ) (f : JournalFault) → Leads next_reading reached before left 2 (Log box) count
     → EntriesReadUpTo box left now f → ReadsUpTo before now f
-joined-up before left now box count fault.BeginsWithState l (more, w) = (count + more, joined_whole next_reading reached before left now (Log box) Cut count more l w)
+joined-up before left now box count fault.BeginsWithState l h = (count + h.0, joined_whole next_reading reached before left now (Log box) Cut count h.0 l h.1)
 joined-up before left now box count fault.OutOfMemory l h = joined_fault next_reading reached before left now (Log box) count fault.OutOfMemory l h
 joined-up before left now box count fault.ReadFault l h = joined_fault next_reading reached before left now (Log box) count fault.ReadFault l h
 joined-up before left now box count (fault.BadLine number) l h = inl (joined_fault next_reading reached before left now (Log box) count (fault.BadLine number) l h)
@@ -119,42 +120,32 @@ entries_left box left now (fault.BadLine number) h = h
 entries_left box left now fault.BeginsWithState h = absurd h
 entries_left box left now fault.UnendedState h = h
 
--- only the header was read
-pub begun_whole : (box : Box) (cut : Bool) (left now : Option (List ℕ)) (more : ℕ) (reading : Reading) → cut ≡ false
-    → ReadsWhole (λ rest. found_behind next_reading 2 (reading_at cut box) rest) left now reading more → ReadsWhole (rest_found box) left now reading more
-begun_whole box cut left now more reading e w = subst (λ b. ReadsWhole (λ rest. found_behind next_reading 2 (reading_at b box) rest) left now reading more) e w
-
-pub begun_left : (box : Box) (cut : Bool) (left now : Option (List ℕ)) (why : JournalFault) → cut ≡ false
-    → ReadsToLine (λ rest. found_behind next_reading 2 (reading_at cut box) rest) left now why → EntriesReadUpTo box left now why
-begun_left box cut left now why e h =
-    entries_left box left now why (subst (λ b. ReadsToLine (λ rest. found_behind next_reading 2 (reading_at b box) rest) left now why) e h)
-
 -- what a site that was read leads to
-pub log_read : {A : Type 0} → (box : Box) (last : SiteBox A) (left now : Option (List ℕ)) (more : ℕ) (reading : Reading) (r : Result (SiteLog A) JournalFault)
-    → ReadsWhole (rest_found box) left now reading more → IfOk r (λ log. reading ≡ Log (box_of last)) → IfOk r (λ log. log ≡ last.log)
+pub log_read : {A : Type 0} → (box : Box) (last : SiteBox A) (left now : Option (List ℕ)) (more : ℕ) (reading stood : Reading) (r : Result (SiteLog A) JournalFault)
+    → ReadsWhole (rest_found box) left now reading more → stood ≡ reading → IfOk r (λ log. stood ≡ Log (box_of last)) → IfOk r (λ log. log ≡ last.log)
     → IfOk r (λ log. LeadsToLog (rest_found box) left now log)
-log_read box last left now more reading (Ok log) w is same =
-    (box_of last, more, (subst (λ x. ReadsWhole (rest_found box) left now x more) is w, has_log last log same))
-log_read box last left now more reading (Err f) w is same = tt
+log_read box last left now more reading stood (Ok log) w at is same =
+    (box_of last, more, subst (λ x. ReadsWhole (rest_found box) left now x more) (sym at ∙ is) w, has_log last log same)
+log_read box last left now more reading stood (Err f) w at is same = tt
 
-pub cut_read : {A : Type 0} → (box : Box) (left now : Option (List ℕ)) (more : ℕ) (reading : Reading) (r : Result (SiteLog A) JournalFault)
-    → ReadsWhole (rest_found box) left now reading more → IfErr r (λ f. reading ≡ Cut) → IfErr r (λ f. f ≡ fault.BeginsWithState)
+pub cut_read : {A : Type 0} → (box : Box) (left now : Option (List ℕ)) (more : ℕ) (reading stood : Reading) (r : Result (SiteLog A) JournalFault)
+    → ReadsWhole (rest_found box) left now reading more → stood ≡ reading → IfErr r (λ f. stood ≡ Cut) → IfErr r (λ f. f ≡ fault.BeginsWithState)
     → IfErr r (EntriesReadUpTo box left now)
-cut_read box left now more reading (Ok log) w cut is = tt
-cut_read box left now more reading (Err f) w cut is =
-    subst (EntriesReadUpTo box left now) (sym is) (more, subst (λ x. ReadsWhole (rest_found box) left now x more) cut w)
+cut_read box left now more reading stood (Ok log) w at cut is = tt
+cut_read box left now more reading stood (Err f) w at cut is =
+    subst (EntriesReadUpTo box left now) (sym is) (more, subst (λ x. ReadsWhole (rest_found box) left now x more) (sym at ∙ cut) w)
 
 -- ---- the clauses of a whole journal
 
 pub log_end : {A : Type 0} → (old new : Option (List ℕ)) (r : Result (SiteLog A) JournalFault) → IfOk r (λ log. LeadsToLog reached old new log) → OnOk r (IsAtEnd new)
-log_end old new (Ok log) (box, whole, (w, has)) = w.end
+log_end old new (Ok log) w = let all : ReadsWhole reached old new (Log w.0) w.1 = w.2 in all.end
 log_end old new (Err f) w = tt
 
 pub log_all : {A : Type 0} → (old new : Option (List ℕ)) (r : Result (SiteLog A) JournalFault) → IfOk r (λ log. LeadsToLog reached old new log) → OnOk r (ReadsAll old new)
-log_all old new (Ok log) (box, whole, (w, has)) = (w.bytes, w.taken, w.end)
+log_all old new (Ok log) w = let all : ReadsWhole reached old new (Log w.0) w.1 = w.2 in (all.bytes, all.taken, all.end)
 log_all old new (Err f) w = tt
 
 pub log_found : {A : Type 0} → (old new : Option (List ℕ)) (r : Result (SiteLog A) JournalFault) → IfOk r (λ log. LeadsToLog reached old new log) → IfErr r (ReadsUpTo old new)
     → IfSome old (λ file. TellsLog (found file) r)
-log_found old new (Ok log) (box, whole, (w, has)) h = log_known old new box whole log w has
+log_found old new (Ok log) w h = log_known old new w.0 w.1 log w.2 w.3
 log_found old new (Err f) w h = fault_known old new f h

@@ -29,18 +29,18 @@ use Rattle.shm_audit.specs.Lived.{FindsLog, first_box}
 
 -- ---- the first line
 
-header-leads : {T : Type 0} → (kind : Kind T) (header : Header) (state : T) (more : List ℕ) → IsHeader header → kind.first (header_line header) ≡ Sound state
+pub header-leads : {T : Type 0} → (kind : Kind T) (header : Header) (state : T) (more : List ℕ) → IsHeader header → kind.first (header_line header) ≡ Sound state
     → found_of kind (header_text header ++ more) ≡ found_behind kind.next 2 state more
 header-leads kind header state more is first =
     let line = fits-header header is in
     one-first kind (header_line header) more line.unended line.short ∙ ap (λ f. then_found f (λ state. found_behind kind.next 2 state more)) first
 
-any-header : (header : Header) → IsHeader header → in_limits header ≡ true → summed.any.first (header_line header) ≡ Sound (begun header)
+pub any-header : (header : Header) → IsHeader header → in_limits header ≡ true → summed.any.first (header_line header) ≡ Sound (begun header)
 any-header header is limits =
     ap (λ o. summed.first_found (option_and_then summed.begun_if o)) (header-is_read header is)
     ∙ ap (λ b. summed.first_found (cond b (Some (begun header)) None)) limits
 
-box-header : (header : Header) → IsHeader header → in_limits header ≡ true → audit.any.first (header_line header) ≡ Sound (Log (first_box header))
+pub box-header : (header : Header) → IsHeader header → in_limits header ≡ true → audit.any.first (header_line header) ≡ Sound (Log (first_box header))
 box-header header is limits =
     ap (λ o. audit.first_found (option_and_then audit.box_if o)) (header-is_read header is)
     ∙ ap (λ b. audit.first_found (cond b (Some (first_box header)) None)) limits
@@ -79,7 +79,7 @@ entries-lead (entry ∷ entries) number box final more fit made =
 
 -- ---- what is torn
 
-led-on : {T : Type 0} → (number : ℕ) (next : Option T) (onward : T → Found T) (final : T) → next_found number next onward ≡ Sound final
+pub led-on : {T : Type 0} → (number : ℕ) (next : Option T) (onward : T → Found T) (final : T) → next_found number next onward ≡ Sound final
     → (after : T) × (onward after ≡ Sound final)
 led-on number None onward final e = absurd (cc)
 led-on number (Some after) onward final e = (after, e)
@@ -101,7 +101,7 @@ torn-short next (entry ∷ entries) number state final torn fit unended e =
     torn-short next entries (number + 1) on.0 final torn fit.1 unended on.1
 
 -- where a site is found, the lines lead on
-site-from : (x : Found Stage) (node : Node) → site_in x ≡ Sound node → (stage : Stage) × (x ≡ Sound stage)
+pub site-from : (x : Found Stage) (node : Node) → site_in x ≡ Sound node → (stage : Stage) × (x ≡ Sound stage)
 site-from (Sound stage) node e = (stage, refl)
 site-from Foreign node e = absurd (cc)
 site-from (Bad number) node e = absurd (cc)

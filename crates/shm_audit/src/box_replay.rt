@@ -1,12 +1,11 @@
 //! The entries of a journal.
 ghost use Rattle.std.specs.Prelude.{◌≡◌, ◌==◌, ◌&&◌, Some, IfOk};
 ghost use Rattle.shm_journal.specs.EntryOf.{entry_of};
-ghost use Rattle.shm_journal.specs.Replaying.{IsNext};
 ghost use Rattle.shm_logs.specs.Boxes.SiteBox.{box_of};
 ghost use Rattle.shm_process.specs.CauseOf.{cause_of};
 ghost use Rattle.shm_process.specs.Recorded.{IsEntry, entries_from};
 ghost use Rattle.shm_process.specs.StepsOf.{steps_left};
-ghost use Rattle.shm_audit.specs.Entered.{box_after, box_after_all, box_after_entry, box_handed};
+ghost use Rattle.shm_audit.specs.Entered.{IsEntered, box_after, box_after_all, box_after_entry, box_handed};
 ghost use Rattle.shm_audit.specs.Found.{begins_as_state};
 ghost use Rattle.shm_audit.specs.HandedOf.{handed_of};
 
@@ -26,11 +25,11 @@ pub(crate) struct Audited<A: Allocator + Copy = Global> {
 
 impl<A: Allocator + Copy> Replay<A> for Audited<A> {
     ghost use Rattle.shm_audit.specs.Found.{Reading, next_reading};
-    ghost use Rattle.shm_audit.specs.ReadingOf.{reading_of};
+    ghost use Rattle.shm_audit.specs.ReadingOf.{Stands};
 
     ghost State = { Reading };
 
-    ghost state = { reading_of };
+    ghost stands = { Stands };
 
     ghost next = { next_reading };
 
@@ -63,7 +62,7 @@ fn enter<A: Allocator + Copy>(
     entry: Entry<A>,
 ) -> Result<bool, AllocError>
     requires { IsEntry (entry_of entry) }
-    ensures { IfOk result (λ made. IsNext made (box_after_entry (box_of site_box.old) (entry_of entry)) (box_of site_box.new)) }
+    ensures { IfOk result (λ made. IsEntered made (box_after_entry (box_of site_box.old) (entry_of entry)) (box_of site_box.new)) }
 {
     let Entry { clock, cause } = entry;
     let mut steps = Steps::of(alloc, cause);
@@ -76,7 +75,7 @@ fn enter_steps<A: Allocator + Copy>(
     first: u64,
     steps: &mut Steps<A>,
 ) -> Result<bool, AllocError>
-    ensures { IfOk result (λ made. IsNext made (box_after_all (box_of site_box.old) (entries_from first (steps_left steps.old))) (box_of site_box.new)) }
+    ensures { IfOk result (λ made. IsEntered made (box_after_all (box_of site_box.old) (entries_from first (steps_left steps.old))) (box_of site_box.new)) }
 {
     let mut next = Some(first);
     'steps: while let Some(cause) = steps.next() {
@@ -97,7 +96,7 @@ fn enter_step<A: Allocator + Copy>(
     clock: u64,
     cause: Cause<A>,
 ) -> Result<bool, AllocError>
-    ensures { IfOk result (λ made. IsNext made (box_after (box_of site_box.old) (record { clock = clock; cause = cause_of cause })) (box_of site_box.new)) }
+    ensures { IfOk result (λ made. IsEntered made (box_after (box_of site_box.old) (record { clock = clock; cause = cause_of cause })) (box_of site_box.new)) }
 {
     match handed_input(site_box.log().site(), cause) {
         Some(handed) => take(site_box, clock, handed),
@@ -111,7 +110,7 @@ fn take<A: Allocator + Copy>(
     clock: u64,
     handed: Handed<A>,
 ) -> Result<bool, AllocError>
-    ensures { IfOk result (λ made. IsNext made (box_handed clock (box_of site_box.old) (Some (handed_of handed))) (box_of site_box.new)) }
+    ensures { IfOk result (λ made. IsEntered made (box_handed clock (box_of site_box.old) (Some (handed_of handed))) (box_of site_box.new)) }
 {
     let Handed { input, source } = handed;
     match site_box.take(input, source) {

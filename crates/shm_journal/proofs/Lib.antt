@@ -14,6 +14,7 @@ pub mod SummaryLemmas
 pub mod Fits
 pub mod BytesFit
 pub mod RowsFit
+pub mod StateFits
 pub mod EntriesFit
 pub mod StateWords
 pub mod TellingLemmas

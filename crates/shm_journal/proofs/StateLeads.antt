@@ -1,5 +1,5 @@
 -- Where the lines of a state lead.
-use Rattle.std.proofs.Common.{◌≡◌, ◌≤◌, ℕ, suc, ◌+◌, Bool, true, false, cond, List, [], ◌∷◌, ◌++◌, Option, Some, None, length, refl, sym, ap, subst, ◌∙◌, append-nil, append_assoc, arith}
+use Rattle.std.proofs.Common.{◌≡◌, ℕ, suc, ◌+◌, Bool, true, false, cond, List, [], ◌∷◌, ◌++◌, Option, Some, None, length, refl, sym, ap, ◌∙◌, append-nil, append_assoc, arith}
 use Rattle.std.specs.List.{All}
 use Rattle.std.specs.Prelude.{map, option_and_then, option_map}
 use Rattle.std.proofs.lemmas.List.{length-append}
@@ -11,12 +11,13 @@ use Rattle.shm_state.specs.PartWords.{IsPart}
 use Rattle.shm_state.specs.Stage.{is_whole}
 use Rattle.shm_wire.specs.declared.mapping_text.Mapping.{Mapping}
 use Rattle.shm_journal.proofs.Leading.{counts-line, one_line}
+use Rattle.shm_journal.proofs.StateFits.{state_fits}
 use Rattle.shm_journal.proofs.StateWords.{state-is_read, state-no_entry}
-use Rattle.shm_journal.specs.Begun.{IsFit, IsKeptSite, KeptSite, lines_text, state_lines, state_text, told_all}
+use Rattle.shm_journal.specs.Begun.{IsKeptSite, KeptSite, lines_text, state_lines, state_text, told_all}
 use Rattle.shm_journal.specs.Found.{bytes_of_lines, found_behind, lines_of, next_found}
 use Rattle.shm_journal.specs.Lines.{Header}
 use Rattle.shm_journal.specs.Stages.{Stage, Opened, InState, Open, Telling, begun, first_taken, next_stage, opened, resumed, resumed_if, telling_nothing, tells, tells_if, told_by, with_mapping, with_told}
-use Rattle.shm_journal.specs.StateLines.{Ending, StateLine, OfPart, OfMapping, OfEnding, IsEnding, IsMapping, IsStateLine, read_state, state_line}
+use Rattle.shm_journal.specs.StateLines.{Ending, StateLine, OfPart, OfMapping, OfEnding, IsMapping, IsStateLine, state_line}
 
 -- ---- line by line
 
@@ -47,22 +48,23 @@ one-behind : (n m : ℕ) → n + 1 + m ≡ n + suc m
 one-behind n m = omega arith
 
 -- they lead from the first stage to the last, and on from there, at a further line's number
-lines-lead : (lines : List StateLine) (number : ℕ) (stage final : Stage) (more : List ℕ) → All IsStateLine lines → All IsFit lines
+lines-lead : (lines : List StateLine) (number : ℕ) (stage final : Stage) (more : List ℕ) → All IsStateLine lines
     → tell_all stage lines ≡ Some final
     → found_behind next_stage number stage (lines_text lines ++ more) ≡ found_behind next_stage (number + length lines) final more
 unfolding tell_all
-lines-lead [] number stage final more are fit told =
+lines-lead [] number stage final more are told =
     ap (λ s. found_behind next_stage number s more) (some-is stage final told) ∙ ap (λ n. found_behind next_stage n final more) (none-behind number)
-lines-lead (first ∷ lines) number stage final more are fit told =
+lines-lead (first ∷ lines) number stage final more are told =
     let s = step (tells_at stage first) (λ next. tell_all next lines) final told in
     let line = state_line first in
     let rest = lines_text lines in
-    let short = All-head IsFit first lines fit in
+    let is = All-head IsStateLine first lines are in
+    let fits = state_fits first is in
     ap (found_behind next_stage number stage) (shape line rest more)
-    ∙ one_line next_stage number stage line (rest ++ more) short.0 short.1
+    ∙ one_line next_stage number stage line (rest ++ more) fits.unended fits.short
     ∙ ap (λ o. next_found number o (λ after. found_behind next_stage (number + 1) after (rest ++ more)))
-    (line-tells stage s.value first (All-head IsStateLine first lines are) s.gave)
-    ∙ lines-lead lines (number + 1) s.value final more (All-tail IsStateLine first lines are) (All-tail IsFit first lines fit) s.gives
+    (line-tells stage s.value first is s.gave)
+    ∙ lines-lead lines (number + 1) s.value final more (All-tail IsStateLine first lines are) s.gives
     ∙ ap (λ n. found_behind next_stage n final more) (one-behind number (length lines))
 
 -- ---- a whole state
@@ -103,11 +105,11 @@ unfolding tell_all tells_at
 opened-tells node t [] last = refl
 opened-tells node t (line ∷ lines) last = refl
 
-abbrev first_lines : KeptSite → List StateLine
+abbrev pub first_lines : KeptSite → List StateLine
 first_lines site = map OfPart site.parts ++ map OfMapping site.mapped
 
-lines-end : (site : KeptSite) → state_lines site ≡ first_lines site ++ OfEnding site.ending ∷ []
-lines-end site = sym (append_assoc (map OfPart site.parts) (map OfMapping site.mapped) (OfEnding site.ending ∷ []))
+pub lines_end : (site : KeptSite) → state_lines site ≡ first_lines site ++ OfEnding site.ending ∷ []
+lines_end site = sym (append_assoc (map OfPart site.parts) (map OfMapping site.mapped) (OfEnding site.ending ∷ []))
 
 abbrev with_all : Telling → KeptSite → Telling
 with_all t site = record t { mapped = site.mapped }
@@ -136,9 +138,9 @@ state-told : (header : Header) (site : KeptSite) (node : Node) → IsKeptSite he
 state-told header site node is =
     let m = made header site node is in
     let nothing = telling_nothing header.sites header.me in
-    ap (tell_all (begun header)) (lines-end site)
+    ap (tell_all (begun header)) (lines_end site)
     ∙ opened-tells (opened header) nothing (first_lines site) (OfEnding site.ending)
-    ∙ ap (tell_all (InState nothing)) (sym (lines-end site))
+    ∙ ap (tell_all (InState nothing)) (sym (lines_end site))
     ∙ tell-parts site.parts (map OfMapping site.mapped ++ OfEnding site.ending ∷ []) nothing m.all m.parts
     ∙ tell-mapped site.mapped (OfEnding site.ending ∷ []) m.all
     ∙ ap (λ x. tell_all (InState (record m.all { mapped = x ++ site.mapped })) (OfEnding site.ending ∷ [])) (told-mapped site.parts nothing m.all m.parts)
@@ -156,15 +158,15 @@ mapped-are [] others are rest = rest
 mapped-are (m ∷ mapped) others are rest =
     All-cons IsStateLine (OfMapping m) (map OfMapping mapped ++ others) (All-head IsMapping m mapped are) (mapped-are mapped others (All-tail IsMapping m mapped are) rest)
 
-lines-are : (header : Header) (site : KeptSite) (node : Node) → IsKeptSite header site node → All IsStateLine (state_lines site)
-lines-are header site node is =
+pub lines_are : (header : Header) (site : KeptSite) (node : Node) → IsKeptSite header site node → All IsStateLine (state_lines site)
+lines_are header site node is =
     parts-are site.parts (map OfMapping site.mapped ++ OfEnding site.ending ∷ []) is.parts
     (mapped-are site.mapped (OfEnding site.ending ∷ []) is.mapped (All-cons IsStateLine (OfEnding site.ending) [] is.ending (All-nil IsStateLine)))
 
 pub state-leads : (header : Header) (site : KeptSite) (node : Node) (number : ℕ) (more : List ℕ) → IsKeptSite header site node
     → found_behind next_stage number (begun header) (state_text site ++ more) ≡ found_behind next_stage (number + length (state_lines site)) (Open node) more
 state-leads header site node number more is =
-    lines-lead (state_lines site) number (begun header) (Open node) more (lines-are header site node is) is.fit (state-told header site node is)
+    lines-lead (state_lines site) number (begun header) (Open node) more (lines_are header site node is) (state-told header site node is)
 
 -- ---- how many bytes are whole
 
@@ -177,15 +179,15 @@ none-before n = omega arith
 with-line : (line rest : List ℕ) (n : ℕ) → length line + 1 + (length rest + n) ≡ length (line ++ 10 ∷ rest) + n
 with-line line rest n = omega (arith, length-append line (10 ∷ rest))
 
-lines-counted : (lines : List StateLine) (more : List ℕ) → All IsFit lines → counted (lines_text lines ++ more) ≡ length (lines_text lines) + counted more
-lines-counted [] more fit = none-before (counted more)
-lines-counted (first ∷ lines) more fit =
+lines-counted : (lines : List StateLine) (more : List ℕ) → All IsStateLine lines → counted (lines_text lines ++ more) ≡ length (lines_text lines) + counted more
+lines-counted [] more are = none-before (counted more)
+lines-counted (first ∷ lines) more are =
     let line = state_line first in
     let rest = lines_text lines in
-    let short = All-head IsFit first lines fit in
-    ap counted (shape line rest more) ∙ counts-line line (rest ++ more) short.0
-    ∙ ap (λ n. length line + 1 + n) (lines-counted lines more (All-tail IsFit first lines fit)) ∙ with-line line rest (counted more)
+    let fits = state_fits first (All-head IsStateLine first lines are) in
+    ap counted (shape line rest more) ∙ counts-line line (rest ++ more) fits.unended
+    ∙ ap (λ n. length line + 1 + n) (lines-counted lines more (All-tail IsStateLine first lines are)) ∙ with-line line rest (counted more)
 
 pub state-counted : (header : Header) (site : KeptSite) (node : Node) (more : List ℕ) → IsKeptSite header site node
     → counted (state_text site ++ more) ≡ length (state_text site) + counted more
-state-counted header site node more is = lines-counted (state_lines site) more is.fit
+state-counted header site node more is = lines-counted (state_lines site) more (lines_are header site node is)

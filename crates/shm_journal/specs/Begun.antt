@@ -1,13 +1,11 @@
 -- What a journal begins with: its header, and then the state from which its site goes on, or none.
-use Rattle.std.specs.Prelude.{◌≡◌, ◌⊎◌, ◌≤◌, ℕ, List, [], ◌∷◌, ◌++◌, length, map, Option, Some, None, option_and_then}
+use Rattle.std.specs.Prelude.{◌≡◌, ◌⊎◌, ℕ, List, [], ◌∷◌, ◌++◌, map, Option, Some, option_and_then}
 use Rattle.std.specs.List.{All}
 use Rattle.shm_process.specs.Node.{Node}
 use Rattle.shm_state.specs.Part.{Part}
 use Rattle.shm_state.specs.PartWords.{IsPart}
 use Rattle.shm_wire.specs.declared.mapping_text.Mapping.{Mapping}
-use Rattle.shm_journal.specs.Found.{max_journal_line}
 use Rattle.shm_journal.specs.Lines.{Header, IsHeader, header_line}
-use Rattle.shm_journal.specs.LinesOf.{Unended}
 use Rattle.shm_journal.specs.Stages.{Telling, opened, resumed_if, telling_nothing, told_by, with_told}
 use Rattle.shm_journal.specs.StateLines.{Ending, StateLine, OfPart, OfMapping, OfEnding, IsEnding, IsMapping, state_line}
 
@@ -39,16 +37,11 @@ abbrev pub restored : ℕ → ℕ → KeptSite → Option Node
 restored sites me site =
     option_and_then (λ (t : Telling). resumed_if (record t { mapped = site.mapped }) site.ending) (told_all (telling_nothing sites me) site.parts)
 
--- a line that a journal may have
-abbrev pub IsFit : StateLine → Type 0
-IsFit line = Unended (state_line line) × (length (state_line line) ≤ max_journal_line)
-
--- a state of this header's site, whose lines a journal may have, and from which the site goes on as this node
+-- a state of this header's site, from which the site goes on as this node
 pub record IsKeptSite (header : Header) (site : KeptSite) (node : Node) : Type 0 where
   pub parts : All IsPart site.parts
   pub mapped : All IsMapping site.mapped
   pub ending : IsEnding site.ending
-  pub fit : All IsFit (state_lines site)
   pub makes : restored header.sites header.me site ≡ Some node
 
 -- ---- a journal's beginning

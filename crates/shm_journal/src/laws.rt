@@ -73,10 +73,15 @@ pub fn a_journal_of_single_steps_is_found_sound()
         → FindsLives header lives (journal_of_steps header lives) (journal_of_steps header lives) }
 {}
 
-/// In its next life a site maps the pages that it mapped when the last one ended: its journal leads there, and a restart changes none.
-#[tactic(auto, using(crate::proofs::MappedLives::mapped_again))]
+/// In its next life a site maps the pages that it mapped when the last one ended: its journal leads there, and a restart changes none. In the
+/// first life behind a state it maps those that the state tells.
 pub fn a_restart_maps_what_was_mapped()
-    ensures { (header : Header) (seal : Seal) (start : Start) (lives : List (List Event)) (life : List Event)
+    ensures anew { (header : Header) (seal : Seal) (start : Start) (lives : List (List Event)) (life : List Event)
         → (desk_from header seal false (after_lives (opened header) (lives ++ life ∷ [])) start).node.mapped
         ≡ (after_events (after_lives (opened header) lives) life).mapped }
+    ensures from { (b : Beginning) (seal : Seal) (start : Start) (lives : List (List Event)) (life : List Event)
+        → (desk_from b.header seal false (after_lives b.node (lives ++ life ∷ [])) start).node.mapped
+        ≡ (after_events (after_lives b.node lives) life).mapped }
+    ensures state { (header : Header) (seal : Seal) (start : Start) (site : KeptSite) (node : Node) → IsKeptSite header site node
+        → (desk_from header seal false node start).node.mapped ≡ site.mapped }
 {}
