@@ -10,6 +10,7 @@ mod SimulationLemmas
 mod KeptLemmas
 mod PlayedLemmas
 mod Unbegun
+mod Refusing
 mod FirstLemmas
 mod Unmarked
 mod Unsealed

@@ -1,11 +1,12 @@
 -- The desk that a site's process begins with.
-use Rattle.std.specs.Prelude.{◌≡◌, ℕ, Bool, List, Option, Some, None}
+use Rattle.std.specs.Prelude.{⊤, ◌≡◌, ◌⊎◌, ℕ, Bool, false, true, List, Option, Some, None, IfSome}
 use Rattle.shm_journal.specs.Found.{Sound, bytes_of_lines, found, is_empty, lines_of}
 use Rattle.shm_journal.specs.Lines.{Header}
 use Rattle.shm_journal.specs.DeskFrom.{desk_from, opening_of}
-use Rattle.shm_journal.specs.Recovers.{ReadsAll, ReadsUpTo}
+use Rattle.shm_journal.specs.Recovers.{IsFaultOf, ReadsAll, ReadsUpTo}
+use Rattle.shm_journal.specs.declared.process_start.OpeningFault.TheVariants as opening
 use Rattle.shm_process.specs.Desk.{Desk, greeting_at}
-use Rattle.shm_process.specs.Node.{Node, new_node}
+use Rattle.shm_process.specs.Node.{Node, is_late, new_node}
 use Rattle.shm_process.specs.declared.process_counts.Start.{Start}
 use Rattle.shm_seal.specs.Seal.{Seal}
 use Rattle.shm_command.specs.declared.site_error.SiteFault.{SiteFault}
@@ -31,6 +32,39 @@ abbrev pub BeginsWith : Option Bool → Seal → Header → Desk → Type 0
 BeginsWith None seal header desk =
     (since : ℕ) × (desk ≡ greeting_at seal (new_node header.sites header.me header.pages) (opening_of header) (start_at since 0))
 BeginsWith (Some begins) seal header desk = (since : ℕ) × (file : List ℕ) × BeginsKept begins seal header since file desk
+
+-- ---- why it can't
+
+-- the file leads to this site, and has no whole line yet, or has one
+pub record Leads (is_new : Bool) (header : Header) (file : List ℕ) (node : Node) : Type 0 where
+  pub sound : found header file ≡ Sound node
+  pub new : is_empty (lines_of file).whole ≡ is_new
+
+-- The file isn't as it was asked for: it leads to no site, as its fault says; or it was to be begun, and has a whole line; or it was to be
+-- gone on with, and has none.
+abbrev pub Differs : Bool → Header → List ℕ → SiteFault → Type 0
+Differs begins header file (fault.Unrecovered why) = IsFaultOf header file why
+Differs begins header file fault.Existing = (begins ≡ true) × ((node : Node) × Leads false header file node)
+Differs begins header file fault.Blank = (begins ≡ false) × ((node : Node) × Leads true header file node)
+Differs begins header file _ = ⊥
+
+-- what may fail once it is: a new file has to be listed, and only one that is gone on with may lead to the clock's end
+abbrev pub FailsBehind : Bool → Node → SiteFault → Type 0
+FailsBehind is_new node fault.Uncut = ⊤
+FailsBehind is_new node fault.Unlisted = is_new ≡ true
+FailsBehind is_new node (fault.Unopenable opening.OutOfMemory) = ⊤
+FailsBehind is_new node (fault.Unopenable opening.ClockEnd) = (is_new ≡ false) × (is_late node 0 ≡ true)
+FailsBehind is_new node _ = ⊥
+
+-- a file of which this was left to be read, where the reader tells its bytes, isn't as it was asked for
+abbrev pub IsNotAsked : Bool → Header → Option (List ℕ) → SiteFault → Type 0
+IsNotAsked begins header remaining fault = (file : List ℕ) × IfSome remaining (λ known. file ≡ known) × Differs begins header file fault
+
+-- or it is, and something fails behind it
+abbrev pub IsRefused : Bool → Header → Option (List ℕ) → SiteFault → Type 0
+IsRefused begins header remaining fault =
+    IsNotAsked begins header remaining fault
+    ⊎ ((file : List ℕ) × IfSome remaining (λ known. file ≡ known) × ((node : Node) × Leads begins header file node × FailsBehind begins node fault))
 
 -- what was read of the journal where its site can't begin: up to the journal's fault, or all of it
 abbrev pub ReadsUnbegun : Header → Option (List ℕ) → Option (List ℕ) → SiteFault → Type 0

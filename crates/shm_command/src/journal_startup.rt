@@ -1,10 +1,13 @@
 //! The file of a site's journal: it is as it was asked for, one process alone has it, and what was never durable at its end is cut off.
-ghost use Rattle.std.specs.Prelude.{◌≡◌, ◌≤◌, ◌<◌, ℕ, List, if◌then◌else◌, not, IfErr, IfOk, IfSome, OnOk};
-ghost use Rattle.shm_journal.specs.Recovers.{ReadsAll};
-ghost use Rattle.shm_command.specs.Begun.{BeginsKept, ReadsUnbegun, header_at};
+ghost use Rattle.std.specs.Prelude.{◌≡◌, ◌≤◌, ◌<◌, ℕ, List, if◌then◌else◌, not, true, IfErr, IfOk, IfSome, OnErr, OnOk};
+ghost use Rattle.shm_journal.specs.DeskFrom.{desk_from};
+ghost use Rattle.shm_journal.specs.HeaderOf.{header_of};
+ghost use Rattle.shm_journal.specs.Recovers.{ReadsAll, Recovers};
+ghost use Rattle.shm_command.specs.Begun.{BeginsKept, FailsBehind, IsNotAsked, IsRefused, ReadsUnbegun, header_at, start_at};
 ghost use Rattle.shm_command.specs.Served.{IsUnbegun};
 ghost use Rattle.shm_command.specs.TakenAgain.{IsTakenAgain};
 ghost use Rattle.shm_process.specs.DeskOf.{desk_of};
+ghost use Rattle.shm_process.specs.NodeOf.{node_of};
 ghost use Rattle.shm_seal.specs.Seal.{cluster_of};
 ghost use Rattle.shm_seal.specs.SealOf.{seal_of};
 
@@ -15,6 +18,7 @@ use shm_journal::{Header, Recovered, open_desk, recover};
 use shm_place::{PAGES, SiteId, Sites};
 use shm_process::{Desk, Start};
 use shm_seal::Seal;
+use std::alloc::Global;
 use std::fs::{self, File, OpenFile, OpenOptions, TryLockError};
 use std::io::{self, ErrorKind, Read};
 use std::rt::Files;
@@ -116,54 +120,120 @@ pub(crate) fn begin_kept<R: AllocGlobal + Files, J: Read, F: OpenFile>(
     ensures again { IfOk result (λ begun. IsTakenAgain (header_at sites me pages (cluster_of (seal_of seal))) (J.remaining lines.old) begun.again) }
     ensures all { OnOk result (ReadsAll (J.remaining lines.old) (J.remaining lines.new)) }
     ensures left { IfErr result (ReadsUnbegun (header_at sites me pages (cluster_of (seal_of seal))) (J.remaining lines.old) (J.remaining lines.new)) }
+    ensures refused { IfErr result (IsRefused kept.entry.begins (header_at sites me pages (cluster_of (seal_of seal))) (J.remaining lines.old)) }
     ensures unbegun { IfErr result IsUnbegun }
 {
-    let cluster = seal.name();
-    let found = match recover(rt.alloc(), sites, me, pages, cluster, lines) {
+    let found = match recovered_as_asked(rt.alloc(), sites, me, pages, &seal, kept.begins, lines) {
         Ok(found) => found,
-        Err(fault) => return Err(SiteFault::Unrecovered(fault)),
+        Err(fault) => return Err(fault),
     };
-    let Recovered {
-        node,
-        whole,
-        is_new,
-    } = found;
-    if !is_as_asked(kept.begins, is_new) {
-        if kept.begins {
-            return Err(SiteFault::Existing);
-        }
-        return Err(SiteFault::Blank);
-    }
     let again = TakenAgain {
-        steps: node.steps(),
-        clock: node.clock(),
+        steps: found.node.steps(),
+        clock: found.node.clock(),
         batches: extent.chain.number(),
         torn: bytes_behind(file, extent.bytes),
     };
-    if cut(file, extent.bytes).is_err() {
-        return Err(SiteFault::Uncut);
-    }
-    if list_new(rt, kept.name, is_new).is_err() {
-        return Err(SiteFault::Unlisted);
-    }
-    let header = Header {
-        sites: sites.count(),
-        me: me.0,
-        pages,
-        cluster,
-    };
-    let start = Start {
-        journal: whole,
+    let header = header_of_site(sites, me, pages, &seal);
+    match open_durable(
+        rt,
+        header,
+        seal,
+        kept.name,
         since,
-    };
-    match open_desk(rt.alloc(), header, seal, is_new, node, start) {
+        extent.bytes,
+        found,
+        file,
+    ) {
         Ok(desk) => Ok(Begun {
             desk,
             durable: extent.bytes,
             chain: extent.chain,
             again,
         }),
+        Err(fault) => Err(fault),
+    }
+}
+
+/// Recovers a site from the lines of its journal. There has to be no whole line exactly where the journal is to be begun.
+fn recovered_as_asked<J: Read>(
+    alloc: Global,
+    sites: Sites,
+    me: SiteId,
+    pages: u32,
+    seal: &Seal,
+    begins: bool,
+    lines: &mut J,
+) -> Result<Recovered, SiteFault>
+    requires below { me < sites }
+    requires from { 1 ≤ pages }
+    requires to { pages ≤ PAGES }
+    ensures asked { IfOk result (λ found. found.is_new ≡ begins) }
+    ensures found { IfOk result (λ found. Recovers (header_at sites me pages (cluster_of (seal_of seal.now))) (J.remaining lines.old) (Ok found)) }
+    ensures all { OnOk result (ReadsAll (J.remaining lines.old) (J.remaining lines.new)) }
+    ensures left { IfErr result (ReadsUnbegun (header_at sites me pages (cluster_of (seal_of seal.now))) (J.remaining lines.old) (J.remaining lines.new)) }
+    ensures refused { IfErr result (IsNotAsked begins (header_at sites me pages (cluster_of (seal_of seal.now))) (J.remaining lines.old)) }
+    ensures unbegun { IfErr result IsUnbegun }
+{
+    let cluster = seal.name();
+    let found = match recover(alloc, sites, me, pages, cluster, lines) {
+        Ok(found) => found,
+        Err(fault) => return Err(SiteFault::Unrecovered(fault)),
+    };
+    if is_as_asked(begins, found.is_new) {
+        return Ok(found);
+    }
+    if begins {
+        return Err(SiteFault::Existing);
+    }
+    Err(SiteFault::Blank)
+}
+
+/// Makes durable what was found of a journal: cuts its file to this many bytes and, if it is new, makes its name durable. Then opens the
+/// site's desk.
+fn open_durable<R: AllocGlobal + Files, F: OpenFile>(
+    rt: &R,
+    header: Header,
+    seal: Seal,
+    name: &str,
+    since: u64,
+    bytes: u64,
+    found: Recovered,
+    file: &F,
+) -> Result<Desk, SiteFault>
+    ensures desk { IfOk result (λ desk. desk_of desk ≡ desk_from (header_of header) (seal_of seal) found.is_new (node_of found.node) (start_at since found.whole)) }
+    ensures refused { IfErr result (FailsBehind found.is_new (node_of found.node)) }
+    ensures unbegun { IfErr result IsUnbegun }
+{
+    let Recovered {
+        node,
+        whole,
+        is_new,
+    } = found;
+    if cut(file, bytes).is_err() {
+        return Err(SiteFault::Uncut);
+    }
+    if list_new(rt, name, is_new).is_err() {
+        return Err(SiteFault::Unlisted);
+    }
+    let start = Start {
+        journal: whole,
+        since,
+    };
+    match open_desk(rt.alloc(), header, seal, is_new, node, start) {
+        Ok(desk) => Ok(desk),
         Err(fault) => Err(SiteFault::Unopenable(fault)),
+    }
+}
+
+/// Whose journal it is.
+fn header_of_site(sites: Sites, me: SiteId, pages: u32, seal: &Seal) -> Header
+    ensures { header_of result ≡ header_at sites me pages (cluster_of (seal_of seal.now)) }
+{
+    Header {
+        sites: sites.count(),
+        me: me.0,
+        pages,
+        cluster: seal.name(),
     }
 }
 
@@ -175,7 +245,9 @@ fn is_as_asked(begins: bool, is_new: bool) -> bool
 }
 
 /// Makes durable, of a new file, that its folder has it.
-fn list_new<R: AllocGlobal + Files>(rt: &R, name: &str, is_new: bool) -> io::Result<()> {
+fn list_new<R: AllocGlobal + Files>(rt: &R, name: &str, is_new: bool) -> io::Result<()>
+    ensures { OnErr result (is_new ≡ true) }
+{
     if !is_new {
         return Ok(());
     }

@@ -9,4 +9,5 @@ pub mod SpelledParts
 pub mod Taken
 pub mod ToldSteps
 pub mod Tellings
+pub mod InOrder
 pub mod ToldSame

@@ -1,15 +1,20 @@
 -- The site that is told is the one that a restart leaves.
-use Rattle.std.proofs.Common.{◌≡◌, ◌∙◌, ℕ, Bool, None, length, refl, ap, sym}
-use Rattle.shm_model.specs.Site.{untouched}
+use Rattle.std.proofs.Common.{◌≡◌, ◌∙◌, ℕ, Bool, Option, None, Some, length, refl, ap, sym}
+use Rattle.std.proofs.lemmas.Option.{none-some}
+use Rattle.shm_model.specs.Site.{Frames, untouched}
 use Rattle.shm_attach.specs.Home.{kept_reply}
 use Rattle.shm_parts.specs.Holdings.{held_frames}
-use Rattle.shm_parts.specs.Listed.{filled, purged_in, purged_list, stored_list}
+use Rattle.shm_parts.specs.Listed.{filled, limit_held, purged_in, purged_list, stored_list}
 use Rattle.shm_parts.specs.Purged.{purged_of}
 use Rattle.shm_parts.proofs.Held.{masked}
 use Rattle.shm_site.specs.State.{site_from, state_of}
 use Rattle.shm_site.specs.declared.site.Site.{Site}
 use Rattle.shm_state.proofs.Tellings.{below_all, swept}
 use Rattle.shm_state.specs.Telling.{alive, told_of}
+
+pub unlimited : (frames : Option Frames) → limit_held frames ≡ None → frames ≡ None
+unlimited None none = refl
+unlimited (Some frames) none = absurd (none-some frames.limit (sym none))
 
 pub told_same : {A : Type 0} (site : Site A) → held_frames site.holdings.frames ≡ None → length site.holdings.attachments ≡ 64 → length site.home.kept ≡ 16
     → purged_in (purged_list site.holdings.purged) ≡ purged_of site.holdings.purged

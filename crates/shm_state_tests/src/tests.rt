@@ -1,6 +1,6 @@
 use shm_place::{SegId, SiteId, Sites};
 use shm_site::Site;
-use shm_state::{TakeFault, Told, parse_part};
+use shm_state::{TakeFault, TellFault, Told, parse_part, tell_parts};
 use std::alloc::{AllocError, Global};
 use std::test::Fail;
 
@@ -97,6 +97,63 @@ fn a_site_is_made_of_what_was_told(rt: HostRuntime) -> Result<(), Fail> {
     assert_eq!(rt; listed, (1, 1));
     assert_eq!(rt; purged, Some(SegId(3)));
     assert_eq!(rt; attached, Some((SegId(0), (4096, false))));
+    Ok(())
+}
+
+/// The lines of all parts of the site's state.
+fn lines_of(alloc: Global, site: &Site) -> Result<Vec<String>, AllocError> {
+    let Ok(parts) = tell_parts(alloc, site) else {
+        return Err(AllocError);
+    };
+    let mut lines = Vec::new(alloc);
+    for part in parts.as_slice() {
+        lines.push(format!(in alloc; "{part}")?)?;
+    }
+    Ok(lines)
+}
+
+/// The site that is made of the parts of this one, without their lines.
+fn made_again(alloc: Global, site: &Site) -> Result<Site, AllocError> {
+    let Ok(parts) = tell_parts(alloc, site) else {
+        return Err(AllocError);
+    };
+    let mut told = nothing(alloc)?;
+    for part in parts {
+        if told.take(part).is_err() {
+            return Err(AllocError);
+        }
+    }
+    match told.into_site() {
+        Ok(site) => Ok(site),
+        Err(_) => Err(AllocError),
+    }
+}
+
+// The attached segment's first page is stored too, untouched: one part more.
+#[test]
+fn a_site_tells_the_parts_of_which_it_was_made(rt: HostRuntime) -> Result<(), Fail> {
+    let site = site_of_all(rt.alloc())?;
+    let first = lines_of(rt.alloc(), &site)?;
+    let again = made_again(rt.alloc(), &site)?;
+    let second = lines_of(rt.alloc(), &again)?;
+    for part in PARTS {
+        assert!(rt;
+            first.as_slice().iter().any(|line| line.as_str() == part),
+            "at {part}"
+        );
+    }
+    assert_eq!(rt; first, second);
+    Ok(())
+}
+
+#[test]
+fn a_site_whose_copies_are_limited_tells_nothing(rt: HostRuntime) -> Result<(), Fail> {
+    let Ok(sites) = Sites::new(1) else {
+        return Err(AllocError.into());
+    };
+    let site: Site = Site::framed(rt.alloc(), sites, SiteId(0), 2, 1)?;
+    let told = tell_parts(rt.alloc(), &site);
+    assert_eq!(rt; told.err(), Some(TellFault::Limited));
     Ok(())
 }
 
