@@ -1,6 +1,6 @@
 -- How far a journal is read, line by line.
 use Rattle.std.proofs.Common.{◌≡◌, ℕ, List, Bool, true, false, Option, Some, None, refl, sym, ap, subst, ◌∙◌}
-use Rattle.std.specs.Prelude.{Result, IfOk, is_none}
+use Rattle.std.specs.Prelude.{Result, IfOk, is_none, is_some, ◌&&◌}
 use Rattle.shm_process.specs.Node.{Node}
 use Rattle.shm_process.specs.NodeOf.{node_of}
 use Rattle.shm_journal.specs.Found.{Sound, site_in}
@@ -55,3 +55,19 @@ pub told_so : {A : Type 0} → (t : Telling) (line : List ℕ) (said : StateLine
 told_so t line said None onward stands read some h at = absurd (cc)
 told_so t line said (Some o) onward stands read some (stage, is, goes) at =
     let same : o ≡ onward = cc in (stage, ap (tells_if t) (sym read) ∙ is, at stage (subst (λ x. IsOnward x stage) same goes))
+
+-- ---- all lines
+
+-- the site that the lines lead to, where they don't end within a state
+pub sound_site : {A : Type 0} → (node : Node) (within : Bool) (telling : Option (Code A)) (stage : Stage) → within && is_some telling ≡ false → StandsAt node within telling stage
+    → site_in (Sound stage) ≡ Sound node
+sound_site node within None stage outside at = ap (λ s. site_in (Sound s)) at
+sound_site node true (Some code) stage outside at = absurd (cc)
+sound_site node false (Some code) stage outside (t, is, at) = ap (λ s. site_in (Sound s)) at
+
+-- they do
+pub unended : {A : Type 0} → (node : Node) (within : Bool) (telling : Option (Code A)) (stage : Stage) → within ≡ true → is_some telling ≡ true → StandsAt node within telling stage
+    → (t : Telling) × (stage ≡ InState t)
+unended node within None stage inside some at = absurd (cc)
+unended node false (Some code) stage inside some at = absurd (cc)
+unended node true (Some code) stage inside some (t, is, at) = (t, at)

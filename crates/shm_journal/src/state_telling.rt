@@ -1,5 +1,8 @@
 //! A state is told, line by line.
-ghost use Rattle.std.specs.Prelude.{◌<◌, IfOk};
+ghost use Rattle.std.specs.Prelude.{◌≡◌, ◌<◌, false, IfOk, Option, Some};
+ghost use Rattle.shm_state.specs.Part.{Part as ToldPart};
+ghost use Rattle.shm_state.specs.Told.{IsWhy};
+ghost use Rattle.shm_state.specs.declared.take_fault.TakeFault.{TakeFault as Wrong};
 ghost use Rattle.shm_state.specs.PartOf.{part_in};
 ghost use Rattle.shm_journal.specs.StageOf.{IsTelling, IsTold};
 ghost use Rattle.shm_journal.specs.Stages.{Telling as Said, telling_nothing, tells};
@@ -67,8 +70,24 @@ fn tell_part<A: Allocator + Copy>(
     let mut told = told;
     match told.take(part) {
         Ok(()) => Ok(Some(Onward::Further(Telling { told, mapped }))),
-        Err(TakeFault::OutOfMemory) => Err(AllocError),
-        Err(_) => Ok(None),
+        Err(fault) => {
+            if lacks_memory(fault) {
+                return Err(AllocError);
+            }
+            Ok(None)
+        }
+    }
+}
+
+/// Checks that memory was refused; else something is wrong with the part.
+fn lacks_memory(fault: TakeFault) -> bool
+    ensures { result ≡ false → (said_part : ToldPart) (found : Option Wrong) → IsWhy said_part fault found → found ≡ Some fault }
+{
+    match fault {
+        TakeFault::OutOfMemory => true,
+        TakeFault::OutOfOrder => false,
+        TakeFault::Twice => false,
+        TakeFault::Unfit => false,
     }
 }
 
