@@ -16,19 +16,8 @@ pub(crate) fn tell<A: Allocator + Copy>(
     ensures items { OnOk result (out.new.items ≡ out.old.items ++ part ∷ []) }
     ensures said { OnOk result (said_by out.new.items ≡ state_with (part_in part) (said_by out.old.items)) }
 {
-    put_behind(out, part)
-}
-
-fn put_behind<A: Allocator + Copy>(
-    parts: &mut Vec<Part<A>, A>,
-    part: Part<A>,
-) -> Result<(), AllocError>
-    ensures { OnOk result (parts.new.items ≡ parts.old.items ++ part ∷ []) }
-{
-    match parts.push(part) {
-        Ok(()) => Ok(()),
-        Err(_) => Err(AllocError),
-    }
+    out.push(part)?;
+    Ok(())
 }
 
 /// Tells a part that may stand behind others of its kind.

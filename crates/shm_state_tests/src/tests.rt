@@ -71,6 +71,14 @@ fn tell(alloc: Global, told: &mut Told, line: &str) -> Result<Result<(), TakeFau
     }
 }
 
+/// The site that is made of what was told.
+fn made_of(told: Told) -> Result<Site, AllocError> {
+    match told.into_site() {
+        Ok(site) => Ok(site),
+        Err(_) => Err(AllocError),
+    }
+}
+
 /// The site of which all parts were told.
 fn site_of_all(alloc: Global) -> Result<Site, AllocError> {
     let mut told = nothing(alloc)?;
@@ -79,10 +87,7 @@ fn site_of_all(alloc: Global) -> Result<Site, AllocError> {
             return Err(AllocError);
         }
     }
-    match told.into_site() {
-        Ok(site) => Ok(site),
-        Err(_) => Err(AllocError),
-    }
+    made_of(told)
 }
 
 #[test]
@@ -123,10 +128,7 @@ fn made_again(alloc: Global, site: &Site) -> Result<Site, AllocError> {
             return Err(AllocError);
         }
     }
-    match told.into_site() {
-        Ok(site) => Ok(site),
-        Err(_) => Err(AllocError),
-    }
+    made_of(told)
 }
 
 /// Checks that each of the parts is among the lines.
