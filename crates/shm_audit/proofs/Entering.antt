@@ -2,13 +2,12 @@
 use Rattle.std.proofs.Common.{◌≡◌, ℕ, ◌+◌, ◌==◌, ◌<◌, Bool, true, false, List, [], ◌∷◌, Option, Some, None, cond, refl, ap, sym, ◌∙◌, max, arith}
 use Rattle.std.specs.Prelude.{SomeIff, option_and_then, ◌^◌}
 use Rattle.std.proofs.lemmas.Bool.Decides.{nat_tests}
-use Rattle.shm_journal.specs.Replaying.{IsNext}
 use Rattle.shm_logs.specs.Boxes.Box.{Box, after, greatest_stamp}
 use Rattle.shm_logs.specs.declared.site_boxes.box_error.BoxFault.TheVariants as fault
 use Rattle.shm_process.specs.Cause.{Cause}
 use Rattle.shm_process.specs.Recorded.{Entry, entries_from}
 use Rattle.shm_process.proofs.ManySteps.{IsClock, clock_of, is_clock, later_clock}
-use Rattle.shm_audit.specs.Entered.{Handed, at_clock, box_after, box_after_all, box_handed, handed, unless_refused}
+use Rattle.shm_audit.specs.Entered.{Handed, IsEntered, at_clock, box_after, box_after_all, box_handed, handed, unless_refused}
 use Rattle.shm_site.specs.Step.{is_foreign}
 
 -- ---- no step has a clock above the greatest
@@ -44,11 +43,11 @@ step-first : (box : Box) (clock : ℕ) (left rest : List Cause) (cause : Cause) 
 unfolding entries_from
 step-first box clock left rest cause e = ap (leads box clock) e
 
-made-is : (o : Option Box) (next : Box) (made : Bool) → IsNext made o next → made ≡ true → o ≡ Some next
+made-is : (o : Option Box) (next : Box) (made : Bool) → IsEntered made o next → made ≡ true → o ≡ Some next
 made-is o next true is did = is
 made-is o next false is did = absurd (cc)
 
-not-made : (o : Option Box) (next : Box) (made : Bool) → IsNext made o next → made ≡ false → o ≡ None
+not-made : (o : Option Box) (next : Box) (made : Bool) → IsEntered made o next → made ≡ false → o ≡ None
 not-made o next true is failed = absurd (cc)
 not-made o next false is failed = is
 
@@ -59,7 +58,7 @@ later-is clock (Some later) more = omega (arith, more.0, more.1)
 -- a step is taken
 pub one_entered : (box next : Box) (now later : Option ℕ) (clock : ℕ) (left rest : List Cause) (cause : Cause) (made : Bool) (all : Option Box)
     → left ≡ cause ∷ rest → now ≡ Some clock → IsClock now → SomeIff later (clock + 1 < 2 ^ 64) (clock + 1)
-    → IsNext made (box_after box (step_at clock cause)) next → made ≡ true
+    → IsEntered made (box_after box (step_at clock cause)) next → made ≡ true
     → leads box (clock_of now) left ≡ all → IsClock later × (leads next (clock_of later) rest ≡ all)
 one_entered box next now later clock left rest cause made all e is within more tells did h = (
   later-is clock later more,
@@ -77,7 +76,7 @@ no-more box clock left rest cause all e none h =
     sym h ∙ step-first box clock left rest cause e ∙ ap (option_and_then (λ b. leads b (clock + 1) rest)) none
 
 pub none_entered : (box next : Box) (now : Option ℕ) (clock : ℕ) (left rest : List Cause) (cause : Cause) (made : Bool) (all : Option Box) → left ≡ cause ∷ rest
-    → now ≡ Some clock → IsNext made (box_after box (step_at clock cause)) next → made ≡ false → leads box (clock_of now) left ≡ all → all ≡ None
+    → now ≡ Some clock → IsEntered made (box_after box (step_at clock cause)) next → made ≡ false → leads box (clock_of now) left ≡ all → all ≡ None
 none_entered box next now clock left rest cause made all e is tells failed h =
     no-more box clock left rest cause all e (not-made (box_after box (step_at clock cause)) next made tells failed)
     (sym (ap (λ c. leads box (clock_of c) left) is) ∙ h)

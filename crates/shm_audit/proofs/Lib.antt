@@ -11,3 +11,5 @@ pub mod StoredBlocks
 pub mod Clocked
 pub mod Lived
 pub mod LivesFound
+pub mod StatesFound
+pub mod Cutting

@@ -1,5 +1,5 @@
 -- What each step of an entry of a journal hands to its site's box, and the box after all of them.
-use Rattle.std.specs.Prelude.{ℕ, List, [], ◌∷◌, Option, Some, None, ◌==◌, if◌then◌else◌, option_and_then, option_map}
+use Rattle.std.specs.Prelude.{◌≡◌, ℕ, Bool, true, false, List, [], ◌∷◌, Option, Some, None, ◌==◌, if◌then◌else◌, option_and_then, option_map}
 use Rattle.shm_model.specs.Log.{Stamp}
 use Rattle.shm_model.specs.Message.{Input, Deliver, Restart}
 use Rattle.shm_process.specs.Cause.{Cause, OfLine, OfRestart}
@@ -73,3 +73,8 @@ box_after_entry box entry = box_after_all box (steps_of entry)
 abbrev pub box_after_entries : Box → List Entry → Option Box
 box_after_entries box [] = Some box
 box_after_entries box (entry ∷ entries) = option_and_then (λ next. box_after_entries next entries) (box_after_entry box entry)
+
+-- they were taken, and led to this box; or they can't be
+abbrev pub IsEntered : Bool → Option Box → Box → Type 0
+IsEntered true after now = after ≡ Some now
+IsEntered false after now = after ≡ None

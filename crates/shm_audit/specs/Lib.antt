@@ -2,6 +2,7 @@ pub mod Faults
 pub mod Entered
 pub mod HandedOf
 pub mod Found
+pub mod ReadingOf
 pub mod Totals
 pub mod OneSet
 pub mod Missing

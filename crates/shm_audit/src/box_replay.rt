@@ -1,12 +1,12 @@
 //! The entries of a journal.
-ghost use Rattle.std.specs.Prelude.{Some, IfOk};
+ghost use Rattle.std.specs.Prelude.{◌≡◌, ◌==◌, ◌&&◌, Some, IfOk};
 ghost use Rattle.shm_journal.specs.EntryOf.{entry_of};
-ghost use Rattle.shm_journal.specs.Replaying.{IsNext};
 ghost use Rattle.shm_logs.specs.Boxes.SiteBox.{box_of};
 ghost use Rattle.shm_process.specs.CauseOf.{cause_of};
 ghost use Rattle.shm_process.specs.Recorded.{IsEntry, entries_from};
 ghost use Rattle.shm_process.specs.StepsOf.{steps_left};
-ghost use Rattle.shm_audit.specs.Entered.{box_after, box_after_all, box_after_entry, box_handed};
+ghost use Rattle.shm_audit.specs.Entered.{IsEntered, box_after, box_after_all, box_after_entry, box_handed};
+ghost use Rattle.shm_audit.specs.Found.{begins_as_state};
 ghost use Rattle.shm_audit.specs.HandedOf.{handed_of};
 
 use crate::box_replay_input::{Handed, handed_input};
@@ -19,26 +19,40 @@ use std::alloc::{AllocError, Allocator, Global};
 #[derive(Drop)]
 pub(crate) struct Audited<A: Allocator + Copy = Global> {
     pub(crate) site_box: SiteBox<A>,
+    /// Whether the journal begins with a state: then the box lacks all steps before.
+    pub(crate) begins_with_state: bool,
 }
 
 impl<A: Allocator + Copy> Replay<A> for Audited<A> {
-    ghost use Rattle.shm_logs.specs.Boxes.Box.{Box};
-    ghost use Rattle.shm_logs.specs.Boxes.SiteBox.{box_of};
-    ghost use Rattle.shm_audit.specs.Found.{entered};
+    ghost use Rattle.shm_audit.specs.Found.{Reading, next_reading};
+    ghost use Rattle.shm_audit.specs.ReadingOf.{Stands};
 
-    ghost State = { Box };
+    ghost State = { Reading };
 
-    ghost state = { λ site. box_of site.site_box };
+    ghost stands = { Stands };
 
-    ghost next = { entered };
+    ghost next = { next_reading };
 
     fn replay_line(&mut self, alloc: A, line: &[u8]) -> Result<bool, AllocError> {
+        if self.begins_with_state {
+            return Ok(true);
+        }
         match parse_entry(alloc, line) {
             Ok(Some(entry)) => enter(alloc, &mut self.site_box, entry),
-            Ok(None) => Ok(false),
+            Ok(None) => {
+                self.begins_with_state = begins_with_state(&self.site_box, line);
+                Ok(self.begins_with_state)
+            }
             Err(refused) => Err(refused),
         }
     }
+}
+
+/// Checks that a line, which is no entry, is one of a state that stands before each step.
+fn begins_with_state<A: Allocator + Copy>(site_box: &SiteBox<A>, line: &[u8]) -> bool
+    ensures { result ≡ (((box_of site_box.now).clock == 0) && begins_as_state line.now) }
+{
+    site_box.clock() == 0 && line.starts_with(b"state ".as_slice())
 }
 
 /// The box takes the steps that the entry records, if they can be its next ones.
@@ -48,7 +62,7 @@ fn enter<A: Allocator + Copy>(
     entry: Entry<A>,
 ) -> Result<bool, AllocError>
     requires { IsEntry (entry_of entry) }
-    ensures { IfOk result (λ made. IsNext made (box_after_entry (box_of site_box.old) (entry_of entry)) (box_of site_box.new)) }
+    ensures { IfOk result (λ made. IsEntered made (box_after_entry (box_of site_box.old) (entry_of entry)) (box_of site_box.new)) }
 {
     let Entry { clock, cause } = entry;
     let mut steps = Steps::of(alloc, cause);
@@ -61,7 +75,7 @@ fn enter_steps<A: Allocator + Copy>(
     first: u64,
     steps: &mut Steps<A>,
 ) -> Result<bool, AllocError>
-    ensures { IfOk result (λ made. IsNext made (box_after_all (box_of site_box.old) (entries_from first (steps_left steps.old))) (box_of site_box.new)) }
+    ensures { IfOk result (λ made. IsEntered made (box_after_all (box_of site_box.old) (entries_from first (steps_left steps.old))) (box_of site_box.new)) }
 {
     let mut next = Some(first);
     'steps: while let Some(cause) = steps.next() {
@@ -82,7 +96,7 @@ fn enter_step<A: Allocator + Copy>(
     clock: u64,
     cause: Cause<A>,
 ) -> Result<bool, AllocError>
-    ensures { IfOk result (λ made. IsNext made (box_after (box_of site_box.old) (record { clock = clock; cause = cause_of cause })) (box_of site_box.new)) }
+    ensures { IfOk result (λ made. IsEntered made (box_after (box_of site_box.old) (record { clock = clock; cause = cause_of cause })) (box_of site_box.new)) }
 {
     match handed_input(site_box.log().site(), cause) {
         Some(handed) => take(site_box, clock, handed),
@@ -96,7 +110,7 @@ fn take<A: Allocator + Copy>(
     clock: u64,
     handed: Handed<A>,
 ) -> Result<bool, AllocError>
-    ensures { IfOk result (λ made. IsNext made (box_handed clock (box_of site_box.old) (Some (handed_of handed))) (box_of site_box.new)) }
+    ensures { IfOk result (λ made. IsEntered made (box_handed clock (box_of site_box.old) (Some (handed_of handed))) (box_of site_box.new)) }
 {
     let Handed { input, source } = handed;
     match site_box.take(input, source) {

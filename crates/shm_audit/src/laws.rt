@@ -6,14 +6,15 @@ ghost use Rattle.shm_process.specs.WaitingAsks.{Writes, ask_in};
 ghost use Rattle.shm_process.specs.Waiting.{says_at};
 ghost use Rattle.shm_process.specs.Writes.{Write};
 ghost use Rattle.shm_model.specs.declared.answer.Answer.TheVariants.{Stored};
-ghost use Rattle.shm_journal.specs.Found.{Sound, max_journal_line, opened};
+ghost use Rattle.shm_journal.specs.Begun.{Beginning, BeginsWithState, IsBeginning};
+ghost use Rattle.shm_journal.specs.Found.{Partial, Sound, max_journal_line, opened};
 ghost use Rattle.shm_journal.specs.Lines.{Header, IsHeader};
 ghost use Rattle.shm_journal.specs.LinesOf.{Unended};
-ghost use Rattle.shm_journal.specs.Lives.{FindsLives, IsJournal, after_lives};
+ghost use Rattle.shm_journal.specs.Lives.{FindsLives, FindsLivesFrom, IsJournal, after_lives};
 ghost use Rattle.shm_journal.specs.Summed.{found_any};
 ghost use Rattle.shm_logs.specs.Boxes.Box.{new_box};
 ghost use Rattle.shm_audit.specs.Entered.{box_after_all, box_after_entries};
-ghost use Rattle.shm_audit.specs.Found.{in_limits};
+ghost use Rattle.shm_audit.specs.Found.{found, in_limits};
 ghost use Rattle.shm_audit.specs.Lived.{FindsLog};
 ghost use Rattle.shm_audit.specs.Loads.{IsLoadedBlock, made_by};
 ghost use Rattle.shm_audit.specs.Stores.{IsStoredBlock};
@@ -41,7 +42,8 @@ pub fn an_audit_finds_the_log_of_all_lives()
         → FindsLives header lives journal file → FindsLog header lives file }
 {}
 
-/// Who sums up any site's journal finds there the site after all its lives, as the site itself does. What is torn behind them changes nothing.
+/// Who sums up any site's journal finds there the site after all its lives, as the site itself does, also where the journal begins with a state.
+/// What is torn behind them changes nothing.
 pub fn a_summary_finds_the_site_after_all_lives()
     ensures whole { (header : Header) (lives : List (List Event)) (journal : List ℕ) → IsHeader header → in_limits header ≡ true
         → IsJournal header lives journal → found_any journal ≡ Sound (after_lives (opened header) lives) }
@@ -50,6 +52,15 @@ pub fn a_summary_finds_the_site_after_all_lives()
         → found_any (journal ++ torn) ≡ Sound (after_lives (opened header) lives) }
     ensures sound { (header : Header) (lives : List (List Event)) (journal file : List ℕ) → IsHeader header → in_limits header ≡ true
         → FindsLives header lives journal file → found_any file ≡ Sound (after_lives (opened header) lives) }
+    ensures from { (b : Beginning) (lives : List (List Event)) (journal file : List ℕ) → IsBeginning b → in_limits b.header ≡ true
+        → FindsLivesFrom b lives journal file → found_any file ≡ Sound (after_lives b.node lives) }
+{}
+
+/// A journal that begins with a state has no whole log, whatever lives follow: the steps before the state aren't there. An audit finds a part,
+/// in every file that the site itself finds sound.
+pub fn a_journal_that_begins_with_a_state_has_no_whole_log()
+    ensures { (b : Beginning) (lives : List (List Event)) (journal file : List ℕ) → IsBeginning b → BeginsWithState b → in_limits b.header ≡ true
+        → FindsLivesFrom b lives journal file → found file ≡ Partial }
 {}
 
 /// A block that a caller gets has exactly the bytes that were asked for, in order, from the ask's offset on, through its attachment. Each

@@ -1,5 +1,5 @@
 //! The first line of a journal.
-ghost use Rattle.std.specs.Prelude.{◌≡◌, ◌⊎◌, None, Some, IfErr, IfOk, option_map};
+ghost use Rattle.std.specs.Prelude.{◌≡◌, ◌⊎◌, false, None, Some, IfErr, IfOk, option_map};
 ghost use Rattle.shm_logs.specs.Boxes.SiteBox.{box_of};
 ghost use Rattle.shm_audit.specs.Found.{opened};
 ghost use Rattle.shm_journal.specs.declared.journal_error.JournalFault.TheVariants as fault;
@@ -16,6 +16,7 @@ pub(crate) fn open_site<A: Allocator + Copy>(
     line: &[u8],
 ) -> Result<Audited<A>, JournalFault>
     ensures ok { IfOk result (λ site. opened line.now ≡ Some (box_of site.site_box)) }
+    ensures fresh { IfOk result (λ site. site.begins_with_state ≡ false) }
     ensures err { IfErr result (λ f. (f ≡ fault.OutOfMemory) ⊎ ((f ≡ fault.BadLine 1) × (opened line.now ≡ None))) }
 {
     let Some(header) = parse_header(line) else {
@@ -28,7 +29,10 @@ pub(crate) fn open_site<A: Allocator + Copy>(
         return Err(JournalFault::BadLine(1));
     }
     match SiteBox::new(alloc, sites, SiteId(header.me), header.pages) {
-        Ok(site_box) => Ok(Audited { site_box }),
+        Ok(site_box) => Ok(Audited {
+            site_box,
+            begins_with_state: false,
+        }),
         Err(_) => Err(JournalFault::OutOfMemory),
     }
 }

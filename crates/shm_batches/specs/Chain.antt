@@ -64,7 +64,7 @@ begins_as_mark line = bytes_eq (codes "durable ") (take 8 line)
 
 -- a line that begins so may be a journal's
 abbrev pub begins_as_entry : List ℕ → Bool
-begins_as_entry line = bytes_eq (codes "step ") (take 5 line) || bytes_eq (codes "journal ") (take 8 line)
+begins_as_entry line = bytes_eq (codes "step ") (take 5 line) || bytes_eq (codes "state ") (take 6 line) || bytes_eq (codes "journal ") (take 8 line)
 
 unfoldable pub entries_from : List ℕ → List (List ℕ) → List ℕ
 entries_from text [] = text

@@ -181,7 +181,9 @@ fn line_feed(text: &[u8]) -> Option<usize>
 fn begins_as_entry(line: &[u8]) -> bool
     ensures { result ≡ spec.begins_as_entry line.now }
 {
-    line.starts_with(b"step ".as_slice()) || line.starts_with(b"journal ".as_slice())
+    line.starts_with(b"step ".as_slice())
+        || line.starts_with(b"state ".as_slice())
+        || line.starts_with(b"journal ".as_slice())
 }
 
 #[tactic(auto, unfolding(crate::specs::Chain::digest_end))]

@@ -42,17 +42,20 @@ letters n h = omega (arith, h)
 block-size : (offset count : ℕ) → is_block offset count ≡ true → count ≤ page_bytes
 block-size offset count h = grind (arith, nat_tests)
 
-pub fits_bytes : (offset : ℕ) (bytes : List ℕ) → IsBlock offset (length bytes) → Fits 5464 (bytes_word bytes)
-fits_bytes offset bytes block =
+pub fits_few_bytes : (bytes : List ℕ) → length bytes ≤ page_bytes → Fits 5464 (bytes_word bytes)
+fits_few_bytes bytes small =
     let symbols = encode_symbols standard.encode_table bytes in
     let padding = replicate (padding_len (length bytes)) 61 in
     let size : length symbols ≡ (4 * length bytes + 2) / 3 = length-encode_symbols standard.encode_table bytes in
     let rest : length padding ≡ padding_len (length bytes) = length-replicate (padding_len (length bytes)) 61 in
     let both : length (symbols ++ padding) ≡ length symbols + length padding = length-append symbols padding in
-    let few = letters (length bytes) (block-size offset (length bytes) block) in
+    let few = letters (length bytes) small in
     record {
       unended = All-append IsNoFeed symbols padding
           (unended-groups standard.encode_table bytes (symbol-is_no_feed standard.encode_table (unended_test standard.encode_table refl)))
           (All-replicate IsNoFeed (padding_len (length bytes)) 61 refl);
       short = omega (arith, size, rest, both, few);
     }
+
+pub fits_bytes : (offset : ℕ) (bytes : List ℕ) → IsBlock offset (length bytes) → Fits 5464 (bytes_word bytes)
+fits_bytes offset bytes block = fits_few_bytes bytes (block-size offset (length bytes) block)

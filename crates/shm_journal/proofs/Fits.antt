@@ -44,7 +44,7 @@ pub record Fits (most : ℕ) (bytes : List ℕ) : Type 0 where
 
 -- ---- texts one after another
 
-fits-both : (a b : ℕ) (xs ys : List ℕ) → Fits a xs → Fits b ys → Fits (a + b) (xs ++ ys)
+pub fits-both : (a b : ℕ) (xs ys : List ℕ) → Fits a xs → Fits b ys → Fits (a + b) (xs ++ ys)
 fits-both a b xs ys f g = record {
   unended = All-append IsNoFeed xs ys f.unended g.unended;
   short = omega (arith, length-append xs ys, f.short, g.short);
@@ -83,7 +83,7 @@ own = numerals_by_value (λ ds. list_all is_ascii_digit ds ≡ true) (search rul
 digit-is_no_feed : (c : ℕ) → IsInRange 48 57 c → (c == 10) ≡ false
 digit-is_no_feed c r = grind (arith, nat_tests)
 
-fits-wide : (n : ℕ) → IsWide n → Fits 20 (decimal n)
+pub fits-wide : (n : ℕ) → IsWide n → Fits 20 (decimal n)
 fits-wide n h = record {
   unended = All-from_get_or IsNoFeed (decimal n) 0 (λ i lt. digit-is_no_feed (get_or (decimal n) i 0) (digit_at (decimal n) i (digits_decimal own n h) lt));
   short = length-decimal-le 20 n (omega arith) (omega arith) h;

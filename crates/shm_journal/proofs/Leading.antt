@@ -17,13 +17,14 @@ use Rattle.shm_journal.specs.declared.journal_error.JournalFault.TheVariants as 
 
 -- ---- one step
 
-pub next_some : {T : Type 0} → (made : Bool) (after : Option T) (now : T) → made ≡ true → IsNext made after now → after ≡ Some now
-next_some true after now e h = h
-next_some false after now e h = absurd (cc)
+pub next_some : {T : Type 0} → (made : Bool) (after : Option T) (stands : T → Type 0) → made ≡ true → IsNext made after stands
+    → (state : T) × (after ≡ Some state) × stands state
+next_some true after stands e h = h
+next_some false after stands e h = absurd (cc)
 
-pub next_none : {T : Type 0} → (made : Bool) (after : Option T) (now : T) → made ≡ false → IsNext made after now → after ≡ None
-next_none true after now e h = absurd (cc)
-next_none false after now e h = h
+pub next_none : {T : Type 0} → (made : Bool) (after : Option T) (stands : T → Type 0) → made ≡ false → IsNext made after stands → after ≡ None
+next_none true after stands e h = absurd (cc)
+next_none false after stands e h = h
 
 -- ---- whole lines
 
@@ -218,6 +219,8 @@ other-fault : {T : Type 0} → (says : List ℕ → Found T) (before now : Optio
 other-fault says before now fault.OutOfMemory other h = h
 other-fault says before now fault.ReadFault other h = h
 other-fault says before now (fault.BadLine number) other h = absurd other
+other-fault says before now fault.UnendedState other h = absurd other
+other-fault says before now fault.BeginsWithState other h = absurd other
 
 pub broken : {T : Type 0} → (next : T → List ℕ → Option T) (says : List ℕ → Found T) (before left now : Option (List ℕ)) (number : ℕ) (state : T) (whole : ℕ) (why : JournalFault)
     → Leads next says before left number state whole → BreaksOff left now why → ReadsToLine says before now why
@@ -263,6 +266,8 @@ pub joined_fault : {T : Type 0} → (next : T → List ℕ → Option T) (says :
 joined_fault next says before left now state whole fault.OutOfMemory l h = joined-break next says before left now state whole l h
 joined_fault next says before left now state whole fault.ReadFault l h = joined-break next says before left now state whole l h
 joined_fault next says before left now state whole (fault.BadLine number) l h = joined-stop next says before left now state whole (Bad number) l h
+joined_fault next says before left now state whole fault.UnendedState l h = absurd h
+joined_fault next says before left now state whole fault.BeginsWithState l h = absurd h
 
 pub joined_whole : {T : Type 0} → (next : T → List ℕ → Option T) (says : List ℕ → Found T) (before left now : Option (List ℕ)) (state after : T) (whole more : ℕ)
     → Leads next says before left 2 state whole → ReadsWhole (λ rest. found_behind next 2 state rest) left now after more → ReadsWhole says before now after (whole + more)

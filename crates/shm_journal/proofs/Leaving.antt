@@ -14,21 +14,24 @@ use Rattle.shm_process.specs.declared.process_counts.Start.{Start}
 use Rattle.shm_process.specs.Node.{Node, is_late}
 use Rattle.shm_process.specs.Recorded.{Event, after_events}
 use Rattle.shm_seal.specs.Seal.{Seal}
+use Rattle.shm_journal.proofs.Beginnings.{Begins, begins, begins_anew}
 use Rattle.shm_journal.proofs.CrashLemmas.{head-of, kept-disk, published-disk, tail-of}
 use Rattle.shm_journal.proofs.DeskLives.{KeepsTaken, Took, keeps_none, line_bytes, line_restart, took_bytes, took_life, took_restart}
 use Rattle.shm_journal.proofs.EntriesFit.{lives_sound, opened_sound}
 use Rattle.shm_journal.proofs.Fits.{Fits, IsNoFeed, fits-header}
 use Rattle.shm_journal.proofs.Leading.{alone-says, line_is_torn}
-use Rattle.shm_journal.proofs.Lives.{Cut, cut_life, finds_lives, finds_whole, journal_last, life_begins, life_both}
+use Rattle.shm_journal.proofs.Lives.{Cut, cut_life, finds_lives_from, finds_whole, journal_last, life_begins, life_both}
+use Rattle.shm_journal.specs.Begun.{Beginning, IsBeginning, anew}
 use Rattle.shm_journal.specs.Acts.{Act, Append, IsRun, Read, Tell, keeping, publishing, run, serving, telling}
 use Rattle.shm_journal.specs.Crash.{Disk, MayLeave, after_act, after_acts, disk_of}
 use Rattle.shm_journal.specs.DeskFrom.{greeting_from, with_header}
-use Rattle.shm_journal.specs.Found.{Bad, Lines, Sound, bytes_of_lines, max_journal_line, opened, own}
+use Rattle.shm_journal.specs.Found.{Bad, Lines, Sound, bytes_of_lines, max_journal_line, opened, own, site_in}
 use Rattle.shm_journal.specs.Lines.{Header, IsHeader, header_line}
 use Rattle.shm_journal.specs.LinesOf.{Unended}
 use Rattle.shm_journal.specs.declared.process_error.ProcessFault.{ProcessFault}
 use Rattle.shm_journal.specs.declared.process_error.ProcessFault.TheVariants.{JournalFault, OutOfMemory, ReadFault, TooOld, WriteFault}
-use Rattle.shm_journal.specs.Lives.{FindsLives, IsJournal, IsLife, IsTaken, LeavesFront, LeavesLife, LeavesNewSound, LeavesSound, after_lives, header_text}
+use Rattle.shm_journal.specs.Lives.{FindsLivesFrom, IsJournal, IsJournalFrom, IsLife, IsTaken, LeavesFront, LeavesLife, LeavesLifeFrom, LeavesNewSound, LeavesSound, LeavesSoundFrom, after_lives, header_text}
+use Rattle.shm_journal.specs.Stages.{begun}
 
 -- ---- at each moment
 
@@ -233,45 +236,51 @@ at-run reads header seal node start file first sound t unended =
 
 -- ---- what is left
 
-left-life : (header : Header) (lives : List (List Event)) (journal : List ℕ) (disk : Disk) (left : List ℕ) → IsHeader header → IsJournal header lives journal
-    → OnDisk (after_lives (opened header) lives) journal disk → MayLeave disk left → LeavesLife header lives disk.durable left
-left-life header lives journal disk left is are on may =
-    let node = after_lives (opened header) lives in
+left-life : (b : Beginning) (lives : List (List Event)) (journal : List ℕ) (disk : Disk) (left : List ℕ) → Begins b → IsJournalFrom b lives journal
+    → OnDisk (after_lives b.node lives) journal disk → MayLeave disk left → LeavesLifeFrom b lives disk.durable left
+left-life b lives journal disk left begins are on may =
+    let node = after_lives b.node lives in
     let cut : Cut (after_events node on.life) on.next (take may.0 disk.loose) = cut_life (after_events node on.life) on.next disk.loose may.0 on.next_taken on.later in
     let both = life_both node on.life cut.front on.text cut.whole on.is cut.is in
     let grown : disk.durable ++ cut.whole ≡ journal ++ (on.text ++ cut.whole) = ap (λ d. d ++ cut.whole) on.durable ∙ append_assoc journal on.text cut.whole in
-    let found_journal : IsJournal header (lives ++ (on.life ++ cut.front) ∷ []) (disk.durable ++ cut.whole) =
-    subst (IsJournal header (lives ++ (on.life ++ cut.front) ∷ [])) (sym grown)
-    (journal_last header lives (on.life ++ cut.front) journal (on.text ++ cut.whole) are both) in
+    let found_journal : IsJournalFrom b (lives ++ (on.life ++ cut.front) ∷ []) (disk.durable ++ cut.whole) =
+    subst (IsJournalFrom b (lives ++ (on.life ++ cut.front) ∷ [])) (sym grown)
+    (journal_last b lives (on.life ++ cut.front) journal (on.text ++ cut.whole) are both) in
     let text : left ≡ (disk.durable ++ cut.whole) ++ cut.torn =
     may.1 ∙ ap (λ t. disk.durable ++ t) cut.text ∙ sym (append_assoc disk.durable cut.whole cut.torn) in
     record {
       life = on.life;
       more = cut.front;
       taken = All-append IsTaken on.life cut.front on.life_taken cut.taken;
-      kept = subst (IsJournal header (lives ++ on.life ∷ [])) (sym on.durable) (journal_last header lives on.life journal on.text are on.is);
+      kept = subst (IsJournalFrom b (lives ++ on.life ∷ [])) (sym on.durable) (journal_last b lives on.life journal on.text are on.is);
       behind = cut.whole;
-      finds = subst (FindsLives header (lives ++ (on.life ++ cut.front) ∷ []) (disk.durable ++ cut.whole)) (sym text)
-          (finds_lives header (lives ++ (on.life ++ cut.front) ∷ []) (disk.durable ++ cut.whole) cut.torn is found_journal cut.fits);
+      finds = subst (FindsLivesFrom b (lives ++ (on.life ++ cut.front) ∷ []) (disk.durable ++ cut.whole)) (sym text)
+          (finds_lives_from b (lives ++ (on.life ++ cut.front) ∷ []) (disk.durable ++ cut.whole) cut.torn begins found_journal cut.fits);
     }
 
-pub leaves_sound : (header : Header) (lives : List (List Event)) (journal : List ℕ) → IsHeader header → IsJournal header lives journal
-    → is_late (after_lives (opened header) lives) 0 ≡ false → LeavesSound header lives journal
-leaves_sound header lives journal is are early seal start result acts before after left ran e may =
-    let node = after_lives (opened header) lives in
-    let sound = lives_sound lives (opened header) (opened_sound header) in
-    let P = Leaves (LeavesLife header lives) in
+pub leaves_sound_from : (b : Beginning) (lives : List (List Event)) (journal : List ℕ) → IsBeginning b → IsJournalFrom b lives journal
+    → is_late (after_lives b.node lives) 0 ≡ false → LeavesSoundFrom b lives journal
+leaves_sound_from b lives journal is are early seal start result acts before after left ran e may =
+    let first = begins b is in
+    let node = after_lives b.node lives in
+    let sound = lives_sound lives b.node first.sound in
+    let P = Leaves (LeavesLifeFrom b lives) in
+    let desk = restarted (greeting_from b.header seal node start) in
     at-front P before (disk_of journal) acts after e
     (
-    at-acts (LeavesLife header lives) (restarted (greeting_from header seal node start)) (disk_of journal)
+    at-acts (LeavesLifeFrom b lives) desk (disk_of journal)
     (λ reads.
-    at-weaker (OnDisk node journal) P (run (restarted (greeting_from header seal node start)) reads) (disk_of journal)
-    (λ disk on left may. left-life header lives journal disk left is are on may)
-    (at-run reads header seal node start journal (restarted (greeting_from header seal node start)) sound (took_restart header seal node start early)
-    (line_restart header seal node start)))
+    at-weaker (OnDisk node journal) P (run desk reads) (disk_of journal)
+    (λ disk on left may. left-life b lives journal disk left first are on may)
+    (at-run reads b.header seal node start journal desk sound (took_restart b.header seal node start early)
+    (line_restart b.header seal node start)))
     result acts ran
     )
     left may
+
+pub leaves_sound : (header : Header) (lives : List (List Event)) (journal : List ℕ) → IsHeader header → IsJournal header lives journal
+    → is_late (after_lives (opened header) lives) 0 ≡ false → LeavesSound header lives journal
+leaves_sound header lives journal is are early = leaves_sound_from (anew header) lives journal (is, inl refl) are early
 
 -- ---- a journal that is begun
 
@@ -313,11 +322,11 @@ at-new reads seal header start =
     )
 
 -- a front of the header says that nothing has happened
-front-alone : (header : Header) (n : ℕ) → n ≤ length (header_line header) → (own header).alone (take n (header_line header)) ≡ Sound (opened header)
+front-alone : (header : Header) (n : ℕ) → n ≤ length (header_line header) → (own header).alone (take n (header_line header)) ≡ Sound (begun header)
 front-alone header n h =
     let line = header_line header in
     let same : take (length (take n line)) line ≡ take n line = ap (λ k. take k line) (length-take-le n line h) in
-    ap (λ b. cond b (Sound (opened header)) (Bad 1)) ((bytes_eq-Decides (take n line) (take (length (take n line)) line)).1 (sym same))
+    ap (λ b. cond b (Sound (begun header)) (Bad 1)) ((bytes_eq-Decides (take n line) (take (length (take n line)) line)).1 (sym same))
 
 front-fits : (n : ℕ) (line : List ℕ) → Fits max_journal_line line → n ≤ length line → Fits max_journal_line (take n line)
 front-fits n line fits h = record {
@@ -330,7 +339,7 @@ front-left header n is h =
     let fits = front-fits n (header_line header) (fits-header header is) h in
     record {
       none = refl;
-      finds = alone-says (own header) (take n (header_line header)) fits.unended fits.short ∙ front-alone header n h;
+      finds = ap site_in (alone-says (own header) (take n (header_line header)) fits.unended fits.short ∙ front-alone header n h);
       whole = inl (ap (λ (l : Lines). bytes_of_lines l.whole) (line_is_torn (take n (header_line header)) fits.unended));
     }
 
@@ -371,7 +380,7 @@ left-new header disk left is (inl blank) may =
     (subst (LeavesFront header []) (sym text) (loose-left header may.0 disk.loose is blank.loose))
     )
 left-new header disk left is (inr on) may =
-    inr (left-life header [] (header_text header) disk left is (alone header) on may)
+    inr (left-life (anew header) [] (header_text header) disk left (begins_anew header is) (alone header) on may)
 
 pub leaves_new_sound : (header : Header) → IsHeader header → LeavesNewSound header
 leaves_new_sound header is seal start result acts before after left ran e may =

@@ -1,12 +1,11 @@
 -- What a site's journal leads to, through the entries of its lives, and where it is cut.
 use Rattle.std.proofs.Common.{◌≡◌, ◌≤◌, ◌<◌, ◌⊎◌, inl, inr, ℕ, suc, ◌+◌, ◌-◌, ◌==◌, false, List, [], ◌∷◌, ◌++◌, Option, Some, None, cond, drop, length, take, refl, sym, ap, subst, ◌∙◌, append-nil, append_assoc, arith}
 use Rattle.std.specs.List.{All}
-use Rattle.std.specs.Prelude.{option_and_then}
+use Rattle.std.specs.Prelude.{option_and_then, option_map}
 use Rattle.std.proofs.lemmas.Bool.{cases_lt}
 use Rattle.std.proofs.lemmas.List.{length-append, length-take, take-append-drop, take-append-le}
 use Rattle.std.proofs.Math.Seq.{take-append-add, take-append_seam, take-nil}
 use Rattle.std.proofs.lemmas.List.Elements.{All-append, All-nil, All-take}
-use Rattle.std.proofs.lemmas.Slice.Eq.{bytes_eq-Decides}
 use Rattle.shm_lines.proofs.StepLemmas.{some-is, step}
 use Rattle.shm_process.proofs.Events.{entries-both, steps_both, text-both}
 use Rattle.shm_process.proofs.FirstEvents.{first_events}
@@ -15,23 +14,31 @@ use Rattle.shm_process.specs.Node.{Node}
 use Rattle.shm_process.specs.Recorded as process
 use Rattle.shm_process.specs.Recorded.{Entry, Event, IsEntry, after_events, all_steps, entries_of, entries_text, entry_line, kept, replayed_all, steps_of}
 use Rattle.shm_process.specs.Waiting.{replayed}
+use Rattle.shm_journal.proofs.Beginnings.{Begins, IsAt, at-site, begins, begins_anew}
 use Rattle.shm_journal.proofs.EntriesFit.{AreFit, IsFit, entries_fit}
 use Rattle.shm_journal.proofs.EntryWords.{entry-is_read}
-use Rattle.shm_journal.proofs.Fits.{Fits, fits-header}
-use Rattle.shm_journal.proofs.Leading.{counts-line, ended-says, line_is_torn, one-first, one_line}
-use Rattle.shm_journal.specs.Found.{Lines, Sound, bytes_of_lines, found, found_behind, lines_of, max_journal_line, next_found, not_own, opened, own, replayed_entry, replayed_line, then_found}
-use Rattle.shm_journal.specs.Lines.{Header, IsHeader, header_line, read_header}
+use Rattle.shm_journal.proofs.Fits.{Fits}
+use Rattle.shm_journal.proofs.Leading.{counts-line, ended-says, line_is_torn, one_line}
+use Rattle.shm_journal.specs.Begun.{Beginning, IsBeginning, IsKeptSite, KeptSite, anew, from_state, header_text, state_text}
+use Rattle.shm_journal.specs.Found.{Lines, Sound, bytes_of_lines, found, found_behind, lines_of, max_journal_line, next_found, site_in}
+use Rattle.shm_journal.specs.Lines.{Header, IsHeader}
 use Rattle.shm_journal.specs.LinesOf.{Unended}
-use Rattle.shm_journal.specs.Lives.{FindsLives, IsJournal, IsLife, IsLives, IsOfTaken, IsTaken, after_lives, header_text}
+use Rattle.shm_journal.specs.Lives.{FindsLives, FindsLivesFrom, IsJournal, IsJournalFrom, IsLife, IsLives, IsOfTaken, IsTaken, after_lives}
+use Rattle.shm_journal.specs.Stages.{Stage, Opened, InState, Open, first_taken, next_stage, replayed_entry}
 
 -- ---- the entries of one life
 
 shape : (line rest more : List ℕ) → (line ++ 10 ∷ rest) ++ more ≡ (line ++ 10 ∷ []) ++ (rest ++ more)
 shape line rest more = append_assoc line (10 ∷ rest) more ∙ sym (append_assoc line (10 ∷ []) (rest ++ more))
 
-entry-leads : (node next : Node) (entry : Entry) → IsFit entry → process.replayed_entry node entry ≡ Some next → replayed_line node (entry_line entry) ≡ Some next
+entry-leads : (stage : Stage) (node next : Node) (entry : Entry) → IsAt stage node → IsFit entry → process.replayed_entry node entry ≡ Some next
+    → next_stage stage (entry_line entry) ≡ Some (Open next)
 unfolding replayed_entry
-entry-leads node next entry fit made = ap (replayed_entry node) (entry-is_read entry fit.0) ∙ made
+entry-leads (Opened first telling) node next entry at fit made =
+    ap (first_taken first telling (entry_line entry)) (entry-is_read entry fit.0) ∙ ap (option_map Open) (ap (λ n. process.replayed_entry n entry) at ∙ made)
+entry-leads (InState telling) node next entry at fit made = absurd at
+entry-leads (Open first) node next entry at fit made =
+    ap (option_map Open) (ap (replayed_entry first) (entry-is_read entry fit.0) ∙ ap (λ n. process.replayed_entry n entry) at ∙ made)
 
 -- steps that were recorded, and others behind them
 behind-step : (o : Option Node) (xs ys : List Entry)
@@ -44,68 +51,73 @@ replayed-both : (xs ys : List Entry) (node : Node) → replayed_all node (xs ++ 
 replayed-both [] ys node = refl
 replayed-both (x ∷ xs) ys node = behind-step (replayed node x.clock x.cause) xs ys (λ n. replayed-both xs ys n)
 
--- they lead from the first node to the last, and on from there, at a further line's number
-abbrev LeadsOn : ℕ → Node → Node → List ℕ → List ℕ → Type 0
-LeadsOn number node final bytes more =
-    (later : ℕ) × (found_behind replayed_line number node (bytes ++ more) ≡ found_behind replayed_line later final more)
+-- they lead from where the first node stands to where the last does, and on from there, at a further line's number
+record LeadsOn (number : ℕ) (stage : Stage) (final : Node) (bytes more : List ℕ) : Type 0 where
+  pub later : ℕ
+  pub after : Stage
+  pub at : IsAt after final
+  pub onward : found_behind next_stage number stage (bytes ++ more) ≡ found_behind next_stage later after more
 
-entries-lead : (entries : List Entry) (number : ℕ) (node final : Node) (more : List ℕ) → AreFit entries → replayed_all node (all_steps entries) ≡ Some final
-    → LeadsOn number node final (entries_text entries) more
-entries-lead [] number node final more fit made = (number, ap (λ n. found_behind replayed_line number n more) (some-is node final made))
-entries-lead (entry ∷ entries) number node final more fit made =
+no-more : (number : ℕ) (stage : Stage) (node final : Node) (more : List ℕ) → IsAt stage node → node ≡ final → LeadsOn number stage final [] more
+no-more number stage node final more at same = record { later = number; after = stage; at = subst (IsAt stage) same at; onward = refl }
+
+entries-lead : (entries : List Entry) (number : ℕ) (stage : Stage) (node final : Node) (more : List ℕ) → IsAt stage node → AreFit entries
+    → replayed_all node (all_steps entries) ≡ Some final → LeadsOn number stage final (entries_text entries) more
+entries-lead [] number stage node final more at fit made = no-more number stage node final more at (some-is node final made)
+entries-lead (entry ∷ entries) number stage node final more at fit made =
     let steps = sym (replayed-both (steps_of entry) (all_steps entries) node) ∙ made in
     let s = step (process.replayed_entry node entry) (λ next. replayed_all next (all_steps entries)) final steps in
     let line = entry_line entry in
     let rest = entries_text entries in
-    let later = entries-lead entries (number + 1) s.value final more fit.1 s.gives in (
-      later.0,
-      ap (found_behind replayed_line number node) (shape line rest more)
-          ∙ one_line replayed_line number node line (rest ++ more) fit.0.1.unended fit.0.1.short
-          ∙ ap (λ o. next_found number o (λ after. found_behind replayed_line (number + 1) after (rest ++ more))) (entry-leads node s.value entry fit.0 s.gave)
-          ∙ later.1,
-    )
+    let on = entries-lead entries (number + 1) (Open s.value) s.value final more refl fit.1 s.gives in record {
+      later = on.later;
+      after = on.after;
+      at = on.at;
+      onward =
+          ap (found_behind next_stage number stage) (shape line rest more)
+          ∙ one_line next_stage number stage line (rest ++ more) fit.0.1.unended fit.0.1.short
+          ∙ ap (λ o. next_found number o (λ after. found_behind next_stage (number + 1) after (rest ++ more))) (entry-leads stage node s.value entry at fit.0 s.gave)
+          ∙ on.onward;
+    }
 
 -- ---- all lives
 
-life-leads : (life : List Event) (text : List ℕ) (number : ℕ) (node : Node) (more : List ℕ) → kept node ≡ node → IsLife node life text
-    → LeadsOn number node (kept (after_events node life)) text more
-life-leads life text number node more same is =
+life-leads : (life : List Event) (text : List ℕ) (number : ℕ) (stage : Stage) (node : Node) (more : List ℕ) → kept node ≡ node → IsAt stage node → IsLife node life text
+    → LeadsOn number stage (kept (after_events node life)) text more
+life-leads life text number stage node more same at is =
     let next = kept (after_events node life) in
     let steps = ap (replayed_all node) is.steps ∙ ap (λ n. replayed_all n (entries_of node life)) (sym same) ∙ replays node life in
-    let led = entries-lead is.entries number node next more (entries_fit is.entries is.are is.taken) steps in
-    (led.0, ap (λ t. found_behind replayed_line number node (t ++ more)) is.is ∙ led.1)
+    let led = entries-lead is.entries number stage node next more at (entries_fit is.entries is.are is.taken) steps in
+    subst (λ t. LeadsOn number stage next t more) (sym is.is) led
 
-lives-lead : (lives : List (List Event)) (text : List ℕ) (number : ℕ) (node : Node) (more : List ℕ) → kept node ≡ node → IsLives node lives text
-    → LeadsOn number node (after_lives node lives) text more
-lives-lead [] text number node more same is = (number, ap (λ t. found_behind replayed_line number node (t ++ more)) is)
-lives-lead (life ∷ lives) text number node more same is =
+lives-lead : (lives : List (List Event)) (text : List ℕ) (number : ℕ) (stage : Stage) (node : Node) (more : List ℕ) → kept node ≡ node → IsAt stage node
+    → IsLives node lives text → LeadsOn number stage (after_lives node lives) text more
+lives-lead [] text number stage node more same at is =
+    subst (λ t. LeadsOn number stage node t more) (sym is) (no-more number stage node node more at refl)
+lives-lead (life ∷ lives) text number stage node more same at is =
     let next = kept (after_events node life) in
-    let first = life-leads life is.0 number node (is.1 ++ more) same is.3 in
-    let others = lives-lead lives is.1 first.0 next more refl is.4 in (
-      others.0,
-      ap (λ t. found_behind replayed_line number node (t ++ more)) is.2 ∙ ap (found_behind replayed_line number node) (append_assoc is.0 is.1 more)
-          ∙ first.1 ∙ others.1,
-    )
+    let first = life-leads life is.0 number stage node (is.1 ++ more) same at is.3 in
+    let others = lives-lead lives is.1 first.later first.after next more refl first.at is.4 in record {
+      later = others.later;
+      after = others.after;
+      at = others.at;
+      onward =
+          ap (λ t. found_behind next_stage number stage (t ++ more)) is.2 ∙ ap (found_behind next_stage number stage) (append_assoc is.0 is.1 more)
+          ∙ first.onward ∙ others.onward;
+    }
 
-own-header : (header : Header) → (own header).first (header_line header) ≡ Sound (opened header)
-own-header header =
-    ap (λ b. cond b (Sound (opened header)) (not_own (read_header (header_line header))))
-    ((bytes_eq-Decides (header_line header) (header_line header)).1 refl)
+-- what it begins with, what stands behind that, and what is torn
+with-torn : (first journal rest torn : List ℕ) → journal ≡ first ++ rest → journal ++ torn ≡ first ++ (rest ++ torn)
+with-torn first journal rest torn e = ap (λ t. t ++ torn) e ∙ append_assoc first rest torn
 
--- the header, what stands behind it, and what is torn
-with-torn : (header : Header) (journal rest torn : List ℕ) → journal ≡ header_text header ++ rest → journal ++ torn ≡ header_text header ++ (rest ++ torn)
-with-torn header journal rest torn e = ap (λ t. t ++ torn) e ∙ append_assoc (header_text header) rest torn
-
-journal-found : (header : Header) (lives : List (List Event)) (journal torn : List ℕ) → IsHeader header → IsJournal header lives journal → Fits max_journal_line torn
-    → found header (journal ++ torn) ≡ Sound (after_lives (opened header) lives)
-journal-found header lives journal torn is are fits =
+journal-found : (b : Beginning) (lives : List (List Event)) (journal torn : List ℕ) → Begins b → IsJournalFrom b lives journal → Fits max_journal_line torn
+    → found b.header (journal ++ torn) ≡ Sound (after_lives b.node lives)
+journal-found b lives journal torn begins are fits =
     let text = are.0 in
-    let line = fits-header header is in
-    let on = lives-lead lives text 2 (opened header) torn refl are.2 in
-    ap (found header) (with-torn header journal text torn are.1)
-    ∙ one-first (own header) (header_line header) (text ++ torn) line.unended line.short
-    ∙ ap (λ f. then_found f (λ state. found_behind replayed_line 2 state (text ++ torn))) (own-header header)
-    ∙ on.1 ∙ ended-says replayed_line on.0 (after_lives (opened header) lives) torn fits.unended fits.short
+    let on = lives-lead lives text begins.number begins.stage b.node torn begins.same begins.at are.2 in
+    ap (found b.header) (with-torn b.text journal text torn are.1)
+    ∙ ap site_in (begins.onward (text ++ torn) ∙ on.onward ∙ ended-says next_stage on.later on.after torn fits.unended fits.short)
+    ∙ at-site on.after (after_lives b.node lives) on.at
 
 -- ---- how many bytes are whole
 
@@ -141,39 +153,53 @@ lives-counted (life ∷ lives) text node more is =
     ∙ ap (λ n. length is.0 + n) (lives-counted lives is.1 (kept (after_events node life)) more is.4)
     ∙ with-text is.0 is.1 (counted more) ∙ ap (λ (t : List ℕ). length t + counted more) (sym is.2)
 
-with-header : (line text : List ℕ) → length line + 1 + (length text + 0) ≡ length ((line ++ 10 ∷ []) ++ text)
-with-header line text = omega (arith, length-append (line ++ 10 ∷ []) text, length-append line (10 ∷ []))
+with-first : (first text : List ℕ) → length first + (length text + 0) ≡ length (first ++ text)
+with-first first text = omega (arith, length-append first text)
 
-journal-counted : (header : Header) (lives : List (List Event)) (journal torn : List ℕ) → IsHeader header → IsJournal header lives journal → Unended torn
+journal-counted : (b : Beginning) (lives : List (List Event)) (journal torn : List ℕ) → Begins b → IsJournalFrom b lives journal → Unended torn
     → counted (journal ++ torn) ≡ length journal
-journal-counted header lives journal torn is are unended =
-    let line = header_line header in
+journal-counted b lives journal torn begins are unended =
     let text = are.0 in
     let none : counted torn ≡ 0 = ap (λ (l : Lines). bytes_of_lines l.whole) (line_is_torn torn unended) in
-    ap counted (with-torn header journal text torn are.1) ∙ counts-line line (text ++ torn) (fits-header header is).unended
-    ∙ ap (λ n. length line + 1 + n) (lives-counted lives text (opened header) torn are.2 ∙ ap (λ n. length text + n) none)
-    ∙ with-header line text ∙ ap (λ (t : List ℕ). length t) (sym are.1)
+    ap counted (with-torn b.text journal text torn are.1) ∙ begins.counted (text ++ torn)
+    ∙ ap (λ n. length b.text + n) (lives-counted lives text b.node torn are.2 ∙ ap (λ n. length text + n) none)
+    ∙ with-first b.text text ∙ ap (λ (t : List ℕ). length t) (sym are.1)
 
-pub finds_lives : (header : Header) (lives : List (List Event)) (journal torn : List ℕ) → IsHeader header → IsJournal header lives journal → Fits max_journal_line torn
-    → FindsLives header lives journal (journal ++ torn)
-finds_lives header lives journal torn is are fits = record {
+pub finds_lives_from : (b : Beginning) (lives : List (List Event)) (journal torn : List ℕ) → Begins b → IsJournalFrom b lives journal → Fits max_journal_line torn
+    → FindsLivesFrom b lives journal (journal ++ torn)
+finds_lives_from b lives journal torn begins are fits = record {
   is = are;
   torn = torn;
   text = refl;
   unended = fits.unended;
-  sound = journal-found header lives journal torn is are fits;
+  sound = journal-found b lives journal torn begins are fits;
   whole =
-      ap (λ n. take n (journal ++ torn)) (journal-counted header lives journal torn is are fits.unended) ∙ take-append_seam journal torn;
+      ap (λ n. take n (journal ++ torn)) (journal-counted b lives journal torn begins are fits.unended) ∙ take-append_seam journal torn;
 }
+
+pub finds_lives : (header : Header) (lives : List (List Event)) (journal torn : List ℕ) → IsHeader header → IsJournal header lives journal → Fits max_journal_line torn
+    → FindsLives header lives journal (journal ++ torn)
+finds_lives header lives journal torn is are fits = finds_lives_from (anew header) lives journal torn (begins_anew header is) are fits
 
 -- ---- a journal that is whole
 
 nothing-torn : Fits max_journal_line []
 nothing-torn = record { unended = All-nil (λ byte. (byte == 10) ≡ false); short = omega arith }
 
+pub finds_whole_from : (b : Beginning) (lives : List (List Event)) (journal : List ℕ) → IsBeginning b → IsJournalFrom b lives journal → FindsLivesFrom b lives journal journal
+finds_whole_from b lives journal is are =
+    subst (FindsLivesFrom b lives journal) (append-nil journal) (finds_lives_from b lives journal [] (begins b is) are nothing-torn)
+
 pub finds_whole : (header : Header) (lives : List (List Event)) (journal : List ℕ) → IsHeader header → IsJournal header lives journal → FindsLives header lives journal journal
-finds_whole header lives journal is are =
-    subst (FindsLives header lives journal) (append-nil journal) (finds_lives header lives journal [] is are nothing-torn)
+finds_whole header lives journal is are = finds_whole_from (anew header) lives journal (is, inl refl) are
+
+-- a state alone is a journal of no life
+pub state_found : (header : Header) (site : KeptSite) (node : Node) → IsHeader header → IsKeptSite header site node
+    → found header (header_text header ++ state_text site) ≡ Sound node
+state_found header site node is kept =
+    let b = from_state header site node in
+    let whole : IsJournalFrom b [] b.text = ([], sym (append-nil b.text), refl) in
+    (finds_whole_from b [] b.text (is, inr (site, kept, refl)) whole).sound
 
 -- ---- a life that goes on
 
@@ -200,10 +226,10 @@ lives-last (first ∷ lives) node life text more is last =
     let next = kept (after_events node first) in
     (is.0, is.1 ++ more, ap (λ t. t ++ more) is.2 ∙ append_assoc is.0 is.1 more, is.3, lives-last lives next life is.1 more is.4 last)
 
-pub journal_last : (header : Header) (lives : List (List Event)) (life : List Event) (journal more : List ℕ) → IsJournal header lives journal
-    → IsLife (after_lives (opened header) lives) life more → IsJournal header (lives ++ life ∷ []) (journal ++ more)
-journal_last header lives life journal more is last =
-    (is.0 ++ more, with-torn header journal is.0 more is.1, lives-last lives (opened header) life is.0 more is.2 last)
+pub journal_last : (b : Beginning) (lives : List (List Event)) (life : List Event) (journal more : List ℕ) → IsJournalFrom b lives journal
+    → IsLife (after_lives b.node lives) life more → IsJournalFrom b (lives ++ life ∷ []) (journal ++ more)
+journal_last b lives life journal more is last =
+    (is.0 ++ more, with-torn b.text journal is.0 more is.1, lives-last lives b.node life is.0 more is.2 last)
 
 -- ---- a front of the entries of one life
 

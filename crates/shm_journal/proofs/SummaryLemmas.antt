@@ -1,25 +1,21 @@
 -- What a journal has, by what was read of it.
 use Rattle.std.proofs.Common.{◌≡◌, ◌≤◌, ◌<◌, ◌⊎◌, inl, inr, ℕ, ◌+◌, ◌==◌, Bool, true, false, List, [], ◌∷◌, ◌++◌, Option, None, Some, Ok, Err, cond, length, refl, sym, ap, subst, ◌∙◌, append_assoc, arith}
-use Rattle.std.specs.Prelude.{Result, IfErr, IfOk, OnOk, drop, fold, option_and_then}
+use Rattle.std.specs.Prelude.{Result, IfErr, IfOk, OnOk, drop, option_and_then}
 use Rattle.std.specs.List.{sum_by}
-use Rattle.std.specs.Option.{option_map_or}
 use Rattle.std.specs.Str.{bytes_eq}
 use Rattle.std.specs.Io.KnownBytes.{Consumes, IsAtEnd}
 use Rattle.std.proofs.KnownBytes.{Consumes-trans}
 use Rattle.std.proofs.lemmas.List.{length-append}
 use Rattle.std.proofs.lemmas.Slice.Eq.{bytes_eq-Decides}
-use Rattle.shm_lines.proofs.StepLemmas.{some-is, step}
-use Rattle.shm_process.specs.Node.{Heard, Node, next_clock, stepped}
-use Rattle.shm_process.specs.Recorded.{Entry, replayed_all, steps_of}
-use Rattle.shm_process.specs.NodeOf.{node_of}
-use Rattle.shm_process.specs.Waiting.{heard_again, replayed, replayed_heard}
-use Rattle.shm_journal.specs.Found.{Found, Sound, Bad, Lines, bytes_of_lines, found, found_behind, found_from, found_in, is_empty, is_long, lines_behind, lines_of, max_journal_line, next_found, not_own, opened, own, replayed_entry, replayed_line, then_found, with_line}
+use Rattle.shm_process.specs.Node.{Node}
+use Rattle.shm_journal.specs.Found.{Found, Sound, Bad, Lines, bytes_of_lines, found, found_from, found_in, is_empty, is_long, lines_behind, lines_of, max_journal_line, next_found, not_own, own, reached, rest_found, site_in, then_found, with_line}
 use Rattle.shm_journal.specs.HeaderOf.{header_of}
-use Rattle.shm_journal.specs.Lines.{Header, header_line, read_entry, read_header}
+use Rattle.shm_journal.specs.Lines.{Header, header_line, read_header}
 use Rattle.shm_journal.specs.LinesOf.{Unended}
 use Rattle.shm_journal.specs.ReadUpTo.{ReadsToLine}
 use Rattle.shm_journal.specs.Recovers.{ReadsAll}
-use Rattle.shm_journal.specs.Summed.{IsSummary, NamesFirst, RestReadsUpTo, SummaryReadsUpTo, SumsRest, SumsUpKnown, any, entries_in, first_found, found_any, in_limits, node_named, opened_if, steps_in}
+use Rattle.shm_journal.specs.Stages.{Stage, Opened, InState, Open, begun, next_stage}
+use Rattle.shm_journal.specs.Summed.{IsSummary, NamesFirst, RestReadsUpTo, SummaryReadsUpTo, SumsRest, SumsUpKnown, any, begun_if, entries_in, first_found, found_any, in_limits, reached_any, stage_named, steps_in}
 use Rattle.shm_journal.specs.Taking.{BreaksOff, most_at_once}
 use Rattle.shm_journal.specs.declared.journal_error.JournalFault.{JournalFault}
 use Rattle.shm_journal.specs.declared.journal_error.JournalFault.TheVariants as fault
@@ -28,57 +24,8 @@ use Rattle.shm_journal.specs.declared.summary_reader.Named.{Named}
 use Rattle.shm_seal.specs.declared.cluster_name.ClusterName.{ClusterName}
 use Rattle.shm_journal.proofs.Fronts.{any_file, of_all, whole_of}
 use Rattle.shm_journal.proofs.HeaderWords.{header-is_spelled}
-use Rattle.shm_journal.proofs.Leading.{first_breaks, first_leads, first_stops, joined_fault}
-
--- ---- each step is counted
-
-test-steps : (node after : Node) (heard : Heard) (b : Bool) → cond b (Some (stepped node heard)) None ≡ Some after → after.steps ≡ node.steps + 1
-test-steps node after heard true h = let e : stepped node heard ≡ after = cc in sym (ap (λ (n : Node). n.steps) e)
-test-steps node after heard false h = absurd (cc)
-
-heard-steps : (node after : Node) (clock : ℕ) (heard : Option Heard) → replayed_heard node clock heard ≡ Some after → after.steps ≡ node.steps + 1
-heard-steps node after clock None h = absurd (cc)
-heard-steps node after clock (Some heard) h = test-steps node after heard (next_clock node heard.source == clock) h
-
-all-steps : (entries : List Entry) (node after : Node) → replayed_all node entries ≡ Some after → after.steps ≡ node.steps + length entries
-all-steps [] node after h =
-    let s : after.steps ≡ node.steps = sym (ap (λ (n : Node). n.steps) (some-is node after h)) in omega (arith, s)
-all-steps (entry ∷ entries) node after h =
-    let s = step (replayed node entry.clock entry.cause) (λ next. replayed_all next entries) after h in
-    let one = heard-steps node s.value entry.clock (heard_again node entry.cause) s.gave in
-    let more = all-steps entries s.value after s.gives in
-    omega (arith, one, more)
-
-entry-steps : (node after : Node) (entry : Option Entry) → replayed_entry node entry ≡ Some after
-    → after.steps ≡ node.steps + option_map_or (λ e. length (steps_of e)) entry 0
-unfolding replayed_entry
-entry-steps node after None h = absurd (cc)
-entry-steps node after (Some entry) h = all-steps (steps_of entry) node after h
-
-torn-leads : (number : ℕ) (state node : Node) (b : Bool) → cond b (Bad number) (Sound state) ≡ Sound node → state ≡ node
-torn-leads number state node true h = absurd (cc)
-torn-leads number state node false h = cc
-
--- a line leads on, or the journal leads nowhere
-line-leads : (number : ℕ) (state node : Node) (steps : ℕ) (count : ℕ → ℕ) (onward : Node → Found Node) (b : Bool) (next : Option Node)
-    → cond b (Bad number) (next_found number next onward) ≡ Sound node
-    → ((after : Node) → next ≡ Some after → after.steps ≡ state.steps + steps) → ((after : Node) → onward after ≡ Sound node → node.steps ≡ count after.steps)
-    → node.steps ≡ count (state.steps + steps)
-line-leads number state node steps count onward true next h one more = absurd (cc)
-line-leads number state node steps count onward false None h one more = absurd (cc)
-line-leads number state node steps count onward false (Some after) h one more = more after h ∙ ap count (one after refl)
-
--- so many steps, and those of these lines
-abbrev steps_on : ℕ → List (List ℕ) → ℕ
-steps_on steps lines = fold (λ n line. n + steps_in line) steps lines
-
-from-steps : (number : ℕ) (state node : Node) (lines : List (List ℕ)) (torn : List ℕ) → found_from replayed_line number state lines torn ≡ Sound node
-    → node.steps ≡ steps_on state.steps lines
-unfolding found_from
-from-steps number state node [] torn h = sym (ap (λ (n : Node). n.steps) (torn-leads number state node (is_long torn) h))
-from-steps number state node (line ∷ lines) torn h =
-    line-leads number state node (steps_in line) (λ n. steps_on n lines) (λ after. found_from replayed_line (number + 1) after lines torn) (is_long line) (replayed_line state line) h
-    (λ after one. entry-steps state after (read_entry line) one) (λ after more. from-steps (number + 1) after node lines torn more)
+use Rattle.shm_journal.proofs.Leading.{first_breaks, first_leads, first_stops, joined_fault, joined_whole}
+use Rattle.shm_journal.proofs.StepCounts.{from-steps, steps_at}
 
 -- ---- each byte is in a whole line, or torn
 
@@ -110,38 +57,35 @@ some-lines (line ∷ lines) some = refl
 bytes_eq-same : (xs : List ℕ) → bytes_eq xs xs ≡ true
 bytes_eq-same xs = (bytes_eq-Decides xs xs).1 refl
 
-own-first : (header : Header) (line : List ℕ) → read_header line ≡ Some header → (own header).first line ≡ Sound (opened header)
+own-first : (header : Header) (line : List ℕ) → read_header line ≡ Some header → (own header).first line ≡ Sound (begun header)
 own-first header line h =
     let same : bytes_eq line (header_line header) ≡ true = ap (λ l. bytes_eq l (header_line header)) (header-is_spelled line header h).1 ∙ bytes_eq-same (header_line header) in
-    ap (λ b. cond b (Sound (opened header)) (not_own (read_header line))) same
+    ap (λ b. cond b (Sound (begun header)) (not_own (read_header line))) same
 
-any-first : (header : Header) (line : List ℕ) → read_header line ≡ Some header → in_limits header ≡ true → any.first line ≡ Sound (opened header)
+any-first : (header : Header) (line : List ℕ) → read_header line ≡ Some header → in_limits header ≡ true → any.first line ≡ Sound (begun header)
 any-first header line h limits =
-    ap (λ o. first_found (option_and_then opened_if o)) h ∙ ap (λ b. first_found (cond b (Some (opened header)) None)) limits
+    ap (λ o. first_found (option_and_then begun_if o)) h ∙ ap (λ b. first_found (cond b (Some (begun header)) None)) limits
 
-named-first : (before left : Option (List ℕ)) (line : List ℕ) (count : ℕ) (header : Header) (node : Node) → Consumes before left (line ++ 10 ∷ []) → Unended line
-    → length line ≤ max_journal_line → count ≡ length line + 1 → read_header line ≡ Some header → in_limits header ≡ true → node ≡ opened header
-    → NamesFirst before left header node count
-named-first before left line count header node taken h short e read limits begins =
-    subst (λ n. NamesFirst before left header n count) (sym begins)
-    (subst (λ c. NamesFirst before left header (opened header) c) (sym e)
+named-first : (before left : Option (List ℕ)) (line : List ℕ) (count : ℕ) (header : Header) → Consumes before left (line ++ 10 ∷ []) → Unended line
+    → length line ≤ max_journal_line → count ≡ length line + 1 → read_header line ≡ Some header → in_limits header ≡ true → NamesFirst before left header count
+named-first before left line count header taken h short e read limits =
+    subst (λ c. NamesFirst before left header c) (sym e)
     (record {
       limits = limits;
-      begins = refl;
       some = omega arith;
-      as_own = first_leads (own header) before left (opened header) line taken h short (own-first header line read);
-      as_any = first_leads any before left (opened header) line taken h short (any-first header line read limits);
-    }))
+      as_own = first_leads (own header) before left (begun header) line taken h short (own-first header line read);
+      as_any = first_leads any before left (begun header) line taken h short (any-first header line read limits);
+    })
 
 pub names_first : {A : Type 0} → (before left : Option (List ℕ)) (line seen : List ℕ) (count : ℕ) (r : Result (Named A) JournalFault) → Consumes before left (line ++ 10 ∷ []) → Unended line
     → length line ≤ max_journal_line → seen ≡ line → count ≡ length line + 1 → IfOk r (λ n. read_header seen ≡ Some (header_of n.header)) → IfOk r (λ n. in_limits (header_of n.header) ≡ true)
-    → IfOk r (λ n. node_of n.node ≡ opened (header_of n.header)) → IfOk r (λ n. NamesFirst before left (header_of n.header) (node_of n.node) count)
-names_first before left line seen count (Ok n) taken h short same e read limits begins =
-    named-first before left line count (header_of n.header) (node_of n.node) taken h short e (ap read_header (sym same) ∙ read) limits begins
-names_first before left line seen count (Err f) taken h short same e read limits begins = tt
+    → IfOk r (λ n. NamesFirst before left (header_of n.header) count)
+names_first before left line seen count (Ok n) taken h short same e read limits =
+    named-first before left line count (header_of n.header) taken h short e (ap read_header (sym same) ∙ read) limits
+names_first before left line seen count (Err f) taken h short same e read limits = tt
 
 opens-not : (before now : Option (List ℕ)) (line over : List ℕ) (f : JournalFault) → Consumes before now ((line ++ 10 ∷ []) ++ over) → Unended line → length line ≤ max_journal_line
-    → length over < most_at_once → (f ≡ fault.OutOfMemory) ⊎ ((f ≡ fault.BadLine 1) × (node_named line ≡ None)) → SummaryReadsUpTo before now f
+    → length over < most_at_once → (f ≡ fault.OutOfMemory) ⊎ ((f ≡ fault.BadLine 1) × (stage_named line ≡ None)) → SummaryReadsUpTo before now f
 opens-not before now line over f taken h short once (inl e) =
     subst (SummaryReadsUpTo before now) (sym e)
     (record {
@@ -158,37 +102,45 @@ opens-not before now line over f taken h short once (inr e) =
     subst (SummaryReadsUpTo before now) (sym e.0) (inl (first_stops any before now line over (Bad 1) taken h short once (ap first_found e.1) (λ onward. refl)))
 
 pub first_not : {A : Type 0} → (before now : Option (List ℕ)) (line seen over : List ℕ) (r : Result (Named A) JournalFault) → Consumes before now ((line ++ 10 ∷ []) ++ over) → Unended line
-    → length line ≤ max_journal_line → length over < most_at_once → seen ≡ line → IfErr r (λ f. (f ≡ fault.OutOfMemory) ⊎ ((f ≡ fault.BadLine 1) × (node_named seen ≡ None)))
+    → length line ≤ max_journal_line → length over < most_at_once → seen ≡ line → IfErr r (λ f. (f ≡ fault.OutOfMemory) ⊎ ((f ≡ fault.BadLine 1) × (stage_named seen ≡ None)))
     → IfErr r (SummaryReadsUpTo before now)
 first_not before now line seen over (Ok n) taken h short once same e = tt
 first_not before now line seen over (Err f) taken h short once same e =
-    opens-not before now line over f taken h short once (subst (λ l. (f ≡ fault.OutOfMemory) ⊎ ((f ≡ fault.BadLine 1) × (node_named l ≡ None))) same e)
+    opens-not before now line over f taken h short once (subst (λ l. (f ≡ fault.OutOfMemory) ⊎ ((f ≡ fault.BadLine 1) × (stage_named l ≡ None))) same e)
 
 -- the reader fails, or memory is missing
 pub breaks_first : (before now : Option (List ℕ)) (why : JournalFault) → BreaksOff before now why → SummaryReadsUpTo before now why
 breaks_first before now fault.OutOfMemory b = first_breaks any before now fault.OutOfMemory b
 breaks_first before now fault.ReadFault b = inl (first_breaks any before now fault.ReadFault b)
 breaks_first before now (fault.BadLine number) b = absurd b.other
+breaks_first before now fault.UnendedState b = absurd b.other
+breaks_first before now fault.BeginsWithState b = absurd b.other
 
 -- ---- the rest
 
-pub as_rest : (node : Node) (old new : Option (List ℕ)) (why : JournalFault) → ReadsToLine (λ rest. found_behind replayed_line 2 node rest) old new why → RestReadsUpTo node old new why
-as_rest node old new fault.OutOfMemory h = h
-as_rest node old new fault.ReadFault h = inl h
-as_rest node old new (fault.BadLine number) h = h
+pub as_rest : (header : Header) (old new : Option (List ℕ)) (why : JournalFault) → ReadsToLine (rest_found (begun header)) old new why → RestReadsUpTo header old new why
+as_rest header old new fault.OutOfMemory h = h
+as_rest header old new fault.ReadFault h = inl h
+as_rest header old new (fault.BadLine number) h = h
+as_rest header old new fault.UnendedState h = absurd h
+as_rest header old new fault.BeginsWithState h = absurd h
 
-rest-not : (before left now : Option (List ℕ)) (header : Header) (node : Node) (count : ℕ) (f : JournalFault) → NamesFirst before left header node count → RestReadsUpTo node left now f
+rest-not : (before left now : Option (List ℕ)) (header : Header) (count : ℕ) (f : JournalFault) → NamesFirst before left header count → RestReadsUpTo header left now f
     → SummaryReadsUpTo before now f
-rest-not before left now header node count fault.OutOfMemory n h = joined_fault replayed_line found_any before left now node count fault.OutOfMemory n.as_any h
-rest-not before left now header node count fault.ReadFault n (inl h) = inl (joined_fault replayed_line found_any before left now node count fault.ReadFault n.as_any h)
-rest-not before left now header node count fault.ReadFault n (inr all) =
+rest-not before left now header count fault.OutOfMemory n h = joined_fault next_stage reached_any before left now (begun header) count fault.OutOfMemory n.as_any h
+rest-not before left now header count fault.ReadFault n (inl h) = inl (joined_fault next_stage reached_any before left now (begun header) count fault.ReadFault n.as_any h)
+rest-not before left now header count fault.ReadFault n (inr all) =
     inr (n.as_any.bytes ++ all.0, Consumes-trans before left now n.as_any.bytes all.0 n.as_any.taken all.1, all.2)
-rest-not before left now header node count (fault.BadLine number) n h = inl (joined_fault replayed_line found_any before left now node count (fault.BadLine number) n.as_any h)
+rest-not before left now header count (fault.BadLine number) n h =
+    inl (joined_fault next_stage reached_any before left now (begun header) count (fault.BadLine number) n.as_any h)
+rest-not before left now header count fault.UnendedState n (telling, more, w) =
+    (telling, count + more, joined_whole next_stage reached_any before left now (begun header) (InState telling) count more n.as_any w)
+rest-not before left now header count fault.BeginsWithState n h = absurd h
 
-pub fault_led : (all before left now : Option (List ℕ)) (header : Header) (node : Node) (count : ℕ) (r : Result Summary JournalFault) → before ≡ all → NamesFirst before left header node count
-    → IfErr r (RestReadsUpTo node left now) → IfErr r (SummaryReadsUpTo all now)
-fault_led all before left now header node count (Ok s) same n h = tt
-fault_led all before left now header node count (Err f) same n h = subst (λ a. SummaryReadsUpTo a now f) same (rest-not before left now header node count f n h)
+pub fault_led : (all before left now : Option (List ℕ)) (header : Header) (count : ℕ) (r : Result Summary JournalFault) → before ≡ all → NamesFirst before left header count
+    → IfErr r (RestReadsUpTo header left now) → IfErr r (SummaryReadsUpTo all now)
+fault_led all before left now header count (Ok s) same n h = tt
+fault_led all before left now header count (Err f) same n h = subst (λ a. SummaryReadsUpTo a now f) same (rest-not before left now header count f n h)
 
 -- ---- a whole journal
 
@@ -211,32 +163,38 @@ same-summary s site sites pages steps clock bytes torn a b c d e f g =
     ∙ ap (λ x. made s.cluster site sites pages steps x s.bytes s.torn) e ∙ ap (λ x. made s.cluster site sites pages steps clock x s.torn) f
     ∙ ap (λ x. made s.cluster site sites pages steps clock bytes x) g
 
--- the first line is the header, and the others are entries
-own-leads : (header : Header) (node : Node) (onward : Node → Found Node) (long same : Bool) (read : Option Header)
-    → cond long (Bad 1) (then_found (cond same (Sound (opened header)) (not_own read)) onward) ≡ Sound node → onward (opened header) ≡ Sound node
-own-leads header node onward true same read h = absurd (cc)
-own-leads header node onward false true read h = h
-own-leads header node onward false false None h = absurd (cc)
-own-leads header node onward false false (Some x) h = absurd (cc)
+-- the first line is the header, and the others lead on
+own-leads : (header : Header) (final : Stage) (onward : Stage → Found Stage) (long same : Bool) (read : Option Header)
+    → cond long (Bad 1) (then_found (cond same (Sound (begun header)) (not_own read)) onward) ≡ Sound final → onward (begun header) ≡ Sound final
+own-leads header final onward true same read h = absurd (cc)
+own-leads header final onward false true read h = h
+own-leads header final onward false false None h = absurd (cc)
+own-leads header final onward false false (Some x) h = absurd (cc)
 
-own-steps : (header : Header) (node : Node) (lines : List (List ℕ)) (torn : List ℕ) → found_in (own header) lines torn ≡ Sound node → is_empty lines ≡ false
-    → node.steps ≡ sum_by steps_in (drop 1 lines)
-own-steps header node [] torn h some = absurd (cc)
-own-steps header node (line ∷ lines) torn h some =
-    from-steps 2 (opened header) node lines torn
-    (own-leads header node (λ state. found_from replayed_line 2 state lines torn) (is_long line) (bytes_eq line (header_line header)) (read_header line) h)
+own-steps : (header : Header) (final : Stage) (lines : List (List ℕ)) (torn : List ℕ) → found_in (own header) lines torn ≡ Sound final → is_empty lines ≡ false
+    → steps_at final ≡ sum_by steps_in (drop 1 lines)
+own-steps header final [] torn h some = absurd (cc)
+own-steps header final (line ∷ lines) torn h some =
+    from-steps 2 (begun header) final lines torn refl
+    (own-leads header final (λ state. found_from next_stage 2 state lines torn) (is_long line) (bytes_eq line (header_line header)) (read_header line) h)
 
-sums-all : (before left now : Option (List ℕ)) (header : Header) (node : Node) (count : ℕ) (summary : Summary) → NamesFirst before left header node count
-    → SumsRest node left now header count summary → SumsAll before now summary
-sums-all before left now header node count summary n s =
+site-steps : (stage : Stage) (node : Node) → site_in (Sound stage) ≡ Sound node → node.steps ≡ steps_at stage
+site-steps (Opened first telling) node h = let same : first ≡ node = cc in sym (ap (λ (n : Node). n.steps) same)
+site-steps (InState telling) node h = absurd (cc)
+site-steps (Open first) node h = let same : first ≡ node = cc in sym (ap (λ (n : Node). n.steps) same)
+
+sums-all : (before left now : Option (List ℕ)) (header : Header) (count : ℕ) (summary : Summary) → NamesFirst before left header count
+    → SumsRest header left now count summary → SumsAll before now summary
+sums-all before left now header count summary n s =
     let l = n.as_own in
     let r = s.rest in
     let file = l.bytes ++ r.bytes in
-    let sound : found header file ≡ Sound s.after = l.onward r.bytes ∙ r.sound in
+    let led : reached header file ≡ Sound s.last = l.onward r.bytes ∙ r.sound in
     let counted : bytes_of_lines (lines_of file).whole ≡ count + bytes_of_lines (lines_of r.bytes).whole = l.counted r.bytes in
     let torn : length (lines_of file).torn ≡ length (lines_of r.bytes).torn = ap length (l.torn r.bytes) in
     let begun : is_empty (lines_of file).whole ≡ false = some-lines (lines_of file).whole (omega (arith, n.some, counted)) in
-    let steps : s.after.steps ≡ sum_by steps_in (entries_in file) = own-steps header s.after (lines_of file).whole (lines_of file).torn sound begun in
+    let steps : s.after.steps ≡ sum_by steps_in (entries_in file) =
+    site-steps s.last s.after s.led ∙ own-steps header s.last (lines_of file).whole (lines_of file).torn led begun in
     let bytes : summary.bytes ≡ length file = omega (arith, s.bytes, s.torn, r.counted, counted, torn, file_length file) in record {
       bytes = file;
       taken = Consumes-trans before left now l.bytes r.bytes l.taken r.taken;
@@ -246,7 +204,7 @@ sums-all before left now header node count summary n s =
         node = s.after;
         limits = n.limits;
         begun = begun;
-        sound = sound;
+        sound = ap site_in led ∙ s.led;
         named = s.cluster;
         summed =
             same-summary summary header.me header.sites header.pages (sum_by steps_in (entries_in file)) s.after.clock (length file) (length (lines_of file).torn) s.site s.sites
@@ -254,10 +212,10 @@ sums-all before left now header node count summary n s =
       };
     }
 
-pub summary_led : (all before left now : Option (List ℕ)) (header : Header) (node : Node) (count : ℕ) (r : Result Summary JournalFault) → before ≡ all → NamesFirst before left header node count
-    → IfOk r (SumsRest node left now header count) → IfOk r (SumsAll all now)
-summary_led all before left now header node count (Ok s) same n h = subst (λ a. SumsAll a now s) same (sums-all before left now header node count s n h)
-summary_led all before left now header node count (Err f) same n h = tt
+pub summary_led : (all before left now : Option (List ℕ)) (header : Header) (count : ℕ) (r : Result Summary JournalFault) → before ≡ all → NamesFirst before left header count
+    → IfOk r (SumsRest header left now count) → IfOk r (SumsAll all now)
+summary_led all before left now header count (Ok s) same n h = subst (λ a. SumsAll a now s) same (sums-all before left now header count s n h)
+summary_led all before left now header count (Err f) same n h = tt
 
 pub summary_end : (old new : Option (List ℕ)) (r : Result Summary JournalFault) → IfOk r (SumsAll old new) → OnOk r (IsAtEnd new)
 summary_end old new (Ok s) h = h.end
@@ -276,9 +234,11 @@ fault_known old new (fault.BadLine number) (inl s) =
     let w = whole_of old new (s.before ++ (s.line ++ s.over)) s.taken in (
       (s.before ++ (s.line ++ s.over)) ++ w.0,
       w.1,
-      ap found_any (append_assoc s.before (s.line ++ s.over) w.0 ∙ ap (λ l. s.before ++ l) (append_assoc s.line s.over w.0)) ∙ s.bad (s.over ++ w.0),
+      ap found_any (append_assoc s.before (s.line ++ s.over) w.0 ∙ ap (λ l. s.before ++ l) (append_assoc s.line s.over w.0)) ∙ ap site_in (s.bad (s.over ++ w.0)),
     )
-fault_known old new (fault.BadLine number) (inr l) = (l.bytes, of_all old new l.bytes (λ known. l.bytes ≡ known) l.taken l.end refl, l.bad)
+fault_known old new (fault.BadLine number) (inr l) = (l.bytes, of_all old new l.bytes (λ known. l.bytes ≡ known) l.taken l.end refl, ap site_in l.bad)
+fault_known old new fault.UnendedState (telling, whole, w) = (w.bytes, of_all old new w.bytes (λ known. w.bytes ≡ known) w.taken w.end refl, ap site_in w.sound)
+fault_known old new fault.BeginsWithState h = absurd h
 
 pub summary_known : (old new : Option (List ℕ)) (r : Result Summary JournalFault) → IfOk r (SumsAll old new) → IfErr r (SummaryReadsUpTo old new) → SumsUpKnown old r
 summary_known old new (Ok s) h e = (h.bytes, of_all old new h.bytes (λ known. h.bytes ≡ known) h.taken h.end refl, h.is)

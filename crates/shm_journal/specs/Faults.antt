@@ -17,3 +17,5 @@ abbrev pub journal_fault_number : JournalFault → ℕ
 journal_fault_number journal.OutOfMemory = out_of_memory
 journal_fault_number journal.ReadFault = read_fault
 journal_fault_number (journal.BadLine number) = bad_line
+journal_fault_number journal.UnendedState = bad_line
+journal_fault_number journal.BeginsWithState = other_logs

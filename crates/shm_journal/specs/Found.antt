@@ -1,11 +1,13 @@
 -- What is found in the file of a journal. A line stands before its line feed; what stands behind the last line feed is torn: a crash
--- cut it short, and it counts for nothing, unless it is too long for a line, or stands alone and is no front of the header.
+-- cut it short, and it counts for nothing, unless it is too long for a line, or stands alone and is no front of the header. A file that ends
+-- within a state leads to no site.
 use Rattle.std.specs.Prelude.{ℕ, ◌+◌, ◌==◌, Bool, true, false, List, [], ◌∷◌, ◌++◌, Option, Some, None, if◌then◌else◌, length, nat_lt, take}
 use Rattle.std.specs.Str.{bytes_eq}
-use Rattle.shm_process.specs.Node.{Node, new_node}
-use Rattle.shm_process.specs.Recorded as recorded
-use Rattle.shm_process.specs.Recorded.{Entry}
-use Rattle.shm_journal.specs.Lines.{Header, header_line, read_entry, read_header}
+use Rattle.shm_process.specs.Node.{Node}
+use Rattle.shm_journal.specs.Lines.{Header, header_line, read_header}
+use Rattle.shm_journal.specs.Stages.{Stage, Opened, InState, Open, begun, next_stage}
+pub use Rattle.shm_journal.specs.Stages.{opened, replayed_line}
+unfoldable pub use Rattle.shm_journal.specs.Stages.{replayed_entry}
 
 -- ---- lines
 
@@ -36,11 +38,12 @@ is_empty (line ∷ lines) = false
 -- ---- what they say
 
 -- what they lead to; or that it is the journal of another site, of so many others, or of another opening; or the number of the first line,
--- from 1, that is none of a journal's, or records steps that can't be the site's next ones
+-- from 1, that is none of a journal's, or records steps that can't be the site's next ones; or that it is only a part of what has to be there
 pub data Found (T : Type 0) : Type 0 where
   Sound : T → Found T
   Foreign : Found T
   Bad : ℕ → Found T
+  Partial : Found T
 
 -- the bytes that a line has at most, less its line feed: `step `, the greatest clock, a blank, and the longest line that a site takes
 abbrev pub max_journal_line : ℕ
@@ -79,6 +82,7 @@ abbrev pub then_found : {T : Type 0} → Found T → (T → Found T) → Found T
 then_found (Sound state) onward = onward state
 then_found Foreign onward = Foreign
 then_found (Bad number) onward = Bad number
+then_found Partial onward = Partial
 
 abbrev pub found_in : {T : Type 0} → Kind T → List (List ℕ) → List ℕ → Found T
 found_in kind [] torn = unless_long 1 torn (kind.alone torn)
@@ -90,30 +94,34 @@ found_of kind file = let lines = lines_of file in found_in kind lines.whole line
 -- ---- a site's own journal
 
 -- another header is another's journal, and anything else none
-abbrev pub not_own : Option Header → Found Node
+abbrev pub not_own : Option Header → Found Stage
 not_own None = Bad 1
 not_own (Some header) = Foreign
 
--- the site at which nothing has happened
-abbrev pub opened : Header → Node
-opened header = new_node header.sites header.me header.pages
-
-unfoldable pub replayed_entry : Node → Option Entry → Option Node
-replayed_entry node None = None
-replayed_entry node (Some entry) = recorded.replayed_entry node entry
-
--- the site after the steps that a line records, if they can be its next ones
-abbrev pub replayed_line : Node → List ℕ → Option Node
-replayed_line node line = replayed_entry node (read_entry line)
-
--- the first line is the header; while there is no whole line nothing was recorded, and what is torn is a front of the header
-abbrev pub own : Header → Kind Node
+abbrev pub own : Header → Kind Stage
 own header = record {
-  first = λ line. if bytes_eq line (header_line header) then Sound (opened header) else not_own (read_header line);
-  alone = λ torn. if bytes_eq torn (take (length torn) (header_line header)) then Sound (opened header) else Bad 1;
-  next = replayed_line;
+  first = λ line. if bytes_eq line (header_line header) then Sound (begun header) else not_own (read_header line);
+  alone = λ torn. if bytes_eq torn (take (length torn) (header_line header)) then Sound (begun header) else Bad 1;
+  next = next_stage;
 }
+
+-- how far the lines of this file lead
+abbrev pub reached : Header → List ℕ → Found Stage
+reached header file = found_of (own header) file
+
+-- within a state they lead to no site
+abbrev pub site_in : Found Stage → Found Node
+site_in (Sound (Opened node telling)) = Sound node
+site_in (Sound (InState telling)) = Partial
+site_in (Sound (Open node)) = Sound node
+site_in Foreign = Foreign
+site_in (Bad number) = Bad number
+site_in Partial = Partial
+
+-- what follows the first line, from this stage on
+abbrev pub rest_found : Stage → List ℕ → Found Stage
+rest_found stage rest = found_behind next_stage 2 stage rest
 
 -- what the site of this header finds in this file
 abbrev pub found : Header → List ℕ → Found Node
-found header file = found_of (own header) file
+found header file = site_in (reached header file)

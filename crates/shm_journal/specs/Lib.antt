@@ -1,7 +1,11 @@
 pub mod Lines
+pub mod StateLines
+pub mod StateOf
 pub mod HeaderOf
 pub mod EntryOf
 pub mod Faults
+pub mod Stages
+pub mod StageOf
 pub mod Found
 pub mod LinesOf
 pub mod Taking
@@ -15,4 +19,5 @@ pub mod Warning
 pub mod DeskFrom
 pub mod Crash
 pub mod Summed
+pub mod Begun
 pub mod Lives

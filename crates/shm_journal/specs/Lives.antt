@@ -1,5 +1,5 @@
--- What a site's journal holds: its header, and then, of each life of the site, entries whose steps are exactly those of the events that it had. Which
--- steps share an entry hangs on what came at once. A life ends with its process; the next begins with what the journal leads to.
+-- What a site's journal holds: what it begins with, and then, of each life of the site, entries whose steps are exactly those of the events that it
+-- had. Which steps share an entry hangs on what came at once. A life ends with its process; the next begins with what the journal leads to.
 use Rattle.std.specs.Prelude.{⊤, ◌≡◌, ◌≤◌, ◌⊎◌, ℕ, List, [], ◌∷◌, ◌++◌, length, take, true, false, Result}
 use Rattle.std.specs.List.{All}
 use Rattle.shm_process.specs.Cause.{cause_text}
@@ -11,7 +11,9 @@ use Rattle.shm_journal.specs.Acts.{Act, IsRun}
 use Rattle.shm_journal.specs.Crash.{MayLeave, after_acts, disk_of}
 use Rattle.shm_journal.specs.DeskFrom.{desk_from}
 use Rattle.shm_journal.specs.Found.{Sound, bytes_of_lines, found, lines_of, opened}
-use Rattle.shm_journal.specs.Lines.{Header, header_line}
+use Rattle.shm_journal.specs.Begun.{Beginning, anew}
+pub use Rattle.shm_journal.specs.Begun.{header_text}
+use Rattle.shm_journal.specs.Lines.{Header}
 use Rattle.shm_journal.specs.LinesOf.{Unended}
 use Rattle.shm_journal.specs.declared.process_error.ProcessFault.{ProcessFault}
 use Rattle.shm_seal.specs.Seal.{Seal}
@@ -48,12 +50,13 @@ IsLives node [] text = text ≡ []
 IsLives node (life ∷ lives) text =
     (first rest : List ℕ) × (text ≡ first ++ rest) × IsLife node life first × IsLives (kept (after_events node life)) lives rest
 
-abbrev pub header_text : Header → List ℕ
-header_text header = header_line header ++ 10 ∷ []
+-- what it begins with, and these entries
+abbrev pub IsJournalFrom : Beginning → List (List Event) → List ℕ → Type 0
+IsJournalFrom b lives text = (rest : List ℕ) × (text ≡ b.text ++ rest) × IsLives b.node lives rest
 
 -- the header, and these entries
 abbrev pub IsJournal : Header → List (List Event) → List ℕ → Type 0
-IsJournal header lives text = (rest : List ℕ) × (text ≡ header_text header ++ rest) × IsLives (opened header) lives rest
+IsJournal header lives text = IsJournalFrom (anew header) lives text
 
 -- ---- an entry for each step
 
@@ -74,25 +77,31 @@ journal_of_steps header lives = header_text header ++ steps_text (opened header)
 
 -- A file of whole lines, this journal of these lives, and behind them what is torn: the site finds the node after them. The whole lines are
 -- exactly the journal.
-pub record FindsLives (header : Header) (lives : List (List Event)) (journal file : List ℕ) : Type 0 where
-  pub is : IsJournal header lives journal
+pub record FindsLivesFrom (b : Beginning) (lives : List (List Event)) (journal file : List ℕ) : Type 0 where
+  pub is : IsJournalFrom b lives journal
   pub torn : List ℕ
   pub text : file ≡ journal ++ torn
   pub unended : Unended torn
-  pub sound : found header file ≡ Sound (after_lives (opened header) lives)
+  pub sound : found b.header file ≡ Sound (after_lives b.node lives)
   pub whole : take (bytes_of_lines (lines_of file).whole) file ≡ journal
+
+abbrev pub FindsLives : Header → List (List Event) → List ℕ → List ℕ → Type 0
+FindsLives header lives journal file = FindsLivesFrom (anew header) lives journal file
 
 -- ---- a crash
 
 -- What a crash leaves of a journal while a further life goes on: all entries that are durable, and behind them those of as many events more as
 -- are whole.
-pub record LeavesLife (header : Header) (lives : List (List Event)) (durable file : List ℕ) : Type 0 where
+pub record LeavesLifeFrom (b : Beginning) (lives : List (List Event)) (durable file : List ℕ) : Type 0 where
   pub life : List Event
   pub more : List Event
   pub taken : All IsTaken (life ++ more)
-  pub kept : IsJournal header (lives ++ life ∷ []) durable
+  pub kept : IsJournalFrom b (lives ++ life ∷ []) durable
   pub behind : List ℕ
-  pub finds : FindsLives header (lives ++ (life ++ more) ∷ []) (durable ++ behind) file
+  pub finds : FindsLivesFrom b (lives ++ (life ++ more) ∷ []) (durable ++ behind) file
+
+abbrev pub LeavesLife : Header → List (List Event) → List ℕ → List ℕ → Type 0
+LeavesLife header lives durable file = LeavesLifeFrom (anew header) lives durable file
 
 -- Of a journal that is begun, while nothing is durable: no whole line, or its header alone; the site finds that nothing has happened.
 pub record LeavesFront (header : Header) (durable file : List ℕ) : Type 0 where
@@ -101,12 +110,15 @@ pub record LeavesFront (header : Header) (durable file : List ℕ) : Type 0 wher
   pub whole : (bytes_of_lines (lines_of file).whole ≡ 0) ⊎ IsJournal header [] file
 
 -- whatever a process does in this life, which began with this journal, at each moment of it, and whatever a crash leaves then
-abbrev pub LeavesSound : Header → List (List Event) → List ℕ → Type 0
-LeavesSound header lives journal =
+abbrev pub LeavesSoundFrom : Beginning → List (List Event) → List ℕ → Type 0
+LeavesSoundFrom b lives journal =
     (seal : Seal) (start : Start) (result : Result (Unit {0}) ProcessFault) (acts before after : List Act) (left : List ℕ)
-    → IsRun (desk_from header seal false (after_lives (opened header) lives) start) result acts → acts ≡ before ++ after
+    → IsRun (desk_from b.header seal false (after_lives b.node lives) start) result acts → acts ≡ before ++ after
     → MayLeave (after_acts (disk_of journal) before) left
-    → LeavesLife header lives (after_acts (disk_of journal) before).durable left
+    → LeavesLifeFrom b lives (after_acts (disk_of journal) before).durable left
+
+abbrev pub LeavesSound : Header → List (List Event) → List ℕ → Type 0
+LeavesSound header lives journal = LeavesSoundFrom (anew header) lives journal
 
 abbrev pub LeavesNewSound : Header → Type 0
 LeavesNewSound header =

@@ -3,9 +3,10 @@ use Rattle.std.specs.Prelude.{◌≡◌, ◌⊎◌, ℕ, Bool, true, false, List
 use Rattle.std.specs.Str.{bytes_eq}
 use Rattle.std.specs.Io.KnownBytes.{Consumes, IsAtEnd}
 use Rattle.shm_process.specs.NodeOf.{node_of}
-use Rattle.shm_journal.specs.Found.{Sound, Foreign, Bad, bytes_of_lines, found, is_empty, lines_of}
+use Rattle.shm_journal.specs.Found.{Sound, Foreign, Bad, Partial, bytes_of_lines, found, is_empty, lines_of, reached, rest_found}
 use Rattle.shm_journal.specs.Lines.{Header, read_header}
-use Rattle.shm_journal.specs.ReadUpTo.{BreaksAt, LacksLine, StopsAt}
+use Rattle.shm_journal.specs.ReadUpTo.{BreaksAt, EndsInState, LacksLine, ReadsToLine, StopsAt}
+use Rattle.shm_journal.specs.Stages.{Stage}
 use Rattle.shm_journal.specs.declared.journal_error.JournalFault.{JournalFault}
 use Rattle.shm_journal.specs.declared.journal_error.JournalFault.TheVariants as journal
 use Rattle.shm_journal.specs.declared.recovery_error.RecoveryFault.{RecoveryFault}
@@ -18,6 +19,7 @@ IsFaultOf header file fault.OutOfMemory = Unit {0}
 IsFaultOf header file fault.ReadFault = Unit {0}
 IsFaultOf header file fault.Foreign = found header file ≡ Foreign
 IsFaultOf header file (fault.BadLine number) = found header file ≡ Bad number
+IsFaultOf header file fault.UnendedState = found header file ≡ Partial
 
 -- and it is what the result says
 abbrev pub Says : {A : Type 0} → Header → List ℕ → Result (Recovered A) RecoveryFault → Type 0
@@ -37,19 +39,27 @@ Recovers header remaining result = (file : List ℕ) × IfSome remaining (λ kno
 abbrev pub ReadsAll : Option (List ℕ) → Option (List ℕ) → Type 0
 ReadsAll old new = (bytes : List ℕ) × Consumes old new bytes × IsAtEnd new
 
--- Where memory is missing or the reader fails, lines that lead to a site, and what may be the front of one; else the line that is wrong is the
--- last that was taken, or the header is missing.
+-- Where memory is missing or the reader fails, lines that lead on, and what may be the front of one; else the line that is wrong is the last
+-- that was taken, or the header is missing, or all was read and ends within a state.
 abbrev pub ReadsUpTo : Header → Option (List ℕ) → Option (List ℕ) → RecoveryFault → Type 0
-ReadsUpTo header old new fault.OutOfMemory = BreaksAt (found header) old new
-ReadsUpTo header old new fault.ReadFault = BreaksAt (found header) old new
-ReadsUpTo header old new fault.Foreign = StopsAt (found header) old new Foreign
-ReadsUpTo header old new (fault.BadLine number) = StopsAt (found header) old new (Bad number) ⊎ LacksLine (found header) old new (Bad number)
+ReadsUpTo header old new fault.OutOfMemory = BreaksAt (reached header) old new
+ReadsUpTo header old new fault.ReadFault = BreaksAt (reached header) old new
+ReadsUpTo header old new fault.Foreign = StopsAt (reached header) old new Foreign
+ReadsUpTo header old new (fault.BadLine number) = StopsAt (reached header) old new (Bad number) ⊎ LacksLine (reached header) old new (Bad number)
+ReadsUpTo header old new fault.UnendedState = EndsInState (reached header) old new
 
--- a fault of any journal, as one of a start
+-- so behind the first line, from this stage on
+abbrev pub EntriesReadUpTo : Stage → Option (List ℕ) → Option (List ℕ) → JournalFault → Type 0
+EntriesReadUpTo stage old new journal.UnendedState = EndsInState (rest_found stage) old new
+EntriesReadUpTo stage old new why = ReadsToLine (rest_found stage) old new why
+
+-- a fault of any journal, as one of a start; that it begins with a state is one of an audit alone
 abbrev pub as_recovery : JournalFault → RecoveryFault
 as_recovery journal.OutOfMemory = fault.OutOfMemory
 as_recovery journal.ReadFault = fault.ReadFault
 as_recovery (journal.BadLine number) = fault.BadLine number
+as_recovery journal.UnendedState = fault.UnendedState
+as_recovery journal.BeginsWithState = fault.BadLine 2
 
 -- ---- the first line
 

@@ -1,4 +1,4 @@
--- What a journal has, whichever site's it is: its site, how many steps its entries record, where they lead, and how many bytes.
+-- What a journal has, whichever site's it is: its site, how many steps its lines record, where they lead, and how many bytes.
 use Rattle.std.specs.Prelude.{⊤, ◌≡◌, ◌<◌, ◌⊎◌, ℕ, ◌+◌, ◌&&◌, Bool, true, false, List, [], ◌∷◌, ◌++◌, Option, Some, None, Result, Ok, Err, IfSome, codes, drop, if◌then◌else◌, length, nat_lt, option_and_then, option_map}
 use Rattle.std.specs.Fmt.{decimal}
 use Rattle.std.specs.List.{sum_by}
@@ -7,11 +7,13 @@ use Rattle.shm_place.specs.Limits.{max_sites}
 use Rattle.shm_place.specs.Limits as limit
 use Rattle.shm_process.specs.Node.{Node}
 use Rattle.shm_process.specs.Recorded.{steps_of}
-use Rattle.shm_journal.specs.Found.{Found, Sound, Bad, Kind, found, found_behind, found_of, is_empty, lines_of, opened, replayed_line}
+use Rattle.shm_journal.specs.Found.{Found, Sound, Bad, Partial, Kind, found, found_of, is_empty, lines_of, reached, rest_found, site_in}
 use Rattle.shm_journal.specs.Leading.{Leads}
 use Rattle.shm_journal.specs.Lines.{Header, read_entry, read_header}
-use Rattle.shm_journal.specs.ReadUpTo.{BreaksAt, LacksLine, ReadsWhole, StopsAt}
+use Rattle.shm_journal.specs.ReadUpTo.{BreaksAt, EndsInState, LacksLine, ReadsWhole, StopsAt}
 use Rattle.shm_journal.specs.Recovers.{ReadsAll}
+use Rattle.shm_journal.specs.Stages.{Stage, begun, next_stage}
+use Rattle.shm_journal.specs.StateLines.{StateLine, OfPart, OfMapping, OfEnding, read_state}
 use Rattle.shm_journal.specs.declared.journal_error.JournalFault.{JournalFault}
 use Rattle.shm_journal.specs.declared.journal_error.JournalFault.TheVariants as fault
 use Rattle.shm_journal.specs.declared.journal_summary.Summary.{Summary}
@@ -26,23 +28,26 @@ in_limits header =
     nat_lt 0 header.sites && nat_lt header.sites (max_sites + 1) && nat_lt header.me header.sites
     && nat_lt 0 header.pages && nat_lt header.pages (limit.pages + 1)
 
-abbrev pub opened_if : Header → Option Node
-opened_if header = if in_limits header then Some (opened header) else None
+abbrev pub begun_if : Header → Option Stage
+begun_if header = if in_limits header then Some (begun header) else None
 
 -- the site that a first line names, at which nothing has happened
-abbrev pub node_named : List ℕ → Option Node
-node_named line = option_and_then opened_if (read_header line)
+abbrev pub stage_named : List ℕ → Option Stage
+stage_named line = option_and_then begun_if (read_header line)
 
-abbrev pub first_found : Option Node → Found Node
+abbrev pub first_found : Option Stage → Found Stage
 first_found None = Bad 1
-first_found (Some node) = Sound node
+first_found (Some stage) = Sound stage
 
 -- any site's journal
-abbrev pub any : Kind Node
-any = record { first = λ line. first_found (node_named line); alone = λ torn. Bad 1; next = replayed_line }
+abbrev pub any : Kind Stage
+any = record { first = λ line. first_found (stage_named line); alone = λ torn. Bad 1; next = next_stage }
+
+abbrev pub reached_any : List ℕ → Found Stage
+reached_any file = found_of any file
 
 abbrev pub found_any : List ℕ → Found Node
-found_any file = found_of any file
+found_any file = site_in (reached_any file)
 
 -- ---- what it has
 
@@ -50,9 +55,16 @@ found_any file = found_of any file
 abbrev pub entries_in : List ℕ → List (List ℕ)
 entries_in file = drop 1 (lines_of file).whole
 
+-- the end of a state records the steps before it
+abbrev pub steps_before : Option StateLine → ℕ
+steps_before (Some (OfEnding ending)) = ending.steps
+steps_before (Some (OfPart part)) = 0
+steps_before (Some (OfMapping m)) = 0
+steps_before None = 0
+
 -- how many steps a line records
 abbrev pub steps_in : List ℕ → ℕ
-steps_in line = option_map_or (λ entry. length (steps_of entry)) (read_entry line) 0
+steps_in line = option_map_or (λ entry. length (steps_of entry)) (read_entry line) (steps_before (read_state line))
 
 -- of a file with this header, of a cluster of this name, whose entries lead to this node: the clock is that of the last step, or 0
 abbrev pub summary_of : Header → Option ClusterName → List ℕ → Node → Summary
@@ -83,6 +95,8 @@ SumsUp file (Ok summary) = IsSummary file summary
 SumsUp file (Err (fault.BadLine number)) = found_any file ≡ Bad number
 SumsUp file (Err fault.OutOfMemory) = ⊤
 SumsUp file (Err fault.ReadFault) = ⊤
+SumsUp file (Err fault.UnendedState) = found_any file ≡ Partial
+SumsUp file (Err fault.BeginsWithState) = ⊥
 
 -- there is a file of which the result says what it has: what was left to be read, where the reader tells its bytes
 abbrev pub SumsUpKnown : Option (List ℕ) → Result Summary JournalFault → Type 0
@@ -102,26 +116,30 @@ summary_text summary =
 
 -- ---- what was read
 
--- Where memory is missing: lines that lead to a site, and what may be the front of one. Where the reader fails: the same; or all was read, and
--- has more bytes than there are numbers for. Else the line that is bad is the last that was taken, or the first is missing.
+-- Where memory is missing: lines that lead on, and what may be the front of one. Where the reader fails: the same; or all was read, and has
+-- more bytes than there are numbers for. Else the line that is bad is the last that was taken, or the first is missing; or all was read, and
+-- ends within a state.
 abbrev pub SummaryReadsUpTo : Option (List ℕ) → Option (List ℕ) → JournalFault → Type 0
-SummaryReadsUpTo old new fault.OutOfMemory = BreaksAt found_any old new
-SummaryReadsUpTo old new fault.ReadFault = BreaksAt found_any old new ⊎ ReadsAll old new
-SummaryReadsUpTo old new (fault.BadLine number) = StopsAt found_any old new (Bad number) ⊎ LacksLine found_any old new (Bad number)
+SummaryReadsUpTo old new fault.OutOfMemory = BreaksAt reached_any old new
+SummaryReadsUpTo old new fault.ReadFault = BreaksAt reached_any old new ⊎ ReadsAll old new
+SummaryReadsUpTo old new (fault.BadLine number) = StopsAt reached_any old new (Bad number) ⊎ LacksLine reached_any old new (Bad number)
+SummaryReadsUpTo old new fault.UnendedState = EndsInState reached_any old new
+SummaryReadsUpTo old new fault.BeginsWithState = ⊥
 
 -- the first line is this header, and what follows leads on from the site that it names
-pub record NamesFirst (before left : Option (List ℕ)) (header : Header) (node : Node) (whole : ℕ) : Type 0 where
+pub record NamesFirst (before left : Option (List ℕ)) (header : Header) (whole : ℕ) : Type 0 where
   pub limits : in_limits header ≡ true
-  pub begins : node ≡ opened header
   pub some : 0 < whole
-  pub as_own : Leads replayed_line (found header) before left 2 node whole
-  pub as_any : Leads replayed_line found_any before left 2 node whole
+  pub as_own : Leads next_stage (reached header) before left 2 (begun header) whole
+  pub as_any : Leads next_stage reached_any before left 2 (begun header) whole
 
--- all that was left behind the first line, of so many bytes, is summed up
-pub record SumsRest (node : Node) (old new : Option (List ℕ)) (header : Header) (first : ℕ) (summary : Summary) : Type 0 where
+-- all that was left behind the first line, which is this header and has so many bytes, is summed up
+pub record SumsRest (header : Header) (old new : Option (List ℕ)) (first : ℕ) (summary : Summary) : Type 0 where
+  pub last : Stage
   pub after : Node
   pub more : ℕ
-  pub rest : ReadsWhole (λ rest. found_behind replayed_line 2 node rest) old new after more
+  pub rest : ReadsWhole (rest_found (begun header)) old new last more
+  pub led : site_in (Sound last) ≡ Sound after
   pub site : summary.site ≡ header.me
   pub sites : summary.sites ≡ header.sites
   pub pages : summary.pages ≡ header.pages
@@ -131,8 +149,10 @@ pub record SumsRest (node : Node) (old new : Option (List ℕ)) (header : Header
   pub torn : summary.torn ≡ length (lines_of rest.bytes).torn
   pub bytes : summary.bytes ≡ first + more + summary.torn
 
--- what was read of the rest where it isn't: up to a fault, or all of it
-abbrev pub RestReadsUpTo : Node → Option (List ℕ) → Option (List ℕ) → JournalFault → Type 0
-RestReadsUpTo node old new fault.OutOfMemory = BreaksAt (λ rest. found_behind replayed_line 2 node rest) old new
-RestReadsUpTo node old new fault.ReadFault = BreaksAt (λ rest. found_behind replayed_line 2 node rest) old new ⊎ ReadsAll old new
-RestReadsUpTo node old new (fault.BadLine number) = StopsAt (λ rest. found_behind replayed_line 2 node rest) old new (Bad number)
+-- what was read behind this header where it isn't: up to a fault, or all of it
+abbrev pub RestReadsUpTo : Header → Option (List ℕ) → Option (List ℕ) → JournalFault → Type 0
+RestReadsUpTo header old new fault.OutOfMemory = BreaksAt (rest_found (begun header)) old new
+RestReadsUpTo header old new fault.ReadFault = BreaksAt (rest_found (begun header)) old new ⊎ ReadsAll old new
+RestReadsUpTo header old new (fault.BadLine number) = StopsAt (rest_found (begun header)) old new (Bad number)
+RestReadsUpTo header old new fault.UnendedState = EndsInState (rest_found (begun header)) old new
+RestReadsUpTo header old new fault.BeginsWithState = ⊥

@@ -33,8 +33,9 @@ whole_with _ whole line = whole
 
 -- the fault says nothing of the lines
 abbrev pub IsOther : JournalFault → Type 0
-IsOther (fault.BadLine number) = ⊥
-IsOther _ = ⊤
+IsOther fault.OutOfMemory = ⊤
+IsOther fault.ReadFault = ⊤
+IsOther _ = ⊥
 
 -- Where memory is missing or the reader fails: what was read may be the front of a line, and no more behind it than one read gives.
 pub record BreaksOff (before now : Option (List ℕ)) (why : JournalFault) : Type 0 where

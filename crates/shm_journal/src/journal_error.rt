@@ -14,6 +14,12 @@ pub enum JournalFault {
     /// or there is no first line.
     #[error("line {0}: bad line")]
     BadLine(u64),
+    /// The journal ends within the state that it begins with.
+    #[error("ends within a state")]
+    UnendedState,
+    /// The journal begins with a state, and what led there is asked for too.
+    #[error("begins with a state; the files before it are missing")]
+    BeginsWithState,
 }
 
 impl Numbered for JournalFault {
@@ -25,7 +31,8 @@ impl Numbered for JournalFault {
         match self {
             JournalFault::OutOfMemory => refusal::OUT_OF_MEMORY,
             JournalFault::ReadFault => refusal::READ_FAULT,
-            JournalFault::BadLine(_) => refusal::BAD_LINE,
+            JournalFault::BadLine(_) | JournalFault::UnendedState => refusal::BAD_LINE,
+            JournalFault::BeginsWithState => refusal::LOGS,
         }
     }
 }

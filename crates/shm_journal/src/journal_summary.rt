@@ -12,7 +12,7 @@ pub struct Summary {
     pub pages: u32,
     /// The cluster's name, if it has one.
     pub cluster: Option<ClusterName>,
-    /// How many steps are recorded.
+    /// How many steps are recorded, with those that led to the state that it begins with.
     pub steps: u64,
     /// The clock of the last step, or 0.
     pub clock: u64,

@@ -2,16 +2,17 @@
 //! process that keeps it.
 #![tactic(auto)]
 
+mod display_state_line;
 mod journal_entry;
 mod journal_error;
 mod journal_header;
 mod journal_line_parser;
+mod journal_reading;
 mod journal_summary;
 mod journal_trait;
 pub mod laws;
 mod line_read_outcome;
 mod line_reader;
-mod node_replay;
 mod process_error;
 mod process_loop;
 mod process_start;
@@ -19,6 +20,9 @@ mod recover_site;
 mod recovered_site;
 mod recovery_error;
 mod replay_lines;
+mod state_line;
+mod state_line_parser;
+mod state_telling;
 mod summary_reader;
 
 pub use journal_entry::Entry;
@@ -36,4 +40,6 @@ pub use recover_site::recover;
 pub use recovered_site::Recovered;
 pub use recovery_error::RecoveryFault;
 pub use replay_lines::{Replay, replay_rest};
+pub use state_line::{Ending, StateLine};
+pub use state_line_parser::parse_state_line;
 pub use summary_reader::read_summary;

@@ -1,19 +1,23 @@
 //! A site from its journal.
 ghost use Rattle.std.specs.Prelude.{◌≡◌, ◌==◌, ◌+◌, ◌<◌, ◌≤◌, ℕ, false, option_map, true, IfErr, IfOk, OnOk};
 ghost use Rattle.std.specs.Io.KnownBytes.{IsAtEnd};
-ghost use Rattle.shm_journal.specs.Found.{found, found_behind, opened, replayed_line};
+ghost use Rattle.shm_journal.specs.Found.{Sound, reached, rest_found, site_in};
 ghost use Rattle.shm_journal.specs.HeaderOf.{header_of};
 ghost use Rattle.shm_journal.specs.Leading.{Leads};
 ghost use Rattle.shm_journal.specs.LinesOf.{left_of};
-ghost use Rattle.shm_journal.specs.ReadUpTo.{ReadsToLine, ReadsWhole};
-ghost use Rattle.shm_journal.specs.Recovers.{ReadsAll, ReadsUpTo, Recovers, as_recovery, front_checked, header_checked};
+ghost use Rattle.shm_journal.specs.ReadUpTo.{ReadsSite, ReadsWhole};
+ghost use Rattle.shm_journal.specs.Recovers.{EntriesReadUpTo, ReadsAll, ReadsUpTo, Recovers, as_recovery, front_checked, header_checked};
+ghost use Rattle.shm_journal.specs.StageOf.{Stands};
+ghost use Rattle.shm_journal.specs.Stages.{InState, Stage, Telling, begun, next_stage};
 ghost use Rattle.shm_journal.specs.declared.journal_error.JournalFault.{JournalFault as Fault};
+ghost use Rattle.shm_journal.specs.declared.recovery_error.RecoveryFault.TheVariants as recovery;
 ghost use Rattle.shm_process.specs.NodeOf.{node_of};
 ghost use Rattle.shm_seal.specs.NameOf.{name_of};
 
 use crate::journal_error::JournalFault;
 use crate::journal_header::Header;
 use crate::journal_line_parser::parse_header;
+use crate::journal_reading::Reading;
 use crate::line_read_outcome::Taken;
 use crate::line_reader::Lines;
 use crate::recovered_site::Recovered;
@@ -26,9 +30,10 @@ use std::alloc::Allocator;
 use std::io::Read;
 
 /// Recovers the site after the steps that its journal records; one of these sites, where segment 0 began with this number of pages, in the
-/// cluster of this name, or in one without a name. What stands behind the last line feed is torn: it counts for nothing, unless it is too long
-/// for a line, or stands alone and is no front of the header. At most one line of the journal is held at once. After a fault the reader stands
-/// a little behind the wrong line.
+/// cluster of this name, or in one without a name. A journal that begins with a state leads on from there. What stands behind the last line
+/// feed is torn: it counts for nothing, unless it is too long for a line, or stands alone and is no front of the header. At most one line of
+/// the journal is held at once, and what its state has told. After a fault the reader stands a little behind the wrong line, or at the end
+/// where the state's own end is missing.
 pub fn recover<A: Allocator + Copy, R: Read>(
     alloc: A,
     sites: Sites,
@@ -54,26 +59,27 @@ pub fn recover<A: Allocator + Copy, R: Read>(
         pages,
         cluster,
     };
-    read_journal(alloc, header, node, reader)
+    let site = Reading::new(alloc, node, sites, me);
+    read_journal(alloc, header, site, reader)
 }
 
-/// The site after the steps that the journal of this header records, where nothing has happened at this one.
+/// The site after the steps that the journal of this header records, where none of it is read yet.
 fn read_journal<A: Allocator + Copy, R: Read>(
     alloc: A,
     header: Header,
-    node: Node<A>,
+    site: Reading<A>,
     reader: &mut R,
 ) -> Result<Recovered<A>, RecoveryFault>
-    requires { node_of node ≡ opened (header_of header) }
-    ensures whole { IfOk result (λ r. ReadsWhole (found (header_of header)) (R.remaining reader.old) (R.remaining reader.new) (node_of r.node) r.whole) }
+    requires { Stands site (begun (header_of header)) }
+    ensures whole { IfOk result (λ r. ReadsSite (reached (header_of header)) (R.remaining reader.old) (R.remaining reader.new) (node_of r.node) r.whole) }
     ensures new { IfOk result (λ r. r.is_new ≡ (r.whole == 0)) }
     ensures left { IfErr result (ReadsUpTo (header_of header) (R.remaining reader.old) (R.remaining reader.new)) }
 {
     let mut lines = Lines::new(alloc);
     match read_header(alloc, header, &mut lines, reader) {
-        Ok(true) => read_entries(alloc, lines, node, reader),
+        Ok(true) => read_entries(alloc, lines, site, reader),
         Ok(false) => Ok(Recovered {
-            node,
+            node: site.node,
             whole: 0,
             is_new: true,
         }),
@@ -90,11 +96,11 @@ fn read_header<A: Allocator + Copy, R: Read>(
     reader: &mut R,
 ) -> Result<bool, RecoveryFault>
     requires { lines.old.whole ≡ 0 }
-    ensures whole { IfOk result (λ whole. whole ≡ true → Leads replayed_line (found (header_of header)) (left_of lines.old (R.remaining reader.old))
-        (left_of lines.new (R.remaining reader.new)) 2 (opened (header_of header)) lines.new.whole) }
+    ensures whole { IfOk result (λ whole. whole ≡ true → Leads next_stage (reached (header_of header)) (left_of lines.old (R.remaining reader.old))
+        (left_of lines.new (R.remaining reader.new)) 2 (begun (header_of header)) lines.new.whole) }
     ensures some { IfOk result (λ whole. whole ≡ true → 0 < lines.new.whole) }
-    ensures none { IfOk result (λ whole. whole ≡ false → ReadsWhole (found (header_of header)) (left_of lines.old (R.remaining reader.old))
-        (R.remaining reader.new) (opened (header_of header)) 0) }
+    ensures none { IfOk result (λ whole. whole ≡ false → ReadsWhole (reached (header_of header)) (left_of lines.old (R.remaining reader.old))
+        (R.remaining reader.new) (begun (header_of header)) 0) }
     ensures left { IfErr result (ReadsUpTo (header_of header) (left_of lines.old (R.remaining reader.old)) (R.remaining reader.new)) }
 {
     let Ok(own) = format!(in alloc; "{header}") else {
@@ -135,25 +141,42 @@ fn check_front(own: &[u8], torn: &[u8]) -> Result<bool, RecoveryFault>
 fn read_entries<A: Allocator + Copy, R: Read>(
     alloc: A,
     lines: Lines<A>,
-    node: Node<A>,
+    site: Reading<A>,
     reader: &mut R,
 ) -> Result<Recovered<A>, RecoveryFault>
-    ensures whole { IfOk result (λ r. (more : ℕ) × (r.whole ≡ lines.whole + more) × ReadsWhole (λ rest. found_behind replayed_line 2 (node_of node) rest)
+    ensures whole { (stage : Stage) → Stands site stage → IfOk result (λ r. (more : ℕ) × (r.whole ≡ lines.whole + more) × ReadsSite (rest_found stage)
         (left_of lines (R.remaining reader.old)) (R.remaining reader.new) (node_of r.node) more) }
     ensures old { IfOk result (λ r. r.is_new ≡ false) }
-    ensures left { IfErr result (λ f. (why : Fault) × (f ≡ as_recovery why) × ReadsToLine (λ rest. found_behind replayed_line 2 (node_of node) rest)
+    ensures left { (stage : Stage) → Stands site stage → IfErr result (λ f. (why : Fault) × (f ≡ as_recovery why) × EntriesReadUpTo stage
         (left_of lines (R.remaining reader.old)) (R.remaining reader.new) why) }
 {
     let mut lines = lines;
-    let mut node = node;
-    match replay_rest(alloc, &mut lines, &mut node, reader) {
-        Ok(()) => Ok(Recovered {
-            node,
-            whole: lines.whole(),
-            is_new: false,
-        }),
+    let mut site = site;
+    match replay_rest(alloc, &mut lines, &mut site, reader) {
+        Ok(()) => recovered(site, lines.whole()),
         Err(fault) => Err(recovery_fault(fault)),
     }
+}
+
+/// The site that all lines lead to, which have so many bytes.
+fn recovered<A: Allocator + Copy>(
+    site: Reading<A>,
+    whole: u64,
+) -> Result<Recovered<A>, RecoveryFault>
+    ensures node { (stage : Stage) → Stands site stage → IfOk result (λ r. site_in (Sound stage) ≡ Sound (node_of r.node)) }
+    ensures whole { IfOk result (λ r. r.whole ≡ whole) }
+    ensures old { IfOk result (λ r. r.is_new ≡ false) }
+    ensures fault { IfErr result (λ f. f ≡ recovery.UnendedState) }
+    ensures unended { (stage : Stage) → Stands site stage → IfErr result (λ f. (telling : Telling) × (stage ≡ InState telling)) }
+{
+    let Some(node) = site.into_node() else {
+        return Err(RecoveryFault::UnendedState);
+    };
+    Ok(Recovered {
+        node,
+        whole,
+        is_new: false,
+    })
 }
 
 /// The fault, as one of a start.
@@ -164,5 +187,7 @@ fn recovery_fault(fault: JournalFault) -> RecoveryFault
         JournalFault::OutOfMemory => RecoveryFault::OutOfMemory,
         JournalFault::ReadFault => RecoveryFault::ReadFault,
         JournalFault::BadLine(number) => RecoveryFault::BadLine(number),
+        JournalFault::UnendedState => RecoveryFault::UnendedState,
+        JournalFault::BeginsWithState => RecoveryFault::BadLine(2),
     }
 }

@@ -15,4 +15,7 @@ pub enum RecoveryFault {
     /// The line of this number, from 1, is none of a journal's, or records steps that can't be the site's next ones.
     #[error("journal: line {0}: no entry of this site")]
     BadLine(u64),
+    /// It ends within the state that it begins with.
+    #[error("journal: ends within a state")]
+    UnendedState,
 }

@@ -18,14 +18,15 @@ pub trait Replay<A: Allocator + Copy> {
     /// The state that a contract sees of it.
     ghost State: { Type 0 };
 
-    ghost state: { Self → State };
+    /// It stands at this state.
+    ghost stands: { Self → State → Type 0 };
 
     /// The state after the steps that a line records, if they can be its next ones.
     ghost next: { State → List ℕ → Option State };
 
     /// Makes the steps that this line records. `false`: they can't be the next ones.
     fn replay_line(&mut self, alloc: A, line: &[u8]) -> Result<bool, AllocError>
-        ensures { IfOk result (λ made. IsNext made (next (state self.old) line.now) (state self.new)) };
+        ensures { (state : State) → stands self.old state → IfOk result (λ made. IsNext made (next state line.now) (stands self.new)) };
 }
 
 /// The site makes each step again that the lines behind the first record, one after another. What is torn is the line that was taken last.
@@ -35,12 +36,12 @@ pub fn replay_rest<A: Allocator + Copy, T: Replay<A>, R: Read>(
     site: &mut T,
     reader: &mut R,
 ) -> Result<(), JournalFault>
-    ensures whole { OnOk result ((more : ℕ) × (lines.new.whole ≡ lines.old.whole + more)
-        × (read : ReadsWhole (λ rest. found_behind T.next 2 (T.state site.old) rest) (left_of lines.old (R.remaining reader.old))
-        (R.remaining reader.new) (T.state site.new) more)
-        × (line_in lines.new ≡ (lines_of read.bytes).torn)) }
-    ensures left { IfErr result (ReadsToLine (λ rest. found_behind T.next 2 (T.state site.old) rest) (left_of lines.old (R.remaining reader.old))
-        (R.remaining reader.new)) }
+    ensures whole { (state : T.State) → T.stands site.old state → OnOk result ((more : ℕ) × (last : T.State) × (lines.new.whole ≡ lines.old.whole + more)
+        × T.stands site.new last
+        × ((read : ReadsWhole (λ rest. found_behind T.next 2 state rest) (left_of lines.old (R.remaining reader.old)) (R.remaining reader.new) last more)
+        × (line_in lines.new ≡ (lines_of read.bytes).torn))) }
+    ensures left { (state : T.State) → T.stands site.old state → IfErr result (ReadsToLine (λ rest. found_behind T.next 2 state rest)
+        (left_of lines.old (R.remaining reader.old)) (R.remaining reader.new)) }
 {
     'lines: for number in 2..u64::MAX {
         match lines.take(reader) {

@@ -1,18 +1,19 @@
 //! Reads the summary of a journal, whichever site's it is.
 ghost use Rattle.std.specs.Prelude.{◌≡◌, ◌⊎◌, None, Some, true, IfErr, IfOk, OnOk};
 ghost use Rattle.std.specs.Io.KnownBytes.{IsAtEnd};
-ghost use Rattle.shm_journal.specs.Found.{opened};
 ghost use Rattle.shm_journal.specs.HeaderOf.{header_of};
 ghost use Rattle.shm_journal.specs.Lines.{read_header};
 ghost use Rattle.shm_journal.specs.LinesOf.{left_of};
 ghost use Rattle.shm_journal.specs.Recovers.{ReadsAll};
-ghost use Rattle.shm_journal.specs.Summed.{NamesFirst, RestReadsUpTo, SummaryReadsUpTo, SumsRest, SumsUpKnown, in_limits, node_named};
+ghost use Rattle.shm_journal.specs.StageOf.{Stands};
+ghost use Rattle.shm_journal.specs.Stages.{begun};
+ghost use Rattle.shm_journal.specs.Summed.{NamesFirst, RestReadsUpTo, SummaryReadsUpTo, SumsRest, SumsUpKnown, in_limits, stage_named};
 ghost use Rattle.shm_journal.specs.declared.journal_error.JournalFault.TheVariants as fault;
-ghost use Rattle.shm_process.specs.NodeOf.{node_of};
 
 use crate::journal_error::JournalFault;
 use crate::journal_header::Header;
 use crate::journal_line_parser::parse_header;
+use crate::journal_reading::Reading;
 use crate::journal_summary::Summary;
 use crate::line_read_outcome::Taken;
 use crate::line_reader::Lines;
@@ -26,11 +27,12 @@ use std::io::Read;
 #[derive(Drop)]
 struct Named<A: Allocator + Copy = Global> {
     header: Header,
-    node: Node<A>,
+    site: Reading<A>,
 }
 
-/// Reads the summary of this journal, whichever site's it is: it makes each of its steps again, as at its site's start. At most one line of
-/// it is held at once. After a fault the reader stands a little behind the wrong line.
+/// Reads the summary of this journal, whichever site's it is: it makes each of its steps again, as at its site's start, from the state that it
+/// begins with, if there is one. At most one line of it is held at once, and what its state has told. After a fault the reader stands a little
+/// behind the wrong line, or at the end where the state's own end is missing.
 pub fn read_summary<A: Allocator + Copy, R: Read>(
     alloc: A,
     reader: &mut R,
@@ -55,7 +57,8 @@ fn read_named<A: Allocator + Copy, R: Read>(
 ) -> Result<Named<A>, JournalFault>
     requires { lines.old.whole ≡ 0 }
     ensures ok { IfOk result (λ n. NamesFirst (left_of lines.old (R.remaining reader.old)) (left_of lines.new (R.remaining reader.new))
-        (header_of n.header) (node_of n.node) lines.new.whole) }
+        (header_of n.header) lines.new.whole) }
+    ensures begins { IfOk result (λ n. Stands n.site (begun (header_of n.header))) }
     ensures left { IfErr result (SummaryReadsUpTo (left_of lines.old (R.remaining reader.old)) (R.remaining reader.new)) }
 {
     match lines.take(reader) {
@@ -70,8 +73,8 @@ fn read_named<A: Allocator + Copy, R: Read>(
 fn open_named<A: Allocator + Copy>(alloc: A, line: &[u8]) -> Result<Named<A>, JournalFault>
     ensures read { IfOk result (λ n. read_header line.now ≡ Some (header_of n.header)) }
     ensures limits { IfOk result (λ n. in_limits (header_of n.header) ≡ true) }
-    ensures begins { IfOk result (λ n. node_of n.node ≡ opened (header_of n.header)) }
-    ensures err { IfErr result (λ f. (f ≡ fault.OutOfMemory) ⊎ ((f ≡ fault.BadLine 1) × (node_named line.now ≡ None))) }
+    ensures begins { IfOk result (λ n. Stands n.site (begun (header_of n.header))) }
+    ensures err { IfErr result (λ f. (f ≡ fault.OutOfMemory) ⊎ ((f ≡ fault.BadLine 1) × (stage_named line.now ≡ None))) }
 {
     let Some(header) = parse_header(line) else {
         return Err(JournalFault::BadLine(1));
@@ -82,8 +85,12 @@ fn open_named<A: Allocator + Copy>(alloc: A, line: &[u8]) -> Result<Named<A>, Jo
     if header.me >= sites.count() || header.pages < 1 || header.pages > PAGES {
         return Err(JournalFault::BadLine(1));
     }
-    match Node::new(alloc, sites, SiteId(header.me), header.pages) {
-        Ok(node) => Ok(Named { header, node }),
+    let me = SiteId(header.me);
+    match Node::new(alloc, sites, me, header.pages) {
+        Ok(node) => Ok(Named {
+            header,
+            site: Reading::new(alloc, node, sites, me),
+        }),
         Err(_) => Err(JournalFault::OutOfMemory),
     }
 }
@@ -95,20 +102,23 @@ fn sum_rest<A: Allocator + Copy, R: Read>(
     named: Named<A>,
     reader: &mut R,
 ) -> Result<Summary, JournalFault>
-    ensures ok { IfOk result (SumsRest (node_of named.node) (left_of lines (R.remaining reader.old)) (R.remaining reader.new)
-        (header_of named.header) lines.whole) }
-    ensures left { IfErr result (RestReadsUpTo (node_of named.node) (left_of lines (R.remaining reader.old)) (R.remaining reader.new)) }
+    requires { Stands named.site (begun (header_of named.header)) }
+    ensures ok { IfOk result (SumsRest (header_of named.header) (left_of lines (R.remaining reader.old)) (R.remaining reader.new) lines.whole) }
+    ensures left { IfErr result (RestReadsUpTo (header_of named.header) (left_of lines (R.remaining reader.old)) (R.remaining reader.new)) }
 {
     let mut lines = lines;
-    let Named { header, node } = named;
-    let mut node = node;
-    match replay_rest(alloc, &mut lines, &mut node, reader) {
+    let Named { header, site } = named;
+    let mut site = site;
+    match replay_rest(alloc, &mut lines, &mut site, reader) {
         Ok(()) => {}
         Err(fault) => return Err(fault),
     }
     let torn = lines.line().len() as u64;
     let Some(bytes) = lines.whole().checked_add(torn) else {
         return Err(JournalFault::ReadFault);
+    };
+    let Some(node) = site.into_node() else {
+        return Err(JournalFault::UnendedState);
     };
     Ok(Summary {
         site: header.me,

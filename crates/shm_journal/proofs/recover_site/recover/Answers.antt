@@ -1,8 +1,10 @@
 use Rattle.std.proofs.Common.{◌≡◌, ap, ap₂, subst, sym, ◌∙◌}
 use Rattle.std.specs.Prelude.{IfErr, IfOk, option_map}
 use Rattle.shm_process.specs.NodeOf.{node_of}
-use Rattle.shm_journal.specs.Found.{found, opened}
-use Rattle.shm_journal.specs.ReadUpTo.{ReadsWhole}
+use Rattle.shm_journal.specs.Found.{reached}
+use Rattle.shm_journal.specs.ReadUpTo.{ReadsSite}
+use Rattle.shm_journal.specs.StageOf.{Stands}
+use Rattle.shm_journal.specs.Stages.{Opened, begun, telling_nothing}
 use Rattle.shm_journal.specs.Recovers.{ReadsUpTo}
 use Rattle.shm_journal.proofs.Fronts.{any_file}
 use Rattle.shm_journal.proofs.RecoveryLemmas.{nothing_read, of_numbers, whole_all, whole_end, whole_found}
@@ -12,7 +14,7 @@ use Rattle.shm_journal.proofs.recover_site.recover.Goals as goal
 pub read_journal-requires : goal.read_journal-requires
 read_journal-requires g c =
     let same = ap₂ (λ sites me. of_numbers sites me c.args.pages (option_map name_of c.args.cluster)) c.count.ensures.value c.me.view_is in
-    c.in-Ok.ensures ∙ sym (ap opened same)
+    subst (Stands c.new-site.result) (ap (λ n. Opened n (telling_nothing c.args.sites c.args.me)) c.in-Ok.ensures ∙ sym (ap begun same)) c.new-site.ensures
 
 pub returns-clause-end : goal.returns-clause-end
 returns-clause-end g c =
@@ -22,7 +24,7 @@ returns-clause-end g c =
     let header = of_numbers c.args.sites c.args.me c.args.pages (option_map name_of c.args.cluster) in
     let same = ap₂ (λ sites me. of_numbers sites me c.args.pages (option_map name_of c.args.cluster)) c.count.ensures.value c.me.view_is in
     whole_end header old new c.read_journal.result
-    (subst (λ h. IfOk c.read_journal.result (λ r. ReadsWhole (found h) old new (node_of r.node) r.whole)) same c.read_journal.ensures.whole)
+    (subst (λ h. IfOk c.read_journal.result (λ r. ReadsSite (reached h) old new (node_of r.node) r.whole)) same c.read_journal.ensures.whole)
 
 pub returns-clause-all : goal.returns-clause-all
 returns-clause-all g c =
@@ -32,7 +34,7 @@ returns-clause-all g c =
     let header = of_numbers c.args.sites c.args.me c.args.pages (option_map name_of c.args.cluster) in
     let same = ap₂ (λ sites me. of_numbers sites me c.args.pages (option_map name_of c.args.cluster)) c.count.ensures.value c.me.view_is in
     whole_all header old new c.read_journal.result
-    (subst (λ h. IfOk c.read_journal.result (λ r. ReadsWhole (found h) old new (node_of r.node) r.whole)) same c.read_journal.ensures.whole)
+    (subst (λ h. IfOk c.read_journal.result (λ r. ReadsSite (reached h) old new (node_of r.node) r.whole)) same c.read_journal.ensures.whole)
 
 pub returns-clause-left : goal.returns-clause-left
 returns-clause-left g c =
@@ -50,7 +52,7 @@ returns-clause-found g c =
     let header = of_numbers c.args.sites c.args.me c.args.pages (option_map name_of c.args.cluster) in
     let same = ap₂ (λ sites me. of_numbers sites me c.args.pages (option_map name_of c.args.cluster)) c.count.ensures.value c.me.view_is in
     whole_found g.row.A.Denot header old new c.read_journal.result
-    (subst (λ h. IfOk c.read_journal.result (λ r. ReadsWhole (found h) old new (node_of r.node) r.whole)) same c.read_journal.ensures.whole)
+    (subst (λ h. IfOk c.read_journal.result (λ r. ReadsSite (reached h) old new (node_of r.node) r.whole)) same c.read_journal.ensures.whole)
     c.read_journal.ensures.new
     (subst (λ h. IfErr c.read_journal.result (ReadsUpTo h old new)) same c.read_journal.ensures.left)
 

@@ -19,7 +19,7 @@ returns-in-Ok-Whole-clause-ok g c =
     let count : lines.whole ≡ length line + 1 = omega (arith, counted, c.requires) in
     names_first before (left_of lines now) line c.line.result.now lines.whole c.open_named.result
     (taken_whole o.field-0 before (left_of lines now) now line o.field-0-is o.ensures.takes) o.ensures.unended o.ensures.short c.line.ensures count
-    c.open_named.ensures.read c.open_named.ensures.limits c.open_named.ensures.begins
+    c.open_named.ensures.read c.open_named.ensures.limits
 
 pub returns-in-Ok-Whole-clause-left : goal.returns-in-Ok-Whole-clause-left
 returns-in-Ok-Whole-clause-left g c =

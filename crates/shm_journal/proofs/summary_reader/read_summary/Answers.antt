@@ -1,5 +1,4 @@
 use Rattle.std.proofs.Common.{subst}
-use Rattle.shm_process.specs.NodeOf.{node_of}
 use Rattle.shm_journal.specs.HeaderOf.{header_of}
 use Rattle.shm_journal.specs.LinesOf.{left_of}
 use Rattle.shm_journal.specs.Summed.{SummaryReadsUpTo}
@@ -14,7 +13,7 @@ returns-in-Ok-clause-end g c =
     let lines = c.read_named.new.lines in
     let n = c.in-Ok.named in
     summary_end old new c.sum_rest.result
-    (summary_led old (left_of c.new-lines.result old) (left_of lines (remaining c.read_named.new.reader)) new (header_of n.header) (node_of n.node) lines.whole c.sum_rest.result
+    (summary_led old (left_of c.new-lines.result old) (left_of lines (remaining c.read_named.new.reader)) new (header_of n.header) lines.whole c.sum_rest.result
     (c.new-lines.ensures.left old) c.in-Ok.ensures.ok c.sum_rest.ensures.ok)
 
 pub returns-in-Ok-clause-all : goal.returns-in-Ok-clause-all
@@ -25,7 +24,7 @@ returns-in-Ok-clause-all g c =
     let lines = c.read_named.new.lines in
     let n = c.in-Ok.named in
     summary_all old new c.sum_rest.result
-    (summary_led old (left_of c.new-lines.result old) (left_of lines (remaining c.read_named.new.reader)) new (header_of n.header) (node_of n.node) lines.whole c.sum_rest.result
+    (summary_led old (left_of c.new-lines.result old) (left_of lines (remaining c.read_named.new.reader)) new (header_of n.header) lines.whole c.sum_rest.result
     (c.new-lines.ensures.left old) c.in-Ok.ensures.ok c.sum_rest.ensures.ok)
 
 pub returns-in-Ok-clause-left : goal.returns-in-Ok-clause-left
@@ -34,7 +33,7 @@ returns-in-Ok-clause-left g c =
     let old = remaining c.args.reader.now in
     let lines = c.read_named.new.lines in
     let n = c.in-Ok.named in
-    fault_led old (left_of c.new-lines.result old) (left_of lines (remaining c.read_named.new.reader)) (remaining c.sum_rest.new.reader) (header_of n.header) (node_of n.node) lines.whole
+    fault_led old (left_of c.new-lines.result old) (left_of lines (remaining c.read_named.new.reader)) (remaining c.sum_rest.new.reader) (header_of n.header) lines.whole
     c.sum_rest.result (c.new-lines.ensures.left old) c.in-Ok.ensures.ok c.sum_rest.ensures.left
 
 pub returns-in-Ok-clause-summed : goal.returns-in-Ok-clause-summed
@@ -46,9 +45,9 @@ returns-in-Ok-clause-summed g c =
     let left = left_of lines (remaining c.read_named.new.reader) in
     let n = c.in-Ok.named in
     summary_known old new c.sum_rest.result
-    (summary_led old (left_of c.new-lines.result old) left new (header_of n.header) (node_of n.node) lines.whole c.sum_rest.result (c.new-lines.ensures.left old) c.in-Ok.ensures.ok
+    (summary_led old (left_of c.new-lines.result old) left new (header_of n.header) lines.whole c.sum_rest.result (c.new-lines.ensures.left old) c.in-Ok.ensures.ok
     c.sum_rest.ensures.ok)
-    (fault_led old (left_of c.new-lines.result old) left new (header_of n.header) (node_of n.node) lines.whole c.sum_rest.result (c.new-lines.ensures.left old) c.in-Ok.ensures.ok
+    (fault_led old (left_of c.new-lines.result old) left new (header_of n.header) lines.whole c.sum_rest.result (c.new-lines.ensures.left old) c.in-Ok.ensures.ok
     c.sum_rest.ensures.left)
 
 pub returns-in-Err-clause-left : goal.returns-in-Err-clause-left
