@@ -1,5 +1,5 @@
 -- How a site begins with its journal, or why it doesn't, by what was recovered of it and how it was asked for.
-use Rattle.std.proofs.Common.{◌≡◌, ◌∙◌, ◌⊎◌, ℕ, Bool, List, Option, Ok, false, true, if◌then◌else◌, not, ap, inl, inr, refl, subst, sym}
+use Rattle.std.proofs.Common.{◌≡◌, ◌∙◌, ℕ, Bool, List, Option, Ok, false, true, if◌then◌else◌, not, ap, inr, refl, subst, sym}
 use Rattle.std.specs.Prelude.{IfSome}
 use Rattle.shm_journal.specs.DeskFrom.{desk_from}
 use Rattle.shm_journal.specs.Found.{bytes_of_lines, lines_of}

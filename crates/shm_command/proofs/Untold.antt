@@ -19,3 +19,5 @@ pub unread_untold : (remaining : Option (List ℕ)) (at : ℕ) (f : JournalFault
 unread_untold remaining at journal.OutOfMemory h = tt
 unread_untold remaining at journal.ReadFault h = tt
 unread_untold remaining at (journal.BadLine number) h = (h.0, h.2)
+unread_untold remaining at journal.UnendedState h = (h.0, h.2)
+unread_untold remaining at journal.BeginsWithState h = h.2

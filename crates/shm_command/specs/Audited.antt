@@ -37,6 +37,8 @@ abbrev pub journal_status : JournalFault → ℕ
 journal_status journal.OutOfMemory = 3
 journal_status journal.ReadFault = 3
 journal_status (journal.BadLine number) = 1
+journal_status journal.UnendedState = 1
+journal_status journal.BeginsWithState = 1
 
 abbrev pub journals_status : JournalsFault → ℕ
 journals_status journals.OutOfMemory = 3

@@ -62,6 +62,7 @@ recovery_status recovery.OutOfMemory = 3
 recovery_status recovery.ReadFault = 3
 recovery_status recovery.Foreign = 1
 recovery_status (recovery.BadLine number) = 1
+recovery_status recovery.UnendedState = 1
 
 -- the journal is too old; or something failed
 abbrev pub process_status : ProcessFault → ℕ

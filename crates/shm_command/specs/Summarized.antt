@@ -1,7 +1,7 @@
 -- What is told of a journal, and the cause and the status where it isn't.
 use Rattle.std.specs.Prelude.{⊤, ◌≡◌, ◌≢◌, ℕ, List, Option}
 use Rattle.std.specs.Io.KnownBytes.{Appends}
-use Rattle.shm_journal.specs.Found.{Bad}
+use Rattle.shm_journal.specs.Found.{Bad, Partial}
 use Rattle.shm_journal.specs.Summed.{IsSummary, found_any}
 use Rattle.shm_journal.specs.declared.journal_error.JournalFault.TheVariants as journal
 use Rattle.shm_command.specs.Audited.{unaudited_status}
@@ -17,9 +17,11 @@ pub record TellsSummary (old new : Option (List ℕ)) : Type 0 where
   pub is : IsSummary journal summary.lines
   pub told : Appends old new (file_summary_text summary)
 
--- a file has a bad line there; or something else failed
+-- a file has a bad line there, or ends within a state; or something else failed. What a journal begins with is told of it all the same.
 abbrev pub IsUntold : Unaudited → Type 0
 IsUntold (cause.Unread at (journal.BadLine number)) = (file : List ℕ) × (found_any file ≡ Bad number)
+IsUntold (cause.Unread at journal.UnendedState) = (file : List ℕ) × (found_any file ≡ Partial)
+IsUntold (cause.Unread at journal.BeginsWithState) = ⊥
 IsUntold (cause.Unaccepted fault) = ⊥
 IsUntold _ = ⊤
 

@@ -100,7 +100,8 @@ pub fn site_fault<E: Write>(fault: SiteFault, errors: &mut E) -> u8
     match fault {
         SiteFault::Missing | SiteFault::NoFile | SiteFault::Existing | SiteFault::Blank => 1,
         SiteFault::Damaged(_) | SiteFault::Unmarked => 1,
-        SiteFault::Unrecovered(RecoveryFault::Foreign | RecoveryFault::BadLine(_)) => 1,
+        SiteFault::Unrecovered(RecoveryFault::OutOfMemory | RecoveryFault::ReadFault) => 3,
+        SiteFault::Unrecovered(_) => 1,
         SiteFault::Ended(ProcessFault::TooOld { .. }) => 1,
         _ => 3,
     }
@@ -168,8 +169,9 @@ fn status_of(fault: &Unaudited) -> u8
     match fault {
         Unaudited::OutOfMemory | Unaudited::WriteFault | Unaudited::Unopened { .. } => 3,
         Unaudited::Unread { at: _, fault } => match fault {
-            JournalFault::BadLine(_) => 1,
             JournalFault::OutOfMemory | JournalFault::ReadFault => 3,
+            JournalFault::BadLine(_) => 1,
+            JournalFault::UnendedState | JournalFault::BeginsWithState => 1,
         },
         Unaudited::Damaged { .. } | Unaudited::Unmarked { .. } => 1,
         Unaudited::OtherCluster { .. } => 1,

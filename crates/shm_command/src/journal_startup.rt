@@ -225,8 +225,8 @@ fn open_durable<R: AllocGlobal + Files, F: OpenFile>(
     }
 }
 
-/// Whose journal it is.
-fn header_of_site(sites: Sites, me: SiteId, pages: u32, seal: &Seal) -> Header
+/// The header of this site's journal.
+pub(crate) fn header_of_site(sites: Sites, me: SiteId, pages: u32, seal: &Seal) -> Header
     ensures { header_of result ≡ header_at sites me pages (cluster_of (seal_of seal.now)) }
 {
     Header {

@@ -15,7 +15,7 @@ ghost use Rattle.shm_command.specs.Served.{IsServed, IsUnbegun, ServesFrom};
 use crate::elapsed_time::{milliseconds_since, seconds_since_1970};
 use crate::error_text_and_status;
 use crate::journal_backends::{JournalFile, NoJournal};
-use crate::journal_startup::{Begun, Kept, Lock, begin_kept, open_journal};
+use crate::journal_startup::{Begun, Kept, Lock, begin_kept, header_of_site, open_journal};
 use crate::site_error::SiteFault;
 use crate::whole_journal::{WholeJournal, may_begin, open_whole};
 use shm_batches::Extent;
@@ -94,12 +94,7 @@ where
         Err(unwhole) => return Err(unwhole.of_site()),
     };
     let WholeJournal { extent, mut lines } = whole;
-    let header = Header {
-        sites: sites.count(),
-        me: me.0,
-        pages,
-        cluster: seal.name(),
-    };
+    let header = header_of_site(sites, me, pages, &seal);
     match check_front(rt, kept, header, extent) {
         Ok(()) => {}
         Err(fault) => return Err(fault),
@@ -164,12 +159,7 @@ fn begin(
         (opening_of (header_at sites me pages (cluster_of (seal_of seal)))) (start_at since 0)) }
 {
     let node = Node::new(alloc, sites, me, pages)?;
-    let header = Header {
-        sites: sites.count(),
-        me: me.0,
-        pages,
-        cluster: seal.name(),
-    };
+    let header = header_of_site(sites, me, pages, &seal);
     let start = Start { journal: 0, since };
     Desk::greeting(alloc, seal, node, header.opening(), start)
 }

@@ -138,7 +138,7 @@ fn begins_unmarked<I: Read>(alloc: Global, reader: &mut I) -> Result<bool, Journ
 fn as_batch_fault(fault: JournalFault) -> BatchFault {
     match fault {
         JournalFault::OutOfMemory => BatchFault::OutOfMemory,
-        JournalFault::ReadFault | JournalFault::BadLine(_) => BatchFault::ReadFault,
+        _ => BatchFault::ReadFault,
     }
 }
 

@@ -1,4 +1,4 @@
-use Rattle.std.proofs.Common.{◌≡◌, ◌∙◌, sym, Ok}
+use Rattle.std.proofs.Common.{◌∙◌, sym, Ok}
 use Rattle.shm_journal.specs.Lines.{Header}
 use Rattle.shm_journal.specs.Recovers.{ReadsUpTo, Recovers}
 use Rattle.shm_seal.specs.Seal.{cluster_of}
