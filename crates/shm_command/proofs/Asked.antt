@@ -10,7 +10,7 @@ use Rattle.shm_command.specs.Commands.{app}
 use Rattle.shm_command.specs.Done.{has_audit, is_simulation}
 use Rattle.shm_command.specs.Words.{among_fault, asked_for, fault_in, file_fault, has_file, has_plain_numbers, is_among, name_of, names_file, names_one, task_fault, AskFor, IsAsked, IsOneOfSites}
 use Rattle.shm_command.specs.declared.args.task.Task.{Task}
-use Rattle.shm_command.specs.declared.args.task.Task.TheVariants.{Audit, Draw, Journal, Prompt, Replay, Run, Simulate, Site}
+use Rattle.shm_command.specs.declared.args.task.Task.TheVariants.{Audit, Draw, Journal, Prompt, Replay, Run, Shorten, Simulate, Site}
 use Rattle.shm_command.specs.Status.{Asks, AsksForAudit, Takes}
 use Rattle.shm_command.proofs.Wrong.{plainly_spelled}
 
@@ -43,6 +43,7 @@ one_of_sites name rows (Draw page steps notes file) among asked = tt
 one_of_sites name rows (Site sites me pages journal begins seal) among asked = (is_below sites me among, asked.options.3)
 one_of_sites name rows (Audit sites journals) among asked = tt
 one_of_sites name rows (Journal file) among asked = tt
+one_of_sites name rows (Shorten file) among asked = tt
 
 pub one_of_asked : (words : List Text) (task : Task) → is_among task ≡ true → AskFor words task → IsOneOfSites task
 one_of_asked words task among asked =
@@ -58,6 +59,7 @@ one_named name rows (Draw page steps notes file) asked = rw asked.called refl
 one_named name rows (Site sites me pages journal begins seal) asked = rw (asked.called, asked.options.0, asked.options.1) refl
 one_named name rows (Audit sites journals) asked = rw asked.called refl
 one_named name rows (Journal file) asked = rw asked.called refl
+one_named name rows (Shorten file) asked = rw asked.called refl
 
 -- the words name a site that is there where their task does
 pub among_asked : (words : List Text) (task : Task) → AskFor words task → option_map_or names_one (subcommand_of app words) true ≡ is_among task
@@ -75,6 +77,7 @@ file_named name rows (Site sites me pages None begins seal) asked = rw (asked.ca
 file_named name rows (Site sites me pages (Some file) begins seal) asked = rw (asked.called, asked.options.4, asked.options.5) refl
 file_named name rows (Audit sites journals) asked = rw asked.called refl
 file_named name rows (Journal file) asked = rw asked.called refl
+file_named name rows (Shorten file) asked = rw asked.called refl
 
 -- the words name a file for the journal that is to be begun where their task does
 pub file_asked : (words : List Text) (task : Task) → AskFor words task → option_map_or names_file (subcommand_of app words) true ≡ has_file task
@@ -102,6 +105,7 @@ by_name (Draw page steps notes file) = refl
 by_name (Site sites me pages journal begins seal) = refl
 by_name (Audit sites journals) = refl
 by_name (Journal file) = refl
+by_name (Shorten file) = refl
 
 of_audit : (task : Task) → has_audit task ≡ true → (name_of task ≡ codes "run") ⊎ (name_of task ≡ codes "audit")
 of_audit (Replay file) is = absurd (cc)
@@ -112,6 +116,7 @@ of_audit (Draw page steps notes file) is = absurd (cc)
 of_audit (Site sites me pages journal begins seal) is = absurd (cc)
 of_audit (Audit sites journals) is = inr refl
 of_audit (Journal file) is = absurd (cc)
+of_audit (Shorten file) is = absurd (cc)
 
 -- words ask for an audit where their task has one
 pub audit_asked : (words : List Text) (task : Task) → Takes words → AskFor words task → has_audit task ≡ true → AsksForAudit words
@@ -144,6 +149,7 @@ simulation_named (Draw page steps notes file) = refl
 simulation_named (Site sites me pages journal begins seal) = refl
 simulation_named (Audit sites journals) = refl
 simulation_named (Journal file) = refl
+simulation_named (Shorten file) = refl
 
 pub asked_simulation : (words : List Text) (task : Task) → AskFor words task → Asks (codes "simulate") words → is_simulation task ≡ true
 asked_simulation words task asked asks =

@@ -120,6 +120,9 @@ journal_file_rule = record (new_rule (codes "file")) { required = true; action =
 abbrev pub journal_app : App
 journal_app = with_rule (new_app (codes "journal")) journal_file_rule
 
+abbrev pub shorten_app : App
+shorten_app = with_rule (new_app (codes "shorten")) journal_file_rule
+
 -- a subcommand is required, and `--version` tells the version
 abbrev pub bare_app : App
 bare_app = record { top = record (new_app (codes "shmdbg")).top { subcommand_required = true; has_version = true }; subs = [] }
@@ -127,7 +130,8 @@ bare_app = record { top = record (new_app (codes "shmdbg")).top { subcommand_req
 -- the program with all its subcommands
 abbrev pub app : App
 app =
-    with_subcommand (with_subcommand (with_subcommand (with_subcommand (with_subcommand (with_subcommand (with_subcommand (with_subcommand bare_app replay_app.top)
-    run_app.top) simulate_app.top) prompt_app.top) draw_app.top) site_app.top)
+    with_subcommand (with_subcommand (with_subcommand (with_subcommand (with_subcommand (with_subcommand (with_subcommand (with_subcommand (with_subcommand bare_app
+    replay_app.top) run_app.top) simulate_app.top) prompt_app.top) draw_app.top) site_app.top)
     audit_app.top)
-    journal_app.top
+    journal_app.top)
+    shorten_app.top

@@ -8,12 +8,13 @@ use Rattle.shm_place.specs.declared.page_id.PageId.{PageId}
 use Rattle.shm_command.specs.Audited.{FailsAudit, TellsAudit}
 use Rattle.shm_command.specs.Prompted.{Prompts}
 use Rattle.shm_command.specs.Sealed.{IsSealedSite}
+use Rattle.shm_command.specs.Shortening.{Shortened}
 use Rattle.shm_command.specs.Simulated.{Simulates}
 use Rattle.shm_command.specs.Summarized.{Summarizes}
 use Rattle.shm_command.specs.Status.{Fails, HasNoCaptions, Pictures, PicturesFile, Replays, ReplaysFile, Reports}
 use Rattle.shm_command.specs.Words.{AskFor}
 use Rattle.shm_command.specs.declared.args.task.Task.{Task}
-use Rattle.shm_command.specs.declared.args.task.Task.TheVariants.{Replay, Run, Simulate, Prompt, Draw, Site, Audit, Journal}
+use Rattle.shm_command.specs.declared.args.task.Task.TheVariants.{Replay, Run, Simulate, Prompt, Draw, Site, Audit, Journal, Shorten}
 
 -- A run of a workload failed; or the logs that were wanted couldn't be made ready, and nothing was done.
 abbrev pub IsUnrun : ℕ → Bool → ℕ → Around → Around → Type 0
@@ -58,6 +59,7 @@ Does typed (Draw page steps notes file) status old new = PicturesNoted notes fil
 Does typed (Site sites me pages journal begins seal) status old new = IsSealedSite seal (option_map (λ file. begins) journal) sites me pages status old new
 Does typed (Audit sites journals) status old new = Audits (length journals.items) sites status old new
 Does typed (Journal file) status old new = Summarizes status old.contents new.contents
+Does typed (Shorten file) status old new = Shortened status old.contents new.contents
 
 -- an audit judges its end
 abbrev pub has_audit : Task → Bool

@@ -14,3 +14,4 @@ pub mod Commands
 pub mod Words
 pub mod Summarized
 pub mod TakenAgain
+pub mod Shortening

@@ -13,7 +13,7 @@ use Rattle.shm_place.specs.Limits.{pages as most_pages}
 use Rattle.shm_place.specs.declared.page_id.PageId.{PageId}
 use Rattle.shm_command.specs.Commands.{app}
 use Rattle.shm_command.specs.declared.args.task.Task.{Task}
-use Rattle.shm_command.specs.declared.args.task.Task.TheVariants.{Replay, Run, Simulate, Prompt, Draw, Site, Audit, Journal}
+use Rattle.shm_command.specs.declared.args.task.Task.TheVariants.{Replay, Run, Simulate, Prompt, Draw, Site, Audit, Journal, Shorten}
 use Rattle.shm_simulate.specs.declared.odds.Odds.{Odds}
 
 -- the name of the subcommand that the words ask for, where the program takes them; the first word is the program's name
@@ -30,6 +30,7 @@ name_of (Draw page steps notes file) = codes "draw"
 name_of (Site sites me pages journal begins seal) = codes "site"
 name_of (Audit sites journals) = codes "audit"
 name_of (Journal file) = codes "journal"
+name_of (Shorten file) = codes "shorten"
 
 -- ---- what is given for an option
 
@@ -97,6 +98,7 @@ HasOptions rows (Site sites me pages journal begins seal) =
 HasOptions rows (Audit sites journals) =
     (number_at (codes "sites") rows ≡ Some sites) × (all_of (codes "journals") rows ≡ Some (map (λ file. file.now) journals.items))
 HasOptions rows (Journal file) = first_of (codes "file") rows ≡ Some file.now
+HasOptions rows (Shorten file) = first_of (codes "file") rows ≡ Some file.now
 
 -- a subcommand's name, and what stands behind it, ask for the task
 pub record IsAsked (name : Text) (rows : List Row) (task : Task) : Type 0 where

@@ -11,14 +11,13 @@ use crate::disk_save_file::Disk;
 use crate::error_text_and_status;
 use crate::line_of_step::wrong_line;
 use crate::log_source::LogSource;
+use crate::whole_journal::header_in;
 use shm_audit::{JournalsFault, MissingStep, Totals, audit_journals, missing_step};
-use shm_journal::{Lines, Taken, parse_header};
 use shm_place::Sites;
 use shm_seal::ClusterName;
 use shm_sites::SiteLog;
 use shm_text::write_whole;
 use std::alloc::Global;
-use std::fs::File;
 use std::io::Write;
 use std::rt::Files;
 
@@ -113,12 +112,7 @@ fn look_for_other<R: AllocGlobal + Files>(rt: &R, journals: &[&str]) -> Option<u
 
 /// The cluster's name in the first line of the journal of this name.
 fn cluster_in<R: AllocGlobal + Files>(rt: &R, name: &str) -> Option<ClusterName> {
-    let mut file = File::open(rt, name).ok()?;
-    let mut lines = Lines::new(rt.alloc());
-    match lines.take(&mut file) {
-        Ok(Taken::Whole) => parse_header(lines.line())?.cluster,
-        _ => None,
-    }
+    header_in(rt, name)?.cluster
 }
 
 /// The logs that the journals of these names lead to, one for each, in their order.

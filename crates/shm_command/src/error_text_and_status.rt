@@ -6,6 +6,7 @@ ghost use Rattle.clap.specs.declared.error.kind.ErrorKind.TheVariants as kind;
 ghost use Rattle.shm_command.specs.Audited.{unaudited_status};
 ghost use Rattle.shm_command.specs.Sealed.{seal_status};
 ghost use Rattle.shm_command.specs.Served.{site_status};
+ghost use Rattle.shm_command.specs.Shortening.{shortening_status};
 ghost use Rattle.shm_command.specs.Status.{caption_status, fault_status, run_status};
 
 use crate::audit_failure::Unaudited;
@@ -15,6 +16,7 @@ use crate::replayed_steps_notice::TakenAgain;
 use crate::save_run_logs::Unlogged;
 use crate::script_file_error::ScriptFileFault;
 use crate::seal_error::SealFault;
+use crate::shortening_error::ShorteningFault;
 use crate::site_error::SiteFault;
 use clap::error::ErrorKind;
 use shm_audit::{JournalFault, JournalsFault, MissingStep};
@@ -104,6 +106,19 @@ pub fn site_fault<E: Write>(fault: SiteFault, errors: &mut E) -> u8
         SiteFault::Unrecovered(_) => 1,
         SiteFault::Ended(ProcessFault::TooOld { .. }) => 1,
         _ => 3,
+    }
+}
+
+/// The exit status where the journal of this name wasn't made shorter, or that couldn't be told. Its one line goes to `errors`.
+pub(crate) fn shortening_fault<E: Write>(fault: ShorteningFault, name: &str, errors: &mut E) -> u8
+    ensures { result ≡ shortening_status fault }
+{
+    match fault {
+        ShorteningFault::Unread(fault) => site_fault(fault, errors),
+        _ => {
+            let _ = writeln!(errors, "shmdbg: {name}: {fault}");
+            3
+        }
     }
 }
 

@@ -245,7 +245,7 @@ fn is_as_asked(begins: bool, is_new: bool) -> bool
 }
 
 /// Makes durable, of a new file, that its folder has it.
-fn list_new<R: AllocGlobal + Files>(rt: &R, name: &str, is_new: bool) -> io::Result<()>
+pub(crate) fn list_new<R: AllocGlobal + Files>(rt: &R, name: &str, is_new: bool) -> io::Result<()>
     ensures { OnErr result (is_new ≡ true) }
 {
     if !is_new {

@@ -96,6 +96,16 @@ where
     }
 }
 
+/// The header in the first line of the file of this name.
+pub(crate) fn header_in<R: AllocGlobal + Files>(rt: &R, name: &str) -> Option<Header> {
+    let mut file = File::open(rt, name).ok()?;
+    let mut lines = Lines::new(rt.alloc());
+    match lines.take(&mut file) {
+        Ok(Taken::Whole) => parse_header(lines.line()),
+        _ => None,
+    }
+}
+
 /// Looks whether the file of this name, which has no whole batch, has lines without a mark.
 fn look_for_lines<R: AllocGlobal + Files>(rt: &R, name: &str) -> Result<(), Unwhole>
 where

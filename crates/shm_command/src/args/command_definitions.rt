@@ -23,7 +23,8 @@ pub(crate) fn command<'a>(alloc: Global) -> Result<Command<'a>, AllocError>
         .subcommand(draw_command(alloc)?)?
         .subcommand(site_command(alloc)?)?
         .subcommand(audit_command(alloc)?)?
-        .subcommand(journal_command(alloc)?)
+        .subcommand(journal_command(alloc)?)?
+        .subcommand(shorten_command(alloc)?)
 }
 
 /// The program without its subcommands.
@@ -132,6 +133,16 @@ fn journal_command<'a>(alloc: Global) -> Result<Command<'a>, AllocError>
     Command::new(alloc, "journal")
         .about("Tell what a site's journal has")
         .after_help(help::JOURNAL)
+        .arg(journal_file_arg(alloc))
+}
+
+fn shorten_command<'a>(alloc: Global) -> Result<Command<'a>, AllocError>
+    ensures app { IfOk result (λ c. app_of c ≡ spec.shorten_app) }
+    ensures local { IfOk result (λ c. (out-Command c).has_globals ≡ false) }
+{
+    Command::new(alloc, "shorten")
+        .about("Make a site's journal shorter: it goes on from the site's state")
+        .after_help(help::SHORTEN)
         .arg(journal_file_arg(alloc))
 }
 

@@ -202,6 +202,24 @@ Exit status: 0 done, 1 the file is no journal (standard error tells the line),
 is damaged, or has no marks, 2 these words were refused, 3 memory, reading or
 writing failed, or the file can't be opened.";
 
+/// Of `shorten`.
+pub const SHORTEN: &str = "\
+Makes the journal of a site shorter: it begins with the site's state then, and
+not with its steps. No site may run on it meanwhile. The whole journal is kept as
+FILE.1, or under the first number that is free. The new one is written as
+FILE.new and made durable before it takes the name, so a crash at any moment
+leaves the one or the other as FILE. An audit needs the steps: it takes the kept
+journals.
+Output: under what name the whole journal is kept, how many bytes it has, and how
+many the new one has.
+  $ shmdbg shorten site-0.journal
+  kept site-0.journal.1
+  was 6912
+  is 9012
+Exit status: 0 done, 1 the file is no journal, is damaged, or has no marks, 2 these
+words were refused, 3 memory, reading or writing failed, or the file can't be
+opened, or another process has it.";
+
 /// Of the prompt.
 pub const PROMPT: &str = "\
 Lines are those of a script, and

@@ -8,7 +8,7 @@ use crate::args::command_definitions::command;
 use crate::args::simulation_options::simulate_task;
 use crate::args::task::Task;
 use crate::args::task_from_options::{
-    audit_task, draw_task, journal_task, replay_task, run_task, site_task,
+    audit_task, draw_task, journal_task, replay_task, run_task, shorten_task, site_task,
 };
 use crate::args::word_checks::{has_plain_numbers, short_error, spelling_error};
 use clap::{ArgMatches, Error};
@@ -68,6 +68,9 @@ fn task_of<'a>(alloc: Global, name: &str, found: &ArgMatches<'a>) -> Option<Task
     }
     if name == "journal" {
         return journal_task(found);
+    }
+    if name == "shorten" {
+        return shorten_task(found);
     }
     None
 }

@@ -48,4 +48,8 @@ pub enum Task<'a> {
     Journal {
         file: &'a str,
     },
+    /// Make the journal in this file shorter.
+    Shorten {
+        file: &'a str,
+    },
 }

@@ -126,6 +126,16 @@ pub(crate) fn journal_task<'a>(found: &ArgMatches<'a>) -> Option<Task<'a>>
     }
 }
 
+/// The file of a journal that is to be shorter.
+pub(crate) fn shorten_task<'a>(found: &ArgMatches<'a>) -> Option<Task<'a>>
+    ensures { IfSome result (λ task. IsAsked (codes "shorten") (rows_of (found_of found.now)) task) }
+{
+    match found.get_str("file") {
+        Some(file) => Some(Task::Shorten { file }),
+        None => None,
+    }
+}
+
 /// The texts that are written for an option, in their order; nothing where memory for the list is refused.
 fn texts<'a>(alloc: Global, found: &ArgMatches<'a>, option: &str) -> Option<Vec<&'a str>>
     ensures { IfSome result (λ texts. all_of option.now (rows_of (found_of found.now)) ≡ Some (map (λ text. text.now) texts.items)) }
