@@ -6,8 +6,8 @@ _shmdbg() {
   [ "$word" != = ] || word=
   [ "$before" != = ] || before=${COMP_WORDS[COMP_CWORD - 2]}
   case $COMP_CWORD:${COMP_WORDS[1]} in
-    1:*) offered='replay run simulate prompt draw site audit journal help -h --help -V --version' ;;
-    2:help) offered='replay run simulate prompt draw site audit journal help' ;;
+    1:*) offered='replay run simulate prompt draw site audit journal shorten help -h --help -V --version' ;;
+    2:help) offered='replay run simulate prompt draw site audit journal shorten help' ;;
     *:replay)
       mapfile -t COMPREPLY < <(compgen -W '-h --help' -- "$word"; compgen -f -- "$word")
       compopt -o filenames 2> /dev/null
@@ -57,7 +57,7 @@ _shmdbg() {
         *) offered='--sites --me --preset --journal --new --cluster --key -h --help' ;;
       esac
       ;;
-    *:journal)
+    *:journal | *:shorten)
       mapfile -t COMPREPLY < <(compgen -W '-h --help' -- "$word"; compgen -f -- "$word")
       compopt -o filenames 2> /dev/null
       return

@@ -9,6 +9,7 @@ complete -c shmdbg -n __fish_use_subcommand -a draw -d 'Draw the run that a scri
 complete -c shmdbg -n __fish_use_subcommand -a site -d 'Run one site of a cluster on the lines of standard input'
 complete -c shmdbg -n __fish_use_subcommand -a audit -d 'Audit the journals of all sites of a cluster'
 complete -c shmdbg -n __fish_use_subcommand -a journal -d "Tell what a site's journal has"
+complete -c shmdbg -n __fish_use_subcommand -a shorten -d "Make a site's journal shorter"
 complete -c shmdbg -n __fish_use_subcommand -a help -d 'Print help'
 complete -c shmdbg -n __fish_use_subcommand -s h -l help -d 'Print help'
 complete -c shmdbg -n __fish_use_subcommand -s V -l version -d 'Print the version'
@@ -46,4 +47,6 @@ complete -c shmdbg -n '__fish_seen_subcommand_from audit' -l sites -x -a '(seq 1
 complete -c shmdbg -n '__fish_seen_subcommand_from audit' -s h -l help -d 'Print help'
 complete -c shmdbg -n '__fish_seen_subcommand_from journal' -F
 complete -c shmdbg -n '__fish_seen_subcommand_from journal' -s h -l help -d 'Print help'
-complete -c shmdbg -n '__fish_seen_subcommand_from help' -a 'replay run simulate prompt draw site audit journal help'
+complete -c shmdbg -n '__fish_seen_subcommand_from shorten' -F
+complete -c shmdbg -n '__fish_seen_subcommand_from shorten' -s h -l help -d 'Print help'
+complete -c shmdbg -n '__fish_seen_subcommand_from help' -a 'replay run simulate prompt draw site audit journal shorten help'

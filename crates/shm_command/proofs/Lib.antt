@@ -15,3 +15,4 @@ mod FirstLemmas
 mod Unmarked
 mod Unsealed
 pub mod Untold
+mod Shorter

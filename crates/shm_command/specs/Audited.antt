@@ -53,6 +53,7 @@ unaudited_status (cause.Unopened at) = 3
 unaudited_status (cause.Unread at fault) = journal_status fault
 unaudited_status (cause.Damaged at bytes) = 1
 unaudited_status (cause.Unmarked at) = 1
+unaudited_status (cause.OtherState at) = 1
 unaudited_status (cause.OtherCluster at) = 1
 unaudited_status (cause.Unaccepted fault) = journals_status fault
 

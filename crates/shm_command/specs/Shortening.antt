@@ -1,5 +1,5 @@
 -- How a journal is made shorter, and what is told of it.
-use Rattle.std.specs.Prelude.{◌≡◌, ◌≢◌, ℕ, List, [], ◌∷◌, ◌++◌, codes, IfSome, Option, string_bytes}
+use Rattle.std.specs.Prelude.{◌≡◌, ◌≢◌, ℕ, List, [], ◌∷◌, ◌++◌, codes, IfSome, Option, string_bytes, take}
 use Rattle.std.specs.Fmt.{decimal}
 use Rattle.std.specs.Io.KnownBytes.{Appends}
 use Rattle.shm_process.specs.Node.{Node}
@@ -19,6 +19,10 @@ pub record IsShortenedText (header : Header) (remaining : Option (List ℕ)) (te
   pub node : Node
   pub sound : found header file ≡ Sound node
   pub shortens : Shortens header node text
+
+-- lines go on from where others lead: the first so many bytes are those of the journal that begins with their state
+abbrev pub GoesOnFrom : List ℕ → List ℕ → ℕ → Type 0
+GoesOnFrom before next n = (header : Header) × (node : Node) × (found header before ≡ Sound node) × Shortens header node (take n next)
 
 -- under what name the whole journal is kept, and how many bytes there were and are
 abbrev pub shorter_text : Shorter → List ℕ

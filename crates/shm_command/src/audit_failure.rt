@@ -15,6 +15,8 @@ pub enum Unaudited {
     Damaged { at: usize, bytes: u64 },
     /// This journal has lines, and no mark behind them: an earlier version kept it.
     Unmarked { at: usize },
+    /// The state with which this journal begins, or one of the files before it, is none to which the file before that leads.
+    OtherState { at: usize },
     /// This journal is of another cluster than the first.
     OtherCluster { at: usize },
     /// They aren't those of one set of sites, or an audit found a cause.

@@ -189,7 +189,7 @@ fn status_of(fault: &Unaudited) -> u8
             JournalFault::UnendedState | JournalFault::BeginsWithState => 1,
         },
         Unaudited::Damaged { .. } | Unaudited::Unmarked { .. } => 1,
-        Unaudited::OtherCluster { .. } => 1,
+        Unaudited::OtherState { .. } | Unaudited::OtherCluster { .. } => 1,
         Unaudited::Unaccepted(fault) => match fault {
             JournalsFault::NotOneSet => 1,
             JournalsFault::Audit(_) => 4,
@@ -227,6 +227,13 @@ fn write_unaudited<E: Write>(
             writeln!(
                 errors,
                 "shmdbg: {name}: its batches have no marks: an earlier version kept it"
+            )
+        }
+        Unaudited::OtherState { at } => {
+            let name = name_of(journals, at);
+            writeln!(
+                errors,
+                "shmdbg: {name}: begins with another state than the file before it leads to"
             )
         }
         Unaudited::OtherCluster { at } => {

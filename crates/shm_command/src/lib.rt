@@ -12,6 +12,7 @@ mod elapsed_time;
 mod error_text_and_status;
 mod file_summary;
 mod journal_backends;
+mod journal_row;
 mod journal_startup;
 mod journal_summary;
 mod line_of_step;

@@ -52,7 +52,8 @@ fn line_in_file<R: AllocGlobal + Files>(rt: &R, name: &str, index: usize) -> Opt
     line_of_step(rt.alloc(), &mut reader, index)
 }
 
-/// The number of the line whose entry has this step. The first line is the header.
+/// The number of the line whose entry has this step. The first line is the header. `None` where a state stands before the entries: steps in
+/// files before it come first.
 fn line_of_step<R: Read>(alloc: Global, reader: &mut R, index: usize) -> Option<u64> {
     let mut lines = Lines::new(alloc);
     let mut before = 0;
@@ -60,6 +61,9 @@ fn line_of_step<R: Read>(alloc: Global, reader: &mut R, index: usize) -> Option<
         let Ok(Taken::Whole) = lines.take(reader) else {
             return None;
         };
+        if lines.line().starts_with(b"state ".as_slice()) {
+            return None;
+        }
         before = count_on(before, steps_in(alloc, lines.line()));
         if before > index {
             return Some(number);

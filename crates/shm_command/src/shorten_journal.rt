@@ -111,7 +111,7 @@ fn read_shortened<R: AllocGlobal + Files>(rt: &R, name: &str) -> Result<String, 
 }
 
 /// The lines of a journal of this header that goes on from where these lines lead.
-fn shortened_text<J: Read>(
+pub(crate) fn shortened_text<J: Read>(
     alloc: Global,
     header: Header,
     lines: &mut J,

@@ -13,6 +13,7 @@ mod runs;
 mod saved_run_logs;
 mod script_files;
 mod seals;
+mod shortened_journals;
 mod simulations;
 mod sites;
 

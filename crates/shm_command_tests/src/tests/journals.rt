@@ -12,9 +12,9 @@ use std::thread::Threads;
 
 const JOURNAL: &str = "one.journal";
 
-const HEADER: &[u8] = b"journal 1 0 1\n";
+pub(super) const HEADER: &[u8] = b"journal 1 0 1\n";
 
-const STORE: &[u8] = b"step 1 ask 0 a store 0 5 7\n";
+pub(super) const STORE: &[u8] = b"step 1 ask 0 a store 0 5 7\n";
 
 /// Both, in a batch each. These digests are those of `sha256sum`.
 const STORED: &[u8] = b"journal 1 0 1\n\
@@ -37,21 +37,20 @@ const DAMAGED: &[u8] = b"journal 1 0 1\n\
 
 const EXISTING: &[u8] = b"shmdbg: journal: it is begun already: start the site without --new\n";
 
-const BLANK: &[u8] = b"shmdbg: journal: nothing is begun in it: --new begins it\n";
+pub(super) const BLANK: &[u8] = b"shmdbg: journal: nothing is begun in it: --new begins it\n";
 
-const MISSING: &[u8] = b"shmdbg: journal: there is none of this name: --new begins one\n";
+pub(super) const MISSING: &[u8] =
+    b"shmdbg: journal: there is none of this name: --new begins one\n";
 
-const UNMARKED: &[u8] = b"shmdbg: journal: its batches have no marks: an earlier version kept it\n";
+pub(super) const UNMARKED: &[u8] =
+    b"shmdbg: journal: its batches have no marks: an earlier version kept it\n";
 
 const NO_FILE: &[u8] = b"shmdbg: journal: it is no plain file\n";
 
 /// The only site of one, with one page, that begins a journal in this file, or goes on with it.
-fn site_kept<R: AllocGlobal + Clock + Files + Threads + Wait + Copy + Send + Sync + 'static>(
-    rt: &R,
-    begins: bool,
-    name: &str,
-    lines: &[u8],
-) -> Ran
+pub(super) fn site_kept<
+    R: AllocGlobal + Clock + Files + Threads + Wait + Copy + Send + Sync + 'static,
+>(rt: &R, begins: bool, name: &str, lines: &[u8]) -> Ran
 where
     R::File: Lock,
 {
@@ -73,11 +72,9 @@ where
     run_over(rt, &words[..given], &mut reader)
 }
 
-fn audit_alone<R: AllocGlobal + Clock + Files + Threads + Wait + Copy + Send + Sync + 'static>(
-    rt: &R,
-    sites: &str,
-    name: &str,
-) -> Ran
+pub(super) fn audit_alone<
+    R: AllocGlobal + Clock + Files + Threads + Wait + Copy + Send + Sync + 'static,
+>(rt: &R, sites: &str, name: &str) -> Ran
 where
     R::File: Lock,
 {

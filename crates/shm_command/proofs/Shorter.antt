@@ -1,0 +1,55 @@
+-- How the making of a shorter journal ends, by its fault.
+use Rattle.std.proofs.Common.{◌≡◌, ◌≢◌, ◌<◌, ℕ, Err}
+use Rattle.shm_journal.specs.declared.process_error.ProcessFault.TheVariants as process
+use Rattle.shm_journal.specs.declared.recovery_error.RecoveryFault.TheVariants as recovery
+use Rattle.shm_command.specs.Served.{site_status}
+use Rattle.shm_command.specs.Shortening.{shortening_status}
+use Rattle.shm_command.specs.declared.shortening_error.ShorteningFault.{ShorteningFault}
+use Rattle.shm_command.specs.declared.shortening_error.ShorteningFault.TheVariants as fault
+use Rattle.shm_command.specs.declared.site_error.SiteFault.{SiteFault}
+use Rattle.shm_command.specs.declared.site_error.SiteFault.TheVariants as site
+
+-- a failure's status: 1 or 3
+abbrev pub IsFailure : ℕ → Type 0
+IsFailure status = (status < 4) × (status ≢ 2) × (status ≢ 0)
+
+one : IsFailure 1
+one = (lit< tt, λ h. absurd (cc), λ h. absurd (cc))
+
+three : IsFailure 3
+three = (lit< tt, λ h. absurd (cc), λ h. absurd (cc))
+
+of_site : (f : SiteFault) → IsFailure (site_status (Err f))
+of_site (site.Unrecovered recovery.OutOfMemory) = three
+of_site (site.Unrecovered recovery.ReadFault) = three
+of_site (site.Unrecovered recovery.Foreign) = one
+of_site (site.Unrecovered (recovery.BadLine number)) = one
+of_site (site.Unrecovered recovery.UnendedState) = one
+of_site (site.Ended process.OutOfMemory) = three
+of_site (site.Ended process.ReadFault) = three
+of_site (site.Ended process.WriteFault) = three
+of_site (site.Ended process.JournalFault) = three
+of_site (site.Ended (process.TooOld clock)) = one
+of_site site.OutOfMemory = three
+of_site site.Unopened = three
+of_site site.Missing = one
+of_site site.NoFile = one
+of_site site.Existing = one
+of_site site.Blank = one
+of_site (site.Damaged bytes) = one
+of_site site.Unmarked = one
+of_site site.Taken = three
+of_site site.Uncut = three
+of_site site.Unlisted = three
+of_site (site.Unopenable why) = three
+of_site (site.Loose durable) = three
+
+pub fails : (f : ShorteningFault) → IsFailure (shortening_status f)
+fails (fault.Unread why) = of_site why
+fails fault.OutOfMemory = three
+fails fault.Untold = three
+fails fault.Unwritten = three
+fails fault.Unkept = three
+fails fault.Unnamed = three
+fails fault.Unlisted = three
+fails fault.WriteFault = three
