@@ -166,7 +166,8 @@ pub const AUDIT: &str = "\
 Reads the journals of all N sites, one file for each, in the order of the sites.
 Finds one order of all recorded steps in which each load gives the byte that was
 stored last, or tells the cause why there is none. Standard input isn't read. A
-file whose name begins with a hyphen comes after --, behind the options.
+file whose name begins with a hyphen comes after --, behind the options. Of a
+journal that begins with a state it takes FILE.1, FILE.2 .. and FILE as one.
 Output: that the audit is yes, and how many steps, loads and stores, and
 envelopes there were:
   $ shmdbg audit --sites 2 site-0.journal site-1.journal
@@ -175,9 +176,10 @@ envelopes there were:
   accesses 3
   envelopes 6
 Exit status: 0 the audit is yes, 1 a file is no journal (standard error tells it
-and the line), or they aren't those of one set of sites of one cluster, 2 these
-words were refused, 3 memory, reading or writing failed, or a file can't be
-opened, 4 the audit found a cause.";
+and the line), or begins with another state than the file before it leads to, or
+they aren't those of one set of sites of one cluster, 2 these words were refused, 3
+memory, reading or writing failed, or a file can't be opened, 4 the audit found a
+cause.";
 
 /// Of what a journal has.
 pub const JOURNAL: &str = "\
@@ -208,8 +210,8 @@ Makes the journal of a site shorter: it begins with the site's state then, and
 not with its steps. No site may run on it meanwhile. The whole journal is kept as
 FILE.1, or under the first number that is free. The new one is written as
 FILE.new and made durable before it takes the name, so a crash at any moment
-leaves the one or the other as FILE. An audit needs the steps: it takes the kept
-journals.
+leaves the one or the other as FILE. An audit needs the steps: it takes FILE.1,
+FILE.2 .. and FILE as one journal.
 Output: under what name the whole journal is kept, how many bytes it has, and how
 many the new one has.
   $ shmdbg shorten site-0.journal
