@@ -43,24 +43,46 @@ where
     assert_eq!(rt; left.as_slice(), whole.as_slice());
     let ran = site_kept(rt, false, JOURNAL, b"ask 0 b load 0 5\n");
     assert_eq!(rt; ran.out.as_slice(), b"tell 0 b byte 7\n".as_slice());
-    fs::remove_file(rt, kept.as_str())?;
     Ok(())
 }
 
-/// A site goes on from what it had stored. Its shorter journal can be made shorter in turn. An audit needs the steps before it.
+/// A site goes on from what it had stored, and its shorter journal can be made shorter in turn. An audit takes all steps: a store, and a restart
+/// and a load in each further life.
 #[test]
 fn a_site_goes_on_from_a_shorter_journal(rt: HostRuntime) -> Result<(), Fail> {
-    let lacking =
-        b"shmdbg: long.journal: begins with a state; the files before it are missing\n".as_slice();
+    let cases: [(u32, &[u8]); 2] = [
+        (1, b"audit yes\nsteps 3\naccesses 2\nenvelopes 0\n"),
+        (2, b"audit yes\nsteps 5\naccesses 3\nenvelopes 0\n"),
+    ];
     let whole = marked(rt.alloc(), &[HEADER, STORE])?;
     fs::write(&rt, JOURNAL, whole.as_slice())?;
-    expect_shorter(&rt, 1)?;
-    fs::write(&rt, "long.journal.1", b"kept".as_slice())?;
-    expect_shorter(&rt, 2)?;
-    let ran = audit_alone(&rt, "1", JOURNAL);
-    expect(&rt, &ran, 1, b"", lacking);
-    fs::remove_file(&rt, "long.journal.1")?;
+    'cases: for (number, told) in cases {
+        expect_shorter(&rt, number)?;
+        let ran = audit_alone(&rt, "1", JOURNAL);
+        expect(&rt, &ran, 0, told, b"");
+    }
+    expect_unaudited(&rt)?;
+    fs::remove_file(&rt, "long.journal.2")?;
     fs::remove_file(&rt, JOURNAL)?;
+    Ok(())
+}
+
+/// Where the first file is one that leads to another state, or is missing, there is no audit.
+fn expect_unaudited<
+    R: AllocGlobal + Abort + Clock + Files + Threads + Wait + Copy + Send + Sync + 'static,
+>(rt: &R) -> Result<(), Fail>
+where
+    R::File: Lock,
+{
+    let differing =
+        b"shmdbg: long.journal: begins with another state than the file before it leads to\n".as_slice();
+    let missing =
+        b"shmdbg: long.journal: begins with a state; the files before it are missing\n".as_slice();
+    let other = marked(rt.alloc(), &[HEADER, b"step 1 ask 0 a store 0 5 8\n"])?;
+    fs::write(rt, "long.journal.1", other.as_slice())?;
+    expect(rt, &audit_alone(rt, "1", JOURNAL), 1, b"", differing);
+    fs::remove_file(rt, "long.journal.1")?;
+    expect(rt, &audit_alone(rt, "1", JOURNAL), 1, b"", missing);
     Ok(())
 }
 
