@@ -6,7 +6,8 @@
 Makes rounds of some 20 seconds until the time is over. In each, N sites (0: 2 to 5 in turn) are processes `PROGRAM site .. --journal FILE`,
 and R times a second one of them is killed by signal 9. Half of the times something is left behind the last whole batch of its journal, as a
 machine that crashed may leave there what was never durable: a front of a batch, a batch with a hole, zeros, garbage, or old blocks. A moment
-later the site is started again from its journal. What a killed process had written and nobody had read yet is lost half of the times.
+later the site is started again from its journal. Now and then its journal is made shorter before (`PROGRAM shorten FILE`), and half of the
+times that is killed too. What a killed process had written and nobody had read yet is lost half of the times.
 Envelopes are lost, repeated and reordered, and some asks and answers are lost.
 
 Each site has callers, which load bytes that all share and store there; no value is stored twice at a byte. Now and then they read a block, of
@@ -17,10 +18,12 @@ the journals. The status is 1 where one of these fails, or a site ended by itsel
 Without journals sites forget what they held and promised, and this finds it."""
 import argparse
 import base64
+import glob
 import os
 import random
 import selectors
 import shutil
+import signal
 import subprocess
 import sys
 import tempfile
@@ -41,9 +44,11 @@ DOWN_SECONDS = 0.2
 GIVE_UP_SECONDS = 1
 AGAIN_SECONDS = 0.02
 END_SECONDS = 20
+SHORTENINGS = 0.3
+SHORTEN_SECONDS = 0.02
 MOST_BEHIND = 20000
 TORN = ('front', 'hole', 'zeros', 'garbage', 'stale')
-COUNTS = ('kills', *TORN, 'damaged', 'loads', 'stores', 'blocks', 'lost', 'repeated', 'violations', 'audits')
+COUNTS = ('kills', *TORN, 'damaged', 'shortened', 'shortenings killed', 'loads', 'stores', 'blocks', 'lost', 'repeated', 'violations', 'audits')
 
 
 class Places:
@@ -273,6 +278,24 @@ class Seat:
         write(self.journal, data)
         return True
 
+    def shorten(self, draw):
+        """Makes the journal shorter, and tells what came of it; half of the times that process is killed. None: nothing is begun in it."""
+        if not whole_batches(read(self.journal))[1]:
+            return None
+        words = [self.words[0], 'shorten', self.journal]
+        process = subprocess.Popen(words, stdin=subprocess.DEVNULL, stdout=subprocess.DEVNULL, stderr=subprocess.PIPE)
+        if draw.random() < 0.5:
+            time.sleep(draw.uniform(0, SHORTEN_SECONDS))
+            process.kill()
+        _, errors = process.communicate()
+        if process.returncode not in (0, -signal.SIGKILL):
+            sys.exit(f'shorten {self.journal}: status {process.returncode}, {errors}')
+        return 'shortenings killed' if process.returncode else 'shortened'
+
+    def files(self):
+        """The journal, and those from which it goes on."""
+        return [self.journal] + glob.glob(glob.escape(self.journal) + '.*')
+
     def stop(self):
         """Ends the input, passes over what the process still writes, and answers its status."""
         process, self.site = self.site.process, None
@@ -354,6 +377,8 @@ class Round:
         if not self.options.no_journal and self.happens(0.5, None):
             kind = self.draw.choice(TORN)
             self.counts[kind] += seat.tear(kind, self.draw)
+        if not self.options.no_journal and self.happens(SHORTENINGS, None) and (done := seat.shorten(self.draw)):
+            self.counts[done] += 1
         if self.options.damage is not None:
             self.counts['damaged'] += seat.damage(self.options.damage, self.draw)
         for caller in self.callers.values():
@@ -416,7 +441,8 @@ class Round:
         if audit.returncode == 0 and audit.stdout.startswith(b'audit yes\n'):
             self.counts['audits'] += 1
             for seat in self.seats:
-                os.remove(seat.journal)
+                for file in seat.files():
+                    os.remove(file)
             return []
         return [f'audit {audit.returncode}: {audit.stdout.decode().strip()} (the journals are kept)']
 

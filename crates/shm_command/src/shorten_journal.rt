@@ -19,6 +19,7 @@ use shm_text::write_whole;
 use std::alloc::Global;
 use std::fs::{self, OpenFile, OpenOptions};
 use std::io::{ErrorKind, Read, Write};
+use std::os::unix::fs::MetadataExt;
 use std::rt::Files;
 
 /// Makes the journal of this name shorter, and answers the exit status. No other process may have it.
@@ -212,7 +213,7 @@ fn write_new<R: AllocGlobal + Files>(
     }
 }
 
-/// Gives the file of this name a second name: the first that is free, with a number behind it.
+/// Gives the file of this name a second name: the first that is free, with a number behind it, unless it has one from an attempt that didn't end.
 fn keep_whole<R: AllocGlobal + Files>(rt: &R, name: &str) -> Result<String, ShorteningFault> {
     'numbers: for number in 1..u32::MAX {
         let Ok(kept) = format!(in rt.alloc(); "{name}.{number}") else {
@@ -223,8 +224,19 @@ fn keep_whole<R: AllocGlobal + Files>(rt: &R, name: &str) -> Result<String, Shor
             Err(error) if error.kind() == ErrorKind::AlreadyExists => {}
             Err(_) => return Err(ShorteningFault::Unkept),
         }
+        if are_one_file(rt, name, kept.as_str()) {
+            return Ok(kept);
+        }
     }
     Err(ShorteningFault::Unkept)
+}
+
+/// Checks that both names are those of one file.
+fn are_one_file<R: Files>(rt: &R, name: &str, other: &str) -> bool {
+    match (fs::metadata(rt, name), fs::metadata(rt, other)) {
+        (Ok(one), Ok(other)) => one.dev() == other.dev() && one.ino() == other.ino(),
+        _ => false,
+    }
 }
 
 /// This fault, once the file of this name, which nothing needs, is removed. Where it can't be, the next attempt writes over it.
