@@ -55,7 +55,7 @@ pub told_so : {A : Type 0} → (t : Telling) (line : List ℕ) (said : StateLine
     → IsNext true (tells_if t (read_state line)) stands
 told_so t line said None onward stands read some h at = absurd (cc)
 told_so t line said (Some o) onward stands read some (stage, is, goes) at =
-    let same : o ≡ onward = cc in (stage, ap (tells_if t) (sym read) ∙ is, at stage (subst (λ x. IsOnward x stage) same goes))
+    let same = some-is o onward some in (stage, ap (tells_if t) (sym read) ∙ is, at stage (subst (λ x. IsOnward x stage) same goes))
 
 -- ---- all lines
 
