@@ -1,9 +1,11 @@
 -- How far a journal is read, line by line.
-use Rattle.std.proofs.Common.{◌≡◌, ℕ, List, Bool, true, false, Option, Some, None, refl, sym, ap, subst, ◌∙◌}
+use Rattle.std.proofs.Common.{◌≡◌, ℕ, List, Bool, true, false, Option, Some, None, Ok, Err, option_map, refl, sym, ap, subst, ◌∙◌}
 use Rattle.std.specs.Prelude.{Result, IfOk, is_none, is_some, ◌&&◌}
 use Rattle.shm_lines.proofs.StepLemmas.{some-is}
 use Rattle.shm_process.specs.Node.{Node}
 use Rattle.shm_process.specs.NodeOf.{node_of}
+use Rattle.shm_process.specs.Recorded as recorded
+use Rattle.shm_process.specs.Recorded.{Entry}
 use Rattle.shm_journal.specs.Found.{Sound, site_in}
 use Rattle.shm_journal.specs.Lines.{Header, read_entry}
 use Rattle.shm_journal.specs.Replaying.{IsNext}
@@ -57,7 +59,52 @@ told_so t line said None onward stands read some h at = absurd (cc)
 told_so t line said (Some o) onward stands read some (stage, is, goes) at =
     let same = some-is o onward some in (stage, ap (tells_if t) (sym read) ∙ is, at stage (subst (λ x. IsOnward x stage) same goes))
 
+-- it can't be told
+pub told_none : {A : Type 0} → (t : Telling) (line : List ℕ) (said : StateLine) (result : Option (Onward A)) → Some said ≡ read_state line → result ≡ None
+    → IsTold result (tells_if t (Some said)) → tells_if t (read_state line) ≡ None
+told_none t line said None read none is = ap (tells_if t) (sym read) ∙ is
+told_none t line said (Some onward) read none is = absurd (cc)
+
+-- within a state each line has to be one of it
+pub further_told : {A E : Type 0} → (r : Result Bool E) (node : Node) (within : Bool) (telling : Option (Code A)) (line : List ℕ) (stage : Stage) (stands : Stage → Type 0)
+    → is_none telling ≡ false → within ≡ true → StandsAt node within telling stage
+    → ((t : Telling) → StandsAt node within telling (InState t) → IfOk r (λ made. IsNext made (tells_if t (read_state line)) stands))
+    → IfOk r (λ made. IsNext made (next_stage stage line) stands)
+further_told r node within None line stage stands some inside at told = absurd (cc)
+further_told r node false (Some code) line stage stands some inside at told = absurd (cc)
+further_told r node true (Some code) line stage stands some inside (t, is, at) told =
+    subst (λ after. IfOk r (λ made. IsNext made after stands)) (sym (ap (λ s. next_stage s line) at)) (told t (t, is, refl))
+
+-- ---- an entry
+
+replayed : (made : Bool) (after : Node) (found : Option Node) (stands : Stage → Type 0) → made ≡ is_some found → (made ≡ true → Some after ≡ found) → stands (Open after)
+    → IsNext made (option_map Open found) stands
+replayed true after found stands some is at = (Open after, ap (option_map Open) (sym (is refl)), at)
+replayed false after None stands some is at = refl
+replayed false after (Some node) stands some is at = absurd (cc)
+
+-- right behind the header one ends what may be told
+pub entry_on : {A E : Type 0} → (r : Result Bool E) (node after : Node) (within : Bool) (telling : Option (Code A)) (line : List ℕ) (entry : Entry) (stage : Stage)
+    (stands : Stage → Type 0) → is_none telling ≡ false → within ≡ false → StandsAt node within telling stage → Some entry ≡ read_entry line
+    → IfOk r (λ made. made ≡ is_some (recorded.replayed_entry node entry)) → IfOk r (λ made. made ≡ true → Some after ≡ recorded.replayed_entry node entry)
+    → stands (Open after) → IfOk r (λ made. IsNext made (next_stage stage line) stands)
+entry_on r node after within None line entry stage stands some outside at read made is stood = absurd (cc)
+entry_on r node after true (Some code) line entry stage stands some outside at read made is stood = absurd (cc)
+entry_on (Err e) node after false (Some code) line entry stage stands some outside (t, told, at) read made is stood = tt
+entry_on (Ok b) node after false (Some code) line entry stage stands some outside (t, told, at) read made is stood =
+    subst (λ next. IsNext b next stands) (sym (ap (λ s. next_stage s line) at ∙ ap (first_taken node t line) (sym read)))
+    (replayed b after (recorded.replayed_entry node entry) stands made is stood)
+
 -- ---- all lines
+
+-- no state is told: its end came, or none began
+pub not_both : (within some : Bool) → some ≡ false → within && some ≡ false
+not_both true some h = h
+not_both false some h = refl
+
+pub not_within : (within some : Bool) → within ≡ false → within && some ≡ false
+not_within true some h = absurd (cc)
+not_within false some h = refl
 
 -- the site that the lines lead to, where they don't end within a state
 pub sound_site : {A : Type 0} → (node : Node) (within : Bool) (telling : Option (Code A)) (stage : Stage) → within && is_some telling ≡ false → StandsAt node within telling stage
