@@ -1,5 +1,5 @@
 -- A shortened journal: where it leads, and what of a site makes one.
-use Rattle.std.proofs.Common.{◌≡◌, Bool, false, true, ℕ, List, [], ◌∷◌, ◌++◌, Option, Some, None, cond, refl, sym, ap, subst, ◌∙◌, append_assoc}
+use Rattle.std.proofs.Common.{◌≡◌, Bool, false, true, ℕ, List, [], ◌∷◌, ◌++◌, Option, Some, None, cond, inr, refl, sym, ap, subst, ◌∙◌, append_assoc}
 use Rattle.std.specs.List.{All}
 use Rattle.std.specs.Prelude.{map, option_and_then}
 use Rattle.shm_lines.proofs.StepLemmas.{some-is, step}
@@ -21,7 +21,7 @@ use Rattle.shm_journal.specs.DeskFrom.{desk_from}
 use Rattle.shm_journal.specs.Found.{Sound, found}
 use Rattle.shm_journal.specs.Lines.{Header, IsHeader}
 use Rattle.shm_journal.specs.Shortened.{AreTold, Shortens, ending_at, rested, telling_of}
-use Rattle.shm_journal.specs.StateLines.{Ending, IsEnding, IsMapping, StateLine, state_line}
+use Rattle.shm_journal.specs.StateLines.{Ending, StateLine, OfPart, OfMapping, OfEnding, IsEnding, IsMapping, state_line}
 use Rattle.shm_journal.specs.Stages.{Telling, resumed, resumed_if, telling_nothing, told_by, unless_wrong, with_told}
 
 -- ---- where it leads
@@ -72,10 +72,32 @@ shortens header node parts text sites me are mapped ending told whole same is =
 
 -- ---- its text
 
-pub lines_append : (first rest : List StateLine) → lines_text (first ++ rest) ≡ lines_text first ++ lines_text rest
-lines_append [] rest = refl
-lines_append (line ∷ first) rest =
-    ap (λ t. state_line line ++ 10 ∷ t) (lines_append first rest) ∙ sym (append_assoc (state_line line) (10 ∷ lines_text first) (lines_text rest))
+lines-append : (first rest : List StateLine) → lines_text (first ++ rest) ≡ lines_text first ++ lines_text rest
+lines-append [] rest = refl
+lines-append (line ∷ first) rest =
+    ap (λ t. state_line line ++ 10 ∷ t) (lines-append first rest) ∙ sym (append_assoc (state_line line) (10 ∷ lines_text first) (lines_text rest))
+
+-- with one line more
+pub line_written : (old new all : List ℕ) (line : StateLine) (lines : List StateLine) → new ≡ old ++ state_line line ++ 10 ∷ []
+    → old ++ lines_text (line ∷ lines) ≡ all → new ++ lines_text lines ≡ all
+line_written old new all line lines more is =
+    ap (λ t. t ++ lines_text lines) more ∙ append_assoc (old ++ state_line line) (10 ∷ []) (lines_text lines)
+    ∙ append_assoc old (state_line line) (10 ∷ lines_text lines) ∙ is
+
+-- the header, and then the lines of a state
+pub all_written : (site : KeptSite) (header first second third all : List ℕ) → first ≡ header → second ≡ first ++ lines_text (map OfPart site.parts)
+    → third ≡ second ++ lines_text (map OfMapping site.mapped) → all ≡ third ++ state_line (OfEnding site.ending) ++ 10 ∷ []
+    → all ≡ header ++ state_text site
+all_written site header first second third all a b c d =
+    let parts = lines_text (map OfPart site.parts) in
+    let mapped = lines_text (map OfMapping site.mapped) in
+    let ending = state_line (OfEnding site.ending) ++ 10 ∷ [] in
+    let last = OfEnding site.ending ∷ [] in
+    let text : state_text site ≡ parts ++ (mapped ++ ending) =
+    lines-append (map OfPart site.parts) (map OfMapping site.mapped ++ last) ∙ ap (λ t. parts ++ t) (lines-append (map OfMapping site.mapped) last) in
+    d ∙ append_assoc third (state_line (OfEnding site.ending)) (10 ∷ []) ∙ ap (λ t. t ++ ending) c ∙ append_assoc second mapped ending
+    ∙ ap (λ t. t ++ (mapped ++ ending)) b ∙ append_assoc first parts (mapped ++ ending) ∙ ap (λ t. t ++ (parts ++ (mapped ++ ending))) a
+    ∙ sym (ap (λ t. header ++ t) text)
 
 -- ---- parts that are told
 
@@ -88,10 +110,10 @@ told-more (head ∷ parts) part t after told first then =
     let s = step (told_by t head) (λ x. told_all (with_told t x) parts) after first in
     ap (option_and_then (λ x. told_all (with_told t x) (parts ++ part ∷ []))) s.gave ∙ told-more parts part (with_told t s.value) after told s.gives then
 
-pub all-more : (parts : List Part) (part : Part) (told : state.Told) → state.told_all (parts ++ part ∷ []) told ≡ state.told_with part (state.told_all parts told)
+pub all_more : (parts : List Part) (part : Part) (told : state.Told) → state.told_all (parts ++ part ∷ []) told ≡ state.told_with part (state.told_all parts told)
 unfolding state.told_all
-all-more [] part told = refl
-all-more (head ∷ parts) part told = all-more parts part (state.told_with head told)
+all_more [] part told = refl
+all_more (head ∷ parts) part told = all_more parts part (state.told_with head told)
 
 told-right : (t : Telling) (part : Part) → state.wrong t.sites t.me part t.told ≡ None → told_by t part ≡ Some (state.told_with part t.told)
 unfolding told_by
@@ -104,4 +126,4 @@ told_one sites me parts part told right =
     let nothing = telling_nothing sites me in
     let after = with_told nothing (state.told_all parts state.told_nothing) in
     told-more parts part nothing after (state.told_with part after.told) told (told-right after part right)
-    ∙ ap (λ x. Some (with_told nothing x)) (sym (all-more parts part state.told_nothing))
+    ∙ ap (λ x. Some (with_told nothing x)) (sym (all_more parts part state.told_nothing))

@@ -79,7 +79,10 @@ fn has_line<A: Allocator + Copy>(part: &Part<A>) -> bool
             true
         }
         Part::Attachment {
-            number, id, size, ..
+            number,
+            id,
+            size,
+            ..
         } => {
             let _number = *number;
             let _id = id.0;
@@ -233,8 +236,7 @@ fn book_fits(book: BookPart)
 
 fn numbers_fit(numbers: &[u64])
     ensures { All IsWide numbers.now }
-{
-}
+{}
 
 /// Each field of what is mapped has a word.
 pub(crate) fn mappings_fit(mapped: &[Mapping])

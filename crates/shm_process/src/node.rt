@@ -57,9 +57,7 @@ impl<A: Allocator + Copy> Node<A> {
 
     /// The site as it stands.
     pub fn site(&self) -> &Site<A>
-        ensures site { site_of result.now ≡ (node_of self.now).site }
-        ensures sites { result.now.sites ≡ (node_of self.now).sites }
-        ensures me { result.now.me ≡ (node_of self.now).me }
+        ensures { site_of result.now ≡ (node_of self.now).site }
     {
         &self.site
     }

@@ -2,7 +2,7 @@ use Rattle.std.proofs.Common.{◌≡◌, ◌++◌, drop, string_bytes}
 use Rattle.std.specs.Prelude.{map}
 use Rattle.shm_journal.specs.Begun.{lines_text}
 use Rattle.shm_journal.specs.StateLines.{OfMapping}
-use Rattle.shm_journal.proofs.shortened_journal.write_mappings.Given as goal
+use Rattle.shm_journal.proofs.journal_shortening.write_mappings.Given as goal
 
 -- what is written, and the lines of the pages that are left, are all
 abbrev pub invariant-mapped : goal.invariant-mapped

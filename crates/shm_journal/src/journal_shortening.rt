@@ -4,8 +4,8 @@ ghost use Rattle.shm_process.specs.NodeOf.{node_of};
 ghost use Rattle.shm_state.specs.PartOf.{part_in};
 ghost use Rattle.shm_journal.specs.Begun.{header_text, lines_text, state_text};
 ghost use Rattle.shm_journal.specs.HeaderOf.{header_of};
-ghost use Rattle.shm_journal.specs.Shortened.{AreTold, IsUnshortened, Shortens, ending_at, telling_of};
-ghost use Rattle.shm_journal.specs.StateLines.{OfMapping, OfPart, state_line};
+ghost use Rattle.shm_journal.specs.Shortened.{AreTold, IsUnshortened, Shortens, ending_at};
+ghost use Rattle.shm_journal.specs.StateLines.{IsEnding, OfMapping, OfPart, state_line};
 ghost use Rattle.shm_journal.specs.StateOf.{ending_in, state_line_in};
 ghost use Rattle.shm_parts.specs.Listed.{limit_held};
 
@@ -32,20 +32,26 @@ pub fn shortened_journal<A: Allocator + Copy>(
     ensures why { IfErr result (λ fault. IsUnshortened fault (limit_held (node_of node.now).site.frames)) }
 {
     let site = node.site();
+    let sites = site.sites();
+    let me = site.me();
     if site.holdings().limit().is_some() {
         return Err(ShortenFault::Limited);
     }
-    mappings_fit(node.mapped());
+    if sites.count() != header.sites || me.0 != header.me {
+        return Err(ShortenFault::Untold);
+    }
+    let mapped = node.mapped();
+    mappings_fit(mapped);
     let Ok(parts) = tell_parts(alloc, site) else {
         return Err(ShortenFault::OutOfMemory);
     };
     if !have_lines(parts.as_slice()) {
         return Err(ShortenFault::Untold);
     }
-    let Ok(text) = write_journal(alloc, header, parts.as_slice(), node) else {
+    let Ok(text) = write_journal(alloc, header, parts.as_slice(), mapped, ending_of(node)) else {
         return Err(ShortenFault::OutOfMemory);
     };
-    match take_parts(alloc, site.sites(), site.me(), parts) {
+    match take_parts(alloc, sites, me, parts) {
         Ok(()) => Ok(text),
         Err(TakeFault::OutOfMemory) => Err(ShortenFault::OutOfMemory),
         Err(_) => Err(ShortenFault::Untold),
@@ -54,7 +60,8 @@ pub fn shortened_journal<A: Allocator + Copy>(
 
 /// Where the node's steps go on.
 fn ending_of<A: Allocator + Copy>(node: &Node<A>) -> Ending
-    ensures { ending_in result ≡ ending_at (node_of node.now) }
+    ensures at { ending_in result ≡ ending_at (node_of node.now) }
+    ensures is { IsEnding (ending_in result) }
 {
     Ending {
         clock: node.clock(),
@@ -82,23 +89,29 @@ fn take_parts<A: Allocator + Copy>(
     Ok(())
 }
 
-/// The text of the header, of these parts, and of what else is told of the node.
+/// The text of the header and of a state.
 fn write_journal<A: Allocator + Copy>(
     alloc: A,
     header: Header,
     parts: &[Part<A>],
-    node: &Node<A>,
+    mapped: &[Mapping],
+    ending: Ending,
 ) -> Result<String<A>, AllocError>
-    ensures { IfOk result (λ text. string_bytes text
-        ≡ header_text (header_of header) ++ state_text (telling_of (map part_in parts.now) (node_of node.now))) }
+    ensures { IfOk result (λ text. string_bytes text ≡ header_text (header_of header)
+        ++ state_text (record { parts = map part_in parts.now; mapped = mapped.now; ending = ending_in ending })) }
 {
-    let ending = ending_of(node);
     let mut out = String::new(alloc);
-    write!(out, "{header}\n")?;
+    write_header(header, &mut out)?;
     write_parts(parts, &mut out)?;
-    write_mappings(node.mapped(), &mut out)?;
+    write_mappings(mapped, &mut out)?;
     write_line(StateLine::Ending(ending), &mut out)?;
     Ok(out)
+}
+
+fn write_header<A: Allocator + Copy>(header: Header, out: &mut String<A>) -> Result<(), AllocError>
+    ensures { OnOk result (string_bytes out.new ≡ string_bytes out.old ++ header_text (header_of header)) }
+{
+    write!(out, "{header}\n")
 }
 
 fn write_parts<A: Allocator + Copy>(
@@ -125,7 +138,10 @@ fn write_mappings<A: Allocator + Copy>(
     Ok(())
 }
 
-fn write_line<A: Allocator + Copy>(line: StateLine<A>, out: &mut String<A>) -> Result<(), AllocError>
+fn write_line<A: Allocator + Copy>(
+    line: StateLine<A>,
+    out: &mut String<A>,
+) -> Result<(), AllocError>
     ensures { OnOk result (string_bytes out.new ≡ string_bytes out.old ++ state_line (state_line_in line) ++ 10 ∷ []) }
 {
     write!(out, "{line}\n")

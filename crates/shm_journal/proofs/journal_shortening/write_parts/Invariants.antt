@@ -3,7 +3,7 @@ use Rattle.std.specs.Prelude.{map}
 use Rattle.shm_state.specs.PartOf.{part_in}
 use Rattle.shm_journal.specs.Begun.{lines_text}
 use Rattle.shm_journal.specs.StateLines.{OfPart}
-use Rattle.shm_journal.proofs.shortened_journal.write_parts.Given as goal
+use Rattle.shm_journal.proofs.journal_shortening.write_parts.Given as goal
 
 -- what is written, and the lines of the parts that are left, are all
 abbrev pub invariant-parts : goal.invariant-parts
