@@ -1,6 +1,7 @@
 -- How far a journal is read, line by line.
 use Rattle.std.proofs.Common.{◌≡◌, ℕ, List, Bool, true, false, Option, Some, None, refl, sym, ap, subst, ◌∙◌}
 use Rattle.std.specs.Prelude.{Result, IfOk, is_none, is_some, ◌&&◌}
+use Rattle.shm_lines.proofs.StepLemmas.{some-is}
 use Rattle.shm_process.specs.Node.{Node}
 use Rattle.shm_process.specs.NodeOf.{node_of}
 use Rattle.shm_journal.specs.Found.{Sound, site_in}
@@ -46,7 +47,7 @@ pub told_on : {A : Type 0} → (node : Node) (within : Bool) (telling : Option (
 told_on node within None code t is at = absurd (cc)
 told_on node false (Some x) code t is (u, tells, at) = absurd (cc)
 told_on node true (Some x) code t is (u, tells, at) =
-    let same : x ≡ code = cc in subst (λ y. IsTelling y t) same (subst (IsTelling x) (sym (same-telling t u at)) tells)
+    subst (λ y. IsTelling y t) (some-is x code is) (subst (IsTelling x) (sym (same-telling t u at)) tells)
 
 -- it is told, and the site stands behind it
 pub told_so : {A : Type 0} → (t : Telling) (line : List ℕ) (said : StateLine) (result : Option (Onward A)) (onward : Onward A) (stands : Stage → Type 0)
@@ -54,7 +55,7 @@ pub told_so : {A : Type 0} → (t : Telling) (line : List ℕ) (said : StateLine
     → IsNext true (tells_if t (read_state line)) stands
 told_so t line said None onward stands read some h at = absurd (cc)
 told_so t line said (Some o) onward stands read some (stage, is, goes) at =
-    let same : o ≡ onward = cc in (stage, ap (tells_if t) (sym read) ∙ is, at stage (subst (λ x. IsOnward x stage) same goes))
+    let same = some-is o onward some in (stage, ap (tells_if t) (sym read) ∙ is, at stage (subst (λ x. IsOnward x stage) same goes))
 
 -- ---- all lines
 
