@@ -1,4 +1,4 @@
-use Rattle.std.proofs.Common.{rules, ◌≡◌, ◌++◌, ◌∙◌, List, ap, ap₂, string_bytes, subst, sym}
+use Rattle.std.proofs.Common.{rules, ◌≡◌, ◌++◌, ◌∙◌, List, ap, ap₂, string_bytes, subst, sym, true}
 use Rattle.std.specs.List.{All}
 use Rattle.std.specs.Prelude.{map}
 use Rattle.shm_model.specs.Site.{Site}
@@ -25,6 +25,7 @@ returns-in-Ok-take_parts-clause-text g c =
     let parts = map part_in items in
     let text = string_bytes c.in-Ok-write_journal.text in
     let slice = c.as_slice.ensures.value in
+    let lined : c.have_lines.result ≡ true = search rules in
     let sites : c.sites-sites.result ≡ node.sites = sym c.count.ensures.value ∙ (search rules) ∙ c.requires.sites in
     let me : c.me-me.result ≡ node.me = (search rules) ∙ c.requires.me in
     let is : text ≡ header_text header ++ state_text (record { parts = map part_in c.as_slice-2.result.now; mapped = c.mapped-mapped.result.now; ending = ending_in c.ending_of.result })
@@ -33,7 +34,7 @@ returns-in-Ok-take_parts-clause-text g c =
     ap₂ (λ sites me. site_from sites me (state_told parts)) c.sites-sites.ensures c.me-me.ensures
     ∙ c.in-Ok.ensures.told ∙ ap (λ (s : Site). (restart s).site) c.site-site.ensures in
     shortens header node parts text c.requires.sites c.requires.me
-    (subst (λ ps. All IsPart (map part_in ps)) slice (search rules))
+    (subst (λ ps. All IsPart (map part_in ps)) slice (c.have_lines.ensures lined))
     (subst (All IsMapping) c.mapped-mapped.ensures c.mappings_fit.ensures)
     (subst IsEnding c.ending_of.ensures.at c.ending_of.ensures.is)
     (subst (λ s. AreTold s node.me parts) sites (subst (λ m. AreTold c.sites-sites.result m parts) me c.in-Ok-take_parts.ensures))
