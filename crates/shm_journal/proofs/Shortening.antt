@@ -20,7 +20,7 @@ use Rattle.shm_journal.specs.Begun.{Beginning, IsBeginning, IsKeptSite, KeptSite
 use Rattle.shm_journal.specs.DeskFrom.{desk_from}
 use Rattle.shm_journal.specs.Found.{Sound, found}
 use Rattle.shm_journal.specs.Lines.{Header, IsHeader}
-use Rattle.shm_journal.specs.Shortened.{AreTold, Shortens, ending_at, rested, telling_of}
+use Rattle.shm_journal.specs.Shortened.{AreTold, Shortens, ending_at, rested}
 use Rattle.shm_journal.specs.StateLines.{Ending, StateLine, OfPart, OfMapping, OfEnding, IsEnding, IsMapping, state_line}
 use Rattle.shm_journal.specs.Stages.{Telling, resumed, resumed_if, telling_nothing, told_by, unless_wrong, with_told}
 
@@ -40,6 +40,10 @@ unfolding restarted
 goes_on header seal node start = refl
 
 -- ---- what makes one
+
+-- what such a state tells of the node, in these parts of its site
+abbrev telling_of : List Part → Node → KeptSite
+telling_of parts node = record { parts = parts; mapped = node.mapped; ending = ending_at node }
 
 whole-resumed : (whole : Bool) (t : Telling) (ending : Ending) → whole ≡ true → cond whole (Some (resumed t ending)) None ≡ Some (resumed t ending)
 whole-resumed whole t ending h = ap (λ b. cond b (Some (resumed t ending)) None) h

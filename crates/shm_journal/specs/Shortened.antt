@@ -24,10 +24,6 @@ Shortens header node text = (site : KeptSite) × (text ≡ header_text header ++
 abbrev pub ending_at : Node → Ending
 ending_at node = record { clock = node.clock; steps = node.steps; caller = node.caller }
 
--- what such a state tells of the node, in these parts of its site
-abbrev pub telling_of : List Part → Node → KeptSite
-telling_of parts node = record { parts = parts; mapped = node.mapped; ending = ending_at node }
-
 -- each of these parts can be told behind those before it
 abbrev pub AreTold : ℕ → ℕ → List Part → Type 0
 AreTold sites me parts =

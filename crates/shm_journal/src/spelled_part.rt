@@ -102,42 +102,18 @@ fn call_has_line(op: Op) -> bool
     ensures { result ≡ true → IsCall op }
 {
     match op {
-        Op::Get {
-            cred,
-            key,
-            size,
-            mode,
-            flags,
-        } => {
-            let _numbers = (cred.uid, cred.gid, key.0, size, mode.bits());
+        Op::Get { mode, flags, .. } => {
+            let _mode = mode.bits();
             flags.0 % 512 == 0 && flags.0 < 2048
         }
-        Op::Attach { cred, id, .. } => {
-            let _numbers = (cred.uid, cred.gid, id.0);
+        Op::Set { mode, .. } => {
+            let _mode = mode.bits();
             true
         }
-        Op::Detach { id } => {
-            let _id = id.0;
-            true
-        }
-        Op::Remove { cred, id } => {
-            let _numbers = (cred.uid, cred.gid, id.0);
-            true
-        }
-        Op::Set {
-            cred,
-            id,
-            uid,
-            gid,
-            mode,
-        } => {
-            let _numbers = (cred.uid, cred.gid, id.0, uid, gid, mode.bits());
-            true
-        }
-        Op::Stat { cred, id } => {
-            let _numbers = (cred.uid, cred.gid, id.0);
-            true
-        }
+        Op::Attach { .. } => true,
+        Op::Detach { .. } => true,
+        Op::Remove { .. } => true,
+        Op::Stat { .. } => true,
     }
 }
 
@@ -181,37 +157,22 @@ fn is_page(bytes: &[u8]) -> bool
 fn segment_fits(segment: Segment)
     ensures { IsSegment segment }
 {
-    let _id = segment.id.0;
-    let _key = segment.key.0;
-    let _owner = (segment.uid, segment.gid, segment.cuid, segment.cgid);
     let _mode = segment.mode.bits();
-    let _counts = (segment.size, segment.nattch);
 }
 
 /// Each field of a reply has a word.
 fn reply_fits(reply: Reply)
     ensures { IsReply reply }
 {
-    match reply {
-        Reply::Id(id) => {
-            let _id = id.0;
-        }
-        Reply::Attached(attached) => {
-            let _size = attached.size;
-        }
-        Reply::Ok => {}
-        Reply::Stat(stat) => stat_fits(stat),
-        Reply::Refused(_) => {}
+    if let Reply::Stat(stat) = reply {
+        stat_fits(stat);
     }
 }
 
 fn stat_fits(stat: Stat)
     ensures { IsReply (said.Stat stat) }
 {
-    let _key = stat.key.0;
     let _mode = stat.mode.bits();
-    let _owner = (stat.uid, stat.gid, stat.cuid, stat.cgid);
-    let _counts = (stat.size, stat.nattch);
 }
 
 /// A set is of 16 sites.
@@ -225,13 +186,8 @@ fn set_fits(set: SiteSet)
 fn book_fits(book: BookPart)
     ensures { IsBook (book_in book) }
 {
-    let _owner = book.owner.0;
-    let _number = book.number;
     set_fits(book.copies);
     numbers_fit(&book.served);
-    if let Some((_, site)) = book.running {
-        let _site = site.0;
-    }
 }
 
 fn numbers_fit(numbers: &[u64])
@@ -249,8 +205,4 @@ pub(crate) fn mappings_fit(mapped: &[Mapping])
 
 fn mapping_fits(mapping: Mapping)
     ensures { IsMapping mapping }
-{
-    let _seg = mapping.page.seg.0;
-    let _index = mapping.page.index;
-    let _at = mapping.at;
-}
+{}
