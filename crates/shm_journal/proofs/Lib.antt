@@ -25,3 +25,4 @@ pub mod SingleSteps
 pub mod DeskLives
 pub mod Leaving
 pub mod MappedLives
+pub mod Shortening

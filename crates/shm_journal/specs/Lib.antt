@@ -20,4 +20,5 @@ pub mod DeskFrom
 pub mod Crash
 pub mod Summed
 pub mod Begun
+pub mod Shortened
 pub mod Lives

@@ -6,10 +6,11 @@ ghost use Rattle.shm_journal.specs.DeskFrom.{desk_from};
 ghost use Rattle.shm_journal.specs.Found.{Sound, found, opened};
 ghost use Rattle.shm_journal.specs.Lines.{Header, IsHeader, header_line, read_entry, read_header};
 ghost use Rattle.shm_journal.specs.Lives.{AreTaken, FindsLives, FindsLivesFrom, IsJournal, IsJournalFrom, LeavesNewSound, LeavesSound, LeavesSoundFrom, after_lives, journal_of_steps};
+ghost use Rattle.shm_journal.specs.Shortened.{Shortens, rested};
 ghost use Rattle.shm_journal.specs.StateLines.{IsStateLine, StateLine, read_state, state_line};
 ghost use Rattle.shm_process.specs.Desk.{Desk};
 ghost use Rattle.shm_process.specs.Node.{Node, is_late};
-ghost use Rattle.shm_process.specs.Recorded.{Entry, Event, IsEntry, after_events, entry_line};
+ghost use Rattle.shm_process.specs.Recorded.{Entry, Event, IsEntry, after_events, entry_line, kept};
 ghost use Rattle.shm_process.specs.declared.process_counts.Start.{Start};
 ghost use Rattle.shm_seal.specs.Seal.{Seal};
 
@@ -84,4 +85,19 @@ pub fn a_restart_maps_what_was_mapped()
         ≡ (after_events (after_lives b.node lives) life).mapped }
     ensures state { (header : Header) (seal : Seal) (start : Start) (site : KeptSite) (node : Node) → IsKeptSite header site node
         → (desk_from header seal false node start).node.mapped ≡ site.mapped }
+{}
+
+/// A shortened journal is found sound: it leads to the site as a restart leaves it. It is one that further lives can follow.
+pub fn a_shortened_journal_is_found_sound()
+    ensures found { (header : Header) (node : Node) (text : List ℕ) → IsHeader header → Shortens header node text
+        → found header text ≡ Sound (rested node) }
+    ensures begins { (header : Header) (node : Node) (text : List ℕ) → IsHeader header → Shortens header node text
+        → IsBeginning (record { header = header; text = text; node = rested node }) }
+{}
+
+/// A site goes on from a shortened journal as it would from the whole one: its next life begins with a restart, and what a restart takes is gone
+/// already.
+pub fn a_site_goes_on_from_a_shortened_journal()
+    ensures { (header : Header) (seal : Seal) (node : Node) (start : Start)
+        → desk_from header seal false (rested node) start ≡ desk_from header seal false (kept node) start }
 {}
