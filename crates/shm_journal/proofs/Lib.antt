@@ -11,6 +11,7 @@ pub mod WarningLemmas
 pub mod CrashLemmas
 pub mod StepCounts
 pub mod SummaryLemmas
+pub mod Whose
 pub mod Fits
 pub mod BytesFit
 pub mod RowsFit

@@ -125,17 +125,16 @@ next-steps (InState telling) after line none h =
     state-steps telling after (read_state line) h ∙ sym (no-entry-steps line telling after (read_state line) refl h) ∙ none-before (steps_in line)
 next-steps (Open node) after line none h = open-steps node line after (read_entry line) refl h
 
-torn-leads : (number : ℕ) (state final : Stage) (b : Bool) → cond b (Bad number) (Sound state) ≡ Sound final → state ≡ final
+pub torn-leads : (number : ℕ) (state final : Stage) (b : Bool) → cond b (Bad number) (Sound state) ≡ Sound final → state ≡ final
 torn-leads number state final true h = absurd (cc)
 torn-leads number state final false h = cc
 
 -- a line leads on, or the journal leads nowhere
-line-leads : (number : ℕ) (final : Stage) (n : ℕ) (onward : Stage → Found Stage) (b : Bool) (next : Option Stage)
-    → cond b (Bad number) (next_found number next onward) ≡ Sound final
-    → ((after : Stage) → next ≡ Some after → onward after ≡ Sound final → steps_at final ≡ n) → steps_at final ≡ n
-line-leads number final n onward true next h more = absurd (cc)
-line-leads number final n onward false None h more = absurd (cc)
-line-leads number final n onward false (Some after) h more = more after refl h
+pub line-leads : (P : Type 0) (number : ℕ) (final : Stage) (onward : Stage → Found Stage) (b : Bool) (next : Option Stage)
+    → cond b (Bad number) (next_found number next onward) ≡ Sound final → ((after : Stage) → next ≡ Some after → onward after ≡ Sound final → P) → P
+line-leads P number final onward true next h more = absurd (cc)
+line-leads P number final onward false None h more = absurd (cc)
+line-leads P number final onward false (Some after) h more = more after refl h
 
 -- so many steps, and those of these lines
 abbrev steps_on : ℕ → List (List ℕ) → ℕ
@@ -146,6 +145,7 @@ pub from-steps : (number : ℕ) (state final : Stage) (lines : List (List ℕ)) 
 unfolding found_from
 from-steps number state final [] torn none h = sym (ap steps_at (torn-leads number state final (is_long torn) h))
 from-steps number state final (line ∷ lines) torn none h =
-    line-leads number final (steps_on (steps_at state + steps_in line) lines) (λ after. found_from next_stage (number + 1) after lines torn) (is_long line) (next_stage state line) h
+    line-leads (steps_at final ≡ steps_on (steps_at state + steps_in line) lines) number final (λ after. found_from next_stage (number + 1) after lines torn) (is_long line)
+    (next_stage state line) h
     (λ after one more.
     from-steps (number + 1) after final lines torn (unbegun-next state after line one) more ∙ ap (λ n. steps_on n lines) (next-steps state after line none one))

@@ -164,7 +164,7 @@ same-summary s site sites pages steps clock bytes torn a b c d e f g =
     ∙ ap (λ x. made s.cluster site sites pages steps clock bytes x) g
 
 -- the first line is the header, and the others lead on
-own-leads : (header : Header) (final : Stage) (onward : Stage → Found Stage) (long same : Bool) (read : Option Header)
+pub own-leads : (header : Header) (final : Stage) (onward : Stage → Found Stage) (long same : Bool) (read : Option Header)
     → cond long (Bad 1) (then_found (cond same (Sound (begun header)) (not_own read)) onward) ≡ Sound final → onward (begun header) ≡ Sound final
 own-leads header final onward true same read h = absurd (cc)
 own-leads header final onward false true read h = h

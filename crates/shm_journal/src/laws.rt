@@ -55,6 +55,12 @@ pub fn a_state_leads_to_its_site()
         → found header (header_text header ++ state_text site) ≡ Sound node }
 {}
 
+/// A journal leads to the site that its header names.
+pub fn a_journal_leads_to_the_site_of_its_header()
+    ensures sites { (header : Header) (file : List ℕ) (node : Node) → found header file ≡ Sound node → node.sites ≡ header.sites }
+    ensures me { (header : Header) (file : List ℕ) (node : Node) → found header file ≡ Sound node → node.me ≡ header.me }
+{}
+
 /// So is what a crash leaves of it, at any moment of a further life, whatever comes in that life: it leads to the site after all whose entries
 /// were durable, and at most what had happened since; and its whole lines are a journal that the next life begins with. That life begins
 /// with a restart, for which there has to be a clock.
