@@ -12,4 +12,3 @@ pub mod Clocked
 pub mod Lived
 pub mod LivesFound
 pub mod StatesFound
-pub mod Cutting

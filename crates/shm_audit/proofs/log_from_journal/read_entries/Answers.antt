@@ -23,8 +23,8 @@ returns-in-Ok-clause-left g c =
     cut_read box (left_of c.args.lines (remaining c.args.reader.now)) (remaining c.replay_rest.new.reader) led.0 led.1 (reading_of c.replay_rest.new.site) c.whole_log.result
     led.4.0 led.3 c.whole_log.ensures.cut c.whole_log.ensures.fault
 
-pub returns-in-Err-clause-left : goal.returns-in-Err-clause-left
-returns-in-Err-clause-left g c =
+pub returns-clause-left : goal.returns-clause-left
+returns-clause-left g c =
     let remaining = g.R.Read.remaining in
     let box = box_of c.args.site.site_box in
     entries_left box (left_of c.args.lines (remaining c.args.reader.now)) (remaining c.replay_rest.new.reader) c.in-Err.fault
