@@ -1,17 +1,17 @@
 -- Where what was read of a journal leads, line by line.
-use Rattle.std.proofs.Common.{◌≡◌, ◌≤◌, ◌<◌, ◌⊎◌, inl, inr, ℕ, ◌+◌, ◌==◌, Bool, true, false, List, [], ◌∷◌, ◌++◌, Option, Some, None, cond, length, refl, sym, ap, subst, ◌∙◌, append-nil, append_assoc, arith}
+use Rattle.std.proofs.Common.{◌≡◌, ◌≤◌, ◌<◌, inl, inr, ℕ, ◌+◌, ◌==◌, Bool, true, false, List, [], ◌∷◌, ◌++◌, Option, Some, None, cond, length, refl, sym, ap, subst, ◌∙◌, append-nil, append_assoc, arith}
 use Rattle.std.specs.Prelude.{nat_lt}
 use Rattle.std.specs.Io.KnownBytes.{Consumes, IsAtEnd}
 use Rattle.std.proofs.KnownBytes.{Consumes-nil, Consumes-trans}
 use Rattle.std.proofs.lemmas.Bool.Decides.{nat_tests}
 use Rattle.std.proofs.lemmas.List.{length-append}
 use Rattle.std.proofs.lemmas.List.Elements.{All-head, All-tail}
-use Rattle.shm_journal.specs.Found.{Found, Sound, Foreign, Bad, Kind, Lines, bytes_of_lines, found_behind, found_from, found_in, found_of, is_long, lines_behind, lines_of, max_journal_line, next_found, then_found, unless_long, with_line}
+use Rattle.shm_journal.specs.Found.{Found, Sound, Bad, Kind, Lines, bytes_of_lines, found_behind, found_from, found_in, found_of, lines_behind, lines_of, max_journal_line, next_found, then_found, unless_long, with_line}
 use Rattle.shm_journal.specs.Leading.{Leads}
 use Rattle.shm_journal.specs.LinesOf.{Unended}
 use Rattle.shm_journal.specs.ReadUpTo.{BreaksAt, IsSound, LacksLine, ReadsToLine, ReadsWhole, StopsAt}
 use Rattle.shm_journal.specs.Replaying.{IsNext}
-use Rattle.shm_journal.specs.Taking.{BreaksOff, IsOther, Overruns, most_at_once}
+use Rattle.shm_journal.specs.Taking.{BreaksOff, IsOther, most_at_once}
 use Rattle.shm_journal.specs.declared.journal_error.JournalFault.{JournalFault}
 use Rattle.shm_journal.specs.declared.journal_error.JournalFault.TheVariants as fault
 

@@ -1,5 +1,5 @@
 -- The lines of a state: what is read is spelled so, what is spelled so is read, and none is an entry.
-use Rattle.std.proofs.Common.{◌≡◌, ◌≤◌, ◌<◌, ℕ, ◌^◌, Bool, true, false, List, [], ◌∷◌, Option, None, Some, cond, nat_lt, refl, sym, ap, subst, ◌∙◌, arith}
+use Rattle.std.proofs.Common.{◌≡◌, ◌≤◌, ℕ, Bool, true, false, List, [], ◌∷◌, Option, None, Some, cond, nat_lt, refl, sym, ap, subst, ◌∙◌, arith}
 use Rattle.std.specs.Prelude.{codes, IfSome, option_and_then, option_map}
 use Rattle.std.specs.Fmt.{decimal}
 use Rattle.std.specs.List.{join_with_byte}
@@ -11,7 +11,7 @@ use Rattle.shm_lines.proofs.StepLemmas.{NoBlanks, NoBlank-test, some-is, step, w
 use Rattle.shm_lines.specs.Words.{◌>>=◌, IsWide, words_of}
 use Rattle.shm_wire.proofs.MessageWords.{took_page}
 use Rattle.shm_wire.proofs.NameWords.{kind}
-use Rattle.shm_wire.proofs.Reading.{Reads, Sound, after_verb, by_verb-is, ended-is, nothing-is, prints, took, took_verb, verb-is}
+use Rattle.shm_wire.proofs.Reading.{Reads, after_verb, by_verb-is, ended-is, nothing-is, prints, took, took_verb, verb-is}
 use Rattle.shm_wire.proofs.SpelledMessages.{prints_page}
 use Rattle.shm_wire.proofs.TagWords.{tag}
 use Rattle.shm_wire.specs.Tag.{IsTag, tag_of}

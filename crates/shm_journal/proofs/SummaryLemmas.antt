@@ -8,7 +8,7 @@ use Rattle.std.proofs.KnownBytes.{Consumes-trans}
 use Rattle.std.proofs.lemmas.List.{length-append}
 use Rattle.std.proofs.lemmas.Slice.Eq.{bytes_eq-Decides}
 use Rattle.shm_process.specs.Node.{Node}
-use Rattle.shm_journal.specs.Found.{Found, Sound, Bad, Lines, bytes_of_lines, found, found_from, found_in, is_empty, is_long, lines_behind, lines_of, max_journal_line, next_found, not_own, own, reached, rest_found, site_in, then_found, with_line}
+use Rattle.shm_journal.specs.Found.{Found, Sound, Bad, Lines, bytes_of_lines, found_from, found_in, is_empty, is_long, lines_behind, lines_of, max_journal_line, not_own, own, reached, rest_found, site_in, then_found, with_line}
 use Rattle.shm_journal.specs.HeaderOf.{header_of}
 use Rattle.shm_journal.specs.Lines.{Header, header_line, read_header}
 use Rattle.shm_journal.specs.LinesOf.{Unended}

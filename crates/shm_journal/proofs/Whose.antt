@@ -11,7 +11,7 @@ use Rattle.shm_state.specs.Told.{Told}
 use Rattle.shm_journal.proofs.StateLeads.{made_is}
 use Rattle.shm_journal.proofs.StepCounts.{line-leads, torn-leads}
 use Rattle.shm_journal.proofs.SummaryLemmas.{own-leads}
-use Rattle.shm_journal.specs.Found.{Found, Sound, Foreign, Bad, Partial, found, found_from, found_in, is_long, lines_of, own, reached, replayed_line, site_in}
+use Rattle.shm_journal.specs.Found.{Found, Sound, Foreign, Bad, Partial, found, found_from, found_in, is_long, lines_of, own, reached, site_in}
 use Rattle.shm_journal.specs.Lines.{Header, header_line, read_entry, read_header}
 use Rattle.shm_journal.specs.Stages.{Stage, Opened, InState, Open, Telling, begun, first_taken, next_stage, replayed_entry, resumed_if, tells, tells_if, told_by, with_mapping, with_told}
 use Rattle.shm_journal.specs.StateLines.{StateLine, OfPart, OfMapping, OfEnding, read_state}

@@ -1,11 +1,11 @@
 -- What was read of a journal where a fault is answered, or where all is well.
-use Rattle.std.specs.Prelude.{⊤, ◌≡◌, ◌⊎◌, ◌≤◌, ◌<◌, ℕ, ◌+◌, List, [], ◌∷◌, ◌++◌, length, Option}
+use Rattle.std.specs.Prelude.{◌≡◌, ◌⊎◌, ◌≤◌, ◌<◌, ℕ, ◌+◌, List, [], ◌∷◌, ◌++◌, length, Option}
 use Rattle.std.specs.Io.KnownBytes.{Consumes, IsAtEnd}
 use Rattle.shm_process.specs.Node.{Node}
 use Rattle.shm_journal.specs.Found.{Found, Sound, Bad, bytes_of_lines, lines_of, max_journal_line, site_in}
 use Rattle.shm_journal.specs.LinesOf.{Unended}
 use Rattle.shm_journal.specs.Stages.{Stage, Telling, InState}
-use Rattle.shm_journal.specs.Taking.{IsOther, most_at_once}
+use Rattle.shm_journal.specs.Taking.{most_at_once}
 use Rattle.shm_journal.specs.declared.journal_error.JournalFault.{JournalFault}
 use Rattle.shm_journal.specs.declared.journal_error.JournalFault.TheVariants as fault
 

@@ -1,7 +1,7 @@
 -- The lines of a state that a journal may begin with: the parts of the site's state; `state mapped AT SEG INDEX KIND` for each page that its
 -- machine maps; and last `state clock CLOCK STEPS`, and the tag of the caller whose segment call is outstanding, if there is one. One spelling
 -- for each.
-use Rattle.std.specs.Prelude.{⊤, ◌≤◌, ℕ, List, [], ◌∷◌, codes, IfSome, Option, Some, None, if◌then◌else◌, nat_lt, option_map}
+use Rattle.std.specs.Prelude.{◌≤◌, ℕ, List, [], ◌∷◌, codes, IfSome, Option, Some, None, if◌then◌else◌, nat_lt, option_map}
 use Rattle.std.specs.Fmt.{decimal}
 use Rattle.std.specs.List.{join_with_byte}
 use Rattle.shm_lines.specs.Spelling.{IsNumber}
