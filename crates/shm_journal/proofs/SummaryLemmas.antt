@@ -8,23 +8,27 @@ use Rattle.std.proofs.KnownBytes.{Consumes-trans}
 use Rattle.std.proofs.lemmas.List.{length-append}
 use Rattle.std.proofs.lemmas.Slice.Eq.{bytes_eq-Decides}
 use Rattle.shm_process.specs.Node.{Node}
+use Rattle.shm_process.specs.NodeOf.{node_of}
+use Rattle.shm_process.specs.declared.node.Node.{Node as Site}
 use Rattle.shm_journal.specs.Found.{Found, Sound, Bad, Lines, bytes_of_lines, found_from, found_in, is_empty, is_long, lines_behind, lines_of, max_journal_line, not_own, own, reached, rest_found, site_in, then_found, with_line}
 use Rattle.shm_journal.specs.HeaderOf.{header_of}
 use Rattle.shm_journal.specs.Lines.{Header, header_line, read_header}
-use Rattle.shm_journal.specs.LinesOf.{Unended}
-use Rattle.shm_journal.specs.ReadUpTo.{ReadsToLine}
-use Rattle.shm_journal.specs.Recovers.{ReadsAll}
-use Rattle.shm_journal.specs.Stages.{Stage, Opened, InState, Open, begun, next_stage}
-use Rattle.shm_journal.specs.Summed.{IsSummary, NamesFirst, RestReadsUpTo, SummaryReadsUpTo, SumsRest, SumsUpKnown, any, begun_if, entries_in, first_found, found_any, in_limits, reached_any, stage_named, steps_in}
+use Rattle.shm_journal.specs.LinesOf.{Unended, line_in}
+use Rattle.shm_journal.specs.ReadUpTo.{ReadsWhole}
+use Rattle.shm_journal.specs.Recovers.{EntriesReadUpTo, ReadsAll}
+use Rattle.shm_journal.specs.Stages.{Stage, Opened, InState, Open, Telling, begun, next_stage}
+use Rattle.shm_journal.specs.Summed.{IsSummary, LeadsBehind, NamesFirst, RestReadsUpTo, SummaryReadsUpTo, SumsRest, SumsUpKnown, SumsUpNode, any, begun_if, entries_in, first_found, found_any, in_limits, reached_any, stage_named, steps_in}
 use Rattle.shm_journal.specs.Taking.{BreaksOff, most_at_once}
 use Rattle.shm_journal.specs.declared.journal_error.JournalFault.{JournalFault}
 use Rattle.shm_journal.specs.declared.journal_error.JournalFault.TheVariants as fault
 use Rattle.shm_journal.specs.declared.journal_summary.Summary.{Summary}
+use Rattle.shm_journal.specs.declared.line_reader.Lines.{Lines as Code}
 use Rattle.shm_journal.specs.declared.summary_reader.Named.{Named}
 use Rattle.shm_seal.specs.declared.cluster_name.ClusterName.{ClusterName}
 use Rattle.shm_journal.proofs.Fronts.{any_file, of_all, whole_of}
 use Rattle.shm_journal.proofs.HeaderWords.{header-is_spelled}
 use Rattle.shm_journal.proofs.Leading.{first_breaks, first_leads, first_stops, joined_fault, joined_whole}
+use Rattle.shm_journal.proofs.RecoveryLemmas.{ends_within}
 use Rattle.shm_journal.proofs.StepCounts.{from-steps, steps_at}
 
 -- ---- each byte is in a whole line, or torn
@@ -118,12 +122,55 @@ breaks_first before now fault.BeginsWithState b = absurd b.other
 
 -- ---- the rest
 
-pub as_rest : (header : Header) (old new : Option (List ℕ)) (why : JournalFault) → ReadsToLine (rest_found (begun header)) old new why → RestReadsUpTo header old new why
+pub as_rest : (header : Header) (old new : Option (List ℕ)) (why : JournalFault) → EntriesReadUpTo (begun header) old new why → RestReadsUpTo header old new why
 as_rest header old new fault.OutOfMemory h = h
 as_rest header old new fault.ReadFault h = inl h
 as_rest header old new (fault.BadLine number) h = h
-as_rest header old new fault.UnendedState h = absurd h
+as_rest header old new fault.UnendedState h = h
 as_rest header old new fault.BeginsWithState h = absurd h
+
+pub leads_behind : {A B : Type 0} → (stage : Stage) (old new : Option (List ℕ)) (before after : Code A) (last : Stage) (more : ℕ) (r : Result (Site B) JournalFault)
+    → (read : ReadsWhole (rest_found stage) old new last more) → after.whole ≡ before.whole + more → line_in after ≡ (lines_of read.bytes).torn
+    → IfOk r (λ node. site_in (Sound last) ≡ Sound (node_of node)) → IfOk r (λ node. LeadsBehind stage old new before after (node_of node))
+leads_behind stage old new before after last more (Ok node) read whole torn led =
+    record { last = last; more = more; rest = read; led = led; whole = whole; torn = torn }
+leads_behind stage old new before after last more (Err f) read whole torn led = tt
+
+pub unended_behind : {A : Type 0} → (stage : Stage) (old new : Option (List ℕ)) (last : Stage) (more : ℕ) (r : Result (Site A) JournalFault)
+    → ReadsWhole (rest_found stage) old new last more → IfErr r (λ f. f ≡ fault.UnendedState) → IfErr r (λ f. (telling : Telling) × (last ≡ InState telling))
+    → IfErr r (EntriesReadUpTo stage old new)
+unended_behind stage old new last more (Ok node) read is telling = tt
+unended_behind stage old new last more (Err f) read is telling =
+    subst (EntriesReadUpTo stage old new) (sym is) (ends_within (rest_found stage) old new last more read telling)
+
+pub rest_summed : {A : Type 0} → (header : Header) (old new : Option (List ℕ)) (before after : Code A) (node : Node) (r : Result Summary JournalFault)
+    → LeadsBehind (begun header) old new before after node → IfOk r (SumsUpNode header node after) → IfOk r (SumsRest header old new before.whole)
+rest_summed header old new before after node (Ok s) leads sums =
+    let w = leads.whole in
+    let b = sums.bytes in
+    let bytes : s.bytes ≡ before.whole + leads.more + s.torn = omega (arith, w, b) in record {
+      last = leads.last;
+      after = node;
+      more = leads.more;
+      rest = leads.rest;
+      led = leads.led;
+      site = sums.site;
+      sites = sums.sites;
+      pages = sums.pages;
+      cluster = sums.cluster;
+      steps = sums.steps;
+      clock = sums.clock;
+      torn = sums.torn ∙ ap length leads.torn;
+      bytes = bytes;
+    }
+rest_summed header old new before after node (Err f) leads sums = tt
+
+-- there are more bytes than numbers
+pub rest_uncounted : {A : Type 0} → (header : Header) (old new : Option (List ℕ)) (before after : Code A) (node : Node) (r : Result Summary JournalFault)
+    → LeadsBehind (begun header) old new before after node → IfErr r (λ f. f ≡ fault.ReadFault) → IfErr r (RestReadsUpTo header old new)
+rest_uncounted header old new before after node (Ok s) leads is = tt
+rest_uncounted header old new before after node (Err f) leads is =
+    subst (RestReadsUpTo header old new) (sym is) (inr (leads.rest.bytes, leads.rest.taken, leads.rest.end))
 
 rest-not : (before left now : Option (List ℕ)) (header : Header) (count : ℕ) (f : JournalFault) → NamesFirst before left header count → RestReadsUpTo header left now f
     → SummaryReadsUpTo before now f

@@ -10,6 +10,7 @@ use Rattle.shm_process.specs.Recorded.{steps_of}
 use Rattle.shm_journal.specs.Found.{Found, Sound, Bad, Partial, Kind, found, found_of, is_empty, lines_of, reached, rest_found, site_in}
 use Rattle.shm_journal.specs.Leading.{Leads}
 use Rattle.shm_journal.specs.Lines.{Header, read_entry, read_header}
+use Rattle.shm_journal.specs.LinesOf.{line_in}
 use Rattle.shm_journal.specs.ReadUpTo.{BreaksAt, EndsInState, LacksLine, ReadsWhole, StopsAt}
 use Rattle.shm_journal.specs.Recovers.{ReadsAll}
 use Rattle.shm_journal.specs.Stages.{Stage, begun, next_stage}
@@ -17,6 +18,7 @@ use Rattle.shm_journal.specs.StateLines.{StateLine, OfPart, OfMapping, OfEnding,
 use Rattle.shm_journal.specs.declared.journal_error.JournalFault.{JournalFault}
 use Rattle.shm_journal.specs.declared.journal_error.JournalFault.TheVariants as fault
 use Rattle.shm_journal.specs.declared.journal_summary.Summary.{Summary}
+use Rattle.shm_journal.specs.declared.line_reader.Lines.{Lines}
 use Rattle.shm_seal.specs.NameOf.{name_of}
 use Rattle.shm_seal.specs.declared.cluster_name.ClusterName.{ClusterName}
 
@@ -132,6 +134,26 @@ pub record NamesFirst (before left : Option (List ℕ)) (header : Header) (whole
   pub some : 0 < whole
   pub as_own : Leads next_stage (reached header) before left 2 (begun header) whole
   pub as_any : Leads next_stage reached_any before left 2 (begun header) whole
+
+-- all that was left behind the first line leads from this stage to this node; what is torn is the line that was taken last
+pub record LeadsBehind {A : Type 0} (stage : Stage) (old new : Option (List ℕ)) (before after : Lines A) (node : Node) : Type 0 where
+  pub last : Stage
+  pub more : ℕ
+  pub rest : ReadsWhole (rest_found stage) old new last more
+  pub led : site_in (Sound last) ≡ Sound node
+  pub whole : after.whole ≡ before.whole + more
+  pub torn : line_in after ≡ (lines_of rest.bytes).torn
+
+-- what is summed up of this node, of whose journal these lines were taken
+pub record SumsUpNode {A : Type 0} (header : Header) (node : Node) (lines : Lines A) (summary : Summary) : Type 0 where
+  pub site : summary.site ≡ header.me
+  pub sites : summary.sites ≡ header.sites
+  pub pages : summary.pages ≡ header.pages
+  pub cluster : option_map name_of summary.cluster ≡ header.cluster
+  pub steps : summary.steps ≡ node.steps
+  pub clock : summary.clock ≡ node.clock
+  pub torn : summary.torn ≡ length (line_in lines)
+  pub bytes : summary.bytes ≡ lines.whole + summary.torn
 
 -- all that was left behind the first line, which is this header and has so many bytes, is summed up
 pub record SumsRest (header : Header) (old new : Option (List ℕ)) (first : ℕ) (summary : Summary) : Type 0 where

@@ -1,14 +1,16 @@
 //! Reads the summary of a journal, whichever site's it is.
 ghost use Rattle.std.specs.Prelude.{◌≡◌, ◌⊎◌, None, Some, true, IfErr, IfOk, OnOk};
 ghost use Rattle.std.specs.Io.KnownBytes.{IsAtEnd};
+ghost use Rattle.shm_journal.specs.Found.{Sound, site_in};
 ghost use Rattle.shm_journal.specs.HeaderOf.{header_of};
 ghost use Rattle.shm_journal.specs.Lines.{read_header};
 ghost use Rattle.shm_journal.specs.LinesOf.{left_of};
-ghost use Rattle.shm_journal.specs.Recovers.{ReadsAll};
+ghost use Rattle.shm_journal.specs.Recovers.{EntriesReadUpTo, ReadsAll};
 ghost use Rattle.shm_journal.specs.StageOf.{Stands};
-ghost use Rattle.shm_journal.specs.Stages.{begun};
-ghost use Rattle.shm_journal.specs.Summed.{NamesFirst, RestReadsUpTo, SummaryReadsUpTo, SumsRest, SumsUpKnown, in_limits, stage_named};
+ghost use Rattle.shm_journal.specs.Stages.{InState, Stage, Telling, begun};
+ghost use Rattle.shm_journal.specs.Summed.{LeadsBehind, NamesFirst, RestReadsUpTo, SummaryReadsUpTo, SumsRest, SumsUpKnown, SumsUpNode, in_limits, stage_named};
 ghost use Rattle.shm_journal.specs.declared.journal_error.JournalFault.TheVariants as fault;
+ghost use Rattle.shm_process.specs.NodeOf.{node_of};
 
 use crate::journal_error::JournalFault;
 use crate::journal_header::Header;
@@ -108,17 +110,55 @@ fn sum_rest<A: Allocator + Copy, R: Read>(
 {
     let mut lines = lines;
     let Named { header, site } = named;
-    let mut site = site;
-    match replay_rest(alloc, &mut lines, &mut site, reader) {
-        Ok(()) => {}
-        Err(fault) => return Err(fault),
+    match node_behind(alloc, &mut lines, site, reader) {
+        Ok(node) => sum_up(header, &node, &lines),
+        Err(fault) => Err(fault),
     }
+}
+
+/// The site that all lines behind the first lead to. What is torn is the line that was taken last.
+fn node_behind<A: Allocator + Copy, R: Read>(
+    alloc: A,
+    lines: &mut Lines<A>,
+    site: Reading<A>,
+    reader: &mut R,
+) -> Result<Node<A>, JournalFault>
+    ensures ok { (stage : Stage) → Stands site stage
+        → IfOk result (λ node. LeadsBehind stage (left_of lines.old (R.remaining reader.old)) (R.remaining reader.new) lines.old lines.new (node_of node)) }
+    ensures left { (stage : Stage) → Stands site stage
+        → IfErr result (EntriesReadUpTo stage (left_of lines.old (R.remaining reader.old)) (R.remaining reader.new)) }
+{
+    let mut site = site;
+    match replay_rest(alloc, lines, &mut site, reader) {
+        Ok(()) => node_of_whole(site),
+        Err(fault) => Err(fault),
+    }
+}
+
+/// The site that all lines lead to.
+fn node_of_whole<A: Allocator + Copy>(site: Reading<A>) -> Result<Node<A>, JournalFault>
+    ensures node { (stage : Stage) → Stands site stage → IfOk result (λ node. site_in (Sound stage) ≡ Sound (node_of node)) }
+    ensures fault { IfErr result (λ f. f ≡ fault.UnendedState) }
+    ensures unended { (stage : Stage) → Stands site stage → IfErr result (λ f. (telling : Telling) × (stage ≡ InState telling)) }
+{
+    match site.into_node() {
+        Some(node) => Ok(node),
+        None => Err(JournalFault::UnendedState),
+    }
+}
+
+/// The summary of the journal of this header that leads to the site, of which these lines were taken.
+fn sum_up<A: Allocator + Copy>(
+    header: Header,
+    node: &Node<A>,
+    lines: &Lines<A>,
+) -> Result<Summary, JournalFault>
+    ensures ok { IfOk result (SumsUpNode (header_of header) (node_of node.now) lines.now) }
+    ensures fault { IfErr result (λ f. f ≡ fault.ReadFault) }
+{
     let torn = lines.line().len() as u64;
     let Some(bytes) = lines.whole().checked_add(torn) else {
         return Err(JournalFault::ReadFault);
-    };
-    let Some(node) = site.into_node() else {
-        return Err(JournalFault::UnendedState);
     };
     Ok(Summary {
         site: header.me,

@@ -13,7 +13,7 @@ pub returns-clause-some : goal.returns-clause-some
 returns-clause-some g c = λ stage at.
     let site = c.args.self in
     let outside : site.in_state && is_some site.telling ≡ false = elim c.else-self.branch [
-      else-self-via-then-self+else-is_some w ↦ not_both site.in_state (is_some site.telling) (search rules)
+      | else-self-via-then-self+else-is_some w ↦ not_both site.in_state (is_some site.telling) (search rules)
       | else-self-via-else-self w ↦ not_within site.in_state (is_some site.telling) (search rules)
     ] in
     sound_site (node_of site.node) site.in_state site.telling stage outside at
