@@ -1,7 +1,6 @@
 //! Which parts of a site's state have a line that is read back as them.
-ghost use Rattle.std.specs.Prelude.{◌≡◌, length, map, true};
+ghost use Rattle.std.specs.Prelude.{◌≡◌, map, true};
 ghost use Rattle.std.specs.List.{All};
-ghost use Rattle.base64.specs.GeneralPurpose.{IsBytes};
 ghost use Rattle.shm_lines.specs.Calls.{IsCall};
 ghost use Rattle.shm_lines.specs.Words.{IsWide};
 ghost use Rattle.shm_state.specs.BookWords.{IsBook};
