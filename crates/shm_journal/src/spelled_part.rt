@@ -36,6 +36,13 @@ pub(crate) fn have_lines<A: Allocator + Copy>(parts: &[Part<A>]) -> bool
 fn has_line<A: Allocator + Copy>(part: &Part<A>) -> bool
     ensures { result ≡ true → IsPart (part_in part.now) }
 {
+    is_call_part(part) || is_page_part(part)
+}
+
+/// Checks that the part is one of a site's requests and calls, or of a home, and has a line.
+fn is_call_part<A: Allocator + Copy>(part: &Part<A>) -> bool
+    ensures { result ≡ true → IsPart (part_in part.now) }
+{
     match part {
         Part::Requests(number) => {
             let _number = *number;
@@ -68,6 +75,15 @@ fn has_line<A: Allocator + Copy>(part: &Part<A>) -> bool
             reply_fits(*reply);
             true
         }
+        _ => false,
+    }
+}
+
+/// Checks that the part is one of a site's pages, and has a line.
+fn is_page_part<A: Allocator + Copy>(part: &Part<A>) -> bool
+    ensures { result ≡ true → IsPart (part_in part.now) }
+{
+    match part {
         Part::Entry { page, entry } => {
             let _seg = page.seg.0;
             let _index = page.index;
@@ -94,6 +110,7 @@ fn has_line<A: Allocator + Copy>(part: &Part<A>) -> bool
             book_fits(*book);
             true
         }
+        _ => false,
     }
 }
 
