@@ -1,5 +1,5 @@
 -- A shortened journal: where it leads, and what of a site makes one.
-use Rattle.std.proofs.Common.{◌≡◌, Bool, false, true, ℕ, List, [], ◌∷◌, ◌++◌, Option, Some, None, cond, inr, refl, sym, ap, subst, ◌∙◌, append_assoc}
+use Rattle.std.proofs.Common.{◌≡◌, Bool, false, true, ℕ, List, [], ◌∷◌, ◌++◌, Some, None, cond, inr, refl, sym, ap, ◌∙◌, append_assoc}
 use Rattle.std.specs.List.{All}
 use Rattle.std.specs.Prelude.{map, option_and_then}
 use Rattle.shm_lines.proofs.StepLemmas.{some-is, step}
@@ -16,7 +16,7 @@ use Rattle.shm_state.specs.PartWords.{IsPart}
 use Rattle.shm_state.specs.Stage.{is_whole}
 use Rattle.shm_state.specs.Told as state
 use Rattle.shm_journal.proofs.Lives.{state_found}
-use Rattle.shm_journal.specs.Begun.{Beginning, IsBeginning, IsKeptSite, KeptSite, header_text, lines_text, restored, state_text, told_all}
+use Rattle.shm_journal.specs.Begun.{IsBeginning, KeptSite, header_text, lines_text, restored, state_text, told_all}
 use Rattle.shm_journal.specs.DeskFrom.{desk_from}
 use Rattle.shm_journal.specs.Found.{Sound, found}
 use Rattle.shm_journal.specs.Lines.{Header, IsHeader}

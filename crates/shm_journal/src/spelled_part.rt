@@ -1,7 +1,6 @@
 //! Which parts of a site's state have a line that is read back as them.
-ghost use Rattle.std.specs.Prelude.{◌≡◌, length, map, true};
+ghost use Rattle.std.specs.Prelude.{◌≡◌, map, true};
 ghost use Rattle.std.specs.List.{All};
-ghost use Rattle.base64.specs.GeneralPurpose.{IsBytes};
 ghost use Rattle.shm_lines.specs.Calls.{IsCall};
 ghost use Rattle.shm_lines.specs.Words.{IsWide};
 ghost use Rattle.shm_state.specs.BookWords.{IsBook};
@@ -37,6 +36,13 @@ pub(crate) fn have_lines<A: Allocator + Copy>(parts: &[Part<A>]) -> bool
 fn has_line<A: Allocator + Copy>(part: &Part<A>) -> bool
     ensures { result ≡ true → IsPart (part_in part.now) }
 {
+    is_call_part(part) || is_page_part(part)
+}
+
+/// Checks that the part is one of a site's requests and calls, or of a home, and has a line.
+fn is_call_part<A: Allocator + Copy>(part: &Part<A>) -> bool
+    ensures { result ≡ true → IsPart (part_in part.now) }
+{
     match part {
         Part::Requests(number) => {
             let _number = *number;
@@ -69,6 +75,15 @@ fn has_line<A: Allocator + Copy>(part: &Part<A>) -> bool
             reply_fits(*reply);
             true
         }
+        _ => false,
+    }
+}
+
+/// Checks that the part is one of a site's pages, and has a line.
+fn is_page_part<A: Allocator + Copy>(part: &Part<A>) -> bool
+    ensures { result ≡ true → IsPart (part_in part.now) }
+{
+    match part {
         Part::Entry { page, entry } => {
             let _seg = page.seg.0;
             let _index = page.index;
@@ -95,6 +110,7 @@ fn has_line<A: Allocator + Copy>(part: &Part<A>) -> bool
             book_fits(*book);
             true
         }
+        _ => false,
     }
 }
 

@@ -10,7 +10,7 @@ use Rattle.shm_state.specs.PartWords.{IsPart}
 use Rattle.shm_state.specs.Told.{state_told}
 use Rattle.shm_journal.specs.Begun.{header_text, state_text}
 use Rattle.shm_journal.specs.HeaderOf.{header_of}
-use Rattle.shm_journal.specs.Shortened.{AreTold, ending_at}
+use Rattle.shm_journal.specs.Shortened.{AreTold}
 use Rattle.shm_journal.specs.StateLines.{Ending, IsEnding, IsMapping}
 use Rattle.shm_journal.specs.StateOf.{ending_in}
 use Rattle.shm_wire.specs.declared.mapping_text.Mapping.{Mapping}

@@ -1,4 +1,4 @@
-use Rattle.std.proofs.Common.{◌≡◌, ◌++◌, ◌∙◌, ap, string_bytes}
+use Rattle.std.proofs.Common.{◌++◌, ◌∙◌, ap, string_bytes}
 use Rattle.std.specs.Prelude.{map}
 use Rattle.shm_state.specs.PartOf.{part_in}
 use Rattle.shm_journal.specs.Begun.{KeptSite, header_text}

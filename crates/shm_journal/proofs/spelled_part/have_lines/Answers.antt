@@ -1,4 +1,4 @@
-use Rattle.std.proofs.Common.{rules, ◌≡◌, subst, take_all}
+use Rattle.std.proofs.Common.{rules, subst, take_all}
 use Rattle.std.specs.List.{All}
 use Rattle.std.proofs.lemmas.List.Elements.{All-map, All-more}
 use Rattle.shm_state.specs.PartOf.{part_in}
