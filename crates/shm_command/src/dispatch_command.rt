@@ -25,7 +25,7 @@ use crate::run_report::{Wanted, tell_run};
 use crate::save_run_logs::{Unlogged, open_logs};
 use crate::script_file::{WholeScript, read_script_file};
 use crate::serve_site::{be_kept_site, be_site};
-use crate::shorten_journal::shorten_journal;
+use crate::shorten_journal::shorten;
 use crate::show_wrong_line::{script_fault, workload_fault};
 use crate::simulation_report::tell_simulation;
 use crate::site_error::SiteFault;
@@ -123,7 +123,7 @@ where
         ),
         Task::Audit { sites, journals } => audit(rt, sites, journals.as_slice(), out, errors),
         Task::Journal { file } => tell_journal(rt, file, out, errors),
-        Task::Shorten { file } => shorten_journal(rt, file, out, errors),
+        Task::Shorten { file } => shorten(rt, file, out, errors),
     }
 }
 

@@ -23,7 +23,7 @@ use std::os::unix::fs::MetadataExt;
 use std::rt::Files;
 
 /// Makes the journal of this name shorter, and answers the exit status. No other process may have it.
-pub(crate) fn shorten_journal<R: AllocGlobal + Files, O: Write, E: Write>(
+pub(crate) fn shorten<R: AllocGlobal + Files, O: Write, E: Write>(
     rt: &R,
     name: &str,
     out: &mut O,
