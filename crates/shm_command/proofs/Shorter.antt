@@ -1,9 +1,11 @@
 -- How the making of a shorter journal ends, by its fault.
-use Rattle.std.proofs.Common.{◌≡◌, ◌≢◌, ◌<◌, ℕ, Err}
+use Rattle.std.proofs.Common.{◌≡◌, ◌≢◌, ◌<◌, ◌⊎◌, ◌∙◌, inl, inr, ℕ, List, Option, Err, ap, refl, sym}
+use Rattle.std.specs.Io.KnownBytes.{Appends}
 use Rattle.shm_journal.specs.declared.process_error.ProcessFault.TheVariants as process
 use Rattle.shm_journal.specs.declared.recovery_error.RecoveryFault.TheVariants as recovery
 use Rattle.shm_command.specs.Served.{site_status}
-use Rattle.shm_command.specs.Shortening.{shortening_status}
+use Rattle.shm_command.specs.Shortening.{Shortened, shorter_text, shortening_status}
+use Rattle.shm_command.specs.declared.shortened_notice.Shorter.{Shorter}
 use Rattle.shm_command.specs.declared.shortening_error.ShorteningFault.{ShorteningFault}
 use Rattle.shm_command.specs.declared.shortening_error.ShorteningFault.TheVariants as fault
 use Rattle.shm_command.specs.declared.site_error.SiteFault.{SiteFault}
@@ -53,3 +55,18 @@ fails fault.Unkept = three
 fails fault.Unnamed = three
 fails fault.Unlisted = three
 fails fault.WriteFault = three
+
+pub done : (old new : Option (List ℕ)) → (shorter : Shorter) × Appends old new (shorter_text shorter) → Shortened 0 old new
+done old new told = record { told = λ is. told; failed = λ not. absurd (not refl); quiet = λ is. absurd (cc) }
+
+still : {A : Type 0} (new old : A) (f : ShorteningFault) (status : ℕ) → status ≡ shortening_status f → status ≡ 1 → (f ≡ fault.WriteFault) ⊎ (new ≡ old) → new ≡ old
+still new old f status is one (inl written) = let wrong : 1 ≡ 3 = sym one ∙ is ∙ ap shortening_status written in absurd (cc)
+still new old f status is one (inr same) = same
+
+pub not_done : {A : Type 0} (contents : A → Option (List ℕ)) (old new : A) (f : ShorteningFault) (status : ℕ) → status ≡ shortening_status f
+    → (f ≡ fault.WriteFault) ⊎ (new ≡ old) → Shortened status (contents old) (contents new)
+not_done contents old new f status is quiet = record {
+  told = λ zero. absurd ((fails f).2 (sym is ∙ zero));
+  failed = λ not. (f, is);
+  quiet = λ one. ap contents (still new old f status is one quiet);
+}

@@ -20,12 +20,14 @@ use shm_wire::Mapping;
 use std::alloc::{AllocError, Allocator};
 
 /// A journal that leads to the site as a restart leaves it: the header, and what the site keeps, as a state. The asks that wait and the counts of
-/// lines are left out, as at any start. `Untold` too where the header is another site's.
+/// lines are left out, as at any start.
 pub fn shortened_journal<A: Allocator + Copy>(
     alloc: A,
     header: Header,
     node: &Node<A>,
 ) -> Result<String<A>, ShortenFault>
+    requires sites { header.sites ≡ (node_of node.now).sites }
+    requires me { header.me ≡ (node_of node.now).me }
     ensures text { IfOk result (λ text. Shortens (header_of header) (node_of node.now) (string_bytes text)) }
     ensures why { IfErr result (λ fault. IsUnshortened fault (limit_held (node_of node.now).site.frames)) }
 {

@@ -26,16 +26,14 @@ returns-in-Ok-take_parts-clause-text g c =
     let text = string_bytes c.in-Ok-write_journal.text in
     let slice = c.as_slice.ensures.value in
     let lined : c.have_lines.result ≡ true = search rules in
-    let sites : c.sites-sites.result ≡ node.sites = c.sites-sites.ensures ∙ ap (λ (s : Code _). s.sites) c.site-site.ensures in
-    let me : c.me-me.result ≡ node.me = c.me-me.ensures ∙ ap (λ (s : Code _). s.me) c.site-site.ensures in
-    let given_sites : c.sites-sites.result ≡ c.args.header.sites = sym c.count.ensures.value ∙ (search rules) in
-    let given_me : c.me-me.result ≡ c.args.header.me = search rules in
+    let sites : c.sites-sites.result ≡ node.sites = sym c.count.ensures.value ∙ (search rules) ∙ c.requires.sites in
+    let me : c.me-me.result ≡ node.me = (search rules) ∙ c.requires.me in
     let is : text ≡ header_text header ++ state_text (record { parts = map part_in c.as_slice-2.result.now; mapped = c.mapped-mapped.result.now; ending = ending_in c.ending_of.result })
     = c.in-Ok-write_journal.ensures in
     let same : site_from c.sites-sites.result c.me-me.result (state_told parts) ≡ (restart node.site).site =
     ap₂ (λ sites me. site_from sites me (state_told parts)) c.sites-sites.ensures c.me-me.ensures
     ∙ c.in-Ok.ensures.told ∙ ap (λ (s : Site). (restart s).site) c.site-site.ensures in
-    shortens header node parts text (sym given_sites ∙ sites) (sym given_me ∙ me)
+    shortens header node parts text c.requires.sites c.requires.me
     (subst (λ ps. All IsPart (map part_in ps)) slice (c.have_lines.ensures lined))
     (subst (All IsMapping) c.mapped-mapped.ensures c.mappings_fit.ensures)
     (subst IsEnding c.ending_of.ensures.at c.ending_of.ensures.is)

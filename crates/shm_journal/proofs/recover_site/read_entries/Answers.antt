@@ -18,8 +18,8 @@ returns-in-Ok-clause-left g c = λ stage at.
     unended_read stage (left_of c.args.lines (remaining c.args.reader.now)) (remaining c.replay_rest.new.reader) led.1 led.0
     c.recovered.result led.4.0 c.recovered.ensures.fault (c.recovered.ensures.unended led.1 led.3)
 
-pub returns-in-Err-clause-left : goal.returns-in-Err-clause-left
-returns-in-Err-clause-left g c = λ stage at.
+pub returns-clause-left : goal.returns-clause-left
+returns-clause-left g c = λ stage at.
     let remaining = g.R.Read.remaining in (
       c.in-Err.fault,
       c.recovery_fault.ensures,

@@ -19,8 +19,8 @@ returns-in-Ok-clause-left g c =
     rest_uncounted header (left_of c.args.lines (remaining c.args.reader.now)) (remaining c.node_behind.new.reader) c.args.lines c.node_behind.new.lines (node_of c.in-Ok.node)
     c.sum_up.result (c.in-Ok.ensures.ok (begun header) c.requires) c.sum_up.ensures.fault
 
-pub returns-in-Err-clause-left : goal.returns-in-Err-clause-left
-returns-in-Err-clause-left g c =
+pub returns-clause-left : goal.returns-clause-left
+returns-clause-left g c =
     let remaining = g.R.Read.remaining in
     let header = header_of c.args.named.header in
     as_rest header (left_of c.args.lines (remaining c.args.reader.now)) (remaining c.node_behind.new.reader) c.in-Err.fault (c.in-Err.ensures.left (begun header) c.requires)
