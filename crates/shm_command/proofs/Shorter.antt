@@ -1,10 +1,14 @@
 -- How the making of a shorter journal ends, by its fault.
-use Rattle.std.proofs.Common.{◌≡◌, ◌≢◌, ◌<◌, ◌⊎◌, ◌∙◌, inl, inr, ℕ, List, Option, Err, ap, refl, sym}
+use Rattle.std.proofs.Common.{◌≡◌, ◌≢◌, ◌<◌, ◌⊎◌, ◌∙◌, inl, inr, ℕ, List, Option, Err, ap, refl, subst, sym}
 use Rattle.std.specs.Io.KnownBytes.{Appends}
+use Rattle.std.specs.Prelude.{Some, length, take}
+use Rattle.shm_journal.specs.Found.{Sound, found}
+use Rattle.shm_journal.specs.Lines.{Header}
+use Rattle.shm_journal.specs.Shortened.{Shortens}
 use Rattle.shm_journal.specs.declared.process_error.ProcessFault.TheVariants as process
 use Rattle.shm_journal.specs.declared.recovery_error.RecoveryFault.TheVariants as recovery
 use Rattle.shm_command.specs.Served.{site_status}
-use Rattle.shm_command.specs.Shortening.{Shortened, shorter_text, shortening_status}
+use Rattle.shm_command.specs.Shortening.{GoesOnFrom, IsShortenedText, Shortened, shorter_text, shortening_status}
 use Rattle.shm_command.specs.declared.shortened_notice.Shorter.{Shorter}
 use Rattle.shm_command.specs.declared.shortening_error.ShorteningFault.{ShorteningFault}
 use Rattle.shm_command.specs.declared.shortening_error.ShorteningFault.TheVariants as fault
@@ -70,3 +74,15 @@ not_done contents old new f status is quiet = record {
   failed = λ not. (f, is);
   quiet = λ one. ap contents (still new old f status is one quiet);
 }
+
+-- ---- files in a row
+
+-- the lines begin with those of the journal that goes on from where the lines before lead
+pub goes_on : (header : Header) (before next text : List ℕ) (n : ℕ) → IsShortenedText header (Some before) text → n ≡ length text → text ≡ take (length text) next
+    → GoesOnFrom before next n
+goes_on header before next text n led counted same = (
+  header,
+  led.node,
+  subst (λ f. found header f ≡ Sound led.node) led.known led.sound,
+  subst (Shortens header led.node) (same ∙ ap (λ k. take k next) (sym counted)) led.shortens,
+)
