@@ -1,5 +1,5 @@
 //! The files of a site's journal in a row: each but the first begins with the state that the one before it leads to.
-ghost use Rattle.std.specs.Prelude.{◌≡◌, ◌++◌, ℕ, IfErr, IfOk, IfSome, OnErr, OnOk, drop};
+ghost use Rattle.std.specs.Prelude.{◌≡◌, ◌≤◌, ◌++◌, ℕ, IfErr, IfOk, IfSome, OnErr, OnOk, drop, length};
 ghost use Rattle.shm_command.specs.Audited.{IsUnread};
 ghost use Rattle.shm_command.specs.Shortening.{GoesOnFrom};
 
@@ -200,7 +200,7 @@ impl Row {
             × (self.new.lines.items ≡ self.old.lines.items ++ drop n next.items)) }
         ensures last { OnOk result (self.new.last.items ≡ next.items) }
         ensures unread { IfErr result IsUnread }
-        ensures same { OnErr result (self.new ≡ self.old) }
+        ensures same { OnErr result ((self.new.lines.items ≡ self.old.lines.items) × (self.new.last ≡ self.old.last)) }
     {
         let count = match count_of_state(alloc, self.last.as_slice(), next.as_slice()) {
             Ok(Some(count)) => count,
@@ -219,7 +219,8 @@ impl Row {
 
 /// How many bytes the header and the state have with which the lines begin, where the lines before lead to it.
 fn count_of_state(alloc: Global, before: &[u8], next: &[u8]) -> Result<Option<usize>, AllocError>
-    ensures { IfOk result (λ found. IfSome found (GoesOnFrom before.now next.now)) }
+    ensures led { IfOk result (λ found. IfSome found (GoesOnFrom before.now next.now)) }
+    ensures within { IfOk result (λ found. IfSome found (λ n. n ≤ length next.now)) }
 {
     let Some(header) = header_of_lines(alloc, before) else {
         return Ok(None);

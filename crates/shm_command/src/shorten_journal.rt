@@ -119,9 +119,27 @@ pub(crate) fn shortened_text<J: Read>(
 ) -> Result<String, ShorteningFault>
     ensures { IfOk result (λ text. IsShortenedText (header_of header) (J.remaining lines.old) (string_bytes text)) }
 {
-    let Some((sites, me)) = site_of(header) else {
-        return Err(bad_header());
-    };
+    match site_of(header) {
+        Some((sites, me)) => shortened_from(alloc, header, sites, me, lines),
+        None => Err(bad_header()),
+    }
+}
+
+/// The same, of this header's site.
+fn shortened_from<J: Read>(
+    alloc: Global,
+    header: Header,
+    sites: Sites,
+    me: SiteId,
+    lines: &mut J,
+) -> Result<String, ShorteningFault>
+    requires sites { sites ≡ header.sites }
+    requires me { me ≡ header.me }
+    requires below { me < sites }
+    requires from { 1 ≤ header.pages }
+    requires to { header.pages ≤ PAGES }
+    ensures { IfOk result (λ text. IsShortenedText (header_of header) (J.remaining lines.old) (string_bytes text)) }
+{
     let found = match recover(alloc, sites, me, header.pages, header.cluster, lines) {
         Ok(found) => found,
         Err(fault) => return Err(ShorteningFault::Unread(SiteFault::Unrecovered(fault))),
