@@ -1,5 +1,5 @@
 -- How the making of a shorter journal ends, by its fault.
-use Rattle.std.proofs.Common.{◌≡◌, ◌≢◌, ◌<◌, ◌⊎◌, ◌∙◌, inl, inr, ℕ, List, Option, Err, ap, refl, subst, sym}
+use Rattle.std.proofs.Common.{lit<, ◌≡◌, ◌≢◌, ◌<◌, ◌⊎◌, ◌∙◌, inl, inr, ℕ, List, Option, Err, ap, refl, subst, sym}
 use Rattle.std.specs.Io.KnownBytes.{Appends}
 use Rattle.std.specs.Prelude.{Some, length, take}
 use Rattle.shm_journal.specs.Found.{Sound, found}
