@@ -14,6 +14,7 @@ unread_cause journals sites (cause.Unopened at) unread = tt
 unread_cause journals sites (cause.Unread at fault) unread = tt
 unread_cause journals sites (cause.Damaged at bytes) unread = tt
 unread_cause journals sites (cause.Unmarked at) unread = tt
+unread_cause journals sites (cause.OtherState at) unread = tt
 unread_cause journals sites (cause.OtherCluster at) unread = tt
 
 pub unread_causes : {X : Type 0} (r : Result X Unaudited) (journals sites : ℕ) → IfErr r IsUnread → IfErr r (IsCauseOf journals sites)
