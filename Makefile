@@ -78,13 +78,15 @@ documents:
 bench:
 	@bench/run
 
-# Sites that are started wrongly, in each way; what strace makes fail is left out where it isn't there. Sites as processes, and a network
-# between them that loses, repeats and reorders: some seconds of loads and stores, each load looked at.
+# Sites that are started wrongly, in each way, and journals that a full disk keeps from being made shorter; what strace makes fail is left out
+# where it isn't there. Sites as processes, and a network between them that loses, repeats and reorders: some seconds of loads and stores, each
+# load looked at.
 # Then mutated lines; a backup that is restored; and sites over an MQTT broker on this machine's loopback, with callers, crashes and an audit,
 # and with TLS. Needs the program that `make build` leaves, Python 3, a C compiler, openssl, and the Debian packages mosquitto and
 # mosquitto-clients, which it names where they are missing.
 machines:
 	@examples/machines/starts.py $(PROGRAM)/out/shmdbg
+	@examples/machines/shortenings.py $(PROGRAM)/out/shmdbg
 	@for seed in 1 2 3; do examples/machines/router.py --seed $$seed --seconds 4 --program $(PROGRAM)/out/shmdbg || exit 1; done
 	@examples/machines/mutations.py --lines 20000 --program $(PROGRAM)/out/shmdbg
 	@examples/machines/mutations.py --lines 20000 --key --program $(PROGRAM)/out/shmdbg
