@@ -17,10 +17,10 @@ import tempfile
 HERE = os.path.dirname(os.path.abspath(__file__))
 STORES = 40
 FULL = 'the new one can\'t be written'
-# Each call that a shortening makes, with what it tells where that call fails.
-CALLS = [('write:error=ENOSPC:when=1', FULL), ('fsync:error=ENOSPC:when=1', FULL), ('fsync:error=EIO:when=1', FULL),
-         ('openat,open:error=ENOSPC:when=%d', FULL), ('link,linkat:error=ENOSPC', 'it can\'t be kept under another name'),
-         ('rename,renameat,renameat2:error=ENOSPC', 'the new one can\'t take its name')]
+# Each call that makes a journal shorter, on which of its names, with what is told where that call fails.
+CALLS = [('openat:error=ENOSPC', '.new', FULL), ('write:error=ENOSPC', '.new', FULL), ('fsync:error=ENOSPC', '.new', FULL),
+         ('fsync:error=EIO', '.new', FULL), ('link,linkat:error=ENOSPC', '', 'it can\'t be kept under another name'),
+         ('rename,renameat,renameat2:error=ENOSPC', '.new', 'the new one can\'t take its name')]
 
 
 class Journal:
@@ -64,6 +64,16 @@ class Journal:
         left = sorted(os.listdir(self.folder))
         if self.bytes() != whole or [name for name in left if name not in names and not self.is_whole(name, whole)]:
             sys.exit(f'{tracing}: the journal has changed, or there are {left}')
+
+    def stays_unlisted(self, tracing):
+        """The folder can't be made durable: the journal is shorter, and the whole one has another name, or a crash brings it back."""
+        whole = self.bytes()
+        done = self.shorten(3, tracing)
+        if done.stderr != f"shmdbg: {self.name}: journal: its folder can't be made durable\n":
+            sys.exit(f'{tracing}: told {done.stdout}, on standard error {done.stderr}')
+        kept = [name for name in os.listdir(self.folder) if self.is_whole(name, whole)]
+        if self.bytes() == whole or len(kept) != 1:
+            sys.exit(f'{tracing}: the journal has not changed, or the whole one is not kept once: {kept}')
 
     def is_whole(self, name, whole):
         """The whole journal may have got another name already."""
@@ -114,11 +124,13 @@ def try_calls(program, folder):
         return None
     journal = Journal(program, folder)
     journal.serve('--new')
-    for call, why in CALLS:
-        journal.fails(why, ['strace', '-o', '/dev/null', '-e', f'inject={call}'])
+    for call, end, why in CALLS:
+        journal.fails(why, ['strace', '-o', '/dev/null', '-P', journal.name + end, '-e', f'inject={call}'])
         journal.serve()
+    journal.stays_unlisted(['strace', '-o', '/dev/null', '-P', folder, '-e', 'inject=fsync:error=EIO'])
+    journal.serve()
     journal.succeeds()
-    return len(CALLS)
+    return len(CALLS) + 1
 
 
 def main():
