@@ -131,7 +131,7 @@ fn lines_of(alloc: Global, site: &Site) -> Result<Vec<String>, AllocError> {
     lines
 }
 
-/// Takes the parts of the site.
+/// Takes each part that the site tells.
 fn take_parts_of(alloc: Global, told: &mut Told, site: &Site) -> Result<(), AllocError> {
     let Ok(parts) = tell_parts(alloc, site) else {
         return Err(AllocError);
@@ -155,7 +155,7 @@ fn made_again(alloc: Global, site: &Site) -> Result<Site, AllocError> {
     }
 }
 
-/// The lines of that site's parts.
+/// The lines of the parts of the site that is made again.
 fn lines_made_again(alloc: Global, site: &Site) -> Result<Vec<String>, AllocError> {
     let again = made_again(alloc, site)?;
     let lines = lines_of(alloc, &again);
@@ -163,7 +163,7 @@ fn lines_made_again(alloc: Global, site: &Site) -> Result<Vec<String>, AllocErro
     lines
 }
 
-/// Both of these lines.
+/// The lines of the site's parts, and those of the site that is made again.
 fn lines_twice(alloc: Global, site: &Site) -> Result<(Vec<String>, Vec<String>), AllocError> {
     let first = lines_of(alloc, site)?;
     let second = lines_made_again(alloc, site)?;
@@ -204,7 +204,7 @@ fn a_site_whose_copies_are_limited_tells_nothing(rt: HostRuntime) -> Result<(), 
 }
 
 /// What the last part is answered behind the others.
-fn tell_all(
+fn tell_behind(
     alloc: Global,
     told: &mut Told,
     lines: &[&str],
@@ -219,7 +219,7 @@ fn tell_all(
 /// What a part is answered behind others.
 fn behind(alloc: Global, lines: &[&str], last: &str) -> Result<Result<(), TakeFault>, AllocError> {
     let mut told = nothing(alloc)?;
-    let answer = tell_all(alloc, &mut told, lines, last);
+    let answer = tell_behind(alloc, &mut told, lines, last);
     drop(told);
     answer
 }
