@@ -23,6 +23,7 @@ use Rattle.shm_journal.specs.Lines.{Header, IsHeader, header_line}
 use Rattle.shm_journal.specs.LinesOf.{Unended}
 use Rattle.shm_journal.specs.Lives.{IsJournal, IsLife, LeavesFront, LeavesLife, after_lives}
 use Rattle.shm_journal.specs.declared.process_error.ProcessFault.{ProcessFault}
+use Rattle.shm_journal.specs.declared.service_stop.Stop.{Stop}
 use Rattle.shm_journal.specs.declared.process_error.ProcessFault.TheVariants.{JournalFault, OutOfMemory, ReadFault, TooOld, WriteFault}
 use Rattle.shm_batches.proofs.CrashLemmas.{acts_lines, leaves_batches}
 use Rattle.shm_batches.proofs.WholeLemmas.{none_batch}
@@ -83,7 +84,7 @@ adds-front (act ∷ front) rest adds =
 
 -- however a process ends
 moment-run : (desk : Desk) (disk : Disk) → Holds disk → ((reads : List (List ℕ)) → All Adds (run desk reads))
-    → (result : Result (Unit {0}) ProcessFault) (acts before after : List Act) → IsRun desk result acts → acts ≡ before ++ after
+    → (result : Result Stop ProcessFault) (acts before after : List Act) → IsRun desk result acts → acts ≡ before ++ after
     → All IsBatch (after_acts disk before).durable
 moment-run desk disk h all (Ok end) acts before after (reads, sound, same) e = moment before after disk h (subst (All Adds) (sym same ∙ e) (all reads))
 moment-run desk disk h all (Err ReadFault) acts before after (reads, sound, same) e = moment before after disk h (subst (All Adds) (sym same ∙ e) (all reads))

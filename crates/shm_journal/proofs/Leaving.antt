@@ -29,6 +29,7 @@ use Rattle.shm_journal.specs.Found.{Bad, Lines, Sound, bytes_of_lines, max_journ
 use Rattle.shm_journal.specs.Lines.{Header, IsHeader, header_line}
 use Rattle.shm_journal.specs.LinesOf.{Unended}
 use Rattle.shm_journal.specs.declared.process_error.ProcessFault.{ProcessFault}
+use Rattle.shm_journal.specs.declared.service_stop.Stop.{Stop}
 use Rattle.shm_journal.specs.declared.process_error.ProcessFault.TheVariants.{JournalFault, OutOfMemory, ReadFault, TooOld, WriteFault}
 use Rattle.shm_journal.specs.Lives.{FindsLivesFrom, IsJournal, IsJournalFrom, IsLife, IsTaken, LeavesFront, LeavesLife, LeavesLifeFrom, LeavesNewSound, LeavesSound, LeavesSoundFrom, after_lives, header_text}
 use Rattle.shm_journal.specs.Stages.{begun}
@@ -36,7 +37,7 @@ use Rattle.shm_journal.specs.Stages.{begun}
 -- ---- at each moment
 
 -- of the disk before each of these acts, and after the last
-AtAll : (Disk → Type 0) → Disk → List Act → Type 0
+pub AtAll : (Disk → Type 0) → Disk → List Act → Type 0
 AtAll P disk [] = P disk
 AtAll P disk (act ∷ acts) = P disk × AtAll P (after_act disk act) acts
 
@@ -48,25 +49,25 @@ at-first P disk (act ∷ acts) all = all.0
 no-act : (act : Act) (acts : List Act) → [] ≡ act ∷ acts → ⊥
 no-act act acts e = cc
 
-at-front : (P : Disk → Type 0) (before : List Act) (disk : Disk) (acts after : List Act) → acts ≡ before ++ after → AtAll P disk acts → P (after_acts disk before)
+pub at-front : (P : Disk → Type 0) (before : List Act) (disk : Disk) (acts after : List Act) → acts ≡ before ++ after → AtAll P disk acts → P (after_acts disk before)
 unfolding AtAll after_acts
 at-front P [] disk acts after e all = at-first P disk acts all
 at-front P (act ∷ before) disk [] after e all = absurd (no-act act (before ++ after) e)
 at-front P (act ∷ before) disk (first ∷ acts) after e all =
     at-front P before (after_act disk act) acts after (tail-of e) (subst (λ a. AtAll P (after_act disk a) acts) (head-of e) all.1)
 
-at-both : (P : Disk → Type 0) (xs ys : List Act) (disk : Disk) → AtAll P disk xs → AtAll P (after_acts disk xs) ys → AtAll P disk (xs ++ ys)
+pub at-both : (P : Disk → Type 0) (xs ys : List Act) (disk : Disk) → AtAll P disk xs → AtAll P (after_acts disk xs) ys → AtAll P disk (xs ++ ys)
 unfolding AtAll after_acts
 at-both P [] ys disk first then = then
 at-both P (x ∷ xs) ys disk first then = (first.0, at-both P xs ys (after_act disk x) first.1 then)
 
-at-weaker : (P Q : Disk → Type 0) (acts : List Act) (disk : Disk) → ((d : Disk) → P d → Q d) → AtAll P disk acts → AtAll Q disk acts
+pub at-weaker : (P Q : Disk → Type 0) (acts : List Act) (disk : Disk) → ((d : Disk) → P d → Q d) → AtAll P disk acts → AtAll Q disk acts
 unfolding AtAll
 at-weaker P Q [] disk w all = w disk all
 at-weaker P Q (act ∷ acts) disk w all = (w disk all.0, at-weaker P Q acts (after_act disk act) w all.1)
 
 -- what is kept is appended, and then made durable
-abbrev appended : List ℕ → List ℕ → Disk
+abbrev pub appended : List ℕ → List ℕ → Disk
 appended durable text = record { durable = durable; loose = text }
 
 at-keeping : (P : Disk → Type 0) (durable text : List ℕ) → P (disk_of durable) → P (appended durable text) → P (disk_of (durable ++ text))
@@ -80,7 +81,7 @@ unfolding AtAll
 at-telling P [] disk is = is
 at-telling P (byte ∷ bytes) disk is = (is, is)
 
-at-publishing : (P : Disk → Type 0) (desk : Desk) (durable : List ℕ) → P (disk_of durable) → P (appended durable desk.recorded) → P (disk_of (durable ++ desk.recorded))
+pub at-publishing : (P : Disk → Type 0) (desk : Desk) (durable : List ℕ) → P (disk_of durable) → P (appended durable desk.recorded) → P (disk_of (durable ++ desk.recorded))
     → AtAll P (disk_of durable) (publishing desk)
 at-publishing P desk durable before loose after =
     at-both P (keeping desk.recorded) (telling desk.told) (disk_of durable) (at-keeping P durable desk.recorded before loose after)
@@ -88,7 +89,7 @@ at-publishing P desk durable before loose after =
 
 -- ---- however a process ends
 
-abbrev Leaves : (List ℕ → List ℕ → Type 0) → Disk → Type 0
+abbrev pub Leaves : (List ℕ → List ℕ → Type 0) → Disk → Type 0
 Leaves R disk = (left : List ℕ) → MayLeave disk left → R disk.durable left
 
 taken-twice : (j n : ℕ) (xs : List ℕ) → (k : ℕ) × (take j (take n xs) ≡ take k xs)
@@ -116,8 +117,8 @@ at-parts P (x ∷ xs) ys disk all = let p = at-parts P xs ys (after_act disk x) 
 at-last : (P : Disk → Type 0) (disk : Disk) (acts : List Act) → AtAll P disk acts → P (after_acts disk acts)
 at-last P disk acts all = at-front P acts disk acts [] (sym (append-nil acts)) all
 
-at-acts : (R : List ℕ → List ℕ → Type 0) (desk : Desk) (disk : Disk) → ((reads : List (List ℕ)) → AtAll (Leaves R) disk (run desk reads))
-    → (result : Result (Unit {0}) ProcessFault) (acts : List Act) → IsRun desk result acts → AtAll (Leaves R) disk acts
+pub at-acts : (R : List ℕ → List ℕ → Type 0) (desk : Desk) (disk : Disk) → ((reads : List (List ℕ)) → AtAll (Leaves R) disk (run desk reads))
+    → (result : Result Stop ProcessFault) (acts : List Act) → IsRun desk result acts → AtAll (Leaves R) disk acts
 unfolding AtAll
 at-acts R desk disk all (Ok end) acts (reads, sound, same) = subst (AtAll (Leaves R) disk) (sym same) (all reads)
 at-acts R desk disk all (Err ReadFault) acts (reads, sound, same) = subst (AtAll (Leaves R) disk) (sym same) (all reads)
@@ -142,7 +143,7 @@ at-acts R desk disk all (Err WriteFault) acts (reads, before, text, n, sound, is
 -- ---- a life
 
 -- the entries of the first events are durable behind what the life began with, and those of the next are appended
-record OnDisk (node : Node) (file : List ℕ) (disk : Disk) : Type 0 where
+pub record OnDisk (node : Node) (file : List ℕ) (disk : Disk) : Type 0 where
   pub life : List Event
   pub next : List Event
   pub life_taken : All IsTaken life
@@ -152,7 +153,7 @@ record OnDisk (node : Node) (file : List ℕ) (disk : Disk) : Type 0 where
   pub is : IsLife node life text
   pub later : IsLife (after_events node life) next disk.loose
 
-on-disk : (node : Node) (file text : List ℕ) (life : List Event) → All IsTaken life → IsLife node life text → OnDisk node file (disk_of (file ++ text))
+pub on-disk : (node : Node) (file text : List ℕ) (life : List Event) → All IsTaken life → IsLife node life text → OnDisk node file (disk_of (file ++ text))
 on-disk node file text life taken is = record {
   life = life;
   next = [];
@@ -179,7 +180,7 @@ published-text : (file text : List ℕ) (desk : Desk) → after_acts (disk_of (f
 published-text file text desk = published-disk desk (file ++ text) ∙ ap disk_of (append_assoc file text desk.recorded)
 
 -- a desk that has published what its node did since the life began
-record Stands (node : Node) (life : List Event) (text : List ℕ) (desk : Desk) : Type 0 where
+pub record Stands (node : Node) (life : List Event) (text : List ℕ) (desk : Desk) : Type 0 where
   pub taken : All IsTaken life
   pub is : IsLife node life text
   pub same : desk.node ≡ after_events node life
@@ -188,7 +189,7 @@ record Stands (node : Node) (life : List Event) (text : List ℕ) (desk : Desk) 
   pub unended : Unended desk.line
   pub held : KeepsTaken desk.kept
 
-at-serving : (reads : List (List ℕ)) (node : Node) (file text : List ℕ) (life : List Event) (desk : Desk) → proper.Sound node → Stands node life text desk
+pub at-serving : (reads : List (List ℕ)) (node : Node) (file text : List ℕ) (life : List Event) (desk : Desk) → proper.Sound node → Stands node life text desk
     → AtAll (OnDisk node file) (disk_of (file ++ text)) (serving desk reads)
 unfolding AtAll serving
 at-serving [] node file text life desk sound s = on-disk node file text life s.taken s.is

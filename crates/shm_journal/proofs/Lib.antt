@@ -27,3 +27,4 @@ pub mod DeskLives
 pub mod Leaving
 pub mod MappedLives
 pub mod Shortening
+pub mod StretchLives

@@ -28,7 +28,7 @@ use Rattle.shm_journal.specs.Stages.{Stage, Opened, InState, Open, first_taken, 
 
 -- ---- the entries of one life
 
-shape : (line rest more : List ℕ) → (line ++ 10 ∷ rest) ++ more ≡ (line ++ 10 ∷ []) ++ (rest ++ more)
+pub shape : (line rest more : List ℕ) → (line ++ 10 ∷ rest) ++ more ≡ (line ++ 10 ∷ []) ++ (rest ++ more)
 shape line rest more = append_assoc line (10 ∷ rest) more ∙ sym (append_assoc line (10 ∷ []) (rest ++ more))
 
 entry-leads : (stage : Stage) (node next : Node) (entry : Entry) → IsAt stage node → IsFit entry → process.replayed_entry node entry ≡ Some next
@@ -105,6 +105,15 @@ lives-lead (life ∷ lives) text number stage node more same at is =
           ap (λ t. found_behind next_stage number stage (t ++ more)) is.2 ∙ ap (found_behind next_stage number stage) (append_assoc is.0 is.1 more)
           ∙ first.onward ∙ others.onward;
     }
+
+-- entries of steps that lead from where a journal stands that begins so
+pub steps_found : (b : Beginning) (entries : List Entry) (final : Node) (torn : List ℕ) → Begins b → AreFit entries
+    → replayed_all b.node (all_steps entries) ≡ Some final → Fits max_journal_line torn
+    → found b.header (b.text ++ (entries_text entries ++ torn)) ≡ Sound final
+steps_found b entries final torn begins are made fits =
+    let on = entries-lead entries begins.number begins.stage b.node final torn begins.at are made in
+    ap site_in (begins.onward (entries_text entries ++ torn) ∙ on.onward ∙ ended-says next_stage on.later on.after torn fits.unended fits.short)
+    ∙ at-site on.after final on.at
 
 -- what it begins with, what stands behind that, and what is torn
 with-torn : (first journal rest torn : List ℕ) → journal ≡ first ++ rest → journal ++ torn ≡ first ++ (rest ++ torn)
@@ -183,7 +192,7 @@ finds_lives header lives journal torn is are fits = finds_lives_from (anew heade
 
 -- ---- a journal that is whole
 
-nothing-torn : Fits max_journal_line []
+pub nothing-torn : Fits max_journal_line []
 nothing-torn = record { unended = All-nil (λ byte. (byte == 10) ≡ false); short = omega arith }
 
 pub finds_whole_from : (b : Beginning) (lives : List (List Event)) (journal : List ℕ) → IsBeginning b → IsJournalFrom b lives journal → FindsLivesFrom b lives journal journal
@@ -243,14 +252,14 @@ pub record Cut (node : Node) (events : List Event) (bytes : List ℕ) : Type 0 w
   pub text : bytes ≡ whole ++ torn
   pub fits : Fits max_journal_line torn
 
-fits-front : (n : ℕ) (line : List ℕ) → Fits max_journal_line line → Fits max_journal_line (take n line)
+pub fits-front : (n : ℕ) (line : List ℕ) → Fits max_journal_line line → Fits max_journal_line (take n line)
 fits-front n line fits = record {
   unended = All-take (λ byte. (byte == 10) ≡ false) n line fits.unended;
   short = omega (arith, length-take n line, fits.short);
 }
 
 -- so many bytes are within the first line, or so many more are behind it
-within-line : (n : ℕ) (line rest : List ℕ)
+pub within-line : (n : ℕ) (line rest : List ℕ)
     → (take n (line ++ 10 ∷ rest) ≡ take n line) ⊎ ((m : ℕ) × (take n (line ++ 10 ∷ rest) ≡ line ++ 10 ∷ take m rest))
 within-line n line rest = go (cases_lt (length line) n)
   where

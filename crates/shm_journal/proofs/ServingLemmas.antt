@@ -11,6 +11,7 @@ use Rattle.shm_journal.proofs.ActLemmas.{GoesOn-nil, GoesOn-trans, did_both, did
 use Rattle.shm_journal.specs.Acts.{Act, Append, AreSound, Around, Did, GoesOn, Read, Served, Stood, Sync, Tell, around, keeping, publishing, read_in, run, serving, standing, telling, told_in}
 use Rattle.shm_journal.specs.Publishing.{FailsToPublish, FailsToTake}
 use Rattle.shm_journal.specs.declared.process_error.ProcessFault.{ProcessFault}
+use Rattle.shm_journal.specs.declared.service_stop.Stop.TheVariants.{Ended, Due}
 use Rattle.shm_journal.specs.declared.process_error.ProcessFault.TheVariants.{JournalFault, OutOfMemory, ReadFault, TooOld, WriteFault}
 
 standing-more : (reads : List (List ℕ)) (desk : Desk) (bytes : List ℕ) → standing desk (reads ++ bytes ∷ []) ≡ cleared (on_bytes (standing desk reads) bytes)
@@ -195,7 +196,7 @@ all-done first desk old now new s r = (
 )
 
 pub ended : (first desk : Desk) (old now new : Around) → Serves first old now desk → (first.later ≡ None → desk.later ≡ None) → Did now new (Read [] ∷ [])
-    → Served first old new (Ok tt)
+    → Served first old new (Ok Ended)
 ended first desk old now new s sound r =
     let all = all-done first desk old now new s r in (
       run first s.reads ++ Read [] ∷ [],
@@ -207,9 +208,6 @@ pub stood : (first desk : Desk) (old now new : Around) → Serves first old now 
 stood first desk old now new s r =
     let all = all-done first desk old now new s r in
     (s.reads ++ [] ∷ [], subst (Did old new) all.0 all.1, read-nothing first desk s.reads s.stands)
-
-pub no_more : (first desk : Desk) (old now : Around) → Serves first old now desk → (first.later ≡ None → desk.later ≡ None) → Served first old now (Err ReadFault)
-no_more first desk old now s sound = (run first s.reads, s.did, (s.reads, sound_of first desk old now s sound, refl))
 
 pub read_failed : (first desk : Desk) (old now new : Around) → Serves first old now desk → (first.later ≡ None → desk.later ≡ None) → Did now new []
     → Served first old new (Err ReadFault)
@@ -247,6 +245,18 @@ not_taken first desk WriteFault old now new bytes s sound r f = absurd f
 -- what was published has the later step that was noted
 pub still_sound : (desk next : Desk) → next ≡ cleared desk → desk.later ≡ None → next.later ≡ None
 still_sound desk next e h = ap (λ (d : Desk). d.later) e ∙ h
+
+-- what one more read gives was served, and the journal is due to be made shorter
+pub paused : (first desk next last : Desk) (old now read new : Around) (bytes : List ℕ) → Serves first old now desk → Did now read (Read bytes ∷ [])
+    → next ≡ on_bytes desk bytes → Did read new (publishing next) → last ≡ cleared next → next.later ≡ None → Served first old new (Ok Due)
+paused first desk next last old now read new bytes s r e p c none =
+    let on = went_on first desk next last old now read new bytes s r e p c in
+    (run first on.reads, on.did, (on.reads, sound_of first last old new on (λ h. still_sound next last c none), refl))
+
+pub stood_on : (first desk next last : Desk) (old now read new : Around) (bytes : List ℕ) → Serves first old now desk → Did now read (Read bytes ∷ [])
+    → next ≡ on_bytes desk bytes → Did read new (publishing next) → last ≡ cleared next → Stood first last old new
+stood_on first desk next last old now read new bytes s r e p c =
+    let on = went_on first desk next last old now read new bytes s r e p c in (on.reads, on.did, on.stands)
 
 -- what the desk holds after these acts can't be published
 unpublished : (first next : Desk) (reads : List (List ℕ)) (acts : List Act) (fault : ProcessFault) (old now new : Around)

@@ -3,6 +3,7 @@ use Rattle.std.specs.Prelude.{⊤, ◌≡◌, ℕ, List, [], ◌∷◌, ◌++◌
 use Rattle.std.specs.Io.KnownBytes.{Appends, Consumes}
 use Rattle.shm_process.specs.Desk.{Desk, cleared, on_bytes}
 use Rattle.shm_journal.specs.declared.process_error.ProcessFault.{ProcessFault}
+use Rattle.shm_journal.specs.declared.service_stop.Stop.{Stop}
 use Rattle.shm_journal.specs.declared.process_error.ProcessFault.TheVariants.{JournalFault, OutOfMemory, ReadFault, TooOld, WriteFault}
 
 -- one read gave these bytes; this was appended to the journal; all that was appended is durable; and this was told
@@ -80,9 +81,9 @@ run desk reads = publishing desk ++ serving (cleared desk) reads
 abbrev pub AreSound : Desk → List (List ℕ) → Type 0
 AreSound desk reads = desk.later ≡ None → (standing (cleared desk) reads).later ≡ None
 
--- How it ends: when the reads do, or a read fails, after all is done; where memory is missing what came last is lost, and so where that tells
+-- How it ends: when the reads do, or the journal is due to be made shorter, or a read fails, after all is done; where memory is missing what came last is lost, and so where that tells
 -- of a step of the own site that it doesn't have; and where the journal or the writer fails it stops in the middle of that act.
-abbrev pub IsRun : Desk → Result (Unit {0}) ProcessFault → List Act → Type 0
+abbrev pub IsRun : Desk → Result Stop ProcessFault → List Act → Type 0
 IsRun desk (Ok _) acts = (reads : List (List ℕ)) × AreSound desk reads × (acts ≡ run desk reads)
 IsRun desk (Err ReadFault) acts = (reads : List (List ℕ)) × AreSound desk reads × (acts ≡ run desk reads)
 IsRun desk (Err OutOfMemory) acts =
@@ -98,7 +99,7 @@ IsRun desk (Err WriteFault) acts =
     × (run desk reads ≡ before ++ Tell text ∷ []) × (acts ≡ before ++ Tell (take n text) ∷ [])
 
 -- a process did so
-abbrev pub Served : Desk → Around → Around → Result (Unit {0}) ProcessFault → Type 0
+abbrev pub Served : Desk → Around → Around → Result Stop ProcessFault → Type 0
 Served desk old new result = (acts : List Act) × Did old new acts × IsRun desk result acts
 
 -- its desk then stands as what it read has left it

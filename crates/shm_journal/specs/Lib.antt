@@ -14,6 +14,7 @@ pub mod Leading
 pub mod Replaying
 pub mod Recovers
 pub mod Acts
+pub mod Stretches
 pub mod Publishing
 pub mod Warning
 pub mod DeskFrom
@@ -22,3 +23,4 @@ pub mod Summed
 pub mod Begun
 pub mod Shortened
 pub mod Lives
+pub mod Shortenings

@@ -16,6 +16,7 @@ pub use Rattle.shm_journal.specs.Begun.{header_text}
 use Rattle.shm_journal.specs.Lines.{Header}
 use Rattle.shm_journal.specs.LinesOf.{Unended}
 use Rattle.shm_journal.specs.declared.process_error.ProcessFault.{ProcessFault}
+use Rattle.shm_journal.specs.declared.service_stop.Stop.{Stop}
 use Rattle.shm_seal.specs.Seal.{Seal}
 
 -- a line that is taken has no line feed, and no more bytes than a site's line has
@@ -112,7 +113,7 @@ pub record LeavesFront (header : Header) (durable file : List ℕ) : Type 0 wher
 -- whatever a process does in this life, which began with this journal, at each moment of it, and whatever a crash leaves then
 abbrev pub LeavesSoundFrom : Beginning → List (List Event) → List ℕ → Type 0
 LeavesSoundFrom b lives journal =
-    (seal : Seal) (start : Start) (result : Result (Unit {0}) ProcessFault) (acts before after : List Act) (left : List ℕ)
+    (seal : Seal) (start : Start) (result : Result Stop ProcessFault) (acts before after : List Act) (left : List ℕ)
     → IsRun (desk_from b.header seal false (after_lives b.node lives) start) result acts → acts ≡ before ++ after
     → MayLeave (after_acts (disk_of journal) before) left
     → LeavesLifeFrom b lives (after_acts (disk_of journal) before).durable left
@@ -122,7 +123,7 @@ LeavesSound header lives journal = LeavesSoundFrom (anew header) lives journal
 
 abbrev pub LeavesNewSound : Header → Type 0
 LeavesNewSound header =
-    (seal : Seal) (start : Start) (result : Result (Unit {0}) ProcessFault) (acts before after : List Act) (left : List ℕ)
+    (seal : Seal) (start : Start) (result : Result Stop ProcessFault) (acts before after : List Act) (left : List ℕ)
     → IsRun (desk_from header seal true (opened header) start) result acts → acts ≡ before ++ after
     → MayLeave (after_acts (disk_of []) before) left
     → LeavesFront header (after_acts (disk_of []) before).durable left

@@ -5,6 +5,7 @@ use Rattle.shm_process.specs.Desk.{Desk, disagreement_in}
 use Rattle.shm_process.specs.Hello.{disagreement_text}
 use Rattle.shm_process.specs.declared.site_opening.Disagreement.{Disagreement}
 use Rattle.shm_journal.specs.declared.process_error.ProcessFault.{ProcessFault}
+use Rattle.shm_journal.specs.declared.service_stop.Stop.{Stop}
 
 abbrev pub warning : Option Disagreement → List ℕ
 warning None = []
@@ -18,6 +19,6 @@ Warns old new d = (n : ℕ) × Appends old new (take n (warning d))
 abbrev pub warned_if : Bool → Option Disagreement → Option Disagreement
 warned_if warned d = if warned then None else d
 
--- of one site at most; where the process ends with its input, of the one that the desk has noted then
-abbrev pub WarnsOnce : Option (List ℕ) → Option (List ℕ) → Desk → Result (Unit {0}) ProcessFault → Type 0
+-- of one site at most; where nothing fails, of the one that the desk has noted then
+abbrev pub WarnsOnce : Option (List ℕ) → Option (List ℕ) → Desk → Result Stop ProcessFault → Type 0
 WarnsOnce old new desk result = (d : Option Disagreement) × Warns old new d × OnOk result (d ≡ disagreement_in desk)

@@ -8,12 +8,19 @@ pub struct Failed;
 ///
 /// A crash leaves a front of what was appended and not yet made durable; what is durable it leaves whole.
 pub trait Journal {
-    ghost use Rattle.std.specs.Prelude.{◌≡◌, ◌≤◌, ◌<◌, [], ◌∷◌, ℕ, List, Option, IfOk, OnErr, OnOk, length, take};
+    ghost use Rattle.std.specs.Prelude.{◌≡◌, ◌≤◌, ◌<◌, [], ◌∷◌, ℕ, Bool, List, Option, IfOk, OnErr, OnOk, length, take};
     ghost use Rattle.std.specs.Io.KnownBytes.{Appends, Consumes, IsAtEnd, Keeps};
     ghost use Rattle.shm_journal.specs.Acts.{Act, Append, GoesOn, Read as ReadAct, Sync, Tell};
 
     /// The acts done through it, if they are known.
     ghost acts: { Self → Option (List Act) };
+
+    /// Whether it is so long that it is to be made shorter.
+    ghost due: { Self → Bool };
+
+    /// Checks that it is so long that it is to be made shorter, once its site is at rest.
+    fn is_due(&self) -> bool
+        ensures { result ≡ due self.now };
 
     /// Reads once, into the front of a chunk; 0 means that no bytes are left, where the chunk has room.
     fn read<R: Read>(&mut self, reader: &mut R, chunk: &mut [u8]) -> Result<usize, Failed>

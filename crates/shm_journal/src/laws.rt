@@ -1,5 +1,5 @@
 //! Laws of the definitions: of every line, and of every run of a process.
-ghost use Rattle.std.specs.Prelude.{◌≡◌, ◌∷◌, ◌++◌, [], ℕ, List, None, Some, false};
+ghost use Rattle.std.specs.Prelude.{◌≡◌, ◌∷◌, ◌++◌, [], ℕ, Bool, List, None, Some, false};
 ghost use Rattle.shm_journal.specs.Begun.{Beginning, IsBeginning, IsKeptSite, KeptSite, header_text, state_text};
 ghost use Rattle.shm_journal.specs.Crash.{KeepsBeforeTelling};
 ghost use Rattle.shm_journal.specs.DeskFrom.{desk_from};
@@ -7,8 +7,11 @@ ghost use Rattle.shm_journal.specs.Found.{Sound, found, opened};
 ghost use Rattle.shm_journal.specs.Lines.{Header, IsHeader, header_line, read_entry, read_header};
 ghost use Rattle.shm_journal.specs.Lives.{AreTaken, FindsLives, FindsLivesFrom, IsJournal, IsJournalFrom, LeavesNewSound, LeavesSound, LeavesSoundFrom, after_lives, journal_of_steps};
 ghost use Rattle.shm_journal.specs.Shortened.{Shortens, rested};
+ghost use Rattle.shm_journal.specs.Shortenings.{IsIdle, LeavesShorterSound};
+ghost use Rattle.shm_journal.specs.Stretches.{Rests};
+ghost use Rattle.shm_journal.specs.declared.service_stop.Stop.TheVariants.{Due};
 ghost use Rattle.shm_journal.specs.StateLines.{IsStateLine, StateLine, read_state, state_line};
-ghost use Rattle.shm_process.specs.Desk.{Desk};
+ghost use Rattle.shm_process.specs.Desk.{Desk, cleared, on_bytes, restarted};
 ghost use Rattle.shm_process.specs.Node.{Node, is_late};
 ghost use Rattle.shm_process.specs.Recorded.{Entry, Event, IsEntry, after_events, entry_line, kept};
 ghost use Rattle.shm_process.specs.declared.process_counts.Start.{Start};
@@ -106,4 +109,19 @@ pub fn a_shortened_journal_is_found_sound()
 pub fn a_site_goes_on_from_a_shortened_journal()
     ensures { (header : Header) (seal : Seal) (node : Node) (start : Start)
         → desk_from header seal false (rested node) start ≡ desk_from header seal false (kept node) start }
+{}
+
+/// A journal that is made shorter while its site runs, at rest, stays sound: whatever the site takes behind it, a crash at any moment leaves a
+/// file that leads to the site as the state tells it, or as it was after its restart and all whose entries were durable, and at most what had
+/// happened since.
+pub fn a_journal_made_shorter_while_its_site_runs_stays_sound()
+    ensures { (header : Header) (desk : Desk) (text : List ℕ) → IsHeader header → IsIdle desk → Rests Due desk → Shortens header desk.node text
+        → LeavesShorterSound header desk text }
+{}
+
+/// A process has such a desk behind each read, once that is published: from its beginning on, and from each restart.
+pub fn a_desk_is_idle_behind_each_read()
+    ensures begun { (header : Header) (seal : Seal) (is_new : Bool) (node : Node) (start : Start) → IsIdle (cleared (desk_from header seal is_new node start)) }
+    ensures read { (desk : Desk) (bytes : List ℕ) → IsIdle desk → IsIdle (cleared (on_bytes desk bytes)) }
+    ensures again { (desk : Desk) → IsIdle desk → IsIdle (cleared (restarted desk)) }
 {}

@@ -1,14 +1,17 @@
 //! A process: it takes what comes, makes what it recorded durable, and only then writes its answers.
-ghost use Rattle.std.specs.Prelude.{◌≡◌, ◌≢◌, ◌||◌, [], ◌∷◌, ℕ, List, None, Option, Some, is_some, take, IfErr, OnErr, OnOk};
-ghost use Rattle.std.specs.Io.KnownBytes.{Appends, IsAtEnd};
+ghost use Rattle.std.specs.Prelude.{◌≡◌, ◌≢◌, ◌||◌, [], ◌∷◌, ℕ, IsTrue, List, None, Option, Some, is_some, take, IfErr, IfOk, OnErr, OnOk};
+ghost use Rattle.std.specs.Io.KnownBytes.{Appends};
 ghost use Rattle.shm_journal.specs.Acts.{Append, Did, GoesOn, Served, Stood, Tell, around, keeping, publishing, telling};
 ghost use Rattle.shm_journal.specs.Publishing.{FailsToPublish, FailsToTake};
+ghost use Rattle.shm_journal.specs.Stretches.{EndsAt, IsDue, Rests};
 ghost use Rattle.shm_journal.specs.Warning.{Warns, WarnsOnce, warned_if};
+ghost use Rattle.shm_journal.specs.declared.service_stop.Stop.TheVariants.{Due};
 ghost use Rattle.shm_process.specs.Desk.{cleared, disagreement_in, on_bytes};
 ghost use Rattle.shm_process.specs.DeskOf.{desk_of};
 
 use crate::journal_trait::{Failed, Journal};
 use crate::process_error::ProcessFault;
+use crate::service_stop::Stop;
 use shm_process::{Desk, Disagreement};
 use shm_text::write_whole;
 use std::alloc::Allocator;
@@ -17,7 +20,7 @@ use std::io::{Read, Write};
 /// How many bytes are read at once.
 const CHUNK: usize = 8192;
 
-/// Takes lines until the input ends. First, and after each read, it appends what the desk has recorded to the journal, makes that durable,
+/// Takes lines until the input ends, or the journal is due to be made shorter and the site is at rest. First, and after each read, it appends what the desk has recorded to the journal, makes that durable,
 /// and then writes the desk's output. It doesn't take a last line without its line feed. The desk then has its counts of lines.
 ///
 /// A line may tell of a step of the own site that it doesn't have. Then it ends: of the bytes that it read last it appends and writes nothing.
@@ -29,8 +32,10 @@ pub fn serve<A: Allocator + Copy, R: Read, W: Write, E: Write, J: Journal>(
     writer: &mut W,
     errors: &mut E,
     journal: &mut J,
-) -> Result<(), ProcessFault>
-    ensures end { OnOk result (IsAtEnd (R.remaining reader.new)) }
+) -> Result<Stop, ProcessFault>
+    ensures end { IfOk result (λ stop. EndsAt stop (R.remaining reader.new)) }
+    ensures rests { IfOk result (λ stop. Rests stop (desk_of desk.new)) }
+    ensures due { IfOk result (λ stop. IsDue stop (J.due journal.new)) }
     ensures served { Served (desk_of desk.old) (around (R.remaining reader.old) (W.contents writer.old) (J.acts journal.old))
         (around (R.remaining reader.new) (W.contents writer.new) (J.acts journal.new)) result }
     ensures stands { OnOk result (Stood (desk_of desk.old) (desk_of desk.new)
@@ -50,7 +55,7 @@ pub fn serve<A: Allocator + Copy, R: Read, W: Write, E: Write, J: Journal>(
             return Err(ProcessFault::ReadFault);
         };
         if count == 0 {
-            return Ok(());
+            return Ok(Stop::Ended);
         }
         match take_read(desk, &chunk[..count]) {
             Ok(()) => {}
@@ -61,9 +66,20 @@ pub fn serve<A: Allocator + Copy, R: Read, W: Write, E: Write, J: Journal>(
             Ok(()) => {}
             Err(fault) => return Err(fault),
         }
+        if may_shorten(desk, journal) {
+            return Ok(Stop::Due);
+        }
     }
     // No run reads so often.
     Err(ProcessFault::ReadFault)
+}
+
+/// Checks that the journal is due to be made shorter, that the site is at rest, and that there is a clock for its restart.
+fn may_shorten<A: Allocator + Copy, J: Journal>(desk: &Desk<A>, journal: &J) -> bool
+    ensures rests { IsTrue result → Rests Due (desk_of desk.now) }
+    ensures due { IsTrue result → IsDue Due (J.due journal.now) }
+{
+    journal.is_due() && desk.is_at_rest() && desk.node().clock() < u64::MAX
 }
 
 /// Takes these bytes, unless they tell of a step of the own site that it doesn't have.

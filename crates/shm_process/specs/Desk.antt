@@ -421,6 +421,10 @@ unfoldable pub on_bytes : Desk → List ℕ → Desk
 on_bytes desk [] = desk
 on_bytes desk (byte ∷ bytes) = on_bytes (on_byte desk byte) bytes
 
+-- no ask waits, and no line is kept back
+abbrev pub is_at_rest : Desk → Bool
+is_at_rest desk = (length desk.node.waiting == 0) && (length desk.kept == 0)
+
 -- the site restarts: its callers ask again, and so do other sites
 unfoldable pub restarted : Desk → Desk
 restarted desk = with_step (record desk { node = after_restart desk.node; kept = [] }) (Some (said_restart desk.node))

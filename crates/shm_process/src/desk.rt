@@ -3,7 +3,7 @@ ghost use Rattle.std.specs.Prelude.{◌≡◌, ◌<◌, ◌==◌, ◌++◌, ◌�
 ghost use Rattle.shm_model.specs.Basics.{greatest};
 ghost use Rattle.shm_process.specs.Counts.{is_envelope};
 ghost use Rattle.shm_process.specs.CountsOf.{counts_of};
-ghost use Rattle.shm_process.specs.Desk.{after_line, after_opened, after_read_line, cleared, desk_at, left_sealed, on_bytes, restarted, settled, taken, tell, line_text};
+ghost use Rattle.shm_process.specs.Desk.{after_line, after_opened, after_read_line, cleared, desk_at, is_at_rest, left_sealed, on_bytes, restarted, settled, taken, tell, line_text};
 ghost use Rattle.shm_process.specs.DeskOf.{desk_of};
 ghost use Rattle.shm_process.specs.NodeOf.{node_of};
 ghost use Rattle.shm_process.specs.Telling.{shown_line};
@@ -99,6 +99,14 @@ impl<A: Allocator + Copy> Desk<A> {
         ensures { result ≡ (desk_of self.now).later }
     {
         self.later
+    }
+
+    /// Checks that no ask waits, and that no line is kept back: then nobody loses an answer where the site restarts.
+    #[tactic(auto, using(crate::proofs::Asks::length_map))]
+    pub fn is_at_rest(&self) -> bool
+        ensures { result ≡ is_at_rest (desk_of self.now) }
+    {
+        self.node.asks_waiting() == 0 && self.kept.is_empty()
     }
 
     /// The allocator of what it gathers.

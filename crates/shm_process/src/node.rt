@@ -62,6 +62,20 @@ impl<A: Allocator + Copy> Node<A> {
         &self.site
     }
 
+    /// How many sites there are.
+    pub fn sites(&self) -> Sites
+        ensures { result ≡ (node_of self.now).sites }
+    {
+        self.sites
+    }
+
+    /// Which of them this is.
+    pub fn me(&self) -> SiteId
+        ensures { result ≡ (node_of self.now).me }
+    {
+        self.me
+    }
+
     /// The clock of the last step, or 0.
     pub fn clock(&self) -> u64
         ensures { result ≡ (node_of self.now).clock }

@@ -1,7 +1,7 @@
 use Rattle.std.proofs.Common.{◌<◌, [], ◌∷◌, is_some, length, take, refl, ap, subst, ◌∙◌, arith}
 use Rattle.shm_process.specs.DeskOf.{desk_of}
 use Rattle.shm_process.specs.Desk.{disagreement_in}
-use Rattle.shm_journal.proofs.ServingLemmas.{begun, did_not_read, did_read, ended, never_published, no_more, not_published, not_taken, read_failed, still_sound, stood, went_on}
+use Rattle.shm_journal.proofs.ServingLemmas.{begun, did_not_read, did_read, ended, never_published, not_published, not_taken, paused, read_failed, still_sound, stood, stood_on, went_on}
 use Rattle.shm_journal.proofs.WarningLemmas.{still_noted, warned_done, warned_on}
 use Rattle.shm_journal.specs.Acts.{Did, Read, around}
 use Rattle.shm_journal.specs.Warning.{Warns}
@@ -141,6 +141,48 @@ reads-preserved g c =
 pub returns-then-count-eq0-clause-sound : goal.returns-then-count-eq0-clause-sound
 returns-then-count-eq0-clause-sound g c = c.reads.invariant.sound
 
+-- ---- the journal is due to be made shorter
+
+pub returns-then-may_shorten-clause-served : goal.returns-then-may_shorten-clause-served
+returns-then-may_shorten-clause-served g c =
+    let remaining = g.R.Read.remaining in
+    let contents = g.W.Write.contents in
+    let acts = g.J.Journal.acts in
+    paused
+    (desk_of c.args.desk.now) (desk_of c.reads.desk) (desk_of c.take_read.new.desk) (desk_of c.publish-in-reads.new.desk)
+    (around (remaining c.args.reader.now) (contents c.args.writer.now) (acts c.args.journal.now))
+    (around (remaining c.reads.reader) (contents c.reads.writer) (acts c.reads.journal))
+    (around (remaining c.read.new.reader) (contents c.reads.writer) (acts c.read.new.self))
+    (around (remaining c.read.new.reader) (contents c.publish-in-reads.new.writer) (acts c.publish-in-reads.new.journal))
+    (take c.in-Ok-read.count c.read.new.chunk) c.reads.invariant.serves
+    (
+    did_read (remaining c.reads.reader) (remaining c.read.new.reader) (contents c.reads.writer) (acts c.reads.journal) (acts c.read.new.self) _
+    c.in-Ok-read.ensures.read c.in-Ok-read.ensures.act
+    )
+    c.in-Ok-take_read.ensures.taken (c.in-Ok-publish.ensures.done (remaining c.read.new.reader)) c.in-Ok-publish.ensures.cleared c.in-Ok-take_read.ensures.sound
+
+pub returns-then-may_shorten-clause-stands : goal.returns-then-may_shorten-clause-stands
+returns-then-may_shorten-clause-stands g c =
+    let remaining = g.R.Read.remaining in
+    let contents = g.W.Write.contents in
+    let acts = g.J.Journal.acts in
+    stood_on
+    (desk_of c.args.desk.now) (desk_of c.reads.desk) (desk_of c.take_read.new.desk) (desk_of c.publish-in-reads.new.desk)
+    (around (remaining c.args.reader.now) (contents c.args.writer.now) (acts c.args.journal.now))
+    (around (remaining c.reads.reader) (contents c.reads.writer) (acts c.reads.journal))
+    (around (remaining c.read.new.reader) (contents c.reads.writer) (acts c.read.new.self))
+    (around (remaining c.read.new.reader) (contents c.publish-in-reads.new.writer) (acts c.publish-in-reads.new.journal))
+    (take c.in-Ok-read.count c.read.new.chunk) c.reads.invariant.serves
+    (
+    did_read (remaining c.reads.reader) (remaining c.read.new.reader) (contents c.reads.writer) (acts c.reads.journal) (acts c.read.new.self) _
+    c.in-Ok-read.ensures.read c.in-Ok-read.ensures.act
+    )
+    c.in-Ok-take_read.ensures.taken (c.in-Ok-publish.ensures.done (remaining c.read.new.reader)) c.in-Ok-publish.ensures.cleared
+
+pub returns-then-may_shorten-clause-sound : goal.returns-then-may_shorten-clause-sound
+returns-then-may_shorten-clause-sound g c none =
+    still_sound (desk_of c.take_read.new.desk) (desk_of c.publish-in-reads.new.desk) c.in-Ok-publish.ensures.cleared c.in-Ok-take_read.ensures.sound
+
 -- ---- what it warned of
 
 pub returns-in-Err-clause-warned : goal.returns-in-Err-clause-warned
@@ -166,3 +208,12 @@ returns-in-Err-publish-clause-warned g c = (
 
 pub returns-clause-warned : goal.returns-clause-warned
 returns-clause-warned g c = (disagreement_in (desk_of c.reads.desk), c.reads.invariant.warns, tt)
+
+pub returns-then-may_shorten-clause-warned : goal.returns-then-may_shorten-clause-warned
+returns-then-may_shorten-clause-warned g c = (
+  disagreement_in (desk_of c.take_read.new.desk),
+  warned_on (g.E.Write.contents c.args.errors.now) (g.E.Write.contents c.reads.errors) (g.E.Write.contents c.warn-warned-in-reads.new.errors)
+      (desk_of c.reads.desk) (desk_of c.take_read.new.desk) (take c.in-Ok-read.count c.read.new.chunk) c.reads.warned c.in-Ok-take_read.ensures.taken
+      c.reads.invariant.warned c.reads.invariant.warns c.warn-warned-in-reads.ensures.warns,
+  still_noted (desk_of c.take_read.new.desk) (desk_of c.publish-in-reads.new.desk) c.in-Ok-publish.ensures.cleared,
+)

@@ -1,5 +1,5 @@
 //! Processes that keep a journal, of which a test holds everything around.
-use shm_journal::{Failed, Journal, ProcessFault, serve};
+use shm_journal::{Failed, Journal, ProcessFault, Stop, serve};
 use shm_place::{SiteId, Sites};
 use shm_process::{Desk, Node, Opening, Start};
 use shm_seal::Seal;
@@ -9,12 +9,13 @@ use std::io::{Read, Write};
 use std::test::Fail;
 
 /// A journal that notes all that is done through it, in order: `+` and what is appended, `!` where that is made durable, and `>` and what is
-/// told. It reads at most so many bytes at once. After so many calls the next one fails.
+/// told. It reads at most so many bytes at once. After so many calls the next one fails. It is due to be made shorter always, or never.
 #[derive(Drop)]
 struct Rehearsal {
     done: Vec<u8>,
     at_once: usize,
     calls: usize,
+    due: bool,
 }
 
 impl Rehearsal {
@@ -34,6 +35,12 @@ impl Journal for Rehearsal {
     ghost use Rattle.std.specs.Prelude.{None};
 
     ghost acts = { λ _. None };
+
+    ghost due = { λ journal. journal.due };
+
+    fn is_due(&self) -> bool {
+        self.due
+    }
 
     fn read<R: Read>(&mut self, reader: &mut R, chunk: &mut [u8]) -> Result<usize, Failed> {
         match self.note(b"", b"") {
@@ -101,6 +108,7 @@ fn comparing_desk(alloc: Global) -> Result<Desk, AllocError> {
 #[derive(Drop)]
 struct Ended {
     fault: Option<ProcessFault>,
+    stop: Option<Stop>,
     /// What was done through its journal.
     done: Vec<u8>,
     told: Vec<u8>,
@@ -109,12 +117,19 @@ struct Ended {
 
 /// What becomes of the process with this desk. It reads these lines, at most so many bytes at once. After so many calls the next one fails.
 fn serve_lines(alloc: Global, desk: Desk, lines: &[u8], at_once: usize, calls: usize) -> Ended {
-    let mut desk = desk;
-    let mut journal = Rehearsal {
+    let journal = Rehearsal {
         done: Vec::new(alloc),
         at_once,
         calls,
+        due: false,
     };
+    serve_with(alloc, desk, lines, journal)
+}
+
+/// What becomes of it with this journal.
+fn serve_with(alloc: Global, desk: Desk, lines: &[u8], journal: Rehearsal) -> Ended {
+    let mut desk = desk;
+    let mut journal = journal;
     let mut lines = lines;
     let mut told = Vec::new(alloc);
     let mut errors = Vec::new(alloc);
@@ -122,6 +137,7 @@ fn serve_lines(alloc: Global, desk: Desk, lines: &[u8], at_once: usize, calls: u
     let Rehearsal { done, .. } = journal;
     Ended {
         fault: served.err(),
+        stop: served.ok(),
         done,
         told,
         errors,
@@ -201,5 +217,47 @@ fn another_opening_is_warned_of_once(rt: HostRuntime) -> Result<(), Fail> {
         ended.errors.as_slice(),
         b"shmdbg: site 1 was begun with --sites 2 --preset 1, this one with --sites 1 --preset 1\n".as_slice()
     );
+    Ok(())
+}
+
+/// What becomes of a process whose journal is due, as soon as one read gave a line's bytes.
+fn serve_due(alloc: Global, desk: Desk, lines: &[u8], at_once: usize) -> Ended {
+    let journal = Rehearsal {
+        done: Vec::new(alloc),
+        at_once,
+        calls: 100,
+        due: true,
+    };
+    serve_with(alloc, desk, lines, journal)
+}
+
+/// It stops behind the first line, once that is kept and told.
+#[test]
+fn a_due_journal_stops_a_site_at_rest(rt: HostRuntime) -> Result<(), Fail> {
+    let alloc = rt.alloc();
+    let ended = serve_due(alloc, new_desk(alloc)?, LINES, 20);
+    assert!(rt; ended.stop == Some(Stop::Due));
+    let done = b"+step 1 ask 0 a store 0 5 7\n!>tell 0 a stored\n".as_slice();
+    assert_eq!(rt; ended.done.as_slice(), done);
+    Ok(())
+}
+
+/// Site 1 of two, which has no copy.
+fn asking_desk(alloc: Global) -> Result<Desk, AllocError> {
+    let Ok(sites) = Sites::new(2) else {
+        return Err(AllocError);
+    };
+    if sites.count() < 2 {
+        return Err(AllocError);
+    }
+    Ok(Desk::new(alloc, Node::new(alloc, sites, SiteId(1), 1)?))
+}
+
+/// An ask waits to the end.
+#[test]
+fn a_due_journal_lets_an_ask_wait(rt: HostRuntime) -> Result<(), Fail> {
+    let alloc = rt.alloc();
+    let ended = serve_due(alloc, asking_desk(alloc)?, b"ask 1 a load 0 5\nend\n", 17);
+    assert!(rt; ended.stop == Some(Stop::Ended));
     Ok(())
 }
