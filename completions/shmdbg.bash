@@ -48,13 +48,13 @@ _shmdbg() {
       case $before in
         --sites) offered='1 2 3 4 5 6 7 8 9 10 11 12 13 14 15 16' ;;
         --me) offered='0 1 2 3 4 5 6 7 8 9 10 11 12 13 14 15' ;;
-        --preset | --cluster) ;;
+        --preset | --shorten-at | --cluster) ;;
         --journal | --key)
           mapfile -t COMPREPLY < <(compgen -f -- "$word")
           compopt -o filenames 2> /dev/null
           return
           ;;
-        *) offered='--sites --me --preset --journal --new --cluster --key -h --help' ;;
+        *) offered='--sites --me --preset --journal --new --shorten-at --forget --cluster --key -h --help' ;;
       esac
       ;;
     *:journal | *:shorten)

@@ -39,6 +39,8 @@ complete -c shmdbg -n '__fish_seen_subcommand_from site' -l me -x -a '(seq 0 15)
 complete -c shmdbg -n '__fish_seen_subcommand_from site' -l preset -x -d 'How many pages segment 0 has, 1 to 256'
 complete -c shmdbg -n '__fish_seen_subcommand_from site' -l journal -r -F -d "Keep the site's journal in this file, and begin as it says"
 complete -c shmdbg -n '__fish_seen_subcommand_from site' -l new -d "Begin the journal, which doesn't exist yet"
+complete -c shmdbg -n '__fish_seen_subcommand_from site' -l shorten-at -x -d 'Make the journal shorter when it has so many bytes, 0 for never'
+complete -c shmdbg -n '__fish_seen_subcommand_from site' -l forget -d 'Keep no whole journal when it is made shorter'
 complete -c shmdbg -n '__fish_seen_subcommand_from site' -l cluster -x -d "The cluster's name, which stands behind each of its lines"
 complete -c shmdbg -n '__fish_seen_subcommand_from site' -l key -r -F -d "The file of the cluster's key, under which each line has a digest"
 complete -c shmdbg -n '__fish_seen_subcommand_from site' -s h -l help -d 'Print help'

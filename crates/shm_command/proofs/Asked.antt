@@ -40,7 +40,7 @@ one_of_sites name rows (Run sites seed summary log) among asked = tt
 one_of_sites name rows (Simulate simulation) among asked = tt
 one_of_sites name rows Prompt among asked = tt
 one_of_sites name rows (Draw page steps notes file) among asked = tt
-one_of_sites name rows (Site sites me pages journal begins seal) among asked = (is_below sites me among, asked.options.3)
+one_of_sites name rows (Site sites me pages journal begins seal shortening) among asked = (is_below sites me among, asked.options.3)
 one_of_sites name rows (Audit sites journals) among asked = tt
 one_of_sites name rows (Journal file) among asked = tt
 one_of_sites name rows (Shorten file) among asked = tt
@@ -56,39 +56,41 @@ one_named name rows (Run sites seed summary log) asked = rw asked.called refl
 one_named name rows (Simulate simulation) asked = rw asked.called refl
 one_named name rows Prompt asked = rw asked.called refl
 one_named name rows (Draw page steps notes file) asked = rw asked.called refl
-one_named name rows (Site sites me pages journal begins seal) asked = rw (asked.called, asked.options.0, asked.options.1) refl
+one_named name rows (Site sites me pages journal begins seal shortening) asked = rw (asked.called, asked.options.0, asked.options.1) refl
 one_named name rows (Audit sites journals) asked = rw asked.called refl
 one_named name rows (Journal file) asked = rw asked.called refl
 one_named name rows (Shorten file) asked = rw asked.called refl
 
 -- the words name a site that is there where their task does
-pub among_asked : (words : List Text) (task : Task) → AskFor words task → option_map_or names_one (subcommand_of app words) true ≡ is_among task
-among_asked words task asked =
-    let of = of_named (subcommand_of app words) task asked in
-    rw of.1 (one_named of.0.0 of.0.1 task of.2)
+pub among_asked : (words : List Text) (name : Text) (rows : List Row) (task : Task) → subcommand_of app words ≡ Some (name, rows) → IsAsked name rows task
+    → option_map_or names_one (subcommand_of app words) true ≡ is_among task
+among_asked words name rows task named asked = rw named (one_named name rows task asked)
 
-file_named : (name : Text) (rows : List Row) (task : Task) → IsAsked name rows task → names_file (name, rows) ≡ has_file task
+file_named : (name : Text) (rows : List Row) (task : Task) → IsAsked name rows task → names_file (name, rows) ≡ has_file rows task
 file_named name rows (Replay file) asked = rw asked.called refl
 file_named name rows (Run sites seed summary log) asked = rw asked.called refl
 file_named name rows (Simulate simulation) asked = rw asked.called refl
 file_named name rows Prompt asked = rw asked.called refl
 file_named name rows (Draw page steps notes file) asked = rw asked.called refl
-file_named name rows (Site sites me pages None begins seal) asked = rw (asked.called, asked.options.4, asked.options.5) refl
-file_named name rows (Site sites me pages (Some file) begins seal) asked = rw (asked.called, asked.options.4, asked.options.5) refl
+file_named name rows (Site sites me pages None begins seal shortening) asked =
+    rw (asked.called, asked.options.4, asked.options.5, asked.options.8.forgets) refl
+file_named name rows (Site sites me pages (Some file) begins seal shortening) asked =
+    rw (asked.called, asked.options.4, asked.options.5, asked.options.8.forgets) refl
 file_named name rows (Audit sites journals) asked = rw asked.called refl
 file_named name rows (Journal file) asked = rw asked.called refl
 file_named name rows (Shorten file) asked = rw asked.called refl
 
--- the words name a file for the journal that is to be begun where their task does
-pub file_asked : (words : List Text) (task : Task) → AskFor words task → option_map_or names_file (subcommand_of app words) true ≡ has_file task
-file_asked words task asked =
-    let of = of_named (subcommand_of app words) task asked in
-    rw of.1 (file_named of.0.0 of.0.1 task of.2)
+-- the words name a file for the journal of which they say something where their task does
+pub file_asked : (words : List Text) (name : Text) (rows : List Row) (task : Task) → subcommand_of app words ≡ Some (name, rows) → IsAsked name rows task
+    → option_map_or names_file (subcommand_of app words) true ≡ has_file rows task
+file_asked words name rows task named asked = rw named (file_named name rows task asked)
 
 -- what is wrong with words that clap takes and whose numbers are spelled plainly is what is wrong with their task
-pub fault_asked : (words : List Text) (task : Task) → fault_of app words ≡ [] → has_plain_numbers words ≡ true → AskFor words task → fault_in words ≡ task_fault task
-fault_asked words task none plain asked =
-    plainly_spelled words none plain ∙ ap₂ (λ (among file : Bool). or_else (among_fault among) (file_fault file)) (among_asked words task asked) (file_asked words task asked)
+pub fault_asked : (words : List Text) (name : Text) (rows : List Row) (task : Task) → fault_of app words ≡ [] → has_plain_numbers words ≡ true
+    → subcommand_of app words ≡ Some (name, rows) → IsAsked name rows task → fault_in words ≡ task_fault rows task
+fault_asked words name rows task none plain named asked =
+    plainly_spelled words none plain
+    ∙ ap₂ (λ (among file : Bool). or_else (among_fault among) (file_fault file)) (among_asked words name rows task named asked) (file_asked words name rows task named asked)
 
 -- ---- an audit
 
@@ -102,7 +104,7 @@ by_name (Run sites seed summary log) = refl
 by_name (Simulate simulation) = refl
 by_name Prompt = refl
 by_name (Draw page steps notes file) = refl
-by_name (Site sites me pages journal begins seal) = refl
+by_name (Site sites me pages journal begins seal shortening) = refl
 by_name (Audit sites journals) = refl
 by_name (Journal file) = refl
 by_name (Shorten file) = refl
@@ -113,7 +115,7 @@ of_audit (Run sites seed summary log) is = inl refl
 of_audit (Simulate simulation) is = absurd (cc)
 of_audit Prompt is = absurd (cc)
 of_audit (Draw page steps notes file) is = absurd (cc)
-of_audit (Site sites me pages journal begins seal) is = absurd (cc)
+of_audit (Site sites me pages journal begins seal shortening) is = absurd (cc)
 of_audit (Audit sites journals) is = inr refl
 of_audit (Journal file) is = absurd (cc)
 of_audit (Shorten file) is = absurd (cc)
@@ -146,7 +148,7 @@ simulation_named (Run sites seed summary log) = refl
 simulation_named (Simulate simulation) = refl
 simulation_named Prompt = refl
 simulation_named (Draw page steps notes file) = refl
-simulation_named (Site sites me pages journal begins seal) = refl
+simulation_named (Site sites me pages journal begins seal shortening) = refl
 simulation_named (Audit sites journals) = refl
 simulation_named (Journal file) = refl
 simulation_named (Shorten file) = refl

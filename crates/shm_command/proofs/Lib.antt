@@ -16,3 +16,4 @@ mod Unmarked
 mod Unsealed
 pub mod Untold
 mod Shorter
+pub mod Stretched

@@ -90,16 +90,31 @@ journal_rule = text_rule (codes "journal")
 abbrev pub new_journal_rule : Rule
 new_journal_rule = flag_rule (codes "new")
 
+-- an option with a number of bytes
+abbrev pub shorten_at_rule : Rule
+shorten_at_rule = record (new_rule (codes "shorten-at")) {
+  long = Some (codes "shorten-at");
+  action = Some Set;
+  value_names = 1;
+  parser = Some (Signed (pos 0) (pos 9223372036854775807));
+}
+
+abbrev pub forget_rule : Rule
+forget_rule = flag_rule (codes "forget")
+
 abbrev pub cluster_rule : Rule
 cluster_rule = text_rule (codes "cluster")
 
 abbrev pub key_rule : Rule
 key_rule = text_rule (codes "key")
 
+abbrev pub bare_site_app : App
+bare_site_app = new_app (codes "site")
+
 abbrev pub site_app : App
 site_app =
-    with_rule (with_rule (with_rule (with_rule (with_rule (with_rule (with_rule (new_app (codes "site")) sites_rule) me_rule) preset_rule) journal_rule)
-    new_journal_rule) cluster_rule) key_rule
+    with_rule (with_rule (with_rule (with_rule (with_rule (with_rule (with_rule (with_rule (with_rule bare_site_app sites_rule) me_rule) preset_rule)
+    journal_rule) new_journal_rule) shorten_at_rule) forget_rule) cluster_rule) key_rule
 
 -- 1 to 16 texts that stand by no option's name
 abbrev pub journals_rule : Rule

@@ -1,7 +1,8 @@
 -- What a site's process did, by how it ended.
-use Rattle.std.specs.Prelude.{⊤, ◌≡◌, ℕ, Bool, [], Option, Result, Ok, Err}
+use Rattle.std.specs.Prelude.{⊤, ◌≡◌, ◌⊎◌, ℕ, Bool, [], Option, Result, Ok, Err}
 use Rattle.std.specs.Io.KnownBytes.{IsAtEnd}
-use Rattle.shm_journal.specs.Acts.{Around, Did, Served}
+use Rattle.shm_journal.specs.Acts.{Around, Did}
+use Rattle.shm_journal.specs.Stretches.{ServedOn, StoppedBetween}
 use Rattle.shm_journal.specs.Lines.{Header}
 use Rattle.shm_seal.specs.Seal.{Seal}
 use Rattle.shm_journal.specs.declared.process_error.ProcessFault.{ProcessFault}
@@ -9,16 +10,23 @@ use Rattle.shm_journal.specs.declared.process_error.ProcessFault.TheVariants.{Jo
 use Rattle.shm_journal.specs.declared.recovery_error.RecoveryFault.{RecoveryFault}
 use Rattle.shm_journal.specs.declared.recovery_error.RecoveryFault.TheVariants as recovery
 use Rattle.shm_process.specs.Desk.{Desk}
+use Rattle.shm_journal.specs.declared.service_stop.Stop.TheVariants.{Ended as InputEnded}
 use Rattle.shm_command.specs.Begun.{BeginsWith}
 use Rattle.shm_command.specs.declared.site_error.SiteFault.{SiteFault}
 use Rattle.shm_command.specs.declared.site_error.SiteFault.TheVariants as fault
 
--- from this desk on; where it ends well, all of its input was taken
+-- it had begun, and then memory for its restart was refused, or the folder of its shorter journal couldn't be made durable
+abbrev pub IsBetween : SiteFault → Type 0
+IsBetween fault.OutOfMemory = ⊤
+IsBetween fault.Unlisted = ⊤
+IsBetween _ = ⊥
+
+-- from this desk on, in stretches; where it ends well, all of its input was taken
 abbrev pub ServesFrom : Desk → Result (Unit {0}) SiteFault → Around → Around → Type 0
-ServesFrom desk (Ok end) old new = Served desk old new (Ok end) × IsAtEnd new.remaining
-ServesFrom desk (Err (fault.Ended why)) old new = Served desk old new (Err why)
-ServesFrom desk (Err (fault.Loose durable)) old new = Served desk old new (Err JournalFault)
-ServesFrom desk (Err fault.OutOfMemory) old new = ⊥
+ServesFrom desk (Ok end) old new = ServedOn desk old new (Ok InputEnded) × IsAtEnd new.remaining
+ServesFrom desk (Err (fault.Ended why)) old new = ServedOn desk old new (Err why)
+ServesFrom desk (Err (fault.Loose durable)) old new = ServedOn desk old new (Err JournalFault)
+ServesFrom desk (Err fault.OutOfMemory) old new = StoppedBetween desk old new
 ServesFrom desk (Err fault.Unopened) old new = ⊥
 ServesFrom desk (Err fault.Missing) old new = ⊥
 ServesFrom desk (Err fault.NoFile) old new = ⊥
@@ -28,16 +36,20 @@ ServesFrom desk (Err (fault.Damaged bytes)) old new = ⊥
 ServesFrom desk (Err fault.Unmarked) old new = ⊥
 ServesFrom desk (Err fault.Taken) old new = ⊥
 ServesFrom desk (Err fault.Uncut) old new = ⊥
-ServesFrom desk (Err fault.Unlisted) old new = ⊥
+ServesFrom desk (Err fault.Unlisted) old new = StoppedBetween desk old new
 ServesFrom desk (Err (fault.Unrecovered why)) old new = ⊥
 ServesFrom desk (Err (fault.Unopenable why)) old new = ⊥
 
+-- it couldn't begin, and nothing was read and nothing told; or it had begun, and stopped between two stretches
+abbrev pub IsBroken : Option Bool → Seal → Header → Around → Around → Type 0
+IsBroken kept seal header old new = Did old new [] ⊎ ((desk : Desk) × BeginsWith kept seal header desk × StoppedBetween desk old new)
+
 -- from the desk that it begins with; or it couldn't begin, and nothing was read and nothing told
 abbrev pub IsServed : Option Bool → Seal → Header → Result (Unit {0}) SiteFault → Around → Around → Type 0
-IsServed kept seal header (Ok end) old new = (desk : Desk) × BeginsWith kept seal header desk × Served desk old new (Ok end) × IsAtEnd new.remaining
-IsServed kept seal header (Err (fault.Ended why)) old new = (desk : Desk) × BeginsWith kept seal header desk × Served desk old new (Err why)
-IsServed kept seal header (Err (fault.Loose durable)) old new = (desk : Desk) × BeginsWith kept seal header desk × Served desk old new (Err JournalFault)
-IsServed kept seal header (Err fault.OutOfMemory) old new = Did old new []
+IsServed kept seal header (Ok end) old new = (desk : Desk) × BeginsWith kept seal header desk × ServedOn desk old new (Ok InputEnded) × IsAtEnd new.remaining
+IsServed kept seal header (Err (fault.Ended why)) old new = (desk : Desk) × BeginsWith kept seal header desk × ServedOn desk old new (Err why)
+IsServed kept seal header (Err (fault.Loose durable)) old new = (desk : Desk) × BeginsWith kept seal header desk × ServedOn desk old new (Err JournalFault)
+IsServed kept seal header (Err fault.OutOfMemory) old new = IsBroken kept seal header old new
 IsServed kept seal header (Err fault.Unopened) old new = Did old new []
 IsServed kept seal header (Err fault.Missing) old new = Did old new []
 IsServed kept seal header (Err fault.NoFile) old new = Did old new []
@@ -47,7 +59,7 @@ IsServed kept seal header (Err (fault.Damaged bytes)) old new = Did old new []
 IsServed kept seal header (Err fault.Unmarked) old new = Did old new []
 IsServed kept seal header (Err fault.Taken) old new = Did old new []
 IsServed kept seal header (Err fault.Uncut) old new = Did old new []
-IsServed kept seal header (Err fault.Unlisted) old new = Did old new []
+IsServed kept seal header (Err fault.Unlisted) old new = IsBroken kept seal header old new
 IsServed kept seal header (Err (fault.Unrecovered why)) old new = Did old new []
 IsServed kept seal header (Err (fault.Unopenable why)) old new = Did old new []
 

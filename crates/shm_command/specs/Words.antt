@@ -12,6 +12,7 @@ use Rattle.clap.specs.declared.error.kind.ErrorKind.TheVariants.{MissingRequired
 use Rattle.shm_place.specs.Limits.{pages as most_pages}
 use Rattle.shm_place.specs.declared.page_id.PageId.{PageId}
 use Rattle.shm_command.specs.Commands.{app}
+use Rattle.shm_command.specs.declared.args.shortening_words.Shortening.{Shortening}
 use Rattle.shm_command.specs.declared.args.task.Task.{Task}
 use Rattle.shm_command.specs.declared.args.task.Task.TheVariants.{Replay, Run, Simulate, Prompt, Draw, Site, Audit, Journal, Shorten}
 use Rattle.shm_simulate.specs.declared.odds.Odds.{Odds}
@@ -27,7 +28,7 @@ name_of (Run sites seed summary log) = codes "run"
 name_of (Simulate asked) = codes "simulate"
 name_of Prompt = codes "prompt"
 name_of (Draw page steps notes file) = codes "draw"
-name_of (Site sites me pages journal begins seal) = codes "site"
+name_of (Site sites me pages journal begins seal shortening) = codes "site"
 name_of (Audit sites journals) = codes "audit"
 name_of (Journal file) = codes "journal"
 name_of (Shorten file) = codes "shorten"
@@ -54,6 +55,10 @@ number_at option rows = if is_plain_at option rows then option_map number_of (on
 abbrev pub percent_at : Text → List Row → Option ℕ
 percent_at option rows = option_map_or (λ texts. number_at option rows) (all_of option rows) (Some 0)
 
+-- the number that was written for an option, or this one where nothing was
+abbrev pub number_or : ℕ → Text → List Row → Option ℕ
+number_or other option rows = option_map_or (λ texts. number_at option rows) (all_of option rows) (Some other)
+
 -- how often things are to go wrong
 pub record HasOdds (rows : List Row) (odds : Odds) : Type 0 where
   pub lose : percent_at (codes "lose") rows ≡ Some odds.lose
@@ -73,6 +78,15 @@ page_at rows = option_and_then page_named (all_of (codes "page") rows)
 abbrev pub is_set_at : Text → List Row → Bool
 is_set_at option rows = option_map_or (λ text. bytes_eq text (codes "true")) (first_of option rows) false
 
+-- something was written for an option
+abbrev pub is_given_at : Text → List Row → Bool
+is_given_at option rows = is_some (all_of option rows)
+
+-- when a running site's journal is to be made shorter, 64 MiB where nothing was written, and what is to become of the whole one
+pub record HasShortening (rows : List Row) (shortening : Shortening) : Type 0 where
+  pub bytes : number_or 67108864 (codes "shorten-at") rows ≡ Some shortening.at
+  pub forgets : is_set_at (codes "forget") rows ≡ shortening.forgets
+
 -- segment 0 may have so many pages
 abbrev pub HasPages : ℕ → Type 0
 HasPages pages = (1 ≤ pages) × (pages ≤ most_pages)
@@ -91,10 +105,11 @@ HasOptions rows Prompt = Unit {0}
 HasOptions rows (Draw page steps notes file) =
     (page ≡ page_at rows) × (is_set_at (codes "steps") rows ≡ steps) × (first_of (codes "notes") rows ≡ option_map (λ texts. texts.now) notes)
     × (first_of (codes "file") rows ≡ option_map (λ script. script.now) file)
-HasOptions rows (Site sites me pages journal begins seal) =
+HasOptions rows (Site sites me pages journal begins seal shortening) =
     (number_at (codes "sites") rows ≡ Some sites) × (number_at (codes "me") rows ≡ Some me) × (number_at (codes "preset") rows ≡ Some pages)
     × HasPages pages × (first_of (codes "journal") rows ≡ option_map (λ file. file.now) journal) × (is_set_at (codes "new") rows ≡ begins)
     × (first_of (codes "cluster") rows ≡ option_map (λ name. name.now) seal.cluster) × (first_of (codes "key") rows ≡ option_map (λ file. file.now) seal.key)
+    × HasShortening rows shortening
 HasOptions rows (Audit sites journals) =
     (number_at (codes "sites") rows ≡ Some sites) × (all_of (codes "journals") rows ≡ Some (map (λ file. file.now) journals.items))
 HasOptions rows (Journal file) = first_of (codes "file") rows ≡ Some file.now
@@ -114,7 +129,7 @@ AskFor words task = IsSomeAnd (subcommand_of app words) (λ named. IsAsked named
 -- the numbers of a subcommand's options
 abbrev pub numbers : List Text
 numbers =
-    codes "sites" ∷ codes "seed" ∷ codes "page" ∷ codes "me" ∷ codes "preset" ∷ codes "runs" ∷ codes "lose" ∷ codes "repeat" ∷ codes "restart" ∷ []
+    codes "sites" ∷ codes "seed" ∷ codes "page" ∷ codes "me" ∷ codes "preset" ∷ codes "runs" ∷ codes "lose" ∷ codes "repeat" ∷ codes "restart" ∷ codes "shorten-at" ∷ []
 
 abbrev pub are_plain : List Row → Bool
 are_plain rows = list_all (λ option. is_plain_at option rows) numbers
@@ -127,12 +142,12 @@ has_plain_numbers words = has_plain_rows (option_map (λ named. named.1) (subcom
 
 -- The site that a process is to be is one of those that there are; of other tasks this isn't asked.
 abbrev pub is_among : Task → Bool
-is_among (Site sites me pages journal begins seal) = nat_lt me sites
+is_among (Site sites me pages journal begins seal shortening) = nat_lt me sites
 is_among _ = true
 
 -- the same, and segment 0 may have so many pages
 abbrev pub IsOneOfSites : Task → Type 0
-IsOneOfSites (Site sites me pages journal begins seal) = (me < sites) × HasPages pages
+IsOneOfSites (Site sites me pages journal begins seal shortening) = (me < sites) × HasPages pages
 IsOneOfSites _ = ⊤
 
 -- so of what is written for the options
@@ -142,14 +157,18 @@ is_below_at rows = option_map_or (λ sites. option_map_or (λ me. nat_lt me site
 abbrev pub names_one : Text × List Row → Bool
 names_one named = if bytes_eq named.0 (codes "site") then is_below_at named.1 else true
 
--- A journal that a site is to begin has a file; of other tasks this isn't asked.
-abbrev pub has_file : Task → Bool
-has_file (Site sites me pages journal begins seal) = not begins || is_some journal
-has_file _ = true
+-- Something is said of a journal: it is to be begun, whole ones are to go, or it is written when it is made shorter, whichever number.
+abbrev pub needs_file : List Row → Bool → Bool → Bool
+needs_file rows begins forgets = begins || (forgets || is_given_at (codes "shorten-at") rows)
+
+-- A journal of which something is said has a file; of other tasks this isn't asked. The rows are what is written for the task's options.
+abbrev pub has_file : List Row → Task → Bool
+has_file rows (Site sites me pages journal begins seal shortening) = not (needs_file rows begins shortening.forgets) || is_some journal
+has_file rows _ = true
 
 -- so of what is written for the options
 abbrev pub has_file_at : List Row → Bool
-has_file_at rows = not (is_set_at (codes "new") rows) || is_some (first_of (codes "journal") rows)
+has_file_at rows = not (needs_file rows (is_set_at (codes "new") rows) (is_set_at (codes "forget") rows)) || is_some (first_of (codes "journal") rows)
 
 abbrev pub names_file : Text × List Row → Bool
 names_file named = if bytes_eq named.0 (codes "site") then has_file_at named.1 else true
@@ -178,8 +197,8 @@ abbrev pub file_fault : Bool → Kinds
 file_fault true = []
 file_fault false = MissingRequiredArgument ∷ []
 
-abbrev pub task_fault : Task → Kinds
-task_fault task = or_else (among_fault (is_among task)) (file_fault (has_file task))
+abbrev pub task_fault : List Row → Task → Kinds
+task_fault rows task = or_else (among_fault (is_among task)) (file_fault (has_file rows task))
 
 abbrev pub site_fault : List Text → Kinds
 site_fault words =

@@ -5,6 +5,7 @@ mod command_definitions;
 mod help;
 mod parse;
 mod seal_words;
+mod shortening_words;
 mod simulation_options;
 mod simulation_words;
 mod task;
@@ -13,5 +14,6 @@ mod word_checks;
 
 pub use parse::parse_words;
 pub use seal_words::SealWords;
+pub use shortening_words::Shortening;
 pub use simulation_words::Simulation;
 pub use task::Task;

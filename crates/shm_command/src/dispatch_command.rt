@@ -1,41 +1,36 @@
-ghost use Rattle.std.specs.Prelude.{◌≡◌, ◌≢◌, ◌≤◌, ◌<◌, ◌⊎◌, ℕ, List, [], ◌∷◌, codes, map, option_map, true, IfSome, Some};
-ghost use Rattle.std.specs.Io.KnownBytes.{Appends};
-ghost use Rattle.shm_debug.specs.Script.{script_of};
-ghost use Rattle.shm_draw.specs.Captions.{besides_of};
+//! Which function does what the words ask for.
+ghost use Rattle.std.specs.Prelude.{◌≡◌, ◌≢◌, ◌≤◌, ◌<◌, ◌⊎◌, ℕ, List, [], ◌∷◌, codes, map, option_map, true};
 ghost use Rattle.shm_command.specs.Around.{streams};
 ghost use Rattle.shm_command.specs.Begun.{header_at};
-ghost use Rattle.shm_command.specs.Done.{Does, IsDone, IsUnrun, PicturesFrom, PicturesNoted, ReplaysFrom, has_audit, is_simulation};
+ghost use Rattle.shm_command.specs.Done.{Does, IsDone, IsUnrun, has_audit, is_simulation};
 ghost use Rattle.shm_seal.specs.Seal.{cluster_of};
 ghost use Rattle.shm_seal.specs.SealOf.{seal_of};
 ghost use Rattle.shm_command.specs.Prompted.{Prompts};
 ghost use Rattle.shm_command.specs.Sealed.{IsSealedSite};
 ghost use Rattle.shm_command.specs.Served.{site_status, IsSite};
-ghost use Rattle.shm_command.specs.Status.{Asks, AsksForAudit, DrawsAs, Pictures, PicturesFile, Replays, ReplaysFile, Reports, Takes};
+ghost use Rattle.shm_command.specs.Status.{Asks, AsksForAudit, Reports, Takes};
 ghost use Rattle.shm_command.specs.Words.{IsOneOfSites};
 
-use crate::args::{SealWords, Task, parse_words};
+use crate::args::{SealWords, Shortening, Task, parse_words};
 use crate::audit_files::audit;
 use crate::disk_save_file::Disk;
+use crate::draw_command::picture_noted;
 use crate::error_text_and_status;
 use crate::journal_startup::{Kept, Lock};
 use crate::journal_summary::tell_journal;
 use crate::read_seal::read_seal;
 use crate::recalling_input::Recalls;
+use crate::replay_command::replay_from;
 use crate::run_report::{Wanted, tell_run};
 use crate::save_run_logs::{Unlogged, open_logs};
-use crate::script_file::{WholeScript, read_script_file};
 use crate::serve_site::{be_kept_site, be_site};
 use crate::shorten_journal::shorten;
-use crate::show_wrong_line::{script_fault, workload_fault};
+use crate::show_wrong_line::workload_fault;
 use crate::simulation_report::tell_simulation;
 use crate::site_error::SiteFault;
-use shm_debug::{DebugFault, replay};
-use shm_draw::{Caption, draw, parse_captions};
-use shm_place::{PAGES, PageId, SiteId, Sites};
+use shm_place::{PAGES, SiteId, Sites};
 use shm_prompt::prompt;
 use shm_seal::Seal;
-use shm_steps::draw_steps;
-use std::alloc::Global;
 use std::convert::AsStr;
 use std::io::{Read, Write};
 use std::rt::{Clock, Files};
@@ -118,248 +113,14 @@ where
             journal,
             begins,
             seal,
+            shortening,
         } => site(
-            rt, sites, me, pages, journal, begins, seal, reader, out, errors,
+            rt, sites, me, pages, journal, begins, shortening, seal, reader, out, errors,
         ),
         Task::Audit { sites, journals } => audit(rt, sites, journals.as_slice(), out, errors),
         Task::Journal { file } => tell_journal(rt, file, out, errors),
         Task::Shorten { file } => shorten(rt, file, out, errors),
     }
-}
-
-/// Replays the script of a file, if one is named, or else the one on the input, and answers the exit status.
-fn replay_from<R: AllocGlobal + Files, I: Read + Recalls, O: Write, E: Write>(
-    rt: &R,
-    file: Option<&str>,
-    reader: &mut I,
-    out: &mut O,
-    errors: &mut E,
-) -> u8
-    ensures range { result < 4 }
-    ensures taken { result ≢ 2 }
-    ensures replayed { ReplaysFrom file.entry result
-        (streams (I.remaining reader.old) (O.contents out.old)) (streams (I.remaining reader.new) (O.contents out.new)) }
-{
-    match file {
-        Some(name) => replay_file(rt, name, out, errors),
-        None => replay_script(rt, reader, out, errors),
-    }
-}
-
-/// Replays the script of the file of this name, and answers the exit status.
-fn replay_file<R: AllocGlobal + Files, O: Write, E: Write>(
-    rt: &R,
-    name: &str,
-    out: &mut O,
-    errors: &mut E,
-) -> u8
-    ensures range { result < 4 }
-    ensures taken { result ≢ 2 }
-    ensures replayed { ReplaysFile result (O.contents out.old) (O.contents out.new) }
-{
-    match read_script_file(rt, name) {
-        Ok(script) => replay_whole(rt.alloc(), script.as_slice(), out, errors),
-        Err(fault) => error_text_and_status::script_file_fault(fault, name, errors),
-    }
-}
-
-/// Replays a script that was read whole, and answers the exit status.
-fn replay_whole<O: Write, E: Write>(alloc: Global, script: &[u8], out: &mut O, errors: &mut E) -> u8
-    ensures range { result < 4 }
-    ensures taken { result ≢ 2 }
-    ensures replayed { Replays (script_of script.now) result (O.contents out.old) (O.contents out.new) }
-{
-    let mut rest = script;
-    match replay(alloc, &mut rest, out) {
-        Ok(_) => 0,
-        Err(fault) => script_fault(fault, &WholeScript { bytes: script }, errors),
-    }
-}
-
-/// Replays the script on the input, and answers the exit status.
-fn replay_script<R: AllocGlobal, I: Read + Recalls, O: Write, E: Write>(
-    rt: &R,
-    reader: &mut I,
-    out: &mut O,
-    errors: &mut E,
-) -> u8
-    ensures range { result < 4 }
-    ensures taken { result ≢ 2 }
-    ensures replayed { IfSome (I.remaining reader.old) (λ bytes.
-        Replays (script_of bytes) result (O.contents out.old) (O.contents out.new)) }
-{
-    match replay(rt.alloc(), reader, out) {
-        Ok(_) => 0,
-        Err(fault) => script_fault(fault, reader, errors),
-    }
-}
-
-/// Draws what a script leaves, with the captions of the notes in a file, if one is named, and answers the exit status.
-fn picture_noted<R: AllocGlobal + Files, I: Read + Recalls, O: Write, E: Write>(
-    rt: &R,
-    page: Option<PageId>,
-    steps: bool,
-    notes: Option<&str>,
-    file: Option<&str>,
-    reader: &mut I,
-    out: &mut O,
-    errors: &mut E,
-) -> u8
-    ensures range { result < 4 }
-    ensures taken { result ≢ 2 }
-    ensures drawn { PicturesNoted notes.entry file.entry steps page result
-        (streams (I.remaining reader.old) (O.contents out.old)) (streams (I.remaining reader.new) (O.contents out.new)) }
-{
-    match notes {
-        Some(name) => picture_captioned(rt, page, steps, name, file, reader, out, errors),
-        None => picture_from(rt, page, steps, &[], file, reader, out, errors),
-    }
-}
-
-/// Draws what a script leaves, with the captions of the notes in the file of this name, and answers the exit status. Where they have a
-/// fault no script is read.
-fn picture_captioned<R: AllocGlobal + Files, I: Read + Recalls, O: Write, E: Write>(
-    rt: &R,
-    page: Option<PageId>,
-    steps: bool,
-    notes: &str,
-    file: Option<&str>,
-    reader: &mut I,
-    out: &mut O,
-    errors: &mut E,
-) -> u8
-    ensures range { result < 4 }
-    ensures taken { result ≢ 2 }
-    ensures drawn { PicturesNoted (Some notes.now) file.entry steps page result
-        (streams (I.remaining reader.old) (O.contents out.old)) (streams (I.remaining reader.new) (O.contents out.new)) }
-{
-    let bytes = match read_script_file(rt, notes) {
-        Ok(bytes) => bytes,
-        Err(fault) => return error_text_and_status::script_file_fault(fault, notes, errors),
-    };
-    match parse_captions(rt.alloc(), bytes.as_slice()) {
-        Ok(captions) => picture_from(
-            rt,
-            page,
-            steps,
-            captions.as_slice(),
-            file,
-            reader,
-            out,
-            errors,
-        ),
-        Err(fault) => error_text_and_status::caption_fault(fault, notes, errors),
-    }
-}
-
-/// Draws what the script of a file leaves, if one is named, or else the one on the input, and answers the exit status.
-fn picture_from<R: AllocGlobal + Files, I: Read + Recalls, O: Write, E: Write>(
-    rt: &R,
-    page: Option<PageId>,
-    steps: bool,
-    captions: &[Caption<'_>],
-    file: Option<&str>,
-    reader: &mut I,
-    out: &mut O,
-    errors: &mut E,
-) -> u8
-    ensures range { result < 4 }
-    ensures taken { result ≢ 2 }
-    ensures drawn { PicturesFrom file.entry steps page (besides_of captions.now) result
-        (streams (I.remaining reader.old) (O.contents out.old)) (streams (I.remaining reader.new) (O.contents out.new)) }
-{
-    match file {
-        Some(name) => picture_file(rt, page, steps, captions, name, out, errors),
-        None => picture(rt, page, steps, captions, reader, out, errors),
-    }
-}
-
-/// Draws what the script of the file of this name leaves, and answers the exit status.
-fn picture_file<R: AllocGlobal + Files, O: Write, E: Write>(
-    rt: &R,
-    page: Option<PageId>,
-    steps: bool,
-    captions: &[Caption<'_>],
-    name: &str,
-    out: &mut O,
-    errors: &mut E,
-) -> u8
-    ensures range { result < 4 }
-    ensures taken { result ≢ 2 }
-    ensures drawn { PicturesFile steps page (besides_of captions.now) result (O.contents out.old) (O.contents out.new) }
-{
-    match read_script_file(rt, name) {
-        Ok(script) => picture_whole(
-            rt.alloc(),
-            page,
-            steps,
-            captions,
-            script.as_slice(),
-            out,
-            errors,
-        ),
-        Err(fault) => error_text_and_status::script_file_fault(fault, name, errors),
-    }
-}
-
-/// Draws what a script leaves that was read whole, and answers the exit status.
-fn picture_whole<O: Write, E: Write>(
-    alloc: Global,
-    page: Option<PageId>,
-    steps: bool,
-    captions: &[Caption<'_>],
-    script: &[u8],
-    out: &mut O,
-    errors: &mut E,
-) -> u8
-    ensures range { result < 4 }
-    ensures taken { result ≢ 2 }
-    ensures drawn { Pictures steps page (besides_of captions.now) (script_of script.now) result (O.contents out.old) (O.contents out.new) }
-{
-    let mut rest = script;
-    match draw_as(alloc, page, steps, captions, &mut rest, out) {
-        Ok(()) => 0,
-        Err(undrawn) => script_fault(undrawn, &WholeScript { bytes: script }, errors),
-    }
-}
-
-/// Draws what the script on the input leaves, and answers the exit status.
-fn picture<R: AllocGlobal, I: Read + Recalls, O: Write, E: Write>(
-    rt: &R,
-    page: Option<PageId>,
-    steps: bool,
-    captions: &[Caption<'_>],
-    reader: &mut I,
-    out: &mut O,
-    errors: &mut E,
-) -> u8
-    ensures range { result < 4 }
-    ensures taken { result ≢ 2 }
-    ensures drawn { IfSome (I.remaining reader.old) (λ bytes.
-        Pictures steps page (besides_of captions.now) (script_of bytes) result (O.contents out.old) (O.contents out.new)) }
-{
-    match draw_as(rt.alloc(), page, steps, captions, reader, out) {
-        Ok(()) => 0,
-        Err(undrawn) => script_fault(undrawn, reader, errors),
-    }
-}
-
-/// Draws what the script on the reader leaves: its picture, or its steps.
-fn draw_as<R: Read, W: Write>(
-    alloc: Global,
-    page: Option<PageId>,
-    steps: bool,
-    captions: &[Caption<'_>],
-    reader: &mut R,
-    out: &mut W,
-) -> Result<(), DebugFault>
-    ensures { IfSome (R.remaining reader.old) (λ bytes. (text : List ℕ) × Appends (W.contents out.old) (W.contents out.new) text
-        × DrawsAs steps page (besides_of captions.now) (script_of bytes) result text) }
-{
-    if steps {
-        return draw_steps(alloc, reader, out, page, captions);
-    }
-    draw(alloc, reader, out, page, captions)
 }
 
 /// Answers what is typed, and answers the exit status.
@@ -387,6 +148,7 @@ fn site<R: AllocGlobal + Clock + Files, I: Read, O: Write, E: Write>(
     pages: u32,
     journal: Option<&str>,
     begins: bool,
+    shortening: Shortening,
     seal: SealWords<'_>,
     reader: &mut I,
     out: &mut O,
@@ -404,7 +166,7 @@ where
 {
     match read_seal(rt, seal) {
         Ok(seal) => sealed_site(
-            rt, sites, me, pages, seal, journal, begins, reader, out, errors,
+            rt, sites, me, pages, seal, journal, begins, shortening, reader, out, errors,
         ),
         Err(fault) => error_text_and_status::seal_error(fault, errors),
     }
@@ -419,6 +181,7 @@ fn sealed_site<R: AllocGlobal + Clock + Files, I: Read, O: Write, E: Write>(
     seal: Seal,
     journal: Option<&str>,
     begins: bool,
+    shortening: Shortening,
     reader: &mut I,
     out: &mut O,
     errors: &mut E,
@@ -435,7 +198,12 @@ where
 {
     match journal {
         Some(name) => {
-            let kept = Kept { name, begins };
+            let kept = Kept {
+                name,
+                begins,
+                shorten_at: shortening.at,
+                forgets: shortening.forgets,
+            };
             let ended = be_kept_site(rt, sites, me, pages, seal, kept, reader, out, errors);
             tell_end(ended, errors)
         }

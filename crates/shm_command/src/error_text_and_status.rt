@@ -122,6 +122,19 @@ pub(crate) fn shortening_fault<E: Write>(fault: ShorteningFault, name: &str, err
     }
 }
 
+/// Tells that a running site's journal was made shorter, and how many bytes it had and has. A failure to write it is passed over.
+pub(crate) fn made_shorter<E: Write>(was: u64, is: u64, errors: &mut E) {
+    let _ = writeln!(
+        errors,
+        "shmdbg: journal: made shorter: was {was} bytes, is {is}"
+    );
+}
+
+/// Tells why a running site's journal wasn't made shorter. A failure to write it is passed over.
+pub(crate) fn not_made_shorter<E: Write>(fault: ShorteningFault, errors: &mut E) {
+    let _ = writeln!(errors, "shmdbg: not made shorter: {fault}");
+}
+
 /// The exit status where there is no seal as a site's words say. Its one line goes to `errors`.
 pub fn seal_error<E: Write>(fault: SealFault, errors: &mut E) -> u8
     ensures { result ≡ seal_status fault }

@@ -1,7 +1,9 @@
 //! The journals that a site's process may have: a file, or none.
 ghost use Rattle.std.specs.Io.KnownBytes.{Appends};
-ghost use Rattle.std.specs.Prelude.{◌≡◌, ℕ, OnErr, OnOk, take};
+ghost use Rattle.std.specs.Prelude.{◌≡◌, ◌-◌, ◌*◌, ◌^◌, ℕ, OnErr, OnOk, min, take};
+ghost use Rattle.shm_command.specs.Shortening.{due_behind};
 
+use crate::journal_place::Renewed;
 use crate::journal_startup::cut;
 use shm_batches::{Chain, write_batch};
 use shm_journal::{Failed, Journal};
@@ -9,15 +11,22 @@ use shm_text::{read_up_to, write_whole};
 use std::alloc::Global;
 use std::fs::OpenFile;
 use std::io::{self, Read, Write};
+use std::mem;
 
 /// None: what is appended is forgotten.
 #[derive(Clone, Copy)]
 pub(crate) struct NoJournal;
 
 impl Journal for NoJournal {
-    ghost use Rattle.std.specs.Prelude.{None};
+    ghost use Rattle.std.specs.Prelude.{None, false};
 
     ghost acts = { λ _. None };
+
+    ghost due = { λ _. false };
+
+    fn is_due(&self) -> bool {
+        false
+    }
 
     fn read<R: Read>(&mut self, reader: &mut R, chunk: &mut [u8]) -> Result<usize, Failed> {
         let most = chunk.len();
@@ -48,15 +57,26 @@ pub struct JournalFile<F> {
     chain: Chain,
     durable: u64,
     loose: u64,
+    /// How many durable bytes it has at least where it is made shorter; 0: it never is.
+    shorten_at: u64,
+    /// How many it waits for: more where it begins with a long state, or couldn't be made shorter.
+    due_at: u64,
 }
 
 impl<F: OpenFile> JournalFile<F> {
-    /// A file of these batches in this many bytes, all of them durable.
-    pub fn new(alloc: Global, file: F, chain: Chain, durable: u64) -> JournalFile<F>
+    /// A file of these batches in this many bytes, all of them durable. It is due to be made shorter at `shorten_at` bytes; at 0 it never is.
+    pub fn new(
+        alloc: Global,
+        file: F,
+        chain: Chain,
+        durable: u64,
+        shorten_at: u64,
+    ) -> JournalFile<F>
         ensures file { result.file ≡ file }
         ensures chain { result.chain ≡ chain }
         ensures durable { result.durable ≡ durable }
         ensures loose { result.loose ≡ 0 }
+        ensures at { (result.shorten_at ≡ shorten_at) × (result.due_at ≡ shorten_at) }
     {
         JournalFile {
             alloc,
@@ -64,6 +84,8 @@ impl<F: OpenFile> JournalFile<F> {
             chain,
             durable,
             loose: 0,
+            shorten_at,
+            due_at: shorten_at,
         }
     }
 
@@ -74,9 +96,37 @@ impl<F: OpenFile> JournalFile<F> {
         self.durable
     }
 
+    /// It couldn't be made shorter: it is due again at twice as many bytes as it has.
+    pub(crate) fn put_off(&mut self)
+        ensures later { self.new.due_at ≡ min (2 * self.old.durable) (2 ^ 64 - 1) }
+        ensures same { self.new ≡ record self.old { due_at = self.new.due_at } }
+    {
+        self.due_at = self.durable.saturating_mul(2);
+    }
+
     /// Cuts off what isn't durable. After a failure to make it durable the system may give it back when it is read, and may yet lose it.
     pub(crate) fn cut_back(&self) -> io::Result<()> {
         cut(&self.file, self.durable)
+    }
+}
+
+impl<F: OpenFile + Drop> JournalFile<F> {
+    /// Goes on in the file that took its place. It is due to be made shorter when it has twice the bytes that it begins with, and those at
+    /// which any is.
+    pub(crate) fn go_on_in(&mut self, renewed: Renewed<F>)
+        ensures file { self.new.file ≡ renewed.file }
+        ensures chain { self.new.chain ≡ renewed.chain }
+        ensures durable { self.new.durable ≡ renewed.bytes }
+        ensures loose { self.new.loose ≡ 0 }
+        ensures at { self.new.shorten_at ≡ self.old.shorten_at }
+        ensures due { self.new.due_at ≡ due_behind self.old.shorten_at renewed.bytes }
+    {
+        let Renewed { file, chain, bytes } = renewed;
+        drop(mem::replace(&mut self.file, file));
+        self.chain = chain;
+        self.durable = bytes;
+        self.loose = 0;
+        self.due_at = bytes.saturating_mul(2).max(self.shorten_at);
     }
 }
 
@@ -84,8 +134,15 @@ impl<F: Write + OpenFile> Journal for JournalFile<F> {
     ghost use Rattle.std.specs.Prelude.{◌+◌, ◌-◌, ◌^◌, None, length, min};
     ghost use Rattle.shm_batches.specs.Chain.{batch_text, with_batch};
     ghost use Rattle.shm_batches.specs.ChainOf.{chain_of};
+    ghost use Rattle.shm_command.specs.Shortening.{is_due};
 
     ghost acts = { λ _. None };
+
+    ghost due = { λ journal. is_due journal.shorten_at journal.due_at journal.durable };
+
+    fn is_due(&self) -> bool {
+        self.shorten_at > 0 && self.durable >= self.due_at
+    }
 
     fn read<R: Read>(&mut self, reader: &mut R, chunk: &mut [u8]) -> Result<usize, Failed> {
         let most = chunk.len();

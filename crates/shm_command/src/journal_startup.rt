@@ -1,5 +1,5 @@
 //! The file of a site's journal: it is as it was asked for, one process alone has it, and what was never durable at its end is cut off.
-ghost use Rattle.std.specs.Prelude.{◌≡◌, ◌≤◌, ◌<◌, ℕ, List, if◌then◌else◌, not, true, IfErr, IfOk, IfSome, OnErr, OnOk};
+ghost use Rattle.std.specs.Prelude.{◌≡◌, ◌≤◌, ◌<◌, ℕ, List, if◌then◌else◌, false, not, true, IfErr, IfOk, IfSome, OnErr, OnOk};
 ghost use Rattle.shm_journal.specs.DeskFrom.{desk_from};
 ghost use Rattle.shm_journal.specs.HeaderOf.{header_of};
 ghost use Rattle.shm_journal.specs.Recovers.{ReadsAll, Recovers};
@@ -42,6 +42,25 @@ pub(crate) struct Kept<'a> {
     pub(crate) name: &'a str,
     /// Whether the site begins the journal, or goes on with it.
     pub(crate) begins: bool,
+    /// How many bytes it has at least where it is made shorter; 0: it never is.
+    pub(crate) shorten_at: u64,
+    /// Whether the whole one then goes, or is kept under a name with a number.
+    pub(crate) forgets: bool,
+}
+
+impl<'a> Kept<'a> {
+    /// The journal of this name, which is begun and stays as long as it is.
+    pub(crate) fn plain(name: &'a str) -> Kept<'a>
+        ensures begun { result.begins ≡ false }
+        ensures stays { result.shorten_at ≡ 0 }
+    {
+        Kept {
+            name,
+            begins: false,
+            shorten_at: 0,
+            forgets: false,
+        }
+    }
 }
 
 /// A site that can begin with its journal.

@@ -1,7 +1,5 @@
 //! A site as a process, with a journal or without.
-ghost use Rattle.std.specs.Prelude.{◌≡◌, ◌≤◌, ◌<◌, None, Some, IfErr, IfOk, OnOk};
-ghost use Rattle.std.specs.Io.KnownBytes.{IsAtEnd};
-ghost use Rattle.shm_journal.specs.Acts.{Served, around};
+ghost use Rattle.std.specs.Prelude.{◌≡◌, ◌≤◌, ◌<◌, None, Some, IfErr, IfOk};
 ghost use Rattle.shm_journal.specs.DeskFrom.{opening_of};
 ghost use Rattle.shm_process.specs.Desk.{greeting_at};
 ghost use Rattle.shm_process.specs.DeskOf.{desk_of};
@@ -10,21 +8,22 @@ ghost use Rattle.shm_seal.specs.Seal.{cluster_of};
 ghost use Rattle.shm_seal.specs.SealOf.{seal_of};
 ghost use Rattle.shm_command.specs.Around.{streams};
 ghost use Rattle.shm_command.specs.Begun.{header_at, start_at};
-ghost use Rattle.shm_command.specs.Served.{IsServed, IsUnbegun, ServesFrom};
+ghost use Rattle.shm_command.specs.Served.{IsServed, IsUnbegun};
 
 use crate::elapsed_time::{milliseconds_since, seconds_since_1970};
 use crate::error_text_and_status;
-use crate::journal_backends::{JournalFile, NoJournal};
+use crate::journal_backends::JournalFile;
+use crate::journal_place::NamedFile;
 use crate::journal_startup::{Begun, Kept, Lock, begin_kept, header_of_site, open_journal};
+use crate::serve_stretches::{serve_kept, serve_unkept};
 use crate::site_error::SiteFault;
 use crate::whole_journal::{WholeJournal, may_begin, open_whole};
 use shm_batches::Extent;
-use shm_journal::{Header, Journal, ProcessFault, RecoveryFault, serve};
+use shm_journal::{Header, RecoveryFault};
 use shm_place::{PAGES, SiteId, Sites};
 use shm_process::{Desk, Node, Start};
 use shm_seal::Seal;
 use std::alloc::{AllocError, Global};
-use std::fs::OpenFile;
 use std::io::{Read, Write};
 use std::rt::{Clock, Files};
 use std::time::Instant;
@@ -52,13 +51,10 @@ pub(crate) fn be_site<R: AllocGlobal + Clock, I: Read, O: Write, E: Write>(
         return Err(SiteFault::OutOfMemory);
     };
     let mut desk = desk;
-    let ended = serve(&mut desk, reader, out, errors, &mut NoJournal);
+    let ended = serve_unkept(&mut desk, reader, out, errors);
     error_text_and_status::unopened(desk.counts().unopened, errors);
     drop(desk);
-    match ended {
-        Ok(()) => Ok(()),
-        Err(fault) => Err(SiteFault::Ended(fault)),
-    }
+    ended
 }
 
 /// Runs this site until its input ends, and keeps its steps in this journal. Writes to `errors` what it takes again of a journal that it
@@ -112,13 +108,13 @@ where
             if !kept.begins {
                 error_text_and_status::taken_again(again, milliseconds_since(rt, started), errors);
             }
-            serve_kept(
-                desk,
-                reader,
-                out,
-                JournalFile::new(rt.alloc(), file, chain, durable),
-                errors,
-            )
+            let journal = JournalFile::new(rt.alloc(), file, chain, durable, kept.shorten_at);
+            let mut place = NamedFile {
+                rt,
+                name: kept.name,
+                forgets: kept.forgets,
+            };
+            serve_kept(desk, header, reader, out, journal, &mut place, errors)
         }
         Err(fault) => Err(fault),
     }
@@ -162,45 +158,4 @@ fn begin(
     let header = header_of_site(sites, me, pages, &seal);
     let start = Start { journal: 0, since };
     Desk::greeting(alloc, seal, node, header.opening(), start)
-}
-
-/// Serves the input and the output, and keeps what is recorded in a file. Where that fails, what isn't durable is cut off again.
-pub fn serve_kept<I: Read, O: Write, F: Write + OpenFile + Drop, E: Write>(
-    desk: Desk,
-    reader: &mut I,
-    out: &mut O,
-    journal: JournalFile<F>,
-    errors: &mut E,
-) -> Result<(), SiteFault>
-    ensures { ServesFrom (desk_of desk) result (streams (I.remaining reader.old) (O.contents out.old))
-        (streams (I.remaining reader.new) (O.contents out.new)) }
-{
-    let mut journal = journal;
-    match serve_counted(desk, reader, out, &mut journal, errors) {
-        Ok(()) => Ok(()),
-        Err(ProcessFault::JournalFault) => match journal.cut_back() {
-            Ok(()) => Err(SiteFault::Ended(ProcessFault::JournalFault)),
-            Err(_) => Err(SiteFault::Loose(journal.durable())),
-        },
-        Err(fault) => Err(SiteFault::Ended(fault)),
-    }
-}
-
-/// Serves the input and the output, and keeps what is recorded in this journal. Then it tells what the site counted.
-fn serve_counted<I: Read, O: Write, J: Journal, E: Write>(
-    desk: Desk,
-    reader: &mut I,
-    out: &mut O,
-    journal: &mut J,
-    errors: &mut E,
-) -> Result<(), ProcessFault>
-    ensures served { Served (desk_of desk) (around (I.remaining reader.old) (O.contents out.old) (J.acts journal.old))
-        (around (I.remaining reader.new) (O.contents out.new) (J.acts journal.new)) result }
-    ensures end { OnOk result (IsAtEnd (I.remaining reader.new)) }
-{
-    let mut desk = desk;
-    let ended = serve(&mut desk, reader, out, errors, journal);
-    error_text_and_status::unopened(desk.counts().unopened, errors);
-    error_text_and_status::health(desk.node().health(desk.counts()), errors);
-    ended
 }

@@ -7,19 +7,18 @@ ghost use Rattle.shm_command.specs.declared.shortened_notice.Shorter.{Shorter as
 ghost use Rattle.shm_command.specs.declared.shortening_error.ShorteningFault.TheVariants as cause;
 
 use crate::error_text_and_status;
-use crate::journal_startup::{Kept, Lock, list_new, open_journal};
+use crate::journal_startup::{Kept, Lock, open_journal};
+use crate::renew_journal::renew_kept;
 use crate::shortened_notice::Shorter;
 use crate::shortening_error::ShorteningFault;
 use crate::site_error::SiteFault;
 use crate::whole_journal::{WholeJournal, header_in, open_whole};
-use shm_batches::{BatchFault, Chain, write_batch};
 use shm_journal::{Header, RecoveryFault, ShortenFault, recover, shortened_journal};
 use shm_place::{PAGES, SiteId, Sites};
 use shm_text::write_whole;
 use std::alloc::Global;
-use std::fs::{self, OpenFile, OpenOptions};
-use std::io::{ErrorKind, Read, Write};
-use std::os::unix::fs::MetadataExt;
+use std::fs;
+use std::io::{Read, Write};
 use std::rt::Files;
 
 /// Makes the journal of this name shorter, and answers the exit status. No other process may have it.
@@ -79,11 +78,7 @@ fn shorten_file<R: AllocGlobal + Files>(rt: &R, name: &str) -> Result<Shorter, S
 where
     R::File: Lock,
 {
-    let kept = Kept {
-        name,
-        begins: false,
-    };
-    let locked = match open_journal(rt, kept) {
+    let locked = match open_journal(rt, Kept::plain(name)) {
         Ok(file) => file,
         Err(fault) => return Err(ShorteningFault::Unread(fault)),
     };
@@ -171,94 +166,28 @@ fn bad_header() -> ShorteningFault {
     ShorteningFault::Unread(SiteFault::Unrecovered(RecoveryFault::BadLine(1)))
 }
 
-/// Writes a journal of these lines beside the one of this name, which is kept under a name with a number; then it takes the name. The whole
-/// one has it until then.
+/// Has a journal of these lines take the name of this one, which is kept under a name with a number. The whole one has the name until then.
 fn take_place<R: AllocGlobal + Files>(
     rt: &R,
     name: &str,
     lines: &[u8],
-) -> Result<Shorter, ShorteningFault> {
-    let Ok(new) = format!(in rt.alloc(); "{name}.new") else {
-        return Err(ShorteningFault::OutOfMemory);
-    };
+) -> Result<Shorter, ShorteningFault>
+where
+    R::File: Lock,
+{
     let Ok(found) = fs::metadata(rt, name) else {
         return Err(ShorteningFault::Unread(SiteFault::Unopened));
     };
-    let is = match write_new(rt, new.as_str(), lines) {
-        Ok(bytes) => bytes,
-        Err(fault) => return Err(without(rt, new.as_str(), fault)),
-    };
-    let kept = match keep_whole(rt, name) {
-        Ok(kept) => kept,
-        Err(fault) => return Err(without(rt, new.as_str(), fault)),
-    };
-    if fs::rename(rt, new.as_str(), name).is_err() {
-        return Err(without(rt, new.as_str(), ShorteningFault::Unnamed));
-    }
-    if list_new(rt, name, true).is_err() {
-        return Err(ShorteningFault::Unlisted);
-    }
-    Ok(Shorter {
-        kept,
-        was: found.len(),
-        is,
-    })
-}
-
-/// Writes a file of this name with one batch of these lines, and makes it durable. Answers how many bytes it has.
-fn write_new<R: AllocGlobal + Files>(
-    rt: &R,
-    name: &str,
-    lines: &[u8],
-) -> Result<u64, ShorteningFault> {
-    let opened = OpenOptions::new()
-        .write(true)
-        .create(true)
-        .truncate(true)
-        .open(rt, name);
-    let Ok(file) = opened else {
-        return Err(ShorteningFault::Unwritten);
-    };
-    let mut file = file;
-    let bytes = match write_batch(rt.alloc(), &mut file, &mut Chain::new(), lines) {
-        Ok(bytes) => bytes,
-        Err(BatchFault::OutOfMemory) => return Err(ShorteningFault::OutOfMemory),
-        Err(_) => return Err(ShorteningFault::Unwritten),
-    };
-    match file.sync_all() {
-        Ok(()) => Ok(bytes),
-        Err(_) => Err(ShorteningFault::Unwritten),
-    }
-}
-
-/// Gives the file of this name a second name: the first that is free, with a number behind it, unless it has one from an attempt that didn't end.
-fn keep_whole<R: AllocGlobal + Files>(rt: &R, name: &str) -> Result<String, ShorteningFault> {
-    'numbers: for number in 1..u32::MAX {
-        let Ok(kept) = format!(in rt.alloc(); "{name}.{number}") else {
-            return Err(ShorteningFault::OutOfMemory);
-        };
-        match fs::hard_link(rt, name, kept.as_str()) {
-            Ok(()) => return Ok(kept),
-            Err(error) if error.kind() == ErrorKind::AlreadyExists => {}
-            Err(_) => return Err(ShorteningFault::Unkept),
+    match renew_kept(rt, name, lines) {
+        Ok((kept, renewed)) => {
+            let is = renewed.bytes;
+            drop(renewed);
+            Ok(Shorter {
+                kept,
+                was: found.len(),
+                is,
+            })
         }
-        if are_one_file(rt, name, kept.as_str()) {
-            return Ok(kept);
-        }
+        Err(fault) => Err(fault),
     }
-    Err(ShorteningFault::Unkept)
-}
-
-/// Checks that both names are those of one file.
-fn are_one_file<R: Files>(rt: &R, name: &str, other: &str) -> bool {
-    match (fs::metadata(rt, name), fs::metadata(rt, other)) {
-        (Ok(one), Ok(other)) => one.dev() == other.dev() && one.ino() == other.ino(),
-        _ => false,
-    }
-}
-
-/// This fault, once the file of this name, which nothing needs, is removed. Where it can't be, the next attempt writes over it.
-fn without<R: Files>(rt: &R, name: &str, fault: ShorteningFault) -> ShorteningFault {
-    let _ = fs::remove_file(rt, name);
-    fault
 }

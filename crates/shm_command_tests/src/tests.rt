@@ -14,6 +14,7 @@ mod saved_run_logs;
 mod script_files;
 mod seals;
 mod shortened_journals;
+mod shortening_words;
 mod simulations;
 mod sites;
 

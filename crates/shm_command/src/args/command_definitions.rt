@@ -5,6 +5,7 @@ ghost use Rattle.clap.specs.declared.builder.command.Command.TheViews.{out-Comma
 ghost use Rattle.shm_command.specs.Commands as spec;
 
 use crate::args::help;
+use clap::builder::ValueParser;
 use clap::{Arg, ArgAction, Command, value_parser};
 use std::alloc::{AllocError, Global};
 
@@ -103,16 +104,26 @@ fn site_command<'a>(alloc: Global) -> Result<Command<'a>, AllocError>
     ensures app { IfOk result (λ c. app_of c ≡ spec.site_app) }
     ensures local { IfOk result (λ c. (out-Command c).has_globals ≡ false) }
 {
-    Command::new(alloc, "site")
-        .about("Run one site of a cluster on the lines of standard input")
-        .after_help(help::SITE)
+    bare_site_command(alloc)
         .arg(sites_arg(alloc))?
         .arg(me_arg(alloc))?
         .arg(preset_arg(alloc))?
         .arg(journal_arg(alloc))?
         .arg(new_arg(alloc))?
+        .arg(shorten_at_arg(alloc))?
+        .arg(forget_arg(alloc))?
         .arg(cluster_arg(alloc))?
         .arg(key_arg(alloc))
+}
+
+/// Without its options.
+fn bare_site_command<'a>(alloc: Global) -> Command<'a>
+    ensures app { app_of result ≡ spec.bare_site_app }
+    ensures local { (out-Command result).has_globals ≡ false }
+{
+    Command::new(alloc, "site")
+        .about("Run one site of a cluster on the lines of standard input")
+        .after_help(help::SITE)
 }
 
 fn audit_command<'a>(alloc: Global) -> Result<Command<'a>, AllocError>
@@ -364,6 +375,28 @@ fn new_arg<'a>(alloc: Global) -> Arg<'a>
     Arg::new(alloc, "new")
         .long("new")
         .help("Begin the journal, which doesn't exist yet")
+        .action(ArgAction::SetTrue)
+}
+
+fn shorten_at_arg<'a>(alloc: Global) -> Arg<'a>
+    ensures rule { rule_of result ≡ spec.shorten_at_rule }
+    ensures local { result.global ≡ false }
+{
+    Arg::new(alloc, "shorten-at")
+        .long("shorten-at")
+        .value_name("BYTES")
+        .help("Make the journal shorter when it has so many bytes, 0 for never")
+        .action(ArgAction::Set)
+        .value_parser(ValueParser::signed(0, i64::MAX))
+}
+
+fn forget_arg<'a>(alloc: Global) -> Arg<'a>
+    ensures rule { rule_of result ≡ spec.forget_rule }
+    ensures local { result.global ≡ false }
+{
+    Arg::new(alloc, "forget")
+        .long("forget")
+        .help("Keep no whole journal when it is made shorter")
         .action(ArgAction::SetTrue)
 }
 

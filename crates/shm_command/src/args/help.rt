@@ -148,6 +148,10 @@ that goes on, as it would have forgotten what it held.
   $ printf 'ask 0 b load 0 5\\n' |
     shmdbg site --sites 1 --me 0 --preset 1 --journal site-0.journal
   tell 0 b byte 7
+A running site makes its journal shorter by itself, when no ask waits: at
+--shorten-at BYTES (64 MiB if nothing is said, 0 for never), but not below twice
+the state that it begins with. The whole journal stays as FILE.1, FILE.2, ..;
+with --forget it goes.
 With --cluster each line that the site takes or tells has @NAME behind it, and
 so has the journal's first line: lines and journals of another cluster aren't
 taken. With --key each line has its digest behind that, HMAC-SHA-256 under the

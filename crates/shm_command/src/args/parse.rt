@@ -30,7 +30,7 @@ pub fn parse_words<'a, S: AsStr>(alloc: Global, words: &'a [S]) -> Result<Task<'
     }
     match matches.subcommand() {
         Some((name, found)) => match task_of(alloc, name, found) {
-            Some(task) => match look_for_site(alloc, &task) {
+            Some(task) => match look_for_site(alloc, found, &task) {
                 Ok(()) => Ok(task),
                 Err(error) => Err(error),
             },

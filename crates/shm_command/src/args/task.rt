@@ -1,4 +1,5 @@
 use crate::args::seal_words::SealWords;
+use crate::args::shortening_words::Shortening;
 use crate::args::simulation_words::Simulation;
 use shm_place::{PageId, SiteId, Sites};
 
@@ -30,7 +31,7 @@ pub enum Task<'a> {
         file: Option<&'a str>,
     },
     /// Run this site of `sites`, where segment 0 has this number of pages, on the lines of standard input. Keep its journal in a file, if
-    /// one is named, which it begins or goes on with. Seal its lines, if the words say so.
+    /// one is named, which it begins or goes on with. Seal its lines, if the words say so. Make the journal shorter, when the words say so.
     Site {
         sites: Sites,
         me: SiteId,
@@ -38,6 +39,7 @@ pub enum Task<'a> {
         journal: Option<&'a str>,
         begins: bool,
         seal: SealWords<'a>,
+        shortening: Shortening,
     },
     /// Audit the journals of this many sites, which are in these files.
     Audit {

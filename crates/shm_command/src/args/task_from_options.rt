@@ -1,14 +1,18 @@
 //! Reads a subcommand's options. Words that clap took have all that are required, in range.
 ghost use Rattle.std.specs.Prelude.{◌≡◌, Some, codes, map, IfSome};
 ghost use Rattle.clap.specs.Words.{all_of, found_of, rows_of};
-ghost use Rattle.shm_command.specs.Words.{is_set_at, number_at, number_of, page_named, IsAsked};
+ghost use Rattle.shm_command.specs.Words.{is_set_at, number_at, number_of, number_or, page_named, HasShortening, IsAsked};
 
 use crate::args::seal_words::SealWords;
+use crate::args::shortening_words::Shortening;
 use crate::args::task::Task;
 use crate::args::word_checks::is_plain_at;
 use clap::ArgMatches;
 use shm_place::{PAGES, PageId, SegId, SiteId, Sites};
 use std::alloc::Global;
+
+/// 64 MiB: so many bytes a running site's journal has before it is made shorter, where nothing is said of it.
+const SHORTEN_AT: u64 = 67_108_864;
 
 /// A run's options.
 pub(crate) fn run_task<'a>(found: &ArgMatches<'a>) -> Option<Task<'a>>
@@ -44,6 +48,27 @@ pub(crate) fn number(found: &ArgMatches<'_>, option: &str) -> Option<u32>
         found.get_one(option)
     } else {
         None
+    }
+}
+
+/// The number of up to 64 bits that is written for an option.
+fn long_number(found: &ArgMatches<'_>, option: &str) -> Option<u64>
+    ensures { IfSome result (λ number. number_at option.now (rows_of (found_of found.now)) ≡ Some number) }
+{
+    if is_plain_at(found, option) {
+        found.get_one(option)
+    } else {
+        None
+    }
+}
+
+/// The same, or this number where nothing is written.
+fn long_number_or(found: &ArgMatches<'_>, option: &str, other: u64) -> Option<u64>
+    ensures { IfSome result (λ number. number_or other option.now (rows_of (found_of found.now)) ≡ Some number) }
+{
+    match found.get_raw(option) {
+        Some(_) => long_number(found, option),
+        None => Some(other),
     }
 }
 
@@ -91,6 +116,7 @@ pub(crate) fn site_task<'a>(found: &ArgMatches<'a>) -> Option<Task<'a>>
     if pages < 1 || pages > PAGES {
         return None;
     }
+    let shortening = shortening_of(found)?;
     let journal = found.get_str("journal");
     let begins = is_set(found, "new");
     let seal = SealWords {
@@ -104,7 +130,17 @@ pub(crate) fn site_task<'a>(found: &ArgMatches<'a>) -> Option<Task<'a>>
         journal,
         begins,
         seal,
+        shortening,
     })
+}
+
+/// When the site's journal is made shorter, and what becomes of the whole one.
+fn shortening_of(found: &ArgMatches<'_>) -> Option<Shortening>
+    ensures { IfSome result (HasShortening (rows_of (found_of found.now))) }
+{
+    let at = long_number_or(found, "shorten-at", SHORTEN_AT)?;
+    let forgets = is_set(found, "forget");
+    Some(Shortening { at, forgets })
 }
 
 /// An audit's options, and the names of its files.

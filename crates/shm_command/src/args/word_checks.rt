@@ -60,6 +60,7 @@ fn are_plain(found: &ArgMatches<'_>) -> bool
         && is_plain_at(found, "lose")
         && is_plain_at(found, "repeat")
         && is_plain_at(found, "restart")
+        && is_plain_at(found, "shorten-at")
 }
 
 /// Checks that what is written for an option is spelled plainly.
@@ -155,13 +156,13 @@ pub fn spelling_error(alloc: Global, matches: &ArgMatches<'_>) -> Result<Error, 
 /// The first of the options whose numbers aren't spelled plainly.
 fn option_of_error(found: &ArgMatches<'_>) -> &'static str {
     for option in [
-        "sites", "seed", "page", "me", "preset", "runs", "lose", "repeat",
+        "sites", "seed", "page", "me", "preset", "runs", "lose", "repeat", "restart",
     ] {
         if !is_plain_at(found, option) {
             return option;
         }
     }
-    "restart"
+    "shorten-at"
 }
 
 /// The first of an option's values that isn't spelled plainly.

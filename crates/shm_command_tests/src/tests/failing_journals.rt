@@ -1,6 +1,6 @@
 //! A site whose journal's file fails: nothing that isn't durable is told, and it is cut off again.
-use shm_batches::Chain;
-use shm_command::{JournalFile, SiteFault, serve_kept};
+use shm_batches::{Chain, write_batch};
+use shm_command::{JournalFile, Place, Renewed, ShorteningFault, SiteFault, serve_kept};
 use shm_journal::{Header, ProcessFault, open_desk};
 use shm_place::{SiteId, Sites};
 use shm_process::{Node, Start};
@@ -82,8 +82,65 @@ impl OpenFile for DiskFile<'_> {
     }
 }
 
+/// A place where a journal can't be made shorter, for this reason.
+#[derive(Drop)]
+struct NoPlace(ShorteningFault);
+
+impl<'a> Place<DiskFile<'a>> for NoPlace {
+    ghost use Rattle.std.specs.Prelude.{None};
+
+    ghost journals = { λ _. None };
+
+    fn renew(&mut self, _lines: &[u8]) -> Result<Renewed<DiskFile<'a>>, ShorteningFault> {
+        Err(self.0)
+    }
+}
+
+/// A place where the shorter one goes to another disk.
+#[derive(Drop)]
+struct OtherDisk<'a> {
+    alloc: Global,
+    disk: &'a Disk,
+}
+
+impl<'a> Place<DiskFile<'a>> for OtherDisk<'a> {
+    ghost use Rattle.std.specs.Prelude.{None};
+
+    ghost journals = { λ _. None };
+
+    fn renew(&mut self, lines: &[u8]) -> Result<Renewed<DiskFile<'a>>, ShorteningFault> {
+        let mut file = DiskFile { disk: self.disk };
+        let mut chain = Chain::new();
+        match write_batch(self.alloc, &mut file, &mut chain, lines) {
+            Ok(bytes) => Ok(Renewed { file, chain, bytes }),
+            Err(_) => Err(ShorteningFault::Unwritten),
+        }
+    }
+}
+
+/// A disk with ample room.
+fn ample_disk() -> Disk {
+    Disk {
+        room: 8192,
+        syncs: Cell::new(100),
+        cuts: Cell::new(100),
+        bytes: Cell::new(0),
+        durable: Cell::new(0),
+    }
+}
+
 /// The only site of one begins its journal on this disk, and stores one byte. How it ended, and what it told.
 fn store(alloc: Global, disk: &Disk) -> Result<(Result<(), SiteFault>, Vec<u8>), Fail> {
+    store_at(alloc, disk, 0, &mut NoPlace(ShorteningFault::Unwritten))
+}
+
+/// The same, where the journal is made shorter at so many bytes, and lies in this place.
+fn store_at<'a, N: Place<DiskFile<'a>>>(
+    alloc: Global,
+    disk: &'a Disk,
+    shorten_at: u64,
+    place: &mut N,
+) -> Result<(Result<(), SiteFault>, Vec<u8>), Fail> {
     let header = Header {
         sites: 1,
         me: 0,
@@ -97,11 +154,19 @@ fn store(alloc: Global, disk: &Disk) -> Result<(Result<(), SiteFault>, Vec<u8>),
     };
     let desk = open_desk(alloc, header, Seal::Bare, true, node, start);
     let desk = desk.ok().ok_or("no desk")?;
-    let journal = JournalFile::new(alloc, DiskFile { disk }, Chain::new(), 0);
+    let journal = JournalFile::new(alloc, DiskFile { disk }, Chain::new(), 0, shorten_at);
     let mut reader = b"ask 0 a store 0 5 7\n".as_slice();
     let mut out = Vec::new(alloc);
     let mut errors = Vec::new(alloc);
-    let ended = serve_kept(desk, &mut reader, &mut out, journal, &mut errors);
+    let ended = serve_kept(
+        desk,
+        header,
+        &mut reader,
+        &mut out,
+        journal,
+        place,
+        &mut errors,
+    );
     Ok((ended, out))
 }
 
@@ -158,5 +223,37 @@ fn what_is_left_is_durable(rt: HostRuntime) -> Result<(), Fail> {
         assert_eq!(rt; disk.durable.get(), durable);
         assert_eq!(rt; disk.bytes.get(), durable);
     }
+    Ok(())
+}
+
+/// The shorter journal has the state and the restart, all durable; the whole one stays as it was.
+#[test]
+fn a_shorter_journal_goes_on(rt: HostRuntime) -> Result<(), Fail> {
+    let alloc = rt.alloc();
+    let (whole, shorter) = (ample_disk(), ample_disk());
+    let mut place = OtherDisk {
+        alloc,
+        disk: &shorter,
+    };
+    let (ended, out) = store_at(alloc, &whole, 1, &mut place)?;
+    assert!(rt; ended.is_ok());
+    assert_eq!(rt; out.as_slice(), b"tell 0 a stored\n".as_slice());
+    assert_eq!(rt; whole.bytes.get(), STORED);
+    assert!(rt; shorter.bytes.get() > BEGUN);
+    assert_eq!(rt; shorter.durable.get(), shorter.bytes.get());
+    Ok(())
+}
+
+/// Where the shorter one can't be written the site goes on with the whole one. Where its name may be lost by a crash the site ends.
+#[test]
+fn a_journal_that_stays_whole(rt: HostRuntime) -> Result<(), Fail> {
+    let (going, ending) = (ample_disk(), ample_disk());
+    let mut full = NoPlace(ShorteningFault::Unwritten);
+    let (ended, _out) = store_at(rt.alloc(), &going, 1, &mut full)?;
+    assert!(rt; ended.is_ok());
+    assert_eq!(rt; going.bytes.get(), STORED);
+    let mut unlisted = NoPlace(ShorteningFault::Unlisted);
+    let (ended, _out) = store_at(rt.alloc(), &ending, 1, &mut unlisted)?;
+    assert_eq!(rt; ended, Err(SiteFault::Unlisted));
     Ok(())
 }

@@ -1,5 +1,5 @@
 use super::{expect, run_over};
-use shm_command::{SealWords, Task, parse_words};
+use shm_command::{SealWords, Shortening, Task, parse_words};
 use shm_place::{SiteId, Sites};
 use std::test::Fail;
 
@@ -193,6 +193,10 @@ fn numbers_of_a_site(rt: HostRuntime) -> Result<(), Fail> {
             seal: SealWords {
                 cluster: None,
                 key: None,
+            },
+            shortening: Shortening {
+                at: 67_108_864,
+                forgets: false,
             },
         };
         assert_eq!(rt; task, asked);

@@ -45,6 +45,10 @@ returns-then-not-has_plain_numbers-clause-fault g c =
     let wrong : has_plain_numbers words ≡ false = rows_given has_plain_rows met unplain in
     badly_spelled words c.in_ok-spelling_error.field-0 none wrong (search rules)
 
+-- what clap has made of the words is what they give
+given_so : (parsed given : Option (Text × List Row)) (name : Text) (rows : List Row) → parsed ≡ given → parsed ≡ Some (name, rows) → given ≡ Some (name, rows)
+given_so parsed given name rows met there = sym met ∙ there
+
 -- what clap has made of the words asks for the task
 asks_for : (words : List Text) (parsed given : Option (Text × List Row)) (name : Text) (rows : List Row) (task : Task) → parsed ≡ given → parsed ≡ Some (name, rows)
     → IsAsked name rows task → IsSomeAnd given (λ named. IsAsked named.0 named.1 task)
@@ -65,10 +69,11 @@ returns-in-Ok-look_for_site-clause-fault g c =
     named_so (out-ArgMatches parsed).subcommand c.in-Some.name.now (rows_of (found_of c.in-Some.found.now))
     (sym (ap (option_map (λ p. p.0.now)) c.in-Some.is) ∙ c.subcommand.ensures.name)
     (sym (ap (option_map (λ p. rows_of (found_of p.1.now))) c.in-Some.is) ∙ c.subcommand.ensures.rows) in
-    let asked : AskFor words c.in-Some-task_of.task =
-    asks_for words (subcommand_rows_of parsed) (subcommand_of app words) c.in-Some.name.now (rows_of (found_of c.in-Some.found.now)) c.in-Some-task_of.task met there
+    let named : subcommand_of app words ≡ Some (c.in-Some.name.now, rows_of (found_of c.in-Some.found.now)) =
+    given_so (subcommand_rows_of parsed) (subcommand_of app words) c.in-Some.name.now (rows_of (found_of c.in-Some.found.now)) met there in
+    let same : fault_in words ≡ task_fault (rows_of (found_of c.in-Some.found.now)) c.in-Some-task_of.task =
+    fault_asked words c.in-Some.name.now (rows_of (found_of c.in-Some.found.now)) c.in-Some-task_of.task none (rows_given has_plain_rows met rows) named
     c.in-Some-task_of.ensures in
-    let same : fault_in words ≡ task_fault c.in-Some-task_of.task = fault_asked words c.in-Some-task_of.task none (rows_given has_plain_rows met rows) asked in
     same ∙ c.in-Ok-look_for_site.ensures.fault
 
 pub returns-in-Some-task_of-clause-fault : goal.returns-in-Some-task_of-clause-fault
@@ -85,10 +90,11 @@ returns-in-Some-task_of-clause-fault g c =
     named_so (out-ArgMatches parsed).subcommand c.in-Some.name.now (rows_of (found_of c.in-Some.found.now))
     (sym (ap (option_map (λ p. p.0.now)) c.in-Some.is) ∙ c.subcommand.ensures.name)
     (sym (ap (option_map (λ p. rows_of (found_of p.1.now))) c.in-Some.is) ∙ c.subcommand.ensures.rows) in
-    let asked : AskFor words c.in-Some-task_of.task =
-    asks_for words (subcommand_rows_of parsed) (subcommand_of app words) c.in-Some.name.now (rows_of (found_of c.in-Some.found.now)) c.in-Some-task_of.task met there
+    let named : subcommand_of app words ≡ Some (c.in-Some.name.now, rows_of (found_of c.in-Some.found.now)) =
+    given_so (subcommand_rows_of parsed) (subcommand_of app words) c.in-Some.name.now (rows_of (found_of c.in-Some.found.now)) met there in
+    let same : fault_in words ≡ task_fault (rows_of (found_of c.in-Some.found.now)) c.in-Some-task_of.task =
+    fault_asked words c.in-Some.name.now (rows_of (found_of c.in-Some.found.now)) c.in-Some-task_of.task none (rows_given has_plain_rows met rows) named
     c.in-Some-task_of.ensures in
-    let same : fault_in words ≡ task_fault c.in-Some-task_of.task = fault_asked words c.in-Some-task_of.task none (rows_given has_plain_rows met rows) asked in
     subst (λ (kinds : Kinds). HasKind kinds c.in-Err-look_for_site.error) (sym same) c.in-Err-look_for_site.ensures.fault
 
 pub returns-in-Ok-look_for_site-clause-task : goal.returns-in-Ok-look_for_site-clause-task

@@ -16,4 +16,4 @@ returns c =
     sym (first_value-rows found (codes "key")) ∙ sym c.get_str-2.ensures in
     let least : 1 ≤ c.in_ok-pages.pages = search rules in
     let most : c.in_ok-pages.pages ≤ 256 = search rules in
-    record { called = refl; options = (c.in_ok-number.ensures ∙ ap Some (sym same), c.in_ok-number-2.ensures, c.in_ok-pages.ensures, (least, most), kept, sym c.is_set-begins.ensures, cluster, key) }
+    record { called = refl; options = (c.in_ok-number.ensures ∙ ap Some (sym same), c.in_ok-number-2.ensures, c.in_ok-pages.ensures, (least, most), kept, sym c.is_set-begins.ensures, cluster, key, c.in_ok-shortening.ensures) }

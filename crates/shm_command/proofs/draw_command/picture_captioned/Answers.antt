@@ -7,7 +7,7 @@ use Rattle.shm_command.specs.Around.{streams}
 use Rattle.shm_command.specs.Done.{PicturesFrom}
 use Rattle.shm_command.specs.Status.{HasNoCaptions, caption_status}
 use Rattle.shm_command.proofs.Streaming.{did_nothing}
-use Rattle.shm_command.proofs.dispatch_command.picture_captioned.Goals as goal
+use Rattle.shm_command.proofs.draw_command.picture_captioned.Goals as goal
 
 no_captions : (bytes : List ℕ) (fault : CaptionFault) (status : ℕ) → status ≡ caption_status fault → IsFaultIn (captions_in bytes) fault → HasNoCaptions status
 no_captions bytes OutOfMemory status is fails = inr is

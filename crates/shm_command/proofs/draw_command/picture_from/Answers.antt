@@ -1,5 +1,5 @@
 use Rattle.std.proofs.Common.{refl}
-use Rattle.shm_command.proofs.dispatch_command.picture_from.Goals as goal
+use Rattle.shm_command.proofs.draw_command.picture_from.Goals as goal
 
 pub returns-in-Some-clause-drawn : goal.returns-in-Some-clause-drawn
 returns-in-Some-clause-drawn g c = rw c.in-Some.is (refl, c.picture_file.ensures.drawn)

@@ -6,7 +6,7 @@ use Rattle.shm_debug.specs.Script.{script_of}
 use Rattle.shm_debug.specs.declared.script_summary_and_error.DebugFault.{DebugFault}
 use Rattle.shm_debug.specs.declared.script_summary_and_error.Summary.{Summary}
 use Rattle.shm_command.specs.Status.{Replays, status_of}
-use Rattle.shm_command.proofs.dispatch_command.replay_script.Goals as goal
+use Rattle.shm_command.proofs.replay_command.replay_script.Goals as goal
 
 -- what a replay ends as, by its status
 replays_so : (script : Option (List ℕ)) (end : Result Summary DebugFault) (status : ℕ) (old new : Option (List ℕ)) → status ≡ status_of end

@@ -1,5 +1,5 @@
 use Rattle.std.proofs.Common.{inl, inr, refl}
-use Rattle.shm_command.proofs.dispatch_command.replay_file.Goals as goal
+use Rattle.shm_command.proofs.replay_command.replay_file.Goals as goal
 
 pub returns-in-Ok-clause-replayed : goal.returns-in-Ok-clause-replayed
 returns-in-Ok-clause-replayed g c = inl (c.as_slice.result.now, c.replay_whole.ensures.replayed)

@@ -1,4 +1,4 @@
-use Rattle.shm_command.proofs.dispatch_command.picture_noted.Goals as goal
+use Rattle.shm_command.proofs.draw_command.picture_noted.Goals as goal
 
 pub returns-in-Some-clause-drawn : goal.returns-in-Some-clause-drawn
 returns-in-Some-clause-drawn g c = rw c.in-Some.is c.picture_captioned.ensures.drawn
