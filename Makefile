@@ -99,6 +99,12 @@ machines:
 crashes:
 	@examples/machines/crashes.py --seconds 600 --program $(PROGRAM)/out/shmdbg
 
+# A site that makes ten million steps, and makes its journal shorter as it goes: its memory and its journal stay as they are. A minute or two.
+# Needs the program that `make build` leaves, and Python 3.
+.PHONY: long-run
+long-run:
+	@examples/machines/long_run.py --program $(PROGRAM)/out/shmdbg
+
 # The libraries of clients/: each call, over a stream that loses. Needs the program that `make build` leaves, Python 3 and a C compiler.
 clients:
 	@clients/try.py --program $(PROGRAM)/out/shmdbg

@@ -7,7 +7,7 @@ Makes rounds of some 20 seconds until the time is over. In each, N sites (0: 2 t
 and R times a second one of them is killed by signal 9. Half of the times something is left behind the last whole batch of its journal, as a
 machine that crashed may leave there what was never durable: a front of a batch, a batch with a hole, zeros, garbage, or old blocks. A moment
 later the site is started again from its journal. Now and then its journal is made shorter before (`PROGRAM shorten FILE`), and half of the
-times that is killed too. What a killed process had written and nobody had read yet is lost half of the times.
+times that is killed too. Most sites make it shorter while they run, too, at a few thousand bytes. What a killed process had written and nobody had read yet is lost half of the times.
 Envelopes are lost, repeated and reordered, and some asks and answers are lost.
 
 Each site has callers, which load bytes that all share and store there; no value is stored twice at a byte. Now and then they read a block, of
@@ -46,9 +46,10 @@ AGAIN_SECONDS = 0.02
 END_SECONDS = 20
 SHORTENINGS = 0.3
 SHORTEN_SECONDS = 0.02
+SHORTEN_AT = (0, 3000, 10000, 30000)
 MOST_BEHIND = 20000
 TORN = ('front', 'hole', 'zeros', 'garbage', 'stale')
-COUNTS = ('kills', *TORN, 'damaged', 'shortened', 'shortenings killed', 'loads', 'stores', 'blocks', 'lost', 'repeated', 'violations', 'audits')
+COUNTS = ('kills', *TORN, 'damaged', 'shortened', 'shortenings killed', 'files kept', 'loads', 'stores', 'blocks', 'lost', 'repeated', 'violations', 'audits')
 
 
 class Places:
@@ -325,7 +326,8 @@ class Round:
 
     def seat(self, site, journal):
         words = [self.options.program, 'site', '--sites', str(self.sites), '--me', str(site), '--preset', str(PAGES)]
-        return Seat(words if self.options.no_journal else words + ['--journal', journal], journal)
+        kept = ['--journal', journal, '--shorten-at', str(self.draw.choice(SHORTEN_AT))]
+        return Seat(words if self.options.no_journal else words + kept, journal)
 
     def start(self, site):
         self.seats[site].start()
@@ -438,6 +440,7 @@ class Round:
         """The audit's text, where it isn't a yes."""
         words = [self.options.program, 'audit', '--sites', str(self.sites)] + [seat.journal for seat in self.seats]
         audit = subprocess.run(words, stdout=subprocess.PIPE, stderr=subprocess.STDOUT, check=False)
+        self.counts['files kept'] = sum(len(seat.files()) - 1 for seat in self.seats)
         if audit.returncode == 0 and audit.stdout.startswith(b'audit yes\n'):
             self.counts['audits'] += 1
             for seat in self.seats:

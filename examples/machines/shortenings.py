@@ -1,12 +1,15 @@
 #!/usr/bin/env python3
-"""Makes a journal shorter where the disk is full at each of the writes, or another call fails, and looks at what is left.
+"""Makes a journal shorter where the disk is full at each of the writes, or another call fails, and looks at what is left: by `shorten`, and by a
+site that runs.
 
     shortenings.py [PROGRAM]      without PROGRAM: crates/shmdbg/out/shmdbg
 
-What fails leaves the whole journal under its name, and nothing beside it that stops the next attempt. Each time the site starts again and loads
-what it stored last; with room the journal is made shorter, and an audit takes it and the whole one in a row. The calls that fail need strace. The
-status is 1 where something else is found."""
+What fails leaves the whole journal under its name, and nothing beside it that stops the next attempt; a site that runs goes on. Each time the
+site starts again and loads what it stored last; with room the journal is made shorter, and an audit takes it and the whole one in a row. The new
+one is durable before it takes the name, and then its folder is. The calls that fail, and their order, need strace. The status is 1 where
+something else is found."""
 import os
+import re
 import resource
 import shutil
 import signal
@@ -38,15 +41,19 @@ class Journal:
             sys.exit(f'{words}: status {done.returncode}, told {done.stdout}, on standard error {done.stderr}')
         return done
 
-    def serve(self, *further):
-        """Starts the site, which loads what it stored last, and then stores something else."""
+    def serve(self, *further, tracing=(), status=0):
+        """Starts the site, which loads what it stored last, and then stores something else. Answers what stands on standard error."""
         loads = 'ask 0 l load 0 7\n' if self.stored else ''
         stores = ''.join(f'ask 0 s{number} store 0 {number % 50} {number % 250}\n' for number in range(STORES))
         last = (self.stored + 1) % 250
-        told = self.run([*self.words, *further], 0, loads + stores + f'ask 0 t store 0 7 {last}\n').stdout
-        if self.stored and f'tell 0 l byte {self.stored}\n' not in told:
-            sys.exit(f'the last store was {self.stored}: told {told}')
-        self.stored = last
+        done = self.run([*tracing, *self.words, *further], status, loads + stores + f'ask 0 t store 0 7 {last}\n')
+        if self.stored and f'tell 0 l byte {self.stored}\n' not in done.stdout:
+            sys.exit(f'the last store was {self.stored}: told {done.stdout}')
+        if 'tell 0 t stored\n' in done.stdout:
+            self.stored = last
+        elif status == 0:
+            sys.exit(f'the last store is not told: {done.stdout}')
+        return done.stderr
 
     def bytes(self):
         with open(self.name, 'rb') as file:
@@ -64,6 +71,19 @@ class Journal:
         left = sorted(os.listdir(self.folder))
         if self.bytes() != whole or [name for name in left if name not in names and not self.is_whole(name, whole)]:
             sys.exit(f'{tracing}: the journal has changed, or there are {left}')
+
+    def fails_running(self, why, tracing):
+        """An attempt of a site that runs fails: it says why, and goes on."""
+        whole = self.bytes()
+        errors = self.serve('--shorten-at', '1', tracing=tracing)
+        if f'shmdbg: not made shorter: journal: {why}\n' not in errors or not self.bytes().startswith(whole):
+            sys.exit(f'{tracing}: on standard error {errors}, or the journal is no longer whole')
+
+    def ends_unlisted(self, tracing):
+        """The folder can't be made durable: the site ends."""
+        errors = self.serve('--shorten-at', '1', tracing=tracing, status=3)
+        if "shmdbg: journal: its folder can't be made durable\n" not in errors:
+            sys.exit(f'{tracing}: on standard error {errors}')
 
     def stays_unlisted(self, tracing):
         """The folder can't be made durable: the journal is shorter, and the whole one has another name, or a crash brings it back."""
@@ -90,6 +110,27 @@ class Journal:
         self.serve()
         if not self.run([self.program, 'audit', '--sites', '1', self.name], 0).stdout.startswith('audit yes\n'):
             sys.exit('the audit says no')
+
+
+    def succeeds_running(self):
+        """With room a site that runs makes it shorter, and all of its steps are kept."""
+        errors = self.serve('--shorten-at', '1')
+        if 'shmdbg: journal: made shorter: was ' not in errors:
+            sys.exit(f'not made shorter: {errors}')
+        self.serve()
+        if not self.run([self.program, 'audit', '--sites', '1', self.name], 0).stdout.startswith('audit yes\n'):
+            sys.exit('the audit says no')
+
+    def looks_at_order(self, words, given=''):
+        """The new journal is durable before it takes the name, and then its folder is made durable."""
+        log = os.path.join(self.folder, 'trace')
+        self.run(['strace', '-y', '-o', log, '-e', 'trace=fsync,rename,renameat,renameat2', *words], 0, given)
+        with open(log, encoding='utf-8', errors='replace') as file:
+            calls = file.read()
+        os.remove(log)
+        name, folder = re.escape(os.path.realpath(self.name)), re.escape(os.path.realpath(self.folder))
+        if not re.search(rf'fsync\(\d+<{name}\.new>\) += 0\n(.*\n)*rename\w*\(.*\.new".*\) += 0\n(.*\n)*fsync\(\d+<{folder}>\) += 0\n', calls):
+            sys.exit(f'{words}: {calls}')
 
 
 def limit_to(count):
@@ -127,10 +168,19 @@ def try_calls(program, folder):
     for call, end, why in CALLS:
         journal.fails(why, ['strace', '-o', '/dev/null', '-P', journal.name + end, '-e', f'inject={call}'])
         journal.serve()
-    journal.stays_unlisted(['strace', '-o', '/dev/null', '-P', folder, '-e', 'inject=fsync:error=EIO'])
+        journal.fails_running(why, ['strace', '-o', '/dev/null', '-P', journal.name + end, '-e', f'inject={call}'])
+        journal.serve()
+    unlisted = ['strace', '-o', '/dev/null', '-P', folder, '-e', 'inject=fsync:error=EIO']
+    journal.stays_unlisted(unlisted)
+    journal.serve()
+    journal.ends_unlisted(unlisted)
     journal.serve()
     journal.succeeds()
-    return len(CALLS) + 1
+    journal.succeeds_running()
+    journal.looks_at_order([program, 'shorten', journal.name])
+    journal.looks_at_order([*journal.words, '--shorten-at', '1'], 'ask 0 s store 0 9 9\n')
+    journal.looks_at_order([*journal.words, '--shorten-at', '1', '--forget'], 'ask 0 s store 0 9 9\n')
+    return 2 * (len(CALLS) + 1)
 
 
 def main():
